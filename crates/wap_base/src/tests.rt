@@ -171,15 +171,13 @@ fn pages(rt: HostRuntime) -> Result<(), Fail> {
     pages.push((text(alloc, "h/b")?, Bytes::of(alloc, b"B")?))?;
     pages.push((text(alloc, "h/a")?, Bytes::new(alloc)))?;
     let mut store = MemStore::new(pages, vec![in alloc; 3, 5]?);
-    assert!(rt;
-        matches!(store.fetch(&text(alloc, "h/b")?), Ok(Fetched::Found(b)) if b.as_slice() == b"B".as_slice())
-    );
-    assert!(rt; matches!(store.fetch(&text(alloc, "h/c")?), Ok(Fetched::Missing)));
-    assert!(rt; matches!(store.fetch(&text(alloc, "h/a")?), Err(StoreErr::Failed)));
-    let names = store.list();
-    assert!(rt;
-        matches!(names, Ok(n) if n.len() == 2 && n[0].as_str() == "h/a" && n[1].as_str() == "h/b")
-    );
+    let found = Fetched::Found(Bytes::of(alloc, b"B")?);
+    assert_eq!(rt; store.fetch(&text(alloc, "h/b")?), Ok(found));
+    assert_eq!(rt; store.fetch(&text(alloc, "h/c")?), Ok(Fetched::Missing));
+    assert_eq!(rt; store.fetch(&text(alloc, "h/a")?), Err(StoreErr::Failed));
+    let names = store.list()?;
+    assert_eq!(rt; names.len(), 2);
+    assert_eq!(rt; (names[0].as_str(), names[1].as_str()), ("h/a", "h/b"));
     assert!(rt; matches!(store.list(), Err(StoreErr::Failed)));
     Ok(())
 }
