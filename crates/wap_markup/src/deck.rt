@@ -1,0 +1,27 @@
+//! Decks as WML means them (WAP-191, section 11): known tags and attributes alone, texts joined.
+use wap_base::{Part, Rows};
+
+use crate::name::{AttrName, Tag};
+
+/// A deck of cards.
+#[derive(Debug, Drop, PartialEq, Eq)]
+pub struct Deck {
+    pub root: Node,
+}
+
+/// An element of a deck: its attributes in the order of the document, and its content.
+#[cycle(node)]
+#[derive(Debug, Drop, PartialEq, Eq)]
+pub struct Node {
+    pub tag: Tag,
+    pub attrs: Rows<(AttrName, Rows<Part>)>,
+    pub kids: Rows<Item>,
+}
+
+/// A part of a node's content.
+#[cycle(node)]
+#[derive(Debug, Drop, PartialEq, Eq)]
+pub enum Item {
+    Text(Rows<Part>),
+    Node(Node),
+}

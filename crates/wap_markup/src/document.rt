@@ -1,0 +1,74 @@
+//! Documents as WBXML spells them (WAP-192, section 5): numbers and names, strings of the string
+//! table resolved, nothing yet of what they mean.
+use wap_base::{Bytes, Conv, Rows, Text};
+
+/// A document.
+#[derive(Debug, Drop, PartialEq, Eq)]
+pub struct Document {
+    /// The version byte: the major number minus one, and the minor number.
+    pub version: u8,
+    /// The number of the public identifier.
+    pub public: u32,
+    /// The number of the character set.
+    pub charset: u32,
+    pub root: Element,
+}
+
+/// The name of a tag or of an attribute.
+#[derive(Debug, Drop, PartialEq, Eq)]
+pub enum Token {
+    /// A code of the page on which it stands, without the bits that say what follows.
+    Code(u8),
+    /// A name that the string table spells.
+    Literal(Text),
+}
+
+/// An element, its tag on a page of codes.
+#[cycle(tree)]
+#[derive(Debug, Drop, PartialEq, Eq)]
+pub struct Element {
+    pub page: u8,
+    pub tag: Token,
+    pub attrs: Rows<Attr>,
+    pub kids: Rows<Kid>,
+}
+
+/// An attribute, or a processing instruction, its start on a page of codes.
+#[derive(Debug, Drop, PartialEq, Eq)]
+pub struct Attr {
+    pub page: u8,
+    pub start: Token,
+    pub value: Rows<Piece>,
+}
+
+/// A part of an attribute's value.
+#[derive(Debug, Drop, PartialEq, Eq)]
+pub enum Piece {
+    /// A page, and a code of it.
+    Code(u8, u8),
+    Str(Text),
+    /// A character by its number.
+    Entity(u32),
+    /// A reference to a variable.
+    Var(Text, Conv),
+    /// An extension without a value.
+    Ext(u8),
+    Opaque(Bytes),
+}
+
+/// A part of an element's content.
+#[cycle(tree)]
+#[derive(Debug, Drop, PartialEq, Eq)]
+pub enum Kid {
+    Element(Element),
+    Str(Text),
+    /// A character by its number.
+    Entity(u32),
+    /// A reference to a variable.
+    Var(Text, Conv),
+    /// An extension without a value.
+    Ext(u8),
+    Opaque(Bytes),
+    /// A processing instruction.
+    Pi(Attr),
+}
