@@ -1,0 +1,2 @@
+//! Values of scripts and their operators.
+#![tactic(auto)]
