@@ -1,1 +1,2 @@
 pub mod Utf8Order
+pub mod WorkedRows

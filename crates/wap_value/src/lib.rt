@@ -1,2 +1,14 @@
-//! Values of scripts and their operators.
+//! The values of scripts and what the operators make of them (WAP-193).
+//!
+//! A value is an Integer of 32 bits, a Boolean, a String or invalid. An operator converts its
+//! operands first, and a conversion that isn't there gives invalid, never an error. The one error
+//! of an operation is a String that is too long to be kept.
 #![tactic(auto)]
+
+mod fault;
+mod operator;
+mod value;
+
+pub use fault::ValueFault;
+pub use operator::{BinOp, UnOp};
+pub use value::Value;
