@@ -19,16 +19,16 @@ shifted shift (pos count) = if nat_lt count 32 then Some (shift count) else None
 shifted shift (negsuc n) = None
 
 -- the lowest 32 bits of x * 2 ^ count, as a signed number
-abbrev pub left : ℤ → ℕ → ℤ
-left x count = int_wrap w32 (x *ℤ pos (2 ^ count))
+abbrev pub shl : ℤ → ℕ → ℤ
+shl x count = int_wrap w32 (x *ℤ pos (2 ^ count))
 
 -- x / 2 ^ count, rounded down
-abbrev pub right : ℤ → ℕ → ℤ
-right x count = int_shr x count
+abbrev pub shr : ℤ → ℕ → ℤ
+shr x count = int_shr x count
 
 -- the 32 bits of x as an unsigned number, over 2 ^ count, as a signed number of 32 bits again
-abbrev pub right_unsigned : ℤ → ℕ → ℤ
-right_unsigned x count = cast_signed w32 (cast_unsigned w32 x / 2 ^ count)
+abbrev pub ushr : ℤ → ℕ → ℤ
+ushr x count = cast_signed w32 (cast_unsigned w32 x / 2 ^ count)
 
 -- each operator's row; `/` would give a Float, and the others are not on Integers alone
 abbrev pub whole_number_of : BinOp → ℤ → ℤ → Option ℤ
@@ -37,9 +37,9 @@ whole_number_of IDiv x y = quotient x y
 whole_number_of Rem x y = remainder x y
 whole_number_of Add x y = Some (x +ℤ y)
 whole_number_of Sub x y = Some (x -ℤ y)
-whole_number_of Shl x y = shifted (left x) y
-whole_number_of Shr x y = shifted (right x) y
-whole_number_of UShr x y = shifted (right_unsigned x) y
+whole_number_of Shl x y = shifted (shl x) y
+whole_number_of Shr x y = shifted (shr x) y
+whole_number_of UShr x y = shifted (ushr x) y
 whole_number_of BitAnd x y = Some (int_bit_and w32 x y)
 whole_number_of BitXor x y = Some (int_bit_xor w32 x y)
 whole_number_of BitOr x y = Some (int_bit_or w32 x y)

@@ -5,10 +5,15 @@
 //! of an operation is a String that is too long to be kept.
 #![tactic(auto)]
 
+mod arithmetic;
+mod conversion;
 mod fault;
+mod one_operand;
 mod operator;
 mod value;
 
+pub use conversion::{to_bool, to_int, to_str};
 pub use fault::ValueFault;
+pub use one_operand::unary;
 pub use operator::{BinOp, UnOp};
 pub use value::Value;
