@@ -4,3 +4,5 @@ pub mod Shifts
 pub mod Range
 pub mod Names
 pub mod Reading
+pub mod Texts
+pub mod Kept

@@ -31,16 +31,24 @@ abbrev pub sum_of : Value → Value → Value
 sum_of a b = if is_string a || is_string b then text_value (of_both (λ s t. s ++ t) (text_of a) (text_of b))
     else on_integers Add (integer_of a) (integer_of b)
 
--- whether the order of two values is one that passes the test
-abbrev pub compared : (Ordering → Bool) → Value → Value → Value
-compared test a b = boolean_value (option_map test (order_of a b))
+-- the orders at which a comparison holds
+abbrev pub test_of : BinOp → Ordering → Bool
+test_of Lt order = is_lt order
+test_of Le order = is_le order
+test_of Gt order = is_gt order
+test_of Ge order = not (is_lt order)
+test_of Eq order = is_eq order
+test_of _ order = is_ne order
+
+abbrev pub comparison_of : BinOp → Value → Value → Value
+comparison_of op a b = boolean_value (option_map (test_of op) (order_of a b))
 
 abbrev pub binary_of : BinOp → Value → Value → Value
 binary_of Add a b = sum_of a b
-binary_of Lt a b = compared is_lt a b
-binary_of Le a b = compared is_le a b
-binary_of Gt a b = compared is_gt a b
-binary_of Ge a b = compared (λ order. not (is_lt order)) a b
-binary_of Eq a b = compared is_eq a b
-binary_of Ne a b = compared is_ne a b
+binary_of Lt a b = comparison_of Lt a b
+binary_of Le a b = comparison_of Le a b
+binary_of Gt a b = comparison_of Gt a b
+binary_of Ge a b = comparison_of Ge a b
+binary_of Eq a b = comparison_of Eq a b
+binary_of Ne a b = comparison_of Ne a b
 binary_of op a b = on_integers op (integer_of a) (integer_of b)

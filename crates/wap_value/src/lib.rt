@@ -6,14 +6,18 @@
 #![tactic(auto)]
 
 mod arithmetic;
+mod comparison;
+mod concatenation;
 mod conversion;
 mod fault;
 mod one_operand;
 mod operator;
+mod two_operands;
 mod value;
 
 pub use conversion::{to_bool, to_int, to_str};
 pub use fault::ValueFault;
 pub use one_operand::unary;
 pub use operator::{BinOp, UnOp};
+pub use two_operands::binary;
 pub use value::Value;
