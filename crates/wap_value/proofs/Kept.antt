@@ -1,11 +1,10 @@
 -- Which results are kept.
-use Rattle.std.proofs.Common.{◌≡◌, ◌≢◌, ℕ, ◌+◌, ◌<◌, ◌≤◌, ℤ, List, ◌++◌, length, Option, Some, None, Bool, true, false, Ok, Err, refl, sym, ap, ◌∙◌, subst, inl, inr, arith, cond}
-use Rattle.std.specs.Prelude.{encode_utf8_all, nat_lt, Result}
+use Rattle.std.proofs.Common.{◌≡◌, ℕ, ◌+◌, ◌<◌, ◌≤◌, ℤ, List, ◌++◌, length, Option, Some, None, Bool, Ok, Err, refl, ap, ◌∙◌, subst, inl, inr, arith}
+use Rattle.std.specs.Prelude.{encode_utf8_all, nat_lt}
 use Rattle.std.proofs.lemmas.Bool.{cond-true, cond-false, lt-ltb, le-ltb, cases_lt}
 use Rattle.wap_value.specs.declared.value.Value.{Value}
 use Rattle.wap_value.specs.declared.value.Value.TheVariants.{Int, Bool as Boolean, Str, Invalid}
-use Rattle.wap_value.specs.declared.fault.ValueFault.{ValueFault}
-use Rattle.wap_value.specs.declared.fault.ValueFault.TheVariants.{TooLong, NoMemory}
+use Rattle.wap_value.specs.declared.fault.ValueFault.TheVariants.{TooLong}
 use Rattle.wap_value.specs.declared.operator.BinOp.{BinOp}
 use Rattle.wap_value.specs.Conversion.{integer_value, boolean_value}
 use Rattle.wap_value.specs.Arithmetic.{integer_result_of}
@@ -44,11 +43,11 @@ on_integers_is_kept limit op None y = refl
 -- a refusal is of a String past the limit, with its bytes
 pub refused_is_long : (limit bytes : ℕ) (v : Value) → kept_within limit v ≡ Err (TooLong bytes) → IsTooLong limit v bytes
 refused_is_long limit bytes (Str text) refused = elim (cases_lt limit (utf8_len text)) [
-      inl past ↦
-        let same : utf8_len text ≡ bytes = (let is : kept_within limit (Str text) ≡ Err (TooLong (utf8_len text)) = long_is_refused limit (utf8_len text) text refl past in cc) in
-        (same, let P : ℕ → Type 0 = λ n. limit < n in subst P same past)
-    | inr within ↦ let is : kept_within limit (Str text) ≡ Ok (Str text) = short_is_kept limit (utf8_len text) text refl within in cc
-  ]
+  | inl past ↦
+      let same : utf8_len text ≡ bytes = (let is : kept_within limit (Str text) ≡ Err (TooLong (utf8_len text)) = long_is_refused limit (utf8_len text) text refl past in cc) in
+      (same, let P : ℕ → Type 0 = λ n. limit < n in subst P same past)
+  | inr within ↦ let is : kept_within limit (Str text) ≡ Ok (Str text) = short_is_kept limit (utf8_len text) text refl within in cc
+]
 refused_is_long limit bytes (Int z) refused = cc
 refused_is_long limit bytes (Boolean b) refused = cc
 refused_is_long limit bytes Invalid refused = cc

@@ -1,10 +1,10 @@
 -- A whole number is in range where 32 bits hold it.
-use Rattle.std.proofs.Common.{◌≡◌, ℕ, ◌<◌, ℤ, pos, negsuc, Option, Some, None, Bool, true, false, refl, sym, ap, ◌∙◌, arith, cond}
+use Rattle.std.proofs.Common.{◌≡◌, ℤ, pos, negsuc, Option, Some, None, sym, ap, ◌∙◌, arith}
 use Rattle.std.specs.Int.{w32}
 use Rattle.std.specs.Prelude.{FitsSigned, SomeIff, nat_lt, ◌^◌}
 use Rattle.std.proofs.lemmas.Bool.{cond-false, false_from_ne_true, ltb-true}
 use Rattle.std.proofs.lemmas.Bool.Decides.{nat_tests}
-use Rattle.wap_value.specs.Integer.{is_integer, in_range}
+use Rattle.wap_value.specs.Integer.{in_range}
 
 pub fits_in_range : (z : ℤ) → FitsSigned w32 z → in_range z ≡ Some z
 fits_in_range (pos n) fits = grind (arith, nat_tests)

@@ -1,14 +1,12 @@
 -- The definitions at worked rows and at the borders of 32 bits: each holds by computation.
-use Rattle.std.proofs.Common.{◌≡◌, ℕ, neg_ℤ, List, [], ◌∷◌, Bool, true, false, ℤ, pos, negsuc, refl, Ok, Err, replicate, ◌++◌}
+use Rattle.std.proofs.Common.{◌≡◌, ℕ, neg_ℤ, [], ◌∷◌, true, false, ℤ, pos, refl, Ok, Err}
 use Rattle.std.specs.Prelude.{codes}
 use Rattle.std.specs.Fmt.{digits}
 use Rattle.std.specs.Int.{int_wrap}
-use Rattle.wap_value.specs.declared.value.Value.{Value}
 use Rattle.wap_value.specs.declared.value.Value.TheVariants.{Int, Bool as Boolean, Str, Invalid}
-use Rattle.wap_value.specs.declared.operator.UnOp.TheVariants.{Plus, Minus, BitNot, Not, TypeOf, IsValid, ToBool, Incr, Decr}
-use Rattle.wap_value.specs.declared.operator.BinOp.TheVariants.{Mul, Div, IDiv, Rem, Add, Sub, Shl, Shr, UShr, Lt, Le, Gt, Ge, Eq, Ne, BitAnd, BitXor, BitOr}
+use Rattle.wap_value.specs.declared.operator.UnOp.TheVariants.{Plus, Minus, BitNot, TypeOf}
+use Rattle.wap_value.specs.declared.operator.BinOp.TheVariants.{Div, IDiv, Rem, Add, Sub, Shl, Shr, UShr, Lt, BitAnd, BitXor, BitOr}
 use Rattle.wap_value.specs.declared.fault.ValueFault.TheVariants.{TooLong}
-use Rattle.wap_value.specs.Limits.{string_limit}
 use Rattle.wap_value.specs.Unary.{unary_of}
 use Rattle.wap_value.specs.Binary.{binary_of}
 use Rattle.wap_value.specs.TooLong.{kept_within}

@@ -3,10 +3,10 @@ use Rattle.std.specs.Prelude.{ℕ, ◌^◌, ◌/◌, ℤ, pos, negsuc, ◌+ℤ�
 use Rattle.std.specs.Int.{w32, cast_unsigned, cast_signed, int_wrap, int_shr, int_bit_and, int_bit_or, int_bit_xor}
 use Rattle.std.specs.Ordering.{int_eq}
 use Rattle.wap_value.specs.declared.operator.BinOp.{BinOp}
-use Rattle.wap_value.specs.declared.operator.BinOp.TheVariants.{Mul, IDiv, Rem, Add, Sub, Shl, Shr, UShr, BitAnd, BitXor, BitOr}
+use Rattle.wap_value.specs.declared.operator.BinOp.TheVariants.{Mul, Div, IDiv, Rem, Add, Sub, Shl, Shr, UShr, BitAnd, BitXor, BitOr}
 use Rattle.wap_value.specs.Integer.{in_range}
 
--- the quotient is cut toward zero, and the remainder has the sign of the dividend
+-- the quotient is cut toward zero, and the remainder has the sign of the dividend; there is neither by 0
 abbrev pub quotient : ℤ → ℤ → Option ℤ
 quotient x y = if int_eq y (pos 0) then None else Some (int_div x y)
 
@@ -30,9 +30,10 @@ shr x count = int_shr x count
 abbrev pub ushr : ℤ → ℕ → ℤ
 ushr x count = cast_signed w32 (cast_unsigned w32 x / 2 ^ count)
 
--- each operator's row; `/` would give a Float, and the others are not on Integers alone
+-- each operator's row; the quotient of `/` would be a Float, which no value is
 abbrev pub whole_number_of : BinOp → ℤ → ℤ → Option ℤ
 whole_number_of Mul x y = Some (x *ℤ y)
+whole_number_of Div x y = None
 whole_number_of IDiv x y = quotient x y
 whole_number_of Rem x y = remainder x y
 whole_number_of Add x y = Some (x +ℤ y)

@@ -1,7 +1,7 @@
 -- The operators of two operands (WAP-193, "Operators and Expressions"): `+` and comparisons are on Strings where one
 -- operand is a String, and else on Integers, as all the others are. `&&`, `||` and `,` are not asked, since they do not
 -- take the values of both operands.
-use Rattle.std.specs.Prelude.{Bool, not, ◌||◌, ◌++◌, ℤ, Option, Some, None, ⊤, if◌then◌else◌}
+use Rattle.std.specs.Prelude.{Bool, false, not, ◌||◌, ◌++◌, ℤ, Option, Some, None, ⊤, if◌then◌else◌}
 use Rattle.std.specs.Option.{option_map}
 use Rattle.std.specs.declared.cmp.Ordering.{Ordering}
 use Rattle.std.specs.Ordering.{is_lt, is_le, is_gt, is_eq, is_ne}
@@ -31,14 +31,15 @@ abbrev pub sum_of : Value → Value → Value
 sum_of a b = if is_string a || is_string b then text_value (of_both (λ s t. s ++ t) (text_of a) (text_of b))
     else on_integers Add (integer_of a) (integer_of b)
 
--- the orders at which a comparison holds
+-- the orders at which a comparison holds; the other operators are no comparisons
 abbrev pub test_of : BinOp → Ordering → Bool
 test_of Lt order = is_lt order
 test_of Le order = is_le order
 test_of Gt order = is_gt order
 test_of Ge order = not (is_lt order)
 test_of Eq order = is_eq order
-test_of _ order = is_ne order
+test_of Ne order = is_ne order
+test_of _ order = false
 
 abbrev pub comparison_of : BinOp → Value → Value → Value
 comparison_of op a b = boolean_value (option_map (test_of op) (order_of a b))

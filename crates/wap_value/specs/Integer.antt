@@ -1,5 +1,5 @@
 -- Which whole numbers are Integers: those of 32 bits in two's complement (WAP-193, "Integer Size").
-use Rattle.std.specs.Prelude.{ℕ, ◌^◌, Bool, ℤ, pos, negsuc, nat_lt, Option, Some, None, if◌then◌else◌}
+use Rattle.std.specs.Prelude.{◌^◌, Bool, ℤ, pos, negsuc, nat_lt, Option, Some, None, if◌then◌else◌}
 
 -- `negsuc n` is -(n + 1), so both rows have 2 ^ 31 numbers
 abbrev pub is_integer : ℤ → Bool

@@ -1,6 +1,6 @@
 -- How two values are ordered (WAP-193, "Comparison Operators"): as Strings, by the numbers of the characters, where one of
 -- them is a String, and else as Integers. `None`: a conversion is wanting.
-use Rattle.std.specs.Prelude.{ℕ, Bool, true, false, ◌||◌, List, ℤ, Option, Some, None, if◌then◌else◌}
+use Rattle.std.specs.Prelude.{ℕ, Bool, true, false, ◌||◌, List, Option, Some, None, if◌then◌else◌}
 use Rattle.std.specs.Ordering.{nat_cmp, int_cmp}
 use Rattle.std.specs.Cmp.Lexicographic.{slice_cmp}
 use Rattle.std.specs.declared.cmp.Ordering.{Ordering}

@@ -16,7 +16,8 @@ pub fn integer_result(op: BinOp, left: i32, right: i32) -> Option<i32>
         BinOp::Sub => left.checked_sub(right),
         BinOp::Shl => shift_count(right).map(|count| shift_left(left, count)),
         BinOp::Shr => shift_count(right).map(|count| left >> count),
-        BinOp::UShr => shift_count(right).map(|count| (left.cast_unsigned() >> count).cast_signed()),
+        BinOp::UShr => shift_count(right).map(|count| (left.cast_unsigned()
+            >> count).cast_signed()),
         BinOp::BitAnd => Some(left & right),
         BinOp::BitXor => Some(left ^ right),
         BinOp::BitOr => Some(left | right),

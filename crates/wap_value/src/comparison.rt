@@ -49,7 +49,7 @@ fn order_as_integers(left: &Value, right: &Value) -> Option<Ordering>
     }
 }
 
-/// Whether an operator of comparison holds at an order.
+/// Whether an operator is a comparison that holds at an order.
 pub fn passes(op: BinOp, order: Ordering) -> bool
     ensures { result ≡ test_of op order }
 {
@@ -59,6 +59,7 @@ pub fn passes(op: BinOp, order: Ordering) -> bool
         BinOp::Gt => order.is_gt(),
         BinOp::Ge => order.is_ge(),
         BinOp::Eq => order.is_eq(),
-        _ => order.is_ne(),
+        BinOp::Ne => order.is_ne(),
+        _ => false,
     }
 }

@@ -12,6 +12,8 @@ mod conversion;
 mod fault;
 mod one_operand;
 mod operator;
+#[cfg(test)]
+mod tests;
 mod two_operands;
 mod value;
 

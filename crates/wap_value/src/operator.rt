@@ -69,3 +69,15 @@ pub enum BinOp {
     /// `,`
     Comma,
 }
+
+impl BinOp {
+    ghost use Rattle.std.specs.Prelude.{IsTrue, ◌↔◌};
+    ghost use Rattle.wap_value.specs.Binary.{TakesBoth};
+
+    /// Whether the operator takes the values of both operands, so that `binary` may be asked.
+    pub fn takes_both(self) -> bool
+        ensures { IsTrue result ↔ TakesBoth self }
+    {
+        !matches!(self, BinOp::And | BinOp::Or | BinOp::Comma)
+    }
+}

@@ -15,7 +15,7 @@ use std::alloc::Global;
 
 /// What an operator makes of two values. `&&`, `||` and `,` are no such operators: the machine
 /// takes their operands one at a time.
-#[tactic(auto, using(crate::proofs::Kept::on_integers_is_kept, crate::proofs::Kept::refused_is_long))]
+#[tactic(auto, using(crate::proofs::Kept::on_integers_is_kept))]
 pub fn binary(alloc: Global, op: BinOp, left: &Value, right: &Value) -> Result<Value, ValueFault>
     requires { TakesBoth op }
     ensures value { Meets ValueFault.NoMemory (λ value. value) result (kept_within string_limit (binary_of op left.now right.now)) }
