@@ -1,6 +1,6 @@
 //! The operators on two Integers, in 32 bits.
 ghost use Rattle.std.specs.Prelude.{◌≡◌, ◌≢◌, ℕ, ◌<◌, pos, IfSome, IfNone};
-ghost use Rattle.wap_value.specs.Arithmetic.{integer_result_of, shl};
+ghost use Rattle.wap_value.specs.Arithmetic.{integer_result_of, shl, ushr};
 
 use crate::BinOp;
 
@@ -16,8 +16,7 @@ pub fn integer_result(op: BinOp, left: i32, right: i32) -> Option<i32>
         BinOp::Sub => left.checked_sub(right),
         BinOp::Shl => shift_count(right).map(|count| shift_left(left, count)),
         BinOp::Shr => shift_count(right).map(|count| left >> count),
-        BinOp::UShr => shift_count(right).map(|count| (left.cast_unsigned()
-            >> count).cast_signed()),
+        BinOp::UShr => shift_count(right).map(|count| shift_right_unsigned(left, count)),
         BinOp::BitAnd => Some(left & right),
         BinOp::BitXor => Some(left ^ right),
         BinOp::BitOr => Some(left | right),
@@ -46,7 +45,15 @@ fn shift_left(number: i32, count: u32) -> i32
     number << count
 }
 
-/// A number of places to shift by.
+/// The 32 bits of the number, moved to the right with zeros after them.
+fn shift_right_unsigned(number: i32, count: u32) -> i32
+    requires { count < 32 }
+    ensures { result ≡ ushr number count }
+{
+    (number.cast_unsigned() >> count).cast_signed()
+}
+
+/// How many places a shift moves the bits, from 0 to 31.
 fn shift_count(right: i32) -> Option<u32>
     ensures some { IfSome result (λ count. (count < 32) × (right ≡ pos count)) }
     ensures none { IfNone result ((count : ℕ) → count < 32 → right ≢ pos count) }

@@ -8,7 +8,7 @@ use wap_base::NoMemory;
 /// Why an operation gave no value.
 #[derive(Clone, Copy, Debug, PartialEq, Eq)]
 pub enum ValueFault {
-    /// The String of the result would take `bytes` bytes in UTF-8, which are too many.
+    /// The result would be a String of `bytes` bytes in UTF-8, which are more than 65,535.
     TooLong { bytes: usize },
     NoMemory,
 }
