@@ -10,8 +10,8 @@ use Rattle.wap_value.specs.Conversion.{integer_value, boolean_value}
 use Rattle.wap_value.specs.Arithmetic.{integer_result_of}
 use Rattle.wap_value.specs.Binary.{on_integers}
 use Rattle.wap_value.specs.TooLong.{kept_within, IsTooLong}
-use Rattle.wap_value.specs.Utf8.{utf8_len}
-use Rattle.wap_value.proofs.Texts.{length-encode_utf8_all, utf8_len-append}
+use Rattle.wap_base.specs.Utf8.{utf8_len}
+use Rattle.wap_base.proofs.Utf8Lengths.{length-encode_utf8_all, utf8_len-append}
 
 -- the bytes of two texts together
 pub joined_len : (cs ds bytes others : List ℕ) → bytes ≡ encode_utf8_all cs → others ≡ encode_utf8_all ds → utf8_len (cs ++ ds) ≡ length bytes + length others

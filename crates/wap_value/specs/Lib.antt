@@ -1,6 +1,4 @@
 pub mod Limits
-pub mod Utf8
-pub mod Outcome
 pub mod Integer
 pub mod Numeral
 pub mod Conversion

@@ -1,9 +1,9 @@
 -- How two values are ordered (WAP-193, "Comparison Operators"): as Strings, by the numbers of the characters, where one of
 -- them is a String, and else as Integers. `None`: a conversion is wanting.
-use Rattle.std.specs.Prelude.{ℕ, Bool, true, false, ◌||◌, List, Option, Some, None, if◌then◌else◌}
-use Rattle.std.specs.Ordering.{nat_cmp, int_cmp}
-use Rattle.std.specs.Cmp.Lexicographic.{slice_cmp}
+use Rattle.std.specs.Prelude.{Bool, true, false, ◌||◌, Option, Some, None, if◌then◌else◌}
+use Rattle.std.specs.Ordering.{int_cmp}
 use Rattle.std.specs.declared.cmp.Ordering.{Ordering}
+use Rattle.wap_base.specs.Texts.{text_cmp}
 use Rattle.wap_value.specs.declared.value.Value.{Value}
 use Rattle.wap_value.specs.declared.value.Value.TheVariants.{Int, Bool as Boolean, Str, Invalid}
 use Rattle.wap_value.specs.Conversion.{integer_of, text_of}
@@ -19,9 +19,6 @@ abbrev pub of_both : {A B : Type 0} → (A → A → B) → Option A → Option 
 of_both f (Some x) (Some y) = Some (f x y)
 of_both f (Some x) None = None
 of_both f None y = None
-
-abbrev pub text_cmp : List ℕ → List ℕ → Ordering
-text_cmp = slice_cmp nat_cmp
 
 abbrev pub order_of : Value → Value → Option Ordering
 order_of a b = if is_string a || is_string b then of_both text_cmp (text_of a) (text_of b)

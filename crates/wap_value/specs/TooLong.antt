@@ -4,7 +4,7 @@ use Rattle.wap_value.specs.declared.value.Value.{Value}
 use Rattle.wap_value.specs.declared.value.Value.TheVariants.{Int, Bool as Boolean, Str, Invalid}
 use Rattle.wap_value.specs.declared.fault.ValueFault.{ValueFault}
 use Rattle.wap_value.specs.declared.fault.ValueFault.TheVariants.{TooLong}
-use Rattle.wap_value.specs.Utf8.{utf8_len}
+use Rattle.wap_base.specs.Utf8.{utf8_len}
 
 -- the value, or the fault with its number of bytes where it is a String past the limit
 abbrev pub kept_within : ℕ → Value → Result Value ValueFault

@@ -1,21 +1,22 @@
 //! How two values are ordered.
 ghost use Rattle.std.specs.Prelude.{◌≡◌, IfOk};
 ghost use Rattle.std.specs.Ordering.{int_cmp};
+ghost use Rattle.wap_base.specs.Texts.{text_cmp};
 ghost use Rattle.wap_value.specs.Conversion.{integer_of, text_of};
-ghost use Rattle.wap_value.specs.Order.{order_of, of_both, text_cmp};
+ghost use Rattle.wap_value.specs.Order.{order_of, of_both};
 ghost use Rattle.wap_value.specs.Binary.{test_of};
 
 use crate::{BinOp, Value, to_int, to_str};
 use std::alloc::Global;
 use std::cmp::Ordering;
-use wap_base::{NoMemory, Text};
+use wap_base::NoMemory;
 
 /// The order of two values, or `None` where one of them can't be converted.
 pub fn order(alloc: Global, left: &Value, right: &Value) -> Result<Option<Ordering>, NoMemory>
     ensures { IfOk result (λ order. order ≡ order_of left.now right.now) }
 {
     match (left, right) {
-        (Value::Str(left), Value::Str(right)) => Ok(Some(order_of_texts(left, right))),
+        (Value::Str(left), Value::Str(right)) => Ok(Some(left.cmp(right))),
         (Value::Str(_), _) | (_, Value::Str(_)) => order_as_texts(alloc, left, right),
         _ => Ok(order_as_integers(left, right)),
     }
@@ -27,17 +28,9 @@ fn order_as_texts(alloc: Global, left: &Value, right: &Value) -> Result<Option<O
     let left = to_str(alloc, left)?;
     let right = to_str(alloc, right)?;
     Ok(match (left, right) {
-        (Some(left), Some(right)) => Some(order_of_texts(&left, &right)),
+        (Some(left), Some(right)) => Some(left.cmp(&right)),
         _ => None,
     })
-}
-
-/// The order of UTF-8 is that of the characters.
-#[tactic(auto, using(crate::proofs::Texts::order_of_bytes))]
-fn order_of_texts(left: &Text, right: &Text) -> Ordering
-    ensures { result ≡ text_cmp left.now right.now }
-{
-    left.as_str().cmp(right.as_str())
 }
 
 fn order_as_integers(left: &Value, right: &Value) -> Option<Ordering>

@@ -4,7 +4,7 @@ ghost use Rattle.wap_value.specs.declared.value.Value.TheVariants.{Str};
 ghost use Rattle.wap_value.specs.Conversion.{text_of, text_value};
 ghost use Rattle.wap_value.specs.Limits.{string_limit};
 ghost use Rattle.wap_value.specs.Order.{of_both};
-ghost use Rattle.wap_value.specs.Outcome.{Meets};
+ghost use Rattle.wap_base.specs.Outcome.{Meets};
 ghost use Rattle.wap_value.specs.TooLong.{kept_within};
 
 use crate::{Value, ValueFault, to_str};

@@ -23,16 +23,6 @@ fn made(alloc: Global, plain: Plain) -> Result<Value, NoMemory> {
     })
 }
 
-fn is(value: &Value, plain: Plain) -> bool {
-    match (value, plain) {
-        (Value::Int(number), Plain::Int(want)) => *number == want,
-        (Value::Bool(truth), Plain::Bool(want)) => *truth == want,
-        (Value::Str(text), Plain::Str(want)) => text.as_str() == want,
-        (Value::Invalid, Plain::Invalid) => true,
-        _ => false,
-    }
-}
-
 /// What the operator makes of two values; an operator that `binary` doesn't take gives invalid.
 fn result_of(alloc: Global, op: BinOp, left: Plain, right: Plain) -> Result<Value, ValueFault> {
     if op.takes_both() {
@@ -147,7 +137,7 @@ fn check_integers(
     for &(op, left, right, want) in rows {
         let result = result_of(alloc, op, Plain::Int(left), Plain::Int(right))?;
         let want = want.map_or(Plain::Invalid, Plain::Int);
-        assert!(rt; is(&result, want), "{op:?} at {left} and {right}");
+        assert_eq!(rt; result, made(alloc, want)?, "{op:?} at {left} and {right}");
     }
     Ok(())
 }
@@ -267,9 +257,14 @@ static MIXED: [(BinOp, Plain, Plain, Plain); 28] = [
 
 #[test]
 fn values_of_all_types(rt: HostRuntime) -> Result<(), Fail> {
+    let alloc = rt.alloc();
     for &(op, left, right, want) in &MIXED {
-        let result = result_of(rt.alloc(), op, left, right)?;
-        assert!(rt; is(&result, want), "{op:?} at {left:?} and {right:?}");
+        let result = result_of(alloc, op, left, right)?;
+        assert_eq!(rt;
+            result,
+            made(alloc, want)?,
+            "{op:?} at {left:?} and {right:?}"
+        );
     }
     Ok(())
 }
@@ -313,9 +308,10 @@ static UNARY: [(UnOp, Plain, Plain); 30] = [
 
 #[test]
 fn one_operand(rt: HostRuntime) -> Result<(), Fail> {
+    let alloc = rt.alloc();
     for &(op, operand, want) in &UNARY {
-        let result = unary(op, made(rt.alloc(), operand)?);
-        assert!(rt; is(&result, want), "{op:?} at {operand:?}");
+        let result = unary(op, made(alloc, operand)?);
+        assert_eq!(rt; result, made(alloc, want)?, "{op:?} at {operand:?}");
     }
     Ok(())
 }
@@ -328,7 +324,7 @@ fn conversions(rt: HostRuntime) -> Result<(), Fail> {
     assert_eq!(rt; to_bool(&value), Some(true));
     let text = to_str(alloc, &Value::Int(i32::MIN))?;
     assert!(rt; text.is_some_and(|text| text.as_str() == "-2147483648"));
-    assert!(rt; is(&value.copy(alloc)?, Plain::Str("-12")));
+    assert_eq!(rt; value.copy(alloc)?, value);
     Ok(())
 }
 

@@ -3,7 +3,7 @@ ghost use Rattle.std.specs.Prelude.{◌≡◌, ℕ, Err};
 ghost use Rattle.wap_value.specs.Binary.{TakesBoth, binary_of, sum_of, on_integers};
 ghost use Rattle.wap_value.specs.Conversion.{integer_of};
 ghost use Rattle.wap_value.specs.Limits.{string_limit};
-ghost use Rattle.wap_value.specs.Outcome.{Meets};
+ghost use Rattle.wap_base.specs.Outcome.{Meets};
 ghost use Rattle.wap_value.specs.TooLong.{kept_within, IsTooLong};
 
 use crate::arithmetic::integer_result;

@@ -6,7 +6,7 @@ use wap_base::{NoMemory, Text};
 
 /// A value of a script. A String is a text of any length; operators refuse to make one that is too
 /// long, but what comes from outside is taken as it is. There are no Floats.
-#[derive(Debug, Drop)]
+#[derive(Debug, Drop, PartialEq, Eq)]
 pub enum Value {
     Int(i32),
     Bool(bool),
