@@ -13,7 +13,7 @@ quotient x y = if int_eq y (pos 0) then None else Some (int_div x y)
 abbrev pub remainder : ℤ → ℤ → Option ℤ
 remainder x y = if int_eq y (pos 0) then None else Some (int_rem x y)
 
--- what a shift by a count of 0 to 31 gives
+-- what a shift gives by a count of 0 to 31; by another there is no result, which is this project's own rule
 abbrev pub shifted : (ℕ → ℤ) → ℤ → Option ℤ
 shifted shift (pos count) = if nat_lt count 32 then Some (shift count) else None
 shifted shift (negsuc n) = None

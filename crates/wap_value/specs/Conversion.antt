@@ -29,7 +29,7 @@ text_of (Boolean b) = Some (if b then codes "true" else codes "false")
 text_of (Str text) = Some text
 text_of Invalid = None
 
--- and back: invalid where there is nothing
+-- the value of a result, which is invalid where there is none
 abbrev pub integer_value : Option ℤ → Value
 integer_value (Some z) = Int z
 integer_value None = Invalid

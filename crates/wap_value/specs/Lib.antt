@@ -1,4 +1,3 @@
-pub mod Limits
 pub mod Integer
 pub mod Numeral
 pub mod Conversion
@@ -6,4 +5,5 @@ pub mod Arithmetic
 pub mod Order
 pub mod Unary
 pub mod Binary
+pub mod Limits
 pub mod TooLong
