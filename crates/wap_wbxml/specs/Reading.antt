@@ -1,5 +1,5 @@
 -- Reading a page of the form from the left: what stands in front, and what follows it. This project's own.
-use Rattle.std.specs.Prelude.{ℕ, zero, suc, ◌||◌, ◌==◌, nat_lt, if◌then◌else◌, List, [], ◌∷◌, length, take, drop, Result, Ok, Err}
+use Rattle.std.specs.Prelude.{ℕ, zero, suc, ◌||◌, ◌==◌, nat_lt, if◌then◌else◌, List, [], ◌∷◌, length, take, drop, Option, Some, None, Result, Ok, Err}
 use Rattle.std.specs.List.{prefix_len}
 use Rattle.wap_base.specs.Outcome.{◌>>=◌}
 use Rattle.wap_markup.specs.declared.document.Document.{Document}
@@ -14,10 +14,13 @@ use Rattle.wap_wbxml.specs.declared.fault.DocFault.TheVariants.{Unbuilt}
 abbrev pub Reading : Type 0 → Type 0
 Reading A = Result (A × List ℕ) DocFault
 
--- a byte that has to stand there
+abbrev pub first_at : List ℕ → Reading ℕ
+first_at [] = Err Unbuilt
+first_at (byte ∷ rest) = Ok (byte, rest)
+
+-- what follows a byte that has to stand there
 abbrev pub after : ℕ → List ℕ → Result (List ℕ) DocFault
-after byte [] = Err Unbuilt
-after byte (first ∷ rest) = if first == byte then Ok rest else Err Unbuilt
+after byte bytes = first_at bytes >>= λ first. if first.0 == byte then Ok first.1 else Err Unbuilt
 
 abbrev pub visible_len : List ℕ → ℕ
 visible_len = prefix_len is_visible
@@ -37,25 +40,38 @@ paragraph_at bytes =
   after 0x01 end >>= λ rest.
   Ok (paragraph_tree text.0, rest)
 
--- up to the end of a card's content, so many bytes being left
-unfoldable pub paragraphs_at : ℕ → List ℕ → Reading (List Kid)
-paragraphs_at zero bytes = Err Unbuilt
-paragraphs_at (suc left) [] = Err Unbuilt
-paragraphs_at (suc left) (byte ∷ rest) =
-  if byte == 0x01 then Ok ([], rest) else
-  if byte == 0x60 then (paragraph_at rest >>= λ first. paragraphs_at left first.1 >>= λ others. Ok (first.0 ∷ others.0, others.1))
+-- the next part of some content, or none at its end
+unfoldable pub next_paragraph_at : List ℕ → Reading (Option Kid)
+next_paragraph_at bytes =
+  first_at bytes >>= λ first.
+  if first.0 == 0x01 then Ok (None, first.1) else
+  if first.0 == 0x60 then (paragraph_at first.1 >>= λ read. Ok (Some read.0, read.1))
   else Err Unbuilt
 
--- up to the end of the root's content
-unfoldable pub cards_at : ℕ → List ℕ → Reading (List Kid)
-cards_at zero bytes = Err Unbuilt
-cards_at (suc left) [] = Err Unbuilt
-cards_at (suc left) (byte ∷ rest) =
-  if byte == 0x01 then Ok ([], rest) else
-  if byte == 0x67 then (paragraphs_at (length rest) rest >>= λ first. cards_at left first.1 >>= λ others. Ok (kid.Element (element 0x27 first.0) ∷ others.0, others.1))
+-- one part, and those that more reads behind it
+abbrev pub chained : (List ℕ → Reading (List Kid)) → Option Kid × List ℕ → Reading (List Kid)
+chained more (None, rest) = Ok ([], rest)
+chained more (Some part, rest) = more rest >>= λ others. Ok (part ∷ others.0, others.1)
+
+-- all parts up to the end of the content, so many bytes being left
+abbrev pub parts_at : (List ℕ → Reading (Option Kid)) → ℕ → List ℕ → Reading (List Kid)
+parts_at next zero bytes = Err Unbuilt
+parts_at next (suc left) bytes = next bytes >>= chained (parts_at next left)
+
+unfoldable pub paragraphs_at : List ℕ → Reading (List Kid)
+paragraphs_at bytes = parts_at next_paragraph_at (length bytes) bytes
+
+unfoldable pub next_card_at : List ℕ → Reading (Option Kid)
+next_card_at bytes =
+  first_at bytes >>= λ first.
+  if first.0 == 0x01 then Ok (None, first.1) else
+  if first.0 == 0x67 then (paragraphs_at first.1 >>= λ read. Ok (Some (kid.Element (element 0x27 read.0)), read.1))
   else Err Unbuilt
 
--- the whole of a page
+unfoldable pub cards_at : List ℕ → Reading (List Kid)
+cards_at bytes = parts_at next_card_at (length bytes) bytes
+
+-- a page has cards, and nothing behind its end
 abbrev pub page_of : List Kid × List ℕ → Result Document DocFault
 page_of (cards, rest) =
   if length cards == 0 || nat_lt 0 (length rest) then Err Unbuilt
@@ -68,4 +84,4 @@ document_at bytes =
   after 0x6A charset >>= λ table.
   after 0x00 table >>= λ root.
   after 0x7F root >>= λ body.
-  cards_at (length body) body >>= page_of
+  cards_at body >>= page_of
