@@ -1,0 +1,5 @@
+pub mod Urls
+pub mod Scanning
+pub mod Words
+pub mod Judged
+pub mod Statuses

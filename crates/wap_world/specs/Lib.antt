@@ -1,0 +1,5 @@
+pub mod Lines
+pub mod Screens
+pub mod Pages
+pub mod World
+pub mod Transcript

@@ -1,0 +1,2 @@
+pub mod UrlLaws
+pub mod TextLaws

@@ -1,0 +1,36 @@
+-- Pages as they are judged by their bytes: a deck where a document has the bytes and no id and no type of a do
+-- stands twice in it, and else refused. This project's own.
+use Rattle.std.specs.Prelude.{ℕ, Bool, true, ◌&&◌, not, List, [], ◌∷◌, map, Result, Ok, Err, if◌then◌else◌}
+use Rattle.std.specs.List.{list_any, list_all}
+use Rattle.wap_base.specs.Texts.{is_same_text}
+use Rattle.wap_base.specs.Contents.{Contents}
+use Rattle.wap_markup.specs.declared.document.Document.{Document}
+use Rattle.wap_markup.specs.declared.deck.Deck.{Deck}
+use Rattle.wap_markup.specs.Decks.{deck_of, cards_of, ids_of, types_of}
+use Rattle.wap_wbxml.specs.declared.fault.DocFault.{DocFault}
+use Rattle.wap_wbxml.specs.Reading.{document_at}
+use Rattle.wap_world.specs.Pages.{Page, Pages, is_deck, is_refused}
+
+-- whether no text stands twice
+abbrev pub are_distinct : List (List ℕ) → Bool
+are_distinct [] = true
+are_distinct (text ∷ texts) = not (list_any (is_same_text text) texts) && are_distinct texts
+
+-- whether no id stands twice in the deck, and no type in a card
+abbrev pub is_apart : Deck → Bool
+is_apart deck = are_distinct (ids_of deck) && list_all (λ card. are_distinct (types_of card)) (cards_of deck)
+
+abbrev pub judged_deck : Deck → Page
+judged_deck deck = if is_apart deck then is_deck deck else is_refused
+
+abbrev pub judged_document : Result Document DocFault → Page
+judged_document (Ok document) = judged_deck (deck_of document)
+judged_document (Err fault) = is_refused
+
+-- the page of some bytes
+unfoldable pub judge : List ℕ → Page
+judge bytes = judged_document (document_at bytes)
+
+-- the pages of a store
+abbrev pub judged : Contents → Pages
+judged contents = map (λ page. (page.0, judge page.1)) contents
