@@ -2,6 +2,12 @@
 #![tactic(auto)]
 
 mod build;
+mod distinct;
+mod fault;
+mod good;
+mod parts;
 
 pub use build::deck_of;
-pub use wap_markup::{AttrName, Deck, Document, Item, Node, Tag};
+pub use fault::DeckErr;
+pub use good::GoodDeck;
+pub use wap_markup::{AttrName, Deck, Item, Node, Tag};
