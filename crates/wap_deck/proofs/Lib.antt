@@ -1,0 +1,4 @@
+pub mod Kept
+pub mod Levels
+pub mod Cards
+pub mod Sorting

@@ -1,0 +1,97 @@
+//! Decks in which no id and no type stands twice.
+ghost use Rattle.std.specs.Prelude.{◌≡◌, ◌↔◌, length, IsTrue, IfOk, IfErr, OnOk};
+ghost use Rattle.std.specs.List.{filter_map, AllByRecursion};
+ghost use Rattle.wap_base.specs.Texts.{AreDistinct};
+ghost use Rattle.wap_markup.specs.Decks.{IsApart, cards_of, types_of};
+ghost use Rattle.wap_deck.specs.Parts.{card_in, card_numbered};
+
+use crate::DeckErr;
+use crate::distinct::are_distinct;
+use crate::parts::{card_in, count_cards, find_card, ids, types};
+use std::alloc::Global;
+use std::marker::Model;
+use wap_base::{NoMemory, Text};
+use wap_markup::{Deck, Item};
+
+/// A deck in which no id and, within a card, no type of a do stands twice. A contract sees the deck.
+#[derive(Debug, Drop)]
+pub struct GoodDeck {
+    deck: Deck,
+}
+
+impl Model for GoodDeck {
+    ghost use Rattle.wap_markup.specs.declared.deck.Deck.{Deck};
+
+    ghost use Rattle.wap_markup.specs.contracts.deck.Item as item;
+    ghost use Rattle.std.specs.Coded.{codes};
+
+    ghost Value = { Deck };
+
+    ghost coded = { Prim.hlevel (codes, item.the_row.coded) };
+
+    ghost use Rattle.wap_markup.specs.Decks.{IsApart};
+
+    ghost view = { λ good. good.deck };
+
+    ghost invariant = { λ good. IsApart good.deck };
+}
+
+/// Whether, among the cards of these items, none has two dos of one type.
+fn have_apart_types(alloc: Global, items: &[Item]) -> Result<bool, NoMemory>
+    ensures { IfOk result (λ apart. IsTrue apart ↔ AllByRecursion (λ card. AreDistinct (types_of card)) (filter_map card_in items.now)) }
+{
+    for item in items {
+        if let Some(card) = card_in(item) {
+            if !are_distinct(types(alloc, card.kids.as_slice())?) {
+                return Ok(false);
+            }
+        }
+    }
+    Ok(true)
+}
+
+/// Whether no id stands twice in a deck, and no type in a card.
+fn is_apart(alloc: Global, deck: &Deck) -> Result<bool, NoMemory>
+    ensures { IfOk result (λ apart. IsTrue apart ↔ IsApart deck.now) }
+{
+    let items = deck.root.kids.as_slice();
+    let apart = are_distinct(ids(alloc, items)?);
+    Ok(apart && have_apart_types(alloc, items)?)
+}
+
+impl GoodDeck {
+    /// The deck, where no id and no type stands twice in it. A deck that is refused comes back.
+    pub fn try_new(alloc: Global, deck: Deck) -> Result<GoodDeck, (Deck, DeckErr)>
+        ensures same { IfOk result (λ good. good ≡ deck) }
+        ensures apart { OnOk result (IsApart deck) }
+        ensures back { IfErr result (λ refused. refused.0 ≡ deck) }
+        ensures repeated { IfErr result (λ refused. refused.1 ≡ DeckErr.Repeated → ¬ IsApart deck) }
+    {
+        match is_apart(alloc, &deck) {
+            Ok(true) => Ok(GoodDeck { deck }),
+            Ok(false) => Err((deck, DeckErr::Repeated)),
+            Err(NoMemory) => Err((deck, DeckErr::NoMemory)),
+        }
+    }
+
+    pub fn deck(&self) -> &Deck
+        ensures same { result.now ≡ self.now }
+        ensures apart { IsApart self.now }
+    {
+        &self.deck
+    }
+
+    /// The number of cards, at least of those that a deck of the form has.
+    pub fn card_count(&self) -> usize
+        ensures { result ≡ length (cards_of self.now) }
+    {
+        count_cards(self.deck.root.kids.as_slice())
+    }
+
+    /// The number of the card with this id, from 0, in the order of the document.
+    pub fn find_card(&self, id: &Text) -> Option<usize>
+        ensures { result ≡ card_numbered id.now self.now }
+    {
+        find_card(self.deck.root.kids.as_slice(), id)
+    }
+}

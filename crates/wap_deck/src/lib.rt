@@ -1,0 +1,13 @@
+//! Decks that documents mean, and decks in which no id and no type stands twice.
+#![tactic(auto)]
+
+mod build;
+mod distinct;
+mod fault;
+mod good;
+mod parts;
+
+pub use build::deck_of;
+pub use fault::DeckErr;
+pub use good::GoodDeck;
+pub use wap_markup::{AttrName, Deck, Item, Node, Tag};

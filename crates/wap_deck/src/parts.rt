@@ -1,0 +1,171 @@
+//! The cards and dos of a deck, and what tells each apart from its like.
+ghost use Rattle.std.specs.Prelude.{◌≡◌, IfOk, length};
+ghost use Rattle.std.specs.List.{filter_map, position_from};
+ghost use Rattle.std.specs.Option.{option_copied};
+ghost use Rattle.wap_markup.specs.Decks.{plain_text, value_of, is_id, is_type};
+ghost use Rattle.wap_deck.specs.Parts.{card_in, do_in, id_of, type_of, id_in, type_in, is_text};
+
+use std::alloc::Global;
+use wap_base::{NoMemory, Part, Rows, Text};
+use wap_markup::{AttrName, Item, Node, Tag};
+
+/// The item, where it is a card.
+pub fn card_in(item: &Item) -> Option<&Node>
+    ensures { option_copied result ≡ card_in item.now }
+{
+    if let Item::Node(node) = item {
+        if matches!(node.tag, Tag::Card) {
+            return Some(node);
+        }
+    }
+    None
+}
+
+/// The item, where it is a do.
+fn do_in(item: &Item) -> Option<&Node>
+    ensures { option_copied result ≡ do_in item.now }
+{
+    if let Item::Node(node) = item {
+        if matches!(node.tag, Tag::Do) {
+            return Some(node);
+        }
+    }
+    None
+}
+
+/// The first value of an id.
+fn id_value(node: &Node) -> Option<&Rows<Part>>
+    ensures { option_copied result ≡ value_of is_id node.now }
+{
+    for (name, value) in node.attrs.as_slice() {
+        if matches!(name, AttrName::Id) {
+            return Some(value);
+        }
+    }
+    None
+}
+
+/// The first value of a type.
+fn type_value(node: &Node) -> Option<&Rows<Part>>
+    ensures { option_copied result ≡ value_of is_type node.now }
+{
+    for (name, value) in node.attrs.as_slice() {
+        if matches!(name, AttrName::Type) {
+            return Some(value);
+        }
+    }
+    None
+}
+
+/// A copy of a value's text, where it has no reference and no two texts.
+fn plain_text(alloc: Global, parts: &[Part]) -> Result<Option<Text>, NoMemory>
+    ensures { IfOk result (λ text. text ≡ plain_text parts.now) }
+{
+    match parts {
+        [] => Ok(Some(Text::new(alloc))),
+        [Part::Lit(text)] => Ok(Some(text.copy(alloc)?)),
+        _ => Ok(None),
+    }
+}
+
+/// Whether a value is this text.
+fn is_text(parts: &[Part], text: &Text) -> bool
+    ensures { result ≡ is_text text.now (plain_text parts.now) }
+{
+    match parts {
+        [] => text.is_empty(),
+        [Part::Lit(own)] => own == text,
+        _ => false,
+    }
+}
+
+/// Whether a card has this id.
+fn has_id(card: &Node, id: &Text) -> bool
+    ensures { result ≡ is_text id.now (id_of card.now) }
+{
+    match id_value(card) {
+        Some(value) => is_text(value.as_slice(), id),
+        None => false,
+    }
+}
+
+/// The id of an item, where it is a card.
+fn id_in(alloc: Global, item: &Item) -> Result<Option<Text>, NoMemory>
+    ensures { IfOk result (λ id. id ≡ id_in item.now) }
+{
+    let Some(card) = card_in(item) else {
+        return Ok(None);
+    };
+    match id_value(card) {
+        Some(value) => plain_text(alloc, value.as_slice()),
+        None => Ok(None),
+    }
+}
+
+/// The type of an item, where it is a do.
+fn type_in(alloc: Global, item: &Item) -> Result<Option<Text>, NoMemory>
+    ensures { IfOk result (λ kind. kind ≡ type_in item.now) }
+{
+    let Some(node) = do_in(item) else {
+        return Ok(None);
+    };
+    match type_value(node) {
+        Some(value) => plain_text(alloc, value.as_slice()),
+        None => Ok(None),
+    }
+}
+
+/// The ids of the cards among items.
+pub fn ids(alloc: Global, items: &[Item]) -> Result<Vec<Text>, NoMemory>
+    ensures { IfOk result (λ ids. ids.items ≡ filter_map id_in items.now) }
+{
+    let mut ids = Vec::new(alloc);
+    for item in items {
+        if let Some(id) = id_in(alloc, item)? {
+            ids.push(id)?;
+        }
+    }
+    Ok(ids)
+}
+
+/// The types of the dos among items.
+pub fn types(alloc: Global, items: &[Item]) -> Result<Vec<Text>, NoMemory>
+    ensures { IfOk result (λ types. types.items ≡ filter_map type_in items.now) }
+{
+    let mut types = Vec::new(alloc);
+    for item in items {
+        if let Some(kind) = type_in(alloc, item)? {
+            types.push(kind)?;
+        }
+    }
+    Ok(types)
+}
+
+/// How many cards are among items.
+pub fn count_cards(items: &[Item]) -> usize
+    ensures { result ≡ length (filter_map card_in items.now) }
+{
+    let mut count = 0;
+    for item in items {
+        if card_in(item).is_some() {
+            count += 1;
+        }
+    }
+    count
+}
+
+/// The number of the first card with this id among the cards of items.
+pub fn find_card(items: &[Item], id: &Text) -> Option<usize>
+    ensures { result ≡ position_from (λ card. is_text id.now (id_of card)) 0 (filter_map card_in items.now) }
+{
+    let mut number = 0;
+    for item in items {
+        if let Some(card) = card_in(item) {
+            if has_id(card, id) {
+                return Some(number);
+            }
+            number += 1;
+        }
+    }
+    None
+}
