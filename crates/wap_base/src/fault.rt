@@ -29,3 +29,14 @@ pub enum RunErr {
     Store,
     NoMemory,
 }
+
+impl From<NoMemory> for RunErr {
+    ghost use Rattle.std.specs.Prelude.{◌≡◌};
+    ghost use Rattle.wap_base.specs.declared.fault.RunErr.TheVariants.{NoMemory};
+
+    ghost from_gives = { λ _ fault. fault ≡ NoMemory };
+
+    fn from(_want: NoMemory) -> RunErr {
+        RunErr::NoMemory
+    }
+}

@@ -9,7 +9,7 @@ ghost use Rattle.wap_base.specs.Pages.{IsSmall};
 ghost use Rattle.wap_base.specs.Fakes.{StoreState, ArePages, fresh, fails_next, after_call};
 
 use crate::calls::Calls;
-use crate::{Bytes, NoMemory, Text};
+use crate::{Bytes, NoMemory, RunErr, Text};
 use std::alloc::{AllocError, Global};
 use std::marker::Model;
 
@@ -47,6 +47,20 @@ impl From<AllocError> for StoreErr {
 
     fn from(_error: AllocError) -> StoreErr {
         StoreErr::NoMemory
+    }
+}
+
+impl From<StoreErr> for RunErr {
+    ghost use Rattle.std.specs.Prelude.{◌≡◌};
+    ghost use Rattle.wap_base.specs.Faults.{run_fault};
+
+    ghost from_gives = { λ fault answer. answer ≡ run_fault fault };
+
+    fn from(fault: StoreErr) -> RunErr {
+        match fault {
+            StoreErr::Failed => RunErr::Store,
+            StoreErr::NoMemory => RunErr::NoMemory,
+        }
     }
 }
 

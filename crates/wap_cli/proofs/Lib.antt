@@ -1,2 +1,4 @@
 pub mod UrlLaws
 pub mod TextLaws
+pub mod Apart
+pub mod Sessions

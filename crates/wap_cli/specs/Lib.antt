@@ -2,4 +2,5 @@ pub mod Urls
 pub mod Scanning
 pub mod Words
 pub mod Judged
+pub mod Opening
 pub mod Statuses

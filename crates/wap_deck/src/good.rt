@@ -1,17 +1,18 @@
 //! Decks in which no id and no type stands twice.
-ghost use Rattle.std.specs.Prelude.{◌≡◌, ◌↔◌, length, IsTrue, IfOk, IfErr, OnOk};
+ghost use Rattle.std.specs.Prelude.{◌≡◌, ◌↔◌, length, slice_get, IsTrue, IfOk, IfErr, OnOk};
 ghost use Rattle.std.specs.List.{filter_map, AllByRecursion};
+ghost use Rattle.std.specs.Option.{option_copied};
 ghost use Rattle.wap_base.specs.Texts.{AreDistinct};
 ghost use Rattle.wap_markup.specs.Decks.{IsApart, cards_of, types_of};
 ghost use Rattle.wap_deck.specs.Parts.{card_in, card_numbered};
 
 use crate::DeckErr;
 use crate::distinct::are_distinct;
-use crate::parts::{card_in, count_cards, find_card, ids, types};
+use crate::parts::{card_at, card_in, count_cards, find_card, ids, types};
 use std::alloc::Global;
 use std::marker::Model;
 use wap_base::{NoMemory, Text};
-use wap_markup::{Deck, Item};
+use wap_markup::{Deck, Item, Node};
 
 /// A deck in which no id and, within a card, no type of a do stands twice. A contract sees the deck.
 #[derive(Debug, Drop)]
@@ -93,5 +94,12 @@ impl GoodDeck {
         ensures { result ≡ card_numbered id.now self.now }
     {
         find_card(self.deck.root.kids.as_slice(), id)
+    }
+
+    /// The card of a number, from 0.
+    pub fn card(&self, number: usize) -> Option<&Node>
+        ensures { option_copied result ≡ slice_get (cards_of self.now) number }
+    {
+        card_at(self.deck.root.kids.as_slice(), number)
     }
 }

@@ -1,5 +1,5 @@
 //! The cards and dos of a deck, and what tells each apart from its like.
-ghost use Rattle.std.specs.Prelude.{◌≡◌, IfOk, length};
+ghost use Rattle.std.specs.Prelude.{◌≡◌, IfOk, length, slice_get};
 ghost use Rattle.std.specs.List.{filter_map, position_from};
 ghost use Rattle.std.specs.Option.{option_copied};
 ghost use Rattle.wap_markup.specs.Decks.{plain_text, value_of, is_id, is_type};
@@ -165,6 +165,22 @@ pub fn find_card(items: &[Item], id: &Text) -> Option<usize>
                 return Some(number);
             }
             number += 1;
+        }
+    }
+    None
+}
+
+/// The card of a number among the cards of items.
+pub fn card_at(items: &[Item], number: usize) -> Option<&Node>
+    ensures { option_copied result ≡ slice_get (filter_map card_in items.now) number }
+{
+    let mut left = number;
+    for item in items {
+        if let Some(card) = card_in(item) {
+            if left == 0 {
+                return Some(card);
+            }
+            left -= 1;
         }
     }
     None
