@@ -36,8 +36,8 @@ fn words(rt: &HostRuntime) -> Option<(String, Vec<Text>)> {
 fn run(rt: &HostRuntime) -> Option<u8> {
     let (folder, words) = words(rt)?;
     let store = FolderStore::new(rt.clone().ok()?, folder);
-    let mut keys = StdinSource::new(rt);
-    let mut out = StdoutSink::new(rt.clone().ok()?);
+    let mut keys = StdinSource::new(rt.stdin());
+    let mut out = StdoutSink::new(rt.stdout());
     Some(run_program(rt.alloc(), words.as_slice(), store, &mut keys, &mut out))
 }
 
