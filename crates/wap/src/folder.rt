@@ -6,11 +6,10 @@ ghost use Rattle.wap_base.specs.Texts.{AreAscending};
 ghost use Rattle.wap_base.specs.Pages.{IsSmall};
 
 use std::alloc::{AllocError, Global};
-use std::fs;
-use std::io;
 use std::io::{ErrorKind, Read};
 use std::path::Path;
 use std::rt::Files;
+use std::{fs, io};
 use wap_base::{Bytes, Fetched, NoMemory, Store, StoreErr, Text};
 
 /// A page has fewer bytes than this.
@@ -41,6 +40,17 @@ impl<R> FolderStore<R> {
             fetches: 0,
         }
     }
+
+    /// Counts a call that failed or didn't.
+    fn count(&mut self, failed: bool)
+        ensures faults { self.new.faults ≡ (if failed then raised self.old.faults else self.old.faults) }
+        ensures ordered { self.old.faults ≤ self.new.faults }
+        ensures fetches { self.new.fetches ≡ self.old.fetches }
+    {
+        if failed {
+            self.faults = self.faults.saturating_add(1);
+        }
+    }
 }
 
 impl<R: Files + AllocGlobal + Clone + Drop> Store for FolderStore<R> {
@@ -63,9 +73,7 @@ impl<R: Files + AllocGlobal + Clone + Drop> Store for FolderStore<R> {
     {
         self.fetches = self.fetches.saturating_add(1);
         let answer = page(&self.rt, self.folder.as_str(), name.as_str());
-        if answer.is_err() {
-            self.faults = self.faults.saturating_add(1);
-        }
+        self.count(answer.is_err());
         answer
     }
 
@@ -77,9 +85,7 @@ impl<R: Files + AllocGlobal + Clone + Drop> Store for FolderStore<R> {
         ensures ordered { self.old.faults ≤ self.new.faults }
     {
         let answer = names(&self.rt, self.folder.as_str());
-        if answer.is_err() {
-            self.faults = self.faults.saturating_add(1);
-        }
+        self.count(answer.is_err());
         answer
     }
 }
@@ -184,7 +190,9 @@ fn page<R: Files + AllocGlobal>(rt: &R, folder: &str, name: &str) -> Result<Fetc
 /// The first bytes of a file, at most as many as are too many for a page.
 fn read_front<R: Files + AllocGlobal>(rt: &R, path: &str) -> io::Result<Vec<u8>> {
     let mut bytes = Vec::new(rt.alloc());
-    fs::open(rt, path)?.take(PAGE_LIMIT).read_to_end(&mut bytes)?;
+    fs::open(rt, path)?
+        .take(PAGE_LIMIT)
+        .read_to_end(&mut bytes)?;
     Ok(bytes)
 }
 
@@ -200,10 +208,7 @@ fn found(bytes: Vec<u8>) -> Result<Fetched, StoreErr>
 
 /// The names of all pages, in order. A name that the system gives twice, as it may while the folder
 /// changes, is a fault.
-fn names<R: Files + AllocGlobal + Clone + Drop>(
-    rt: &R,
-    folder: &str,
-) -> Result<Vec<Text>, StoreErr>
+fn names<R: Files + AllocGlobal + Clone + Drop>(rt: &R, folder: &str) -> Result<Vec<Text>, StoreErr>
     ensures { IfOk result (λ names. AreAscending names.items) }
 {
     let mut names = gather(rt, folder)?;

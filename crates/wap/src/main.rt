@@ -6,14 +6,16 @@ mod input;
 mod output;
 mod program;
 
-use std::env;
-use std::process::ExitCode;
-use wap_base::Text;
-
 use folder::FolderStore;
 use input::StdinSource;
 use output::StdoutSink;
 use program::run_program;
+use std::env;
+use std::process::ExitCode;
+use wap_base::Text;
+
+#[cfg(test)]
+mod tests;
 
 /// The number of the status of a program whose words are no command.
 const USAGE: u8 = 1;
