@@ -26,7 +26,8 @@ fn below(rt: &HostRuntime, folder: &str, path: &str) -> io::Result<String> {
 fn answer(rt: &HostRuntime, folder: &str, name: &str) -> Result<&'static str, Fail> {
     let folder = String::from_str(rt.alloc(), folder)?;
     let mut store = FolderStore::new(rt.clone()?, folder);
-    Ok(match store.fetch(&Text::of(rt.alloc(), name)?) {
+    let answer = store.fetch(&Text::of(rt.alloc(), name)?);
+    Ok(match &answer {
         Ok(Fetched::Found(bytes)) if bytes.as_slice() == b"page".as_slice() => "page",
         Ok(Fetched::Found(_)) => "other bytes",
         Ok(Fetched::Missing) => "missing",
