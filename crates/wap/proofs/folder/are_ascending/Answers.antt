@@ -1,4 +1,4 @@
-use Rattle.std.proofs.Common.{rules, arith}
+use Rattle.std.proofs.Common.{arith}
 use Rattle.wap.proofs.Ascents.{ascending_from_adjacent}
 use Rattle.wap.proofs.folder.are_ascending.Goals as goal
 

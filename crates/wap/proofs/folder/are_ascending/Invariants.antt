@@ -1,4 +1,4 @@
-use Rattle.std.proofs.Common.{◌≡◌, ◌+◌, ◌<◌, ℕ, [], get_or, IsTrue, length}
+use Rattle.std.proofs.Common.{◌+◌, ◌<◌, ℕ, [], get_or, IsTrue, length}
 use Rattle.std.specs.Ordering.{is_lt}
 use Rattle.wap_base.specs.Texts.{text_cmp}
 use Rattle.wap.proofs.folder.are_ascending.Given as goal

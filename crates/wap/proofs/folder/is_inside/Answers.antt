@@ -1,4 +1,4 @@
-use Rattle.std.proofs.Common.{rules, tests, lit<, ◌≡◌}
+use Rattle.std.proofs.Common.{rules, tests, lit<}
 use Rattle.std.proofs.lemmas.Bool.{MatchBool-at_true}
 use Rattle.std.proofs.lemmas.List.Elements.{All-from_all_within}
 use Rattle.std.proofs.lemmas.Iterator.{cases_from_all}
