@@ -1,0 +1,314 @@
+//! A folder of files as a store of pages.
+ghost use Rattle.std.specs.Prelude.{◌≡◌, ◌≤◌, ◌↔◌, IsTrue, IfOk, IsSome, is_err, if◌then◌else◌, encode_utf8_all};
+ghost use Rattle.wap.specs.Inside.{IsFileName, IsInside, IsFoundInside};
+ghost use Rattle.wap_base.specs.Count.{raised};
+ghost use Rattle.wap_base.specs.Texts.{AreAscending};
+ghost use Rattle.wap_base.specs.Pages.{IsSmall};
+
+use std::alloc::{AllocError, Global};
+use std::io::{ErrorKind, Read};
+use std::path::Path;
+use std::rt::Files;
+use std::{fs, io};
+use wap_base::{Bytes, Fetched, NoMemory, Store, StoreErr, Text};
+
+/// A page has fewer bytes than this.
+const PAGE_LIMIT: u64 = 1 << 31;
+
+/// The deepest level of a folder below the store's own, whose folders have level 1.
+const DEEPEST: u32 = 64;
+
+/// The regular files below a folder, as pages named `host/path`.
+///
+/// Below the folder a symbolic link to a file counts as that file, and one to a folder as nothing,
+/// so that a walk through the folder ends. It tells no contents, since files may change at any time.
+#[derive(Drop)]
+pub struct FolderStore<R> {
+    rt: R,
+    folder: String,
+    faults: u64,
+    fetches: u64,
+}
+
+impl<R> FolderStore<R> {
+    /// The store of a folder, which is looked at only when pages are asked for.
+    pub fn new(rt: R, folder: String) -> FolderStore<R> {
+        FolderStore {
+            rt,
+            folder,
+            faults: 0,
+            fetches: 0,
+        }
+    }
+
+    /// Counts a call that failed or didn't.
+    fn count(&mut self, failed: bool)
+        ensures faults { self.new.faults ≡ (if failed then raised self.old.faults else self.old.faults) }
+        ensures ordered { self.old.faults ≤ self.new.faults }
+        ensures fetches { self.new.fetches ≡ self.old.fetches }
+    {
+        if failed {
+            self.faults = self.faults.saturating_add(1);
+        }
+    }
+}
+
+impl<R: Files + AllocGlobal + Clone + Drop> Store for FolderStore<R> {
+    ghost use Rattle.std.specs.Prelude.{None};
+
+    ghost contents = { λ _. None };
+
+    ghost faults = { λ store. store.faults };
+
+    ghost fetches = { λ store. store.fetches };
+
+    fn fetch(&mut self, name: &Text) -> Result<Fetched, StoreErr>
+        ensures small { IfOk result IsSmall }
+        // No name leaves the folder.
+        ensures inside { IfOk result (IsFoundInside (encode_utf8_all name.now)) }
+
+        ensures counted { self.new.fetches ≡ raised self.old.fetches }
+        ensures faults { self.new.faults ≡ (if is_err result then raised self.old.faults else self.old.faults) }
+        ensures ordered { self.old.faults ≤ self.new.faults }
+    {
+        self.fetches = self.fetches.saturating_add(1);
+        let answer = page(&self.rt, self.folder.as_str(), name.as_str());
+        self.count(answer.is_err());
+        answer
+    }
+
+    fn list(&mut self) -> Result<Vec<Text>, StoreErr>
+        ensures ascending { IfOk result (λ names. AreAscending names.items) }
+
+        ensures fetches { self.new.fetches ≡ self.old.fetches }
+        ensures faults { self.new.faults ≡ (if is_err result then raised self.old.faults else self.old.faults) }
+        ensures ordered { self.old.faults ≤ self.new.faults }
+    {
+        let answer = names(&self.rt, self.folder.as_str());
+        self.count(answer.is_err());
+        answer
+    }
+}
+
+/// What the system answers of a path, or `None` where no file of that path can be.
+fn if_there<T>(answer: io::Result<T>) -> Result<Option<T>, StoreErr> {
+    match answer {
+        Ok(found) => Ok(Some(found)),
+        Err(error) => match error.kind() {
+            ErrorKind::NotFound
+            | ErrorKind::NotADirectory
+            | ErrorKind::FilesystemLoop
+            | ErrorKind::InvalidFilename
+            | ErrorKind::InvalidInput => Ok(None),
+            _ => Err(fault(error)),
+        },
+    }
+}
+
+/// The store's fault for the system's.
+fn fault(error: io::Error) -> StoreErr {
+    match error.kind() {
+        ErrorKind::OutOfMemory => StoreErr::NoMemory,
+        _ => StoreErr::Failed,
+    }
+}
+
+/// Whether a segment of a page's name can be the name of a file in its folder.
+fn is_file_name(segment: &str) -> bool
+    ensures { IsTrue result ↔ IsFileName segment.now }
+{
+    match segment {
+        "" | "." | ".." => false,
+        _ => true,
+    }
+}
+
+/// Whether each segment of a page's name can be the name of a file in its folder.
+fn is_inside(name: &str) -> bool
+    ensures { IsTrue result ↔ IsInside name.now }
+{
+    name.split('/').all(|segment| is_file_name(segment))
+}
+
+/// The path of a page, or `None` where a segment of its name is no file name, or a segment before
+/// the last is no folder's.
+fn path_of<R: Files + AllocGlobal>(
+    rt: &R,
+    folder: &str,
+    name: &str,
+) -> Result<Option<String>, StoreErr>
+    ensures { IfOk result (λ path. IsSome path → IsInside name.now) }
+{
+    if !is_inside(name) {
+        return Ok(None);
+    }
+    let mut path = String::from_str(rt.alloc(), folder)?;
+    let mut is_in_folder = true;
+    for segment in name.split('/') {
+        if !is_in_folder {
+            return Ok(None);
+        }
+        path.push('/')?;
+        path.push_str(segment)?;
+        is_in_folder = is_folder(rt, path.as_str())?;
+    }
+    Ok(Some(path))
+}
+
+/// Whether a folder stands at a path, and no link to one.
+fn is_folder<R: Files>(rt: &R, path: &str) -> Result<bool, StoreErr> {
+    match if_there(fs::symlink_metadata(rt, path))? {
+        Some(metadata) => Ok(metadata.is_dir()),
+        None => Ok(false),
+    }
+}
+
+/// The page of a name.
+fn page<R: Files + AllocGlobal>(rt: &R, folder: &str, name: &str) -> Result<Fetched, StoreErr>
+    ensures small { IfOk result IsSmall }
+    ensures inside { IfOk result (IsFoundInside name.now) }
+{
+    let Some(path) = path_of(rt, folder, name)? else {
+        return Ok(Fetched::Missing);
+    };
+    let Some(metadata) = if_there(fs::metadata(rt, path.as_str()))? else {
+        return Ok(Fetched::Missing);
+    };
+    if !metadata.is_file() {
+        return Ok(Fetched::Missing);
+    }
+    // The length is compared before anything is read.
+    if metadata.len() >= PAGE_LIMIT {
+        return Err(StoreErr::Failed);
+    }
+    match if_there(read_front(rt, path.as_str()))? {
+        Some(bytes) => found(bytes),
+        None => Ok(Fetched::Missing),
+    }
+}
+
+/// The first bytes of a file, at most as many as are too many for a page.
+fn read_front<R: Files + AllocGlobal>(rt: &R, path: &str) -> io::Result<Vec<u8>> {
+    let mut bytes = Vec::new(rt.alloc());
+    fs::open(rt, path)?
+        .take(PAGE_LIMIT)
+        .read_to_end(&mut bytes)?;
+    Ok(bytes)
+}
+
+/// The page of these bytes. They are too many where the file grew since its length was compared.
+fn found(bytes: Vec<u8>) -> Result<Fetched, StoreErr>
+    ensures { IfOk result IsSmall }
+{
+    if bytes.len() as u64 >= PAGE_LIMIT {
+        return Err(StoreErr::Failed);
+    }
+    Ok(Fetched::Found(Bytes::from_vec(bytes)))
+}
+
+/// The names of all pages, in order. A name that the system gives twice, as it may while the folder
+/// changes, is a fault.
+fn names<R: Files + AllocGlobal + Clone + Drop>(rt: &R, folder: &str) -> Result<Vec<Text>, StoreErr>
+    ensures { IfOk result (λ names. AreAscending names.items) }
+{
+    let mut names = gather(rt, folder)?;
+    names.sort()?;
+    if !are_ascending(names.as_slice()) {
+        return Err(StoreErr::Failed);
+    }
+    Ok(names)
+}
+
+/// Whether each name comes before the next.
+fn are_ascending(names: &[Text]) -> bool
+    ensures { IsTrue result → AreAscending names.now }
+{
+    for next in 1..names.len() {
+        if !names[next - 1].cmp(&names[next]).is_lt() {
+            return false;
+        }
+    }
+    true
+}
+
+/// The names of all pages, level by level. A folder below the deepest level is a fault.
+fn gather<R: Files + AllocGlobal + Clone + Drop>(
+    rt: &R,
+    folder: &str,
+) -> Result<Vec<Text>, StoreErr> {
+    let mut names = Vec::new(rt.alloc());
+    let mut level = Vec::new(rt.alloc());
+    add(&mut level, String::new(rt.alloc()))?;
+    for _ in 0..=DEEPEST {
+        let mut below = Vec::new(rt.alloc());
+        for prefix in &level {
+            read_folder(rt, folder, prefix.as_str(), &mut names, &mut below)?;
+        }
+        level = below;
+    }
+    if level.is_empty() {
+        Ok(names)
+    } else {
+        Err(StoreErr::Failed)
+    }
+}
+
+/// What stands in a folder, as far as the store looks at it.
+#[derive(Clone, Copy)]
+enum Kind {
+    Page,
+    Folder,
+    Other,
+}
+
+/// Adds the names of the pages in one folder, and what the names in its folders begin with.
+fn read_folder<R: Files + AllocGlobal + Clone + Drop>(
+    rt: &R,
+    folder: &str,
+    prefix: &str,
+    names: &mut Vec<Text>,
+    below: &mut Vec<String>,
+) -> Result<(), StoreErr> {
+    let path = joined(rt.alloc(), folder, "/", prefix)?;
+    for entry in fs::read_dir(rt, path.as_str()).map_err(fault)? {
+        let entry = entry.map_err(fault)?;
+        let path = entry.path();
+        match kind_of(rt, path)? {
+            Kind::Page => {
+                let name = joined(rt.alloc(), prefix, entry.file_name(), "")?;
+                add(names, Text::from_string(name))?;
+            }
+            Kind::Folder => add(below, joined(rt.alloc(), prefix, entry.file_name(), "/")?)?,
+            Kind::Other => {}
+        }
+    }
+    Ok(())
+}
+
+/// What a path in a folder stands for. A link counts as the file that it leads to, if any.
+fn kind_of<R: Files>(rt: &R, path: Path<'_>) -> Result<Kind, StoreErr> {
+    let Some(metadata) = if_there(fs::symlink_metadata(rt, path))? else {
+        return Ok(Kind::Other);
+    };
+    if metadata.is_dir() {
+        return Ok(Kind::Folder);
+    }
+    match if_there(fs::metadata(rt, path))? {
+        Some(metadata) if metadata.is_file() => Ok(Kind::Page),
+        _ => Ok(Kind::Other),
+    }
+}
+
+/// Three texts in a row.
+fn joined(alloc: Global, front: &str, middle: &str, end: &str) -> Result<String, AllocError> {
+    let mut joined = String::from_str(alloc, front)?;
+    joined.push_str(middle)?;
+    joined.push_str(end)?;
+    Ok(joined)
+}
+
+/// Adds a value to a row.
+fn add<T: Drop>(row: &mut Vec<T>, value: T) -> Result<(), NoMemory> {
+    row.push(value)?;
+    Ok(())
+}

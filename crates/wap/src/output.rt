@@ -1,0 +1,48 @@
+//! Standard output as a sink of what is shown.
+ghost use Rattle.std.specs.Prelude.{◌≡◌, ◌≤◌, length, IfOk};
+ghost use Rattle.wap.specs.Writes.{faults_after};
+
+use std::io::Write;
+use wap_base::{Failed, Sink};
+
+/// Standard output, or what else is written to. It tells no bytes, since they leave the program. A
+/// call that a signal interrupts has failed.
+#[derive(Drop)]
+pub struct StdoutSink<O> {
+    writer: O,
+    faults: u64,
+}
+
+impl<O> StdoutSink<O> {
+    /// The sink of the bytes that the writer takes.
+    pub fn new(writer: O) -> StdoutSink<O> {
+        StdoutSink { writer, faults: 0 }
+    }
+}
+
+impl<O: Write> Sink for StdoutSink<O> {
+    ghost use Rattle.std.specs.Prelude.{None};
+
+    ghost written = { λ _. None };
+
+    ghost faults = { λ sink. sink.faults };
+
+    fn write(&mut self, piece: &[u8]) -> Result<usize, Failed>
+        ensures within { IfOk result (λ count. count ≤ length piece.now) }
+        ensures faults { self.new.faults ≡ faults_after self.old.faults piece.now result }
+        ensures ordered { self.old.faults ≤ self.new.faults }
+    {
+        match self.writer.write(piece) {
+            Ok(count) => {
+                if count == 0 && !piece.is_empty() {
+                    self.faults = self.faults.saturating_add(1);
+                }
+                Ok(count)
+            }
+            Err(_) => {
+                self.faults = self.faults.saturating_add(1);
+                Err(Failed)
+            }
+        }
+    }
+}
