@@ -1,5 +1,5 @@
 -- One level of a part of a document, and of a deck's node.
-use Rattle.std.proofs.Common.{◌≡◌, List, ℕ, Option, Some, None, ap, sym, refl, ◌∙◌}
+use Rattle.std.proofs.Common.{◌≡◌, List, ℕ, None, ap, sym, refl, ◌∙◌}
 use Rattle.wap_base.specs.declared.name.Part.{Part}
 use Rattle.wap_markup.specs.declared.document.Element.{Element}
 use Rattle.wap_markup.specs.declared.document.Kid.{Kid}
@@ -7,7 +7,6 @@ use Rattle.wap_markup.specs.declared.document.Kid.TheOpen.{Kid-F}
 use Rattle.wap_markup.specs.declared.document.Kid.TheViews.{out-Kid, roll-Kid, out-roll-Kid, roll-out-Kid}
 use Rattle.wap_markup.specs.declared.document.Kid.TheVariants as kid
 use Rattle.wap_markup.specs.declared.deck.Node.{Node}
-use Rattle.wap_markup.specs.declared.deck.Item.{Item}
 use Rattle.wap_markup.specs.declared.deck.Item.TheOpen.{Item-F}
 use Rattle.wap_markup.specs.declared.deck.Item.TheViews.{out-Item, out-roll-Item}
 use Rattle.wap_markup.specs.declared.deck.Item.TheVariants as item

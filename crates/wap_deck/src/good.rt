@@ -22,7 +22,6 @@ pub struct GoodDeck {
 
 impl Model for GoodDeck {
     ghost use Rattle.wap_markup.specs.declared.deck.Deck.{Deck};
-
     ghost use Rattle.wap_markup.specs.contracts.deck.Item as item;
     ghost use Rattle.std.specs.Coded.{codes};
 
@@ -82,14 +81,14 @@ impl GoodDeck {
         &self.deck
     }
 
-    /// The number of cards, at least of those that a deck of the form has.
+    /// How many cards stand right under the root.
     pub fn card_count(&self) -> usize
         ensures { result ≡ length (cards_of self.now) }
     {
         count_cards(self.deck.root.kids.as_slice())
     }
 
-    /// The number of the card with this id, from 0, in the order of the document.
+    /// The number, from 0, of the card with this id. An id with a reference to a variable is none.
     pub fn find_card(&self, id: &Text) -> Option<usize>
         ensures { result ≡ card_numbered id.now self.now }
     {

@@ -11,3 +11,6 @@ pub use build::deck_of;
 pub use fault::DeckErr;
 pub use good::GoodDeck;
 pub use wap_markup::{AttrName, Deck, Item, Node, Tag};
+
+#[cfg(test)]
+mod tests;

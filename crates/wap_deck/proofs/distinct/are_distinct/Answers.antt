@@ -1,4 +1,4 @@
-use Rattle.std.proofs.Common.{◌≡◌, List, ℕ, ap, subst}
+use Rattle.std.proofs.Common.{List, ℕ, subst}
 use Rattle.std.specs.Prelude.{MatchBool}
 use Rattle.wap_deck.specs.Neighbours.{HaveTwins, HaveNoTwins}
 use Rattle.wap_deck.proofs.Sorting.{distinct_by_neighbours}

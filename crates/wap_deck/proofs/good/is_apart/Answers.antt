@@ -1,4 +1,3 @@
-use Rattle.std.proofs.Common.{◌≡◌, true, false, Bool}
 use Rattle.wap_deck.proofs.Cards.{ids_compared, types_of_cards}
 use Rattle.wap_deck.proofs.good.is_apart.Goals as goal
 

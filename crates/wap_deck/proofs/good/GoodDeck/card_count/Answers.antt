@@ -1,4 +1,4 @@
-use Rattle.std.proofs.Common.{◌≡◌, length, sym, ap, ◌∙◌}
+use Rattle.std.proofs.Common.{length, sym, ap, ◌∙◌}
 use Rattle.std.specs.List.{filter_map}
 use Rattle.wap_markup.specs.declared.deck.Deck.{Deck}
 use Rattle.wap_deck.specs.Parts.{card_in}

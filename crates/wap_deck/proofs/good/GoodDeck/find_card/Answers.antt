@@ -1,4 +1,4 @@
-use Rattle.std.proofs.Common.{◌≡◌, ℕ, Bool, List, Option, sym, ap, ◌∙◌}
+use Rattle.std.proofs.Common.{ℕ, Bool, List, Option, sym, ap, ◌∙◌}
 use Rattle.std.specs.List.{filter_map, position_from}
 use Rattle.std.proofs.lemmas.Iterator.Adapters.{position_from-zero}
 use Rattle.wap_markup.specs.declared.deck.Deck.{Deck}
