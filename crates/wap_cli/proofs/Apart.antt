@@ -1,5 +1,5 @@
 -- The test whether a deck is apart, and what it tests.
-use Rattle.std.proofs.Common.{◌≡◌, ℕ, Bool, true, false, List, [], ◌∷◌, refl, ap, ◌∙◌, cond}
+use Rattle.std.proofs.Common.{◌≡◌, ◌≢◌, ℕ, Bool, true, false, List, [], ◌∷◌, Result, Ok, Err, refl, sym, ap, ◌∙◌, cond}
 use Rattle.std.specs.Prelude.{◌↔◌, ◌&&◌, ◌||◌, not}
 use Rattle.std.specs.List.{list_any, list_all, AllByRecursion, IsDistinct}
 use Rattle.wap_base.specs.Texts.{is_same_text, AreDistinct}
@@ -7,7 +7,12 @@ use Rattle.wap_markup.specs.declared.deck.Deck.{Deck}
 use Rattle.wap_markup.specs.declared.deck.Node.{Node}
 use Rattle.wap_markup.specs.Decks.{cards_of, ids_of, types_of, IsApart}
 use Rattle.wap_world.specs.Pages.{Page, is_deck, is_refused}
-use Rattle.wap_cli.specs.Judged.{are_distinct, is_apart, judged_deck}
+use Rattle.wap_markup.specs.declared.document.Document.{Document}
+use Rattle.wap_markup.specs.Decks.{deck_of}
+use Rattle.wap_wbxml.specs.declared.fault.DocFault.{DocFault}
+use Rattle.wap_wbxml.specs.declared.fault.DocFault.TheVariants.{Unbuilt, NoMemory}
+use Rattle.wap_wbxml.specs.Reading.{document_at}
+use Rattle.wap_cli.specs.Judged.{are_distinct, is_apart, judged_deck, judged_document, judge}
 
 both : (a b : Bool) → (a && b) ≡ true → (a ≡ true) × (b ≡ true)
 both true b e = (refl, e)
@@ -74,3 +79,16 @@ refused_by deck false e bad = refl
 
 pub refused_page : (deck : Deck) → ¬ IsApart deck → judged_deck deck ≡ is_refused
 refused_page deck bad = refused_by deck (is_apart deck) refl bad
+
+-- ---- a page by its document
+
+pub page_of_document : (bytes : List ℕ) (document : Document) → document_at bytes ≡ Ok document → judged_deck (deck_of document) ≡ judge bytes
+unfolding judge
+page_of_document bytes document e = ap judged_document (sym e)
+
+pub page_of_fault : (bytes : List ℕ) (fault : DocFault) → document_at bytes ≡ Err fault → is_refused ≡ judge bytes
+unfolding judge
+page_of_fault bytes fault e = ap judged_document (sym e)
+
+pub unbuilt_wants_nothing : Unbuilt ≢ NoMemory
+unbuilt_wants_nothing e = absurd cc

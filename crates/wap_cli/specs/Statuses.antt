@@ -1,5 +1,5 @@
 -- Statuses of the program: their numbers and their lines. This project's own.
-use Rattle.std.specs.Prelude.{ℕ, List, [], ◌∷◌, ◌++◌, codes}
+use Rattle.std.specs.Prelude.{◌≡◌, ◌⊎◌, ℕ, List, [], ◌∷◌, ◌++◌, codes}
 use Rattle.wap_cli.specs.declared.status.Status.{Status}
 use Rattle.wap_cli.specs.declared.status.Status.TheVariants.{Done, Usage, StoreFault, WriteFault, NoMemory}
 
@@ -17,3 +17,7 @@ status_line Usage = codes "wap: usage" ++ 10 ∷ []
 status_line StoreFault = codes "wap: store fault" ++ 10 ∷ []
 status_line WriteFault = codes "wap: write fault" ++ 10 ∷ []
 status_line NoMemory = codes "wap: no memory" ++ 10 ∷ []
+
+-- the run was done, or wanted memory
+abbrev pub IsDoneOrWants : Status → Type 0
+IsDoneOrWants status = (status ≡ Done) ⊎ (status ≡ NoMemory)

@@ -1,10 +1,6 @@
 //! Browsing a site.
-ghost use Rattle.std.specs.Prelude.{◌≡◌, ◌++◌, ◌≤◌, [], Ok, Some, IfOk, OnOk, IsErrOf, IfSome, length, true, slice_get};
-ghost use Rattle.std.specs.List.{starts_with};
-ghost use Rattle.std.specs.Prelude.{nat_eq, codes, encode_utf8_all};
+ghost use Rattle.std.specs.Prelude.{◌≡◌, ◌++◌, ◌≤◌, [], Some, IfOk, OnOk, IsErrOf, IfSome};
 ghost use Rattle.wap_base.specs.Count.{raised, Rose};
-ghost use Rattle.wap_base.specs.Contents.{Contents};
-ghost use Rattle.wap_markup.specs.Decks.{cards_of};
 ghost use Rattle.wap_world.specs.Lines.{lines_bytes};
 ghost use Rattle.wap_world.specs.World.{card_lines, name_of};
 ghost use Rattle.wap_world.specs.Transcript.{transcript};
@@ -61,14 +57,17 @@ fn opening(alloc: Global, url: &Text, answer: &Fetched) -> Result<Bytes, NoMemor
 
 /// The store's name of a URL: what follows `http://`.
 fn name_of(alloc: Global, url: &Text) -> Result<Text, NoMemory>
-    ensures { IfOk result (λ name. starts_with nat_eq (encode_utf8_all url.now) (codes "http://") ≡ true → name ≡ name_of url.now) }
+    ensures { IfOk result (λ name. name ≡ name_of url.now) }
 {
-    Text::of(alloc, url.as_str().strip_prefix("http://").unwrap_or(""))
+    let mut characters = url.as_str().chars();
+    for _ in 0..7_usize {
+        let _of_the_scheme = characters.next();
+    }
+    Text::of(alloc, characters.as_str())
 }
 
 /// The transcript of a session without keys.
 pub(crate) fn transcript<S: Store>(alloc: Global, url: &Text, store: &mut S) -> Result<Bytes, RunErr>
-    requires { starts_with nat_eq (encode_utf8_all url.now) (codes "http://") ≡ true }
     ensures told { IfOk result (λ bytes. IfSome (S.contents store.old) (λ contents. bytes ≡ transcript (judged contents) url.now [])) }
     ensures counted { OnOk result (S.fetches store.new ≡ raised (S.fetches store.old)) }
     ensures kept { S.contents store.new ≡ S.contents store.old }

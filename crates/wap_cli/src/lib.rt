@@ -2,11 +2,14 @@
 #![tactic(auto)]
 
 mod browse;
+mod commands;
 mod judging;
 mod lines;
+
 mod screen;
 mod status;
 mod url;
 mod words;
 
+pub use commands::run;
 pub use status::Status;
