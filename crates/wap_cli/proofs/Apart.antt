@@ -12,6 +12,8 @@ use Rattle.wap_markup.specs.Decks.{deck_of}
 use Rattle.wap_wbxml.specs.declared.fault.DocFault.{DocFault}
 use Rattle.wap_wbxml.specs.declared.fault.DocFault.TheVariants.{Unbuilt, NoMemory}
 use Rattle.wap_wbxml.specs.Reading.{document_at}
+use Rattle.wap_wbxml.proofs.Pages.{document_takes, document_again}
+use Rattle.wap_markup.specs.Documents.{IsDocument}
 use Rattle.wap_cli.specs.Judged.{are_distinct, is_apart, judged_deck, judged_document, judge}
 
 both : (a b : Bool) → (a && b) ≡ true → (a ≡ true) × (b ≡ true)
@@ -92,3 +94,16 @@ page_of_fault bytes fault e = ap judged_document (sym e)
 
 pub unbuilt_wants_nothing : Unbuilt ≢ NoMemory
 unbuilt_wants_nothing e = absurd cc
+
+-- ---- a page by the relation of bytes and documents
+
+pub deck_page : (bytes : List ℕ) (document : Document) → IsDocument bytes document → IsApart (deck_of document) → judge bytes ≡ is_deck (deck_of document)
+deck_page bytes document is good = sym (page_of_document bytes document (document_again bytes document is)) ∙ good_page (deck_of document) good
+
+refused_read : (bytes : List ℕ) (read : Result Document DocFault) → document_at bytes ≡ read → ((document : Document) → IsDocument bytes document → ¬ IsApart (deck_of document)) → judge bytes ≡ is_refused
+refused_read bytes (Ok document) e none =
+    sym (page_of_document bytes document e) ∙ refused_page (deck_of document) (none document (document_takes bytes document e))
+refused_read bytes (Err fault) e none = sym (page_of_fault bytes fault e)
+
+pub no_deck_page : (bytes : List ℕ) → ((document : Document) → IsDocument bytes document → ¬ IsApart (deck_of document)) → judge bytes ≡ is_refused
+no_deck_page bytes none = refused_read bytes (document_at bytes) refl none

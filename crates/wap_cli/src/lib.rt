@@ -4,12 +4,13 @@
 mod browse;
 mod commands;
 mod judging;
+mod law;
 mod lines;
-
 mod screen;
 mod status;
 mod url;
 mod words;
 
 pub use commands::run;
+pub use law::judged_by_documents;
 pub use status::Status;

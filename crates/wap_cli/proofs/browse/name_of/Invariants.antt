@@ -1,4 +1,4 @@
-use Rattle.std.proofs.Common.{◌≡◌, ◌≤◌, drop}
+use Rattle.std.proofs.Common.{◌≡◌, drop}
 use Rattle.std.specs.Str.{IsUtf8, chars}
 use Rattle.std.specs.Str.Iter.{chars_rest}
 use Rattle.wap_cli.proofs.browse.name_of.Given as goal
@@ -7,6 +7,5 @@ use Rattle.wap_cli.proofs.browse.name_of.Given as goal
 abbrev pub invariant-loop : goal.invariant-loop
 invariant-loop l = record {
   text : IsUtf8 (chars_rest l.characters);
-  few : l.counter ≤ 7;
   left : chars (chars_rest l.characters) ≡ drop l.counter l.url;
 }
