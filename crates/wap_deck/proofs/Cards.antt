@@ -28,7 +28,7 @@ first_then : {X Y : Type 0} (g : X → Option Y) (first : Option X) (rest : List
 first_then g None rest = refl
 first_then g (Some x) rest = refl
 
-maps_joined : {W X Y : Type 0} (f : W → Option X) (g : X → Option Y) (xs : List W) → filter_map g (filter_map f xs) ≡ filter_map (λ x. option_and_then g (f x)) xs
+pub maps_joined : {W X Y : Type 0} (f : W → Option X) (g : X → Option Y) (xs : List W) → filter_map g (filter_map f xs) ≡ filter_map (λ x. option_and_then g (f x)) xs
 maps_joined f g [] = refl
 maps_joined f g (x ∷ xs) = first_then g (f x) (filter_map f xs) ∙ ap (cons_option (option_and_then g (f x))) (maps_joined f g xs)
 
