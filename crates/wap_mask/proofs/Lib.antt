@@ -1,0 +1,4 @@
+pub mod Options
+pub mod Taking
+pub mod Reading
+pub mod Ends
