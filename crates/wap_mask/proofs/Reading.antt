@@ -1,17 +1,16 @@
 -- What a mask's text is read as by calculation is what it is by the grammar.
-use Rattle.std.proofs.Common.{◌≡◌, ◌≢◌, ℕ, zero, suc, ◌+◌, ◌-◌, ◌≤◌, ◌<◌, List, [], ◌∷◌, ◌++◌, length, Bool, true, false, cond, Option, Some, None, refl, sym, ap, ◌∙◌, ◌⊎◌, inl, inr, subst, append_assoc, arith}
-use Rattle.std.specs.Prelude.{option_map, unwrap_or, ◌==◌, ◌&&◌, not}
+use Rattle.std.proofs.Common.{◌≡◌, ◌≢◌, ℕ, zero, suc, ◌+◌, ◌-◌, ◌≤◌, ◌<◌, List, [], ◌∷◌, ◌++◌, length, true, false, cond, Option, Some, None, refl, sym, ap, ◌∙◌, inl, inr, subst, append_assoc, arith}
+use Rattle.std.specs.Prelude.{option_map, unwrap_or, ◌==◌, not}
 use Rattle.std.specs.Int.{is_in_range}
 use Rattle.std.proofs.lemmas.Bool.{eqb-true, false≢true}
 use Rattle.std.proofs.lemmas.Bool.Decides.{nat_tests}
 use Rattle.wap_mask.specs.declared.class.Class.{Class}
-use Rattle.wap_mask.specs.declared.class.Class.TheVariants.{Any}
 use Rattle.wap_mask.specs.declared.symbol.Symbol.{Symbol}
 use Rattle.wap_mask.specs.declared.symbol.Symbol.TheVariants.{One, Exactly, UpTo, AnyNumber}
 use Rattle.wap_mask.specs.Characters.{class_of}
-use Rattle.wap_mask.specs.Grammar.{IsMask, nothing, letter, escaped, starred, counted, repeats, RepeatsLast, any_text}
+use Rattle.wap_mask.specs.Grammar.{IsMask, nothing, letter, escaped, starred, counted, RepeatsLast, any_text}
 use Rattle.wap_mask.specs.Reading.{first_of, is_empty, is_misplaced, class_at, symbol_at, symbols_at, symbols_of, ◌>>=◌}
-use Rattle.wap_mask.proofs.Options.{bound, chosen, given}
+use Rattle.wap_mask.proofs.Options.{bound, chosen}
 
 -- The text begins with the symbol, and the rest follows it.
 pub data IsSymbol : List ℕ → Symbol → List ℕ → Type 0 where
@@ -78,12 +77,15 @@ pub symbol_at-is : (text rest : List ℕ) (s : Symbol) → symbol_at text ≡ So
 symbol_at-is [] rest s e = cc
 symbol_at-is (c ∷ text) rest s e =
     elim (chosen (c == 92) (kept_of text) _ (Some (s, rest)) e) [
-      inl escape ↦ kept-is c text rest s (eqb-true c 92 escape.0) escape.1
-    | inr others ↦ elim (chosen (c == 42) (as_symbol AnyNumber (class_at text)) _ (Some (s, rest)) others.1) [
-        inl star ↦ any-is c text rest s (eqb-true c 42 star.0) star.1
-      | inr rest_of ↦ elim (chosen (is_in_range 49 57 c) (as_symbol (UpTo (c - 48)) (class_at text)) (as_symbol One (class_at (c ∷ text))) (Some (s, rest)) rest_of.1) [
-          inl digit ↦ let r = in_range c digit.0 in up_to-is c text rest s r.0 r.1 digit.1
-        | inr letters ↦ one-is c text rest s letters.1 ] ] ]
+      | inl escape ↦ kept-is c text rest s (eqb-true c 92 escape.0) escape.1
+      | inr others ↦ elim (chosen (c == 42) (as_symbol AnyNumber (class_at text)) _ (Some (s, rest)) others.1) [
+        | inl star ↦ any-is c text rest s (eqb-true c 42 star.0) star.1
+        | inr rest_of ↦ elim (chosen (is_in_range 49 57 c) (as_symbol (UpTo (c - 48)) (class_at text)) (as_symbol One (class_at (c ∷ text))) (Some (s, rest)) rest_of.1) [
+          | inl digit ↦ let r = in_range c digit.0 in up_to-is c text rest s r.0 r.1 digit.1
+          | inr letters ↦ one-is c text rest s letters.1
+        ]
+      ]
+    ]
 
 not_digit : (c : ℕ) → 58 ≤ c → is_in_range 49 57 c ≡ false
 not_digit c far = grind (arith, nat_tests)
@@ -187,10 +189,11 @@ symbols_at-is (suc fuel) (c ∷ text) mask e =
     let s = b.0.0 in
     let rest = b.0.1 in
     elim (chosen (is_misplaced s rest) None (option_map (λ more. s ∷ more) (symbols_at fuel rest)) (Some mask) b.2) [
-      inl bad ↦ cc (bad.1)
-    | inr good ↦
-        let m = mapped s (symbols_at fuel rest) mask good.1 in
-        subst (λ t. IsMask (c ∷ text) t) m.2 (IsMask-step m.0 (symbol_at-is (c ∷ text) rest s b.1) good.0 (symbols_at-is fuel rest m.0 m.1)) ]
+      | inl bad ↦ cc (bad.1)
+      | inr good ↦
+          let m = mapped s (symbols_at fuel rest) mask good.1 in
+          subst (λ t. IsMask (c ∷ text) t) m.2 (IsMask-step m.0 (symbol_at-is (c ∷ text) rest s b.1) good.0 (symbols_at-is fuel rest m.0 m.1))
+    ]
 
 pub symbols_of-is : (text : List ℕ) (mask : List Symbol) → symbols_of text ≡ Some mask → IsMask text mask
 symbols_of-is text mask e = symbols_at-is (length text) text mask e

@@ -1,5 +1,5 @@
 -- What the symbols take by calculation is what is in the mask's set.
-use Rattle.std.proofs.Common.{◌≡◌, ℕ, zero, suc, ◌+◌, ◌≤◌, List, [], ◌∷◌, ◌++◌, length, Bool, true, false, cond, Option, Some, None, refl, sym, ap, ◌∙◌, ◌⊎◌, subst, arith}
+use Rattle.std.proofs.Common.{◌≡◌, ℕ, zero, suc, ◌≤◌, List, [], ◌∷◌, ◌++◌, length, Bool, true, false, cond, Option, Some, None, refl, sym, ap, ◌∙◌, subst, arith}
 use Rattle.std.specs.Prelude.{option_map, unwrap_or, IsTrue, ◌==◌}
 use Rattle.std.specs.List.{AllPass}
 use Rattle.std.proofs.lemmas.Bool.{eqb-true, eq-eqb}
@@ -11,8 +11,8 @@ use Rattle.wap_mask.specs.declared.symbol.Symbol.TheVariants.{One, Exactly, UpTo
 use Rattle.wap_mask.specs.Characters.{is_in}
 use Rattle.wap_mask.specs.Texts.{Takes, IsTaken}
 use Rattle.wap_mask.specs.Grammar.{repeats, RepeatsLast}
-use Rattle.wap_mask.specs.Reading.{after_all, after_up_to, first_of, after, is_taken, ◌>>=◌}
-use Rattle.wap_mask.proofs.Options.{bound, chosen, given}
+use Rattle.wap_mask.specs.Reading.{after_all, after_up_to, after, is_taken}
+use Rattle.wap_mask.proofs.Options.{given}
 
 -- a front of a text, in a symbol's set, and what follows it
 pub record Splits (symbol : Symbol) (text rest : List ℕ) : Type 0 where
@@ -25,7 +25,8 @@ any_number-more : (class : Class) (c : ℕ) (text rest : List ℕ) (test : Bool)
 any_number-more class c text rest true inside s = record {
   front = c ∷ s.front;
   joined = ap (λ t. c ∷ t) s.joined;
-  takes = All-cons (λ x. is_in class x ≡ true) c s.front inside s.takes }
+  takes = All-cons (λ x. is_in class x ≡ true) c s.front inside s.takes;
+}
 any_number-more class c text rest false inside s = record { front = []; joined = refl; takes = All-nil (λ x. is_in class x ≡ true) }
 
 after_all-splits : (class : Class) (text : List ℕ) → Splits (AnyNumber class) text (after_all class text)
@@ -36,7 +37,8 @@ up_to-more : (class : Class) (most c : ℕ) (text rest : List ℕ) (test : Bool)
 up_to-more class most c text rest true inside s = record {
   front = c ∷ s.front;
   joined = ap (λ t. c ∷ t) s.joined;
-  takes = (All-cons (λ x. is_in class x ≡ true) c s.front inside s.takes.0, omega (arith, s.takes.1)) }
+  takes = (All-cons (λ x. is_in class x ≡ true) c s.front inside s.takes.0, omega (arith, s.takes.1));
+}
 up_to-more class most c text rest false inside s = record { front = []; joined = refl; takes = (All-nil (λ x. is_in class x ≡ true), omega arith) }
 
 after_up_to-splits : (class : Class) (most : ℕ) (text : List ℕ) → Splits (UpTo most class) text (after_up_to class most text)

@@ -5,6 +5,7 @@
 #![tactic(auto)]
 
 mod class;
+pub mod laws;
 mod mask;
 mod run;
 mod scan;
@@ -14,3 +15,5 @@ pub use class::Class;
 pub use mask::Mask;
 pub use symbol::Symbol;
 
+#[cfg(test)]
+mod tests;
