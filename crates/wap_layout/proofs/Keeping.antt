@@ -4,7 +4,7 @@ use Rattle.std.specs.List.{flat_map}
 use Rattle.std.proofs.lemmas.Bool.Decides.{nat_tests}
 use Rattle.std.proofs.lemmas.List.{append-nil}
 use Rattle.wap_layout.specs.declared.flow.Mode.TheVariants.{Preformatted}
-use Rattle.wap_layout.specs.Words.{split, begun, before_first, is_line_feed}
+use Rattle.wap_layout.specs.Words.{split, begun, is_line_feed}
 use Rattle.wap_layout.specs.Pieces.{Piece, kept}
 use Rattle.wap_layout.specs.Calculation.{piece_lines}
 use Rattle.wap_layout.proofs.Splitting.{before_parts, before_parts-first}

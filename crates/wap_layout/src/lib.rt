@@ -6,9 +6,13 @@
 
 mod fill;
 mod flow;
+pub mod laws;
 mod layout;
 mod page;
 mod words;
 
 pub use flow::{Flow, Mode};
 pub use layout::lines;
+
+#[cfg(test)]
+mod tests;

@@ -79,7 +79,14 @@ fn add_kept(
             line.push(character)?;
         }
     }
-    add_piece(alloc, lines, Mode::Preformatted, line.as_str(), is_hard, width)?;
+    add_piece(
+        alloc,
+        lines,
+        Mode::Preformatted,
+        line.as_str(),
+        is_hard,
+        width,
+    )?;
     Ok(())
 }
 

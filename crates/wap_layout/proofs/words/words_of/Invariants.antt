@@ -1,4 +1,4 @@
-use Rattle.std.proofs.Common.{◌≡◌, ◌++◌, [], length, drop}
+use Rattle.std.proofs.Common.{◌≡◌, ◌++◌, length, drop}
 use Rattle.std.specs.Str.{chars}
 use Rattle.wap_layout.specs.Words.{words_of}
 use Rattle.wap_layout.proofs.Splitting.{words_from}

@@ -1,0 +1,32 @@
+//! What follows from the definitions that the contracts cite, for the crates that cite them too.
+//! None of these functions does anything.
+ghost use Rattle.std.specs.Prelude.{◌≡◌, ◌≤◌, ℕ, List, length, map, All};
+ghost use Rattle.std.specs.List.{concat, flat_map};
+ghost use Rattle.wap_layout.specs.Words.{joined};
+ghost use Rattle.wap_layout.specs.Layout.{IsFilled};
+ghost use Rattle.wap_layout.specs.Calculation.{cut_word};
+
+/// No line that words are filled on is longer than the width.
+#[tactic(auto, using(crate::proofs::Unique::fits_law))]
+pub fn no_line_is_longer()
+    ensures { (width : ℕ) (words lines : List (List ℕ)) → IsFilled width words lines → All (λ line. length line ≤ width) lines }
+{}
+
+/// Words stand on one list of lines.
+#[tactic(auto, using(crate::proofs::Unique::unique_law))]
+pub fn lines_are_unique()
+    ensures { (width : ℕ) (words lines others : List (List ℕ)) → IsFilled width words lines → IsFilled width words others → lines ≡ others }
+{}
+
+/// On the lines stand the words in order, each whole or in its parts, with a space between any two.
+#[tactic(auto, using(crate::proofs::Groups::IsFilled_law))]
+pub fn no_word_is_lost()
+    ensures { (width : ℕ) (words lines : List (List ℕ)) → 1 ≤ width → IsFilled width words lines
+        → (groups : List (List (List ℕ))) × (flat_map (λ group. group) groups ≡ flat_map (cut_word width) words) × (lines ≡ map joined groups) }
+{}
+
+/// The parts that a word is cut into are the word.
+#[tactic(auto, using(crate::proofs::Groups::concat_law))]
+pub fn parts_are_the_word()
+    ensures { (width : ℕ) (word : List ℕ) → 1 ≤ width → concat (cut_word width word) ≡ word }
+{}
