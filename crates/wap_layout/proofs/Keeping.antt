@@ -4,7 +4,7 @@ use Rattle.std.specs.List.{flat_map}
 use Rattle.std.proofs.lemmas.Bool.Decides.{nat_tests}
 use Rattle.std.proofs.lemmas.List.{append-nil}
 use Rattle.wap_layout.specs.declared.flow.Mode.TheVariants.{Preformatted}
-use Rattle.wap_layout.specs.Words.{split, begun, is_line_feed}
+use Rattle.wap_layout.specs.Words.{split, parted, is_line_feed}
 use Rattle.wap_layout.specs.Pieces.{Piece, kept}
 use Rattle.wap_layout.specs.Calculation.{piece_lines}
 use Rattle.wap_layout.proofs.Splitting.{before_parts, before_parts-first}
@@ -23,14 +23,14 @@ record HasParts (parts : List (List ℕ)) : Type 0 where
   others : List (List ℕ)
   parts_are : parts ≡ first ∷ others
 
-begun-parts : (test : Bool) (c : ℕ) (parts : List (List ℕ)) → HasParts (begun test c parts)
-begun-parts true c parts = record { first = []; others = parts; parts_are = refl }
-begun-parts false c [] = record { first = c ∷ []; others = []; parts_are = refl }
-begun-parts false c (part ∷ parts) = record { first = c ∷ part; others = parts; parts_are = refl }
+parted-parts : (test : Bool) (c : ℕ) (parts : List (List ℕ)) → HasParts (parted test c parts)
+parted-parts true c parts = record { first = []; others = parts; parts_are = refl }
+parted-parts false c [] = record { first = c ∷ []; others = []; parts_are = refl }
+parted-parts false c (part ∷ parts) = record { first = c ∷ part; others = parts; parts_are = refl }
 
 split-parts : (test : ℕ → Bool) (text : List ℕ) → HasParts (split test text)
 split-parts test [] = record { first = []; others = []; parts_are = refl }
-split-parts test (c ∷ text) = begun-parts (test c) c (split test text)
+split-parts test (c ∷ text) = parted-parts (test c) c (split test text)
 
 pub kept_from-start : (text : List ℕ) (hard : Bool) → kept_from [] text hard ≡ kept (split is_line_feed text) hard
 kept_from-start text hard =
@@ -44,12 +44,12 @@ kept-parts line (part ∷ parts) hard p = ap (λ l. kept_piece l true ∷ kept (
 -- a line feed ends the line by a hard break
 kept_from-feed : (line text : List ℕ) (c : ℕ) (hard : Bool) → is_line_feed c ≡ true → kept_from line (c ∷ text) hard ≡ kept_piece line true ∷ kept_from [] text hard
 kept_from-feed line text c hard feed =
-    ap (λ test. kept (before_parts line (begun test c (split is_line_feed text))) hard) feed ∙ kept-parts line (split is_line_feed text) hard (split-parts is_line_feed text)
+    ap (λ test. kept (before_parts line (parted test c (split is_line_feed text))) hard) feed ∙ kept-parts line (split is_line_feed text) hard (split-parts is_line_feed text)
 
 -- any other character goes on it
 kept_from-letter : (line text : List ℕ) (c : ℕ) (hard : Bool) → is_line_feed c ≡ false → kept_from line (c ∷ text) hard ≡ kept_from (line ++ c ∷ []) text hard
 kept_from-letter line text c hard letter =
-    ap (λ test. kept (before_parts line (begun test c (split is_line_feed text))) hard) letter ∙ ap (λ parts. kept parts hard) (before_parts-first line c (split is_line_feed text))
+    ap (λ test. kept (before_parts line (parted test c (split is_line_feed text))) hard) letter ∙ ap (λ parts. kept parts hard) (before_parts-first line c (split is_line_feed text))
 
 -- the end ends it as the whole text ends
 kept_from-end : (line : List ℕ) (hard : Bool) → kept_from line [] hard ≡ kept_piece line hard ∷ []

@@ -3,7 +3,7 @@ use Rattle.std.proofs.Common.{◌≡◌, ℕ, ◌<◌, ◌+◌, length, drop, ge
 use Rattle.std.proofs.lemmas.List.{append-nil, at_drop_more, length_push}
 use Rattle.std.proofs.Math.Seq.{drop-length}
 use Rattle.std.specs.Prelude.{filter, not}
-use Rattle.wap_layout.specs.Words.{is_blank, is_empty, split, begun, before_first, words_of, unless_empty}
+use Rattle.wap_layout.specs.Words.{is_blank, is_empty, split, parted, onto_first, words_of, unless_empty}
 
 -- the parts of a text that goes on a part
 abbrev pub before_parts : List ℕ → List (List ℕ) → List (List ℕ)
@@ -31,16 +31,16 @@ words_from-blank_parts word parts = ap (λ w. filter is_word (w ∷ parts)) (app
 -- a blank ends the word
 pub words_from-blank : (word text : List ℕ) (c : ℕ) → is_blank c ≡ true → words_from word (c ∷ text) ≡ unless_empty word ++ words_from [] text
 words_from-blank word text c blank =
-    ap (λ test. filter is_word (before_parts word (begun test c (split is_blank text)))) blank ∙ words_from-blank_parts word (split is_blank text)
+    ap (λ test. filter is_word (before_parts word (parted test c (split is_blank text)))) blank ∙ words_from-blank_parts word (split is_blank text)
 
-pub before_parts-first : (word : List ℕ) (c : ℕ) (parts : List (List ℕ)) → before_parts word (before_first c parts) ≡ before_parts (word ++ c ∷ []) parts
+pub before_parts-first : (word : List ℕ) (c : ℕ) (parts : List (List ℕ)) → before_parts word (onto_first c parts) ≡ before_parts (word ++ c ∷ []) parts
 before_parts-first word c [] = refl
 before_parts-first word c (part ∷ parts) = ap (λ w. w ∷ parts) (sym (append_assoc word (c ∷ []) part))
 
 -- any other character goes on it
 pub words_from-letter : (word text : List ℕ) (c : ℕ) → is_blank c ≡ false → words_from word (c ∷ text) ≡ words_from (word ++ c ∷ []) text
 words_from-letter word text c letter =
-    ap (λ test. filter is_word (before_parts word (begun test c (split is_blank text)))) letter ∙ ap (filter is_word) (before_parts-first word c (split is_blank text))
+    ap (λ test. filter is_word (before_parts word (parted test c (split is_blank text)))) letter ∙ ap (filter is_word) (before_parts-first word c (split is_blank text))
 
 -- and so does the end
 pub words_from-end : (word : List ℕ) → words_from word [] ≡ unless_empty word

@@ -9,7 +9,7 @@ use Rattle.wap_layout.specs.declared.flow.Flow.{Flow}
 use Rattle.wap_layout.specs.declared.flow.Flow.TheVariants.{Words, Hard, Soft, Wrap, NoWrap, Pre}
 use Rattle.wap_layout.specs.declared.flow.Mode.{Mode}
 use Rattle.wap_layout.specs.declared.flow.Mode.TheVariants.{Wrapped, Unwrapped, Preformatted}
-use Rattle.wap_layout.specs.Words.{is_blank, is_line_feed, split, begun, before_first, words_of, joined, unless_empty, visible}
+use Rattle.wap_layout.specs.Words.{is_blank, is_line_feed, split, parted, onto_first, words_of, joined, unless_empty, visible}
 use Rattle.wap_layout.specs.Pieces.{Piece, kept, ended, pieces, pieces_of, text_of}
 use Rattle.wap_layout.specs.Layout.{IsFilled, done, line, cut, IsLaid, AreLaid, closed}
 use Rattle.wap_layout.specs.Calculation.{lines_of}
@@ -46,19 +46,19 @@ visible-filled {width} (cut {word} {rest} {lines} long more) =
     visible-before (take width word) (concat lines) (drop width word ++ concat rest) (visible-filled more)
     ∙ ap visible (sym (append_assoc (take width word) (drop width word) (concat rest)) ∙ ap (λ w. w ++ concat rest) (take-append-drop width word))
 
-concat-first : (c : ℕ) (parts : List (List ℕ)) → concat (before_first c parts) ≡ c ∷ concat parts
+concat-first : (c : ℕ) (parts : List (List ℕ)) → concat (onto_first c parts) ≡ c ∷ concat parts
 concat-first c [] = refl
 concat-first c (part ∷ parts) = refl
 
 -- the parts of a text round blanks
-visible-begun : (test blank : Bool) (c : ℕ) (parts : List (List ℕ)) → (test ≡ true → blank ≡ true) → is_blank c ≡ blank → visible (concat (begun test c parts)) ≡ visible (c ∷ concat parts)
-visible-begun true blank c parts implies was = ap (λ b. cond (not b) (c ∷ visible (concat parts)) (visible (concat parts))) (sym (was ∙ implies refl))
-visible-begun false blank c parts implies was = ap visible (concat-first c parts)
+visible-parted : (test blank : Bool) (c : ℕ) (parts : List (List ℕ)) → (test ≡ true → blank ≡ true) → is_blank c ≡ blank → visible (concat (parted test c parts)) ≡ visible (c ∷ concat parts)
+visible-parted true blank c parts implies was = ap (λ b. cond (not b) (c ∷ visible (concat parts)) (visible (concat parts))) (sym (was ∙ implies refl))
+visible-parted false blank c parts implies was = ap visible (concat-first c parts)
 
 visible-split : (test : ℕ → Bool) (text : List ℕ) → ((c : ℕ) → test c ≡ true → is_blank c ≡ true) → visible (concat (split test text)) ≡ visible text
 visible-split test [] implies = refl
 visible-split test (c ∷ text) implies =
-    visible-begun (test c) (is_blank c) c (split test text) (implies c) refl
+    visible-parted (test c) (is_blank c) c (split test text) (implies c) refl
     ∙ visible-before (c ∷ []) (concat (split test text)) text (visible-split test text implies)
 
 concat-filter : (parts : List (List ℕ)) → concat (filter is_word parts) ≡ concat parts

@@ -2,7 +2,7 @@
 use Rattle.std.specs.Prelude.{ℕ, Bool, true, false, not, ◌||◌, ◌==◌, List, [], ◌∷◌, filter}
 use Rattle.std.specs.List.{join_with_byte}
 
--- a space, a tab, a carriage return or a line feed
+-- a space, a tab, a carriage return or a line feed, and no other character
 abbrev pub is_blank : ℕ → Bool
 is_blank c = (c == 32 || c == 9) || (c == 13 || c == 10)
 
@@ -18,18 +18,18 @@ abbrev pub unless_empty : List ℕ → List (List ℕ)
 unless_empty [] = []
 unless_empty (c ∷ text) = (c ∷ text) ∷ []
 
--- the parts of a text round the characters that pass the test
-abbrev pub before_first : ℕ → List (List ℕ) → List (List ℕ)
-before_first c [] = (c ∷ []) ∷ []
-before_first c (part ∷ parts) = (c ∷ part) ∷ parts
+-- The parts of a text round the characters that pass a test: a character ends a part, or stands before the first of those that follow.
+abbrev pub onto_first : ℕ → List (List ℕ) → List (List ℕ)
+onto_first c [] = (c ∷ []) ∷ []
+onto_first c (part ∷ parts) = (c ∷ part) ∷ parts
 
-abbrev pub begun : Bool → ℕ → List (List ℕ) → List (List ℕ)
-begun true c parts = [] ∷ parts
-begun false c parts = before_first c parts
+abbrev pub parted : Bool → ℕ → List (List ℕ) → List (List ℕ)
+parted true c parts = [] ∷ parts
+parted false c parts = onto_first c parts
 
 abbrev pub split : (ℕ → Bool) → List ℕ → List (List ℕ)
 split test [] = [] ∷ []
-split test (c ∷ text) = begun (test c) c (split test text)
+split test (c ∷ text) = parted (test c) c (split test text)
 
 -- the words of a text: what stands between runs of blanks
 abbrev pub words_of : List ℕ → List (List ℕ)

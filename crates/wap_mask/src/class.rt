@@ -25,7 +25,7 @@ impl Class {
     ghost use Rattle.wap_mask.specs.Characters.{is_in, class_of};
 
     /// The class that a letter stands for.
-    pub fn of(letter: char) -> Option<Class>
+    pub(crate) fn of(letter: char) -> Option<Class>
         ensures { result ≡ class_of letter }
     {
         match letter {
@@ -41,7 +41,7 @@ impl Class {
     }
 
     /// Whether the class has the character.
-    pub fn has(self, character: char) -> bool
+    pub(crate) fn has(self, character: char) -> bool
         ensures { result ≡ is_in self character }
     {
         let mark = matches!(character, ' '..='~') && !character.is_ascii_alphanumeric();

@@ -69,7 +69,7 @@ impl Symbol {
     }
 
     /// Whether the symbol may take more or fewer characters than one.
-    pub fn repeats(self) -> bool
+    pub(crate) fn repeats(self) -> bool
         ensures { result ≡ repeats self }
     {
         matches!(self, Symbol::UpTo(..) | Symbol::AnyNumber(..))
