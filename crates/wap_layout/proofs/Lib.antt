@@ -7,4 +7,5 @@ pub mod Unique
 pub mod Laying
 pub mod Visible
 pub mod Groups
+pub mod Merging
 mod Examples

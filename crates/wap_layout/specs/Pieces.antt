@@ -47,3 +47,23 @@ text_of (Soft ∷ flow) = text_of flow
 text_of (Wrap ∷ flow) = text_of flow
 text_of (NoWrap ∷ flow) = text_of flow
 text_of (Pre ∷ flow) = text_of flow
+
+-- The same flow with neighbouring texts as one, and no empty text: what a flow says whichever way its texts are cut.
+abbrev pub text_before : List ℕ → List Flow → List Flow
+text_before [] flow = flow
+text_before (c ∷ text) [] = Words (c ∷ text) ∷ []
+text_before (c ∷ text) (Words more ∷ flow) = Words ((c ∷ text) ++ more) ∷ flow
+text_before (c ∷ text) (Hard ∷ flow) = Words (c ∷ text) ∷ Hard ∷ flow
+text_before (c ∷ text) (Soft ∷ flow) = Words (c ∷ text) ∷ Soft ∷ flow
+text_before (c ∷ text) (Wrap ∷ flow) = Words (c ∷ text) ∷ Wrap ∷ flow
+text_before (c ∷ text) (NoWrap ∷ flow) = Words (c ∷ text) ∷ NoWrap ∷ flow
+text_before (c ∷ text) (Pre ∷ flow) = Words (c ∷ text) ∷ Pre ∷ flow
+
+abbrev pub merged : List Flow → List Flow
+merged [] = []
+merged (Words text ∷ flow) = text_before text (merged flow)
+merged (Hard ∷ flow) = Hard ∷ merged flow
+merged (Soft ∷ flow) = Soft ∷ merged flow
+merged (Wrap ∷ flow) = Wrap ∷ merged flow
+merged (NoWrap ∷ flow) = NoWrap ∷ merged flow
+merged (Pre ∷ flow) = Pre ∷ merged flow

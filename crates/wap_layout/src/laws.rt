@@ -2,9 +2,11 @@
 //! None of these functions does anything.
 ghost use Rattle.std.specs.Prelude.{◌≡◌, ◌≤◌, ℕ, List, length, map, All};
 ghost use Rattle.std.specs.List.{concat, flat_map};
+ghost use Rattle.wap_layout.specs.declared.flow.Flow.{Flow};
 ghost use Rattle.wap_layout.specs.Words.{joined};
+ghost use Rattle.wap_layout.specs.Pieces.{merged, pieces_of};
 ghost use Rattle.wap_layout.specs.Layout.{IsFilled};
-ghost use Rattle.wap_layout.specs.Calculation.{cut_word};
+ghost use Rattle.wap_layout.specs.Calculation.{cut_word, lines_of};
 
 /// No line that words are filled on is longer than the width.
 #[tactic(auto, using(crate::proofs::Unique::fits_law))]
@@ -30,3 +32,12 @@ pub fn no_word_is_lost()
 pub fn parts_are_the_word()
     ensures { (width : ℕ) (word : List ℕ) → 1 ≤ width → concat (cut_word width word) ≡ word }
 {}
+
+/// However the texts of a flow are cut, and whether empty ones stand among them, its pieces and its
+/// lines are the same.
+#[tactic(auto, using(crate::proofs::Merging::pieces_law, crate::proofs::Merging::lines_law))]
+pub fn neighbouring_texts_are_one()
+    ensures pieces { (flow : List Flow) → pieces_of (merged flow) ≡ pieces_of flow }
+    ensures lines { (width : ℕ) (flow : List Flow) → lines_of width (merged flow) ≡ lines_of width flow }
+{
+}
