@@ -6,7 +6,7 @@ use Rattle.std.proofs.lemmas.List.{append-nil, length-append, length-drop, take-
 use Rattle.std.proofs.lemmas.List.Concat.{flat_map-append}
 use Rattle.wap_layout.specs.Words.{joined}
 use Rattle.wap_layout.specs.Layout.{IsFilled, done, line, cut}
-use Rattle.wap_layout.specs.Calculation.{cut_word}
+use Rattle.wap_layout.specs.Calculation.{cut_word, HoldsInOrder}
 use Rattle.wap_layout.proofs.Cutting.{cut_word-short, cut_word-long}
 
 whole : (width : ℕ) (front : List (List ℕ)) → length (joined front) ≤ width → flat_map (cut_word width) front ≡ front
@@ -52,6 +52,6 @@ cut_at-whole width (suc times) word one few =
 pub concat_law : (width : ℕ) (word : List ℕ) → 1 ≤ width → concat (cut_word width word) ≡ word
 concat_law width word one = cut_at-whole width (length word) word one (omega arith)
 
-pub IsFilled_law : (width : ℕ) (words lines : List (List ℕ)) → 1 ≤ width → IsFilled width words lines
-    → (groups : List (List (List ℕ))) × (flat_map (λ group. group) groups ≡ flat_map (cut_word width) words) × (lines ≡ map joined groups)
+-- the same of a width and words that are named
+pub IsFilled_law : (width : ℕ) (words lines : List (List ℕ)) → 1 ≤ width → IsFilled width words lines → HoldsInOrder width words lines
 IsFilled_law width words lines one filled = IsFilled-groups one filled

@@ -6,7 +6,7 @@ use Rattle.wap_layout.specs.declared.flow.Flow.{Flow}
 use Rattle.wap_layout.specs.declared.flow.Flow.TheVariants.{Words, Hard, Soft, Wrap, NoWrap, Pre}
 use Rattle.wap_layout.specs.declared.flow.Mode.{Mode}
 use Rattle.wap_layout.specs.declared.flow.Mode.TheVariants.{Wrapped, Unwrapped, Preformatted}
-use Rattle.wap_layout.specs.Pieces.{Piece, ended, pieces, pieces_of, text_before, merged}
+use Rattle.wap_layout.specs.Pieces.{ended, pieces, pieces_of, text_before, merged}
 use Rattle.wap_layout.specs.Calculation.{piece_lines, lines_of}
 
 pieces-text_before : (mode : Mode) (begun text : List ℕ) (flow : List Flow) → pieces mode begun (text_before text flow) ≡ pieces mode (begun ++ text) flow

@@ -4,7 +4,7 @@ use Rattle.std.specs.Prelude.{All}
 use Rattle.std.proofs.lemmas.List.{append-nil, length-append, length-take}
 use Rattle.std.proofs.lemmas.List.Elements.{All-nil, All-cons}
 use Rattle.wap_layout.specs.Words.{joined}
-use Rattle.wap_layout.specs.Layout.{IsLongestFront, IsFilled, done, line, cut}
+use Rattle.wap_layout.specs.Layout.{AllFit, IsLongestFront, IsFilled, done, line, cut}
 
 -- two ways to divide a list
 record Behind {X : Type 0} (front rest longer shorter : List X) : Type 0 where
@@ -101,5 +101,5 @@ IsFilled-fits {width} (cut {word} {lines} long more) = All-cons (λ l. length l 
 pub unique_law : (width : ℕ) (words lines others : List (List ℕ)) → IsFilled width words lines → IsFilled width words others → lines ≡ others
 unique_law width words lines others a b = IsFilled-unique a b
 
-pub fits_law : (width : ℕ) (words lines : List (List ℕ)) → IsFilled width words lines → All (λ l. length l ≤ width) lines
+pub fits_law : (width : ℕ) (words lines : List (List ℕ)) → IsFilled width words lines → AllFit width lines
 fits_law width words lines filled = IsFilled-fits filled

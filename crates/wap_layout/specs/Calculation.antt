@@ -1,5 +1,5 @@
 -- The same lines by calculation.
-use Rattle.std.specs.Prelude.{ℕ, zero, suc, ◌+◌, Bool, ◌&&◌, nat_lt, nat_le, if◌then◌else◌, List, [], ◌∷◌, ◌++◌, length, take, drop}
+use Rattle.std.specs.Prelude.{◌≡◌, ℕ, zero, suc, ◌+◌, Bool, ◌&&◌, nat_lt, nat_le, if◌then◌else◌, List, [], ◌∷◌, ◌++◌, length, take, drop, map}
 use Rattle.std.specs.List.{flat_map}
 use Rattle.wap_layout.specs.declared.flow.Flow.{Flow}
 use Rattle.wap_layout.specs.declared.flow.Mode.{Mode}
@@ -15,6 +15,11 @@ cut_at width (suc times) word = if nat_le (length word) width then word ∷ [] e
 
 abbrev pub cut_word : ℕ → List ℕ → List (List ℕ)
 cut_word width word = cut_at width (length word) word
+
+-- The lines are these words in order, each whole or in its parts, with a space between any two on a line.
+abbrev pub HoldsInOrder : ℕ → List (List ℕ) → List (List ℕ) → Type 0
+HoldsInOrder width words lines =
+    (groups : List (List (List ℕ))) × (flat_map (λ group. group) groups ≡ flat_map (cut_word width) words) × (lines ≡ map joined groups)
 
 -- a line of so many columns has room for one more word, of so many
 abbrev pub has_room : ℕ → ℕ → ℕ → Bool

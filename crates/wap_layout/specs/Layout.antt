@@ -1,5 +1,5 @@
 -- Which words of a piece stand on which line, which is this project's own. One column is one character.
-use Rattle.std.specs.Prelude.{◌≡◌, ◌≢◌, ℕ, ◌≤◌, ◌<◌, Bool, true, false, List, [], ◌∷◌, ◌++◌, length, take, drop}
+use Rattle.std.specs.Prelude.{◌≡◌, ◌≢◌, ℕ, ◌≤◌, ◌<◌, Bool, true, false, List, [], ◌∷◌, ◌++◌, length, take, drop, All}
 use Rattle.wap_layout.specs.declared.flow.Mode.{Mode}
 use Rattle.wap_layout.specs.declared.flow.Mode.TheVariants.{Wrapped, Unwrapped, Preformatted}
 use Rattle.wap_layout.specs.Words.{words_of, joined, unless_empty}
@@ -18,6 +18,10 @@ pub data IsFilled (width : ℕ) : List (List ℕ) → List (List ℕ) → Type 0
   done : IsFilled width [] []
   line : {words lines : List (List ℕ)} (front rest : List (List ℕ)) → IsLongestFront width words front rest → IsFilled width rest lines → IsFilled width words (joined front ∷ lines)
   cut : {word : List ℕ} {rest lines : List (List ℕ)} → width < length word → IsFilled width (drop width word ∷ rest) lines → IsFilled width (word ∷ rest) (take width word ∷ lines)
+
+-- no line is longer than the width
+abbrev pub AllFit : ℕ → List (List ℕ) → Type 0
+AllFit width lines = All (λ text. length text ≤ width) lines
 
 -- The words of a text, or its characters, stand on these lines.
 abbrev pub IsLaid : ℕ → Mode → List ℕ → List (List ℕ) → Type 0

@@ -49,7 +49,8 @@ fn add_piece(
     width: usize,
 ) -> Result<(), NoMemory>
     requires { 1 ≤ width }
-    ensures { OnOk result (lines.new ≡ lines.old ++ closed is_hard (laid width mode (chars text.now))) }
+    ensures { OnOk result
+        (lines.new ≡ lines.old ++ closed is_hard (laid width mode (chars text.now))) }
 {
     let before = lines.len();
     add_laid(alloc, lines, mode, text, width)?;
@@ -68,7 +69,8 @@ fn add_kept(
     width: usize,
 ) -> Result<(), NoMemory>
     requires { 1 ≤ width }
-    ensures { OnOk result (lines.new ≡ lines.old ++ flat_map (piece_lines width) (kept (split is_line_feed (chars text.now)) is_hard)) }
+    ensures { OnOk result (lines.new ≡ lines.old
+        ++ flat_map (piece_lines width) (kept (split is_line_feed (chars text.now)) is_hard)) }
 {
     let mut line = Text::new(alloc);
     for character in text.chars() {
@@ -100,7 +102,8 @@ fn add_ended(
     width: usize,
 ) -> Result<(), NoMemory>
     requires { 1 ≤ width }
-    ensures { OnOk result (lines.new ≡ lines.old ++ flat_map (piece_lines width) (ended mode (chars text.now) is_hard)) }
+    ensures { OnOk result (lines.new
+        ≡ lines.old ++ flat_map (piece_lines width) (ended mode (chars text.now) is_hard)) }
 {
     match mode {
         Mode::Preformatted => add_kept(alloc, lines, text, is_hard, width),
@@ -146,7 +149,8 @@ impl Page {
         width: usize,
     ) -> Result<(), NoMemory>
         requires { 1 ≤ width }
-        ensures lines { OnOk result (self.new.lines ≡ self.old.lines ++ flat_map (piece_lines width) (ended self.old.mode self.old.text is_hard)) }
+        ensures lines { OnOk result (self.new.lines ≡ self.old.lines
+            ++ flat_map (piece_lines width) (ended self.old.mode self.old.text is_hard)) }
         ensures mode { OnOk result (self.new.mode ≡ mode) }
         ensures text { OnOk result (self.new.text ≡ []) }
     {
@@ -166,7 +170,8 @@ impl Page {
     /// Takes a part of the flow.
     pub fn take(&mut self, alloc: Global, part: &Flow, width: usize) -> Result<(), NoMemory>
         requires { 1 ≤ width }
-        ensures { OnOk result ((flow : List Flow) → lines_behind width self.new.lines self.new.mode self.new.text flow
+        ensures { OnOk result ((flow : List Flow)
+            → lines_behind width self.new.lines self.new.mode self.new.text flow
             ≡ lines_behind width self.old.lines self.old.mode self.old.text (part.now ∷ flow)) }
     {
         let mode = self.mode;

@@ -1,16 +1,11 @@
 -- What an `Option` was made of.
-use Rattle.std.proofs.Common.{◌≡◌, Bool, true, false, cond, Option, Some, None, refl, ◌⊎◌, inl, inr}
+use Rattle.std.proofs.Common.{◌≡◌, Bool, true, false, cond, Option, Some, None, refl}
 use Rattle.wap_mask.specs.Reading.{◌>>=◌}
 
 -- where a chain gives something, so did its first link
 pub bound : {A B : Type 0} (o : Option A) (f : A → Option B) (b : B) → (o >>= f) ≡ Some b → (a : A) × (o ≡ Some a) × (f a ≡ Some b)
 bound None f b e = cc
 bound (Some a) f b e = (a, refl, e)
-
--- a choice is one of the two
-pub chosen : {A : Type 0} (test : Bool) (x y r : A) → cond test x y ≡ r → ((test ≡ true) × (x ≡ r)) ⊎ ((test ≡ false) × (y ≡ r))
-chosen true x y r e = inl (refl, e)
-chosen false x y r e = inr (refl, e)
 
 -- what is given under a test holds the test
 pub given : {A : Type 0} (test : Bool) (x y : A) → cond test (Some x) None ≡ Some y → (test ≡ true) × (x ≡ y)

@@ -10,7 +10,8 @@ use Rattle.wap_mask.specs.declared.symbol.Symbol.TheVariants.{One, Exactly, UpTo
 use Rattle.wap_mask.specs.Characters.{class_of}
 use Rattle.wap_mask.specs.Grammar.{IsMask, nothing, letter, escaped, starred, counted, RepeatsLast, any_text}
 use Rattle.wap_mask.specs.Reading.{first_of, is_empty, is_misplaced, class_at, symbol_at, symbols_at, symbols_of, ◌>>=◌}
-use Rattle.wap_mask.proofs.Options.{bound, chosen}
+use Rattle.wap_base.proofs.Choices.{chosen}
+use Rattle.wap_mask.proofs.Options.{bound}
 
 -- The text begins with the symbol, and the rest follows it.
 pub data IsSymbol : List ℕ → Symbol → List ℕ → Type 0 where

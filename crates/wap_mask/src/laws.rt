@@ -15,11 +15,13 @@ pub fn any_text_takes_every_text()
 /// A text is the mask of one list of symbols at most.
 #[tactic(auto, using(crate::proofs::Membership::IsMask_unique))]
 pub fn a_text_is_one_mask()
-    ensures { (text : List ℕ) (symbols others : List Symbol) → IsMask text symbols → IsMask text others → symbols ≡ others }
+    ensures { (text : List ℕ) (symbols others : List Symbol)
+        → IsMask text symbols → IsMask text others → symbols ≡ others }
 {}
 
 /// What is read and tested by calculation is membership in the mask's set.
 #[tactic(auto, using(crate::proofs::Membership::IsTaken_of_read))]
 pub fn calculation_is_membership()
-    ensures { (format text : List ℕ) → IsTrue (is_taken (mask_of format) text) ↔ IsTaken (mask_of format) text }
+    ensures { (format text : List ℕ)
+        → IsTrue (is_taken (mask_of format) text) ↔ IsTaken (mask_of format) text }
 {}

@@ -36,8 +36,10 @@ impl Mask {
 
     /// The mask that a text says. A text that is ill-formed says nothing, and any text is taken.
     pub fn read(alloc: Global, text: &Text) -> Result<Mask, NoMemory>
-        ensures well_formed { (symbols : List Symbol) → IsMask text.now symbols → IfOk result (λ mask. mask ≡ symbols) }
-        ensures ill_formed { ((symbols : List Symbol) → ¬ IsMask text.now symbols) → IfOk result (λ mask. mask ≡ any_text) }
+        ensures well_formed { (symbols : List Symbol) → IsMask text.now symbols
+            → IfOk result (λ mask. mask ≡ symbols) }
+        ensures ill_formed { ((symbols : List Symbol) → ¬ IsMask text.now symbols)
+            → IfOk result (λ mask. mask ≡ any_text) }
         ensures exact { IfOk result (λ mask. mask ≡ mask_of text.now) }
     {
         match symbols_of(alloc, text.as_str())? {
@@ -60,7 +62,7 @@ impl Mask {
     }
 }
 
-/// Whether symbols take the text, each of them the most that it can of what the ones before it left.
+/// Whether symbols take the text, each the most that it can of what those before it left.
 fn are_taken(symbols: &[Symbol], text: &str) -> bool
     ensures { result ≡ is_taken symbols.now (chars text.now) }
 {

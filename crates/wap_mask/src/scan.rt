@@ -5,7 +5,8 @@ ghost use Rattle.wap_mask.specs.Reading.{is_empty};
 
 /// The first character of a text, and what follows it.
 pub fn first_of(text: &str) -> Option<(char, &str)>
-    ensures { MatchOption result (chars text.now ≡ []) (λ first. chars text.now ≡ first.0 ∷ chars first.1.now) }
+    ensures { MatchOption result
+        (chars text.now ≡ []) (λ first. chars text.now ≡ first.0 ∷ chars first.1.now) }
 {
     let mut characters = text.chars();
     let first = characters.next()?;

@@ -24,7 +24,7 @@ impl Symbol {
     ghost use Rattle.wap_mask.specs.Grammar.{repeats};
     ghost use Rattle.wap_mask.specs.Reading.{after, symbol_at, is_misplaced};
 
-    /// What is left of a text that begins with what the symbol takes, which is the most that it can.
+    /// What is left of a text that begins with what the symbol takes, the most that it can.
     pub(crate) fn after(self, text: &str) -> Option<&str>
         ensures { option_map (λ rest. chars rest.now) result ≡ after self (chars text.now) }
     {
@@ -44,7 +44,8 @@ impl Symbol {
 
     /// The symbol that a mask's text begins with, and what follows it.
     pub(crate) fn of(text: &str) -> Option<(Symbol, &str)>
-        ensures { option_map (λ read. (read.0, chars read.1.now)) result ≡ symbol_at (chars text.now) }
+        ensures { option_map (λ read. (read.0, chars read.1.now)) result
+            ≡ symbol_at (chars text.now) }
     {
         let (first, rest) = first_of(text)?;
         match first {
