@@ -1,0 +1,50 @@
+//! The lines of a flow.
+ghost use Rattle.std.specs.Prelude.{◌≡◌, ◌≤◌, List, ℕ, All, IfOk};
+ghost use Rattle.std.specs.List.{concat};
+ghost use Rattle.wap_layout.specs.declared.flow.Mode.TheVariants.{Wrapped};
+ghost use Rattle.wap_layout.specs.Words.{visible};
+ghost use Rattle.wap_layout.specs.Pieces.{pieces_of, text_of};
+ghost use Rattle.wap_layout.specs.Layout.{AllFit, AreLaid};
+ghost use Rattle.wap_layout.specs.Calculation.{lines_of};
+
+use crate::Flow;
+use crate::page::Page;
+use std::alloc::Global;
+use wap_base::{NoMemory, Rows, Text};
+
+/// The lines of a flow at a width of so many columns, of which each character takes one. Only text
+/// that is not wrapped, or is preformatted, may have longer lines.
+#[tactic(auto, using(crate::proofs::Laying::laid_of, crate::proofs::Laying::fits_of, crate::proofs::Visible::visible_of))]
+pub fn lines(alloc: Global, flow: &[Flow], width: usize) -> Result<Vec<Text>, NoMemory>
+    requires { 1 ≤ width }
+    // Which words stand on which line, piece by piece, and that no other lines are so.
+    ensures laid { IfOk result (λ lines. AreLaid width (pieces_of flow.now) lines.items) }
+    ensures only { (page : List (List ℕ)) → AreLaid width (pieces_of flow.now) page
+        → IfOk result (λ lines. lines.items ≡ page) }
+    ensures exact { IfOk result (λ lines. lines.items ≡ lines_of width flow.now) }
+
+    // Where all is wrapped, no line is longer than the width.
+    ensures fits { All (λ piece. piece.mode ≡ Wrapped) (pieces_of flow.now)
+        → IfOk result (λ lines. AllFit width lines.items) }
+
+    // What is no blank comes out in order, none of it lost.
+    ensures visible { IfOk result
+        (λ lines. visible (concat lines.items) ≡ visible (text_of flow.now)) }
+{
+    Ok(laid_out(alloc, flow, width)?.into_vec())
+}
+
+/// The lines of a flow, part after part.
+fn laid_out(alloc: Global, flow: &[Flow], width: usize) -> Result<Rows<Text>, NoMemory>
+    requires { 1 ≤ width }
+    ensures { IfOk result (λ lines. lines ≡ lines_of width flow.now) }
+{
+    let mut page = Page::new(alloc);
+    for part in flow {
+        page.take(alloc, part, width)?;
+    }
+    let mode = page.mode;
+    page.end(alloc, false, mode, width)?;
+    let Page { lines, .. } = page;
+    Ok(lines)
+}

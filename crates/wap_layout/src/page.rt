@@ -1,0 +1,187 @@
+//! Pieces of a flow, each laid out as its mode says.
+ghost use Rattle.std.specs.Prelude.{◌≡◌, ◌≤◌, ◌++◌, OnOk};
+ghost use Rattle.std.specs.List.{flat_map};
+ghost use Rattle.std.specs.Str.{chars};
+ghost use Rattle.wap_layout.specs.Words.{split, is_line_feed};
+ghost use Rattle.wap_layout.specs.Pieces.{kept, ended};
+ghost use Rattle.wap_layout.specs.Layout.{closed};
+ghost use Rattle.wap_layout.specs.Calculation.{laid, piece_lines};
+
+use crate::fill::{add_filled, cut};
+use crate::words::{add_unless_empty, joined, words_of};
+use crate::{Flow, Mode};
+use std::alloc::Global;
+use wap_base::{NoMemory, Rows, Text};
+
+/// Adds the lines of a text, or none where nothing is to be seen.
+fn add_laid(
+    alloc: Global,
+    lines: &mut Rows<Text>,
+    mode: Mode,
+    text: &str,
+    width: usize,
+) -> Result<(), NoMemory>
+    requires { 1 ≤ width }
+    ensures { OnOk result (lines.new ≡ lines.old ++ laid width mode (chars text.now)) }
+{
+    match mode {
+        Mode::Wrapped => {
+            let words = words_of(alloc, text)?;
+            let parts = cut(alloc, words.as_slice(), width)?;
+            add_filled(alloc, lines, parts.as_slice(), width)?;
+        }
+        Mode::Unwrapped => {
+            let words = words_of(alloc, text)?;
+            add_unless_empty(lines, joined(alloc, words.as_slice())?)?;
+        }
+        Mode::Preformatted => add_unless_empty(lines, Text::of(alloc, text)?)?,
+    }
+    Ok(())
+}
+
+/// Adds the lines of a piece, which are one empty line where it has none and a hard break ends it.
+fn add_piece(
+    alloc: Global,
+    lines: &mut Rows<Text>,
+    mode: Mode,
+    text: &str,
+    is_hard: bool,
+    width: usize,
+) -> Result<(), NoMemory>
+    requires { 1 ≤ width }
+    ensures { OnOk result
+        (lines.new ≡ lines.old ++ closed is_hard (laid width mode (chars text.now))) }
+{
+    let before = lines.len();
+    add_laid(alloc, lines, mode, text, width)?;
+    if is_hard && lines.len() == before {
+        lines.add(Text::new(alloc))?;
+    }
+    Ok(())
+}
+
+/// Adds the lines of a preformatted text, in which a line feed is a hard break.
+fn add_kept(
+    alloc: Global,
+    lines: &mut Rows<Text>,
+    text: &str,
+    is_hard: bool,
+    width: usize,
+) -> Result<(), NoMemory>
+    requires { 1 ≤ width }
+    ensures { OnOk result (lines.new ≡ lines.old
+        ++ flat_map (piece_lines width) (kept (split is_line_feed (chars text.now)) is_hard)) }
+{
+    let mut line = Text::new(alloc);
+    for character in text.chars() {
+        if character == '\n' {
+            add_piece(alloc, lines, Mode::Preformatted, line.as_str(), true, width)?;
+            line = Text::new(alloc);
+        } else {
+            line.push(character)?;
+        }
+    }
+    add_piece(
+        alloc,
+        lines,
+        Mode::Preformatted,
+        line.as_str(),
+        is_hard,
+        width,
+    )?;
+    Ok(())
+}
+
+/// Adds the lines of a text that ends.
+fn add_ended(
+    alloc: Global,
+    lines: &mut Rows<Text>,
+    mode: Mode,
+    text: &str,
+    is_hard: bool,
+    width: usize,
+) -> Result<(), NoMemory>
+    requires { 1 ≤ width }
+    ensures { OnOk result (lines.new
+        ≡ lines.old ++ flat_map (piece_lines width) (ended mode (chars text.now) is_hard)) }
+{
+    match mode {
+        Mode::Preformatted => add_kept(alloc, lines, text, is_hard, width),
+        Mode::Wrapped | Mode::Unwrapped => add_piece(alloc, lines, mode, text, is_hard, width),
+    }
+}
+
+/// The lines so far, and the text behind them, which has not ended yet.
+#[derive(Debug, Drop)]
+pub struct Page {
+    pub lines: Rows<Text>,
+    pub mode: Mode,
+    pub text: Text,
+}
+
+impl Page {
+    ghost use Rattle.std.specs.Prelude.{◌≡◌, ◌≤◌, ◌∷◌, ◌++◌, [], List, IfOk, OnOk};
+    ghost use Rattle.std.specs.List.{flat_map};
+    ghost use Rattle.wap_layout.specs.declared.flow.Flow.{Flow};
+    ghost use Rattle.wap_layout.specs.declared.flow.Mode.TheVariants.{Wrapped};
+    ghost use Rattle.wap_layout.specs.Pieces.{ended};
+    ghost use Rattle.wap_layout.specs.Calculation.{piece_lines, lines_behind};
+
+    /// An empty page, whose text is wrapped at first.
+    pub fn new(alloc: Global) -> Page
+        ensures lines { result.lines ≡ [] }
+        ensures mode { result.mode ≡ Wrapped }
+        ensures text { result.text ≡ [] }
+    {
+        Page {
+            lines: Rows::new(alloc),
+            mode: Mode::Wrapped,
+            text: Text::new(alloc),
+        }
+    }
+
+    /// Ends the text.
+    pub fn end(
+        &mut self,
+        alloc: Global,
+        is_hard: bool,
+        mode: Mode,
+        width: usize,
+    ) -> Result<(), NoMemory>
+        requires { 1 ≤ width }
+        ensures lines { OnOk result (self.new.lines ≡ self.old.lines
+            ++ flat_map (piece_lines width) (ended self.old.mode self.old.text is_hard)) }
+        ensures mode { OnOk result (self.new.mode ≡ mode) }
+        ensures text { OnOk result (self.new.text ≡ []) }
+    {
+        add_ended(
+            alloc,
+            &mut self.lines,
+            self.mode,
+            self.text.as_str(),
+            is_hard,
+            width,
+        )?;
+        self.text = Text::new(alloc);
+        self.mode = mode;
+        Ok(())
+    }
+
+    /// Takes a part of the flow.
+    pub fn take(&mut self, alloc: Global, part: &Flow, width: usize) -> Result<(), NoMemory>
+        requires { 1 ≤ width }
+        ensures { OnOk result ((flow : List Flow)
+            → lines_behind width self.new.lines self.new.mode self.new.text flow
+            ≡ lines_behind width self.old.lines self.old.mode self.old.text (part.now ∷ flow)) }
+    {
+        let mode = self.mode;
+        match part {
+            Flow::Words(text) => self.text.add(text.as_str()),
+            Flow::Hard => self.end(alloc, true, mode, width),
+            Flow::Soft => self.end(alloc, false, mode, width),
+            Flow::Wrap => self.end(alloc, false, Mode::Wrapped, width),
+            Flow::NoWrap => self.end(alloc, false, Mode::Unwrapped, width),
+            Flow::Pre => self.end(alloc, false, Mode::Preformatted, width),
+        }
+    }
+}
