@@ -10,7 +10,7 @@ use std::io::{ErrorKind, Read};
 use std::path::Path;
 use std::rt::Files;
 use std::{fs, io};
-use wap_base::{Bytes, Fetched, NoMemory, Store, StoreErr, Text};
+use wap_base::{Bytes, Fetched, Store, StoreErr, Text};
 
 /// A page has fewer bytes than this.
 const PAGE_LIMIT: u64 = 1 << 31;
@@ -238,7 +238,7 @@ fn gather<R: Files + AllocGlobal + Clone + Drop>(
 ) -> Result<Vec<Text>, StoreErr> {
     let mut names = Vec::new(rt.alloc());
     let mut level = Vec::new(rt.alloc());
-    add(&mut level, String::new(rt.alloc()))?;
+    level.push(String::new(rt.alloc()))?;
     for _ in 0..=DEEPEST {
         let mut below = Vec::new(rt.alloc());
         for prefix in &level {
@@ -276,9 +276,9 @@ fn read_folder<R: Files + AllocGlobal + Clone + Drop>(
         match kind_of(rt, path)? {
             Kind::Page => {
                 let name = joined(rt.alloc(), prefix, entry.file_name(), "")?;
-                add(names, Text::from_string(name))?;
+                names.push(Text::from_string(name))?;
             }
-            Kind::Folder => add(below, joined(rt.alloc(), prefix, entry.file_name(), "/")?)?,
+            Kind::Folder => below.push(joined(rt.alloc(), prefix, entry.file_name(), "/")?)?,
             Kind::Other => {}
         }
     }
@@ -305,10 +305,4 @@ fn joined(alloc: Global, front: &str, middle: &str, end: &str) -> Result<String,
     joined.push_str(middle)?;
     joined.push_str(end)?;
     Ok(joined)
-}
-
-/// Adds a value to a row.
-fn add<T: Drop>(row: &mut Vec<T>, value: T) -> Result<(), NoMemory> {
-    row.push(value)?;
-    Ok(())
 }

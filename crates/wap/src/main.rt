@@ -4,49 +4,60 @@
 mod folder;
 mod input;
 mod output;
-mod program;
 
 use folder::FolderStore;
 use input::StdinSource;
 use output::StdoutSink;
-use program::run_program;
 use std::env;
+use std::io::ErrorKind;
 use std::process::ExitCode;
-use wap_base::Text;
+use wap_base::{NoGate, NoMemory, Text};
+use wap_cli::{Status, run};
 
 #[cfg(test)]
 mod tests;
 
-/// The number of the status of a program whose words are no command.
-const USAGE: u8 = 1;
-
-/// The folder and the words behind it, where there is a folder and each word is UTF-8.
-fn words(rt: &HostRuntime) -> Option<(String, Vec<Text>)> {
-    let mut given = env::args(rt).ok()?.skip(1);
-    let folder = given.next()?;
+/// The pages of the folder that is named first, and the words of the command behind it, where there
+/// is a folder and each word is UTF-8.
+fn given(rt: &HostRuntime) -> Result<Option<(FolderStore<HostRuntime>, Vec<Text>)>, NoMemory> {
+    let given = match env::args(rt) {
+        Ok(given) => given,
+        Err(error) if matches!(error.kind(), ErrorKind::OutOfMemory) => return Err(NoMemory),
+        Err(_) => return Ok(None),
+    };
+    let mut given = given.skip(1);
+    let Some(folder) = given.next() else {
+        return Ok(None);
+    };
     if folder.is_empty() {
-        return None;
+        return Ok(None);
     }
     let mut words = Vec::new(rt.alloc());
     for word in given {
-        words.push(Text::from_string(word)).ok()?;
+        words.push(Text::from_string(word))?;
     }
-    Some((folder, words))
-}
-
-/// Runs the program, and answers the number of its status.
-fn run(rt: &HostRuntime) -> Option<u8> {
-    let (folder, words) = words(rt)?;
-    let store = FolderStore::new(rt.clone().ok()?, folder);
-    let mut keys = StdinSource::new(rt.stdin());
-    let mut out = StdoutSink::new(rt.stdout());
-    Some(run_program(rt.alloc(), words.as_slice(), store, &mut keys, &mut out))
+    Ok(Some((FolderStore::new(rt.clone()?, folder), words)))
 }
 
 fn main(rt: HostRuntime) -> ExitCode {
-    let number = run(&rt).unwrap_or(USAGE);
-    if number != 0 {
-        let _unwritten = eprintln!(rt; "wap: usage");
-    }
-    ExitCode::from(number)
+    let status = match given(&rt) {
+        Ok(Some((store, words))) => {
+            let mut keys = StdinSource::new(rt.stdin());
+            let mut out = StdoutSink::new(rt.stdout());
+            run(
+                &rt,
+                rt.alloc(),
+                words.as_slice(),
+                store,
+                &mut keys,
+                &mut out,
+                &NoGate,
+            )
+            .0
+        }
+        Ok(None) => Status::Usage,
+        Err(NoMemory) => Status::NoMemory,
+    };
+    let _unwritten = status.print(&mut StdoutSink::new(rt.stderr()));
+    ExitCode::from(status.number())
 }

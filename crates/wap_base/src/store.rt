@@ -10,7 +10,7 @@ ghost use Rattle.wap_base.specs.Fakes.{StoreState, ArePages, fresh, fails_next, 
 
 use crate::calls::Calls;
 use crate::{Bytes, NoMemory, RunErr, Text};
-use std::alloc::{AllocError, Global};
+use std::alloc::{AllocError, AllocFailed, Global};
 use std::marker::Model;
 
 /// What a store answers for a name.
@@ -46,6 +46,17 @@ impl From<AllocError> for StoreErr {
     ghost from_gives = { λ _ fault. fault ≡ NoMemory };
 
     fn from(_error: AllocError) -> StoreErr {
+        StoreErr::NoMemory
+    }
+}
+
+impl<T: Drop> From<AllocFailed<T>> for StoreErr {
+    ghost use Rattle.std.specs.Prelude.{◌≡◌};
+    ghost use Rattle.wap_base.specs.declared.store.StoreErr.TheVariants.{NoMemory};
+
+    ghost from_gives = { λ _ fault. fault ≡ NoMemory };
+
+    fn from(_error: AllocFailed<T>) -> StoreErr {
         StoreErr::NoMemory
     }
 }

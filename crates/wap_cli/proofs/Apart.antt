@@ -1,12 +1,12 @@
 -- The test whether a deck is apart, and what it tests.
 use Rattle.std.proofs.Common.{◌≡◌, ◌≢◌, ℕ, Bool, true, false, List, [], ◌∷◌, Result, Ok, Err, refl, sym, ap, ◌∙◌, cond}
-use Rattle.std.specs.Prelude.{◌↔◌, ◌&&◌, ◌||◌, not}
+use Rattle.std.specs.Prelude.{◌&&◌, ◌||◌, not}
 use Rattle.std.specs.List.{list_any, list_all, AllByRecursion, IsDistinct}
 use Rattle.wap_base.specs.Texts.{is_same_text, AreDistinct}
 use Rattle.wap_markup.specs.declared.deck.Deck.{Deck}
 use Rattle.wap_markup.specs.declared.deck.Node.{Node}
 use Rattle.wap_markup.specs.Decks.{cards_of, ids_of, types_of, IsApart}
-use Rattle.wap_world.specs.Pages.{Page, is_deck, is_refused}
+use Rattle.wap_world.specs.Pages.{is_deck, is_refused}
 use Rattle.wap_markup.specs.declared.document.Document.{Document}
 use Rattle.wap_markup.specs.Decks.{deck_of}
 use Rattle.wap_wbxml.specs.declared.fault.DocFault.{DocFault}

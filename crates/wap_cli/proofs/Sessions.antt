@@ -1,12 +1,12 @@
 -- A session without keys shows what opening its URL shows.
-use Rattle.std.proofs.Common.{◌≡◌, ℕ, Bool, true, false, cond, List, [], ◌∷◌, ◌++◌, Option, Some, None, refl, sym, ap, ◌∙◌}
+use Rattle.std.proofs.Common.{◌≡◌, ℕ, Bool, true, false, cond, List, [], ◌∷◌, Option, Some, None, refl, sym, ap, ◌∙◌}
 use Rattle.std.specs.Option.{option_map, IfSome}
 use Rattle.wap_base.specs.declared.store.Fetched.{Fetched}
 use Rattle.std.proofs.lemmas.List.{append-nil}
 use Rattle.wap_base.specs.Texts.{is_same_text}
 use Rattle.wap_base.specs.Contents.{Contents, page_named, answer_of, answer_for}
 use Rattle.wap_world.specs.Lines.{get_line, lines_bytes}
-use Rattle.wap_world.specs.Pages.{Page, Pages, is_deck, is_refused, page_of}
+use Rattle.wap_world.specs.Pages.{Page, is_deck, is_refused, page_of}
 use Rattle.wap_world.specs.World.{start, entered, name_of}
 use Rattle.wap_world.specs.Transcript.{transcript}
 use Rattle.wap_cli.specs.Judged.{judge, judged}

@@ -75,9 +75,11 @@ drops_none rest text i none so_far =
 
 pub drops_next : (before after : Chars) (next : Option ℕ) (text : List ℕ) (i : ℕ) → IsUtf8 (chars_rest before) → chars_steps before next after
     → chars (chars_rest before) ≡ drop i text → IsUtf8 (chars_rest after) × (chars (chars_rest after) ≡ drop (i + 1) text)
-drops_next before after None text i utf8 steps so_far =
-    (subst (λ (c : Chars). IsUtf8 (chars_rest c)) (sym steps.0.1) utf8,
-     ap (λ (c : Chars). chars (chars_rest c)) steps.0.1 ∙ drops_none (chars_rest before) text i steps.0.0 so_far)
-drops_next before after (Some c) text i utf8 steps so_far =
-    (IsUtf8-past_char (chars_rest before) (chars_rest after) c utf8 steps.0,
-     drops_more (chars_rest before) (chars_rest after) text i c utf8 steps.0 so_far)
+drops_next before after None text i utf8 steps so_far = (
+  subst (λ (c : Chars). IsUtf8 (chars_rest c)) (sym steps.0.1) utf8,
+  ap (λ (c : Chars). chars (chars_rest c)) steps.0.1 ∙ drops_none (chars_rest before) text i steps.0.0 so_far,
+)
+drops_next before after (Some c) text i utf8 steps so_far = (
+  IsUtf8-past_char (chars_rest before) (chars_rest after) c utf8 steps.0,
+  drops_more (chars_rest before) (chars_rest after) text i c utf8 steps.0 so_far,
+)

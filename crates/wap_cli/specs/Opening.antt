@@ -1,5 +1,5 @@
 -- What is shown where a session begins, by what the store answered.
-use Rattle.std.specs.Prelude.{ℕ, List, [], ◌∷◌, Option, Some, None, codes}
+use Rattle.std.specs.Prelude.{ℕ, List, [], ◌∷◌, Some, codes}
 use Rattle.wap_base.specs.declared.store.Fetched.{Fetched}
 use Rattle.wap_base.specs.declared.store.Fetched.TheVariants.{Found, Missing}
 use Rattle.wap_world.specs.Lines.{refusal_line, get_line}

@@ -1,6 +1,6 @@
 -- The URLs that are read so far (a part of RFC 2396): `http://`, a host, and segments of which the last ends in
 -- `.wmlc`. This project's own.
-use Rattle.std.specs.Prelude.{ℕ, Bool, true, false, ◌&&◌, ◌||◌, ◌==◌, nat_le, nat_eq, if◌then◌else◌, List, [], ◌∷◌, drop, codes}
+use Rattle.std.specs.Prelude.{ℕ, Bool, false, ◌&&◌, ◌||◌, ◌==◌, nat_le, nat_eq, if◌then◌else◌, List, [], ◌∷◌, drop, codes}
 use Rattle.std.specs.List.{list_all, starts_with, ends_with}
 
 abbrev pub is_lower : ℕ → Bool

@@ -7,11 +7,10 @@ ghost use Rattle.wap_world.specs.Transcript.{transcript};
 ghost use Rattle.wap_cli.specs.Judged.{judge, judged};
 ghost use Rattle.wap_cli.specs.Opening.{found_lines, answer_lines, opening_lines};
 
-use std::alloc::Global;
-
 use crate::judging::{Judged, judge};
 use crate::lines::{add_get, add_missing, add_refused};
 use crate::screen::add_screen;
+use std::alloc::Global;
 use wap_base::{Bytes, Fetched, NoMemory, RunErr, Store, StoreErr, Text};
 use wap_deck::GoodDeck;
 
@@ -67,7 +66,11 @@ fn name_of(alloc: Global, url: &Text) -> Result<Text, NoMemory>
 }
 
 /// The transcript of a session without keys.
-pub(crate) fn transcript<S: Store>(alloc: Global, url: &Text, store: &mut S) -> Result<Bytes, RunErr>
+pub(crate) fn transcript<S: Store>(
+    alloc: Global,
+    url: &Text,
+    store: &mut S,
+) -> Result<Bytes, RunErr>
     ensures told { IfOk result (λ bytes. IfSome (S.contents store.old) (λ contents. bytes ≡ transcript (judged contents) url.now [])) }
     ensures counted { OnOk result (S.fetches store.new ≡ raised (S.fetches store.old)) }
     ensures kept { S.contents store.new ≡ S.contents store.old }

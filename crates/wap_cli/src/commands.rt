@@ -7,12 +7,11 @@ ghost use Rattle.wap_cli.specs.Judged.{judged};
 ghost use Rattle.wap_cli.specs.Statuses.{IsDoneOrWants};
 ghost use Rattle.wap_cli.specs.Words.{command};
 
-use std::alloc::Global;
-use std::thread::Threads;
-
 use crate::Status;
 use crate::browse::transcript;
 use crate::words::command;
+use std::alloc::Global;
+use std::thread::Threads;
 use wap_base::{Failed, Gate, RunErr, Sink, Source, Store, Text, write_all};
 
 /// Browses from a URL on, and writes the transcript.

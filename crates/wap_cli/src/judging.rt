@@ -5,7 +5,6 @@ ghost use Rattle.wap_cli.specs.Judged.{judge, judged_deck};
 ghost use Rattle.wap_cli.specs.Opening.{page_judged};
 
 use std::alloc::Global;
-
 use wap_base::NoMemory;
 use wap_deck::{DeckErr, GoodDeck, deck_of};
 use wap_markup::Document;

@@ -12,5 +12,4 @@ ghost use Rattle.wap_cli.specs.Judged.{judge};
 pub fn judged_by_documents(_bytes: &[u8])
     ensures deck { (document : Document) → IsDocument _bytes.now document → IsApart (deck_of document) → judge _bytes.now ≡ is_deck (deck_of document) }
     ensures refused { ((document : Document) → IsDocument _bytes.now document → ¬ IsApart (deck_of document)) → judge _bytes.now ≡ is_refused }
-{
-}
+{}

@@ -3,7 +3,6 @@ ghost use Rattle.std.specs.Prelude.{◌≡◌, ◌++◌, map, IfOk, OnOk, codes}
 ghost use Rattle.wap_world.specs.Lines.{shown_character, line_bytes, get_line, refusal_line};
 
 use std::alloc::Global;
-
 use wap_base::{Bytes, NoMemory, Text};
 
 /// Appends a line, control characters as dots.

@@ -5,9 +5,8 @@ ghost use Rattle.wap_world.specs.Screens.{part_text, item_text, paragraph_line, 
 ghost use Rattle.std.specs.List.{flat_map};
 ghost use Rattle.wap_markup.specs.Decks.{is_paragraph_tag};
 
-use std::alloc::Global;
-
 use crate::lines::add_line;
+use std::alloc::Global;
 use wap_base::{Bytes, NoMemory, Part, Text};
 use wap_markup::{Item, Node, Tag};
 

@@ -11,9 +11,7 @@ const SCHEME_LEN: usize = 7;
 pub(crate) fn is_url(text: &str) -> bool
     ensures { result ≡ is_url text.now }
 {
-    begins_http(text)
-        && are_parts(text.as_bytes().split_at(SCHEME_LEN).1)
-        && ends_wmlc(text)
+    begins_http(text) && are_parts(text.as_bytes().split_at(SCHEME_LEN).1) && ends_wmlc(text)
 }
 
 fn begins_http(text: &str) -> bool

@@ -9,7 +9,7 @@ use Rattle.wap_cli.proofs.judging.judge.Goals as goal
 pub returns-in-Ok : goal.returns-in-Ok
 returns-in-Ok c =
     IfOk-weaker c.judge_document.result (λ page. page_judged page ≡ judged_deck (deck_of c.in-Ok.document)) (λ page. page_judged page ≡ judge c.args.bytes.now)
-      (λ page same. same ∙ page_of_document c.args.bytes.now c.in-Ok.document c.in-Ok.ensures.exact) c.judge_document.ensures
+    (λ page same. same ∙ page_of_document c.args.bytes.now c.in-Ok.document c.in-Ok.ensures.exact) c.judge_document.ensures
 
 pub returns-in-Err-Unbuilt : goal.returns-in-Err-Unbuilt
 returns-in-Err-Unbuilt c =

@@ -1,7 +1,6 @@
-use Rattle.std.proofs.Common.{sym, ap, subst, ◌∙◌, ◌≡◌}
+use Rattle.std.proofs.Common.{sym, ap, subst, ◌∙◌}
 use Rattle.wap_markup.specs.declared.deck.Deck.{Deck}
 use Rattle.wap_markup.specs.Decks.{deck_of, IsApart}
-use Rattle.wap_cli.specs.Judged.{judged_deck}
 use Rattle.wap_world.specs.Pages.{is_deck}
 use Rattle.wap_cli.proofs.Apart.{good_page, refused_page}
 use Rattle.wap_cli.proofs.judging.judge_document.Goals as goal

@@ -9,6 +9,6 @@ use Rattle.wap_cli.proofs.lines.add_get.Goals as goal
 pub returns : goal.returns
 returns c =
     let line = c.in_ok-add.ensures.ok
-      ∙ ap (λ (t : List ℕ). t ++ chars c.as_str.result.now) (c.in_ok-line.ensures ∙ get_letters)
-      ∙ ap (λ (t : List ℕ). codes "> GET " ++ t) c.as_str.ensures.characters in
+    ∙ ap (λ (t : List ℕ). t ++ chars c.as_str.result.now) (c.in_ok-line.ensures ∙ get_letters)
+    ∙ ap (λ (t : List ℕ). codes "> GET " ++ t) c.as_str.ensures.characters in
     on_ok_weaker c.add_line.result (λ added. added ∙ ap (λ (t : List ℕ). c.args.out.now ++ line_bytes t) line) c.add_line.ensures

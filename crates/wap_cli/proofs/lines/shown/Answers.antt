@@ -15,7 +15,7 @@ loop-character-preserved c =
     record {
       text = IsUtf8-past_char before after c.in-Some.character c.loop-character.invariant.text first;
       goes_on = ap (λ (t : List ℕ). t ++ map shown_character (chars after)) pushed
-        ∙ shows_more c.loop-character.shown before after (map shown_character c.args.line.now) c.in-Some.character c.loop-character.invariant.text first c.loop-character.invariant.goes_on;
+          ∙ shows_more c.loop-character.shown before after (map shown_character c.args.line.now) c.in-Some.character c.loop-character.invariant.text first c.loop-character.invariant.goes_on;
     }
 
 pub returns : goal.returns

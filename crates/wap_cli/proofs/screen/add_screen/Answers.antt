@@ -13,8 +13,8 @@ returns c =
     let title = c.in_ok-add_line.ensures ∙ ap (λ (t : List ℕ). c.args.out.now ++ line_bytes t) (c.in_ok-of.ensures ∙ equals_letters) in
     let rest = λ (items : List Item). lines_bytes (flat_map item_lines items) in
     on_ok_weaker c.add_items.result
-      (λ added. added
-        ∙ ap (λ (t : List ℕ). t ++ rest c.as_slice.result.now) title
-        ∙ ap (λ (items : List Item). (c.args.out.now ++ line_bytes (codes "=")) ++ rest items) c.as_slice.ensures
-        ∙ append_assoc c.args.out.now (line_bytes (codes "=")) (rest c.args.card.now.kids))
-      c.add_items.ensures
+    (λ added. added
+    ∙ ap (λ (t : List ℕ). t ++ rest c.as_slice.result.now) title
+    ∙ ap (λ (items : List Item). (c.args.out.now ++ line_bytes (codes "=")) ++ rest items) c.as_slice.ensures
+    ∙ append_assoc c.args.out.now (line_bytes (codes "=")) (rest c.args.card.now.kids))
+    c.add_items.ensures

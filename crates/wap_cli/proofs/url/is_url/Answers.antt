@@ -1,4 +1,4 @@
-use Rattle.std.proofs.Common.{◌≡◌, sym, ap, ◌∙◌, length, ◌≤◌, subst, arith, List, ℕ}
+use Rattle.std.proofs.Common.{sym, ap, ◌∙◌, length, ◌≤◌, arith}
 use Rattle.wap_cli.proofs.UrlLaws.{scheme_fits}
 use Rattle.wap_cli.proofs.url.is_url.Goals as goal
 

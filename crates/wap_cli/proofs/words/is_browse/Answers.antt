@@ -1,7 +1,7 @@
-use Rattle.std.proofs.Common.{◌≡◌, ap, ◌∙◌, List, ℕ}
+use Rattle.std.proofs.Common.{ap, ◌∙◌, List, ℕ}
 use Rattle.std.specs.Prelude.{codes, nat_eq}
 use Rattle.std.specs.Cmp.Lexicographic.{pointwise}
-use Rattle.wap_cli.proofs.TextLaws.{same-encode_utf8_all, browse_bytes}
+use Rattle.wap_cli.proofs.TextLaws.{browse_bytes}
 use Rattle.wap_cli.proofs.words.is_browse.Goals as goal
 
 pub returns : goal.returns
