@@ -1,0 +1,23 @@
+-- Who may enter a page (WAP-191, section 11.3.1; WAP-193, section 7.4): labels of the host and segments of the path.
+use Rattle.std.specs.Prelude.{ℕ, ◌==◌, Bool, ◌&&◌, if◌then◌else◌, IfSome, IsSomeAnd, List, [], ◌∷◌, map, length, drop}
+use Rattle.std.specs.Char.{to_ascii_lowercase}
+use Rattle.wap_url.specs.declared.url.Url.{Url}
+use Rattle.wap_url.specs.declared.access.Access.{Access}
+use Rattle.wap_url.specs.Characters.{is_slash}
+use Rattle.wap_url.specs.Splitting.{begins_with}
+use Rattle.wap_url.specs.Segments.{segments, labels, all_but_last, last_segment, IsPrefix, IsSuffix}
+
+-- the path without a leading slash
+abbrev pub below_root : List ℕ → List ℕ
+below_root path = if begins_with is_slash path then drop 1 path else path
+
+-- the segments of an access path, an empty last one dropped
+abbrev pub access_segments : List ℕ → List (List ℕ)
+access_segments path =
+    let all = segments (below_root path) in
+    if length (last_segment all) == 0 then all_but_last all else all
+
+abbrev pub IsAllowed : Access → Url → Type 0
+IsAllowed access caller =
+    IsSomeAnd caller.host (λ host. IsSuffix (labels (map to_ascii_lowercase access.domain)) (labels host))
+    × IsPrefix (access_segments access.path) (segments (below_root caller.path))

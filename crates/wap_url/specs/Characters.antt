@@ -1,0 +1,47 @@
+-- The characters of URLs (RFC 2396, section 2 and appendix A).
+use Rattle.std.specs.Prelude.{ℕ, Bool, false, ◌==◌, ◌||◌, ◌&&◌, not, List, [], ◌∷◌, codes}
+use Rattle.std.specs.List.{list_all, list_any}
+use Rattle.std.specs.Char.{is_ascii_graphic, is_ascii_alphabetic, is_ascii_alphanumeric}
+
+abbrev pub is_hash : ℕ → Bool
+is_hash c = c == 35
+
+abbrev pub is_dot : ℕ → Bool
+is_dot c = c == 46
+
+abbrev pub is_slash : ℕ → Bool
+is_slash c = c == 47
+
+abbrev pub is_colon : ℕ → Bool
+is_colon c = c == 58
+
+abbrev pub is_question : ℕ → Bool
+is_question c = c == 63
+
+-- one of the characters
+abbrev pub is_one_of : List ℕ → ℕ → Bool
+is_one_of cs c = list_any (λ d. c == d) cs
+
+-- may stand before a fragment: the characters 21 to 7E but for `"`, `<` and `>` (sections 2.4.3 and 4.1), and for the `#` that ends what stands there
+abbrev pub is_allowed : ℕ → Bool
+is_allowed c = is_ascii_graphic c && not (is_one_of (codes "\"<>#") c)
+
+-- a letter, and then letters, digits, `+`, `-` and `.` (section 3.1)
+abbrev pub is_scheme_character : ℕ → Bool
+is_scheme_character c = is_ascii_alphanumeric c || is_one_of (codes "+-.") c
+
+abbrev pub is_scheme : List ℕ → Bool
+is_scheme [] = false
+is_scheme (c ∷ cs) = is_ascii_alphabetic c && list_all is_scheme_character cs
+
+-- letters, digits, `-` and `.` (the characters of section 3.2.2)
+abbrev pub is_host_character : ℕ → Bool
+is_host_character c = is_ascii_alphanumeric c || is_one_of (codes "-.") c
+
+abbrev pub is_host : List ℕ → Bool
+is_host [] = false
+is_host (c ∷ cs) = list_all is_host_character (c ∷ cs)
+
+-- letters, digits and marks (section 2.3)
+abbrev pub is_unreserved : ℕ → Bool
+is_unreserved c = is_ascii_alphanumeric c || is_one_of (codes "-_.!~*'()") c

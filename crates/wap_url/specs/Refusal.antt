@@ -1,0 +1,17 @@
+-- Why a text is no URL, and where.
+use Rattle.std.specs.Prelude.{◌≡◌, ◌≢◌, ℕ, true, false, List, ◌∷◌, ◌++◌, length}
+use Rattle.std.specs.List.{list_all}
+use Rattle.wap_url.specs.declared.fault.UrlFault.{UrlFault}
+use Rattle.wap_url.specs.declared.fault.UrlFault.TheVariants.{BadChar}
+use Rattle.wap_url.specs.Characters.{is_allowed, is_hash}
+
+-- the first character before the fragment that may not stand there
+pub record HasBadChar (text : List ℕ) (at : ℕ) : Type 0 where
+  pub before : List ℕ
+  pub bad : ℕ
+  pub after : List ℕ
+  pub text_is : text ≡ before ++ bad ∷ after
+  pub allowed : list_all is_allowed before ≡ true
+  pub not_allowed : is_allowed bad ≡ false
+  pub no_fragment : is_hash bad ≡ false
+  pub at_is : at ≡ length before

@@ -1,0 +1,63 @@
+-- A URL as seen from another (this project's own, for the header of a request), and the law that leads back.
+use Rattle.std.specs.Prelude.{◌≡◌, ℕ, Bool, true, false, ◌&&◌, ◌||◌, not, ◌==◌, if◌then◌else◌, IsSome, List, [], ◌∷◌, ◌++◌, length, Option, Some, None, codes}
+use Rattle.std.specs.List.{list_all, list_any}
+use Rattle.std.specs.Str.{bytes_eq}
+use Rattle.wap_url.specs.declared.url.Url.{Url}
+use Rattle.wap_url.specs.Characters.{is_slash, is_colon}
+use Rattle.wap_url.specs.Splitting.{begins_with}
+use Rattle.wap_url.specs.Parts.{led_by, IsUrl}
+use Rattle.wap_url.specs.Reading.{has_authority}
+use Rattle.wap_url.specs.Printing.{printed, without_fragment, IsNormal}
+use Rattle.wap_url.specs.Segments.{segments, all_but_last, last_segment}
+use Rattle.wap_url.specs.Joining.{joined, is_dot_segment}
+
+abbrev pub same_text : Option (List ℕ) → Option (List ℕ) → Bool
+same_text None None = true
+same_text None (Some b) = false
+same_text (Some a) None = false
+same_text (Some a) (Some b) = bytes_eq a b
+
+abbrev pub same_port : Option ℕ → Option ℕ → Bool
+same_port None None = true
+same_port None (Some n) = false
+same_port (Some m) None = false
+same_port (Some m) (Some n) = m == n
+
+abbrev pub same_segments : List (List ℕ) → List (List ℕ) → Bool
+same_segments [] [] = true
+same_segments [] (t ∷ ts) = false
+same_segments (s ∷ ss) [] = false
+same_segments (s ∷ ss) (t ∷ ts) = bytes_eq s t && same_segments ss ts
+
+-- scheme, host and port are the same
+abbrev pub same_site : Url → Url → Bool
+same_site base u = same_text base.scheme u.scheme && (same_text base.host u.host && same_port base.port u.port)
+
+-- the paths agree up to their last slash
+abbrev pub same_folder : Url → Url → Bool
+same_folder base u = same_segments (all_but_last (segments base.path)) (all_but_last (segments u.path))
+
+-- a segment that can stand alone: it is not empty and would not be read as a scheme
+abbrev pub stands_alone : List ℕ → Bool
+stands_alone s = not (length s == 0) && not (list_any is_colon s)
+
+abbrev pub relative_form : Url → Url → List ℕ
+relative_form base u =
+    let page = last_segment (segments u.path) in
+    let query = led_by (63 ∷ []) u.query in
+    if not (same_site base u) || has_authority u.path then printed (without_fragment u)
+    else if same_folder base u && stands_alone page then page ++ query
+    else u.path ++ query
+
+-- the URL of a page on the web: http, with a host, its path from the root and without dot segments
+pub record IsWebPage (u : Url) : Type 0 where
+  pub normal : IsNormal u
+  pub http : u.scheme ≡ Some (codes "http")
+  pub host : IsSome u.host
+  pub from_root : begins_with is_slash u.path ≡ true
+  pub no_dots : list_any is_dot_segment (segments u.path) ≡ false
+
+-- the text is read as a reference, and each that it is read as joins the base to this URL
+pub record LeadsBack (base : Url) (text : List ℕ) (u : Url) : Type 0 where
+  pub is_read : (r : Url) × IsUrl text r
+  pub joins : (r : Url) → IsUrl text r → joined base r ≡ without_fragment u

@@ -1,0 +1,11 @@
+//! URLs after RFC 2396: reading, joining, the relative form, the name of a page in the store, escapes,
+//! and the test of who may enter a page.
+#![tactic(auto)]
+
+mod access;
+mod fault;
+mod url;
+
+pub use access::Access;
+pub use fault::UrlFault;
+pub use url::Url;
