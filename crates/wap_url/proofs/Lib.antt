@@ -1,1 +1,3 @@
+pub mod CharacterLaws
+pub mod EscapeLaws
 pub mod WorkedRows

@@ -3,9 +3,11 @@
 #![tactic(auto)]
 
 mod access;
+mod escapes;
 mod fault;
 mod url;
 
 pub use access::Access;
+pub use escapes::{escape, unescape};
 pub use fault::UrlFault;
 pub use url::Url;
