@@ -1,3 +1,6 @@
+pub mod SplitLaws
+pub mod Utf8Laws
 pub mod CharacterLaws
+pub mod AccessLaws
 pub mod EscapeLaws
 pub mod WorkedRows

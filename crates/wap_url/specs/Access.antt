@@ -11,12 +11,14 @@ use Rattle.wap_url.specs.Segments.{segments, labels, all_but_last, last_segment,
 abbrev pub below_root : List ℕ → List ℕ
 below_root path = if begins_with is_slash path then drop 1 path else path
 
--- the segments of an access path, an empty last one dropped
-abbrev pub access_segments : List ℕ → List (List ℕ)
-access_segments path =
-    let all = segments (below_root path) in
-    if length (last_segment all) == 0 then all_but_last all else all
+-- the segments, an empty last one dropped
+abbrev pub without_empty_last : List (List ℕ) → List (List ℕ)
+without_empty_last segments = if length (last_segment segments) == 0 then all_but_last segments else segments
 
+abbrev pub access_segments : List ℕ → List (List ℕ)
+access_segments path = without_empty_last (segments (below_root path))
+
+-- the host ends in the labels of the domain, which is lowered, and the path begins with the segments of the access path
 abbrev pub IsAllowed : Access → Url → Type 0
 IsAllowed access caller =
     IsSomeAnd caller.host (λ host. IsSuffix (labels (map to_ascii_lowercase access.domain)) (labels host))

@@ -1,5 +1,5 @@
 -- A path as its segments and a host as its labels (RFC 2396, sections 3.3 and 3.2.2).
-use Rattle.std.specs.Prelude.{◌≡◌, ℕ, ◌-◌, ◌==◌, Bool, false, List, [], ◌∷◌, ◌++◌, length, take, codes}
+use Rattle.std.specs.Prelude.{◌≡◌, ℕ, ◌-◌, ◌⊎◌, ◌==◌, Bool, false, List, [], ◌∷◌, ◌++◌, length, take, codes}
 use Rattle.std.specs.List.{slice_split, join_with_byte}
 use Rattle.std.specs.Str.{bytes_eq}
 use Rattle.wap_url.specs.Characters.{is_slash, is_dot}
@@ -30,3 +30,10 @@ IsPrefix {X} part whole = (rest : List X) × (whole ≡ part ++ rest)
 
 abbrev pub IsSuffix : {X : Type 0} → List X → List X → Type 0
 IsSuffix {X} part whole = (lead : List X) × (whole ≡ lead ++ part)
+
+-- a list may be cut after this part, and before it: it is empty, or the separator stands there
+abbrev pub EndsAt : ℕ → List ℕ → Type 0
+EndsAt c part = (part ≡ []) ⊎ ((front : List ℕ) × (part ≡ front ++ c ∷ []))
+
+abbrev pub BeginsAt : ℕ → List ℕ → Type 0
+BeginsAt c part = (part ≡ []) ⊎ ((rest : List ℕ) × (part ≡ c ∷ rest))
