@@ -1,5 +1,6 @@
 -- The characters of URLs (RFC 2396, section 2 and appendix A).
-use Rattle.std.specs.Prelude.{ℕ, Bool, false, ◌==◌, ◌||◌, ◌&&◌, not, List, [], ◌∷◌, codes}
+use Rattle.std.specs.Prelude.{ℕ, Bool, ◌==◌, ◌||◌, ◌&&◌, not, List, length, codes}
+use Rattle.wap_url.specs.Splitting.{begins_with}
 use Rattle.std.specs.List.{list_all, list_any}
 use Rattle.std.specs.Char.{is_ascii_graphic, is_ascii_alphabetic, is_ascii_alphanumeric}
 
@@ -31,16 +32,14 @@ abbrev pub is_scheme_character : ℕ → Bool
 is_scheme_character c = is_ascii_alphanumeric c || is_one_of (codes "+-.") c
 
 abbrev pub is_scheme : List ℕ → Bool
-is_scheme [] = false
-is_scheme (c ∷ cs) = is_ascii_alphabetic c && list_all is_scheme_character cs
+is_scheme scheme = begins_with is_ascii_alphabetic scheme && list_all is_scheme_character scheme
 
 -- letters, digits, `-` and `.` (the characters of section 3.2.2)
 abbrev pub is_host_character : ℕ → Bool
 is_host_character c = is_ascii_alphanumeric c || is_one_of (codes "-.") c
 
 abbrev pub is_host : List ℕ → Bool
-is_host [] = false
-is_host (c ∷ cs) = list_all is_host_character (c ∷ cs)
+is_host host = not (length host == 0) && list_all is_host_character host
 
 -- letters, digits and marks (section 2.3)
 abbrev pub is_unreserved : ℕ → Bool

@@ -1,7 +1,8 @@
-pub mod Characters
 pub mod Splitting
+pub mod Characters
 pub mod Parts
 pub mod Reading
+pub mod Cut
 pub mod Refusal
 pub mod Printing
 pub mod Segments

@@ -54,29 +54,35 @@ host_in authority = until is_colon authority
 abbrev pub port_in : List ℕ → Option (List ℕ)
 port_in authority = after_one (onward is_colon authority)
 
--- what follows the scheme
-abbrev pub rest_of : List ℕ → List ℕ
-rest_of text = after_scheme (front text)
-
--- what follows the authority
-abbrev pub tail_of : List ℕ → List ℕ
-tail_of text = after_authority (rest_of text)
-
 abbrev pub host_of : List ℕ → Option (List ℕ)
-host_of text = option_map host_in (authority_of (rest_of text))
+host_of front = option_map host_in (authority_of (after_scheme front))
 
 abbrev pub port_of : List ℕ → Option (List ℕ)
-port_of text = option_and_then port_in (authority_of (rest_of text))
+port_of front = option_and_then port_in (authority_of (after_scheme front))
+
+-- path and query
+abbrev pub tail_of : List ℕ → List ℕ
+tail_of front = after_authority (after_scheme front)
+
+abbrev pub path_part : List ℕ → List ℕ
+path_part front = until is_question (tail_of front)
+
+abbrev pub query_part : List ℕ → Option (List ℕ)
+query_part front = after_one (onward is_question (tail_of front))
+
+-- the parts of what stands before the fragment, beside a fragment
+abbrev pub parts_with : List ℕ → Option (List ℕ) → Parts
+parts_with front fragment = record {
+    scheme = scheme_of front;
+    host = host_of front;
+    port = port_of front;
+    path = path_part front;
+    query = query_part front;
+    fragment = fragment
+  }
 
 abbrev pub parts_of : List ℕ → Parts
-parts_of text = record {
-    scheme = scheme_of (front text);
-    host = host_of text;
-    port = port_of text;
-    path = until is_question (tail_of text);
-    query = after_one (onward is_question (tail_of text));
-    fragment = fragment_of text
-  }
+parts_of text = parts_with (front text) (fragment_of text)
 
 -- a character stands before the fragment that may not
 abbrev pub has_bad_char : List ℕ → Bool

@@ -3,8 +3,12 @@
 #![tactic(auto)]
 
 mod access;
+mod checks;
+mod cut;
 mod escapes;
 mod fault;
+mod parts;
+mod texts;
 mod url;
 
 pub use access::Access;
