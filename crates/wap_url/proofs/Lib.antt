@@ -2,6 +2,8 @@ pub mod SplitLaws
 pub mod Utf8Laws
 pub mod CharacterLaws
 pub mod AccessLaws
+pub mod FrontLaws
+pub mod ReadLaws
 pub mod PortLaws
 pub mod EscapeLaws
 pub mod WorkedRows

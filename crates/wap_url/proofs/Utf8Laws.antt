@@ -100,7 +100,7 @@ until_high : (p : ℕ → Bool) → ((b : ℕ) → 128 ≤ b → p b ≡ true) �
 until_high p all [] more high some = absurd (omega arith)
 until_high p all (b ∷ bs) more high some = (cond-true (p b) [] (b ∷ until p (bs ++ more)) (all b high.0), cond-true (p b) (b ∷ (bs ++ more)) (onward p (bs ++ more)) (all b high.0))
 
-encode_some : (c : ℕ) → 0 < length (encode_utf8 c)
+pub encode_some : (c : ℕ) → 0 < length (encode_utf8 c)
 encode_some c = omega (arith, Rattle.std.proofs.lemmas.Str.length-encode c, (Rattle.std.proofs.lemmas.Str.len_utf8_bounds c).0)
 
 pub record SameCut (p : ℕ → Bool) (cs : List ℕ) : Type 0 where

@@ -8,6 +8,7 @@ mod cut;
 mod escapes;
 mod fault;
 mod parts;
+mod reading;
 mod texts;
 mod url;
 

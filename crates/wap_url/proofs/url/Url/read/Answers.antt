@@ -1,0 +1,23 @@
+use Rattle.std.proofs.Common.{sym, ◌∙◌}
+use Rattle.wap_url.proofs.ReadLaws.{IsCut, is_cut, url_bad, url_fault, url_found}
+use Rattle.wap_url.proofs.url.Url.read.Goals as goal
+
+pub returns-then-is_bad : goal.returns-then-is_bad
+returns-then-is_bad c =
+    let cut = is_cut c.args.text.now c.as_str.result.now c.as_bytes.result.now c.cut_at.result.0.now c.cut_at.result.1.now c.is_bad.result c.as_bytes.ensures.value c.as_str.ensures.bytes c.cut_at.ensures.before c.cut_at.ensures.after c.is_bad.ensures in
+    record { exact = λ _. url_bad c.args.text.now c.cut_at.result.0.now c.cut_at.result.1.now c.is_bad.result cut c.if-is_bad.true }
+
+pub returns-in-Some : goal.returns-in-Some
+returns-in-Some c =
+    let cut = is_cut c.args.text.now c.as_str.result.now c.as_bytes.result.now c.cut_at.result.0.now c.cut_at.result.1.now c.is_bad.result c.as_bytes.ensures.value c.as_str.ensures.bytes c.cut_at.ensures.before c.cut_at.ensures.after c.is_bad.ensures in
+    record { exact = λ _. url_fault c.args.text.now c.cut_at.result.0.now c.cut_at.result.1.now c.is_bad.result c.in-Some.fault cut c.if-is_bad.false (sym c.fault_in.ensures ∙ c.in-Some.is) }
+
+pub fragment-requires : goal.fragment-requires
+fragment-requires c =
+    let cut = is_cut c.args.text.now c.as_str.result.now c.as_bytes.result.now c.cut_at.result.0.now c.cut_at.result.1.now c.is_bad.result c.as_bytes.ensures.value c.as_str.ensures.bytes c.cut_at.ensures.before c.cut_at.ensures.after c.is_bad.ensures in
+    sym cut.bad_is ∙ c.if-is_bad.false
+
+pub returns : goal.returns
+returns c =
+    let cut = is_cut c.args.text.now c.as_str.result.now c.as_bytes.result.now c.cut_at.result.0.now c.cut_at.result.1.now c.is_bad.result c.as_bytes.ensures.value c.as_str.ensures.bytes c.cut_at.ensures.before c.cut_at.ensures.after c.is_bad.ensures in
+    record { exact = url_found c.args.text.now c.cut_at.result.0.now c.cut_at.result.1.now c.is_bad.result c.in_ok-fragment.fragment c.in_ok-url_of.field-0 cut c.if-is_bad.false (sym c.fault_in.ensures ∙ c.in_default.is) c.in_ok-fragment.ensures c.in_ok-url_of.ensures }
