@@ -4,6 +4,7 @@ pub mod CharacterLaws
 pub mod AccessLaws
 pub mod FrontLaws
 pub mod ReadLaws
+pub mod PrintLaws
 pub mod PortLaws
 pub mod EscapeLaws
 pub mod WorkedRows
