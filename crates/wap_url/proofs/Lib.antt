@@ -5,6 +5,7 @@ pub mod AccessLaws
 pub mod FrontLaws
 pub mod ReadLaws
 pub mod PrintLaws
+pub mod JoinLaws
 pub mod PortLaws
 pub mod EscapeLaws
 pub mod WorkedRows

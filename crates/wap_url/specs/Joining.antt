@@ -34,11 +34,13 @@ resolved [] = []
 resolved (s ∷ []) = without_dots (s ∷ [])
 resolved (s ∷ t ∷ more) = if length s == 0 then [] ∷ without_dots (t ∷ more) else without_dots (s ∷ t ∷ more)
 
--- the base's path up to its last slash, and then the reference's path. Under a host an empty path is the root
-abbrev pub merged : Url → Url → List (List ℕ)
-merged base r =
-    if is_some base.host && length base.path == 0 then [] ∷ segments r.path
-    else all_but_last (segments base.path) ++ segments r.path
+-- The base's segments but for its last. Under a host an empty path is the root.
+abbrev pub lead_segments : Url → List (List ℕ)
+lead_segments base = if is_some base.host && length base.path == 0 then [] ∷ [] else all_but_last (segments base.path)
+
+-- the reference's path, or the base's up to its last slash and then the reference's
+abbrev pub merged_path : Url → Url → List ℕ
+merged_path base r = if begins_with is_slash r.path then r.path else path_of (lead_segments base ++ segments r.path)
 
 -- The reference, with what it takes from the base.
 abbrev pub target : Url → Url → Url
@@ -46,18 +48,16 @@ target base r =
     if is_some r.scheme then r
     else if is_some r.host then record r { scheme = base.scheme }
     else if length r.path == 0 && is_none r.query then record base { fragment = r.fragment }
-    else record r {
-        scheme = base.scheme;
-        host = base.host;
-        port = base.port;
-        path = if begins_with is_slash r.path then r.path else path_of (merged base r)
-      }
+    else record r { scheme = base.scheme; host = base.host; port = base.port; path = merged_path base r }
 
--- an empty path under a host is the root
-abbrev pub rooted : Option (List ℕ) → List ℕ → List ℕ
-rooted host path = if is_some host && length path == 0 then 47 ∷ [] else path
+-- the path without dot segments; under a host an empty path is the root
+abbrev pub rooted : Bool → List ℕ → List ℕ
+rooted under_host path = if under_host && length path == 0 then 47 ∷ [] else path
+
+abbrev pub resolved_path : List ℕ → List ℕ
+resolved_path path = path_of (resolved (segments path))
 
 abbrev pub joined : Url → Url → Url
 joined base r =
     let t = target base r in
-    record t { path = rooted t.host (path_of (resolved (segments t.path))) }
+    record t { path = rooted (is_some t.host) (resolved_path t.path) }

@@ -12,6 +12,11 @@ segments path = slice_split is_slash path
 abbrev pub path_of : List (List ℕ) → List ℕ
 path_of segments = join_with_byte 47 segments
 
+-- these segments, each with the slash behind it
+abbrev pub folder_of : List (List ℕ) → List ℕ
+folder_of [] = []
+folder_of (s ∷ segments) = s ++ 47 ∷ folder_of segments
+
 -- what stands between the dots of a host
 abbrev pub labels : List ℕ → List (List ℕ)
 labels host = slice_split is_dot host

@@ -5,8 +5,10 @@
 mod access;
 mod checks;
 mod cut;
+mod dots;
 mod escapes;
 mod fault;
+mod joining;
 mod parts;
 mod printing;
 mod reading;
@@ -16,5 +18,6 @@ mod url;
 pub use access::Access;
 pub use escapes::{escape, unescape};
 pub use fault::UrlFault;
+pub use joining::join;
 pub use printing::{name_of, print};
 pub use url::Url;
