@@ -1,1 +1,10 @@
+pub mod Choices
+pub mod Utf8Order
 pub mod TextLaws
+pub mod Utf8Lengths
+pub mod NumberLaws
+pub mod NumberLoop
+pub mod NumberSpelling
+pub mod NameLaws
+pub mod Transfers
+pub mod StoreLaws

@@ -1,9 +1,12 @@
 //! `Text`, UTF-8 that contracts see as the list of its characters.
 ghost use Rattle.std.specs.Prelude.{◌≡◌, [], ◌∷◌, ◌++◌, length, true, IsTrue, ◌↔◌, IfOk, OnOk, OnErr, string_bytes, encode_utf8_all};
 ghost use Rattle.std.specs.Str.{chars, all_scalars};
+ghost use Rattle.wap_base.specs.Utf8.{utf8_len};
 
 use crate::NoMemory;
 use std::alloc::Global;
+use std::cmp::Ordering;
+use std::hash::{Hash, Hasher};
 use std::marker::Model;
 
 /// A text. A contract sees the list of its characters, each as its number; inside it is UTF-8.
@@ -65,6 +68,13 @@ impl Text {
         self.inner.as_str()
     }
 
+    /// The number of bytes in UTF-8.
+    pub fn len(&self) -> usize
+        ensures { result ≡ utf8_len self.now }
+    {
+        self.as_str().len()
+    }
+
     pub fn is_empty(&self) -> bool
         ensures { IsTrue result ↔ (self.now ≡ []) }
     {
@@ -94,5 +104,72 @@ impl Text {
     {
         self.inner.push(character)?;
         Ok(())
+    }
+}
+
+impl PartialEq for Text {
+    ghost use Rattle.std.specs.Cmp.{partial_equiv_from_equiv};
+    ghost use Rattle.std.specs.Cmp.Lexicographic.{nat_list_eq_equiv};
+    ghost use Rattle.wap_base.specs.Texts.{is_same_text};
+
+    ghost eq = { is_same_text };
+
+    ghost laws = { partial_equiv_from_equiv nat_list_eq_equiv };
+
+    fn eq(&self, other: &Text) -> bool {
+        self.as_str() == other.as_str()
+    }
+}
+
+impl Eq for Text {
+    ghost use Rattle.std.specs.Cmp.Lexicographic.{nat_list_eq_equiv};
+
+    ghost laws = { nat_list_eq_equiv };
+}
+
+impl PartialOrd for Text {
+    ghost use Rattle.std.specs.Prelude.{Some};
+    ghost use Rattle.std.specs.Cmp.Lexicographic.{texts_po};
+    ghost use Rattle.wap_base.specs.Texts.{text_cmp};
+
+    ghost partial_cmp = { λ a b. Some (text_cmp a b) };
+
+    ghost laws = { texts_po };
+
+    fn partial_cmp(&self, other: &Text) -> Option<Ordering> {
+        Some(self.cmp(other))
+    }
+}
+
+impl Ord for Text {
+    ghost use Rattle.std.specs.Prelude.{refl};
+    ghost use Rattle.std.specs.Cmp.Lexicographic.{nat_list_cmp_total, texts_ties};
+    ghost use Rattle.wap_base.specs.Texts.{text_cmp};
+
+    ghost cmp = { text_cmp };
+
+    ghost total = { nat_list_cmp_total };
+
+    ghost matches_partial_cmp = { λ a b. refl };
+
+    ghost matches_eq = { λ a b. texts_ties a b };
+
+    fn cmp(&self, other: &Text) -> Ordering {
+        self.as_str().cmp(other.as_str())
+    }
+}
+
+impl Hash for Text {
+    ghost use Rattle.std.specs.Prelude.{encode_utf8_all};
+    ghost use Rattle.std.specs.Hash as fed;
+    ghost use Rattle.std.specs.Cmp.Lexicographic.{bytes_decides};
+    ghost use Rattle.std.proofs.Common.{ap};
+
+    ghost hash_input = { λ text. fed.str (encode_utf8_all text) };
+
+    ghost respects_eq = { λ a b same. ap (λ text. fed.str (encode_utf8_all text)) ((bytes_decides a b).0 same) };
+
+    fn hash<H: Hasher>(&self, state: &mut H) {
+        self.as_str().hash(state);
     }
 }

@@ -1,0 +1,25 @@
+-- What a store holds: pages by their names. This project's own.
+use Rattle.std.specs.Prelude.{ℕ, List, [], ◌∷◌, map, Option, Some, None, if◌then◌else◌}
+use Rattle.wap_base.specs.Texts.{is_same_text}
+use Rattle.wap_base.specs.declared.store.Fetched.{Fetched}
+use Rattle.wap_base.specs.declared.store.Fetched.TheVariants.{Found, Missing}
+
+-- a list of names, as characters, each with its page's bytes
+abbrev pub Contents : Type 0
+Contents = List (List ℕ × List ℕ)
+
+abbrev pub names_of : Contents → List (List ℕ)
+names_of pages = map (λ page. page.0) pages
+
+-- the bytes under a name
+abbrev pub page_named : List ℕ → Contents → Option (List ℕ)
+page_named name [] = None
+page_named name (page ∷ pages) = if is_same_text page.0 name then Some page.1 else page_named name pages
+
+abbrev pub answer_of : Option (List ℕ) → Fetched
+answer_of (Some bytes) = Found bytes
+answer_of None = Missing
+
+-- what a store that holds these pages answers
+abbrev pub answer_for : List ℕ → Contents → Fetched
+answer_for name pages = answer_of (page_named name pages)

@@ -1,0 +1,83 @@
+-- Stores, sources and sinks in memory, which fail at the calls that a list names. This project's own.
+use Rattle.std.specs.Prelude.{ℕ, ◌-◌, ◌<◌, ◌^◌, All, Bool, ◌==◌, ◌||◌, ◌&&◌, nat_lt, List, [], ◌++◌, length, take, drop, min, if◌then◌else◌}
+use Rattle.std.specs.List.{list_any}
+use Rattle.wap_base.specs.Count.{raised}
+use Rattle.wap_base.specs.Texts.{AreDistinct}
+use Rattle.wap_base.specs.Contents.{Contents, names_of}
+
+-- the numbers, from 1, of the calls that fail; how many calls were made; how often one failed
+pub record Schedule : Type 0 where
+  pub fail : List ℕ
+  pub made : ℕ
+  pub faults : ℕ
+
+-- before any call
+abbrev pub fresh : List ℕ → Schedule
+fresh fail = record { fail = fail; made = 0; faults = 0 }
+
+-- the next call is one that fails
+abbrev pub fails_next : Schedule → Bool
+fails_next calls = list_any (λ number. number == raised calls.made) calls.fail
+
+-- after a call that fails or doesn't
+abbrev pub called : Schedule → Bool → Schedule
+called calls failed = record { fail = calls.fail; made = raised calls.made; faults = if failed then raised calls.faults else calls.faults }
+
+-- pages that a store may hold: no name stands twice, and each page has fewer than 2 ^ 31 bytes
+pub record ArePages (pages : Contents) : Type 0 where
+  pub distinct : AreDistinct (names_of pages)
+  pub small : All (λ page. length page.1 < 2 ^ 31) pages
+
+-- a store: its pages, its calls of both kinds in one row, and how many of them asked for a page
+pub record StoreState : Type 0 where
+  pub pages : Contents
+  pub calls : Schedule
+  pub fetches : ℕ
+
+-- after any call; whether it asked for a page
+abbrev pub after_call : StoreState → Bool → StoreState
+after_call store asked = record {
+  pages = store.pages;
+  calls = called store.calls (fails_next store.calls);
+  fetches = if asked then raised store.fetches else store.fetches;
+}
+
+-- a source: the bytes that are left, and how many one call moves at most
+pub record SourceState : Type 0 where
+  pub left : List ℕ
+  pub piece : ℕ
+  pub calls : Schedule
+
+-- how many bytes a read into so much room moves
+abbrev pub read_count : SourceState → ℕ → ℕ
+read_count source room = min source.piece (min room (length source.left))
+
+abbrev pub after_read : SourceState → ℕ → SourceState
+after_read source room = record {
+  left = if fails_next source.calls then source.left else drop (read_count source room) source.left;
+  piece = source.piece;
+  calls = called source.calls (fails_next source.calls);
+}
+
+-- a sink: what was written, how many bytes it holds, and how many one call moves at most
+pub record SinkState : Type 0 where
+  pub written : List ℕ
+  pub room : ℕ
+  pub piece : ℕ
+  pub calls : Schedule
+
+-- the next write fails: it is one that the list names, or there is no room for any of it
+abbrev pub fails_write : SinkState → List ℕ → Bool
+fails_write sink bytes = fails_next sink.calls || (nat_lt 0 (length bytes) && (length sink.written == sink.room))
+
+-- how many bytes of these a write moves
+abbrev pub write_count : SinkState → List ℕ → ℕ
+write_count sink bytes = min sink.piece (min (sink.room - length sink.written) (length bytes))
+
+abbrev pub after_write : SinkState → List ℕ → SinkState
+after_write sink bytes = record {
+  written = if fails_write sink bytes then sink.written else sink.written ++ take (write_count sink bytes) bytes;
+  room = sink.room;
+  piece = sink.piece;
+  calls = called sink.calls (fails_write sink bytes);
+}

@@ -1,0 +1,19 @@
+-- What a read takes and a write gives, where the bytes are told. This project's own.
+use Rattle.std.specs.Prelude.{◌≡◌, ℕ, List, [], ◌++◌, Option, IfSome}
+use Rattle.std.specs.Option.{option_map}
+
+-- the source had these bytes first, and has the others still
+abbrev pub TakesFrom : Option (List ℕ) → Option (List ℕ) → List ℕ → Type 0
+TakesFrom before after bytes = before ≡ option_map (λ left. bytes ++ left) after
+
+-- the sink has these bytes behind what it had
+abbrev pub Appends : Option (List ℕ) → Option (List ℕ) → List ℕ → Type 0
+Appends before after bytes = after ≡ option_map (λ written. written ++ bytes) before
+
+-- the sink has some front of these bytes behind what it had
+abbrev pub AppendsFront : Option (List ℕ) → Option (List ℕ) → List ℕ → Type 0
+AppendsFront before after bytes = (front : List ℕ) × (rest : List ℕ) × (bytes ≡ front ++ rest) × Appends before after front
+
+-- no bytes are left, where they are told
+abbrev pub IsAtEnd : Option (List ℕ) → Type 0
+IsAtEnd left = IfSome left (λ bytes. bytes ≡ [])
