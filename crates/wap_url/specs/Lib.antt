@@ -10,4 +10,3 @@ pub mod Joining
 pub mod Relative
 pub mod Escapes
 pub mod Access
-pub mod Answers

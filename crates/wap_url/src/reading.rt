@@ -1,7 +1,7 @@
 //! Reading a text as a URL.
 ghost use Rattle.std.specs.Prelude.{◌≡◌, not, false, true, None, IfOk, Option, List, ℕ};
 ghost use Rattle.std.specs.Option.{option_and_then};
-ghost use Rattle.wap_url.specs.Answers.{Meets};
+ghost use Rattle.wap_base.specs.Outcome.{Meets};
 ghost use Rattle.wap_url.specs.Splitting.{begins_with};
 ghost use Rattle.wap_url.specs.Characters.{is_hash};
 ghost use Rattle.wap_url.specs.Parts.{url_of, port_number, is_port};
