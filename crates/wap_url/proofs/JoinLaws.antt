@@ -248,7 +248,7 @@ none_pass : (p : ℕ → Bool) (cs : List ℕ) → NonePass p cs → list_any p 
 none_pass p [] none = refl
 none_pass p (c ∷ cs) none = or_from (p c) (list_any p cs) none.0 (none_pass p cs none.1)
 
-no_char : (bs : List ℕ) → IsUtf8 bs → NoCharPasses is_slash bs → list_any is_slash (chars bs) ≡ false
+pub no_char : (bs : List ℕ) → IsUtf8 bs → NoCharPasses is_slash bs → list_any is_slash (chars bs) ≡ false
 no_char bs text none = ap (list_any is_slash) (sym (chars_from_encodes none.0 bs text none.1)) ∙ none_pass is_slash none.0 none.2
 
 folder-path : (ss : List (List ℕ)) → HasFirst ss → folder_of ss ≡ path_of ss ++ 47 ∷ []

@@ -6,6 +6,7 @@ pub mod FrontLaws
 pub mod ReadLaws
 pub mod PrintLaws
 pub mod JoinLaws
+pub mod RelationLaws
 pub mod PortLaws
 pub mod EscapeLaws
 pub mod WorkedRows

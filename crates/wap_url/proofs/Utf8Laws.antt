@@ -54,13 +54,13 @@ map_onto_first c [] h = absurd (let e = h.is in cc)
 map_onto_first c (part ∷ parts) h = onto-first (encode_utf8 c) (encode_utf8_all part) (map encode_utf8_all parts)
 
 -- no byte of another character is the separator
-none_high : (sep : ℕ) → sep < 128 → (bs : List ℕ) → AllHigh bs → list_any (λ b. b == sep) bs ≡ false
+pub none_high : (sep : ℕ) → sep < 128 → (bs : List ℕ) → AllHigh bs → list_any (λ b. b == sep) bs ≡ false
 none_high sep low [] high = refl
 none_high sep low (b ∷ bs) high = or_from (b == sep) (list_any (λ b. b == sep) bs) (ne_eqb b sep (λ e. differ e high.0)) (none_high sep low bs high.1) where
   differ : b ≡ sep → 128 ≤ b → ⊥
   differ e above = omega arith
 
-none_inside : (sep c : ℕ) → sep < 128 → (c == sep) ≡ false → list_any (λ b. b == sep) (encode_utf8 c) ≡ false
+pub none_inside : (sep c : ℕ) → sep < 128 → (c == sep) ≡ false → list_any (λ b. b == sep) (encode_utf8 c) ≡ false
 none_inside sep c low other = elim (cases_lt c 128) [
     inl ascii ↦ ap (list_any (λ b. b == sep)) (encode_ascii c ascii) ∙ or_from (c == sep) false other refl
   | inr high ↦ none_high sep low (encode_utf8 c) (high_bytes c high) ]
@@ -200,7 +200,7 @@ last-map [] = refl
 last-map (s ∷ []) = refl
 last-map (s ∷ t ∷ parts) = last-map (t ∷ parts)
 
-no_bytes : (cs : List ℕ) → (length (encode_utf8_all cs) == 0) ≡ (length cs == 0)
+pub no_bytes : (cs : List ℕ) → (length (encode_utf8_all cs) == 0) ≡ (length cs == 0)
 no_bytes [] = refl
 no_bytes (c ∷ cs) = ne_eqb (length (encode_utf8_all (c ∷ cs))) 0 (λ e. absurd (omega (arith, encode_some c, length-append (encode_utf8 c) (encode_utf8_all cs)))) ∙ sym (ne_eqb (length (c ∷ cs)) 0 (λ e. absurd (omega arith)))
 

@@ -7,7 +7,7 @@ use Rattle.wap_url.specs.Characters.{is_slash, is_colon}
 use Rattle.wap_url.specs.Splitting.{begins_with}
 use Rattle.wap_url.specs.Parts.{led_by, IsUrl}
 use Rattle.wap_url.specs.Reading.{has_authority}
-use Rattle.wap_url.specs.Printing.{printed, without_fragment, IsNormal}
+use Rattle.wap_url.specs.Printing.{page_text, without_fragment, IsNormal}
 use Rattle.wap_url.specs.Segments.{segments, all_but_last, last_segment}
 use Rattle.wap_url.specs.Joining.{joined, is_dot_segment}
 
@@ -34,20 +34,23 @@ abbrev pub same_site : Url → Url → Bool
 same_site base u = same_text base.scheme u.scheme && (same_text base.host u.host && same_port base.port u.port)
 
 -- the paths agree up to their last slash
-abbrev pub same_folder : Url → Url → Bool
-same_folder base u = same_segments (all_but_last (segments base.path)) (all_but_last (segments u.path))
+abbrev pub same_folder : List ℕ → List ℕ → Bool
+same_folder base path = same_segments (all_but_last (segments base)) (all_but_last (segments path))
 
 -- a segment that can stand alone: it is not empty and would not be read as a scheme
 abbrev pub stands_alone : List ℕ → Bool
 stands_alone s = not (length s == 0) && not (list_any is_colon s)
 
+-- the path as seen from another of the same site: its last segment in the same folder, else all
+abbrev pub local_path : List ℕ → List ℕ → List ℕ
+local_path base path =
+    let page = last_segment (segments path) in
+    if same_folder base path && stands_alone page then page else path
+
 abbrev pub relative_form : Url → Url → List ℕ
 relative_form base u =
-    let page = last_segment (segments u.path) in
-    let query = led_by (63 ∷ []) u.query in
-    if not (same_site base u) || has_authority u.path then printed (without_fragment u)
-    else if same_folder base u && stands_alone page then page ++ query
-    else u.path ++ query
+    if not (same_site base u) || has_authority u.path then page_text u
+    else local_path base.path u.path ++ led_by (63 ∷ []) u.query
 
 -- the URL of a page on the web: http, with a host, its path from the root and without dot segments
 pub record IsWebPage (u : Url) : Type 0 where

@@ -12,6 +12,7 @@ mod joining;
 mod parts;
 mod printing;
 mod reading;
+mod relation;
 mod texts;
 mod url;
 
@@ -20,4 +21,5 @@ pub use escapes::{escape, unescape};
 pub use fault::UrlFault;
 pub use joining::join;
 pub use printing::{name_of, print};
+pub use relation::relative;
 pub use url::Url;

@@ -29,7 +29,8 @@ fn after_scheme(front: &[u8]) -> &[u8]
     }
 }
 
-fn has_authority(rest: &[u8]) -> bool
+/// Whether the rest begins with `//`.
+pub fn has_authority(rest: &[u8]) -> bool
     ensures { result ≡ has_authority rest.now }
 {
     match rest {

@@ -7,7 +7,7 @@ use wap_base::{NoMemory, Text};
 /// A URL in its parts, or a reference that is to be joined to one (RFC 2396, section 4).
 ///
 /// A URL that is read has its scheme and host in lower case; no part is unescaped.
-#[derive(Debug, Drop)]
+#[derive(Debug, PartialEq, Eq, Drop)]
 pub struct Url {
     pub scheme: Option<Text>,
     pub host: Option<Text>,
