@@ -7,6 +7,8 @@ pub mod ReadLaws
 pub mod PrintLaws
 pub mod JoinLaws
 pub mod RelationLaws
+pub mod UntilLaws
+pub mod FoundLaws
 pub mod PortLaws
 pub mod EscapeLaws
 pub mod WorkedRows

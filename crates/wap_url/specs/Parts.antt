@@ -53,16 +53,23 @@ url_of p = record {
     fragment = p.fragment
   }
 
+abbrev pub is_path_character : ℕ → Bool
+is_path_character c = is_allowed c && not (is_question c)
+
+-- ends what could be a scheme at the beginning of a path
+abbrev pub ends_word : ℕ → Bool
+ends_word c = is_colon c || is_slash c
+
 -- Each part has its characters and none at which the next part would begin. A fragment may hold any character.
 pub record IsWellFormed (p : Parts) : Type 0 where
   pub scheme : IfSome p.scheme (λ scheme. is_scheme scheme ≡ true)
   pub host : IfSome p.host (λ host. is_host host ≡ true)
   pub port : IfSome p.port (λ port. is_port port ≡ true)
   pub port_has_host : p.host ≡ None → p.port ≡ None
-  pub path : list_all (λ c. is_allowed c && not (is_question c)) p.path ≡ true
+  pub path : list_all is_path_character p.path ≡ true
   pub query : IfSome p.query (λ query. list_all is_allowed query ≡ true)
   -- without a scheme no colon stands in the first segment
-  pub no_scheme : p.scheme ≡ None → p.host ≡ None → begins_with is_colon (onward (λ c. is_colon c || is_slash c) p.path) ≡ false
+  pub no_scheme : p.scheme ≡ None → p.host ≡ None → begins_with is_colon (onward ends_word p.path) ≡ false
   -- after a host the path is empty or begins with a slash, and without one it does not begin with two
   pub rooted : IsSome p.host → (p.path ≡ []) ⊎ (begins_with is_slash p.path ≡ true)
   pub no_host : p.host ≡ None → (rest : List ℕ) → p.path ≢ 47 ∷ 47 ∷ rest
