@@ -1,7 +1,7 @@
 -- Characters past US-ASCII pass none of the tests.
 use Rattle.std.proofs.Common.{◌≡◌, ℕ, ◌<◌, ◌≤◌, Bool, true, false, not, ◌&&◌, ◌||◌, List, [], ◌∷◌, refl, ap, sym, ◌∙◌, arith, cond, nat_lt, nat_le, ◌==◌, codes}
 use Rattle.std.specs.List.{list_any, list_all}
-use Rattle.std.specs.Char.{is_ascii_graphic, is_ascii_alphabetic, is_ascii_alphanumeric}
+use Rattle.std.specs.Char.{is_ascii_graphic, is_ascii_alphabetic, is_ascii_alphanumeric, is_ascii_digit}
 use Rattle.std.proofs.lemmas.Bool.{or_from, and_left, ne_eqb, and_right}
 use Rattle.std.proofs.lemmas.Bool.Decides.{nat_tests}
 use Rattle.wap_url.specs.Characters.{is_one_of, is_allowed, is_unreserved, is_scheme_character, is_host_character}
@@ -31,3 +31,12 @@ unreserved_high c high = or_from (is_ascii_alphanumeric c) (is_one_of (codes "-_
 
 pub allowed_high : (c : ℕ) → 128 ≤ c → is_allowed c ≡ false
 allowed_high c high = and_left (is_ascii_graphic c) (not (is_one_of (codes "\"<>#") c)) (graphic_high c high)
+
+pub scheme_high : (c : ℕ) → 128 ≤ c → is_scheme_character c ≡ false
+scheme_high c high = or_from (is_ascii_alphanumeric c) (is_one_of (codes "+-.") c) (alphanumeric_high c high) (one_of_high (codes "+-.") c refl high)
+
+pub host_high : (c : ℕ) → 128 ≤ c → is_host_character c ≡ false
+host_high c high = or_from (is_ascii_alphanumeric c) (is_one_of (codes "-.") c) (alphanumeric_high c high) (one_of_high (codes "-.") c refl high)
+
+pub digit_high : (c : ℕ) → 128 ≤ c → is_ascii_digit c ≡ false
+digit_high c high = grind (arith, nat_tests)

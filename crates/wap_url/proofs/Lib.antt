@@ -9,6 +9,7 @@ pub mod JoinLaws
 pub mod RelationLaws
 pub mod UntilLaws
 pub mod FoundLaws
+pub mod AgainLaws
 pub mod PortLaws
 pub mod EscapeLaws
 pub mod WorkedRows

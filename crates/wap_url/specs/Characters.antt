@@ -19,6 +19,14 @@ is_colon c = c == 58
 abbrev pub is_question : ℕ → Bool
 is_question c = c == 63
 
+-- ends a scheme, or what could be one
+abbrev pub ends_scheme : ℕ → Bool
+ends_scheme c = is_colon c || (is_slash c || is_question c)
+
+-- ends an authority
+abbrev pub ends_authority : ℕ → Bool
+ends_authority c = is_slash c || is_question c
+
 -- one of the characters
 abbrev pub is_one_of : List ℕ → ℕ → Bool
 is_one_of cs c = list_any (λ d. c == d) cs

@@ -5,7 +5,7 @@ use Rattle.std.specs.List.{list_all}
 use Rattle.std.specs.Char.{is_ascii_digit, to_ascii_lowercase}
 use Rattle.std.specs.Str.Parse.{digits_value}
 use Rattle.wap_url.specs.declared.url.Url.{Url}
-use Rattle.wap_url.specs.Characters.{is_allowed, is_colon, is_question, is_slash, is_scheme, is_host}
+use Rattle.wap_url.specs.Characters.{is_allowed, is_colon, is_question, is_slash, ends_scheme, ends_authority, is_scheme, is_host}
 use Rattle.wap_url.specs.Splitting.{until, onward, begins_with}
 
 -- The parts. A port is the text after the host's colon, and may be empty.
@@ -53,20 +53,31 @@ url_of p = record {
     fragment = p.fragment
   }
 
-abbrev pub is_path_character : ℕ → Bool
-is_path_character c = is_allowed c && not (is_question c)
+-- the characters of a scheme's place, a host's, a port's and a path's: none of those at which the next part would begin
+abbrev pub may_be_scheme : ℕ → Bool
+may_be_scheme c = is_allowed c && not (ends_scheme c)
+
+abbrev pub may_be_host : ℕ → Bool
+may_be_host c = is_allowed c && (not (ends_authority c) && not (is_colon c))
+
+abbrev pub may_be_port : ℕ → Bool
+may_be_port c = is_allowed c && not (ends_authority c)
+
+abbrev pub may_be_path : ℕ → Bool
+may_be_path c = is_allowed c && not (is_question c)
 
 -- ends what could be a scheme at the beginning of a path
 abbrev pub ends_word : ℕ → Bool
 ends_word c = is_colon c || is_slash c
 
--- Each part has its characters and none at which the next part would begin. A fragment may hold any character.
-pub record IsWellFormed (p : Parts) : Type 0 where
-  pub scheme : IfSome p.scheme (λ scheme. is_scheme scheme ≡ true)
-  pub host : IfSome p.host (λ host. is_host host ≡ true)
-  pub port : IfSome p.port (λ port. is_port port ≡ true)
+-- The text in its parts: in a row they are the text, and each ends where the next begins. A fragment may hold any character.
+pub record IsSplit (text : List ℕ) (p : Parts) : Type 0 where
+  pub spells : text ≡ spelled p
+  pub scheme : IfSome p.scheme (λ scheme. list_all may_be_scheme scheme ≡ true)
+  pub host : IfSome p.host (λ host. list_all may_be_host host ≡ true)
+  pub port : IfSome p.port (λ port. list_all may_be_port port ≡ true)
   pub port_has_host : p.host ≡ None → p.port ≡ None
-  pub path : list_all is_path_character p.path ≡ true
+  pub path : list_all may_be_path p.path ≡ true
   pub query : IfSome p.query (λ query. list_all is_allowed query ≡ true)
   -- without a scheme no colon stands in the first segment
   pub no_scheme : p.scheme ≡ None → p.host ≡ None → begins_with is_colon (onward ends_word p.path) ≡ false
@@ -74,6 +85,12 @@ pub record IsWellFormed (p : Parts) : Type 0 where
   pub rooted : IsSome p.host → (p.path ≡ []) ⊎ (begins_with is_slash p.path ≡ true)
   pub no_host : p.host ≡ None → (rest : List ℕ) → p.path ≢ 47 ∷ 47 ∷ rest
 
--- the text is spelled by parts that stand for the URL
+-- scheme, host and port are what they may be
+pub record Fits (p : Parts) : Type 0 where
+  pub scheme : IfSome p.scheme (λ scheme. is_scheme scheme ≡ true)
+  pub host : IfSome p.host (λ host. is_host host ≡ true)
+  pub port : IfSome p.port (λ port. is_port port ≡ true)
+
+-- the text is that of parts that fit and stand for the URL
 abbrev pub IsUrl : List ℕ → Url → Type 0
-IsUrl text url = (p : Parts) × IsWellFormed p × (text ≡ spelled p) × (url_of p ≡ url)
+IsUrl text url = (p : Parts) × IsSplit text p × Fits p × (url_of p ≡ url)

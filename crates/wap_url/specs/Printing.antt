@@ -1,11 +1,11 @@
 -- A URL as text (RFC 2396, section 5.2, step 7), and the name of its page.
-use Rattle.std.specs.Prelude.{◌≡◌, ℕ, ◌==◌, if◌then◌else◌, Bool, false, List, [], ◌∷◌, ◌++◌, map, Option, Some, None, codes}
+use Rattle.std.specs.Prelude.{◌≡◌, ℕ, ◌≤◌, IfSome, ◌==◌, if◌then◌else◌, Bool, false, List, [], ◌∷◌, ◌++◌, map, Option, Some, None, codes}
 use Rattle.std.specs.Option.{option_map, unwrap_or}
 use Rattle.std.specs.Char.{to_ascii_lowercase}
 use Rattle.std.specs.Fmt.{decimal}
 use Rattle.wap_url.specs.declared.url.Url.{Url}
 use Rattle.wap_url.specs.Characters.{is_slash}
-use Rattle.wap_url.specs.Parts.{Parts, spelled, led_by, IsWellFormed}
+use Rattle.wap_url.specs.Parts.{Parts, spelled, IsSplit, Fits}
 
 -- the parts that spell the URL
 abbrev pub parts_for : Url → Parts
@@ -29,9 +29,11 @@ printed u = spelled (parts_for u)
 abbrev pub page_text : Url → List ℕ
 page_text u = printed (without_fragment u)
 
--- a URL that can be read back: its parts are well formed, scheme and host in lower case
+-- a URL that can be read back from its text: the text is that of its parts, which fit, with scheme and host in lower case
 pub record IsNormal (u : Url) : Type 0 where
-  pub parts : IsWellFormed (parts_for u)
+  pub split : IsSplit (printed u) (parts_for u)
+  pub fits : Fits (parts_for u)
+  pub port : IfSome u.port (λ port. port ≤ 65535)
   pub scheme : option_map (map to_ascii_lowercase) u.scheme ≡ u.scheme
   pub host : option_map (map to_ascii_lowercase) u.host ≡ u.host
 

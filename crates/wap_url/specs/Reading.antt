@@ -4,7 +4,7 @@ use Rattle.std.specs.Option.{option_map, option_and_then, option_map_or}
 use Rattle.wap_url.specs.declared.url.Url.{Url}
 use Rattle.wap_url.specs.declared.fault.UrlFault.{UrlFault}
 use Rattle.wap_url.specs.declared.fault.UrlFault.TheVariants.{BadChar, BadScheme, BadHost, BadPort}
-use Rattle.wap_url.specs.Characters.{is_hash, is_slash, is_colon, is_question, is_allowed, is_scheme, is_host}
+use Rattle.wap_url.specs.Characters.{is_hash, is_slash, is_colon, is_question, is_allowed, ends_scheme, ends_authority, is_scheme, is_host}
 use Rattle.wap_url.specs.Splitting.{until, onward, after_one, begins_with}
 use Rattle.wap_url.specs.Parts.{Parts, url_of, is_port}
 
@@ -20,9 +20,6 @@ abbrev pub fragment_of : List ℕ → Option (List ℕ)
 fragment_of text = after_one (onward is_stop text)
 
 -- a `:` stands before any `/` or `?`
-abbrev pub ends_scheme : ℕ → Bool
-ends_scheme c = is_colon c || (is_slash c || is_question c)
-
 abbrev pub has_scheme : List ℕ → Bool
 has_scheme front = begins_with is_colon (onward ends_scheme front)
 
@@ -37,9 +34,6 @@ abbrev pub has_authority : List ℕ → Bool
 has_authority [] = false
 has_authority (c ∷ []) = false
 has_authority (c ∷ d ∷ rest) = is_slash c && is_slash d
-
-abbrev pub ends_authority : ℕ → Bool
-ends_authority c = is_slash c || is_question c
 
 abbrev pub authority_of : List ℕ → Option (List ℕ)
 authority_of rest = if has_authority rest then Some (until ends_authority (drop 2 rest)) else None
