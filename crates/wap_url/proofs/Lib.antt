@@ -10,6 +10,7 @@ pub mod RelationLaws
 pub mod UntilLaws
 pub mod FoundLaws
 pub mod AgainLaws
+pub mod NormalLaws
 pub mod PortLaws
 pub mod EscapeLaws
 pub mod WorkedRows
