@@ -3,7 +3,6 @@ pub mod Utf8Laws
 pub mod CharacterLaws
 pub mod AccessLaws
 pub mod FrontLaws
-pub mod ReadLaws
 pub mod PrintLaws
 pub mod JoinLaws
 pub mod RelationLaws
@@ -11,6 +10,8 @@ pub mod UntilLaws
 pub mod FoundLaws
 pub mod AgainLaws
 pub mod NormalLaws
+pub mod ReadLaws
+pub mod BackLaws
 pub mod PortLaws
 pub mod EscapeLaws
 pub mod WorkedRows

@@ -1,5 +1,5 @@
 -- What a reading of the bytes says of the text.
-use Rattle.std.proofs.Common.{◌≡◌, ℕ, Bool, true, false, cond, not, List, length, ap, ap₂, sym, ◌∙◌, Ok, Err, Some, None, subst, encode_utf8_all, Option}
+use Rattle.std.proofs.Common.{◌≡◌, ℕ, Bool, true, false, cond, not, List, length, ap, ap₂, sym, ◌∙◌, Ok, Err, Some, None, subst, encode_utf8_all, Option, Result}
 use Rattle.std.proofs.lemmas.Bool.{cond-true, cond-false}
 use Rattle.wap_url.specs.declared.url.Url.{Url}
 use Rattle.wap_url.specs.declared.fault.UrlFault.{UrlFault}
@@ -8,6 +8,12 @@ use Rattle.wap_url.specs.Characters.{is_hash}
 use Rattle.wap_url.specs.Splitting.{until, onward, begins_with}
 use Rattle.wap_url.specs.Parts.{url_of}
 use Rattle.wap_url.specs.Reading.{is_stop, front, has_bad_char, fault_of, parts_of, parts_with, unless, fragment_of, url_at}
+use Rattle.wap_url.specs.Parts.{IsUrl}
+use Rattle.wap_url.specs.Refusal.{IsRefused}
+use Rattle.wap_url.specs.Printing.{IsNormal}
+use Rattle.wap_url.proofs.FoundLaws.{url_takes, url_stops}
+use Rattle.wap_url.proofs.AgainLaws.{url_again, url_fails}
+use Rattle.wap_url.proofs.NormalLaws.{url_normal}
 use Rattle.wap_url.proofs.FrontLaws.{bad-encodes, front-encodes}
 
 -- a front and what follows it, cut from a text's bytes
@@ -39,3 +45,30 @@ pub url_found : (cs before after : List ℕ) (bad : Bool) (fragment : Option (Li
 url_found cs before after bad fragment url cut fails is fragment_is url_is =
     good cs before after bad cut fails ∙ ap (λ f. unless f (url_of (parts_with before (fragment_of cs)))) is
     ∙ ap Ok (ap (λ f. url_of (parts_with before f)) (sym fragment_is) ∙ sym url_is)
+
+-- ---- the clauses of a reading, from what the definition gives
+pub record OkClauses (t : List ℕ) (u : Url) : Type 0 where
+  pub found : IsUrl t u
+  pub only : (v : Url) → IsUrl t v → ◌≡◌ {A = Result Url UrlFault} (Ok v) (Ok u)
+  pub first : (f : UrlFault) → IsRefused t f → ◌≡◌ {A = Result Url UrlFault} (Err f) (Ok u)
+  pub normal : IsNormal u
+
+pub ok_clauses : (t : List ℕ) (u : Url) → url_at t ≡ Ok u → OkClauses t u
+ok_clauses t u is = record {
+    found = url_takes t u is;
+    only = λ v has. sym (url_again t v has) ∙ is;
+    first = λ f has. sym (url_fails t f has) ∙ is;
+    normal = url_normal t u (url_takes t u is)
+  }
+
+pub record ErrClauses (t : List ℕ) (e : UrlFault) : Type 0 where
+  pub only : (v : Url) → IsUrl t v → ◌≡◌ {A = Result Url UrlFault} (Ok v) (Err e)
+  pub refused : IsRefused t e
+  pub first : (f : UrlFault) → IsRefused t f → ◌≡◌ {A = Result Url UrlFault} (Err f) (Err e)
+
+pub err_clauses : (t : List ℕ) (e : UrlFault) → url_at t ≡ Err e → ErrClauses t e
+err_clauses t e is = record {
+    only = λ v has. sym (url_again t v has) ∙ is;
+    refused = url_stops t e is;
+    first = λ f has. sym (url_fails t f has) ∙ is
+  }

@@ -52,10 +52,10 @@ relative_form base u =
     if not (same_site base u) || has_authority u.path then page_text u
     else local_path base.path u.path ++ led_by (63 ∷ []) u.query
 
--- the URL of a page on the web: http, with a host, its path from the root and without dot segments
-pub record IsWebPage (u : Url) : Type 0 where
+-- a URL that is read, as an http one, with scheme and host, its path from the root and without dot segments
+pub record IsPage (u : Url) : Type 0 where
   pub normal : IsNormal u
-  pub http : u.scheme ≡ Some (codes "http")
+  pub scheme : IsSome u.scheme
   pub host : IsSome u.host
   pub from_root : begins_with is_slash u.path ≡ true
   pub no_dots : list_any is_dot_segment (segments u.path) ≡ false

@@ -2,7 +2,7 @@
 ghost use Rattle.std.specs.Prelude.{◌≡◌, ◌++◌, ◌∷◌, [], IfOk, OnOk, IsSome};
 ghost use Rattle.std.specs.Fmt.{decimal};
 ghost use Rattle.wap_url.specs.Parts.{followed_by, led_by, authority, IsUrl};
-ghost use Rattle.wap_url.specs.Printing.{printed, page_text, parts_for, named_port, named_page, ends_in_slash, name_for};
+ghost use Rattle.wap_url.specs.Printing.{printed, page_text, parts_for, named_port, named_page, ends_in_slash, name_for, IsNormal};
 ghost use Rattle.std.specs.Option.{option_map, unwrap_or};
 
 use crate::Url;
@@ -12,6 +12,9 @@ use wap_base::{NoMemory, Text};
 /// The URL as text (RFC 2396, section 5.2, step 7).
 pub fn print(alloc: Global, url: &Url) -> Result<Text, NoMemory>
     ensures exact { IfOk result (λ text. text ≡ printed url.now) }
+
+    // What `Url::read` gives is read again from its text.
+    ensures again { IsNormal url.now → IfOk result (λ text. IsUrl text url.now) }
 {
     let mut text = page(alloc, url)?;
     add_led(&mut text, '#', &url.fragment)?;

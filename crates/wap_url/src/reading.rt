@@ -1,5 +1,5 @@
 //! Reading a text as a URL.
-ghost use Rattle.std.specs.Prelude.{◌≡◌, not, false, true, None, IfOk, Option, List, ℕ};
+ghost use Rattle.std.specs.Prelude.{◌≡◌, ◌≢◌, not, false, true, None, IfOk, IfErr, Ok, Err};
 ghost use Rattle.std.specs.Option.{option_and_then};
 ghost use Rattle.wap_base.specs.Outcome.{Meets};
 ghost use Rattle.wap_url.specs.Splitting.{begins_with};
@@ -15,9 +15,26 @@ use std::alloc::Global;
 use wap_base::{NoMemory, Text};
 
 impl Url {
-    /// Reads a text as a URL or a reference (RFC 2396, appendix B).
+    ghost use Rattle.wap_url.specs.declared.url.Url.{Url};
+    ghost use Rattle.wap_url.specs.declared.fault.UrlFault.{UrlFault};
+    ghost use Rattle.wap_url.specs.Parts.{IsUrl};
+    ghost use Rattle.wap_url.specs.Refusal.{IsRefused};
+    ghost use Rattle.wap_url.specs.Printing.{IsNormal};
+
+    /// Reads a text as a URL or a reference (RFC 2396, appendix B). Scheme and host are put in lower case.
     pub fn read(alloc: Global, text: &Text) -> Result<Url, UrlFault>
         ensures exact { Meets UrlFault.NoMemory (λ url. url) result (url_at text.now) }
+
+        // The URL is the text's, and a text that has one is read.
+        ensures found { IfOk result (IsUrl text.now) }
+        ensures only { (url : Url) → IsUrl text.now url → Meets UrlFault.NoMemory (λ url. url) result (Ok url) }
+
+        // The fault is the text's first, and a text that has one is refused by it.
+        ensures refused { IfErr result (λ fault. fault ≢ UrlFault.NoMemory → IsRefused text.now fault) }
+        ensures first { (fault : UrlFault) → IsRefused text.now fault → Meets UrlFault.NoMemory (λ url. url) result (Err fault) }
+
+        // So its text is read as the same URL again.
+        ensures normal { IfOk result IsNormal }
     {
         let (front, onward) = cut_at(text.as_str().as_bytes(), Cut::Fragment);
         if is_bad(onward) {
