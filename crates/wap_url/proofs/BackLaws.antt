@@ -107,7 +107,7 @@ whole_joins base u page =
     ap with_root (cond-true (is_some u.scheme) (without_fragment u) (cond (is_some u.host) (record (without_fragment u) { scheme = base.scheme }) (cond (length u.path == 0 && is_none u.query) (record base { fragment = None }) (record (without_fragment u) { scheme = base.scheme; host = base.host; port = base.port; path = merged_path base (without_fragment u) }))) page.scheme)
     ∙ ap (λ p. record (without_fragment u) { path = p }) (path_stays (is_some u.host) u page)
 
-whole_back : (base u : Url) → IsPage u → LeadsBack base (page_text u) u
+pub whole_back : (base u : Url) → IsPage u → LeadsBack base (page_text u) u
 whole_back base u page =
     let is = normal_again (without_fragment u) (without_normal u page.normal) in
     record {

@@ -3,7 +3,7 @@ ghost use Rattle.std.specs.Prelude.{◌≡◌, IfOk, MatchOption, [], IsTrue, �
 ghost use Rattle.std.specs.Str.{chars};
 ghost use Rattle.wap_url.specs.Reading.{has_authority};
 ghost use Rattle.wap_url.specs.Segments.{segments, all_but_last, last_segment};
-ghost use Rattle.wap_url.specs.Relative.{relative_form, local_path, same_folder, same_site, stands_alone, same_text};
+ghost use Rattle.wap_url.specs.Relative.{relative_form, local_path, same_folder, same_site, stands_alone, same_text, IsPage, LeadsBack};
 ghost use Rattle.std.specs.Option.{option_copied};
 
 use crate::Url;
@@ -16,6 +16,9 @@ use wap_base::{NoMemory, Text};
 /// another of the base's site by its path, and any other whole.
 pub fn relative(alloc: Global, base: &Url, url: &Url) -> Result<Text, NoMemory>
     ensures exact { IfOk result (λ text. text ≡ relative_form base.now url.now) }
+
+    // Read and joined to the base, the text gives the URL back, without its fragment.
+    ensures back { IsPage url.now → IfOk result (λ text. LeadsBack base.now text url.now) }
 {
     if !is_same_site(base, url) || begins_with_two_slashes(&url.path) {
         return page(alloc, url);

@@ -5,7 +5,7 @@ use Rattle.wap_url.specs.Printing.{printed}
 use Rattle.wap_url.proofs.NormalLaws.{normal_again}
 use Rattle.wap_url.proofs.printing.print.Goals as goal
 
-abbrev text_is : goal.returns-clause-exact
+text_is : goal.returns-clause-exact
 text_is c = grind (arith, common_steps)
 
 pub returns-clause-exact : goal.returns-clause-exact
