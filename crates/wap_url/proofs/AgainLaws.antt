@@ -1,18 +1,16 @@
 -- A text that is spelled by well-formed parts is read as their URL.
-use Rattle.std.proofs.Common.{◌≡◌, ◌≢◌, ◌⊎◌, inl, inr, ℕ, ◌≤◌, Bool, true, false, cond, not, ◌&&◌, ◌||◌, ◌==◌, List, [], ◌∷◌, ◌++◌, drop, length, refl, ap, ap₂, sym, ◌∙◌, subst, Some, None, Option, IfSome, IsSome, append_assoc, append-nil, Ok, Err, Result, option_map, option_and_then}
+use Rattle.std.proofs.Common.{◌≡◌, ◌≢◌, ◌⊎◌, inl, inr, ℕ, Bool, true, false, cond, not, ◌&&◌, ◌||◌, List, [], ◌∷◌, ◌++◌, drop, length, refl, ap, ap₂, sym, ◌∙◌, subst, Some, None, Option, IfSome, IsSome, append_assoc, append-nil, Ok, Err, Result, option_map, option_and_then}
 use Rattle.std.specs.List.{list_all}
-use Rattle.std.specs.Option.{option_map_or}
-use Rattle.std.specs.Char.{is_ascii_digit}
-use Rattle.std.proofs.lemmas.Bool.{cases_Bool, and_parts, and_from, and_left, and_right, cond-true, cond-false, not-true, not-false, not_from_true, not_from_false, eqb-true, or_parts, or_from, or_left, or_right}
+use Rattle.std.proofs.lemmas.Bool.{cases_Bool, and_parts, and_right, cond-true, cond-false, not-true, not_from_true, not_from_false, eqb-true, or_from, or_left, or_right}
 use Rattle.wap_url.specs.declared.url.Url.{Url}
 use Rattle.wap_url.specs.declared.fault.UrlFault.{UrlFault}
 use Rattle.wap_url.specs.declared.fault.UrlFault.TheVariants.{BadChar, BadScheme, BadHost, BadPort, NoMemory}
-use Rattle.wap_url.specs.Refusal.{HasBadChar, IsRefused}
+use Rattle.wap_url.specs.Refusal.{IsRefused}
 use Rattle.wap_url.specs.Characters.{is_hash, is_slash, is_colon, is_question, is_allowed, ends_scheme, ends_authority, is_scheme, is_host}
 use Rattle.wap_url.specs.Splitting.{until, onward, after_one, begins_with}
 use Rattle.wap_url.specs.Parts.{Parts, spelled, followed_by, led_by, authority, is_port, url_of, IsSplit, Fits, IsUrl, ends_word, may_be_scheme, may_be_host, may_be_port, may_be_path}
-use Rattle.wap_url.specs.Reading.{is_stop, front, fragment_of, has_bad_char, has_scheme, scheme_of, after_scheme, has_authority, authority_of, after_authority, host_in, port_in, host_of, port_of, tail_of, path_part, query_part, parts_with, parts_of, fits, fault_of, unless, url_at}
-use Rattle.wap_url.proofs.UntilLaws.{NonePasses, StopsAtOnce, all-weaker, all-append, until-past, onward-past, until-stop, onward-stop, led-stops, after-led, implies}
+use Rattle.wap_url.specs.Reading.{is_stop, front, has_bad_char, has_scheme, scheme_of, after_scheme, has_authority, authority_of, after_authority, host_in, port_in, host_of, port_of, tail_of, parts_of, fits, fault_of, unless, url_at}
+use Rattle.wap_url.proofs.UntilLaws.{NonePasses, StopsAtOnce, all-weaker, all-append, until-past, onward-past, until-stop, onward-stop, led-stops, after-led}
 
 left : (p q : ℕ → Bool) (xs : List ℕ) → list_all (λ c. p c && q c) xs ≡ true → list_all p xs ≡ true
 left p q = all-weaker (λ c. p c && q c) p (λ c both. (and_parts (p c) (q c) both).0)
@@ -56,8 +54,8 @@ query_allowed (Some q) fine = fine
 before_allowed : (t : List ℕ) (p : Parts) → IsSplit t p → list_all is_allowed (before p) ≡ true
 before_allowed t p fine =
     all-append is_allowed (followed_by 58 p.scheme) (rest p) (scheme_allowed p.scheme fine.scheme)
-      (all-append is_allowed (authority p.host p.port) (tail p) (authority_allowed p.host p.port fine.host fine.port)
-        (all-append is_allowed p.path (led_by (63 ∷ []) p.query) (left is_allowed (λ c. not (is_question c)) p.path fine.path) (query_allowed p.query fine.query)))
+    (all-append is_allowed (authority p.host p.port) (tail p) (authority_allowed p.host p.port fine.host fine.port)
+    (all-append is_allowed p.path (led_by (63 ∷ []) p.query) (left is_allowed (λ c. not (is_question c)) p.path fine.path) (query_allowed p.query fine.query)))
 
 -- ---- the front and the fragment
 stops_not : (xs : List ℕ) → list_all is_allowed xs ≡ true → NonePasses is_stop xs
@@ -90,24 +88,26 @@ with_scheme s r fine =
     let has : has_scheme ((s ++ 58 ∷ []) ++ r) ≡ true = ap (begins_with is_colon) on in
     record {
       scheme_is = cond-true (has_scheme ((s ++ 58 ∷ []) ++ r)) (Some (until ends_scheme ((s ++ 58 ∷ []) ++ r))) None has ∙ ap Some up;
-      after_is = cond-true (has_scheme ((s ++ 58 ∷ []) ++ r)) (drop 1 (onward ends_scheme ((s ++ 58 ∷ []) ++ r))) ((s ++ 58 ∷ []) ++ r) has ∙ ap (drop 1) on
+      after_is = cond-true (has_scheme ((s ++ 58 ∷ []) ++ r)) (drop 1 (onward ends_scheme ((s ++ 58 ∷ []) ++ r))) ((s ++ 58 ∷ []) ++ r) has ∙ ap (drop 1) on;
     }
 
 without_scheme : (r : List ℕ) → has_scheme r ≡ false → SchemeIs None r r
 without_scheme r none = record {
-    scheme_is = cond-false (has_scheme r) (Some (until ends_scheme r)) None none;
-    after_is = cond-false (has_scheme r) (drop 1 (onward ends_scheme r)) r none
-  }
+  scheme_is = cond-false (has_scheme r) (Some (until ends_scheme r)) None none;
+  after_is = cond-false (has_scheme r) (drop 1 (onward ends_scheme r)) r none;
+}
 
 no_colon : (path : List ℕ) (query : Option (List ℕ)) → list_all may_be_path path ≡ true → begins_with is_colon (onward ends_word path) ≡ false → has_scheme (path ++ led_by (63 ∷ []) query) ≡ false
 no_colon [] None fine none = refl
 no_colon [] (Some q) fine none = refl
 no_colon (c ∷ cs) query fine none = elim (cases_Bool (is_colon c)) [
-    inl colon ↦ absurd (let e : true ≡ false = sym colon ∙ sym (ap (begins_with is_colon) (cond-true (ends_word c) (c ∷ cs) (onward ends_word cs) (or_left (is_colon c) (is_slash c) colon))) ∙ none in cc)
+  | inl colon ↦ absurd (let e : true ≡ false = sym colon ∙ sym (ap (begins_with is_colon) (cond-true (ends_word c) (c ∷ cs) (onward ends_word cs) (or_left (is_colon c) (is_slash c) colon))) ∙ none in cc)
   | inr plain ↦ elim (cases_Bool (is_slash c)) [
-        inl slash ↦ ap (begins_with is_colon) (cond-true (ends_scheme c) (c ∷ (cs ++ led_by (63 ∷ []) query)) (onward ends_scheme (cs ++ led_by (63 ∷ []) query)) (or_right (is_colon c) (is_slash c || is_question c) (or_left (is_slash c) (is_question c) slash))) ∙ plain
-      | inr letter ↦ ap (begins_with is_colon) (cond-false (ends_scheme c) (c ∷ (cs ++ led_by (63 ∷ []) query)) (onward ends_scheme (cs ++ led_by (63 ∷ []) query)) (or_from (is_colon c) (is_slash c || is_question c) plain (or_from (is_slash c) (is_question c) letter (not-true (is_question c) (and_parts (is_allowed c) (not (is_question c)) both.0).1))))
-          ∙ no_colon cs query both.1 (sym (ap (begins_with is_colon) (cond-false (ends_word c) (c ∷ cs) (onward ends_word cs) (or_from (is_colon c) (is_slash c) plain letter))) ∙ none) ] ] where
+    | inl slash ↦ ap (begins_with is_colon) (cond-true (ends_scheme c) (c ∷ (cs ++ led_by (63 ∷ []) query)) (onward ends_scheme (cs ++ led_by (63 ∷ []) query)) (or_right (is_colon c) (is_slash c || is_question c) (or_left (is_slash c) (is_question c) slash))) ∙ plain
+    | inr letter ↦ ap (begins_with is_colon) (cond-false (ends_scheme c) (c ∷ (cs ++ led_by (63 ∷ []) query)) (onward ends_scheme (cs ++ led_by (63 ∷ []) query)) (or_from (is_colon c) (is_slash c || is_question c) plain (or_from (is_slash c) (is_question c) letter (not-true (is_question c) (and_parts (is_allowed c) (not (is_question c)) both.0).1))))
+        ∙ no_colon cs query both.1 (sym (ap (begins_with is_colon) (cond-false (ends_word c) (c ∷ cs) (onward ends_word cs) (or_from (is_colon c) (is_slash c) plain letter))) ∙ none)
+  ]
+] where
   both : (may_be_path c ≡ true) × (list_all may_be_path cs ≡ true)
   both = and_parts (may_be_path c) (list_all may_be_path cs) fine
 
@@ -134,15 +134,15 @@ with_host h port t fine more stops =
     record {
       host_is = ap (λ x. Some (host_in x)) up ∙ ap Some (until-past is_colon h (led_by (58 ∷ []) port) colons ∙ ap (λ x. h ++ x) (until-stop is_colon (led_by (58 ∷ []) port) (led-stops is_colon 58 port refl)) ∙ append-nil h);
       port_is = ap port_in up ∙ ap after_one (onward-past is_colon h (led_by (58 ∷ []) port) colons ∙ onward-stop is_colon (led_by (58 ∷ []) port) (led-stops is_colon 58 port refl)) ∙ after-led 58 port;
-      tail_is = onward-past ends_authority (h ++ led_by (58 ∷ []) port) t none ∙ onward-stop ends_authority t stops
+      tail_is = onward-past ends_authority (h ++ led_by (58 ∷ []) port) t none ∙ onward-stop ends_authority t stops;
     }
 
 without_host : (t : List ℕ) → has_authority t ≡ false → AuthorityIs None None t t
 without_host t none = record {
-    host_is = ap (option_map host_in) (cond-false (has_authority t) (Some (until ends_authority (drop 2 t))) None none);
-    port_is = ap (option_and_then port_in) (cond-false (has_authority t) (Some (until ends_authority (drop 2 t))) None none);
-    tail_is = cond-false (has_authority t) (onward ends_authority (drop 2 t)) t none
-  }
+  host_is = ap (option_map host_in) (cond-false (has_authority t) (Some (until ends_authority (drop 2 t))) None none);
+  port_is = ap (option_and_then port_in) (cond-false (has_authority t) (Some (until ends_authority (drop 2 t))) None none);
+  tail_is = cond-false (has_authority t) (onward ends_authority (drop 2 t)) t none;
+}
 
 no_authority : (path : List ℕ) (query : Option (List ℕ)) → ((rest : List ℕ) → path ≢ 47 ∷ 47 ∷ rest) → has_authority (path ++ led_by (63 ∷ []) query) ≡ false
 no_authority [] None none = refl
@@ -151,8 +151,9 @@ no_authority [] (Some (c ∷ cs)) none = refl
 no_authority (c ∷ []) None none = refl
 no_authority (c ∷ []) (Some q) none = and_right (is_slash c) (is_slash 63) refl
 no_authority (c ∷ d ∷ cs) query none = elim (cases_Bool (is_slash c && is_slash d)) [
-    inl two ↦ let both = and_parts (is_slash c) (is_slash d) two in absurd (none cs (ap₂ (λ a b. a ∷ b ∷ cs) (eqb-true c 47 both.0) (eqb-true d 47 both.1)))
-  | inr fails ↦ fails ]
+  | inl two ↦ let both = and_parts (is_slash c) (is_slash d) two in absurd (none cs (ap₂ (λ a b. a ∷ b ∷ cs) (eqb-true c 47 both.0) (eqb-true d 47 both.1)))
+  | inr fails ↦ fails
+]
 
 tail_stops : (path : List ℕ) (query : Option (List ℕ)) → (path ≡ []) ⊎ (begins_with is_slash path ≡ true) → StopsAtOnce ends_authority (path ++ led_by (63 ∷ []) query)
 tail_stops [] query rooted = led-stops ends_authority 63 query refl
@@ -183,12 +184,12 @@ parts_again t p fine =
     let f : front (spelled p) ≡ before p = front_is t p fine in
     let tail_is : tail_of (front (spelled p)) ≡ tail p = ap tail_of f ∙ ap after_authority s.after_is ∙ a.tail_is in
     same_parts (parts_of (spelled p)) p
-      (ap scheme_of f ∙ s.scheme_is)
-      (ap host_of f ∙ ap (λ r. option_map host_in (authority_of r)) s.after_is ∙ a.host_is)
-      (ap port_of f ∙ ap (λ r. option_and_then port_in (authority_of r)) s.after_is ∙ a.port_is)
-      (ap (until is_question) tail_is ∙ path_is p.path p.query fine.path)
-      (ap (λ t. after_one (onward is_question t)) tail_is ∙ query_is p.path p.query fine.path)
-      (ap after_one (onward_is t p fine) ∙ after-led 35 p.fragment)
+    (ap scheme_of f ∙ s.scheme_is)
+    (ap host_of f ∙ ap (λ r. option_map host_in (authority_of r)) s.after_is ∙ a.host_is)
+    (ap port_of f ∙ ap (λ r. option_and_then port_in (authority_of r)) s.after_is ∙ a.port_is)
+    (ap (until is_question) tail_is ∙ path_is p.path p.query fine.path)
+    (ap (λ t. after_one (onward is_question t)) tail_is ∙ query_is p.path p.query fine.path)
+    (ap after_one (onward_is t p fine) ∙ after-led 35 p.fragment)
 
 fits_from : (q : List ℕ → Bool) (part : Option (List ℕ)) → IfSome part (λ x. q x ≡ true) → fits q part ≡ true
 fits_from q None fine = refl

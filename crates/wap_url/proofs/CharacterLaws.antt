@@ -1,6 +1,6 @@
 -- Characters past US-ASCII pass none of the tests.
-use Rattle.std.proofs.Common.{◌≡◌, ℕ, ◌<◌, ◌≤◌, Bool, true, false, not, ◌&&◌, ◌||◌, List, [], ◌∷◌, refl, ap, sym, ◌∙◌, arith, cond, nat_lt, nat_le, ◌==◌, codes}
-use Rattle.std.specs.List.{list_any, list_all}
+use Rattle.std.proofs.Common.{◌≡◌, ℕ, ◌<◌, ◌≤◌, true, false, not, List, [], ◌∷◌, refl, arith, nat_lt, ◌==◌, codes}
+use Rattle.std.specs.List.{list_all}
 use Rattle.std.specs.Char.{is_ascii_graphic, is_ascii_alphabetic, is_ascii_alphanumeric, is_ascii_digit}
 use Rattle.std.proofs.lemmas.Bool.{or_from, and_left, ne_eqb, and_right}
 use Rattle.std.proofs.lemmas.Bool.Decides.{nat_tests}
@@ -21,8 +21,10 @@ one_of_high [] c low high = refl
 one_of_high (d ∷ cs) c low high = or_from (c == d) (is_one_of cs c) (ne_eqb c d (λ e. absurd (differ d c e (first d cs low) high))) (one_of_high cs c (others d cs low) high) where
   first : (d : ℕ) (cs : List ℕ) → list_all (λ d. nat_lt d 128) (d ∷ cs) ≡ true → d < 128
   first d cs low = Rattle.std.proofs.lemmas.Bool.ltb-true d 128 (Rattle.std.proofs.lemmas.Bool.and_parts (nat_lt d 128) (list_all (λ d. nat_lt d 128) cs) low).0
+
   others : (d : ℕ) (cs : List ℕ) → list_all (λ d. nat_lt d 128) (d ∷ cs) ≡ true → list_all (λ d. nat_lt d 128) cs ≡ true
   others d cs low = (Rattle.std.proofs.lemmas.Bool.and_parts (nat_lt d 128) (list_all (λ d. nat_lt d 128) cs) low).1
+
   differ : (d c : ℕ) → c ≡ d → d < 128 → 128 ≤ c → ⊥
   differ d c e low high = omega arith
 

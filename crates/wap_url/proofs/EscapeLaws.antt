@@ -1,16 +1,15 @@
 -- The set of escaped bytes, and what its escapes are.
-use Rattle.std.proofs.Common.{◌≡◌, ℕ, ◌<◌, ◌≤◌, Bool, true, false, cond, not, ◌||◌, List, [], ◌∷◌, ◌++◌, refl, ap, sym, ◌∙◌, IsAscii, arith, inl, inr, ap₂}
-use Rattle.std.specs.Prelude.{encode_utf8_all, nat_lt}
+use Rattle.std.proofs.Common.{◌≡◌, ℕ, Bool, true, false, cond, not, ◌||◌, List, [], ◌∷◌, ◌++◌, refl, ap, sym, ◌∙◌, inl, inr, ap₂}
+use Rattle.std.specs.Prelude.{encode_utf8_all}
 use Rattle.std.specs.List.{flat_map, All}
-use Rattle.std.specs.Char.{is_ascii}
-use Rattle.std.specs.Str.{chars, IsUtf8}
-use Rattle.std.proofs.lemmas.Bool.{agree_below, agree_below_at, cases_lt, lt-ltb, le-ltb, or_left, not_from_false, ltb-true}
+use Rattle.std.specs.Str.{chars}
+use Rattle.std.proofs.lemmas.Bool.{agree_below, agree_below_at, cases_lt, lt-ltb, le-ltb, not_from_false}
 use Rattle.percent_encoding.specs.AsciiSet.{contains, should_percent_encode}
 use Rattle.percent_encoding.specs.Percent.{percent_encode, percent_encode_byte, encode_byte, percent_decode}
 use Rattle.percent_encoding.proofs.PercentLemmas.{round_trip, IsAscii-percent_encode, IsByte}
 use Rattle.wap_url.specs.declared.escapes.TheConstants.{RESERVED}
 use Rattle.wap_url.specs.Characters.{is_unreserved}
-use Rattle.wap_url.specs.Escapes.{escape_of, escaped, unescaped}
+use Rattle.wap_url.specs.Escapes.{escape_of, unescaped}
 use Rattle.wap_url.proofs.CharacterLaws.{unreserved_high}
 use Rattle.std.proofs.lemmas.Str.{chars-IsAscii, encodes-IsAscii}
 
@@ -20,8 +19,9 @@ reserved_is = refl
 should_is : (b : ℕ) → should_percent_encode RESERVED b ≡ not (is_unreserved b)
 unfolding should_percent_encode
 should_is b = elim (cases_lt b 128) [
-    inl low ↦ ap (λ t. not t || contains RESERVED b) (lt-ltb b 128 low) ∙ agree_below_at (contains RESERVED) (λ b. not (is_unreserved b)) 128 b reserved_is low
-  | inr high ↦ ap (λ t. not t || contains RESERVED b) (le-ltb b 128 high) ∙ sym (not_from_false (is_unreserved b) (unreserved_high b high)) ]
+  | inl low ↦ ap (λ t. not t || contains RESERVED b) (lt-ltb b 128 low) ∙ agree_below_at (contains RESERVED) (λ b. not (is_unreserved b)) 128 b reserved_is low
+  | inr high ↦ ap (λ t. not t || contains RESERVED b) (le-ltb b 128 high) ∙ sym (not_from_false (is_unreserved b) (unreserved_high b high))
+]
 
 cond-not : {A : Type 0} (t : Bool) (x y : A) → cond (not t) x y ≡ cond t y x
 cond-not true x y = refl

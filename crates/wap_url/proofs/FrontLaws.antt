@@ -2,20 +2,21 @@
 use Rattle.std.proofs.Common.{◌≡◌, ◌⊎◌, inl, inr, ℕ, suc, ◌+◌, ◌<◌, ◌≤◌, Bool, true, false, cond, not, ◌&&◌, ◌==◌, List, [], ◌∷◌, ◌++◌, length, take, drop, get_or, refl, ap, ap₂, sym, ◌∙◌, arith, subst, encode_utf8, encode_utf8_all, length-append, IsUtf8, IsCharBoundary, Some, None, lit<}
 use Rattle.std.specs.Str.{all_scalars, chars}
 use Rattle.std.proofs.Math.Utf8.{scalar}
-use Rattle.std.proofs.lemmas.Bool.{cases_Bool, cases_lt, and_parts, not-false, not_from_false, cond-true, cond-false, eqb-true, ne_eqb, or_parts}
-use Rattle.std.proofs.lemmas.List.{get_or_at, drop_at, take_at}
+use Rattle.std.proofs.lemmas.Bool.{cases_Bool, cases_lt, and_parts, not-false, not_from_false, cond-true, cond-false, eqb-true, ne_eqb}
+use Rattle.std.proofs.lemmas.List.{get_or_at, drop_at}
 use Rattle.std.proofs.lemmas.Str.{encode_ascii, chars-encodes, IsCharBoundary-after_ascii}
-use Rattle.wap_url.specs.Splitting.{until, onward, begins_with, after_one}
+use Rattle.wap_url.specs.Splitting.{until, onward, begins_with}
 use Rattle.wap_url.specs.Characters.{is_hash, is_allowed}
-use Rattle.wap_url.specs.Reading.{is_stop, front, fragment_of, has_bad_char}
+use Rattle.wap_url.specs.Reading.{is_stop, front, has_bad_char}
 use Rattle.wap_url.proofs.CharacterLaws.{allowed_high}
 use Rattle.wap_url.proofs.Utf8Laws.{AllHigh, high_bytes, encode_some, SameCut, cut-encodes}
 
 pub until-onward : (p : ℕ → Bool) (xs : List ℕ) → until p xs ++ onward p xs ≡ xs
 until-onward p [] = refl
 until-onward p (x ∷ xs) = elim (cases_Bool (p x)) [
-    inl holds ↦ ap₂ (λ a b. a ++ b) (cond-true (p x) [] (x ∷ until p xs) holds) (cond-true (p x) (x ∷ xs) (onward p xs) holds)
-  | inr fails ↦ ap₂ (λ a b. a ++ b) (cond-false (p x) [] (x ∷ until p xs) fails) (cond-false (p x) (x ∷ xs) (onward p xs) fails) ∙ ap (λ ys. x ∷ ys) (until-onward p xs) ]
+  | inl holds ↦ ap₂ (λ a b. a ++ b) (cond-true (p x) [] (x ∷ until p xs) holds) (cond-true (p x) (x ∷ xs) (onward p xs) holds)
+  | inr fails ↦ ap₂ (λ a b. a ++ b) (cond-false (p x) [] (x ∷ until p xs) fails) (cond-false (p x) (x ∷ xs) (onward p xs) fails) ∙ ap (λ ys. x ∷ ys) (until-onward p xs)
+]
 
 stops_high : (b : ℕ) → 128 ≤ b → is_stop b ≡ true
 stops_high b high = not_from_false (is_allowed b) (allowed_high b high)
@@ -33,8 +34,9 @@ bad_first (b ∷ bs) more high some = not_from_false (is_hash b) (ne_eqb b 35 (�
 begins-encodes : (cs : List ℕ) → begins_with (λ c. not (is_hash c)) (encode_utf8_all cs) ≡ begins_with (λ c. not (is_hash c)) cs
 begins-encodes [] = refl
 begins-encodes (c ∷ cs) = elim (cases_lt c 128) [
-    inl ascii ↦ ap (λ bs. begins_with (λ c. not (is_hash c)) (bs ++ encode_utf8_all cs)) (encode_ascii c ascii)
-  | inr high ↦ bad_first (encode_utf8 c) (encode_utf8_all cs) (high_bytes c high) (encode_some c) ∙ sym (not_from_false (is_hash c) (ne_eqb c 35 (λ e. differ e high))) ] where
+  | inl ascii ↦ ap (λ bs. begins_with (λ c. not (is_hash c)) (bs ++ encode_utf8_all cs)) (encode_ascii c ascii)
+  | inr high ↦ bad_first (encode_utf8 c) (encode_utf8_all cs) (high_bytes c high) (encode_some c) ∙ sym (not_from_false (is_hash c) (ne_eqb c 35 (λ e. differ e high)))
+] where
   differ : c ≡ 35 → 128 ≤ c → ⊥
   differ e above = omega arith
 
@@ -47,8 +49,9 @@ front-encodes cs bytes is = ap (until is_stop) is ∙ (stop-encodes cs).until
 pub scalars-onward : (p : ℕ → Bool) (cs : List ℕ) → all_scalars cs ≡ true → all_scalars (onward p cs) ≡ true
 scalars-onward p [] text = refl
 scalars-onward p (c ∷ cs) text = elim (cases_Bool (p c)) [
-    inl holds ↦ ap all_scalars (cond-true (p c) (c ∷ cs) (onward p cs) holds) ∙ text
-  | inr fails ↦ ap all_scalars (cond-false (p c) (c ∷ cs) (onward p cs) fails) ∙ scalars-onward p cs (and_parts (scalar c) (all_scalars cs) text).1 ]
+  | inl holds ↦ ap all_scalars (cond-true (p c) (c ∷ cs) (onward p cs) holds) ∙ text
+  | inr fails ↦ ap all_scalars (cond-false (p c) (c ∷ cs) (onward p cs) fails) ∙ scalars-onward p cs (and_parts (scalar c) (all_scalars cs) text).1
+]
 
 -- what follows a front without a bad character is nothing, or a fragment
 pub record HasFragment (cs bytes : List ℕ) : Type 0 where
@@ -68,11 +71,11 @@ has_fragment cs bytes is text good some =
       rest = there.0;
       onward_is = there.1;
       bytes_is = sym (until-onward is_stop bytes) ∙ ap (λ xs. until is_stop bytes ++ xs) (ap (onward is_stop) is ∙ (stop-encodes cs).onward ∙ ap encode_utf8_all there.1 ∙ ap (λ bs. bs ++ encode_utf8_all there.0) (encode_ascii 35 (lit< tt)));
-      text = (and_parts (scalar 35) (all_scalars there.0) (ap all_scalars (sym there.1) ∙ scalars-onward is_stop cs text)).1
+      text = (and_parts (scalar 35) (all_scalars there.0) (ap all_scalars (sym there.1) ∙ scalars-onward is_stop cs text)).1;
     } where
-  nonempty : (xs : List ℕ) → 0 < length (encode_utf8_all xs) → 0 < length xs
-  nonempty [] h = absurd (omega arith)
-  nonempty (x ∷ xs) h = omega arith
+      nonempty : (xs : List ℕ) → 0 < length (encode_utf8_all xs) → 0 < length xs
+      nonempty [] h = absurd (omega arith)
+      nonempty (x ∷ xs) h = omega arith
 
 pub no_fragment : (cs bytes : List ℕ) → bytes ≡ encode_utf8_all cs → length (onward is_stop bytes) ≡ 0 → onward is_stop cs ≡ []
 no_fragment cs bytes is none = empty (onward is_stop cs) (ap length (sym (ap (onward is_stop) is ∙ (stop-encodes cs).onward)) ∙ none) where
@@ -89,5 +92,5 @@ behind_hash cs bytes utf8 there =
 pub fragment_text : (cs bytes : List ℕ) (there : HasFragment cs bytes) → chars (drop (length (until is_stop bytes) + 1) bytes) ≡ there.rest
 fragment_text cs bytes there =
     ap chars (ap (drop (length (until is_stop bytes) + 1)) (there.bytes_is ∙ sym (Rattle.std.proofs.Common.append_assoc (until is_stop bytes) (35 ∷ []) (encode_utf8_all there.rest)))
-      ∙ drop_at (until is_stop bytes ++ 35 ∷ []) (encode_utf8_all there.rest) (length (until is_stop bytes) + 1) (length-append (until is_stop bytes) (35 ∷ [])))
+    ∙ drop_at (until is_stop bytes ++ 35 ∷ []) (encode_utf8_all there.rest) (length (until is_stop bytes) + 1) (length-append (until is_stop bytes) (35 ∷ [])))
     ∙ chars-encodes there.rest there.text

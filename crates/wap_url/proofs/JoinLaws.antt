@@ -2,20 +2,20 @@
 use Rattle.std.proofs.Common.{◌≡◌, ◌≢◌, ◌⊎◌, inl, inr, ℕ, zero, suc, ◌+◌, ◌-◌, ◌<◌, ◌≤◌, Bool, true, false, cond, not, ◌&&◌, ◌||◌, ◌==◌, List, [], ◌∷◌, ◌++◌, length, take, drop, map, get_or, refl, ap, ap₂, sym, ◌∙◌, subst, arith, append_assoc, length-append, encode_utf8, encode_utf8_all, IsUtf8, Some, None, Option, MatchOption, Bor, fold, lit<, is_some, append-nil, bytes_eq}
 use Rattle.std.specs.List.{slice_split, list_any, join_with_byte, All}
 use Rattle.std.specs.Str.{chars, all_scalars, NoCharPasses, NonePass}
-use Rattle.std.specs.Str.Pattern.{FindsChar, RFindsChar, HasCharAt, FindsCharPrefix, HasPrefixMatch}
-use Rattle.std.proofs.lemmas.Bool.{cases_Bool, cases_lt, or_from, or_parts, eqb-true, eqb-false, eq-eqb, ne_eqb, cond-true, cond-false, cond_both}
+use Rattle.std.specs.Str.Pattern.{RFindsChar}
+use Rattle.std.proofs.lemmas.Bool.{cases_lt, or_from, eq-eqb, ne_eqb, cond-true, cond-false, cond_both}
 use Rattle.std.proofs.lemmas.Bool.Decides.{same_from_decides, Decides-like}
 use Rattle.std.proofs.lemmas.List.{map-append, take_at, drop_at, get_or_at, get_or_default, length-map, take-map, nil_from_length, map_more, length-take-le}
 use Rattle.std.proofs.lemmas.List.Splits.{slice_split_none, slice_split_first, join_with_byte-slice_split}
 use Rattle.std.proofs.lemmas.Slice.Eq.{bytes_eq-Decides}
-use Rattle.std.proofs.lemmas.Str.{chars-nil, chars_from_encodes, chars-append, chars_past_char, IsUtf8-append, IsUtf8-from_ascii, encode_ascii, IsUtf8-take, IsUtf8-drop, IsCharBoundary-before_ascii, IsCharBoundary-after_ascii, encodes-chars, scalars-chars, chars-encodes, encodes_same, encodes-IsAscii}
+use Rattle.std.proofs.lemmas.Str.{chars-nil, chars_from_encodes, chars-append, chars_past_char, IsUtf8-append, IsUtf8-from_ascii, encode_ascii, IsUtf8-take, IsUtf8-drop, IsCharBoundary-before_ascii, IsCharBoundary-after_ascii, encodes-chars, scalars-chars, encodes_same, encodes-IsAscii}
 use Rattle.std.proofs.lemmas.Str.Ascii.{IsAscii-cons, IsAscii-nil}
 use Rattle.std.proofs.lemmas.Str.Pattern.{IsSplitOnceResult, split_once_first, split_parts, NoCharPasses-char, drop_at_char}
 use Rattle.wap_url.specs.Characters.{is_slash}
 use Rattle.wap_url.specs.Splitting.{begins_with}
 use Rattle.wap_url.specs.Segments.{segments, path_of, folder_of, last_segment, all_but_last}
 use Rattle.wap_url.specs.Joining.{kept_with, end_of, without_dots, resolved, resolved_path, is_here, is_above, is_dot_segment}
-use Rattle.wap_url.proofs.SplitLaws.{HasFirst, HasFirst-split, split-append, split-none, split-cut, join-append, all_but_last-push, last_segment-push}
+use Rattle.wap_url.proofs.SplitLaws.{HasFirst, HasFirst-split, split-none, split-cut, join-append, all_but_last-push}
 use Rattle.wap_url.proofs.Utf8Laws.{AllText, AllText-split, AllText-take, chars-map, split-encodes, AllHigh, high_bytes, encode_some}
 
 -- a text that is cut at a character of US-ASCII
@@ -34,7 +34,7 @@ cut_text bytes front back c text is ascii =
       front_text = front_text;
       back_text = back_text;
       chars_are = ap chars is ∙ chars-append front (c ∷ back) front_text ∙ ap (λ cs. chars front ++ cs)
-        (chars_past_char (c ∷ back) back c (IsUtf8-append (c ∷ []) back (IsUtf8-from_ascii (c ∷ []) (IsAscii-cons c [] ascii IsAscii-nil)) back_text) (sym (ap (λ bs. bs ++ back) (encode_ascii c ascii))))
+          (chars_past_char (c ∷ back) back c (IsUtf8-append (c ∷ []) back (IsUtf8-from_ascii (c ∷ []) (IsAscii-cons c [] ascii IsAscii-nil)) back_text) (sym (ap (λ bs. bs ++ back) (encode_ascii c ascii))));
     }
 
 -- `split_once` takes off a segment, or leaves the last one
@@ -75,10 +75,10 @@ kept-encodes kept s =
     ap₂ (λ h a. cond h (map encode_utf8_all kept) (cond a (all_but_last (map encode_utf8_all kept)) (map encode_utf8_all kept ++ encode_utf8_all s ∷ []))) (here-encodes s) (above-encodes s)
     ∙ ap₂ (λ front more. cond (is_here s) (map encode_utf8_all kept) (cond (is_above s) front more)) (ap (λ n. take (n - 1) (map encode_utf8_all kept)) (length-map kept encode_utf8_all) ∙ take-map encode_utf8_all (length kept - 1) kept) (sym (map-append encode_utf8_all kept (s ∷ [])))
     ∙ outer (is_here s) (is_above s) where
-  outer : (h a : Bool) → cond h (map encode_utf8_all kept) (cond a (map encode_utf8_all (all_but_last kept)) (map encode_utf8_all (kept ++ s ∷ []))) ≡ map encode_utf8_all (cond h kept (cond a (all_but_last kept) (kept ++ s ∷ [])))
-  outer true a = refl
-  outer false true = refl
-  outer false false = refl
+      outer : (h a : Bool) → cond h (map encode_utf8_all kept) (cond a (map encode_utf8_all (all_but_last kept)) (map encode_utf8_all (kept ++ s ∷ []))) ≡ map encode_utf8_all (cond h kept (cond a (all_but_last kept) (kept ++ s ∷ [])))
+      outer true a = refl
+      outer false true = refl
+      outer false false = refl
 
 fold-encodes : (kept ss : List (List ℕ)) → fold kept_with (map encode_utf8_all kept) (map encode_utf8_all ss) ≡ map encode_utf8_all (fold kept_with kept ss)
 fold-encodes kept [] = refl
@@ -94,9 +94,9 @@ end-encodes ss =
     ap (λ s. cond (is_dot_segment s) ([] ∷ []) []) (last-encodes ss)
     ∙ ap₂ (λ h a. cond (h || a) ([] ∷ []) []) (here-encodes (last_segment ss)) (above-encodes (last_segment ss))
     ∙ outer (is_dot_segment (last_segment ss)) where
-  outer : (t : Bool) → cond t ([] ∷ []) [] ≡ map encode_utf8_all (cond t ([] ∷ []) [])
-  outer true = refl
-  outer false = refl
+      outer : (t : Bool) → cond t ([] ∷ []) [] ≡ map encode_utf8_all (cond t ([] ∷ []) [])
+      outer true = refl
+      outer false = refl
 
 without-encodes : (ss : List (List ℕ)) → without_dots (map encode_utf8_all ss) ≡ map encode_utf8_all (without_dots ss)
 without-encodes ss = ap₂ (λ x y. x ++ y) (fold-encodes [] ss) (end-encodes ss) ∙ sym (map-append encode_utf8_all (fold kept_with [] ss) (end_of ss))
@@ -109,9 +109,9 @@ AllText-fold : (kept ss : List (List ℕ)) → AllText kept → AllText ss → A
 AllText-fold kept [] each more = each
 AllText-fold kept (s ∷ ss) each more =
     AllText-fold (kept_with kept s) ss
-      (cond_both (is_here s) kept (cond (is_above s) (all_but_last kept) (kept ++ s ∷ [])) AllText (λ _. each)
-        (λ _. cond_both (is_above s) (all_but_last kept) (kept ++ s ∷ []) AllText (λ _. AllText-take (length kept - 1) kept each) (λ _. AllText-append kept (s ∷ []) each (more.0, tt))))
-      more.1
+    (cond_both (is_here s) kept (cond (is_above s) (all_but_last kept) (kept ++ s ∷ [])) AllText (λ _. each)
+    (λ _. cond_both (is_above s) (all_but_last kept) (kept ++ s ∷ []) AllText (λ _. AllText-take (length kept - 1) kept each) (λ _. AllText-append kept (s ∷ []) each (more.0, tt))))
+    more.1
 
 AllText-without : (ss : List (List ℕ)) → AllText ss → AllText (without_dots ss)
 AllText-without ss each = AllText-append (fold kept_with [] ss) (end_of ss) (AllText-fold [] ss tt each) (cond_both (is_dot_segment (last_segment ss)) ([] ∷ []) [] AllText (λ _. (refl, tt)) (λ _. tt))
@@ -156,7 +156,7 @@ takes_one kept kept' rest path x found text folds last is =
     record {
       text = (cut_text rest x.0.now x.1.now 47 text (one_more_cut rest x found) (lit< tt)).back_text;
       folds = ap (λ k. fold kept_with k (segments x.1.now)) is ∙ ap (fold kept_with kept) (sym cut) ∙ folds;
-      last = sym (last-cons x.0.now (segments x.1.now) (HasFirst-split is_slash x.1.now)) ∙ ap last_segment (sym cut) ∙ last
+      last = sym (last-cons x.0.now (segments x.1.now) (HasFirst-split is_slash x.1.now)) ∙ ap last_segment (sym cut) ∙ last;
     }
 
 -- and its end, with the last segment in the rest
@@ -166,8 +166,8 @@ pub takes_last : (kept kept' : List (List ℕ)) (rest path : List ℕ) → IsSpl
 takes_last kept kept' rest path none folds last is =
     let one = no_more rest none in
     ap₂ (λ k s. k ++ cond (is_dot_segment s) ([] ∷ []) [])
-      (is ∙ ap (fold kept_with kept) (sym one) ∙ folds)
-      (ap last_segment (sym one) ∙ last)
+    (is ∙ ap (fold kept_with kept) (sym one) ∙ folds)
+    (ap last_segment (sym one) ∙ last)
 
 pub map-now : (items : List (Bor (List ℕ))) → map (λ (s : Bor (List ℕ)). chars s.now) items ≡ map chars (map (λ (s : Bor (List ℕ)). s.now) items)
 map-now [] = refl
@@ -231,10 +231,12 @@ no_root_of_bytes bytes path is none = begins-from path (λ rest e. none (encode_
 pub begins-encodes : (cs : List ℕ) → begins_with is_slash (encode_utf8_all cs) ≡ begins_with is_slash cs
 begins-encodes [] = refl
 begins-encodes (c ∷ cs) = elim (cases_lt c 128) [
-    inl ascii ↦ ap (λ bs. begins_with is_slash (bs ++ encode_utf8_all cs)) (encode_ascii c ascii)
-  | inr high ↦ first (encode_utf8 c) (high_bytes c high) (encode_some c) ∙ sym (ne_eqb c 47 (λ e. differ e high)) ] where
+  | inl ascii ↦ ap (λ bs. begins_with is_slash (bs ++ encode_utf8_all cs)) (encode_ascii c ascii)
+  | inr high ↦ first (encode_utf8 c) (high_bytes c high) (encode_some c) ∙ sym (ne_eqb c 47 (λ e. differ e high))
+] where
   differ : {b : ℕ} → b ≡ 47 → 128 ≤ b → ⊥
   differ e above = omega arith
+
   first : (bs : List ℕ) → AllHigh bs → 0 < length bs → begins_with is_slash (bs ++ encode_utf8_all cs) ≡ false
   first [] high some = absurd (omega arith)
   first (b ∷ bs) high some = ne_eqb b 47 (λ e. differ e high.0)

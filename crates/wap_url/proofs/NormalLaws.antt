@@ -1,5 +1,5 @@
 -- A URL that is read can be read back from its text.
-use Rattle.std.proofs.Common.{◌≡◌, ◌≢◌, ◌⊎◌, inl, inr, ℕ, ◌≤◌, ◌<◌, ◌^◌, Bool, true, false, cond, not, ◌&&◌, ◌||◌, ◌==◌, List, [], ◌∷◌, ◌++◌, length, map, refl, ap, ap₂, sym, ◌∙◌, subst, arith, Some, None, Option, IfSome, IsSome, is_some, option_map, option_and_then, decimal, nat_le, lit<, lit≤}
+use Rattle.std.proofs.Common.{◌≡◌, ℕ, ◌≤◌, ◌<◌, ◌^◌, Bool, true, false, not, ◌&&◌, ◌==◌, List, [], ◌∷◌, length, map, refl, ap, ap₂, ◌∙◌, subst, arith, Some, None, Option, IfSome, IsSome, option_map, option_and_then, decimal, nat_le, lit<, lit≤}
 use Rattle.std.specs.List.{list_all}
 use Rattle.std.specs.Char.{is_ascii_digit, is_ascii_alphabetic, to_ascii_lowercase}
 use Rattle.std.specs.Str.Parse.{digits_value, AllDigits}
@@ -11,8 +11,8 @@ use Rattle.std.proofs.lemmas.Str.Ascii.{lowercase-lowercase}
 use Rattle.std.proofs.lemmas.Str.Parse.{digit_from_value}
 use Rattle.wap_url.specs.declared.url.Url.{Url}
 use Rattle.wap_url.specs.Characters.{is_scheme, is_scheme_character, is_host, is_host_character, is_allowed, is_colon, is_slash}
-use Rattle.wap_url.specs.Splitting.{onward, begins_with}
-use Rattle.wap_url.specs.Parts.{Parts, spelled, is_port, port_number, url_of, IsSplit, Fits, IsUrl, may_be_scheme, may_be_host, may_be_port, ends_word}
+use Rattle.wap_url.specs.Splitting.{begins_with}
+use Rattle.wap_url.specs.Parts.{Parts, is_port, port_number, url_of, IsSplit, Fits, IsUrl, may_be_scheme, may_be_host, may_be_port}
 use Rattle.wap_url.specs.Printing.{parts_for, printed, IsNormal}
 use Rattle.wap_url.proofs.CharacterLaws.{scheme_high, host_high, digit_high, alphabetic_high, allowed_high}
 use Rattle.wap_url.proofs.UntilLaws.{implies, all-weaker}
@@ -51,9 +51,9 @@ is_scheme_lower : (s : List ℕ) → is_scheme s ≡ true → is_scheme (lower s
 is_scheme_lower s fine =
     let both = and_parts (begins_with is_ascii_alphabetic s) (list_all is_scheme_character s) fine in
     and_from (begins_with is_ascii_alphabetic (lower s)) (list_all is_scheme_character (lower s)) (first s both.0) (all-map is_scheme_character to_ascii_lowercase scheme_lower s both.1) where
-  first : (s : List ℕ) → begins_with is_ascii_alphabetic s ≡ true → begins_with is_ascii_alphabetic (lower s) ≡ true
-  first [] holds = holds
-  first (c ∷ cs) holds = letter_lower c holds
+      first : (s : List ℕ) → begins_with is_ascii_alphabetic s ≡ true → begins_with is_ascii_alphabetic (lower s) ≡ true
+      first [] holds = holds
+      first (c ∷ cs) holds = letter_lower c holds
 
 is_host_lower : (h : List ℕ) → is_host h ≡ true → is_host (lower h) ≡ true
 is_host_lower h fine =
@@ -83,7 +83,7 @@ decimal_value n small = (decimal_is_IsNumeral n (omega arith)).1
 decimal_port : (n : ℕ) → n ≤ 65535 → is_port (decimal n) ≡ true
 decimal_port n small =
     and_from (list_all is_ascii_digit (decimal n)) (nat_le (length (decimal n)) 5 && nat_le (digits_value 10 (decimal n)) 65535) (decimal_digits n small)
-      (and_from (nat_le (length (decimal n)) 5) (nat_le (digits_value 10 (decimal n)) 65535) (le-leb (length (decimal n)) 5 (length-decimal-le 5 n (lit< tt) (let k : 100000 ≤ 10 ^ 5 = lit≤ tt in omega arith) (omega arith))) (le-leb (digits_value 10 (decimal n)) 65535 (omega (arith, decimal_value n small))))
+    (and_from (nat_le (length (decimal n)) 5) (nat_le (digits_value 10 (decimal n)) 65535) (le-leb (length (decimal n)) 5 (length-decimal-le 5 n (lit< tt) (let k : 100000 ≤ 10 ^ 5 = lit≤ tt in omega arith) (omega arith))) (le-leb (digits_value 10 (decimal n)) 65535 (omega (arith, decimal_value n small))))
 
 number_some : (ds : List ℕ) → 0 < length ds → port_number ds ≡ Some (digits_value 10 ds)
 number_some [] some = absurd (omega arith)
@@ -149,16 +149,16 @@ normal_of t p split fine =
         query = split.query;
         no_scheme = λ s h. split.no_scheme (none_of_map lower p.scheme s) (none_of_map lower p.host h);
         rooted = λ some. split.rooted (some_of_map lower p.host some);
-        no_host = λ none. split.no_host (none_of_map lower p.host none)
+        no_host = λ none. split.no_host (none_of_map lower p.host none);
       };
       fits = record {
         scheme = map_some lower (λ s. is_scheme s ≡ true) (λ s. is_scheme s ≡ true) is_scheme_lower p.scheme fine.scheme;
         host = map_some lower (λ h. is_host h ≡ true) (λ h. is_host h ≡ true) is_host_lower p.host fine.host;
-        port = decimal_fits (option_and_then port_number p.port) (port_small p.port fine.port)
+        port = decimal_fits (option_and_then port_number p.port) (port_small p.port fine.port);
       };
       port = port_small p.port fine.port;
       scheme = map_twice p.scheme;
-      host = map_twice p.host
+      host = map_twice p.host;
     }
 
 pub url_normal : (t : List ℕ) (u : Url) → IsUrl t u → IsNormal u

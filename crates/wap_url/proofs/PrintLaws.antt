@@ -1,9 +1,8 @@
 -- Slashes at the end, ports and pages of names.
-use Rattle.std.proofs.Common.{◌≡◌, ℕ, suc, ◌+◌, ◌-◌, ◌<◌, ◌≤◌, Bool, true, false, cond, ◌==◌, List, [], ◌∷◌, ◌++◌, length, get_or, refl, ap, ap₂, sym, ◌∙◌, arith, inl, inr, append_assoc, encode_utf8, encode_utf8_all, length-append, codes, append-nil}
+use Rattle.std.proofs.Common.{◌≡◌, ℕ, suc, ◌-◌, ◌<◌, ◌≤◌, true, false, ◌==◌, List, [], ◌∷◌, ◌++◌, length, get_or, refl, ap, sym, ◌∙◌, arith, inl, inr, encode_utf8, encode_utf8_all, length-append, codes, append-nil}
 use Rattle.std.specs.Str.{chars}
 use Rattle.std.proofs.lemmas.Bool.{cond-true, cond-false, cases_lt, ne_eqb}
 use Rattle.std.proofs.lemmas.Str.{encode_ascii}
-use Rattle.wap_url.specs.Characters.{is_slash}
 use Rattle.wap_url.specs.Printing.{ends_in_slash, named_page}
 use Rattle.wap_url.proofs.Utf8Laws.{AllHigh, high_bytes, encode_some}
 
@@ -32,8 +31,9 @@ ends_high (b ∷ d ∷ bs) high = ends_high (d ∷ bs) high.1
 pub ends-encodes : (cs : List ℕ) → ends_in_slash (encode_utf8_all cs) ≡ ends_in_slash cs
 ends-encodes [] = refl
 ends-encodes (c ∷ []) = elim (cases_lt c 128) [
-    inl ascii ↦ ap (λ bs. ends_in_slash (bs ++ [])) (encode_ascii c ascii)
-  | inr high ↦ ap ends_in_slash (append-nil (encode_utf8 c)) ∙ ends_high (encode_utf8 c) (high_bytes c high) ∙ sym (ne_eqb c 47 (λ e. differ e high)) ] where
+  | inl ascii ↦ ap (λ bs. ends_in_slash (bs ++ [])) (encode_ascii c ascii)
+  | inr high ↦ ap ends_in_slash (append-nil (encode_utf8 c)) ∙ ends_high (encode_utf8 c) (high_bytes c high) ∙ sym (ne_eqb c 47 (λ e. differ e high))
+] where
   differ : c ≡ 47 → 128 ≤ c → ⊥
   differ e above = omega arith
 ends-encodes (c ∷ d ∷ cs) =

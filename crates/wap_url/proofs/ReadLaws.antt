@@ -1,5 +1,5 @@
 -- What a reading of the bytes says of the text.
-use Rattle.std.proofs.Common.{◌≡◌, ℕ, Bool, true, false, cond, not, List, length, ap, ap₂, sym, ◌∙◌, Ok, Err, Some, None, subst, encode_utf8_all, Option, Result}
+use Rattle.std.proofs.Common.{◌≡◌, ℕ, Bool, true, false, not, List, length, ap, sym, ◌∙◌, Ok, Err, Some, None, encode_utf8_all, Option, Result}
 use Rattle.std.proofs.lemmas.Bool.{cond-true, cond-false}
 use Rattle.wap_url.specs.declared.url.Url.{Url}
 use Rattle.wap_url.specs.declared.fault.UrlFault.{UrlFault}
@@ -23,9 +23,9 @@ pub record IsCut (cs before after : List ℕ) (bad : Bool) : Type 0 where
 
 pub is_cut : (cs whole bytes before after : List ℕ) (bad : Bool) → bytes ≡ whole → whole ≡ encode_utf8_all cs → before ≡ until is_stop bytes → after ≡ onward is_stop bytes → bad ≡ begins_with (λ c. not (is_hash c)) after → IsCut cs before after bad
 is_cut cs whole bytes before after bad same is before_is after_is bad_is = record {
-    front_is = before_is ∙ front-encodes cs bytes (same ∙ is);
-    bad_is = bad_is ∙ ap (begins_with (λ c. not (is_hash c))) after_is ∙ bad-encodes cs bytes (same ∙ is)
-  }
+  front_is = before_is ∙ front-encodes cs bytes (same ∙ is);
+  bad_is = bad_is ∙ ap (begins_with (λ c. not (is_hash c))) after_is ∙ bad-encodes cs bytes (same ∙ is);
+}
 
 pub url_bad : (cs before after : List ℕ) (bad : Bool) → IsCut cs before after bad → bad ≡ true → url_at cs ≡ Err (BadChar (length before))
 url_bad cs before after bad cut holds =
@@ -55,11 +55,11 @@ pub record OkClauses (t : List ℕ) (u : Url) : Type 0 where
 
 pub ok_clauses : (t : List ℕ) (u : Url) → url_at t ≡ Ok u → OkClauses t u
 ok_clauses t u is = record {
-    found = url_takes t u is;
-    only = λ v has. sym (url_again t v has) ∙ is;
-    first = λ f has. sym (url_fails t f has) ∙ is;
-    normal = url_normal t u (url_takes t u is)
-  }
+  found = url_takes t u is;
+  only = λ v has. sym (url_again t v has) ∙ is;
+  first = λ f has. sym (url_fails t f has) ∙ is;
+  normal = url_normal t u (url_takes t u is);
+}
 
 pub record ErrClauses (t : List ℕ) (e : UrlFault) : Type 0 where
   pub only : (v : Url) → IsUrl t v → ◌≡◌ {A = Result Url UrlFault} (Ok v) (Err e)
@@ -68,7 +68,7 @@ pub record ErrClauses (t : List ℕ) (e : UrlFault) : Type 0 where
 
 pub err_clauses : (t : List ℕ) (e : UrlFault) → url_at t ≡ Err e → ErrClauses t e
 err_clauses t e is = record {
-    only = λ v has. sym (url_again t v has) ∙ is;
-    refused = url_stops t e is;
-    first = λ f has. sym (url_fails t f has) ∙ is
-  }
+  only = λ v has. sym (url_again t v has) ∙ is;
+  refused = url_stops t e is;
+  first = λ f has. sym (url_fails t f has) ∙ is;
+}

@@ -1,7 +1,7 @@
 -- Lists that are cut at a separator, and joined again.
-use Rattle.std.proofs.Common.{◌≡◌, ◌≢◌, ◌⊎◌, inl, inr, ℕ, suc, ◌+◌, ◌-◌, ◌<◌, ◌≤◌, Bool, true, false, cond, not, ◌&&◌, ◌||◌, ◌==◌, List, [], ◌∷◌, ◌++◌, length, take, map, refl, ap, ap₂, sym, ◌∙◌, subst, arith, append_assoc, length-append, ◌↔◌}
+use Rattle.std.proofs.Common.{◌≡◌, ◌⊎◌, inl, inr, ℕ, ◌-◌, Bool, true, false, ◌==◌, List, [], ◌∷◌, ◌++◌, length, refl, ap, sym, ◌∙◌, arith, append_assoc}
 use Rattle.std.specs.List.{slice_split, onto_first, join_with_byte, list_any}
-use Rattle.std.proofs.lemmas.Bool.{cases_Bool, or_parts, or_from, eqb-true, eq-eqb, cond-true, cond-false}
+use Rattle.std.proofs.lemmas.Bool.{cases_Bool, or_parts, or_from, eq-eqb}
 use Rattle.std.proofs.lemmas.List.{append-nil, length_push, take_at}
 use Rattle.std.proofs.lemmas.List.Splits.{slice_split-cons_yes, slice_split-cons_no, join_with_byte-slice_split}
 use Rattle.wap_url.specs.Segments.{all_but_last, last_segment, IsPrefix, IsSuffix}
@@ -19,8 +19,9 @@ HasFirst-onto x (part ∷ parts) = record { first = x ∷ part; rest = parts; is
 pub HasFirst-split : (p : ℕ → Bool) (xs : List ℕ) → HasFirst (slice_split p xs)
 HasFirst-split p [] = record { first = []; rest = []; is = refl }
 HasFirst-split p (x ∷ xs) = elim (cases_Bool (p x)) [
-    inl holds ↦ record { first = []; rest = slice_split p xs; is = slice_split-cons_yes p x xs holds }
-  | inr fails ↦ let h = HasFirst-onto x (slice_split p xs) in record { first = h.first; rest = h.rest; is = slice_split-cons_no p x xs fails ∙ h.is } ]
+  | inl holds ↦ record { first = []; rest = slice_split p xs; is = slice_split-cons_yes p x xs holds }
+  | inr fails ↦ let h = HasFirst-onto x (slice_split p xs) in record { first = h.first; rest = h.rest; is = slice_split-cons_no p x xs fails ∙ h.is }
+]
 
 onto_first-append : (x : ℕ) (parts more : List (List ℕ)) → HasFirst parts → onto_first x (parts ++ more) ≡ onto_first x parts ++ more
 onto_first-append x [] more h = absurd (let e = h.is in cc)
@@ -30,10 +31,11 @@ onto_first-append x (part ∷ parts) more h = refl
 pub split-append : (p : ℕ → Bool) (xs : List ℕ) (y : ℕ) (ys : List ℕ) → p y ≡ true → slice_split p (xs ++ y ∷ ys) ≡ slice_split p xs ++ slice_split p ys
 split-append p [] y ys holds = slice_split-cons_yes p y ys holds
 split-append p (x ∷ xs) y ys holds = elim (cases_Bool (p x)) [
-    inl here ↦ slice_split-cons_yes p x (xs ++ y ∷ ys) here ∙ ap (λ parts. [] ∷ parts) (split-append p xs y ys holds) ∙ ap (λ parts. parts ++ slice_split p ys) (sym (slice_split-cons_yes p x xs here))
+  | inl here ↦ slice_split-cons_yes p x (xs ++ y ∷ ys) here ∙ ap (λ parts. [] ∷ parts) (split-append p xs y ys holds) ∙ ap (λ parts. parts ++ slice_split p ys) (sym (slice_split-cons_yes p x xs here))
   | inr fails ↦ slice_split-cons_no p x (xs ++ y ∷ ys) fails ∙ ap (onto_first x) (split-append p xs y ys holds)
       ∙ onto_first-append x (slice_split p xs) (slice_split p ys) (HasFirst-split p xs)
-      ∙ ap (λ parts. parts ++ slice_split p ys) (sym (slice_split-cons_no p x xs fails)) ]
+      ∙ ap (λ parts. parts ++ slice_split p ys) (sym (slice_split-cons_no p x xs fails))
+]
 
 -- no separator, one part
 pub split-none : (p : ℕ → Bool) (xs : List ℕ) → list_any p xs ≡ false → slice_split p xs ≡ xs ∷ []
@@ -54,10 +56,12 @@ pub record CutLast (p : ℕ → Bool) (xs : List ℕ) : Type 0 where
 pub cut_last : (p : ℕ → Bool) (xs : List ℕ) → (list_any p xs ≡ false) ⊎ CutLast p xs
 cut_last p [] = inl refl
 cut_last p (x ∷ xs) = elim (cut_last p xs) [
-    inl none ↦ elim (cases_Bool (p x)) [
-        inl holds ↦ inr (record { lead = []; at = x; last = xs; is = refl; passes = holds; none = none })
-      | inr fails ↦ inl (or_from (p x) (list_any p xs) fails none) ]
-  | inr cut ↦ inr (record { lead = x ∷ cut.lead; at = cut.at; last = cut.last; is = ap (λ ys. x ∷ ys) cut.is; passes = cut.passes; none = cut.none }) ]
+  | inl none ↦ elim (cases_Bool (p x)) [
+    | inl holds ↦ inr (record { lead = []; at = x; last = xs; is = refl; passes = holds; none = none })
+    | inr fails ↦ inl (or_from (p x) (list_any p xs) fails none)
+  ]
+  | inr cut ↦ inr (record { lead = x ∷ cut.lead; at = cut.at; last = cut.last; is = ap (λ ys. x ∷ ys) cut.is; passes = cut.passes; none = cut.none })
+]
 
 -- the parts, where the last separator is known
 pub split-cut : (p : ℕ → Bool) (lead : List ℕ) (y : ℕ) (last : List ℕ) → p y ≡ true → list_any p last ≡ false → slice_split p (lead ++ y ∷ last) ≡ slice_split p lead ++ last ∷ []

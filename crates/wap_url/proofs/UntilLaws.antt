@@ -1,8 +1,8 @@
 -- Texts that are cut at the first character that passes a test.
-use Rattle.std.proofs.Common.{◌≡◌, ◌⊎◌, inl, inr, ℕ, ◌≤◌, ◌<◌, Bool, true, false, cond, not, ◌&&◌, ◌||◌, ◌==◌, List, [], ◌∷◌, ◌++◌, refl, ap, ap₂, sym, ◌∙◌, arith, Some, None, Option}
+use Rattle.std.proofs.Common.{◌≡◌, inl, inr, ℕ, ◌≤◌, Bool, true, false, not, ◌&&◌, ◌||◌, ◌==◌, List, [], ◌∷◌, ◌++◌, refl, ap, sym, ◌∙◌, Some, None, Option}
 use Rattle.std.specs.List.{list_all}
 use Rattle.std.proofs.lemmas.Bool.{cases_Bool, cases_lt, and_parts, and_from, cond-true, cond-false, not-true, not-false, not_from_true, not_from_false, eqb-true, eq-eqb, ne_eqb, agree_below, agree_below_at, or_parts, or_left, or_right, or_cases}
-use Rattle.wap_url.specs.Splitting.{until, onward, after_one, begins_with}
+use Rattle.wap_url.specs.Splitting.{until, onward, after_one}
 use Rattle.wap_url.specs.Parts.{led_by}
 
 -- no character passes
@@ -34,8 +34,9 @@ all-both p q (x ∷ xs) a b =
 pub until-none : (p : ℕ → Bool) (xs : List ℕ) → NonePasses p (until p xs)
 until-none p [] = refl
 until-none p (x ∷ xs) = elim (cases_Bool (p x)) [
-    inl holds ↦ ap (list_all (λ c. not (p c))) (cond-true (p x) [] (x ∷ until p xs) holds)
-  | inr fails ↦ ap (list_all (λ c. not (p c))) (cond-false (p x) [] (x ∷ until p xs) fails) ∙ and_from (not (p x)) (list_all (λ c. not (p c)) (until p xs)) (not_from_false (p x) fails) (until-none p xs) ]
+  | inl holds ↦ ap (list_all (λ c. not (p c))) (cond-true (p x) [] (x ∷ until p xs) holds)
+  | inr fails ↦ ap (list_all (λ c. not (p c))) (cond-false (p x) [] (x ∷ until p xs) fails) ∙ and_from (not (p x)) (list_all (λ c. not (p c)) (until p xs)) (not_from_false (p x) fails) (until-none p xs)
+]
 
 -- past a front of which no character passes
 pub until-past : (p : ℕ → Bool) (xs ys : List ℕ) → NonePasses p xs → until p (xs ++ ys) ≡ xs ++ until p ys
@@ -83,9 +84,11 @@ after-led k (Some part) = refl
 -- one test implies another, where it does below 128 and none above passes it
 pub implies : (p q : ℕ → Bool) → agree_below (λ c. not (p c) || q c) (λ _. true) 128 ≡ true → ((c : ℕ) → 128 ≤ c → p c ≡ false) → (c : ℕ) → p c ≡ true → q c ≡ true
 implies p q table high c holds = elim (cases_lt c 128) [
-    inl low ↦ from (agree_below_at (λ c. not (p c) || q c) (λ _. true) 128 c table low)
-  | inr above ↦ absurd (both (high c above)) ] where
+  | inl low ↦ from (agree_below_at (λ c. not (p c) || q c) (λ _. true) 128 c table low)
+  | inr above ↦ absurd (both (high c above))
+] where
   from : (not (p c) || q c) ≡ true → q c ≡ true
   from either = sym (ap (λ t. not t || q c) holds) ∙ either
+
   both : p c ≡ false → ⊥
   both fails = let e : true ≡ false = sym holds ∙ fails in cc

@@ -1,9 +1,9 @@
 -- A text's UTF-8 is cut where its characters are, at characters of US-ASCII.
-use Rattle.std.proofs.Common.{◌≡◌, ℕ, suc, zero, ◌+◌, ◌-◌, ◌<◌, ◌≤◌, ◌↔◌, subst, subst₂, take, lit<, length-append, Bool, true, false, cond, ◌&&◌, ◌||◌, ◌==◌, List, [], ◌∷◌, ◌++◌, length, map, refl, ap, ap₂, sym, ◌∙◌, inl, inr, ◌⊎◌, arith, append_assoc, encode_utf8, encode_utf8_all, get_or, append-nil, nat_lt}
-use Rattle.std.specs.List.{slice_split, onto_first, list_any, list_all}
-use Rattle.std.specs.Char.{to_ascii_lowercase, IsScalar}
+use Rattle.std.proofs.Common.{◌≡◌, ℕ, suc, zero, ◌-◌, ◌<◌, ◌≤◌, ◌↔◌, subst, subst₂, take, lit<, length-append, Bool, true, false, cond, ◌==◌, List, [], ◌∷◌, ◌++◌, length, map, refl, ap, ap₂, sym, ◌∙◌, inl, inr, arith, encode_utf8, encode_utf8_all, get_or, append-nil}
+use Rattle.std.specs.List.{slice_split, onto_first, list_any}
+use Rattle.std.specs.Char.{to_ascii_lowercase}
 use Rattle.std.specs.Str.{all_scalars, chars}
-use Rattle.std.proofs.lemmas.Bool.{cases_Bool, cases_lt, cond-true, cond-false, eqb-true, ne_eqb, and_from, cond_both, or_parts, or_from, and_parts, lt-ltb, le-ltb}
+use Rattle.std.proofs.lemmas.Bool.{cases_Bool, cases_lt, cond-true, cond-false, eqb-true, ne_eqb, and_from, cond_both, or_parts, or_from, and_parts}
 use Rattle.std.proofs.lemmas.List.Splits.{slice_split-cons_yes, slice_split-cons_no}
 use Rattle.std.proofs.lemmas.List.{map-append, length-map, take-map}
 use Rattle.std.proofs.Math.Utf8.{scalar, low_scalar}
@@ -27,8 +27,9 @@ all_high (b ∷ bs) each = (each 0 (omega arith), all_high bs (λ k within. each
 -- the bytes of a character past US-ASCII
 pub high_bytes : (c : ℕ) → 128 ≤ c → AllHigh (encode_utf8 c)
 high_bytes c high = all_high (encode_utf8 c) (λ k within. elim (cases_lt (get_or (encode_utf8 c) k 0) 128) [
-    inl low ↦ absurd (differ (inside_one c [] (encode_utf8 c) k (sym (append-nil (encode_utf8 c))) within low) low)
-  | inr fine ↦ fine ]) where
+  | inl low ↦ absurd (differ (inside_one c [] (encode_utf8 c) k (sym (append-nil (encode_utf8 c))) within low) low)
+  | inr fine ↦ fine
+]) where
   differ : {b : ℕ} → c ≡ b → b < 128 → ⊥
   differ e low = omega arith
 
@@ -62,13 +63,14 @@ none_high sep low (b ∷ bs) high = or_from (b == sep) (list_any (λ b. b == sep
 
 pub none_inside : (sep c : ℕ) → sep < 128 → (c == sep) ≡ false → list_any (λ b. b == sep) (encode_utf8 c) ≡ false
 none_inside sep c low other = elim (cases_lt c 128) [
-    inl ascii ↦ ap (list_any (λ b. b == sep)) (encode_ascii c ascii) ∙ or_from (c == sep) false other refl
-  | inr high ↦ none_high sep low (encode_utf8 c) (high_bytes c high) ]
+  | inl ascii ↦ ap (list_any (λ b. b == sep)) (encode_ascii c ascii) ∙ or_from (c == sep) false other refl
+  | inr high ↦ none_high sep low (encode_utf8 c) (high_bytes c high)
+]
 
 pub split-encodes : (sep : ℕ) → sep < 128 → (cs : List ℕ) → slice_split (λ b. b == sep) (encode_utf8_all cs) ≡ map encode_utf8_all (slice_split (λ b. b == sep) cs)
 split-encodes sep low [] = refl
 split-encodes sep low (c ∷ cs) = elim (cases_Bool (c == sep)) [
-    inl here ↦
+  | inl here ↦
       ap (slice_split (λ b. b == sep)) (ap (λ bs. bs ++ encode_utf8_all cs) (encode_ascii c (small (eqb-true c sep here))))
       ∙ slice_split-cons_yes (λ b. b == sep) c (encode_utf8_all cs) here
       ∙ ap (λ parts. [] ∷ parts) (split-encodes sep low cs)
@@ -77,7 +79,8 @@ split-encodes sep low (c ∷ cs) = elim (cases_Bool (c == sep)) [
       split-onto (λ b. b == sep) (encode_utf8 c) (encode_utf8_all cs) (none_inside sep c low other)
       ∙ ap (onto (encode_utf8 c)) (split-encodes sep low cs)
       ∙ map_onto_first c (slice_split (λ b. b == sep) cs) (HasFirst-split (λ b. b == sep) cs)
-      ∙ ap (map encode_utf8_all) (sym (slice_split-cons_no (λ b. b == sep) c cs other)) ] where
+      ∙ ap (map encode_utf8_all) (sym (slice_split-cons_no (λ b. b == sep) c cs other))
+] where
   small : c ≡ sep → c < 128
   small e = omega arith
 
@@ -88,8 +91,9 @@ lower_high (b ∷ bs) high = ap₂ (λ x xs. x ∷ xs) ((lowercase_is b).2 (omeg
 
 lower_one : (c : ℕ) → map to_ascii_lowercase (encode_utf8 c) ≡ encode_utf8 (to_ascii_lowercase c)
 lower_one c = elim (cases_lt c 128) [
-    inl ascii ↦ ap (map to_ascii_lowercase) (encode_ascii c ascii) ∙ sym (encode_ascii (to_ascii_lowercase c) (lowercase_ascii c ascii))
-  | inr high ↦ lower_high (encode_utf8 c) (high_bytes c high) ∙ ap encode_utf8 (sym ((lowercase_is c).2 (omega arith))) ]
+  | inl ascii ↦ ap (map to_ascii_lowercase) (encode_ascii c ascii) ∙ sym (encode_ascii (to_ascii_lowercase c) (lowercase_ascii c ascii))
+  | inr high ↦ lower_high (encode_utf8 c) (high_bytes c high) ∙ ap encode_utf8 (sym ((lowercase_is c).2 (omega arith)))
+]
 
 pub lower-encodes : (cs : List ℕ) → map to_ascii_lowercase (encode_utf8_all cs) ≡ encode_utf8_all (map to_ascii_lowercase cs)
 lower-encodes [] = refl
@@ -110,19 +114,21 @@ pub record SameCut (p : ℕ → Bool) (cs : List ℕ) : Type 0 where
 pub cut-encodes : (p : ℕ → Bool) → ((b : ℕ) → 128 ≤ b → p b ≡ true) → (cs : List ℕ) → SameCut p cs
 cut-encodes p all [] = record { until = refl; onward = refl }
 cut-encodes p all (c ∷ cs) = elim (cases_lt c 128) [
-    inl ascii ↦ let same = cut-encodes p all cs in
+  | inl ascii ↦ let same = cut-encodes p all cs in
       let front = ap (λ bs. bs ++ encode_utf8_all cs) (encode_ascii c ascii) in
       record {
         until = ap (until p) front ∙ ap (λ rest. cond (p c) [] (c ∷ rest)) same.until;
         onward = ap (onward p) front ∙ elim (cases_Bool (p c)) [
-            inl holds ↦ cond-true (p c) (c ∷ encode_utf8_all cs) (onward p (encode_utf8_all cs)) holds ∙ sym front ∙ ap encode_utf8_all (sym (cond-true (p c) (c ∷ cs) (onward p cs) holds))
-          | inr fails ↦ cond-false (p c) (c ∷ encode_utf8_all cs) (onward p (encode_utf8_all cs)) fails ∙ same.onward ∙ ap encode_utf8_all (sym (cond-false (p c) (c ∷ cs) (onward p cs) fails)) ]
+          | inl holds ↦ cond-true (p c) (c ∷ encode_utf8_all cs) (onward p (encode_utf8_all cs)) holds ∙ sym front ∙ ap encode_utf8_all (sym (cond-true (p c) (c ∷ cs) (onward p cs) holds))
+          | inr fails ↦ cond-false (p c) (c ∷ encode_utf8_all cs) (onward p (encode_utf8_all cs)) fails ∙ same.onward ∙ ap encode_utf8_all (sym (cond-false (p c) (c ∷ cs) (onward p cs) fails))
+        ];
       }
   | inr high ↦ let same = until_high p all (encode_utf8 c) (encode_utf8_all cs) (high_bytes c high) (encode_some c) in
       record {
         until = same.0 ∙ sym (cond-true (p c) [] (c ∷ until p cs) (all c high));
-        onward = same.1 ∙ ap encode_utf8_all (sym (cond-true (p c) (c ∷ cs) (onward p cs) (all c high)))
-      } ]
+        onward = same.1 ∙ ap encode_utf8_all (sym (cond-true (p c) (c ∷ cs) (onward p cs) (all c high)));
+      }
+]
 
 -- lists of texts
 abbrev pub AllText : List (List ℕ) → Type 0
@@ -138,8 +144,9 @@ AllText-split p [] scalars = (refl, tt)
 AllText-split p (c ∷ cs) scalars =
     let parts = and_parts (scalar c) (all_scalars cs) scalars in
     elim (cases_Bool (p c)) [
-        inl holds ↦ subst AllText (sym (slice_split-cons_yes p c cs holds)) (refl, AllText-split p cs parts.1)
-      | inr fails ↦ subst AllText (sym (slice_split-cons_no p c cs fails)) (AllText-onto c (slice_split p cs) parts.0 (AllText-split p cs parts.1)) ]
+      | inl holds ↦ subst AllText (sym (slice_split-cons_yes p c cs holds)) (refl, AllText-split p cs parts.1)
+      | inr fails ↦ subst AllText (sym (slice_split-cons_no p c cs fails)) (AllText-onto c (slice_split p cs) parts.0 (AllText-split p cs parts.1))
+    ]
 
 pub AllText-take : (n : ℕ) (parts : List (List ℕ)) → AllText parts → AllText (take n parts)
 AllText-take zero parts each = tt
@@ -171,10 +178,11 @@ scalars-lower [] scalars = refl
 scalars-lower (c ∷ cs) scalars =
     let parts = and_parts (scalar c) (all_scalars cs) scalars in
     and_from (scalar (to_ascii_lowercase c)) (all_scalars (map to_ascii_lowercase cs)) (one parts.0) (scalars-lower cs parts.1) where
-  one : scalar c ≡ true → scalar (to_ascii_lowercase c) ≡ true
-  one holds = elim (cases_lt c 128) [
-      inl ascii ↦ low_scalar (to_ascii_lowercase c) (omega (arith, lowercase_ascii c ascii))
-    | inr high ↦ ap scalar ((lowercase_is c).2 (omega arith)) ∙ holds ]
+      one : scalar c ≡ true → scalar (to_ascii_lowercase c) ≡ true
+      one holds = elim (cases_lt c 128) [
+        | inl ascii ↦ low_scalar (to_ascii_lowercase c) (omega (arith, lowercase_ascii c ascii))
+        | inr high ↦ ap scalar ((lowercase_is c).2 (omega arith)) ∙ holds
+      ]
 
 -- the labels of a host and of a domain in lower case
 pub labels_of_bytes : (domain host : List ℕ) → all_scalars domain ≡ true → all_scalars host ≡ true → IsSuffix (labels (map to_ascii_lowercase (encode_utf8_all domain))) (labels (encode_utf8_all host)) ↔ IsSuffix (labels (map to_ascii_lowercase domain)) (labels host)
@@ -182,15 +190,18 @@ labels_of_bytes domain host text text' =
     let e : labels (map to_ascii_lowercase (encode_utf8_all domain)) ≡ map encode_utf8_all (labels (map to_ascii_lowercase domain)) = ap labels (lower-encodes domain) ∙ split-encodes 46 (lit< tt) (map to_ascii_lowercase domain) in
     let f : labels (encode_utf8_all host) ≡ map encode_utf8_all (labels host) = split-encodes 46 (lit< tt) host in (
       λ suffix. suffix_of_bytes (labels (map to_ascii_lowercase domain)) (labels host) (AllText-split is_dot (map to_ascii_lowercase domain) (scalars-lower domain text)) (AllText-split is_dot host text') (subst₂ IsSuffix e f suffix),
-      λ suffix. subst₂ IsSuffix (sym e) (sym f) (suffix_to_bytes (labels (map to_ascii_lowercase domain)) (labels host) suffix))
+      λ suffix. subst₂ IsSuffix (sym e) (sym f) (suffix_to_bytes (labels (map to_ascii_lowercase domain)) (labels host) suffix),
+    )
 
 below_root-encodes : (path : List ℕ) → below_root (encode_utf8_all path) ≡ encode_utf8_all (below_root path)
 below_root-encodes [] = refl
 below_root-encodes (c ∷ cs) = elim (cases_Bool (is_slash c)) [
-    inl slash ↦ ap (λ bs. below_root (bs ++ encode_utf8_all cs)) (encode_ascii c (small (eqb-true c 47 slash))) ∙ cond-true (is_slash c) (encode_utf8_all cs) (c ∷ encode_utf8_all cs) slash ∙ ap encode_utf8_all (sym (cond-true (is_slash c) cs (c ∷ cs) slash))
-  | inr other ↦ first (encode_utf8 c) (encode_some c) (none_inside 47 c (lit< tt) other) ∙ ap encode_utf8_all (sym (cond-false (is_slash c) cs (c ∷ cs) other)) ] where
+  | inl slash ↦ ap (λ bs. below_root (bs ++ encode_utf8_all cs)) (encode_ascii c (small (eqb-true c 47 slash))) ∙ cond-true (is_slash c) (encode_utf8_all cs) (c ∷ encode_utf8_all cs) slash ∙ ap encode_utf8_all (sym (cond-true (is_slash c) cs (c ∷ cs) slash))
+  | inr other ↦ first (encode_utf8 c) (encode_some c) (none_inside 47 c (lit< tt) other) ∙ ap encode_utf8_all (sym (cond-false (is_slash c) cs (c ∷ cs) other))
+] where
   small : c ≡ 47 → c < 128
   small e = omega arith
+
   first : (bs : List ℕ) → 0 < length bs → list_any is_slash bs ≡ false → below_root (bs ++ encode_utf8_all cs) ≡ bs ++ encode_utf8_all cs
   first [] some none = absurd (omega arith)
   first (b ∷ bs) some none = cond-false (is_slash b) (bs ++ encode_utf8_all cs) (b ∷ (bs ++ encode_utf8_all cs)) (or_parts (is_slash b) (list_any is_slash bs) none).0
@@ -208,8 +219,9 @@ without-map : (parts : List (List ℕ)) → without_empty_last (map encode_utf8_
 without-map parts =
     ap₂ (λ t n. cond t (take n (map encode_utf8_all parts)) (map encode_utf8_all parts)) (ap (λ s. length s == 0) (last-map parts) ∙ no_bytes (last_segment parts)) (ap (λ n. n - 1) (length-map parts encode_utf8_all))
     ∙ elim (cases_Bool (length (last_segment parts) == 0)) [
-        inl none ↦ cond-true (length (last_segment parts) == 0) (take (length parts - 1) (map encode_utf8_all parts)) (map encode_utf8_all parts) none ∙ take-map encode_utf8_all (length parts - 1) parts ∙ ap (map encode_utf8_all) (sym (cond-true (length (last_segment parts) == 0) (all_but_last parts) parts none))
-      | inr some ↦ cond-false (length (last_segment parts) == 0) (take (length parts - 1) (map encode_utf8_all parts)) (map encode_utf8_all parts) some ∙ ap (map encode_utf8_all) (sym (cond-false (length (last_segment parts) == 0) (all_but_last parts) parts some)) ]
+      | inl none ↦ cond-true (length (last_segment parts) == 0) (take (length parts - 1) (map encode_utf8_all parts)) (map encode_utf8_all parts) none ∙ take-map encode_utf8_all (length parts - 1) parts ∙ ap (map encode_utf8_all) (sym (cond-true (length (last_segment parts) == 0) (all_but_last parts) parts none))
+      | inr some ↦ cond-false (length (last_segment parts) == 0) (take (length parts - 1) (map encode_utf8_all parts)) (map encode_utf8_all parts) some ∙ ap (map encode_utf8_all) (sym (cond-false (length (last_segment parts) == 0) (all_but_last parts) parts some))
+    ]
 
 AllText-without : (parts : List (List ℕ)) → AllText parts → AllText (without_empty_last parts)
 AllText-without parts each = cond_both (length (last_segment parts) == 0) (all_but_last parts) parts AllText (λ _. AllText-take (length parts - 1) parts each) (λ _. each)
@@ -227,4 +239,5 @@ segments_of_bytes access path text text' =
           (AllText-without (segments (below_root access)) (AllText-split is_slash (below_root access) (scalars-below_root access text)))
           (AllText-split is_slash (below_root path) (scalars-below_root path text'))
           (subst₂ IsPrefix e (bytes path) prefix),
-      λ prefix. subst₂ IsPrefix (sym e) (sym (bytes path)) (prefix_to_bytes (access_segments access) (segments (below_root path)) prefix))
+      λ prefix. subst₂ IsPrefix (sym e) (sym (bytes path)) (prefix_to_bytes (access_segments access) (segments (below_root path)) prefix),
+    )

@@ -1,11 +1,11 @@
 -- The definitions at examples.
-use Rattle.std.proofs.Common.{◌≡◌, ℕ, List, [], ◌∷◌, refl, Ok, Err, Some, None}
-use Rattle.std.specs.Prelude.{Result, Option, codes, cond}
+use Rattle.std.proofs.Common.{◌≡◌, ℕ, List, [], refl, Ok, Err}
+use Rattle.std.specs.Prelude.{Result, codes}
 use Rattle.wap_url.specs.declared.url.Url.{Url}
 use Rattle.wap_url.specs.declared.fault.UrlFault.{UrlFault}
-use Rattle.wap_url.specs.declared.fault.UrlFault.TheVariants.{BadChar, BadScheme, BadHost, BadPort}
+use Rattle.wap_url.specs.declared.fault.UrlFault.TheVariants.{BadChar}
 use Rattle.wap_url.specs.Reading.{url_at}
-use Rattle.wap_url.specs.Printing.{printed, name_for}
+use Rattle.wap_url.specs.Printing.{printed}
 use Rattle.wap_url.specs.Joining.{joined}
 use Rattle.wap_url.specs.Relative.{relative_form}
 

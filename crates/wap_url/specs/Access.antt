@@ -1,5 +1,5 @@
 -- Who may enter a page (WAP-191, section 11.3.1; WAP-193, section 7.4): labels of the host and segments of the path.
-use Rattle.std.specs.Prelude.{ℕ, ◌==◌, Bool, ◌&&◌, if◌then◌else◌, IfSome, IsSomeAnd, List, [], ◌∷◌, map, length, drop}
+use Rattle.std.specs.Prelude.{ℕ, ◌==◌, if◌then◌else◌, IsSomeAnd, List, map, length, drop}
 use Rattle.std.specs.Char.{to_ascii_lowercase}
 use Rattle.wap_url.specs.declared.url.Url.{Url}
 use Rattle.wap_url.specs.declared.access.Access.{Access}

@@ -1,12 +1,12 @@
 -- The parts of a URL as they are spelled (RFC 2396, appendix B), and the URL that they stand for.
-use Rattle.std.specs.Prelude.{◌≡◌, ◌≢◌, ℕ, ◌≤◌, ◌&&◌, ◌||◌, ◌⊎◌, not, nat_le, Bool, true, false, IsSome, IfSome, List, [], ◌∷◌, ◌++◌, map, length, Option, Some, None, ⊤}
+use Rattle.std.specs.Prelude.{◌≡◌, ◌≢◌, ℕ, ◌&&◌, ◌||◌, ◌⊎◌, not, nat_le, Bool, true, false, IsSome, IfSome, List, [], ◌∷◌, ◌++◌, map, length, Option, Some, None}
 use Rattle.std.specs.Option.{option_map, option_and_then}
 use Rattle.std.specs.List.{list_all}
 use Rattle.std.specs.Char.{is_ascii_digit, to_ascii_lowercase}
 use Rattle.std.specs.Str.Parse.{digits_value}
 use Rattle.wap_url.specs.declared.url.Url.{Url}
 use Rattle.wap_url.specs.Characters.{is_allowed, is_colon, is_question, is_slash, ends_scheme, ends_authority, is_scheme, is_host}
-use Rattle.wap_url.specs.Splitting.{until, onward, begins_with}
+use Rattle.wap_url.specs.Splitting.{onward, begins_with}
 
 -- The parts. A port is the text after the host's colon, and may be empty.
 pub record Parts : Type 0 where
@@ -45,13 +45,13 @@ port_number (d ∷ ds) = Some (digits_value 10 (d ∷ ds))
 -- the URL: scheme and host in lower case
 abbrev pub url_of : Parts → Url
 url_of p = record {
-    scheme = option_map (map to_ascii_lowercase) p.scheme;
-    host = option_map (map to_ascii_lowercase) p.host;
-    port = option_and_then port_number p.port;
-    path = p.path;
-    query = p.query;
-    fragment = p.fragment
-  }
+  scheme = option_map (map to_ascii_lowercase) p.scheme;
+  host = option_map (map to_ascii_lowercase) p.host;
+  port = option_and_then port_number p.port;
+  path = p.path;
+  query = p.query;
+  fragment = p.fragment;
+}
 
 -- the characters of a scheme's place, a host's, a port's and a path's: none of those at which the next part would begin
 abbrev pub may_be_scheme : ℕ → Bool

@@ -10,13 +10,13 @@ use Rattle.wap_url.specs.Parts.{Parts, spelled, IsSplit, Fits}
 -- the parts that spell the URL
 abbrev pub parts_for : Url → Parts
 parts_for u = record {
-    scheme = u.scheme;
-    host = u.host;
-    port = option_map decimal u.port;
-    path = u.path;
-    query = u.query;
-    fragment = u.fragment
-  }
+  scheme = u.scheme;
+  host = u.host;
+  port = option_map decimal u.port;
+  path = u.path;
+  query = u.query;
+  fragment = u.fragment;
+}
 
 -- the URL of the page alone
 abbrev pub without_fragment : Url → Url

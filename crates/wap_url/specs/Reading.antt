@@ -1,5 +1,5 @@
 -- What a text is read as: the split of RFC 2396, appendix B, or the first fault.
-use Rattle.std.specs.Prelude.{ℕ, Bool, true, false, ◌||◌, ◌&&◌, not, if◌then◌else◌, List, [], ◌∷◌, length, drop, Option, Some, None, Result, Ok, Err}
+use Rattle.std.specs.Prelude.{ℕ, Bool, true, false, ◌&&◌, not, if◌then◌else◌, List, [], ◌∷◌, length, drop, Option, Some, None, Result, Ok, Err}
 use Rattle.std.specs.Option.{option_map, option_and_then, option_map_or}
 use Rattle.wap_url.specs.declared.url.Url.{Url}
 use Rattle.wap_url.specs.declared.fault.UrlFault.{UrlFault}
@@ -67,13 +67,13 @@ query_part front = after_one (onward is_question (tail_of front))
 -- the parts of what stands before the fragment, beside a fragment
 abbrev pub parts_with : List ℕ → Option (List ℕ) → Parts
 parts_with front fragment = record {
-    scheme = scheme_of front;
-    host = host_of front;
-    port = port_of front;
-    path = path_part front;
-    query = query_part front;
-    fragment = fragment
-  }
+  scheme = scheme_of front;
+  host = host_of front;
+  port = port_of front;
+  path = path_part front;
+  query = query_part front;
+  fragment = fragment;
+}
 
 abbrev pub parts_of : List ℕ → Parts
 parts_of text = parts_with (front text) (fragment_of text)

@@ -1,7 +1,6 @@
 -- A path as its segments and a host as its labels (RFC 2396, sections 3.3 and 3.2.2).
-use Rattle.std.specs.Prelude.{◌≡◌, ℕ, ◌-◌, ◌⊎◌, ◌==◌, Bool, false, List, [], ◌∷◌, ◌++◌, length, take, codes}
+use Rattle.std.specs.Prelude.{◌≡◌, ℕ, ◌-◌, ◌⊎◌, List, [], ◌∷◌, ◌++◌, length, take}
 use Rattle.std.specs.List.{slice_split, join_with_byte}
-use Rattle.std.specs.Str.{bytes_eq}
 use Rattle.wap_url.specs.Characters.{is_slash, is_dot}
 
 -- what stands between the slashes of a path

@@ -68,7 +68,11 @@ fn ends_at_dot(lead: &[u8]) -> bool
 fn is_lowered(bytes: &[u8], of: &[u8]) -> bool
     ensures { IsTrue result ↔ (bytes.now ≡ map to_ascii_lowercase of.now) }
 {
-    bytes.len() == of.len() && bytes.iter().zip(of).all(|(b, c)| *b == c.to_ascii_lowercase())
+    bytes.len() == of.len()
+        && bytes
+            .iter()
+            .zip(of)
+            .all(|(b, c)| *b == c.to_ascii_lowercase())
 }
 
 fn after_root(path: &[u8]) -> &[u8]

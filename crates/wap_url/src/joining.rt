@@ -5,9 +5,9 @@ ghost use Rattle.wap_url.specs.Segments.{segments, all_but_last, folder_of};
 ghost use Rattle.wap_url.specs.Splitting.{begins_with};
 ghost use Rattle.wap_url.specs.Characters.{is_slash};
 
+use crate::Url;
 use crate::cut::begins_with_byte;
 use crate::dots::resolved_path;
-use crate::Url;
 use crate::url::copy_of;
 use std::alloc::Global;
 use wap_base::{NoMemory, Text};

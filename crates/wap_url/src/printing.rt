@@ -43,7 +43,12 @@ fn add_scheme(text: &mut Text, scheme: &Option<Text>) -> Result<(), NoMemory>
     Ok(())
 }
 
-fn add_authority(alloc: Global, text: &mut Text, host: &Option<Text>, port: Option<u16>) -> Result<(), NoMemory>
+fn add_authority(
+    alloc: Global,
+    text: &mut Text,
+    host: &Option<Text>,
+    port: Option<u16>,
+) -> Result<(), NoMemory>
     ensures { OnOk result (text.new ≡ text.old ++ authority host.now (option_map decimal port)) }
 {
     if let Some(host) = host {

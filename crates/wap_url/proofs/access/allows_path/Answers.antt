@@ -1,4 +1,4 @@
-use Rattle.std.proofs.Common.{◌≡◌, ap, ap₂, sym, ◌∙◌, subst₂, List, ℕ}
+use Rattle.std.proofs.Common.{ap, sym, ◌∙◌, subst₂, List, ℕ}
 use Rattle.wap_url.specs.Segments.{IsPrefix, segments}
 use Rattle.wap_url.specs.Access.{below_root, without_empty_last}
 use Rattle.wap_url.proofs.Utf8Laws.{segments_of_bytes}
@@ -11,4 +11,5 @@ returns c =
     let laws = segments_of_bytes c.args.access.now c.args.path.now c.as_str-2.ensures.scalars c.as_str.ensures.scalars in
     let P : List ℕ → List ℕ → Type 0 = λ p a. IsPrefix (without_empty_last (segments a)) (segments p) in (
       λ holds. laws.0 (subst₂ P path access (c.begins_in_segments.ensures.0 holds)),
-      λ prefix. c.begins_in_segments.ensures.1 (subst₂ P (sym path) (sym access) (laws.1 prefix)))
+      λ prefix. c.begins_in_segments.ensures.1 (subst₂ P (sym path) (sym access) (laws.1 prefix)),
+    )

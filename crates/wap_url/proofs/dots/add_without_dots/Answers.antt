@@ -1,7 +1,6 @@
-use Rattle.std.proofs.Common.{◌≡◌, ◌++◌, List, ℕ, Bor, map, ap, sym, ◌∙◌, OnOk, subst}
+use Rattle.std.proofs.Common.{◌≡◌, ◌++◌, List, ℕ, Bor, map, ap, ◌∙◌, OnOk, subst}
 use Rattle.std.specs.Str.{chars}
-use Rattle.wap_url.specs.Segments.{segments, path_of}
-use Rattle.wap_url.specs.Joining.{without_dots}
+use Rattle.wap_url.specs.Segments.{path_of}
 use Rattle.wap_url.proofs.JoinLaws.{chars-without, map-now}
 use Rattle.wap_url.proofs.dots.add_without_dots.Goals as goal
 

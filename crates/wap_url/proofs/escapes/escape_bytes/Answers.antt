@@ -1,4 +1,4 @@
-use Rattle.std.proofs.Common.{◌≡◌, ap, sym, ◌∙◌, arith, ◌++◌}
+use Rattle.std.proofs.Common.{ap, ◌∙◌, arith, ◌++◌}
 use Rattle.std.specs.Str.{chars}
 use Rattle.percent_encoding.specs.Percent.{percent_encode}
 use Rattle.std.proofs.lemmas.List.Elements.{All-from_get_or}

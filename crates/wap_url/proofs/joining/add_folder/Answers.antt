@@ -1,4 +1,4 @@
-use Rattle.std.proofs.Common.{◌≡◌, ◌++◌, ◌∷◌, [], List, ℕ, Bor, ap, sym, ◌∙◌, Some, None, append-nil, append_assoc}
+use Rattle.std.proofs.Common.{◌++◌, ◌∷◌, [], ap, sym, ◌∙◌, append-nil, append_assoc}
 use Rattle.std.specs.Str.{chars}
 use Rattle.wap_url.specs.Segments.{segments, folder_of, all_but_last}
 use Rattle.wap_url.proofs.JoinLaws.{folder_of_bytes, no_folder_of_bytes}

@@ -1,4 +1,4 @@
-use Rattle.std.proofs.Common.{◌≡◌, ap, sym, ◌∙◌, ◌++◌, append_assoc, codes, true, false, refl}
+use Rattle.std.proofs.Common.{◌≡◌, ap, sym, ◌∙◌, ◌++◌, append_assoc, codes, true, false}
 use Rattle.std.specs.Str.{chars}
 use Rattle.wap_url.specs.Printing.{ends_in_slash}
 use Rattle.wap_url.proofs.PrintLaws.{ends-encodes, page_named, page_plain, chars-index}

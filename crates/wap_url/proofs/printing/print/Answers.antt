@@ -1,7 +1,6 @@
-use Rattle.std.proofs.Common.{◌≡◌, List, ℕ, subst, sym, ◌∙◌, rules, append_assoc, arith}
+use Rattle.std.proofs.Common.{List, ℕ, subst, sym, arith}
 use Rattle.std.proofs.lemmas.Grind.{common_steps}
 use Rattle.wap_url.specs.Parts.{IsUrl}
-use Rattle.wap_url.specs.Printing.{printed}
 use Rattle.wap_url.proofs.NormalLaws.{normal_again}
 use Rattle.wap_url.proofs.printing.print.Goals as goal
 

@@ -1,4 +1,4 @@
-use Rattle.std.proofs.Common.{◌≡◌, ℕ, ◌+◌, ◌<◌, ◌≤◌, Bool, true, false, List, length, drop, ap, sym, ◌∙◌, arith, subst, Some, encode_utf8_all, IsCharBoundary, ◌==◌}
+use Rattle.std.proofs.Common.{◌≡◌, ℕ, ◌+◌, ◌<◌, true, false, List, length, drop, ap, sym, ◌∙◌, arith, subst, Some, encode_utf8_all, IsCharBoundary, ◌==◌}
 use Rattle.std.specs.Str.{chars, all_scalars}
 use Rattle.std.proofs.lemmas.Bool.{eqb-true, eqb-false}
 use Rattle.wap_url.specs.Splitting.{until, onward, after_one}
@@ -10,8 +10,8 @@ use Rattle.wap_url.proofs.reading.fragment.Goals as goal
 found : (cs whole bytes after : List ℕ) → bytes ≡ whole → whole ≡ encode_utf8_all cs → all_scalars cs ≡ true → has_bad_char cs ≡ false → after ≡ onward is_stop bytes → (length after == 0) ≡ false → HasFragment cs whole
 found cs whole bytes after same is text good after_is some =
     has_fragment cs whole is text good (lengths (eqb-false (length after) 0 some) (ap length (after_is ∙ ap (onward is_stop) same))) where
-  lengths : (length after ≡ 0 → ⊥) → length after ≡ length (onward is_stop whole) → 0 < length (onward is_stop whole)
-  lengths some e = omega arith
+      lengths : (length after ≡ 0 → ⊥) → length after ≡ length (onward is_stop whole) → 0 < length (onward is_stop whole)
+      lengths some e = omega arith
 
 pub returns-then-is_empty : goal.returns-then-is_empty
 returns-then-is_empty c =

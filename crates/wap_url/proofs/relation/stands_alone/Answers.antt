@@ -1,4 +1,4 @@
-use Rattle.std.proofs.Common.{◌≡◌, ◌&&◌, not, false, true, ap, ap₂, sym, ◌∙◌, length, ◌==◌}
+use Rattle.std.proofs.Common.{◌&&◌, not, ap, sym, ◌∙◌}
 use Rattle.std.specs.List.{list_any}
 use Rattle.wap_url.specs.Characters.{is_colon}
 use Rattle.wap_url.proofs.RelationLaws.{alone_of_bytes}

@@ -1,6 +1,6 @@
 use Rattle.std.proofs.Common.{sym, ◌∙◌, length}
 use Rattle.wap_url.specs.declared.fault.UrlFault.TheVariants.{BadChar}
-use Rattle.wap_url.proofs.ReadLaws.{IsCut, is_cut, url_bad, url_fault, url_found, ok_clauses, err_clauses}
+use Rattle.wap_url.proofs.ReadLaws.{is_cut, url_bad, url_fault, url_found, ok_clauses, err_clauses}
 use Rattle.wap_url.proofs.url.Url.read.Goals as goal
 
 pub returns-then-is_bad : goal.returns-then-is_bad
