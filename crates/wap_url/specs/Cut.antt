@@ -1,4 +1,4 @@
--- Where a part of a URL ends.
+-- Where a part of a URL ends (RFC 2396, appendix B).
 use Rattle.std.specs.Prelude.{ℕ, Bool}
 use Rattle.wap_url.specs.declared.cut.Cut.{Cut}
 use Rattle.wap_url.specs.declared.cut.Cut.TheVariants.{Fragment, Scheme, Authority, Colon, Question}

@@ -28,7 +28,7 @@ end_of segments = if is_dot_segment (last_segment segments) then [] ∷ [] else 
 abbrev pub without_dots : List (List ℕ) → List (List ℕ)
 without_dots segments = fold kept_with [] segments ++ end_of segments
 
--- the path without dot segments; what a path begins with a slash is not taken by `..`
+-- the segments without dot segments; `..` does not take the root, which a slash at the beginning is
 abbrev pub resolved : List (List ℕ) → List (List ℕ)
 resolved [] = []
 resolved (s ∷ []) = without_dots (s ∷ [])
@@ -50,7 +50,7 @@ target base r =
     else if length r.path == 0 && is_none r.query then record base { fragment = r.fragment }
     else record r { scheme = base.scheme; host = base.host; port = base.port; path = merged_path base r }
 
--- the path without dot segments; under a host an empty path is the root
+-- under a host an empty path is the root
 abbrev pub rooted : Bool → List ℕ → List ℕ
 rooted under_host path = if under_host && length path == 0 then 47 ∷ [] else path
 

@@ -1,4 +1,4 @@
--- Why a text is no URL, and where.
+-- Why a text is no URL, and where: the faults and their order are this project's own.
 use Rattle.std.specs.Prelude.{◌≡◌, ℕ, Some, true, false, List, ◌∷◌, ◌++◌, length}
 use Rattle.std.specs.List.{list_all}
 use Rattle.wap_url.specs.declared.fault.UrlFault.{UrlFault}
@@ -7,7 +7,7 @@ use Rattle.wap_url.specs.Parts.{Parts, IsSplit}
 use Rattle.wap_url.specs.Reading.{fault_of}
 use Rattle.wap_url.specs.Characters.{is_allowed, is_hash}
 
--- the first character before the fragment that may not stand there
+-- The first character before the fragment that may not stand there. Those before it are of US-ASCII, so their number is its byte offset.
 pub record HasBadChar (text : List ℕ) (at : ℕ) : Type 0 where
   pub before : List ℕ
   pub bad : ℕ

@@ -52,7 +52,7 @@ relative_form base u =
     if not (same_site base u) || has_authority u.path then page_text u
     else local_path base.path u.path ++ led_by (63 ∷ []) u.query
 
--- a URL that is read, as an http one, with scheme and host, its path from the root and without dot segments
+-- a URL as it is read, of a page: with scheme and host (as an http URL has), its path from the root and without dot segments
 pub record IsPage (u : Url) : Type 0 where
   pub normal : IsNormal u
   pub scheme : IsSome u.scheme

@@ -1,4 +1,4 @@
--- A text that is cut at the first character that passes a test.
+-- A text that is cut at the first character that passes a test. This project's own.
 use Rattle.std.specs.Prelude.{ℕ, Bool, false, if◌then◌else◌, List, [], ◌∷◌, Option, Some, None}
 
 -- what stands before the first character that passes, or all where none does
