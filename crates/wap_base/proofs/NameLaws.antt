@@ -1,5 +1,5 @@
 -- A name is the same list of bytes and of characters, and a text with other bytes is none.
-use Rattle.std.proofs.Common.{◌≡◌, ℕ, ◌+◌, ◌/◌, ◌<◌, ◌≤◌, Bool, true, false, cond, ltb, List, [], ◌∷◌, ◌++◌, refl, sym, ap, ◌∙◌, inl, inr, arith}
+use Rattle.std.proofs.Common.{◌≡◌, ℕ, ◌+◌, ◌/◌, ◌≤◌, Bool, true, false, cond, ltb, List, [], ◌∷◌, refl, ap, inl, inr, arith}
 use Rattle.std.specs.Prelude.{encode_utf8_all, ◌&&◌}
 use Rattle.std.specs.Char.{encode_utf8}
 use Rattle.std.specs.List.{list_all}

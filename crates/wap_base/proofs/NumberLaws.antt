@@ -1,11 +1,9 @@
 -- Reading a multi-byte integer: what is read, what is refused, and that nothing else is.
-use Rattle.std.proofs.Common.{◌≡◌, ℕ, zero, suc, ◌+◌, ◌*◌, ◌-◌, ◌%◌, ◌/◌, ◌^◌, ◌<◌, ◌≤◌, Bool, true, false, cond, ltb, List, [], ◌∷◌, ◌++◌, length, drop, Result, Ok, Err, refl, sym, ap, subst, ◌∙◌, ◌⊎◌, inl, inr, arith}
+use Rattle.std.proofs.Common.{◌≡◌, ℕ, zero, suc, ◌+◌, ◌*◌, ◌%◌, ◌^◌, ◌<◌, ◌≤◌, Bool, true, false, cond, ltb, List, [], ◌∷◌, ◌++◌, length, drop, Ok, Err, refl, ap, ◌∙◌, ◌⊎◌, inl, inr, arith}
 use Rattle.std.specs.List.{AllByRecursion}
 use Rattle.std.proofs.lemmas.Bool.{cases_lt, ltb-true, ltb-false, lt-ltb, le-ltb}
-use Rattle.std.proofs.lemmas.List.{length-append}
-use Rattle.wap_base.specs.declared.number.ReadFault.{ReadFault}
 use Rattle.wap_base.specs.declared.number.ReadFault.TheVariants.{Short, TooLong}
-use Rattle.wap_base.specs.Numbers.{IsChain, groups_after, IsMb, ReadsMb, EndsInside, IsTooLong, mb_after, mb_at}
+use Rattle.wap_base.specs.Numbers.{IsChain, groups_after, ReadsMb, EndsInside, IsTooLong, mb_after, mb_at}
 use Rattle.wap_base.proofs.Choices.{chosen, ok_same}
 
 abbrev CarryOn : List ℕ → Type 0

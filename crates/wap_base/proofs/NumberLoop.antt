@@ -1,10 +1,10 @@
 -- Reading a multi-byte integer byte by byte, as a loop does.
-use Rattle.std.proofs.Common.{◌≡◌, ℕ, zero, suc, ◌+◌, ◌*◌, ◌-◌, ◌%◌, ◌^◌, ◌<◌, ◌≤◌, Bool, true, false, cond, ltb, List, [], ◌∷◌, ◌++◌, length, drop, get_or, Result, Ok, Err, refl, sym, ap, ◌∙◌, add-one, arith}
+use Rattle.std.proofs.Common.{◌≡◌, ℕ, suc, ◌+◌, ◌*◌, ◌-◌, ◌%◌, ◌^◌, ◌<◌, ◌≤◌, cond, ltb, List, length, drop, get_or, Result, Ok, Err, refl, sym, ap, ◌∙◌, add-one, arith}
 use Rattle.std.proofs.Math.Seq.{drop-cons, drop-length}
 use Rattle.std.proofs.lemmas.Bool.{lt-ltb, le-ltb}
 use Rattle.wap_base.specs.declared.number.ReadFault.{ReadFault}
 use Rattle.wap_base.specs.declared.number.ReadFault.TheVariants.{Short, TooLong}
-use Rattle.wap_base.specs.Numbers.{mb_after, mb_at}
+use Rattle.wap_base.specs.Numbers.{mb_after}
 
 abbrev Reading : Type 0
 Reading = Result (ℕ × ℕ) ReadFault

@@ -23,7 +23,7 @@ pub use number::{ReadFault, read_mb, read_u8, write_mb};
 pub use rows::Rows;
 pub use sink::{MemSink, Sink, write_all};
 pub use source::{MemSource, Source};
-pub use store::{Fetched, MemStore, Store, StoreErr};
+pub use store::{Fetched, MemStore, Store, StoreErr, are_pages};
 pub use text::Text;
 
 #[cfg(test)]

@@ -1,5 +1,5 @@
 //! Where pages come from.
-ghost use Rattle.std.specs.Prelude.{◌≡◌, ℕ, ◌≤◌, true, false, Option, Some, IfSome, IfOk, IsErrOf, ◌↔◌};
+ghost use Rattle.std.specs.Prelude.{◌≡◌, ℕ, ◌≤◌, true, false, Option, Some, IfSome, IfOk, IsErrOf, IsTrue, ◌↔◌};
 ghost use Rattle.std.specs.Option.{option_copied};
 ghost use Rattle.std.specs.List.Sorted.{IsPermutation};
 ghost use Rattle.wap_base.specs.Count.{raised, Rose};
@@ -120,6 +120,20 @@ impl MemStore {
             fetches: 0,
         }
     }
+}
+
+/// Whether a store in memory may hold these pages: no name stands twice, and each page has fewer
+/// than 2^31 bytes.
+pub fn are_pages(pages: &[(Text, Bytes)]) -> bool
+    ensures { IsTrue result ↔ ArePages pages.now }
+{
+    for (at, (name, bytes)) in pages.iter().enumerate() {
+        let (_, others) = pages.split_at(at + 1);
+        if bytes.len() >= 1 << 31 || find(others, name).is_some() {
+            return false;
+        }
+    }
+    true
 }
 
 /// The page of a name.

@@ -170,6 +170,7 @@ fn pages(rt: HostRuntime) -> Result<(), Fail> {
     let mut pages = Vec::new(alloc);
     pages.push((text(alloc, "h/b")?, Bytes::of(alloc, b"B")?))?;
     pages.push((text(alloc, "h/a")?, Bytes::new(alloc)))?;
+    assert!(rt; are_pages(&pages));
     let mut store = MemStore::new(pages, vec![in alloc; 3, 5]?);
     let found = Fetched::Found(Bytes::of(alloc, b"B")?);
     assert_eq!(rt; store.fetch(&text(alloc, "h/b")?), Ok(found));
@@ -179,6 +180,24 @@ fn pages(rt: HostRuntime) -> Result<(), Fail> {
     assert_eq!(rt; names.len(), 2);
     assert_eq!(rt; (names[0].as_str(), names[1].as_str()), ("h/a", "h/b"));
     assert!(rt; matches!(store.list(), Err(StoreErr::Failed)));
+    Ok(())
+}
+
+/// Lists in which a name stands twice.
+#[test]
+fn repeated(rt: HostRuntime) -> Result<(), Fail> {
+    let alloc = rt.alloc();
+    for (first, second, third, apart) in [
+        ("a", "b", "c", true),
+        ("a", "b", "a", false),
+        ("a", "b", "b", false),
+    ] {
+        let mut pages = Vec::new(alloc);
+        for name in [first, second, third] {
+            pages.push((text(alloc, name)?, Bytes::new(alloc)))?;
+        }
+        assert_eq!(rt; are_pages(&pages), apart, "{first} {second} {third}");
+    }
     Ok(())
 }
 

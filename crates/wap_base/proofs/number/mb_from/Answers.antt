@@ -1,8 +1,8 @@
-use Rattle.std.proofs.Common.{◌≡◌, ◌<◌, ◌+◌, ◌%◌, ℕ, Ok, Err, length, sym, ap, ◌∙◌, refl, inl, inr, get_or, arith}
+use Rattle.std.proofs.Common.{◌≡◌, ◌<◌, ◌+◌, ℕ, Err, length, sym, ap, ◌∙◌, refl, inl, inr, get_or, arith}
 use Rattle.std.proofs.lemmas.Bool.{cases_lt}
 use Rattle.std.proofs.lemmas.Result.{err_from_is_err_and}
 use Rattle.wap_base.specs.declared.number.ReadFault.TheVariants.{Short}
-use Rattle.wap_base.specs.Numbers.{mb_at, mb_after}
+use Rattle.wap_base.specs.Numbers.{mb_at}
 use Rattle.wap_base.proofs.Choices.{ok_same}
 use Rattle.wap_base.proofs.NumberLoop.{ends_short, goes_on}
 use Rattle.wap_base.proofs.number.mb_from.Goals as goal

@@ -1,4 +1,4 @@
-use Rattle.std.proofs.Common.{◌≡◌, sym, ap, subst, ◌∙◌}
+use Rattle.std.proofs.Common.{sym, ap, subst, ◌∙◌}
 use Rattle.wap_base.specs.Texts.{AreDistinct}
 use Rattle.wap_base.specs.Contents.{names_of}
 use Rattle.wap_base.proofs.StoreLaws.{ascending}

@@ -1,5 +1,3 @@
-use Rattle.std.proofs.Common.{◌∙◌}
-use Rattle.wap_base.specs.Texts.{text_cmp}
 use Rattle.wap_base.proofs.Utf8Order.{cmp-encode_utf8_all}
 use Rattle.wap_base.proofs.text.TextOrd.cmp.Goals as goal
 

@@ -1,0 +1,6 @@
+pub mod WorkedRows
+pub mod Shifts
+pub mod Range
+pub mod Names
+pub mod Reading
+pub mod Kept

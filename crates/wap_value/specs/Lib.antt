@@ -1,0 +1,9 @@
+pub mod Integer
+pub mod Numeral
+pub mod Conversion
+pub mod Arithmetic
+pub mod Order
+pub mod Unary
+pub mod Binary
+pub mod Limits
+pub mod TooLong

@@ -1,0 +1,25 @@
+//! The values of scripts and what the operators make of them (WAP-193).
+//!
+//! A value is an Integer of 32 bits, a Boolean, a String or invalid. An operator converts its
+//! operands first, and a conversion that isn't there gives invalid, never an error. The one error
+//! of an operation is a String that is too long to be kept.
+#![tactic(auto)]
+
+mod arithmetic;
+mod comparison;
+mod concatenation;
+mod conversion;
+mod fault;
+mod one_operand;
+mod operator;
+#[cfg(test)]
+mod tests;
+mod two_operands;
+mod value;
+
+pub use conversion::{to_bool, to_int, to_str};
+pub use fault::ValueFault;
+pub use one_operand::unary;
+pub use operator::{BinOp, UnOp};
+pub use two_operands::binary;
+pub use value::Value;

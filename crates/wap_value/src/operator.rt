@@ -1,0 +1,83 @@
+//! The operators.
+
+/// An operator of one operand.
+#[derive(Clone, Copy, Debug, PartialEq, Eq)]
+pub enum UnOp {
+    /// `+`
+    Plus,
+    /// `-`
+    Minus,
+    /// `~`
+    BitNot,
+    /// `!`
+    Not,
+    /// `typeof`
+    TypeOf,
+    /// `isvalid`
+    IsValid,
+    /// What a condition and the operands of `&&` and `||` become.
+    ToBool,
+    /// `++`
+    Incr,
+    /// `--`
+    Decr,
+}
+
+/// An operator of two operands.
+#[derive(Clone, Copy, Debug, PartialEq, Eq)]
+pub enum BinOp {
+    /// `*`
+    Mul,
+    /// `/`, whose result would be a Float.
+    Div,
+    /// `div`
+    IDiv,
+    /// `%`
+    Rem,
+    /// `+`
+    Add,
+    /// `-`
+    Sub,
+    /// `<<`
+    Shl,
+    /// `>>`
+    Shr,
+    /// `>>>`
+    UShr,
+    /// `<`
+    Lt,
+    /// `<=`
+    Le,
+    /// `>`
+    Gt,
+    /// `>=`
+    Ge,
+    /// `==`
+    Eq,
+    /// `!=`
+    Ne,
+    /// `&`
+    BitAnd,
+    /// `^`
+    BitXor,
+    /// `|`
+    BitOr,
+    /// `&&`, whose second operand may never be evaluated.
+    And,
+    /// `||`, whose second operand may never be evaluated.
+    Or,
+    /// `,`
+    Comma,
+}
+
+impl BinOp {
+    ghost use Rattle.std.specs.Prelude.{IsTrue, ◌↔◌};
+    ghost use Rattle.wap_value.specs.Binary.{TakesBoth};
+
+    /// Whether the operator takes the values of both operands, so that `binary` may be asked.
+    pub fn takes_both(self) -> bool
+        ensures { IsTrue result ↔ TakesBoth self }
+    {
+        !matches!(self, BinOp::And | BinOp::Or | BinOp::Comma)
+    }
+}

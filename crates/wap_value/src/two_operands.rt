@@ -1,0 +1,62 @@
+//! The operators of two operands.
+ghost use Rattle.std.specs.Prelude.{◌≡◌, ℕ, Err};
+ghost use Rattle.wap_value.specs.Binary.{TakesBoth, binary_of, sum_of, on_integers};
+ghost use Rattle.wap_value.specs.Conversion.{integer_of};
+ghost use Rattle.wap_value.specs.Limits.{string_limit};
+ghost use Rattle.wap_base.specs.Outcome.{Meets};
+ghost use Rattle.wap_value.specs.TooLong.{kept_within, IsTooLong};
+
+use crate::arithmetic::integer_result;
+use crate::comparison::{order, passes};
+use crate::concatenation::concatenation;
+use crate::one_operand::{of_boolean, of_integer};
+use crate::{BinOp, Value, ValueFault, to_int};
+use std::alloc::Global;
+
+/// What an operator makes of two values. `&&`, `||` and `,` are no such operators: the machine
+/// takes their operands one at a time.
+#[tactic(auto, using(crate::proofs::Kept::on_integers_is_kept))]
+pub fn binary(alloc: Global, op: BinOp, left: &Value, right: &Value) -> Result<Value, ValueFault>
+    requires { TakesBoth op }
+    ensures value { Meets ValueFault.NoMemory (λ value. value) result (kept_within string_limit (binary_of op left.now right.now)) }
+    ensures too_long { (bytes : ℕ) → result ≡ Err (ValueFault.TooLong bytes) → IsTooLong string_limit (binary_of op left.now right.now) bytes }
+{
+    match op {
+        BinOp::Add => sum(alloc, left, right),
+        BinOp::Lt | BinOp::Le | BinOp::Gt | BinOp::Ge | BinOp::Eq | BinOp::Ne => {
+            let order = order(alloc, left, right)?;
+            Ok(of_boolean(order.map(|order| passes(op, order))))
+        }
+        BinOp::Mul
+        | BinOp::Div
+        | BinOp::IDiv
+        | BinOp::Rem
+        | BinOp::Sub
+        | BinOp::Shl
+        | BinOp::Shr
+        | BinOp::UShr
+        | BinOp::BitAnd
+        | BinOp::BitXor
+        | BinOp::BitOr => Ok(of_integers(op, left, right)),
+        BinOp::And | BinOp::Or | BinOp::Comma => unreachable!(),
+    }
+}
+
+fn sum(alloc: Global, left: &Value, right: &Value) -> Result<Value, ValueFault>
+    ensures { Meets ValueFault.NoMemory (λ value. value) result (kept_within string_limit (sum_of left.now right.now)) }
+{
+    match (left, right) {
+        (Value::Str(_), _) | (_, Value::Str(_)) => concatenation(alloc, left, right),
+        _ => Ok(of_integers(BinOp::Add, left, right)),
+    }
+}
+
+/// What an operator makes of the operands as Integers.
+fn of_integers(op: BinOp, left: &Value, right: &Value) -> Value
+    ensures { result ≡ on_integers op (integer_of left.now) (integer_of right.now) }
+{
+    match (to_int(left), to_int(right)) {
+        (Some(left), Some(right)) => of_integer(integer_result(op, left, right)),
+        _ => Value::Invalid,
+    }
+}
