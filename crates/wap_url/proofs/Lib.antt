@@ -1,0 +1,17 @@
+pub mod SplitLaws
+pub mod Utf8Laws
+pub mod CharacterLaws
+pub mod AccessLaws
+pub mod FrontLaws
+pub mod PrintLaws
+pub mod JoinLaws
+pub mod RelationLaws
+pub mod UntilLaws
+pub mod FoundLaws
+pub mod AgainLaws
+pub mod NormalLaws
+pub mod ReadLaws
+pub mod BackLaws
+pub mod PortLaws
+pub mod EscapeLaws
+pub mod WorkedRows

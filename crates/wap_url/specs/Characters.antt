@@ -1,0 +1,54 @@
+-- The characters of URLs (RFC 2396, section 2 and appendix A).
+use Rattle.std.specs.Prelude.{ℕ, Bool, ◌==◌, ◌||◌, ◌&&◌, not, List, length, codes}
+use Rattle.wap_url.specs.Splitting.{begins_with}
+use Rattle.std.specs.List.{list_all, list_any}
+use Rattle.std.specs.Char.{is_ascii_graphic, is_ascii_alphabetic, is_ascii_alphanumeric}
+
+abbrev pub is_hash : ℕ → Bool
+is_hash c = c == 35
+
+abbrev pub is_dot : ℕ → Bool
+is_dot c = c == 46
+
+abbrev pub is_slash : ℕ → Bool
+is_slash c = c == 47
+
+abbrev pub is_colon : ℕ → Bool
+is_colon c = c == 58
+
+abbrev pub is_question : ℕ → Bool
+is_question c = c == 63
+
+-- ends a scheme, or what could be one
+abbrev pub ends_scheme : ℕ → Bool
+ends_scheme c = is_colon c || (is_slash c || is_question c)
+
+-- ends an authority
+abbrev pub ends_authority : ℕ → Bool
+ends_authority c = is_slash c || is_question c
+
+-- one of the characters
+abbrev pub is_one_of : List ℕ → ℕ → Bool
+is_one_of cs c = list_any (λ d. c == d) cs
+
+-- may stand before a fragment: the characters 21 to 7E but for `"`, `<` and `>` (sections 2.4.3 and 4.1), and for the `#` that ends what stands there
+abbrev pub is_allowed : ℕ → Bool
+is_allowed c = is_ascii_graphic c && not (is_one_of (codes "\"<>#") c)
+
+-- a letter, and then letters, digits, `+`, `-` and `.` (section 3.1)
+abbrev pub is_scheme_character : ℕ → Bool
+is_scheme_character c = is_ascii_alphanumeric c || is_one_of (codes "+-.") c
+
+abbrev pub is_scheme : List ℕ → Bool
+is_scheme scheme = begins_with is_ascii_alphabetic scheme && list_all is_scheme_character scheme
+
+-- letters, digits, `-` and `.` (the characters of section 3.2.2)
+abbrev pub is_host_character : ℕ → Bool
+is_host_character c = is_ascii_alphanumeric c || is_one_of (codes "-.") c
+
+abbrev pub is_host : List ℕ → Bool
+is_host host = not (length host == 0) && list_all is_host_character host
+
+-- letters, digits and marks (section 2.3)
+abbrev pub is_unreserved : ℕ → Bool
+is_unreserved c = is_ascii_alphanumeric c || is_one_of (codes "-_.!~*'()") c

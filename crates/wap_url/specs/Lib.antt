@@ -1,0 +1,12 @@
+pub mod Splitting
+pub mod Characters
+pub mod Parts
+pub mod Reading
+pub mod Cut
+pub mod Refusal
+pub mod Printing
+pub mod Segments
+pub mod Joining
+pub mod Relative
+pub mod Escapes
+pub mod Access

@@ -1,0 +1,102 @@
+//! Joining a reference to a base (RFC 2396, section 5.2).
+ghost use Rattle.std.specs.Prelude.{◌≡◌, ◌++◌, IfOk, OnOk};
+ghost use Rattle.wap_url.specs.Joining.{target, merged_path, lead_segments, rooted, joined};
+ghost use Rattle.wap_url.specs.Segments.{segments, all_but_last, folder_of};
+ghost use Rattle.wap_url.specs.Splitting.{begins_with};
+ghost use Rattle.wap_url.specs.Characters.{is_slash};
+
+use crate::Url;
+use crate::cut::begins_with_byte;
+use crate::dots::resolved_path;
+use crate::url::copy_of;
+use std::alloc::Global;
+use wap_base::{NoMemory, Text};
+
+/// The URL that a reference stands for on the page of the base. A reference that is an empty path without
+/// a query stands for the base itself, with the reference's fragment.
+pub fn join(alloc: Global, base: &Url, reference: &Url) -> Result<Url, NoMemory>
+    ensures exact { IfOk result (λ url. url ≡ joined base.now reference.now) }
+{
+    let mut url = target(alloc, base, reference)?;
+    let path = resolved_path(alloc, &url.path)?;
+    url.path = rooted(alloc, path, url.host.is_some())?;
+    Ok(url)
+}
+
+/// The reference with what it takes from the base.
+fn target(alloc: Global, base: &Url, reference: &Url) -> Result<Url, NoMemory>
+    ensures { IfOk result (λ url. url ≡ target base.now reference.now) }
+{
+    if reference.scheme.is_some() {
+        return reference.copy(alloc);
+    }
+    if reference.host.is_some() {
+        let mut url = reference.copy(alloc)?;
+        url.scheme = copy_of(alloc, &base.scheme)?;
+        return Ok(url);
+    }
+    if reference.path.is_empty() && reference.query.is_none() {
+        let mut url = base.copy(alloc)?;
+        url.fragment = copy_of(alloc, &reference.fragment)?;
+        return Ok(url);
+    }
+    Ok(Url {
+        scheme: copy_of(alloc, &base.scheme)?,
+        host: copy_of(alloc, &base.host)?,
+        port: base.port,
+        path: merged_path(alloc, base, reference)?,
+        query: copy_of(alloc, &reference.query)?,
+        fragment: copy_of(alloc, &reference.fragment)?,
+    })
+}
+
+/// The reference's path, behind the base's up to its last slash where it doesn't begin with one.
+fn merged_path(alloc: Global, base: &Url, reference: &Url) -> Result<Text, NoMemory>
+    ensures { IfOk result (λ path. path ≡ merged_path base.now reference.now) }
+{
+    if begins_at_root(&reference.path) {
+        return reference.path.copy(alloc);
+    }
+    let mut path = Text::new(alloc);
+    add_lead(&mut path, base)?;
+    path.add(reference.path.as_str())?;
+    Ok(path)
+}
+
+/// Adds the base's path up to its last slash.
+fn add_lead(path: &mut Text, base: &Url) -> Result<(), NoMemory>
+    ensures { OnOk result (path.new ≡ path.old ++ folder_of (lead_segments base.now)) }
+{
+    if base.host.is_some() && base.path.is_empty() {
+        return path.push('/');
+    }
+    add_folder(path, &base.path)
+}
+
+fn add_folder(out: &mut Text, path: &Text) -> Result<(), NoMemory>
+    ensures { OnOk result (out.new ≡ out.old ++ folder_of (all_but_last (segments path.now))) }
+{
+    if let Some((folder, _)) = path.as_str().rsplit_once('/') {
+        out.add(folder)?;
+        out.push('/')?;
+    }
+    Ok(())
+}
+
+fn begins_at_root(path: &Text) -> bool
+    ensures { result ≡ begins_with is_slash path.now }
+{
+    begins_with_byte(path.as_str().as_bytes(), b'/')
+}
+
+/// Under a host an empty path is the root.
+fn rooted(alloc: Global, path: Text, under_host: bool) -> Result<Text, NoMemory>
+    ensures { IfOk result (λ root. root ≡ rooted under_host path) }
+{
+    if under_host && path.is_empty() {
+        let mut root = Text::new(alloc);
+        root.push('/')?;
+        return Ok(root);
+    }
+    Ok(path)
+}

@@ -1,0 +1,132 @@
+//! A URL as text, and the name of its page in the store.
+ghost use Rattle.std.specs.Prelude.{◌≡◌, ◌++◌, ◌∷◌, [], IfOk, OnOk, IsSome};
+ghost use Rattle.std.specs.Fmt.{decimal};
+ghost use Rattle.wap_url.specs.Parts.{followed_by, led_by, authority, IsUrl};
+ghost use Rattle.wap_url.specs.Printing.{printed, page_text, parts_for, named_port, named_page, ends_in_slash, name_for, IsNormal};
+ghost use Rattle.std.specs.Option.{option_map, unwrap_or};
+
+use crate::Url;
+use std::alloc::Global;
+use wap_base::{NoMemory, Text};
+
+/// The URL as text (RFC 2396, section 5.2, step 7).
+pub fn print(alloc: Global, url: &Url) -> Result<Text, NoMemory>
+    ensures exact { IfOk result (λ text. text ≡ printed url.now) }
+
+    // What `Url::read` gives is read again from its text.
+    ensures again { IsNormal url.now → IfOk result (λ text. IsUrl text url.now) }
+{
+    let mut text = page(alloc, url)?;
+    add_led(&mut text, '#', &url.fragment)?;
+    Ok(text)
+}
+
+/// The URL as text, without its fragment.
+pub fn page(alloc: Global, url: &Url) -> Result<Text, NoMemory>
+    ensures { IfOk result (λ text. text ≡ page_text url.now) }
+{
+    let mut text = Text::new(alloc);
+    add_scheme(&mut text, &url.scheme)?;
+    add_authority(alloc, &mut text, &url.host, url.port)?;
+    text.add(url.path.as_str())?;
+    add_led(&mut text, '?', &url.query)?;
+    Ok(text)
+}
+
+fn add_scheme(text: &mut Text, scheme: &Option<Text>) -> Result<(), NoMemory>
+    ensures { OnOk result (text.new ≡ text.old ++ followed_by 58 scheme.now) }
+{
+    if let Some(scheme) = scheme {
+        text.add(scheme.as_str())?;
+        text.push(':')?;
+    }
+    Ok(())
+}
+
+fn add_authority(
+    alloc: Global,
+    text: &mut Text,
+    host: &Option<Text>,
+    port: Option<u16>,
+) -> Result<(), NoMemory>
+    ensures { OnOk result (text.new ≡ text.old ++ authority host.now (option_map decimal port)) }
+{
+    if let Some(host) = host {
+        text.push('/')?;
+        text.push('/')?;
+        text.add(host.as_str())?;
+        add_port(alloc, text, port)?;
+    }
+    Ok(())
+}
+
+fn add_port(alloc: Global, text: &mut Text, port: Option<u16>) -> Result<(), NoMemory>
+    ensures { OnOk result (text.new ≡ text.old ++ led_by (58 ∷ []) (option_map decimal port)) }
+{
+    if let Some(port) = port {
+        text.push(':')?;
+        add_number(alloc, text, port)?;
+    }
+    Ok(())
+}
+
+fn add_number(alloc: Global, text: &mut Text, number: u16) -> Result<(), NoMemory>
+    ensures { OnOk result (text.new ≡ text.old ++ decimal number) }
+{
+    let digits = format!(in alloc; "{number}")?;
+    text.add(digits.as_str())
+}
+
+/// Adds a part behind the character that leads it.
+pub fn add_led(text: &mut Text, lead: char, part: &Option<Text>) -> Result<(), NoMemory>
+    ensures { OnOk result (text.new ≡ text.old ++ led_by (lead ∷ []) part.now) }
+{
+    if let Some(part) = part {
+        text.push(lead)?;
+        text.add(part.as_str())?;
+    }
+    Ok(())
+}
+
+/// The name under which the store has the URL's page: host, a port other than 80, and path, where
+/// `index.wmlc` stands for a folder's page. Scheme and query are no part of it.
+pub fn name_of(alloc: Global, url: &Url) -> Result<Text, NoMemory>
+    requires { IsSome url.now.host }
+    ensures exact { IfOk result (λ name. name ≡ name_for url.now) }
+{
+    let mut name = Text::new(alloc);
+    if let Some(host) = &url.host {
+        name.add(host.as_str())?;
+    }
+    add_named_port(alloc, &mut name, url.port)?;
+    add_named_page(&mut name, &url.path)?;
+    Ok(name)
+}
+
+fn add_named_port(alloc: Global, name: &mut Text, port: Option<u16>) -> Result<(), NoMemory>
+    ensures { OnOk result (name.new ≡ name.old ++ named_port port) }
+{
+    match port {
+        None | Some(80) => Ok(()),
+        Some(_) => add_port(alloc, name, port),
+    }
+}
+
+fn add_named_page(name: &mut Text, path: &Text) -> Result<(), NoMemory>
+    ensures { OnOk result (name.new ≡ name.old ++ named_page path.now) }
+{
+    name.add(path.as_str())?;
+    if is_folder(path.as_str().as_bytes()) {
+        name.add("index.wmlc")?;
+    }
+    Ok(())
+}
+
+fn is_folder(path: &[u8]) -> bool
+    ensures { result ≡ ends_in_slash path.now }
+{
+    match path {
+        [] => false,
+        [.., last] => *last == b'/',
+    }
+}

@@ -1,0 +1,103 @@
+//! Reading a text as a URL.
+ghost use Rattle.std.specs.Prelude.{◌≡◌, ◌≢◌, not, false, true, None, IfOk, IfErr, Ok, Err};
+ghost use Rattle.std.specs.Option.{option_and_then};
+ghost use Rattle.wap_base.specs.Outcome.{Meets};
+ghost use Rattle.wap_url.specs.Splitting.{begins_with};
+ghost use Rattle.wap_url.specs.Characters.{is_hash};
+ghost use Rattle.wap_url.specs.Parts.{url_of, port_number, is_port};
+ghost use Rattle.wap_url.specs.Reading.{url_at, has_bad_char, fragment_of, fault_of, fits, parts_with, port_of};
+
+use crate::checks::{fault_in, number};
+use crate::cut::{Cut, cut_at};
+use crate::texts::{lowered_part, text_of, text_of_part};
+use crate::{Url, UrlFault, parts};
+use std::alloc::Global;
+use wap_base::{NoMemory, Text};
+
+impl Url {
+    ghost use Rattle.wap_url.specs.declared.url.Url.{Url};
+    ghost use Rattle.wap_url.specs.declared.fault.UrlFault.{UrlFault};
+    ghost use Rattle.wap_url.specs.Parts.{IsUrl};
+    ghost use Rattle.wap_url.specs.Refusal.{IsRefused};
+    ghost use Rattle.wap_url.specs.Printing.{IsNormal};
+
+    /// Reads a text as a URL or a reference (RFC 2396, appendix B). Scheme and host are put in lower case.
+    pub fn read(alloc: Global, text: &Text) -> Result<Url, UrlFault>
+        ensures exact { Meets UrlFault.NoMemory (λ url. url) result (url_at text.now) }
+
+        // The URL is the text's, and a text that has one is read.
+        ensures found { IfOk result (IsUrl text.now) }
+        ensures only { (url : Url) → IsUrl text.now url → Meets UrlFault.NoMemory (λ url. url) result (Ok url) }
+
+        // The fault is the text's first, and a text that has one is refused by it.
+        ensures refused { IfErr result (λ fault. fault ≢ UrlFault.NoMemory → IsRefused text.now fault) }
+        ensures first { (fault : UrlFault) → IsRefused text.now fault → Meets UrlFault.NoMemory (λ url. url) result (Err fault) }
+
+        // So its text is read as the same URL again.
+        ensures normal { IfOk result IsNormal }
+    {
+        let (front, onward) = cut_at(text.as_str().as_bytes(), Cut::Fragment);
+        if is_bad(onward) {
+            return Err(UrlFault::BadChar { at: front.len() });
+        }
+        if let Some(fault) = fault_in(front) {
+            return Err(fault);
+        }
+        let fragment = fragment(alloc, text)?;
+        Ok(url_of(alloc, front, fragment)?)
+    }
+}
+
+/// Whether what follows a front begins with a character that is no `#`.
+fn is_bad(onward: &[u8]) -> bool
+    ensures { result ≡ begins_with (λ c. not (is_hash c)) onward.now }
+{
+    match onward {
+        [] => false,
+        [first, ..] => *first != b'#',
+    }
+}
+
+fn fragment(alloc: Global, text: &Text) -> Result<Option<Text>, NoMemory>
+    requires { has_bad_char text.now ≡ false }
+    ensures { IfOk result (λ fragment. fragment ≡ fragment_of text.now) }
+{
+    let whole = text.as_str();
+    let (front, onward) = cut_at(whole.as_bytes(), Cut::Fragment);
+    if onward.is_empty() {
+        return Ok(None);
+    }
+    Ok(Some(Text::of(alloc, &whole[front.len() + 1..])?))
+}
+
+/// The URL of what stands before a fragment.
+fn url_of(alloc: Global, front: &[u8], fragment: Option<Text>) -> Result<Url, NoMemory>
+    requires { fault_of (parts_with front.now None) ≡ None }
+    ensures { IfOk result (λ url. url ≡ url_of (parts_with front.now fragment)) }
+{
+    Ok(Url {
+        scheme: lowered_part(alloc, parts::scheme(front))?,
+        host: lowered_part(alloc, parts::host(front))?,
+        port: port(front),
+        path: text_of(alloc, parts::path(front))?,
+        query: text_of_part(alloc, parts::query(front))?,
+        fragment,
+    })
+}
+
+fn port(front: &[u8]) -> Option<u16>
+    requires { fault_of (parts_with front.now None) ≡ None }
+    ensures { result ≡ option_and_then port_number (port_of front.now) }
+{
+    port_of(parts::port(front)?)
+}
+
+fn port_of(digits: &[u8]) -> Option<u16>
+    requires { is_port digits.now ≡ true }
+    ensures { result ≡ port_number digits.now }
+{
+    if digits.is_empty() {
+        return None;
+    }
+    Some(number(digits) as u16)
+}
