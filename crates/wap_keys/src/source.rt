@@ -1,0 +1,76 @@
+//! Reading keys to their end.
+ghost use Rattle.std.specs.Prelude.{◌≡◌, ◌≢◌, ◌≤◌, IfOk, IfSome};
+ghost use Rattle.wap_base.specs.Count.{Rose};
+ghost use Rattle.wap_keys.specs.declared.source.Ending.TheVariants.{ReadFault};
+ghost use Rattle.wap_keys.specs.Lines.{keys_of};
+ghost use Rattle.wap_keys.specs.Read.{IsReadBefore};
+
+use crate::lines::Lines;
+use crate::{Key, KeyFault};
+use std::alloc::Global;
+use wap_base::{NoMemory, Source};
+
+/// How keys came to an end.
+#[derive(Clone, Copy, Debug, PartialEq, Eq)]
+pub enum Ending {
+    /// All lines are key lines.
+    End,
+    /// A line is no key line; lines are counted from 1.
+    BadKey { line: usize, fault: KeyFault },
+    /// There is a byte past the limit.
+    TooManyKeys,
+    /// The source failed.
+    ReadFault,
+}
+
+/// The most bytes of all key lines.
+const LIMIT: usize = 1 << 20;
+
+/// The most bytes that one read takes.
+const PIECE: usize = 4096;
+
+/// Takes as much of a piece as the limit lets.
+fn take_within(
+    alloc: Global,
+    lines: &mut Lines,
+    piece: &[u8],
+    taken: usize,
+) -> Result<Option<Ending>, NoMemory> {
+    if piece.len() <= LIMIT - taken {
+        return lines.take(alloc, piece);
+    }
+    match lines.take(alloc, piece.split_at(LIMIT - taken).0)? {
+        Some(stop) => Ok(Some(stop)),
+        None => Ok(Some(Ending::TooManyKeys)),
+    }
+}
+
+/// Reads keys to their end: that of the source, a line that is no key line, a byte too many, or a
+/// fault of the source.
+pub fn read_keys<I: Source>(
+    alloc: Global,
+    source: &mut I,
+) -> Result<(Vec<Key>, Ending), NoMemory>
+    ensures told { IfOk result (λ read. read.1 ≢ ReadFault → IfSome (I.left source.old) (λ bytes. keys_of bytes ≡ record { keys = read.0.items; ending = read.1 })) }
+    ensures before { IfOk result (λ read. read.1 ≡ ReadFault → IfSome (I.left source.old) (IsReadBefore read.0.items)) }
+    ensures failed { IfOk result (λ read. read.1 ≡ ReadFault → Rose (I.faults source.old) (I.faults source.new)) }
+    ensures faults { I.faults source.old ≤ I.faults source.new }
+{
+    let mut lines = Lines::new(alloc);
+    let mut buffer = [0; PIECE];
+    let mut taken = 0;
+    while taken <= LIMIT {
+        let Ok(count) = source.read(&mut buffer) else {
+            return Ok((lines.keys, Ending::ReadFault));
+        };
+        if count == 0 {
+            let ending = lines.finish(alloc)?;
+            return Ok((lines.keys, ending));
+        }
+        if let Some(stop) = take_within(alloc, &mut lines, buffer.split_at(count).0, taken)? {
+            return Ok((lines.keys, stop));
+        }
+        taken += count;
+    }
+    Ok((lines.keys, Ending::TooManyKeys))
+}
