@@ -1,2 +1,4 @@
 pub mod Splitting
 pub mod Taking
+pub mod Within
+pub mod Sources

@@ -1,16 +1,12 @@
 -- Lines at their ends, and keys of lines.
-use Rattle.std.proofs.Common.{◌≡◌, ℕ, ◌+◌, ◌<◌, ◌≤◌, zero, suc, Bool, true, false, cond, eqb, List, [], ◌∷◌, ◌++◌, length, Option, Some, None, Result, Ok, Err, refl, sym, ap, ◌∙◌, append_assoc, arith}
+use Rattle.std.proofs.Common.{◌≡◌, ℕ, ◌+◌, ◌<◌, ◌≤◌, suc, Bool, true, false, cond, List, [], ◌∷◌, ◌++◌, length, None, Ok, Err, refl, ap, ◌∙◌, arith}
 use Rattle.std.specs.Prelude.{◌==◌, not, ◌&&◌, ◌||◌}
 use Rattle.std.specs.List.{list_all}
 use Rattle.std.proofs.lemmas.Bool.{lt-ltb, le-ltb}
-use Rattle.std.proofs.lemmas.List.{append-nil}
-use Rattle.wap_keys.specs.declared.key.Key.{Key}
-use Rattle.wap_keys.specs.declared.key.KeyFault.{KeyFault}
 use Rattle.wap_keys.specs.declared.key.KeyFault.TheVariants.{UnknownWord}
 use Rattle.wap_keys.specs.declared.source.Ending.{Ending}
 use Rattle.wap_keys.specs.declared.source.Ending.TheVariants.{End, BadKey}
 use Rattle.wap_keys.specs.Lines.{Line, Keys, led, lines_of, content, content_key, line_key, line_limit, is_end, key_before, keys_from}
-use Rattle.wap_keys.specs.Begun.{after_keys}
 
 abbrev pub is_unended : List ℕ → Bool
 is_unended bytes = list_all (λ c. not (c == 10)) bytes
@@ -66,7 +62,7 @@ first_line c [] rest all = begins_by 1 (led c (lines_of rest)) (lines_of (c ∷ 
 first_line c (d ∷ ds) rest all =
     let p = parts c (d ∷ ds) all in
     begins_by (suc (length (d ∷ ds))) (led c (lines_of ((d ∷ ds) ++ rest))) (lines_of (c ∷ ((d ∷ ds) ++ rest))) (led_line c ((d ∷ ds) ++ rest) p.0)
-      (led_more c (length (d ∷ ds)) (lines_of ((d ∷ ds) ++ rest)) (first_line d ds rest p.1))
+    (led_more c (length (d ∷ ds)) (lines_of ((d ∷ ds) ++ rest)) (first_line d ds rest p.1))
 
 abbrev refused : ℕ → Keys
 refused number = record { keys = []; ending = BadKey number UnknownWord }
@@ -75,7 +71,7 @@ long_line : (ending : Ending) (number count : ℕ) (lines : List Line) → line_
 long_line ending number count lines many (line, more, is, long) =
     ap (keys_from ending number) is
     ∙ ap (λ (b : Bool). key_before number (cond b (Err UnknownWord) (cond (line.ended || is_end ending) (content_key (content line)) (Ok None))) (keys_from ending (number + 1) more))
-        (lt-ltb line_limit (length line.bytes) (omega (arith, many, long)))
+    (lt-ltb line_limit (length line.bytes) (omega (arith, many, long)))
 
 pub too_long : (ending : Ending) (number : ℕ) (begun rest : List ℕ) → is_unended begun ≡ true → line_limit < length begun → keys_from ending number (lines_of (begun ++ rest)) ≡ refused number
 too_long ending number [] rest all many = absurd (omega (arith, many))

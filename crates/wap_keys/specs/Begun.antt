@@ -1,8 +1,7 @@
 -- Lines that are read as their bytes come: the keys so far, and the line that is begun. This project's own.
-use Rattle.std.specs.Prelude.{◌≡◌, ℕ, ◌+◌, ◌≤◌, Bool, true, ◌==◌, not, List, [], ◌++◌, length, Option, Some, None, Result}
+use Rattle.std.specs.Prelude.{◌≡◌, ℕ, ◌+◌, ◌≤◌, Bool, true, ◌==◌, not, List, [], ◌++◌, length, Option, Some, None}
 use Rattle.std.specs.List.{list_all}
 use Rattle.wap_keys.specs.declared.key.Key.{Key}
-use Rattle.wap_keys.specs.declared.key.KeyFault.{KeyFault}
 use Rattle.wap_keys.specs.declared.source.Ending.{Ending}
 use Rattle.wap_keys.specs.declared.lines.Lines.{Lines}
 use Rattle.wap_keys.specs.Lines.{Keys, lines_of, key_before, keys_from, content_key, content, line_limit}

@@ -1,5 +1,5 @@
 -- Keys, and the line that says one. This project's own.
-use Rattle.std.specs.Prelude.{ℕ, Bool, ◌&&◌, ◌==◌, not, nat_le, if◌then◌else◌, List, [], ◌∷◌, length, Result, Ok, Err}
+use Rattle.std.specs.Prelude.{ℕ, Bool, ◌&&◌, ◌==◌, not, nat_le, if◌then◌else◌, List, ◌∷◌, length, Result, Ok, Err}
 use Rattle.std.specs.List.{list_all}
 use Rattle.wap_keys.specs.declared.key.Key.{Key}
 use Rattle.wap_keys.specs.declared.key.Key.TheVariants.{Do}

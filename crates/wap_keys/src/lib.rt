@@ -4,7 +4,6 @@
 mod key;
 mod line;
 mod lines;
-
 mod source;
 
 pub use key::{Key, KeyFault, read_key};

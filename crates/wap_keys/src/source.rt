@@ -1,9 +1,10 @@
 //! Reading keys to their end.
-ghost use Rattle.std.specs.Prelude.{◌≡◌, ◌≢◌, ◌≤◌, IfOk, IfSome};
+ghost use Rattle.std.specs.Prelude.{◌≡◌, ◌≢◌, ◌+◌, ◌≤◌, length, IfOk, IfSome};
 ghost use Rattle.wap_base.specs.Count.{Rose};
 ghost use Rattle.wap_keys.specs.declared.source.Ending.TheVariants.{ReadFault};
-ghost use Rattle.wap_keys.specs.Lines.{keys_of};
-ghost use Rattle.wap_keys.specs.Read.{IsReadBefore};
+ghost use Rattle.wap_keys.specs.Lines.{keys_of, limit};
+ghost use Rattle.wap_keys.specs.Begun.{IsBegun};
+ghost use Rattle.wap_keys.specs.Read.{IsReadBefore, TakesWithin};
 
 use crate::lines::Lines;
 use crate::{Key, KeyFault};
@@ -35,7 +36,13 @@ fn take_within(
     lines: &mut Lines,
     piece: &[u8],
     taken: usize,
-) -> Result<Option<Ending>, NoMemory> {
+) -> Result<Option<Ending>, NoMemory>
+    requires begun { IsBegun lines.old }
+    requires counted { lines.old.number ≤ taken + 1 }
+    requires within { taken ≤ limit }
+    requires small { length piece.now ≤ 4096 }
+    ensures { IfOk result (TakesWithin lines.old lines.new taken piece.now) }
+{
     if piece.len() <= LIMIT - taken {
         return lines.take(alloc, piece);
     }
@@ -47,10 +54,7 @@ fn take_within(
 
 /// Reads keys to their end: that of the source, a line that is no key line, a byte too many, or a
 /// fault of the source.
-pub fn read_keys<I: Source>(
-    alloc: Global,
-    source: &mut I,
-) -> Result<(Vec<Key>, Ending), NoMemory>
+pub fn read_keys<I: Source>(alloc: Global, source: &mut I) -> Result<(Vec<Key>, Ending), NoMemory>
     ensures told { IfOk result (λ read. read.1 ≢ ReadFault → IfSome (I.left source.old) (λ bytes. keys_of bytes ≡ record { keys = read.0.items; ending = read.1 })) }
     ensures before { IfOk result (λ read. read.1 ≡ ReadFault → IfSome (I.left source.old) (IsReadBefore read.0.items)) }
     ensures failed { IfOk result (λ read. read.1 ≡ ReadFault → Rose (I.faults source.old) (I.faults source.new)) }
@@ -59,7 +63,7 @@ pub fn read_keys<I: Source>(
     let mut lines = Lines::new(alloc);
     let mut buffer = [0; PIECE];
     let mut taken = 0;
-    while taken <= LIMIT {
+    loop {
         let Ok(count) = source.read(&mut buffer) else {
             return Ok((lines.keys, Ending::ReadFault));
         };
@@ -72,5 +76,4 @@ pub fn read_keys<I: Source>(
         }
         taken += count;
     }
-    Ok((lines.keys, Ending::TooManyKeys))
 }

@@ -1,4 +1,4 @@
-use Rattle.std.proofs.Common.{ℕ, List, [], ◌∷◌, ◌++◌, ◌+◌, drop, get_or, Option, Some, ap, subst, ◌∙◌}
+use Rattle.std.proofs.Common.{ℕ, List, [], ◌∷◌, ◌++◌, ◌+◌, drop, get_or, Option, ap, subst, ◌∙◌}
 use Rattle.wap_keys.specs.declared.source.Ending.{Ending}
 use Rattle.wap_keys.specs.Begun.{keys_with, Takes}
 use Rattle.wap_keys.proofs.Taking.{piece_at}
