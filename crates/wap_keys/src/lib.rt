@@ -8,3 +8,6 @@ mod source;
 
 pub use key::{Key, KeyFault, read_key};
 pub use source::{Ending, read_keys};
+
+#[cfg(test)]
+mod tests;
