@@ -1,18 +1,17 @@
 -- What a set gives, and that the variables stay what they are to be.
-use Rattle.std.proofs.Common.{◌≡◌, ℕ, ◌+◌, ◌≤◌, ◌<◌, Bool, true, false, cond, List, length, Option, Some, None, Result, Ok, Err, inl, inr, refl, ap, sym, ◌∙◌, arith}
+use Rattle.std.proofs.Common.{◌≡◌, ℕ, ◌+◌, ◌≤◌, Bool, true, false, cond, List, length, Option, Some, None, Result, Ok, Err, inl, inr, refl, ap, sym, ◌∙◌, arith}
 use Rattle.std.specs.Option.{is_some}
-use Rattle.std.specs.List.{All}
 use Rattle.std.specs.List.Sorted.{IsStrictlySortedBy}
-use Rattle.std.specs.Map.{keys_of, values_of, remove_entry}
+use Rattle.std.specs.Map.{keys_of, remove_entry}
 use Rattle.std.proofs.lemmas.Bool.{cases_lt, le-ltb, le-leb, lt-leb}
 use Rattle.std.proofs.lemmas.Bool.Decides.{nat_tests}
 use Rattle.std.proofs.lemmas.Map.Views.{All-values-insert_entry, All-keys-insert_entry, All-map-remove_entry}
 use Rattle.wap_base.specs.Names.{is_name}
-use Rattle.wap_base.specs.Texts.{is_same_text, text_cmp}
+use Rattle.wap_base.specs.Texts.{text_cmp}
 use Rattle.wap_base.specs.Utf8.{utf8_len}
 use Rattle.wap_vars.specs.declared.fault.VarFault.{VarFault}
 use Rattle.wap_vars.specs.declared.fault.VarFault.TheVariants.{Full}
-use Rattle.wap_vars.specs.Vars.{text_of, updated, removed, AreVars}
+use Rattle.wap_vars.specs.Vars.{text_of, updated, AreVars}
 use Rattle.wap_vars.specs.Setting.{set_in}
 
 pub set_ok : (vars : List (List ℕ × List ℕ)) (name text : List ℕ) → is_name name ≡ true → utf8_len text ≤ 65535 → (1024 ≤ length vars → is_some (text_of vars name) ≡ true) → set_in vars name text ≡ Ok (updated vars name text)
@@ -39,7 +38,7 @@ vars_updated vars new name text old are named short is ordered grew room = recor
   ordered = ordered;
   named = rw is (All-keys-insert_entry text_cmp name text (λ (name : List ℕ). is_name name ≡ true) vars are.named named);
   few = few_after (length vars) (length new) old are.few grew room;
-  short = rw is (All-values-insert_entry text_cmp name text (λ (text : List ℕ). utf8_len text ≤ 65535) vars are.short short)
+  short = rw is (All-values-insert_entry text_cmp name text (λ (text : List ℕ). utf8_len text ≤ 65535) vars are.short short);
 }
 
 pub vars_removed : (vars new : List (List ℕ × List ℕ)) (test : List ℕ → Bool) → AreVars vars → new ≡ remove_entry test vars → IsStrictlySortedBy text_cmp (keys_of new) → length new ≤ length vars → AreVars new
@@ -47,5 +46,5 @@ vars_removed vars new test are is ordered fewer = record {
   ordered = ordered;
   named = rw is (All-map-remove_entry test (λ (pair : List ℕ × List ℕ). pair.0) (λ (name : List ℕ). is_name name ≡ true) vars are.named);
   few = omega (arith, are.few);
-  short = rw is (All-map-remove_entry test (λ (pair : List ℕ × List ℕ). pair.1) (λ (text : List ℕ). utf8_len text ≤ 65535) vars are.short)
+  short = rw is (All-map-remove_entry test (λ (pair : List ℕ × List ℕ). pair.1) (λ (text : List ℕ). utf8_len text ≤ 65535) vars are.short);
 }

@@ -1,6 +1,6 @@
 -- The text under a name, looked up by the order of names.
 use Rattle.std.proofs.Common.{◌≡◌, ◌≢◌, ℕ, Bool, true, false, cond, List, [], ◌∷◌, Option, Some, None, refl, ap, sym, ◌∙◌}
-use Rattle.std.specs.Option.{IfSome, option_copied}
+use Rattle.std.specs.Option.{IfSome, is_some, option_copied}
 use Rattle.std.specs.List.{All}
 use Rattle.std.specs.BTreeMap.{is_at}
 use Rattle.std.specs.Map.{lookup, remove_entry, values_of}
@@ -49,3 +49,7 @@ found_text P test (e ∷ es) all =
 pub if_copied : (P : List ℕ → Type 0) (found : Option (Bor (List ℕ))) → IfSome (option_copied found) P → IfSome found (λ x. P x.now)
 if_copied P None p = tt
 if_copied P (Some x) p = p
+
+pub none_found : {X : Type 0} (found : Option X) → is_some found ≡ false → found ≡ None
+none_found None none = refl
+none_found (Some x) none = absurd cc

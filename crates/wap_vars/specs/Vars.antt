@@ -20,9 +20,13 @@ updated vars name text = insert_entry text_cmp vars name text
 abbrev pub removed : List (List ℕ × List ℕ) → List ℕ → List (List ℕ × List ℕ)
 removed vars name = remove_entry (is_same_text name) vars
 
+-- each name stands once, and before those that follow it in the order of characters
+abbrev pub AreInOrder : List (List ℕ × List ℕ) → Type 0
+AreInOrder vars = IsStrictlySortedBy text_cmp (keys_of vars)
+
 -- what is true of all variables that are kept; the two limits are this project's own
 pub record AreVars (vars : List (List ℕ × List ℕ)) : Type 0 where
-  pub ordered : IsStrictlySortedBy text_cmp (keys_of vars)
+  pub ordered : AreInOrder vars
   pub named : All (λ (name : List ℕ). is_name name ≡ true) (keys_of vars)
   pub few : length vars ≤ 1024
   pub short : All (λ (text : List ℕ). utf8_len text ≤ 65535) (values_of vars)

@@ -4,7 +4,11 @@
 
 mod fault;
 mod filling;
+pub mod laws;
 mod vars;
 
 pub use fault::VarFault;
 pub use vars::Vars;
+
+#[cfg(test)]
+mod tests;

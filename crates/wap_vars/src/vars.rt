@@ -1,5 +1,5 @@
 //! `Vars`, the map from names to texts.
-ghost use Rattle.std.specs.Prelude.{◌≡◌, ◌≢◌, ◌≤◌, ◌<◌, ◌↔◌, ℕ, List, [], true, false, Some, None, IfSome, IfOk, OnOk, OnErr, IsErrOf};
+ghost use Rattle.std.specs.Prelude.{◌≡◌, ◌≢◌, ◌≤◌, ◌<◌, ◌↔◌, ℕ, List, [], length, true, false, Some, None, IfSome, IfOk, OnOk, OnErr, IsErrOf};
 ghost use Rattle.std.specs.Option.{option_copied};
 ghost use Rattle.wap_base.specs.Names.{is_name};
 ghost use Rattle.wap_base.specs.Outcome.{Meets};
@@ -63,6 +63,11 @@ impl Vars {
         ensures set { OnOk result (self.new ≡ updated self.old name.now value) }
         ensures kept { OnErr result (self.new ≡ self.old) }
         ensures exact { Meets VarFault.NoMemory (λ _. self.new) result (set_in self.old name.now value) }
+
+        // What each fault says. A bad name is told even where memory is wanting.
+        ensures bad_name { IsErrOf result VarFault.BadName ↔ (is_name name.now ≡ false) }
+        ensures too_long { (bytes : ℕ) → IsErrOf result (VarFault.TooLong bytes) → (bytes ≡ utf8_len value) × (65535 < bytes) }
+        ensures full { IsErrOf result VarFault.Full → (length self.old ≡ 1024) × (text_of self.old name.now ≡ None) }
 
         // What is read afterwards.
         ensures here { OnOk result (text_of self.new name.now ≡ Some value) }

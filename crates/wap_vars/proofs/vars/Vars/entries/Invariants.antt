@@ -1,4 +1,4 @@
-use Rattle.std.proofs.Common.{◌≡◌, List, ℕ, map}
+use Rattle.std.proofs.Common.{◌≡◌, map}
 use Rattle.std.specs.Map.Iter.{deref_pair}
 use Rattle.wap_vars.proofs.vars.Vars.entries.Given as goal
 

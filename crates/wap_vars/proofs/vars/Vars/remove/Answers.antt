@@ -1,4 +1,4 @@
-use Rattle.std.proofs.Common.{◌≡◌, ◌≢◌, ◌∙◌, ap, sym, List, ℕ, arith}
+use Rattle.std.proofs.Common.{◌∙◌, ap, sym, List, ℕ, arith}
 use Rattle.wap_vars.specs.Vars.{text_of, removed}
 use Rattle.wap_vars.proofs.TextLaws.{lookup_by_order, removed_by_order, other_place}
 use Rattle.wap_vars.proofs.SetLaws.{vars_removed}

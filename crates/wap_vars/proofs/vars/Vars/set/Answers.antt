@@ -1,9 +1,9 @@
-use Rattle.std.proofs.Common.{◌≡◌, ◌≤◌, ◌∙◌, ap, sym, subst, true, false, Bool, List, ℕ, length, Ok, arith}
+use Rattle.std.proofs.Common.{◌≡◌, ◌≤◌, ◌∙◌, ap, sym, subst, true, false, List, ℕ, length, Ok, arith}
 use Rattle.std.specs.Option.{is_some}
 use Rattle.wap_base.specs.Names.{is_name}
 use Rattle.wap_base.specs.Utf8.{utf8_len}
-use Rattle.wap_vars.specs.Vars.{text_of, updated}
-use Rattle.wap_vars.proofs.TextLaws.{lookup_by_order, other_place}
+use Rattle.wap_vars.specs.Vars.{text_of}
+use Rattle.wap_vars.proofs.TextLaws.{lookup_by_order, other_place, none_found}
 use Rattle.wap_vars.proofs.SetLaws.{set_ok, set_full, set_seen, vars_updated}
 use Rattle.wap_vars.proofs.vars.Vars.set.Goals as goal
 use Rattle.wap_vars.proofs.vars.Vars.set.Goals.{else-len-ge-MOST-via-then-len-ge-MOST+else-not-contains_key, else-len-ge-MOST-via-else-len-ge-MOST}
@@ -54,3 +54,15 @@ returns-clause-elsewhere c = λ other apart.
     ∙ c.in_ok-insert.ensures.updates.2 other (other_place c.in_ok-name.name other (λ same. apart (same ∙ c.in_ok-name.ensures.ok)))
     ∙ lookup_by_order other c.self.inside.texts.entries
     ∙ ap (λ (vars : List (List ℕ × List ℕ)). text_of vars other) c.self.view_is
+
+pub returns-then-not-contains_key-clause-full : goal.returns-then-not-contains_key-clause-full
+returns-then-not-contains_key-clause-full c = λ _.
+    let key = c.in_ok-name.name in
+    let entries = c.self.inside.texts.entries in
+    let all : length entries ≡ 1024 = omega (arith, c.len.ensures.len, c.self.invariant.few) in
+    let new : is_some (text_of entries key) ≡ false = ap is_some (sym (lookup_by_order key entries)) ∙ sym c.contains_key.ensures ∙ c.if-not-contains_key.true in (
+      ap length (sym c.self.view_is) ∙ all,
+      ap (λ (vars : List (List ℕ × List ℕ)). text_of vars c.args.name.now) (sym c.self.view_is)
+          ∙ ap (λ (name : List ℕ). text_of entries name) (sym c.in_ok-name.ensures.ok)
+          ∙ none_found (text_of entries key) new,
+    )
