@@ -50,6 +50,13 @@ impl Vars {
         }
     }
 
+    /// What is true of all variables that are kept, for a caller's proof. It does nothing.
+    pub fn keep_limits(&self)
+        ensures { AreVars self.now }
+    {
+        let _ = &self.texts;
+    }
+
     /// The text of a variable that is set.
     pub fn get(&self, name: &Name) -> Option<&Text>
         ensures value { option_copied result ≡ text_of self.now name.now }
