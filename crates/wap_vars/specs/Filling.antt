@@ -1,0 +1,31 @@
+-- Values in which variables are referred to (WAP-191, section 10.3).
+use Rattle.std.specs.Prelude.{ℕ, List, [], Option, Some, None}
+use Rattle.std.specs.List.{flat_map}
+use Rattle.std.specs.Str.{chars}
+use Rattle.std.specs.Str.Lossy.{utf8_lossy}
+use Rattle.wap_base.specs.declared.name.Conv.{Conv}
+use Rattle.wap_base.specs.declared.name.Conv.TheVariants.{Escape, Unescape, Plain}
+use Rattle.wap_base.specs.declared.name.Part.{Part}
+use Rattle.wap_base.specs.declared.name.Part.TheVariants.{Lit, Var}
+use Rattle.wap_url.specs.Escapes.{escaped, unescaped}
+use Rattle.wap_vars.specs.Vars.{text_of}
+
+-- the text as the reference asks for it (section 10.3.1): with escapes, with the bytes that escapes stand for, or as it is.
+-- Unescaped bytes that are no UTF-8 are read as the Unicode Standard advises (section 3.9): U+FFFD stands for each greatest part that begins no character.
+abbrev pub converted : Conv → List ℕ → List ℕ
+converted Escape text = escaped text
+converted Unescape text = chars (utf8_lossy (unescaped text))
+converted Plain text = text
+
+-- what stands for a reference; a variable that isn't set is the empty text
+abbrev pub text_for : Conv → Option (List ℕ) → List ℕ
+text_for conv None = []
+text_for conv (Some text) = converted conv text
+
+abbrev pub part_text : List (List ℕ × List ℕ) → Part → List ℕ
+part_text vars (Lit text) = text
+part_text vars (Var name conv) = text_for conv (text_of vars name)
+
+-- the parts' texts, one after the other
+abbrev pub filled : List (List ℕ × List ℕ) → List Part → List ℕ
+filled vars parts = flat_map (part_text vars) parts

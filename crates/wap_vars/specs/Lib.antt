@@ -1,0 +1,3 @@
+pub mod Vars
+pub mod Setting
+pub mod Filling

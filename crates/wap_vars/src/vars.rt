@@ -1,0 +1,122 @@
+//! `Vars`, the map from names to texts.
+ghost use Rattle.std.specs.Prelude.{◌≡◌, ◌≢◌, ◌≤◌, ◌<◌, ◌↔◌, ℕ, List, [], length, true, false, Some, None, IfSome, IfOk, OnOk, OnErr, IsErrOf};
+ghost use Rattle.std.specs.Option.{option_copied};
+ghost use Rattle.wap_base.specs.Names.{is_name};
+ghost use Rattle.wap_base.specs.Outcome.{Meets};
+ghost use Rattle.wap_base.specs.Utf8.{utf8_len};
+ghost use Rattle.wap_vars.specs.Vars.{text_of, updated, removed, AreVars};
+ghost use Rattle.wap_vars.specs.Setting.{set_in};
+
+use crate::VarFault;
+use std::alloc::Global;
+use std::collections::BTreeMap;
+use std::marker::Model;
+use wap_base::{Name, NoMemory, Text};
+
+/// How many variables are kept.
+const MOST: usize = 1024;
+
+/// How many bytes of UTF-8 a variable's text may have.
+const LONGEST: usize = 65535;
+
+/// The variables of the browser (WAP-191, section 10.3). A contract sees the pairs of a name and its text, in
+/// ascending order of names.
+#[derive(Debug, Drop)]
+pub struct Vars {
+    alloc: Global,
+    texts: BTreeMap<Name, Text>,
+}
+
+impl Model for Vars {
+    ghost use Rattle.std.specs.Prelude.{List, ℕ};
+
+    ghost Value = { List (List ℕ × List ℕ) };
+
+    ghost use Rattle.wap_vars.specs.Vars.{AreVars};
+
+    ghost view = { λ vars. vars.texts.entries };
+
+    ghost invariant = { λ vars. AreVars vars.texts.entries };
+}
+
+impl Vars {
+    /// No variables yet, and the allocator for those to come.
+    pub fn new(alloc: Global) -> Vars
+        ensures { result ≡ [] }
+    {
+        Vars {
+            alloc,
+            texts: BTreeMap::new(alloc),
+        }
+    }
+
+    /// What is true of all variables that are kept, for a caller's proof. It does nothing.
+    pub fn keep_limits(&self)
+        ensures { AreVars self.now }
+    {
+        let _ = &self.texts;
+    }
+
+    /// The text of a variable that is set.
+    pub fn get(&self, name: &Name) -> Option<&Text>
+        ensures value { option_copied result ≡ text_of self.now name.now }
+        ensures short { IfSome result (λ text. utf8_len text.now ≤ 65535) }
+    {
+        self.texts.get(name)
+    }
+
+    /// Sets a variable to a text. On a fault nothing changes.
+    pub fn set(&mut self, name: &Text, value: Text) -> Result<(), VarFault>
+        ensures set { OnOk result (self.new ≡ updated self.old name.now value) }
+        ensures kept { OnErr result (self.new ≡ self.old) }
+        ensures exact { Meets VarFault.NoMemory (λ _. self.new) result (set_in self.old name.now value) }
+
+        // What each fault says. A bad name is told even where memory is wanting.
+        ensures bad_name { IsErrOf result VarFault.BadName ↔ (is_name name.now ≡ false) }
+        ensures too_long { (bytes : ℕ) → IsErrOf result (VarFault.TooLong bytes) → (bytes ≡ utf8_len value) × (65535 < bytes) }
+        ensures full { IsErrOf result VarFault.Full → (length self.old ≡ 1024) × (text_of self.old name.now ≡ None) }
+
+        // What is read afterwards.
+        ensures here { OnOk result (text_of self.new name.now ≡ Some value) }
+        ensures elsewhere { OnOk result ((other : List ℕ) → other ≢ name.now → text_of self.new other ≡ text_of self.old other) }
+    {
+        let name = Name::of(self.alloc, name)?;
+        let bytes = value.len();
+        if bytes > LONGEST {
+            return Err(VarFault::TooLong { bytes });
+        }
+        if self.texts.len() >= MOST && !self.texts.contains_key(&name) {
+            return Err(VarFault::Full);
+        }
+        self.texts.insert(name, value)?;
+        Ok(())
+    }
+
+    /// Unsets a variable, if it is set.
+    pub fn remove(&mut self, name: &Name)
+        ensures removed { self.new ≡ removed self.old name.now }
+        ensures here { text_of self.new name.now ≡ None }
+        ensures elsewhere { (other : List ℕ) → other ≢ name.now → text_of self.new other ≡ text_of self.old other }
+    {
+        let _ = self.texts.remove(name);
+    }
+
+    /// Unsets all variables.
+    pub fn clear(&mut self)
+        ensures { self.new ≡ [] }
+    {
+        self.texts.clear();
+    }
+
+    /// A copy of the variables, in ascending order of names.
+    pub fn entries(&self, alloc: Global) -> Result<Vec<(Text, Text)>, NoMemory>
+        ensures same { IfOk result (λ pairs. pairs.items ≡ self.now) }
+        ensures ordered { AreVars self.now }
+    {
+        let mut pairs = Vec::new(alloc);
+        for (name, text) in &self.texts {
+            pairs.push((name.text().copy(alloc)?, text.copy(alloc)?))?;
+        }
+        Ok(pairs)
+    }
+}
