@@ -1,9 +1,9 @@
 -- Documents and the decks that they mean, and what a deck has (WAP-191, sections 11.1 to 11.5).
-use Rattle.std.specs.Prelude.{◌≡◌, ℕ, Bool, true, false, List, [], ◌∷◌, filter, find, Option, Some, None}
+use Rattle.std.specs.Prelude.{ℕ, Bool, true, false, List, [], ◌∷◌, filter, find, Option, Some, None}
 use Rattle.std.specs.List.{filter_map, AllByRecursion}
 use Rattle.std.specs.Option.{option_map, option_and_then}
 use Rattle.wap_base.specs.declared.name.Part.{Part}
-use Rattle.wap_base.specs.declared.name.Part.TheVariants.{Lit, Var}
+use Rattle.wap_base.specs.declared.name.Part.TheVariants.{Lit}
 use Rattle.wap_base.specs.Texts.{AreDistinct}
 use Rattle.wap_markup.specs.declared.document.Document.{Document}
 use Rattle.wap_markup.specs.declared.document.Element.{Element}

@@ -1,7 +1,6 @@
 //! Decks as WML means them (WAP-191, section 11): known tags and attributes alone, texts joined.
-use wap_base::{Part, Rows};
-
 use crate::name::{AttrName, Tag};
+use wap_base::{Part, Rows};
 
 /// A deck of cards.
 #[derive(Debug, Drop, PartialEq, Eq)]

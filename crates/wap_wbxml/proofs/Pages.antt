@@ -3,7 +3,7 @@ use Rattle.std.proofs.Common.{◌≡◌, ◌≢◌, ℕ, zero, suc, ◌+◌, ◌
 use Rattle.std.specs.Prelude.{◌&&◌, ◌||◌, IfOk}
 use Rattle.std.specs.List.{flat_map, list_all, prefix_len, AllByRecursion}
 use Rattle.std.proofs.Math.Dec.{eqb-suc-zero}
-use Rattle.std.proofs.lemmas.Bool.{eqb-true, eqb-false, ltb-false, le-ltb, lt-ltb}
+use Rattle.std.proofs.lemmas.Bool.{eqb-true, eqb-false, ltb-false, le-ltb}
 use Rattle.std.proofs.lemmas.List.{take_at, drop_at, take-append-drop, length-append, nil_from_length, length-map}
 use Rattle.std.proofs.lemmas.List.Folds.{length-prefix_len}
 use Rattle.wap_base.specs.Outcome.{◌>>=◌, Meets}

@@ -212,7 +212,7 @@ fn made(alloc: Global, cards: u8, paragraphs: u8, len: u8) -> Result<Document, N
 #[test]
 fn printed_pages(rt: HostRuntime) -> Result<(), Fail> {
     let alloc = rt.alloc();
-    for cards in 1..=4 {
+    for cards in [1, 2, 3, 200] {
         for paragraphs in 0..=3 {
             for len in [1, 2, 19, 20] {
                 let document = made(alloc, cards, paragraphs, len)?;

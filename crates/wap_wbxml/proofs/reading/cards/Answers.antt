@@ -1,6 +1,6 @@
-use Rattle.std.proofs.Common.{◌≡◌, ap, length, List, ℕ, Option, Some, Ok, ◌∙◌}
+use Rattle.std.proofs.Common.{ap, length, Option, Ok, ◌∙◌}
 use Rattle.wap_markup.specs.declared.document.Kid.{Kid}
-use Rattle.wap_wbxml.specs.Reading.{Reading, next_card_at, cards_at}
+use Rattle.wap_wbxml.specs.Reading.{next_card_at, cards_at}
 use Rattle.wap_wbxml.proofs.Parts.{begins, one_more}
 use Rattle.wap_wbxml.proofs.reading.cards.Goals as goal
 
