@@ -1,0 +1,5 @@
+//! Sessions of the program over pages, keys and screens in memory: the cases that cross crates.
+#![tactic(auto)]
+
+#[cfg(test)]
+mod tests;
