@@ -5,11 +5,11 @@ use wap_base::{Bytes, Conv, Rows, Text};
 /// A document.
 #[derive(Debug, Drop, PartialEq, Eq)]
 pub struct Document {
-    /// The version byte: the major number minus one, and the minor number.
+    /// The version byte: the major number minus one, and the minor number, in four bits each: 3 is WBXML 1.3.
     pub version: u8,
-    /// The number of the public identifier.
+    /// The number of the public identifier: 10 is WML 1.3.
     pub public: u32,
-    /// The number of the character set.
+    /// The number of the character set, as IANA counts them (MIBenum): 106 is UTF-8.
     pub charset: u32,
     pub root: Element,
 }

@@ -3,7 +3,7 @@ use Rattle.std.proofs.Common.{◌≡◌, ◌≢◌, ℕ, zero, suc, ◌+◌, ◌
 use Rattle.std.specs.Prelude.{◌&&◌, ◌||◌, IfOk}
 use Rattle.std.specs.List.{flat_map, list_all, prefix_len, AllByRecursion}
 use Rattle.std.proofs.Math.Dec.{eqb-suc-zero}
-use Rattle.std.proofs.lemmas.Bool.{eqb-true, eqb-false, ltb-false, le-ltb, lt-ltb}
+use Rattle.std.proofs.lemmas.Bool.{eqb-true, eqb-false, ltb-false, le-ltb}
 use Rattle.std.proofs.lemmas.List.{take_at, drop_at, take-append-drop, length-append, nil_from_length, length-map}
 use Rattle.std.proofs.lemmas.List.Folds.{length-prefix_len}
 use Rattle.wap_base.specs.Outcome.{◌>>=◌, Meets}
@@ -72,9 +72,9 @@ word_takes bytes text rest e =
     let rest_is : drop len bytes ≡ rest = ap (λ (x : List ℕ × List ℕ). x.1) p.1 in
     let so_long : length (take len bytes) ≡ len = length-prefix_len is_visible bytes in
     let some : len ≢ 0 = eqb-false len 0 small.0 in
-    let few : len ≤ 20 = ltb-false 20 len small.1 in
-    ( subst IsWord text_is (record { some = omega arith; few = omega arith; visible = visible_front bytes })
-    , sym (take-append-drop len bytes) ∙ ap (λ (l : List ℕ). l ++ drop len bytes) text_is ∙ ap (λ (l : List ℕ). text ++ l) rest_is
+    let few : len ≤ 20 = ltb-false 20 len small.1 in (
+      subst IsWord text_is (record { some = omega arith; few = omega arith; visible = visible_front bytes }),
+      sym (take-append-drop len bytes) ∙ ap (λ (l : List ℕ). l ++ drop len bytes) text_is ∙ ap (λ (l : List ℕ). text ++ l) rest_is,
     )
 
 word_again : (text rest : List ℕ) → IsWord text → word_at (text ++ (0 ∷ rest)) ≡ Ok (text, 0 ∷ rest)
@@ -105,7 +105,7 @@ paragraph_takes bytes read e =
     let same = ok_same (paragraph_tree b.0.0, d.0) read d.2 in
     let w = word_takes a.0 b.0.0 b.0.1 b.1 in
     let split : bytes ≡ 0x03 ∷ (b.0.0 ++ (0x00 ∷ 0x01 ∷ d.0)) =
-      after_takes 0x03 bytes a.0 a.1 ∙ ap (λ (l : List ℕ). 0x03 ∷ l) (w.1 ∙ ap (λ (l : List ℕ). b.0.0 ++ l) (after_takes 0x00 b.0.1 c.0 c.1 ∙ ap (λ (l : List ℕ). 0x00 ∷ l) (after_takes 0x01 c.0 d.0 d.1))) in
+    after_takes 0x03 bytes a.0 a.1 ∙ ap (λ (l : List ℕ). 0x03 ∷ l) (w.1 ∙ ap (λ (l : List ℕ). b.0.0 ++ l) (after_takes 0x00 b.0.1 c.0 c.1 ∙ ap (λ (l : List ℕ). 0x00 ∷ l) (after_takes 0x01 c.0 d.0 d.1))) in
     record {
       text = b.0.0;
       word = w.0;
@@ -150,7 +150,7 @@ module _ {Part : Type 0} (next : List ℕ → Reading (Option Kid)) (IsPart : Pa
         parts = one.0 ∷ others.parts;
         each = (one.1, others.each);
         split = one.2 ∙ ap (λ (l : List ℕ). spelled one.0 ++ l) others.split ∙ sym (append_assoc (spelled one.0) (flat_map spelled others.parts) (0x01 ∷ b.0.1))
-          ∙ ap (λ (x : List Kid × List ℕ). flat_map spelled (one.0 ∷ others.parts) ++ (0x01 ∷ x.1)) same;
+            ∙ ap (λ (x : List Kid × List ℕ). flat_map spelled (one.0 ∷ others.parts) ++ (0x01 ∷ x.1)) same;
         trees = sym (ap (λ (x : List Kid × List ℕ). x.0) same) ∙ ap (λ (k : Kid). k ∷ b.0.0) one.3 ∙ ap (λ (l : List Kid). tree one.0 ∷ l) others.trees;
       }
 
@@ -179,12 +179,12 @@ module _ {Part : Type 0} (next : List ℕ → Reading (Option Kid)) (IsPart : Pa
 -- what the choice by the first byte came to
 turned : {A : Type 0} (byte tag : ℕ) (done : A) (more : Result A DocFault) (read : A) → cond (eqb byte 0x01) (Ok done) (cond (eqb byte tag) more (Err Unbuilt)) ≡ Ok read → ((byte ≡ 0x01) × (done ≡ read)) ⊎ ((byte ≡ tag) × (more ≡ Ok read))
 turned byte tag done more read e = elim (chosen (eqb byte 0x01) (Ok done) (cond (eqb byte tag) more (Err Unbuilt)) (Ok read) e) [
-    | inl end ↦ inl (eqb-true byte 0x01 end.0, ok_same done read end.1)
-    | inr on ↦ elim (chosen (eqb byte tag) more (Err Unbuilt) (Ok read) on.1) [
-      | inl one ↦ inr (eqb-true byte tag one.0, one.1)
-      | inr none ↦ absurd (cc none.1)
-    ]
+  | inl end ↦ inl (eqb-true byte 0x01 end.0, ok_same done read end.1)
+  | inr on ↦ elim (chosen (eqb byte tag) more (Err Unbuilt) (Ok read) on.1) [
+    | inl one ↦ inr (eqb-true byte tag one.0, one.1)
+    | inr none ↦ absurd (cc none.1)
   ]
+]
 
 -- the end, or a part behind its tag
 some_part : {Inner : Type 0} (r : Reading Inner) (tree : Inner → Kid) (read : Option Kid × List ℕ) → (r >>= λ x. Ok (Some (tree x.0), x.1)) ≡ Ok read → (x : Inner × List ℕ) × (r ≡ Ok x) × ((Some (tree x.0), x.1) ≡ read)
@@ -199,64 +199,64 @@ module _ {Inner : Type 0} (tag : ℕ) (not_end : tag ≡ 0x01 → ⊥) (inner : 
   next_end_takes : (bytes rest : List ℕ) → next_of bytes ≡ Ok (None, rest) → bytes ≡ 0x01 ∷ rest
   next_end_takes [] rest e = absurd cc
   next_end_takes (byte ∷ others) rest e = elim (turned byte tag (None, others) (inner others >>= λ x. Ok (Some (tree x.0), x.1)) (None, rest) e) [
-      | inl end ↦ ap (λ (b : ℕ). b ∷ others) end.0 ∙ ap (λ (x : Option Kid × List ℕ). 0x01 ∷ x.1) end.1
-      | inr on ↦ let a = some_part (inner others) tree (None, rest) on.1 in absurd (cc (ap (λ (x : Option Kid × List ℕ). x.0) a.2))
-    ]
+    | inl end ↦ ap (λ (b : ℕ). b ∷ others) end.0 ∙ ap (λ (x : Option Kid × List ℕ). 0x01 ∷ x.1) end.1
+    | inr on ↦ let a = some_part (inner others) tree (None, rest) on.1 in absurd (cc (ap (λ (x : Option Kid × List ℕ). x.0) a.2))
+  ]
 
   next_part_takes : (bytes : List ℕ) (kid : Kid) (rest : List ℕ) → next_of bytes ≡ Ok (Some kid, rest) → (others : List ℕ) × (x : Inner × List ℕ) × (bytes ≡ tag ∷ others) × (inner others ≡ Ok x) × (kid ≡ tree x.0) × (x.1 ≡ rest)
   next_part_takes [] kid rest e = absurd cc
   next_part_takes (byte ∷ others) kid rest e = elim (turned byte tag (None, others) (inner others >>= λ x. Ok (Some (tree x.0), x.1)) (Some kid, rest) e) [
-      | inl end ↦ absurd (cc (ap (λ (x : Option Kid × List ℕ). x.0) end.1))
-      | inr on ↦
+    | inl end ↦ absurd (cc (ap (λ (x : Option Kid × List ℕ). x.0) end.1))
+    | inr on ↦
         let a = some_part (inner others) tree (Some kid, rest) on.1 in
         (others, a.0, ap (λ (b : ℕ). b ∷ others) on.0, a.1, some_same kid (tree a.0.0) (sym (ap (λ (x : Option Kid × List ℕ). x.0) a.2)), ap (λ (x : Option Kid × List ℕ). x.1) a.2)
-    ]
+  ]
 
 -- ---- the paragraphs of a card
 
 reads_paragraphs : Reads next_paragraph_at IsWord paragraph_bytes paragraph_tree
 unfolding next_paragraph_at
 reads_paragraphs = record {
-    end_takes = next_end_takes 0x60 (λ e. absurd cc) paragraph_at (λ k. k);
-    end_again = λ rest. refl;
-    part_takes = λ bytes kid rest e.
+  end_takes = next_end_takes 0x60 (λ e. absurd cc) paragraph_at (λ k. k);
+  end_again = λ rest. refl;
+  part_takes = λ bytes kid rest e.
       let a = next_part_takes 0x60 (λ e. absurd cc) paragraph_at (λ k. k) bytes kid rest e in
       let one = paragraph_takes a.0 a.1 a.3 in
-      let behind = a.1.1 in
-      ( one.text
-      , one.word
-      , a.2 ∙ ap (λ (l : List ℕ). 0x60 ∷ l) one.split ∙ ap (λ (l : List ℕ). 0x60 ∷ 0x03 ∷ l) (sym (append_assoc one.text (0x00 ∷ 0x01 ∷ []) behind)) ∙ ap (λ (l : List ℕ). paragraph_bytes one.text ++ l) a.5
-      , a.4 ∙ one.tree
+      let behind = a.1.1 in (
+        one.text,
+        one.word,
+        a.2 ∙ ap (λ (l : List ℕ). 0x60 ∷ l) one.split ∙ ap (λ (l : List ℕ). 0x60 ∷ 0x03 ∷ l) (sym (append_assoc one.text (0x00 ∷ 0x01 ∷ []) behind)) ∙ ap (λ (l : List ℕ). paragraph_bytes one.text ++ l) a.5,
+        a.4 ∙ one.tree,
       );
-    part_again = λ text rest word.
+  part_again = λ text rest word.
       ap (λ (l : List ℕ). next_paragraph_at (0x60 ∷ 0x03 ∷ l)) (append_assoc text (0x00 ∷ 0x01 ∷ []) rest)
       ∙ ap (λ (r : Reading Kid). r >>= λ x. Ok (Some x.0, x.1)) (paragraph_again text rest word);
-    some = λ text. omega arith;
-  }
+  some = λ text. omega arith;
+}
 
 -- ---- the cards of a page
 
 reads_cards : Reads next_card_at IsCard card_bytes card_tree
 unfolding next_card_at paragraphs_at
 reads_cards = record {
-    end_takes = next_end_takes 0x67 (λ e. absurd cc) paragraphs_at (λ kids. kid.Element (element 0x27 kids));
-    end_again = λ rest. refl;
-    part_takes = λ bytes card rest e.
+  end_takes = next_end_takes 0x67 (λ e. absurd cc) paragraphs_at (λ kids. kid.Element (element 0x27 kids));
+  end_again = λ rest. refl;
+  part_takes = λ bytes card rest e.
       let a = next_part_takes 0x67 (λ e. absurd cc) paragraphs_at (λ kids. kid.Element (element 0x27 kids)) bytes card rest e in
       let content = parts_take next_paragraph_at IsWord paragraph_bytes paragraph_tree reads_paragraphs (length a.0) a.0 a.1 a.3 in
-      let behind = a.1.1 in
-      ( content.parts
-      , content.each
-      , a.2 ∙ ap (λ (l : List ℕ). 0x67 ∷ l) (content.split ∙ sym (append_assoc (flat_map paragraph_bytes content.parts) (0x01 ∷ []) behind)) ∙ ap (λ (l : List ℕ). card_bytes content.parts ++ l) a.5
-      , a.4 ∙ ap (λ (l : List Kid). kid.Element (element 0x27 l)) content.trees
+      let behind = a.1.1 in (
+        content.parts,
+        content.each,
+        a.2 ∙ ap (λ (l : List ℕ). 0x67 ∷ l) (content.split ∙ sym (append_assoc (flat_map paragraph_bytes content.parts) (0x01 ∷ []) behind)) ∙ ap (λ (l : List ℕ). card_bytes content.parts ++ l) a.5,
+        a.4 ∙ ap (λ (l : List Kid). kid.Element (element 0x27 l)) content.trees,
       );
-    part_again = λ texts rest card.
+  part_again = λ texts rest card.
       let content : List ℕ = flat_map paragraph_bytes texts ++ (0x01 ∷ rest) in
       ap (λ (l : List ℕ). next_card_at (0x67 ∷ l)) (append_assoc (flat_map paragraph_bytes texts) (0x01 ∷ []) rest)
       ∙ ap (λ (r : Reading (List Kid)). r >>= λ x. Ok (Some (kid.Element (element 0x27 x.0)), x.1))
-        (parts_again next_paragraph_at IsWord paragraph_bytes paragraph_tree reads_paragraphs (length content) texts rest card (enough next_paragraph_at IsWord paragraph_bytes paragraph_tree reads_paragraphs texts rest));
-    some = λ texts. omega arith;
-  }
+      (parts_again next_paragraph_at IsWord paragraph_bytes paragraph_tree reads_paragraphs (length content) texts rest card (enough next_paragraph_at IsWord paragraph_bytes paragraph_tree reads_paragraphs texts rest));
+  some = λ texts. omega arith;
+}
 
 -- ---- the whole
 
@@ -280,8 +280,8 @@ document_takes bytes document e =
       cards = content.parts;
       form = record { some = omega arith; each = content.each };
       spelled = after_takes 0x03 bytes a.0 a.1 ∙ ap (λ (l : List ℕ). 0x03 ∷ l) (after_takes 0x0A a.0 b.0 b.1 ∙ ap (λ (l : List ℕ). 0x0A ∷ l)
-        (after_takes 0x6A b.0 c.0 c.1 ∙ ap (λ (l : List ℕ). 0x6A ∷ l) (after_takes 0x00 c.0 d.0 d.1 ∙ ap (λ (l : List ℕ). 0x00 ∷ l)
-        (after_takes 0x7F d.0 f.0 f.1 ∙ ap (λ (l : List ℕ). 0x7F ∷ l) (content.split ∙ ap (λ (l : List ℕ). flat_map card_bytes content.parts ++ (0x01 ∷ l)) nothing)))));
+          (after_takes 0x6A b.0 c.0 c.1 ∙ ap (λ (l : List ℕ). 0x6A ∷ l) (after_takes 0x00 c.0 d.0 d.1 ∙ ap (λ (l : List ℕ). 0x00 ∷ l)
+          (after_takes 0x7F d.0 f.0 f.1 ∙ ap (λ (l : List ℕ). 0x7F ∷ l) (content.split ∙ ap (λ (l : List ℕ). flat_map card_bytes content.parts ++ (0x01 ∷ l)) nothing)))));
       meant = sym page.1 ∙ ap (λ (l : List Kid). record { version = 3; public = 10; charset = 106; root = element 0x3F l }) content.trees;
     }
 
@@ -293,7 +293,7 @@ unfolding document_at cards_at
 spelled_again cards page =
     let body : List ℕ = flat_map card_bytes cards ++ (0x01 ∷ []) in
     ap (λ (r : Reading (List Kid)). r >>= page_of)
-      (parts_again next_card_at IsCard card_bytes card_tree reads_cards (length body) cards [] page.each (enough next_card_at IsCard card_bytes card_tree reads_cards cards []))
+    (parts_again next_card_at IsCard card_bytes card_tree reads_cards (length body) cards [] page.each (enough next_card_at IsCard card_bytes card_tree reads_cards cards []))
     ∙ page_again cards page.some
 
 pub document_again : (bytes : List ℕ) (document : Document) → IsDocument bytes document → document_at bytes ≡ Ok document
@@ -340,8 +340,8 @@ next_fails : {Inner : Type 0} (tag : ℕ) (inner : List ℕ → Reading Inner) (
     → FailsAsUnbuilt {A = Option Kid × List ℕ} (first_at bytes >>= λ first. cond (eqb first.0 0x01) (Ok (None, first.1)) (cond (eqb first.0 tag) (inner first.1 >>= λ x. Ok (Some (tree x.0), x.1)) (Err Unbuilt)))
 next_fails tag inner tree fails bytes =
     fails_in_turn (first_at bytes) _ (first_fails bytes) (λ first.
-      fails_either (eqb first.0 0x01) (Ok (None, first.1)) _ (fails_not (None, first.1))
-        (fails_either (eqb first.0 tag) (inner first.1 >>= λ x. Ok (Some (tree x.0), x.1)) (Err Unbuilt) (fails_in_turn (inner first.1) _ (fails first.1) (λ x. fails_not (Some (tree x.0), x.1))) fails_here))
+    fails_either (eqb first.0 0x01) (Ok (None, first.1)) _ (fails_not (None, first.1))
+    (fails_either (eqb first.0 tag) (inner first.1 >>= λ x. Ok (Some (tree x.0), x.1)) (Err Unbuilt) (fails_in_turn (inner first.1) _ (fails first.1) (λ x. fails_not (Some (tree x.0), x.1))) fails_here))
 
 module _ (next : List ℕ → Reading (Option Kid)) (fails : (bytes : List ℕ) → FailsAsUnbuilt (next bytes)) where
   chain_fails : (more : List ℕ → Reading (List Kid)) (one : Option Kid × List ℕ) → ((inner : List ℕ) → FailsAsUnbuilt (more inner)) → FailsAsUnbuilt (chained more one)

@@ -28,25 +28,25 @@ visible_len = prefix_len is_visible
 -- the visible characters in front, one to twenty
 abbrev pub word_at : List ℕ → Reading (List ℕ)
 word_at bytes =
-  let len = visible_len bytes in
-  if len == 0 || nat_lt 20 len then Err Unbuilt else Ok (take len bytes, drop len bytes)
+    let len = visible_len bytes in
+    if len == 0 || nat_lt 20 len then Err Unbuilt else Ok (take len bytes, drop len bytes)
 
 -- behind its tag
 unfoldable pub paragraph_at : List ℕ → Reading Kid
 paragraph_at bytes =
-  after 0x03 bytes >>= λ string.
-  word_at string >>= λ text.
-  after 0x00 text.1 >>= λ end.
-  after 0x01 end >>= λ rest.
-  Ok (paragraph_tree text.0, rest)
+    after 0x03 bytes >>= λ string.
+    word_at string >>= λ text.
+    after 0x00 text.1 >>= λ end.
+    after 0x01 end >>= λ rest.
+    Ok (paragraph_tree text.0, rest)
 
 -- the next part of some content, or none at its end
 unfoldable pub next_paragraph_at : List ℕ → Reading (Option Kid)
 next_paragraph_at bytes =
-  first_at bytes >>= λ first.
-  if first.0 == 0x01 then Ok (None, first.1) else
-  if first.0 == 0x60 then (paragraph_at first.1 >>= λ read. Ok (Some read.0, read.1))
-  else Err Unbuilt
+    first_at bytes >>= λ first.
+    if first.0 == 0x01 then Ok (None, first.1) else
+    if first.0 == 0x60 then (paragraph_at first.1 >>= λ read. Ok (Some read.0, read.1))
+    else Err Unbuilt
 
 -- one part, and those that more reads behind it
 abbrev pub chained : (List ℕ → Reading (List Kid)) → Option Kid × List ℕ → Reading (List Kid)
@@ -63,10 +63,10 @@ paragraphs_at bytes = parts_at next_paragraph_at (length bytes) bytes
 
 unfoldable pub next_card_at : List ℕ → Reading (Option Kid)
 next_card_at bytes =
-  first_at bytes >>= λ first.
-  if first.0 == 0x01 then Ok (None, first.1) else
-  if first.0 == 0x67 then (paragraphs_at first.1 >>= λ read. Ok (Some (kid.Element (element 0x27 read.0)), read.1))
-  else Err Unbuilt
+    first_at bytes >>= λ first.
+    if first.0 == 0x01 then Ok (None, first.1) else
+    if first.0 == 0x67 then (paragraphs_at first.1 >>= λ read. Ok (Some (kid.Element (element 0x27 read.0)), read.1))
+    else Err Unbuilt
 
 unfoldable pub cards_at : List ℕ → Reading (List Kid)
 cards_at bytes = parts_at next_card_at (length bytes) bytes
@@ -74,14 +74,14 @@ cards_at bytes = parts_at next_card_at (length bytes) bytes
 -- a page has cards, and nothing behind its end
 abbrev pub page_of : List Kid × List ℕ → Result Document DocFault
 page_of (cards, rest) =
-  if length cards == 0 || nat_lt 0 (length rest) then Err Unbuilt
-  else Ok (record { version = 3; public = 10; charset = 106; root = element 0x3F cards })
+    if length cards == 0 || nat_lt 0 (length rest) then Err Unbuilt
+    else Ok (record { version = 3; public = 10; charset = 106; root = element 0x3F cards })
 
 unfoldable pub document_at : List ℕ → Result Document DocFault
 document_at bytes =
-  after 0x03 bytes >>= λ public.
-  after 0x0A public >>= λ charset.
-  after 0x6A charset >>= λ table.
-  after 0x00 table >>= λ root.
-  after 0x7F root >>= λ body.
-  cards_at body >>= page_of
+    after 0x03 bytes >>= λ public.
+    after 0x0A public >>= λ charset.
+    after 0x6A charset >>= λ table.
+    after 0x00 table >>= λ root.
+    after 0x7F root >>= λ body.
+    cards_at body >>= page_of

@@ -6,9 +6,8 @@ ghost use Rattle.wap_markup.specs.Documents.{element, IsDocument};
 ghost use Rattle.wap_wbxml.specs.declared.fault.DocFault.TheVariants.{Unbuilt, NoMemory};
 ghost use Rattle.wap_wbxml.specs.Reading.{first_at, after, visible_len, word_at, paragraph_at, next_paragraph_at, paragraphs_at, next_card_at, cards_at, document_at};
 
-use std::alloc::Global;
-
 use crate::DocFault;
+use std::alloc::Global;
 use wap_base::{Rows, Text};
 use wap_markup::{Document, Element, Kid, Token};
 

@@ -1,4 +1,4 @@
-use Rattle.std.proofs.Common.{ap, subst, Result, Ok, Err}
+use Rattle.std.proofs.Common.{subst, Result}
 use Rattle.wap_base.specs.Outcome.{Meets}
 use Rattle.wap_markup.specs.declared.document.Document.{Document}
 use Rattle.wap_wbxml.specs.declared.fault.DocFault.{DocFault}

@@ -1,6 +1,6 @@
-use Rattle.std.proofs.Common.{◌≡◌, ap, length, List, ℕ, Option, Some, Ok, ◌∙◌}
+use Rattle.std.proofs.Common.{ap, length, Option, Ok, ◌∙◌}
 use Rattle.wap_markup.specs.declared.document.Kid.{Kid}
-use Rattle.wap_wbxml.specs.Reading.{Reading, next_paragraph_at, paragraphs_at}
+use Rattle.wap_wbxml.specs.Reading.{next_paragraph_at, paragraphs_at}
 use Rattle.wap_wbxml.proofs.Parts.{begins, one_more}
 use Rattle.wap_wbxml.proofs.reading.paragraphs.Goals as goal
 
@@ -13,4 +13,4 @@ loop-preserved c =
     let bytes = c.args.bytes.now in
     let first = c.in_ok-paragraph.ensures ∙ ap (λ (part : Option Kid). Ok (part, c.in_ok-paragraph.behind.now)) c.in-Some.is in
     rw c.in_ok-add-in-Some.ensures.ok
-      (one_more next_paragraph_at (length bytes) c.loop.counter c.loop.paragraphs c.loop.rest.now (paragraphs_at bytes) c.in-Some.paragraph c.in_ok-paragraph.behind.now c.loop-test.true first c.loop.invariant)
+    (one_more next_paragraph_at (length bytes) c.loop.counter c.loop.paragraphs c.loop.rest.now (paragraphs_at bytes) c.in-Some.paragraph c.in_ok-paragraph.behind.now c.loop-test.true first c.loop.invariant)
