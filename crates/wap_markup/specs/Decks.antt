@@ -1,12 +1,19 @@
 -- Documents and the decks that they mean, and what a deck has (WAP-191, sections 11.1 to 11.5).
-use Rattle.std.specs.Prelude.{ℕ, Bool, true, false, List, [], ◌∷◌, filter, find, Option, Some, None}
-use Rattle.std.specs.List.{filter_map, AllByRecursion}
+use Rattle.std.specs.Prelude.{ℕ, zero, suc, Bool, true, false, ◌==◌, if◌then◌else◌, List, [], ◌∷◌, filter, find, position, Option, Some, None}
+use Rattle.std.specs.List.{filter_map, flat_map, AllByRecursion}
 use Rattle.std.specs.Option.{option_map, option_and_then}
 use Rattle.wap_base.specs.declared.name.Part.{Part}
-use Rattle.wap_base.specs.declared.name.Part.TheVariants.{Lit}
-use Rattle.wap_base.specs.Texts.{AreDistinct}
+use Rattle.wap_base.specs.declared.name.Part.TheVariants.{Lit, Var}
+use Rattle.wap_base.specs.declared.name.Conv.{Conv}
+use Rattle.wap_base.specs.Names.{is_name}
+use Rattle.wap_base.specs.Texts.{is_same_text, AreDistinct}
 use Rattle.wap_markup.specs.declared.document.Document.{Document}
 use Rattle.wap_markup.specs.declared.document.Element.{Element}
+use Rattle.wap_markup.specs.declared.document.Attr.{Attr}
+use Rattle.wap_markup.specs.declared.document.Piece.{Piece}
+use Rattle.wap_markup.specs.declared.document.Piece.TheVariants as piece
+use Rattle.wap_markup.specs.declared.document.Token.{Token}
+use Rattle.wap_markup.specs.declared.document.Token.TheVariants.{Code, Literal}
 use Rattle.wap_markup.specs.declared.document.Kid.{Kid, out-Kid}
 use Rattle.wap_markup.specs.declared.document.Kid.TheOpen.{Kid-F}
 use Rattle.wap_markup.specs.declared.deck.Deck.{Deck}
@@ -19,38 +26,95 @@ use Rattle.wap_markup.specs.declared.name.Tag.TheVariants as tag
 use Rattle.wap_markup.specs.declared.name.AttrName.{AttrName}
 use Rattle.wap_markup.specs.declared.name.AttrName.TheVariants as attr
 
--- ---- the deck of a document of the form: its root is wml, which has cards, which have paragraphs, which have texts
+-- ---- names by their codes on page 0 (section 14.3), as far as they are read so far
 
-abbrev pub plain_node : Tag → List Item → Node
-plain_node name items = record { tag = name; attrs = []; kids = items }
+abbrev pub tag_of : ℕ → Option Tag
+tag_of code =
+    if code == 0x20 then Some tag.P else
+    if code == 0x27 then Some tag.Card else
+    if code == 0x28 then Some tag.Do else
+    if code == 0x2B then Some tag.Go else
+    if code == 0x32 then Some tag.Prev else
+    if code == 0x36 then Some tag.Refresh else
+    if code == 0x3E then Some tag.Setvar else
+    if code == 0x3F then Some tag.Wml else None
+
+abbrev pub attr_of : ℕ → Option AttrName
+attr_of code =
+    if code == 0x18 then Some attr.Label else
+    if code == 0x21 then Some attr.Name else
+    if code == 0x36 then Some attr.Title else
+    if code == 0x37 then Some attr.Type else
+    if code == 0x4A then Some attr.Href else
+    if code == 0x4D then Some attr.Value else
+    if code == 0x55 then Some attr.Id else None
+
+abbrev pub on_page_0 : {A : Type 0} → (ℕ → Option A) → ℕ → Token → Option A
+on_page_0 named page (Code code) = if page == 0 then named code else None
+on_page_0 named page (Literal name) = None
+
+-- ---- the deck of a document: elements and attributes that have a name here, texts, and references to variables;
+-- another element stands for its content, and what else there is is left out
+
+abbrev pub variable_part : List ℕ → Conv → Option Part
+variable_part name conv = if is_name name then Some (Var name conv) else None
+
+abbrev pub piece_part : Piece → Option Part
+piece_part (piece.Str text) = Some (Lit text)
+piece_part (piece.Var name conv) = variable_part name conv
+piece_part _ = None
+
+abbrev pub attr_with : Option AttrName → List Piece → Option (AttrName × List Part)
+attr_with None value = None
+attr_with (Some name) value = Some (name, filter_map piece_part value)
+
+abbrev pub attr_named : Attr → Option (AttrName × List Part)
+attr_named a = attr_with (on_page_0 attr_of a.page a.start) a.value
+
+abbrev pub text_item : Option Part → List Item
+text_item None = []
+text_item (Some part) = item.Text (part ∷ []) ∷ []
+
+-- an element whose name is known, with these items in it
+abbrev pub node_item : Option Tag → List Attr → List Item → List Item
+node_item None attrs items = items
+node_item (Some name) attrs items = item.Node (record { tag = name; attrs = filter_map attr_named attrs; kids = items }) ∷ []
+
+abbrev pub element_items : (List Kid → List Item) → Element → List Item
+element_items inner element = node_item (on_page_0 tag_of element.page element.tag) element.attrs (inner element.kids)
 
 -- one level of a part of a document
 abbrev pub KidLevel : Type 0
 KidLevel = Kid-F Kid Element
 
-abbrev pub text_from : KidLevel → Option Item
-text_from (Kid-F.Str text) = Some (item.Text (Lit text ∷ []))
-text_from _ = None
+abbrev pub items_from : (List Kid → List Item) → KidLevel → List Item
+items_from inner (Kid-F.Element element) = element_items inner element
+items_from inner (Kid-F.Str text) = text_item (Some (Lit text))
+items_from inner (Kid-F.Var name conv) = text_item (variable_part name conv)
+items_from inner _ = []
 
-abbrev pub text_of : Kid → Option Item
-text_of kid = text_from (out-Kid kid)
+abbrev pub kid_items : (List Kid → List Item) → Kid → List Item
+kid_items inner kid = items_from inner (out-Kid kid)
 
-abbrev pub paragraph_from : KidLevel → Option Item
-paragraph_from (Kid-F.Element element) = Some (item.Node (plain_node tag.P (filter_map text_of element.kids)))
-paragraph_from _ = None
+-- so many levels of content
+abbrev pub items_of : ℕ → List Kid → List Item
+items_of zero kids = []
+items_of (suc levels) kids = flat_map (kid_items (items_of levels)) kids
 
-abbrev pub paragraph_of : Kid → Option Item
-paragraph_of kid = paragraph_from (out-Kid kid)
+-- the most levels of a document
+abbrev pub level_limit : ℕ
+level_limit = 64
 
-abbrev pub card_from : KidLevel → Option Item
-card_from (Kid-F.Element element) = Some (item.Node (plain_node tag.Card (filter_map paragraph_of element.kids)))
-card_from _ = None
-
-abbrev pub card_of : Kid → Option Item
-card_of kid = card_from (out-Kid kid)
+abbrev pub root_tag : Option Tag → Tag
+root_tag None = tag.Other
+root_tag (Some name) = name
 
 abbrev pub deck_of : Document → Deck
-deck_of document = record { root = plain_node tag.Wml (filter_map card_of document.root.kids) }
+deck_of document = record { root = record {
+  tag = root_tag (on_page_0 tag_of document.root.page document.root.tag);
+  attrs = filter_map attr_named document.root.attrs;
+  kids = items_of level_limit document.root.kids;
+} }
 
 -- ---- the parts of a deck
 
@@ -102,6 +166,26 @@ abbrev pub is_type : AttrName → Bool
 is_type attr.Type = true
 is_type _ = false
 
+abbrev pub is_title : AttrName → Bool
+is_title attr.Title = true
+is_title _ = false
+
+abbrev pub is_label : AttrName → Bool
+is_label attr.Label = true
+is_label _ = false
+
+abbrev pub is_href : AttrName → Bool
+is_href attr.Href = true
+is_href _ = false
+
+abbrev pub is_name_attr : AttrName → Bool
+is_name_attr attr.Name = true
+is_name_attr _ = false
+
+abbrev pub is_value : AttrName → Bool
+is_value attr.Value = true
+is_value _ = false
+
 -- the text of a value that has no reference and no two texts
 abbrev pub plain_text : List Part → Option (List ℕ)
 plain_text [] = Some []
@@ -112,12 +196,27 @@ plain_text _ = None
 abbrev pub value_of : (AttrName → Bool) → Node → Option (List Part)
 value_of named node = option_map (λ a. a.1) (find (λ a. named a.0) node.attrs)
 
--- ids of cards, and types of a card's dos, where they are plain texts
+-- the id of a card and the type of a do, where they are plain texts
+abbrev pub id_of : Node → Option (List ℕ)
+id_of card = option_and_then plain_text (value_of is_id card)
+
+abbrev pub type_of : Node → Option (List ℕ)
+type_of node = option_and_then plain_text (value_of is_type node)
+
 abbrev pub ids_of : Deck → List (List ℕ)
-ids_of deck = filter_map (λ card. option_and_then plain_text (value_of is_id card)) (cards_of deck)
+ids_of deck = filter_map id_of (cards_of deck)
 
 abbrev pub types_of : Node → List (List ℕ)
-types_of card = filter_map (λ node. option_and_then plain_text (value_of is_type node)) (dos_of card)
+types_of card = filter_map type_of (dos_of card)
+
+-- whether there is a text, and it is this one
+abbrev pub is_text : List ℕ → Option (List ℕ) → Bool
+is_text text None = false
+is_text text (Some other) = is_same_text other text
+
+-- the number of the first card with this id, from 0
+abbrev pub card_numbered : List ℕ → Deck → Option ℕ
+card_numbered id deck = position (λ card. is_text id (id_of card)) (cards_of deck)
 
 -- no id stands twice in the deck, and no type in a card
 pub record IsApart (deck : Deck) : Type 0 where
