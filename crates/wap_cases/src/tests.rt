@@ -4,10 +4,10 @@ use std::process::Abort;
 use std::test::Fail;
 use std::thread::Threads;
 use wap_base::{
-    Bytes, Failed, MemSink, MemSource, MemStore, NoGate, Sink, Source, Store, StoreErr, Text,
-    are_pages,
+    Bytes, MemSink, MemSource, MemStore, NoGate, Sink, Source, Store, StoreErr, Text, are_pages,
 };
 use wap_cli::{Status, run};
+use wap_keys::KeyFault;
 
 /// A page of one card, whose one paragraph is `Hi`.
 const PAGE: [u8; 14] = *b"\x03\x0A\x6A\0\x7F\x67\x60\x03Hi\0\x01\x01\x01";
@@ -36,8 +36,7 @@ fn store_of(
     Ok(MemStore::new(pages, vec![in alloc; fail]?))
 }
 
-/// Runs a command, with keys that are to be left unread. Answers how it ended, and whether the
-/// store's next call failed.
+/// Runs a command without keys. Answers how it ended, and whether the store's next call failed.
 fn ran<R: Abort + Threads + Sync>(
     rt: &R,
     alloc: Global,
@@ -45,24 +44,24 @@ fn ran<R: Abort + Threads + Sync>(
     store: MemStore,
     out: &mut MemSink,
 ) -> Result<(Status, bool), Fail> {
+    let mut keys = MemSource::new(Bytes::new(alloc), 1, Vec::new(alloc));
+    pressed(rt, alloc, words, store, &mut keys, out)
+}
+
+/// Runs a command with keys. Answers how it ended, and whether the store's next call failed.
+fn pressed<R: Abort + Threads + Sync>(
+    rt: &R,
+    alloc: Global,
+    words: &[&str],
+    store: MemStore,
+    keys: &mut MemSource,
+    out: &mut MemSink,
+) -> Result<(Status, bool), Fail> {
     let mut command = Vec::new(alloc);
     for word in words {
         command.push(Text::of(alloc, word)?)?;
     }
-    // The first read fails.
-    let mut keys = MemSource::new(Bytes::of(alloc, b"k")?, 1, vec![in alloc; 1]?);
-    let (status, mut store) = run(rt, alloc, &command, store, &mut keys, out, &NoGate);
-    let mut buffer = [0; 2];
-    assert_eq!(rt;
-        keys.read(&mut buffer),
-        Err(Failed),
-        "a key was read at {words:?}"
-    );
-    assert_eq!(rt;
-        keys.read(&mut buffer),
-        Ok(1),
-        "a key was lost at {words:?}"
-    );
+    let (status, mut store) = run(rt, alloc, &command, store, keys, out, &NoGate);
     Ok((status, matches!(store.list(), Err(StoreErr::Failed))))
 }
 
@@ -338,6 +337,153 @@ fn a_sink_is_full(rt: HostRuntime) -> Result<(), Fail> {
     Ok(())
 }
 
+/// A line that is no key line.
+const fn bad(line: u32) -> Status {
+    Status::BadKey {
+        line,
+        fault: KeyFault::UnknownWord,
+    }
+}
+
+/// What is shown behind the page, by so many keys that are ignored.
+fn ignored(alloc: Global, count: usize) -> Result<Bytes, Fail> {
+    let mut shown = Bytes::of(alloc, SHOWN)?;
+    for _ in 0..count {
+        shown.add(b"! ignored\n")?;
+    }
+    Ok(shown)
+}
+
+/// Key lines, how the run ends, and how many keys before the end are shown: by sources that give one
+/// byte at a time, seven, and 4,096.
+#[test]
+fn key_lines(rt: HostRuntime) -> Result<(), Fail> {
+    for (lines, status, count) in [
+        (b"do x".as_slice(), Status::Done, 1),
+        (b"do x\r\ndo  y \n\n".as_slice(), Status::Done, 2),
+        // The last line keeps its carriage return, which no type has.
+        (b"do x\ndo x\r".as_slice(), bad(2), 1),
+        (b"jump\ndo x".as_slice(), bad(1), 0),
+        (b"do a\n\n# c\njump\ndo b\n".as_slice(), bad(4), 1),
+        (b"do\n".as_slice(), bad(1), 0),
+        (b"#".as_slice(), Status::Done, 0),
+    ] {
+        for piece in [1_usize, 7, 4096] {
+            assert!(rt; 1 <= piece);
+            let alloc = rt.alloc();
+            let mut keys = MemSource::new(Bytes::of(alloc, lines)?, piece, Vec::new(alloc));
+            let mut out = ample(&rt)?;
+            let store = store_of(&rt, alloc, "h/a.wmlc", &PAGE, 2)?;
+            let (ended, is_second) = pressed(
+                &rt,
+                alloc,
+                &["browse", URL],
+                store,
+                &mut keys,
+                &mut out,
+            )?;
+            assert_eq!(rt; ended, status, "at {lines:?} by {piece}");
+            assert_eq!(rt;
+                out.bytes(),
+                ignored(alloc, count)?.as_slice(),
+                "at {lines:?} by {piece}"
+            );
+            assert!(rt;
+                is_second,
+                "asked more or less than once at {lines:?} by {piece}"
+            );
+        }
+    }
+    Ok(())
+}
+
+/// Lines and sources of the greatest length, and longer: a line, how often it is there, what stands
+/// behind, and how the run ends.
+#[test]
+fn long_sources(rt: HostRuntime) -> Result<(), Fail> {
+    let alloc = rt.alloc();
+    for (line, count, last, status, shown) in [
+        (
+            1024_usize,
+            1024_usize,
+            b"".as_slice(),
+            Status::Done,
+            0_usize,
+        ),
+        (1024, 1024, b"\n".as_slice(), Status::TooManyKeys, 0),
+        (1024, 1024, b"do x\n".as_slice(), Status::TooManyKeys, 0),
+        (4096, 0, b"do x".as_slice(), Status::Done, 1),
+        (4097, 1, b"do x".as_slice(), Status::Done, 1),
+        (4098, 1, b"do x".as_slice(), bad(1), 0),
+    ] {
+        let mut bytes = Bytes::new(alloc);
+        for _ in 0..count {
+            bytes.add(b"#")?;
+            for _ in 2..line {
+                bytes.add(b" ")?;
+            }
+            bytes.add(b"\n")?;
+        }
+        bytes.add(last)?;
+        let mut keys = MemSource::new(bytes, 4096, Vec::new(alloc));
+        let mut out = ample(&rt)?;
+        let store = store_of(&rt, alloc, "h/a.wmlc", &PAGE, 2)?;
+        let (ended, _) = pressed(&rt, alloc, &["browse", URL], store, &mut keys, &mut out)?;
+        assert_eq!(rt; ended, status, "at {count} lines of {line}, and {last:?}");
+        assert_eq!(rt;
+            out.bytes(),
+            ignored(alloc, shown)?.as_slice(),
+            "at {count} lines of {line}, and {last:?}"
+        );
+    }
+    Ok(())
+}
+
+/// A source whose calls fail in turn: the keys of whole lines before are shown.
+#[test]
+fn a_source_fails(rt: HostRuntime) -> Result<(), Fail> {
+    let alloc = rt.alloc();
+    let lines = b"do x\n# c\ndo y";
+    for call in 1..=lines.len() + 1 {
+        let mut keys = MemSource::new(Bytes::of(alloc, lines)?, 1, vec![in alloc; call as u64]?);
+        let mut out = ample(&rt)?;
+        let store = store_of(&rt, alloc, "h/a.wmlc", &PAGE, 2)?;
+        let (ended, _) = pressed(&rt, alloc, &["browse", URL], store, &mut keys, &mut out)?;
+        assert_eq!(rt;
+            (ended, ended.number()),
+            (Status::KeyReadFault, 4),
+            "at {call}"
+        );
+        let count = if call > 5 { 1 } else { 0 };
+        assert_eq!(rt; out.bytes(), ignored(alloc, count)?.as_slice(), "at {call}");
+    }
+    Ok(())
+}
+
+/// A store that fails is told first, and a sink that fails in place of how the keys end.
+#[test]
+fn the_first_fault_is_told(rt: HostRuntime) -> Result<(), Fail> {
+    let alloc = rt.alloc();
+    for (asked, room, status) in [
+        (1, 1000, Status::StoreFault),
+        (2, 1000, bad(2)),
+        (2, SHOWN.len(), Status::WriteFault),
+    ] {
+        let mut keys = MemSource::new(Bytes::of(alloc, b"do x\njump")?, 7, Vec::new(alloc));
+        let mut out = MemSink::new(alloc, room, 1000, Vec::new(alloc))?;
+        let store = store_of(&rt, alloc, "h/a.wmlc", &PAGE, asked)?;
+        let (ended, _) = pressed(&rt, alloc, &["browse", URL], store, &mut keys, &mut out)?;
+        assert_eq!(rt; ended, status, "at {asked} and {room}");
+        let mut buffer = [0; 2];
+        assert_eq!(rt;
+            keys.read(&mut buffer),
+            Ok(if asked == 1 { 2 } else { 0 }),
+            "at {asked} and {room}"
+        );
+    }
+    Ok(())
+}
+
 /// With ample memory no run wants any: the one ending that no clause ties to a cause.
 #[test]
 fn memory_suffices(rt: HostRuntime) -> Result<(), Fail> {
@@ -361,8 +507,16 @@ fn statuses(rt: HostRuntime) -> Result<(), Fail> {
         (Status::Done, 0, b"".as_slice()),
         (Status::Usage, 1, b"wap: usage\n".as_slice()),
         (Status::StoreFault, 3, b"wap: store fault\n".as_slice()),
+        (Status::KeyReadFault, 4, b"wap: key read fault\n".as_slice()),
         (Status::WriteFault, 5, b"wap: write fault\n".as_slice()),
         (Status::NoMemory, 6, b"wap: no memory\n".as_slice()),
+        (bad(1), 7, b"wap: line 1 UnknownWord\n".as_slice()),
+        (
+            bad(1_048_577),
+            7,
+            b"wap: line 1048577 UnknownWord\n".as_slice(),
+        ),
+        (Status::TooManyKeys, 9, b"wap: too many keys\n".as_slice()),
     ] {
         assert_eq!(rt; status.number(), number, "{status:?}");
         let mut out = ample(&rt)?;

@@ -2,3 +2,6 @@ pub mod UrlLaws
 pub mod TextLaws
 pub mod Apart
 pub mod Sessions
+pub mod Printing
+pub mod Playing
+pub mod Browsing

@@ -1,14 +1,12 @@
--- A session without keys shows what opening its URL shows.
+-- What opening a URL shows, by what the store answered.
 use Rattle.std.proofs.Common.{◌≡◌, ℕ, Bool, true, false, cond, List, [], ◌∷◌, Option, Some, None, refl, sym, ap, ◌∙◌}
 use Rattle.std.specs.Option.{option_map, IfSome}
 use Rattle.wap_base.specs.declared.store.Fetched.{Fetched}
-use Rattle.std.proofs.lemmas.List.{append-nil}
 use Rattle.wap_base.specs.Texts.{is_same_text}
 use Rattle.wap_base.specs.Contents.{Contents, page_named, answer_of, answer_for}
 use Rattle.wap_world.specs.Lines.{get_line, lines_bytes}
 use Rattle.wap_world.specs.Pages.{Page, is_deck, is_refused, page_of}
-use Rattle.wap_world.specs.World.{start, entered, name_of}
-use Rattle.wap_world.specs.Transcript.{transcript}
+use Rattle.wap_world.specs.World.{start, entered, opened, name_of}
 use Rattle.wap_cli.specs.Judged.{judge, judged}
 use Rattle.wap_cli.specs.Opening.{found_lines, opening_lines}
 
@@ -30,17 +28,16 @@ entered_lines : (url name : List ℕ) (found : Option (List ℕ)) → (entered s
 entered_lines url name None = refl
 entered_lines url name (Some bytes) = entered_page url name (judge bytes) bytes refl
 
-pub transcript_opens : (contents : Contents) (url : List ℕ) → transcript (judged contents) url [] ≡ lines_bytes (opening_lines url (answer_for (name_of url) contents))
-transcript_opens contents url =
-    ap lines_bytes (append-nil (entered start url (name_of url) (page_of (name_of url) (judged contents))).lines)
-    ∙ ap (λ (found : Option Page). lines_bytes (entered start url (name_of url) found).lines) (page_judged_of (name_of url) contents)
+pub shown_opened : (contents : Contents) (url : List ℕ) → lines_bytes (opened (judged contents) start url).lines ≡ lines_bytes (opening_lines url (answer_for (name_of url) contents))
+shown_opened contents url =
+    ap (λ (found : Option Page). lines_bytes (entered start url (name_of url) found).lines) (page_judged_of (name_of url) contents)
     ∙ ap lines_bytes (entered_lines url (name_of url) (page_named (name_of url) contents))
 
 -- what a store told, and what it answered
-pub transcript_told : (contents : Option Contents) (url bytes : List ℕ) (name : List ℕ) (answer : Fetched) → name ≡ name_of url → bytes ≡ lines_bytes (opening_lines url answer)
-    → IfSome contents (λ pages. answer ≡ answer_for name pages) → IfSome contents (λ pages. bytes ≡ transcript (judged pages) url [])
-transcript_told None url bytes name answer named opened told = tt
-transcript_told (Some pages) url bytes name answer named opened told =
-    opened
+pub opened_told : (contents : Option Contents) (url bytes : List ℕ) (name : List ℕ) (answer : Fetched) → name ≡ name_of url → bytes ≡ lines_bytes (opening_lines url answer)
+    → IfSome contents (λ pages. answer ≡ answer_for name pages) → IfSome contents (λ pages. bytes ≡ lines_bytes (opened (judged pages) start url).lines)
+opened_told None url bytes name answer named shown told = tt
+opened_told (Some pages) url bytes name answer named shown told =
+    shown
     ∙ ap (λ (a : Fetched). lines_bytes (opening_lines url a)) (told ∙ ap (λ (n : List ℕ). answer_for n pages) named)
-    ∙ sym (transcript_opens pages url)
+    ∙ sym (shown_opened pages url)

@@ -31,6 +31,10 @@ pub refused_letters : chars (codes "! refused") ≡ codes "! refused"
 unfolding chars
 refused_letters = refl
 
+pub ignored_letters : chars (codes "! ignored") ≡ codes "! ignored"
+unfolding chars
+ignored_letters = refl
+
 pub equals_letters : chars (codes "=") ≡ codes "="
 unfolding chars
 equals_letters = refl

@@ -3,4 +3,5 @@ pub mod Scanning
 pub mod Words
 pub mod Judged
 pub mod Opening
+pub mod Sessions
 pub mod Statuses

@@ -1,18 +1,20 @@
 //! Browsing a site.
-ghost use Rattle.std.specs.Prelude.{◌≡◌, ◌++◌, ◌≤◌, [], Some, IfOk, OnOk, IsErrOf, IfSome};
+ghost use Rattle.std.specs.Prelude.{◌≡◌, ◌++◌, ◌≤◌, Some, IfOk, OnOk, IsErrOf, IfSome};
 ghost use Rattle.wap_base.specs.Count.{raised, Rose};
 ghost use Rattle.wap_world.specs.Lines.{lines_bytes};
-ghost use Rattle.wap_world.specs.World.{card_lines, name_of};
-ghost use Rattle.wap_world.specs.Transcript.{transcript};
+ghost use Rattle.wap_world.specs.Pages.{Pages};
+ghost use Rattle.wap_world.specs.World.{World, start, card_lines, name_of, opened, react};
+ghost use Rattle.wap_world.specs.Transcript.{played};
 ghost use Rattle.wap_cli.specs.Judged.{judge, judged};
 ghost use Rattle.wap_cli.specs.Opening.{found_lines, answer_lines, opening_lines};
 
 use crate::judging::{Judged, judge};
-use crate::lines::{add_get, add_missing, add_refused};
+use crate::lines::{add_get, add_ignored, add_missing, add_refused};
 use crate::screen::add_screen;
 use std::alloc::Global;
 use wap_base::{Bytes, Fetched, NoMemory, RunErr, Store, StoreErr, Text};
 use wap_deck::GoodDeck;
+use wap_keys::Key;
 
 /// Appends the lines of a deck's first card.
 fn add_deck(alloc: Global, out: &mut Bytes, deck: &GoodDeck) -> Result<(), NoMemory>
@@ -65,13 +67,9 @@ fn name_of(alloc: Global, url: &Text) -> Result<Text, NoMemory>
     Text::of(alloc, characters.as_str())
 }
 
-/// The transcript of a session without keys.
-pub(crate) fn transcript<S: Store>(
-    alloc: Global,
-    url: &Text,
-    store: &mut S,
-) -> Result<Bytes, RunErr>
-    ensures told { IfOk result (λ bytes. IfSome (S.contents store.old) (λ contents. bytes ≡ transcript (judged contents) url.now [])) }
+/// The lines of a session's URL, which is asked for.
+pub(crate) fn opened<S: Store>(alloc: Global, url: &Text, store: &mut S) -> Result<Bytes, RunErr>
+    ensures told { IfOk result (λ bytes. IfSome (S.contents store.old) (λ contents. bytes ≡ lines_bytes (opened (judged contents) start url.now).lines)) }
     ensures counted { OnOk result (S.fetches store.new ≡ raised (S.fetches store.old)) }
     ensures kept { S.contents store.new ≡ S.contents store.old }
     ensures faults { S.faults store.old ≤ S.faults store.new }
@@ -80,4 +78,23 @@ pub(crate) fn transcript<S: Store>(
     let name = name_of(alloc, url)?;
     let answer = store.fetch(&name)?;
     Ok(opening(alloc, url, &answer)?)
+}
+
+/// Appends the lines of a key.
+fn add_key(alloc: Global, out: &mut Bytes, key: &Key) -> Result<(), NoMemory>
+    ensures { OnOk result ((pages : Pages) (world : World) → out.new ≡ out.old ++ lines_bytes (react pages world key.now).lines) }
+{
+    match key {
+        Key::Do(_) => add_ignored(alloc, out),
+    }
+}
+
+/// Appends the lines of keys.
+pub(crate) fn add_keys(alloc: Global, out: &mut Bytes, keys: &[Key]) -> Result<(), NoMemory>
+    ensures { OnOk result ((pages : Pages) (world : World) → out.new ≡ out.old ++ lines_bytes (played pages keys.now world).lines) }
+{
+    for key in keys {
+        add_key(alloc, out, key)?;
+    }
+    Ok(())
 }

@@ -1,77 +1,131 @@
 //! Running a command.
-ghost use Rattle.std.specs.Prelude.{◌≡◌, ◌≢◌, ◌≤◌, ◌↔◌, ℕ, List, [], Some, None, IfSome};
+ghost use Rattle.std.specs.Prelude.{◌≡◌, ◌≢◌, ◌+◌, ◌≤◌, ◌↔◌, ◌++◌, ℕ, List, Some, None, IfSome};
 ghost use Rattle.wap_base.specs.Count.{raised, Rose};
 ghost use Rattle.wap_base.specs.Transfer.{Appends, AppendsFront};
-ghost use Rattle.wap_world.specs.Transcript.{transcript};
-ghost use Rattle.wap_cli.specs.Judged.{judged};
-ghost use Rattle.wap_cli.specs.Statuses.{IsDoneOrWants};
+ghost use Rattle.wap_keys.specs.declared.key.KeyFault.{KeyFault};
+ghost use Rattle.wap_keys.specs.declared.source.Ending.TheVariants as ending;
+ghost use Rattle.wap_keys.specs.Lines.{keys_of, limit};
+ghost use Rattle.wap_keys.specs.Read.{TakesAtMost};
+ghost use Rattle.wap_world.specs.Lines.{lines_bytes};
+ghost use Rattle.wap_world.specs.Pages.{Pages};
+ghost use Rattle.wap_world.specs.World.{World};
+ghost use Rattle.wap_world.specs.Transcript.{played};
+ghost use Rattle.wap_cli.specs.Sessions.{IfTold, Writes, WritesFront, WritesBefore};
+ghost use Rattle.wap_cli.specs.Statuses.{ended, IsPlayed, IsOrStops, IsOrWants};
 ghost use Rattle.wap_cli.specs.Words.{command};
 
 use crate::Status;
-use crate::browse::transcript;
+use crate::browse::{add_keys, opened};
+use crate::status::ended;
 use crate::words::command;
 use std::alloc::Global;
 use std::thread::Threads;
-use wap_base::{Failed, Gate, RunErr, Sink, Source, Store, Text, write_all};
+use wap_base::{Bytes, Failed, Gate, NoMemory, RunErr, Sink, Source, Store, Text, write_all};
+use wap_keys::{Ending, Key, read_keys};
 
-/// Browses from a URL on, and writes the transcript.
-fn browse<S: Store, O: Sink>(alloc: Global, url: &Text, store: &mut S, out: &mut O) -> Status
-    ensures command { result ≢ Status.Usage }
-    ensures done { result ≡ Status.Done → IfSome (S.contents store.old) (λ contents. Appends (O.written out.old) (O.written out.new) (transcript (judged contents) url.now [])) }
-    ensures asked { result ≡ Status.Done → S.fetches store.new ≡ raised (S.fetches store.old) }
-    ensures front { IfSome (S.contents store.old) (λ contents. AppendsFront (O.written out.old) (O.written out.new) (transcript (judged contents) url.now [])) }
-    ensures store_fault { result ≡ Status.StoreFault → Rose (S.faults store.old) (S.faults store.new) }
-    ensures unwritten { result ≡ Status.StoreFault → O.written out.new ≡ O.written out.old }
+/// Writes what was shown so far and what the keys show, and ends as the keys came to their end.
+fn write<O: Sink>(
+    alloc: Global,
+    mut shown: Bytes,
+    keys: &[Key],
+    ending: Ending,
+    out: &mut O,
+) -> Status
+    ensures ends { IsOrStops (ended ending) result }
+    ensures whole { result ≡ ended ending → (pages : Pages) (world : World) → Appends (O.written out.old) (O.written out.new) (shown ++ lines_bytes (played pages keys.now world).lines) }
+    ensures front { (pages : Pages) (world : World) → AppendsFront (O.written out.old) (O.written out.new) (shown ++ lines_bytes (played pages keys.now world).lines) }
     ensures write_fault { result ≡ Status.WriteFault → Rose (O.faults out.old) (O.faults out.new) }
-    ensures kept { S.contents store.new ≡ S.contents store.old }
-    ensures store_faults { S.faults store.old ≤ S.faults store.new }
     ensures sink_faults { O.faults out.old ≤ O.faults out.new }
 {
-    match transcript(alloc, url, store) {
-        Ok(bytes) => match write_all(out, bytes.as_slice()) {
-            Ok(()) => Status::Done,
-            Err(Failed) => Status::WriteFault,
-        },
-        Err(RunErr::Store) => Status::StoreFault,
-        Err(RunErr::NoMemory) => Status::NoMemory,
+    if let Err(NoMemory) = add_keys(alloc, &mut shown, keys) {
+        return Status::NoMemory;
+    }
+    match write_all(out, shown.as_slice()) {
+        Ok(()) => ended(ending),
+        Err(Failed) => Status::WriteFault,
     }
 }
 
-/// Runs the command that the words are, over the pages of the store, and gives the store back.
-/// The keys are not read yet.
+/// Browses from a URL on by the keys, and writes the transcript.
+fn browse<S: Store, I: Source, O: Sink>(
+    alloc: Global,
+    url: &Text,
+    store: &mut S,
+    keys: &mut I,
+    out: &mut O,
+) -> Status
+    ensures command { result ≢ Status.Usage }
+    ensures whole { IsPlayed result → IfTold (S.contents store.old) (I.left keys.old) (Writes url.now (O.written out.old) (O.written out.new)) }
+    ensures before { result ≡ Status.KeyReadFault → IfTold (S.contents store.old) (I.left keys.old) (WritesBefore url.now (I.left keys.new) (O.written out.old) (O.written out.new)) }
+    ensures front { IfTold (S.contents store.old) (I.left keys.old) (WritesFront url.now (O.written out.old) (O.written out.new)) }
+    ensures ends { IsPlayed result → IfSome (I.left keys.old) (λ bytes. result ≡ ended (keys_of bytes).ending) }
+    ensures asked { IsPlayed result → S.fetches store.new ≡ raised (S.fetches store.old) }
+    ensures store_fault { result ≡ Status.StoreFault → Rose (S.faults store.old) (S.faults store.new) }
+    ensures unwritten { result ≡ Status.StoreFault → O.written out.new ≡ O.written out.old }
+    ensures unread { result ≡ Status.StoreFault → I.left keys.new ≡ I.left keys.old }
+    ensures read_fault { result ≡ Status.KeyReadFault → Rose (I.faults keys.old) (I.faults keys.new) }
+    ensures write_fault { result ≡ Status.WriteFault → Rose (O.faults out.old) (O.faults out.new) }
+    ensures few { TakesAtMost (limit + 1) (I.left keys.old) (I.left keys.new) }
+    ensures kept { S.contents store.new ≡ S.contents store.old }
+    ensures store_faults { S.faults store.old ≤ S.faults store.new }
+    ensures source_faults { I.faults keys.old ≤ I.faults keys.new }
+    ensures sink_faults { O.faults out.old ≤ O.faults out.new }
+{
+    let shown = match opened(alloc, url, store) {
+        Ok(shown) => shown,
+        Err(RunErr::Store) => return Status::StoreFault,
+        Err(RunErr::NoMemory) => return Status::NoMemory,
+    };
+    match read_keys(alloc, keys) {
+        Ok((pressed, ending)) => write(alloc, shown, &pressed, ending, out),
+        Err(NoMemory) => Status::NoMemory,
+    }
+}
+
+/// Runs the command that the words are, over the pages of the store and the key lines of the source,
+/// and gives the store back.
 pub fn run<R: Threads + Sync, S: Store, I: Source, O: Sink, G: Gate + Sync>(
     _rt: &R,
     alloc: Global,
     words: &[Text],
     mut store: S,
-    _keys: &mut I,
+    keys: &mut I,
     out: &mut O,
     _gate: &G,
 ) -> (Status, S)
-    // What is written is the transcript.
-    ensures done { (url : List ℕ) → command words.now ≡ Some url → result.0 ≡ Status.Done → IfSome (S.contents store) (λ contents. Appends (O.written out.old) (O.written out.new) (transcript (judged contents) url [])) }
-    ensures asked { result.0 ≡ Status.Done → S.fetches result.1 ≡ raised (S.fetches store) }
+    // What is written is the transcript, over all key lines before the first that is none.
+    ensures whole { (url : List ℕ) → command words.now ≡ Some url → IsPlayed result.0 → IfTold (S.contents store) (I.left keys.old) (Writes url (O.written out.old) (O.written out.new)) }
+    ensures asked { IsPlayed result.0 → S.fetches result.1 ≡ raised (S.fetches store) }
+    // Where the source fails, it is the transcript over the key lines before.
+    ensures before { (url : List ℕ) → command words.now ≡ Some url → result.0 ≡ Status.KeyReadFault → IfTold (S.contents store) (I.left keys.old) (WritesBefore url (I.left keys.new) (O.written out.old) (O.written out.new)) }
     // However it ends, no more than a front of it is.
-    ensures front { (url : List ℕ) → command words.now ≡ Some url → IfSome (S.contents store) (λ contents. AppendsFront (O.written out.old) (O.written out.new) (transcript (judged contents) url [])) }
+    ensures front { (url : List ℕ) → command words.now ≡ Some url → IfTold (S.contents store) (I.left keys.old) (WritesFront url (O.written out.old) (O.written out.new)) }
 
     // Each status has its cause.
     ensures usage { (result.0 ≡ Status.Usage) ↔ (command words.now ≡ None) }
     ensures unasked { result.0 ≡ Status.Usage → S.fetches result.1 ≡ S.fetches store }
     ensures quiet { result.0 ≡ Status.Usage → O.written out.new ≡ O.written out.old }
+    ensures unpressed { result.0 ≡ Status.Usage → I.left keys.new ≡ I.left keys.old }
     ensures store_fault { result.0 ≡ Status.StoreFault → Rose (S.faults store) (S.faults result.1) }
     ensures unwritten { result.0 ≡ Status.StoreFault → O.written out.new ≡ O.written out.old }
+    ensures unread { result.0 ≡ Status.StoreFault → I.left keys.new ≡ I.left keys.old }
+    ensures read_fault { result.0 ≡ Status.KeyReadFault → Rose (I.faults keys.old) (I.faults keys.new) }
     ensures write_fault { result.0 ≡ Status.WriteFault → Rose (O.faults out.old) (O.faults out.new) }
-    ensures complete { (url : List ℕ) → command words.now ≡ Some url → ¬ Rose (S.faults store) (S.faults result.1) → ¬ Rose (O.faults out.old) (O.faults out.new) → IsDoneOrWants result.0 }
+    ensures done { result.0 ≡ Status.Done → IfSome (I.left keys.old) (λ bytes. (keys_of bytes).ending ≡ ending.End) }
+    ensures bad_key { (line : ℕ) (fault : KeyFault) → result.0 ≡ Status.BadKey line fault → IfSome (I.left keys.old) (λ bytes. (keys_of bytes).ending ≡ ending.BadKey line fault) }
+    ensures too_many_keys { result.0 ≡ Status.TooManyKeys → IfSome (I.left keys.old) (λ bytes. (keys_of bytes).ending ≡ ending.TooManyKeys) }
+    ensures complete { (url : List ℕ) → command words.now ≡ Some url → ¬ Rose (S.faults store) (S.faults result.1) → ¬ Rose (I.faults keys.old) (I.faults keys.new) → ¬ Rose (O.faults out.old) (O.faults out.new) → IfSome (I.left keys.old) (λ bytes. IsOrWants (ended (keys_of bytes).ending) result.0) }
 
     // What stays, however it ends.
+    ensures few { TakesAtMost (limit + 1) (I.left keys.old) (I.left keys.new) }
     ensures kept { S.contents result.1 ≡ S.contents store }
     ensures store_faults { S.faults store ≤ S.faults result.1 }
+    ensures source_faults { I.faults keys.old ≤ I.faults keys.new }
     ensures sink_faults { O.faults out.old ≤ O.faults out.new }
-    ensures unread { I.left _keys.new ≡ I.left _keys.old }
 {
     match command(words) {
         Some(url) => {
-            let status = browse(alloc, url, &mut store, out);
+            let status = browse(alloc, url, &mut store, keys, out);
             (status, store)
         }
         None => (Status::Usage, store),

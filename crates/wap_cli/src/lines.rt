@@ -57,3 +57,10 @@ pub(crate) fn add_refused(alloc: Global, out: &mut Bytes) -> Result<(), NoMemory
 {
     add_line(alloc, out, &Text::of(alloc, "! refused")?)
 }
+
+/// Appends the line of a key that fits nothing.
+pub(crate) fn add_ignored(alloc: Global, out: &mut Bytes) -> Result<(), NoMemory>
+    ensures { OnOk result (out.new ≡ out.old ++ line_bytes (refusal_line (codes "ignored"))) }
+{
+    add_line(alloc, out, &Text::of(alloc, "! ignored")?)
+}

@@ -1,10 +1,12 @@
 //! How a run of the program ended.
-ghost use Rattle.std.specs.Prelude.{◌≡◌, ◌≤◌, OnOk, OnErr};
+ghost use Rattle.std.specs.Prelude.{◌≡◌, ◌++◌, ◌≤◌, OnOk, OnErr, codes};
 ghost use Rattle.wap_base.specs.Count.{Rose};
 ghost use Rattle.wap_base.specs.Transfer.{Appends, AppendsFront};
-ghost use Rattle.wap_cli.specs.Statuses.{number_of, status_line};
+ghost use Rattle.wap_cli.specs.Statuses.{number_of, fault_name, fixed_line, status_line, ended};
 
+use itoa::Buffer;
 use wap_base::{Failed, Sink, write_all};
+use wap_keys::{Ending, KeyFault};
 
 /// How a run ended.
 #[derive(Clone, Copy, Debug, PartialEq, Eq)]
@@ -14,9 +16,50 @@ pub enum Status {
     Usage,
     /// The store failed.
     StoreFault,
+    /// The source of the keys failed.
+    KeyReadFault,
     /// The sink failed.
     WriteFault,
     NoMemory,
+    /// A line is no key line; lines are counted from 1.
+    BadKey { line: u32, fault: KeyFault },
+    /// There are more bytes of key lines than are read.
+    TooManyKeys,
+}
+
+/// The end of the line of a line that is no key line: why it is none.
+fn fault_end(fault: KeyFault) -> &'static [u8]
+    ensures { result.now ≡ codes " " ++ (fault_name fault ++ codes "\n") }
+{
+    match fault {
+        KeyFault::UnknownWord => b" UnknownWord\n",
+        KeyFault::NoMemory => b" NoMemory\n",
+    }
+}
+
+/// How a run ends whose keys came to this end, if nothing else ended it before.
+pub(crate) fn ended(ending: Ending) -> Status
+    ensures { result ≡ ended ending }
+{
+    match ending {
+        Ending::End => Status::Done,
+        Ending::BadKey { line, fault } => Status::BadKey { line, fault },
+        Ending::TooManyKeys => Status::TooManyKeys,
+        Ending::ReadFault => Status::KeyReadFault,
+    }
+}
+
+/// Writes the line of a line that is no key line.
+fn print_bad_key<O: Sink>(out: &mut O, line: u32, fault: KeyFault) -> Result<(), Failed>
+    ensures whole { OnOk result (Appends (O.written out.old) (O.written out.new) (status_line (Status.BadKey line fault))) }
+    ensures front { OnErr result (AppendsFront (O.written out.old) (O.written out.new) (status_line (Status.BadKey line fault))) }
+    ensures faults { O.faults out.old ≤ O.faults out.new }
+    ensures failed { OnErr result (Rose (O.faults out.old) (O.faults out.new)) }
+{
+    let mut buffer = Buffer::new();
+    write_all(out, b"wap: line ")?;
+    write_all(out, buffer.format(line).as_bytes())?;
+    write_all(out, fault_end(fault))
 }
 
 impl Status {
@@ -28,21 +71,26 @@ impl Status {
             Status::Done => 0,
             Status::Usage => 1,
             Status::StoreFault => 3,
+            Status::KeyReadFault => 4,
             Status::WriteFault => 5,
             Status::NoMemory => 6,
+            Status::BadKey { .. } => 7,
+            Status::TooManyKeys => 9,
         }
     }
 
-    /// The line that tells of it, which is empty where all went well.
+    /// The line that tells of it, where it is the same each time, and else nothing.
     fn line(&self) -> &'static [u8]
-        ensures { result.now ≡ status_line self.now }
+        ensures { result.now ≡ fixed_line self.now }
     {
         match self {
-            Status::Done => b"",
+            Status::Done | Status::BadKey { .. } => b"",
             Status::Usage => b"wap: usage\n",
             Status::StoreFault => b"wap: store fault\n",
+            Status::KeyReadFault => b"wap: key read fault\n",
             Status::WriteFault => b"wap: write fault\n",
             Status::NoMemory => b"wap: no memory\n",
+            Status::TooManyKeys => b"wap: too many keys\n",
         }
     }
 
@@ -53,6 +101,9 @@ impl Status {
         ensures faults { O.faults out.old ≤ O.faults out.new }
         ensures failed { OnErr result (Rose (O.faults out.old) (O.faults out.new)) }
     {
-        write_all(out, self.line())
+        match self {
+            Status::BadKey { line, fault } => print_bad_key(out, *line, *fault),
+            _ => write_all(out, self.line()),
+        }
     }
 }

@@ -11,7 +11,7 @@ use Rattle.wap_keys.specs.declared.source.Ending.TheVariants.{End, TooManyKeys, 
 use Rattle.wap_keys.specs.declared.lines.Lines.{Lines}
 use Rattle.wap_keys.specs.Lines.{Keys, limit, lines_of, keys_from, keys_of}
 use Rattle.wap_keys.specs.Begun.{keys_with, keys_at, IsBegun}
-use Rattle.wap_keys.specs.Read.{IsReadBefore, keys_within, TakesWithin}
+use Rattle.wap_keys.specs.Read.{IsReadBefore, AreFirst, TakesAtMost, keys_within, TakesWithin}
 use Rattle.wap_keys.proofs.Taking.{cut_ends, ending_is}
 use Rattle.wap_keys.proofs.Within.{take_past, ending_past}
 
@@ -19,17 +19,25 @@ use Rattle.wap_keys.proofs.Within.{take_past, ending_past}
 abbrev pub HaveCome : List ℕ → Lines → Type 0
 HaveCome front lines = (ending : Ending) (rest : List ℕ) → keys_from ending 1 (lines_of (front ++ rest)) ≡ keys_with lines ending rest
 
+-- ---- one piece after another
+
+pub takes_both : (start now behind : Option (List ℕ)) (front piece : List ℕ) → TakesFrom start now front → TakesFrom now behind piece → TakesFrom start behind (front ++ piece)
+takes_both start now None front piece took takes = took ∙ ap (option_map (λ l. front ++ l)) takes
+takes_both start now (Some others) front piece took takes =
+    took ∙ ap (option_map (λ l. front ++ l)) takes ∙ ap (λ (l : List ℕ). Some l) (sym (append_assoc front piece others))
+
 -- ---- a read failed
 
-pub fault_before : (start now : Option (List ℕ)) (front : List ℕ) (lines : Lines) → TakesFrom start now front → HaveCome front lines → IsBegun lines → IfSome start (IsReadBefore lines.keys.items)
-fault_before None now front lines taken come begun = tt
-fault_before (Some bytes) None front lines taken come begun = absurd cc
-fault_before (Some bytes) (Some rest) front lines taken come begun = (
-  front,
-  rest,
-  some_same bytes (front ++ rest) taken,
-  ap (λ (read : List ℕ). keys_from ReadFault 1 (lines_of read)) (sym (append-nil front)) ∙ come ReadFault [] ∙ cut_ends lines ReadFault refl begun,
-)
+pub fault_before : (start now behind : Option (List ℕ)) (front : List ℕ) (lines : Lines) → TakesFrom start now front → behind ≡ now → HaveCome front lines → IsBegun lines → IfSome start (IsReadBefore lines.keys.items behind)
+fault_before None now behind front lines taken unmoved come begun = tt
+fault_before (Some bytes) None behind front lines taken unmoved come begun = absurd cc
+fault_before (Some bytes) (Some rest) behind front lines taken unmoved come begun = record {
+  given = front;
+  rest = rest;
+  split = some_same bytes (front ++ rest) taken;
+  still = unmoved;
+  said = ap (λ (read : List ℕ). keys_from ReadFault 1 (lines_of read)) (sym (append-nil front)) ∙ come ReadFault [] ∙ cut_ends lines ReadFault refl begun;
+}
 
 -- ---- the end
 
@@ -98,12 +106,26 @@ stop_told (Some bytes) (Some rest) (Some others) front piece lines after taken s
     ∙ whole_within front (piece ++ others) lines taken count few come
     ∙ ends others
 
--- ---- a piece was taken
+-- the keys so far are the first of all
+pub fault_first : (start now : Option (List ℕ)) (front : List ℕ) (lines : Lines) (taken : ℕ) → TakesFrom start now front → length front ≡ taken → taken ≤ limit → HaveCome front lines
+    → IfSome start (λ bytes. AreFirst lines.keys.items (keys_of bytes).keys)
+fault_first None now front lines taken took count few come = tt
+fault_first (Some bytes) None front lines taken took count few come = absurd cc
+fault_first (Some bytes) (Some rest) front lines taken took count few come =
+    let all = keys_within lines taken rest in
+    let others = keys_from (ending_past (limit - taken) rest) lines.number (lines_of (lines.begun.items ++ take (limit - taken) rest)) in
+    (others.keys, ap (λ (keys : Keys). keys.keys) (ap keys_of (some_same bytes (front ++ rest) took) ∙ whole_within front rest lines taken count few come))
 
-pub takes_both : (start now behind : Option (List ℕ)) (front piece : List ℕ) → TakesFrom start now front → TakesFrom now behind piece → TakesFrom start behind (front ++ piece)
-takes_both start now None front piece took takes = took ∙ ap (option_map (λ l. front ++ l)) takes
-takes_both start now (Some others) front piece took takes =
-    took ∙ ap (option_map (λ l. front ++ l)) takes ∙ ap (λ (l : List ℕ). Some l) (sym (append_assoc front piece others))
+pub told_first : (start : Option (List ℕ)) (lines : Lines) (ending : Ending) → IfSome start (λ bytes. keys_of bytes ≡ keys_at lines ending) → IfSome start (λ bytes. AreFirst lines.keys.items (keys_of bytes).keys)
+told_first None lines ending told = tt
+told_first (Some bytes) lines ending told = ([], ap (λ (keys : Keys). keys.keys) told ∙ sym (append-nil lines.keys.items))
+
+pub takes_few : (start now behind : Option (List ℕ)) (front piece : List ℕ) (taken room : ℕ) → TakesFrom start now front → TakesFrom now behind piece → length front ≡ taken → length piece ≤ room → room ≤ limit + 1 - taken → taken ≤ limit
+    → TakesAtMost (limit + 1) start behind
+takes_few start now behind front piece taken room took takes count small fits few =
+    (front ++ piece, omega (arith, length-append front piece, count, small, fits, few), takes_both start now behind front piece took takes)
+
+-- ---- a piece was taken
 
 pub come_both : (front piece : List ℕ) (lines after : Lines) → HaveCome front lines → ((ending : Ending) (rest : List ℕ) → keys_with lines ending (piece ++ rest) ≡ keys_with after ending rest) → HaveCome (front ++ piece) after
 come_both front piece lines after come goes ending rest =

@@ -1,5 +1,6 @@
 -- Keys that are read piece by piece, up to the limit or a read that failed. This project's own.
 use Rattle.std.specs.Prelude.{◌≡◌, ℕ, ◌+◌, ◌-◌, ◌≤◌, nat_lt, if◌then◌else◌, List, ◌++◌, length, take, Option, Some, None}
+use Rattle.wap_base.specs.Transfer.{TakesFrom}
 use Rattle.wap_keys.specs.declared.key.Key.{Key}
 use Rattle.wap_keys.specs.declared.source.Ending.{Ending}
 use Rattle.wap_keys.specs.declared.source.Ending.TheVariants.{End, TooManyKeys, ReadFault}
@@ -7,9 +8,21 @@ use Rattle.wap_keys.specs.declared.lines.Lines.{Lines}
 use Rattle.wap_keys.specs.Lines.{Keys, limit, keys_before_fault}
 use Rattle.wap_keys.specs.Begun.{keys_with, keys_at, IsBegun}
 
--- they are those of some front of the bytes
-abbrev pub IsReadBefore : List Key → List ℕ → Type 0
-IsReadBefore keys bytes = (front : List ℕ) × (rest : List ℕ) × (bytes ≡ front ++ rest) × (keys_before_fault front ≡ record { keys = keys; ending = ReadFault })
+-- a source with these bytes has still left, and the keys are those of the whole lines that it gave
+pub record IsReadBefore (keys : List Key) (left : Option (List ℕ)) (bytes : List ℕ) : Type 0 where
+  pub given : List ℕ
+  pub rest : List ℕ
+  pub split : bytes ≡ given ++ rest
+  pub still : left ≡ Some rest
+  pub said : keys_before_fault given ≡ record { keys = keys; ending = ReadFault }
+
+-- the keys are the first of these
+abbrev pub AreFirst : List Key → List Key → Type 0
+AreFirst keys all = (others : List Key) × (all ≡ keys ++ others)
+
+-- of the bytes that the source had, at most so many were taken
+abbrev pub TakesAtMost : ℕ → Option (List ℕ) → Option (List ℕ) → Type 0
+TakesAtMost most before after = (taken : List ℕ) × (length taken ≤ most) × TakesFrom before after taken
 
 -- what the keys come to, if these bytes follow those that were taken
 abbrev pub keys_within : Lines → ℕ → List ℕ → Keys

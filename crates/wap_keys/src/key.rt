@@ -11,8 +11,6 @@ use wap_base::Text;
 /// What a user does.
 #[derive(Debug, Drop, PartialEq, Eq)]
 pub enum Key {
-    /// Opens a URL. A session begins with it; no key line says it yet.
-    Open(Text),
     /// Runs the do of a type.
     Do(Text),
 }

@@ -15,7 +15,7 @@ const LINE_LIMIT: usize = 4096;
 #[derive(Drop)]
 pub(crate) struct Lines {
     pub(crate) keys: Vec<Key>,
-    pub(crate) number: usize,
+    pub(crate) number: u32,
     pub(crate) begun: Vec<u8>,
 }
 
@@ -34,7 +34,7 @@ impl Lines {
 
     /// Takes the line that is begun, which a line feed ended or the end of all bytes.
     fn take_line(&mut self, alloc: Global, ended: bool) -> Result<Option<Ending>, NoMemory>
-        requires { self.old.number < 2 ^ 32 }
+        requires { self.old.number < 2 ^ 31 }
         ensures { IfOk result (TakesLine self.old self.new ended) }
     {
         let content = if ended {
@@ -59,7 +59,7 @@ impl Lines {
     /// Takes one byte more.
     fn take_byte(&mut self, alloc: Global, byte: u8) -> Result<Option<Ending>, NoMemory>
         requires begun { IsBegun self.old }
-        requires few { self.old.number < 2 ^ 32 }
+        requires few { self.old.number < 2 ^ 31 }
         ensures { IfOk result (Takes self.old self.new (byte ∷ [])) }
     {
         if byte == b'\n' {
@@ -78,7 +78,7 @@ impl Lines {
     /// Takes a piece more.
     pub(crate) fn take(&mut self, alloc: Global, piece: &[u8]) -> Result<Option<Ending>, NoMemory>
         requires begun { IsBegun self.old }
-        requires few { self.old.number + length piece.now < 2 ^ 32 }
+        requires few { self.old.number + length piece.now < 2 ^ 31 }
         ensures { IfOk result (Takes self.old self.new piece.now) }
     {
         for byte in piece {
@@ -92,7 +92,7 @@ impl Lines {
     /// Takes the last line, where all bytes were taken.
     pub(crate) fn finish(&mut self, alloc: Global) -> Result<Ending, NoMemory>
         requires begun { IsBegun self.old }
-        requires few { self.old.number < 2 ^ 32 }
+        requires few { self.old.number < 2 ^ 31 }
         ensures { IfOk result (λ stop. keys_with self.old End [] ≡ keys_at self.new stop) }
     {
         if self.begun.as_slice().is_empty() {

@@ -6,7 +6,7 @@ use std::test::Fail;
 use wap_base::{Bytes, MemSource, Text};
 
 /// A line that is no key line.
-const fn bad(line: usize) -> Ending {
+const fn bad(line: u32) -> Ending {
     Ending::BadKey {
         line,
         fault: KeyFault::UnknownWord,
@@ -17,10 +17,8 @@ const fn bad(line: usize) -> Ending {
 fn types_of(alloc: Global, keys: &[Key]) -> Result<Text, Fail> {
     let mut types = Text::new(alloc);
     for key in keys {
-        match key {
-            Key::Do(kind) => types.add(kind.as_str())?,
-            Key::Open(_) => types.add("\0")?,
-        }
+        let Key::Do(kind) = key;
+        types.add(kind.as_str())?;
         types.push('|')?;
     }
     Ok(types)

@@ -3,13 +3,11 @@ use Rattle.std.specs.Prelude.{ℕ, Bool, true, false, List, [], ◌∷◌, drop,
 use Rattle.wap_markup.specs.declared.deck.Deck.{Deck}
 use Rattle.wap_markup.specs.declared.deck.Node.{Node}
 use Rattle.wap_markup.specs.Decks.{cards_of}
+use Rattle.wap_keys.specs.declared.key.Key.{Key}
+use Rattle.wap_keys.specs.declared.key.Key.TheVariants.{Do}
 use Rattle.wap_world.specs.Lines.{get_line, refusal_line}
 use Rattle.wap_world.specs.Screens.{screen}
 use Rattle.wap_world.specs.Pages.{Page, Pages, page_of, is_deck, is_refused}
-
--- what a user does
-pub data Key : Type 0 where
-  opens : List ℕ → Key
 
 -- the current card, if there is one: its deck and its number
 pub record World : Type 0 where
@@ -66,6 +64,19 @@ entered world url name (Some (is_deck deck)) = record {
   tests = record { page = name; caller = None; allowed = true } ∷ [];
 }
 
--- one key
+-- a session's URL
+abbrev pub opened : Pages → World → List ℕ → Step
+opened pages world url = entered world url (name_of url) (page_of (name_of url) pages)
+
+-- a key that fits nothing changes nothing
+abbrev pub ignored : World → Step
+ignored world = record {
+  world = world;
+  lines = refusal_line (codes "ignored") ∷ [];
+  asked = [];
+  tests = [];
+}
+
+-- one key; no card has a do so far
 abbrev pub react : Pages → World → Key → Step
-react pages world (opens url) = entered world url (name_of url) (page_of (name_of url) pages)
+react pages world (Do kind) = ignored world
