@@ -7,8 +7,8 @@ use Rattle.wap_base.specs.Texts.{AreDistinct}
 use Rattle.wap_markup.specs.declared.deck.Deck.{Deck}
 use Rattle.wap_markup.specs.declared.deck.Node.{Node}
 use Rattle.wap_markup.specs.declared.deck.Item.{Item}
-use Rattle.wap_markup.specs.Decks.{node_of, is_card_tag, is_do_tag, cards_of, dos_of, ids_of, types_of}
-use Rattle.wap_deck.specs.Parts.{with_tag, card_in, do_in, id_of, type_of, id_in, type_in}
+use Rattle.wap_markup.specs.Decks.{node_of, is_card_tag, is_do_tag, cards_of, dos_of, id_of, type_of, ids_of, types_of}
+use Rattle.wap_deck.specs.Parts.{with_tag, card_in, do_in, id_in, type_in}
 use Rattle.wap_deck.proofs.Kept.{ahead}
 
 by_test : (b : Bool) (node : Node) (rest : List Node) → cond b (node ∷ rest) rest ≡ cons_option (cond b (Some node) None) rest
@@ -35,7 +35,7 @@ maps_joined f g (x ∷ xs) = first_then g (f x) (filter_map f xs) ∙ ap (cons_o
 pub cards_by_item : (deck : Deck) → cards_of deck ≡ filter_map card_in deck.root.kids
 cards_by_item deck = nodes_with (λ node. is_card_tag node.tag) deck.root.kids
 
-dos_by_item : (card : Node) → dos_of card ≡ filter_map do_in card.kids
+pub dos_by_item : (card : Node) → dos_of card ≡ filter_map do_in card.kids
 dos_by_item card = nodes_with (λ node. is_do_tag node.tag) card.kids
 
 pub ids_by_item : (deck : Deck) → ids_of deck ≡ filter_map id_in deck.root.kids

@@ -1,4 +1,4 @@
--- What a map that may give nothing gives of items up to a place, and from a place on.
+-- What a map that may give nothing gives of items from a place on.
 use Rattle.std.proofs.Common.{◌≡◌, ℕ, suc, add-one, drop, ◌+◌, ◌<◌, List, [], ◌∷◌, ◌++◌, length, get_or, take, Option, Some, None, ap, sym, ◌∙◌, append-nil}
 use Rattle.std.specs.List.{filter_map, cons_option}
 use Rattle.std.proofs.Math.Seq.{drop-cons}
@@ -8,18 +8,6 @@ use Rattle.std.proofs.lemmas.List.Elements.{filter_map-append}
 -- from a place on: the item there, and those behind it
 at_place : {X : Type 0} (xs : List X) (i : ℕ) (x : X) → i < length xs → x ≡ get_or xs i x → drop i xs ≡ x ∷ drop (i + 1) xs
 at_place xs i x within is = drop-cons xs i x within ∙ ap (λ y. y ∷ drop (suc i) xs) (sym is) ∙ ap (λ (n : ℕ). x ∷ drop n xs) (sym (add-one i))
-
-one_more : {X Y : Type 0} (h : X → Option Y) (xs : List X) (i : ℕ) (x : X) → i < length xs → x ≡ get_or xs i x → filter_map h (take (i + 1) xs) ≡ filter_map h (take i xs) ++ cons_option (h x) []
-one_more h xs i x within is =
-    ap (filter_map h) (take_more xs i x within) ∙ filter_map-append h (take i xs) (get_or xs i x ∷ []) ∙ ap (λ y. filter_map h (take i xs) ++ cons_option (h y) []) (sym is)
-
--- the item there gives something
-pub kept : {X Y : Type 0} (h : X → Option Y) (xs : List X) (i : ℕ) (x : X) (y : Y) → i < length xs → x ≡ get_or xs i x → h x ≡ Some y → filter_map h (take (i + 1) xs) ≡ filter_map h (take i xs) ++ y ∷ []
-kept h xs i x y within is gives = one_more h xs i x within is ∙ ap (λ o. filter_map h (take i xs) ++ cons_option o []) gives
-
--- or nothing
-pub dropped : {X Y : Type 0} (h : X → Option Y) (xs : List X) (i : ℕ) (x : X) → i < length xs → x ≡ get_or xs i x → h x ≡ None → filter_map h (take (i + 1) xs) ≡ filter_map h (take i xs)
-dropped h xs i x within is gives = one_more h xs i x within is ∙ ap (λ o. filter_map h (take i xs) ++ cons_option o []) gives ∙ append-nil (filter_map h (take i xs))
 
 -- what the items from a place on give, and those behind it
 pub ahead : {X Y : Type 0} (h : X → Option Y) (xs : List X) (i : ℕ) (x : X) (gives : Option Y) → i < length xs → x ≡ get_or xs i x → gives ≡ h x → filter_map h (drop i xs) ≡ cons_option gives (filter_map h (drop (i + 1) xs))

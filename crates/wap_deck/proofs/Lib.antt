@@ -1,5 +1,3 @@
 pub mod Kept
-pub mod Levels
 pub mod Cards
 pub mod Sorting
-pub mod FormDecks

@@ -1,11 +1,12 @@
--- The cards and dos of a deck, and what tells each apart from its like (WAP-191, sections 11.5 and 9.5).
-use Rattle.std.specs.Prelude.{ℕ, Bool, false, cond, List, Option, Some, None, position}
+-- The cards, dos and tasks of a deck, and what tells each apart from its like (WAP-191, sections 11.5, 9.5 and 9.6).
+use Rattle.std.specs.Prelude.{ℕ, Bool, true, false, cond, List, find, Option, Some, None}
+use Rattle.std.specs.List.{filter_map}
 use Rattle.std.specs.Option.{option_and_then}
-use Rattle.wap_base.specs.Texts.{is_same_text}
-use Rattle.wap_markup.specs.declared.deck.Deck.{Deck}
 use Rattle.wap_markup.specs.declared.deck.Node.{Node}
 use Rattle.wap_markup.specs.declared.deck.Item.{Item}
-use Rattle.wap_markup.specs.Decks.{node_of, is_card_tag, is_do_tag, cards_of, plain_text, value_of, is_id, is_type}
+use Rattle.wap_markup.specs.declared.name.Tag.{Tag}
+use Rattle.wap_markup.specs.declared.name.Tag.TheVariants as tag
+use Rattle.wap_markup.specs.Decks.{node_of, is_card_tag, is_do_tag, dos_of, id_of, type_of, is_text}
 
 abbrev pub with_tag : (Node → Bool) → Option Node → Option Node
 with_tag named None = None
@@ -19,23 +20,22 @@ abbrev pub do_in : Item → Option Node
 do_in item = with_tag (λ node. is_do_tag node.tag) (node_of item)
 
 -- a card's id and a do's type, where they are plain texts
-abbrev pub id_of : Node → Option (List ℕ)
-id_of card = option_and_then plain_text (value_of is_id card)
-
-abbrev pub type_of : Node → Option (List ℕ)
-type_of node = option_and_then plain_text (value_of is_type node)
-
 abbrev pub id_in : Item → Option (List ℕ)
 id_in item = option_and_then id_of (card_in item)
 
 abbrev pub type_in : Item → Option (List ℕ)
 type_in item = option_and_then type_of (do_in item)
 
--- whether there is a text, and it is this one
-abbrev pub is_text : List ℕ → Option (List ℕ) → Bool
-is_text text None = false
-is_text text (Some other) = is_same_text other text
+-- the first do of a card whose type is this text
+abbrev pub do_named : List ℕ → Node → Option Node
+do_named kind card = find (λ node. is_text kind (type_of node)) (dos_of card)
 
--- the number of the first card with this id, as a plain text
-abbrev pub card_numbered : List ℕ → Deck → Option ℕ
-card_numbered id deck = position (λ card. is_text id (id_of card)) (cards_of deck)
+abbrev pub is_task_tag : Tag → Bool
+is_task_tag tag.Go = true
+is_task_tag tag.Prev = true
+is_task_tag tag.Refresh = true
+is_task_tag _ = false
+
+-- the first task in a node
+abbrev pub task_of : Node → Option Node
+task_of node = find (λ task. is_task_tag task.tag) (filter_map node_of node.kids)

@@ -3,8 +3,8 @@ ghost use Rattle.std.specs.Prelude.{◌≡◌, ◌↔◌, length, slice_get, IsT
 ghost use Rattle.std.specs.List.{filter_map, AllByRecursion};
 ghost use Rattle.std.specs.Option.{option_copied};
 ghost use Rattle.wap_base.specs.Texts.{AreDistinct};
-ghost use Rattle.wap_markup.specs.Decks.{IsApart, cards_of, types_of};
-ghost use Rattle.wap_deck.specs.Parts.{card_in, card_numbered};
+ghost use Rattle.wap_markup.specs.Decks.{IsApart, cards_of, types_of, card_numbered};
+ghost use Rattle.wap_deck.specs.Parts.{card_in};
 
 use crate::DeckErr;
 use crate::distinct::are_distinct;

@@ -6,10 +6,15 @@ mod distinct;
 mod fault;
 mod good;
 mod parts;
+mod tasks;
+mod values;
 
 pub use build::deck_of;
 pub use fault::DeckErr;
 pub use good::GoodDeck;
+pub use parts::do_in;
+pub use tasks::{do_of, task_of};
+pub use values::{href, label, name_value, title, value};
 pub use wap_markup::{AttrName, Deck, Item, Node, Tag};
 
 #[cfg(test)]

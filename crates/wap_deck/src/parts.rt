@@ -2,12 +2,13 @@
 ghost use Rattle.std.specs.Prelude.{◌≡◌, IfOk, length, slice_get};
 ghost use Rattle.std.specs.List.{filter_map, position_from};
 ghost use Rattle.std.specs.Option.{option_copied};
-ghost use Rattle.wap_markup.specs.Decks.{plain_text, value_of, is_id, is_type};
-ghost use Rattle.wap_deck.specs.Parts.{card_in, do_in, id_of, type_of, id_in, type_in, is_text};
+ghost use Rattle.wap_markup.specs.Decks.{id_of, is_text};
+ghost use Rattle.wap_deck.specs.Parts.{card_in, do_in, id_in, type_in};
 
+use crate::values::{id_value, is_text, plain_text, type_value};
 use std::alloc::Global;
-use wap_base::{NoMemory, Part, Rows, Text};
-use wap_markup::{AttrName, Item, Node, Tag};
+use wap_base::{NoMemory, Text};
+use wap_markup::{Item, Node, Tag};
 
 /// The item, where it is a card.
 pub fn card_in(item: &Item) -> Option<&Node>
@@ -22,7 +23,7 @@ pub fn card_in(item: &Item) -> Option<&Node>
 }
 
 /// The item, where it is a do.
-fn do_in(item: &Item) -> Option<&Node>
+pub fn do_in(item: &Item) -> Option<&Node>
     ensures { option_copied result ≡ do_in item.now }
 {
     if let Item::Node(node) = item {
@@ -31,52 +32,6 @@ fn do_in(item: &Item) -> Option<&Node>
         }
     }
     None
-}
-
-/// The first value of an id.
-fn id_value(node: &Node) -> Option<&Rows<Part>>
-    ensures { option_copied result ≡ value_of is_id node.now }
-{
-    for (name, value) in node.attrs.as_slice() {
-        if matches!(name, AttrName::Id) {
-            return Some(value);
-        }
-    }
-    None
-}
-
-/// The first value of a type.
-fn type_value(node: &Node) -> Option<&Rows<Part>>
-    ensures { option_copied result ≡ value_of is_type node.now }
-{
-    for (name, value) in node.attrs.as_slice() {
-        if matches!(name, AttrName::Type) {
-            return Some(value);
-        }
-    }
-    None
-}
-
-/// A copy of a value's text, where it has no reference and no two texts.
-fn plain_text(alloc: Global, parts: &[Part]) -> Result<Option<Text>, NoMemory>
-    ensures { IfOk result (λ text. text ≡ plain_text parts.now) }
-{
-    match parts {
-        [] => Ok(Some(Text::new(alloc))),
-        [Part::Lit(text)] => Ok(Some(text.copy(alloc)?)),
-        _ => Ok(None),
-    }
-}
-
-/// Whether a value is this text.
-fn is_text(parts: &[Part], text: &Text) -> bool
-    ensures { result ≡ is_text text.now (plain_text parts.now) }
-{
-    match parts {
-        [] => text.is_empty(),
-        [Part::Lit(own)] => own == text,
-        _ => false,
-    }
 }
 
 /// Whether a card has this id.

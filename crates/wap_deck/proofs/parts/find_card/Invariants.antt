@@ -1,6 +1,7 @@
 use Rattle.std.proofs.Common.{◌≡◌, ◌≤◌, drop}
 use Rattle.std.specs.List.{filter_map, position_from}
-use Rattle.wap_deck.specs.Parts.{card_in, id_of, is_text}
+use Rattle.wap_markup.specs.Decks.{id_of, is_text}
+use Rattle.wap_deck.specs.Parts.{card_in}
 use Rattle.wap_deck.proofs.parts.find_card.Given as goal
 
 abbrev pub invariant-loop-item : goal.invariant-loop-item

@@ -3,8 +3,8 @@ use Rattle.std.specs.List.{filter_map, position_from}
 use Rattle.std.proofs.lemmas.Iterator.Adapters.{position_from-zero}
 use Rattle.wap_markup.specs.declared.deck.Deck.{Deck}
 use Rattle.wap_markup.specs.declared.deck.Node.{Node}
-use Rattle.wap_markup.specs.Decks.{cards_of}
-use Rattle.wap_deck.specs.Parts.{card_in, id_of, is_text}
+use Rattle.wap_markup.specs.Decks.{cards_of, id_of, is_text}
+use Rattle.wap_deck.specs.Parts.{card_in}
 use Rattle.wap_deck.proofs.Cards.{cards_by_item}
 use Rattle.wap_deck.proofs.good.GoodDeck.find_card.Goals as goal
 

@@ -1,7 +1,0 @@
-use Rattle.std.proofs.Common.{◌≡◌, take}
-use Rattle.std.specs.List.{filter_map}
-use Rattle.wap_markup.specs.Decks.{paragraph_of}
-use Rattle.wap_deck.proofs.build.paragraphs.Given as goal
-
-abbrev pub invariant-loop-kid : goal.invariant-loop-kid
-invariant-loop-kid l = l.items ≡ filter_map paragraph_of (take l.kid-index l.kids)
