@@ -1,4 +1,4 @@
--- The cards, dos and tasks of a deck, and what tells each apart from its like (WAP-191, sections 11.5, 9.5 and 9.6).
+-- The cards and dos among the items of a deck (WAP-191, sections 11.5 and 9.5).
 use Rattle.std.specs.Prelude.{ℕ, Bool, true, false, cond, List, find, Option, Some, None}
 use Rattle.std.specs.List.{filter_map}
 use Rattle.std.specs.Option.{option_and_then}
@@ -25,17 +25,3 @@ id_in item = option_and_then id_of (card_in item)
 
 abbrev pub type_in : Item → Option (List ℕ)
 type_in item = option_and_then type_of (do_in item)
-
--- the first do of a card whose type is this text
-abbrev pub do_named : List ℕ → Node → Option Node
-do_named kind card = find (λ node. is_text kind (type_of node)) (dos_of card)
-
-abbrev pub is_task_tag : Tag → Bool
-is_task_tag tag.Go = true
-is_task_tag tag.Prev = true
-is_task_tag tag.Refresh = true
-is_task_tag _ = false
-
--- the first task in a node
-abbrev pub task_of : Node → Option Node
-task_of node = find (λ task. is_task_tag task.tag) (filter_map node_of node.kids)

@@ -2,7 +2,7 @@
 ghost use Rattle.std.specs.Prelude.{◌≡◌};
 ghost use Rattle.std.specs.Option.{option_copied};
 ghost use Rattle.wap_markup.specs.Decks.{node_of, type_of, is_text};
-ghost use Rattle.wap_deck.specs.Parts.{do_named, is_task_tag, task_of};
+ghost use Rattle.wap_markup.specs.Decks.{do_named, is_task_tag, task_of};
 
 use crate::parts::do_in;
 use crate::values::{is_text, type_value};

@@ -3,7 +3,7 @@ ghost use Rattle.std.specs.Prelude.{◌≡◌, IfOk};
 ghost use Rattle.std.specs.List.{list_all};
 ghost use Rattle.wap_base.specs.Outcome.{Meets};
 ghost use Rattle.wap_keys.specs.declared.key.KeyFault.TheVariants.{NoMemory};
-ghost use Rattle.wap_keys.specs.Keys.{is_printable, is_kind, key_at};
+ghost use Rattle.wap_keys.specs.Keys.{is_printable, is_kind, do_at, key_at};
 
 use std::alloc::Global;
 use wap_base::Text;
@@ -13,6 +13,10 @@ use wap_base::Text;
 pub enum Key {
     /// Runs the do of a type.
     Do(Text),
+    /// Goes back to the card before.
+    Back,
+    /// Shows the variables.
+    Vars,
 }
 
 /// Why a line is no key line.
@@ -59,12 +63,25 @@ fn text_of(alloc: Global, bytes: &[u8]) -> Result<Text, wap_base::NoMemory>
     Ok(text)
 }
 
-/// The key of a line that is neither empty nor a comment.
-pub fn read_key(alloc: Global, line: &[u8]) -> Result<Key, KeyFault>
-    ensures { Meets NoMemory (λ key. key) result (key_at line.now) }
+/// The key of a line that begins with `do` and a space.
+fn read_do(alloc: Global, line: &[u8]) -> Result<Key, KeyFault>
+    ensures { Meets NoMemory (λ key. key) result (do_at line.now) }
 {
     match line {
         [b'd', b'o', b' ', kind @ ..] if is_kind(kind) => Ok(Key::Do(text_of(alloc, kind)?)),
         _ => Err(KeyFault::UnknownWord),
     }
+}
+
+/// The key of a line that is neither empty nor a comment.
+pub fn read_key(alloc: Global, line: &[u8]) -> Result<Key, KeyFault>
+    ensures { Meets NoMemory (λ key. key) result (key_at line.now) }
+{
+    if line == b"back".as_slice() {
+        return Ok(Key::Back);
+    }
+    if line == b"vars".as_slice() {
+        return Ok(Key::Vars);
+    }
+    read_do(alloc, line)
 }

@@ -17,8 +17,11 @@ const fn bad(line: u32) -> Ending {
 fn types_of(alloc: Global, keys: &[Key]) -> Result<Text, Fail> {
     let mut types = Text::new(alloc);
     for key in keys {
-        let Key::Do(kind) = key;
-        types.add(kind.as_str())?;
+        match key {
+            Key::Do(kind) => types.add(kind.as_str())?,
+            Key::Back => types.add("<")?,
+            Key::Vars => types.add("$")?,
+        }
         types.push('|')?;
     }
     Ok(types)
@@ -85,6 +88,7 @@ fn key_lines(rt: HostRuntime) -> Result<(), Fail> {
         ("do x \ndo ~#\ndo  ", "x |~#| |", Ending::End),
         ("\n\n", "", Ending::End),
         ("#", "", Ending::End),
+        ("back\nvars\r\ndo x\nvars", "<|$|x|$|", Ending::End),
         ("#do x\n#\u{7F}\tdo y\n\ndo z\n", "z|", Ending::End),
         ("\r\n\r\n", "", Ending::End),
         ("do x\r\n\r\n#\r\ndo y\r\n", "x|y|", Ending::End),
@@ -98,6 +102,11 @@ fn key_lines(rt: HostRuntime) -> Result<(), Fail> {
 #[test]
 fn bad_lines(rt: HostRuntime) -> Result<(), Fail> {
     for bytes in [
+        "back \n",
+        "vars \n",
+        "bac\n",
+        "Vars",
+        "back\r",
         "do \n",
         "do ",
         "do\n",

@@ -222,3 +222,27 @@ card_numbered id deck = position (λ card. is_text id (id_of card)) (cards_of de
 pub record IsApart (deck : Deck) : Type 0 where
   pub ids : AreDistinct (ids_of deck)
   pub types : AllByRecursion (λ card. AreDistinct (types_of card)) (cards_of deck)
+
+-- ---- tasks
+
+-- the first do of a card with this type
+abbrev pub do_named : List ℕ → Node → Option Node
+do_named kind card = find (λ node. is_text kind (type_of node)) (dos_of card)
+
+abbrev pub is_task_tag : Tag → Bool
+is_task_tag tag.Go = true
+is_task_tag tag.Prev = true
+is_task_tag tag.Refresh = true
+is_task_tag _ = false
+
+-- the first task in a node
+abbrev pub task_of : Node → Option Node
+task_of node = find (λ task. is_task_tag task.tag) (filter_map node_of node.kids)
+
+abbrev pub is_setvar_tag : Tag → Bool
+is_setvar_tag tag.Setvar = true
+is_setvar_tag _ = false
+
+-- the setvars of a task
+abbrev pub setvars_of : Node → List Node
+setvars_of task = filter (λ node. is_setvar_tag node.tag) (filter_map node_of task.kids)

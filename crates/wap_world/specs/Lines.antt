@@ -20,3 +20,7 @@ get_line url = codes "> GET " ++ url
 -- a refusal
 abbrev pub refusal_line : List ℕ → List ℕ
 refusal_line word = codes "! " ++ word
+
+-- a variable, by its name and its text
+abbrev pub variable_line : List ℕ × List ℕ → List ℕ
+variable_line variable = codes "$ " ++ (variable.0 ++ (61 ∷ variable.1))

@@ -1,37 +1,57 @@
--- The screen of a card, as far as cards go so far: no title, and each paragraph's text on a line of its own.
--- This project's own.
-use Rattle.std.specs.Prelude.{ℕ, List, [], ◌∷◌, if◌then◌else◌, codes}
+-- The screen of a card: its title, its paragraphs, each on a line of its own, and its dos. Values are filled from the
+-- variables. This project's own.
+use Rattle.std.specs.Prelude.{ℕ, List, [], ◌∷◌, ◌++◌, map, Option, Some, None, if◌then◌else◌, codes}
 use Rattle.std.specs.List.{flat_map}
 use Rattle.wap_base.specs.declared.name.Part.{Part}
-use Rattle.wap_base.specs.declared.name.Part.TheVariants.{Lit, Var}
 use Rattle.wap_markup.specs.declared.deck.Node.{Node}
 use Rattle.wap_markup.specs.declared.deck.Item.{Item, out-Item}
 use Rattle.wap_markup.specs.declared.deck.Item.TheOpen.{Item-F}
-use Rattle.wap_markup.specs.Decks.{ItemLevel, is_paragraph_tag}
+use Rattle.wap_markup.specs.Decks.{ItemLevel, is_paragraph_tag, dos_of, value_of, is_title, is_type, is_label}
+use Rattle.wap_vars.specs.Filling.{filled}
 
--- what literal text a part has
-abbrev pub part_text : Part → List ℕ
-part_text (Lit text) = text
-part_text (Var name conversion) = []
+-- texts under names, in ascending order of names
+abbrev pub Variables : Type 0
+Variables = List (List ℕ × List ℕ)
 
-abbrev pub text_from : ItemLevel → List ℕ
-text_from (Item-F.Text parts) = flat_map part_text parts
-text_from (Item-F.Node node) = []
+-- the value of an attribute, filled; without the attribute nothing
+abbrev pub value_text : Variables → Option (List Part) → List ℕ
+value_text vars None = []
+value_text vars (Some parts) = filled vars parts
 
-abbrev pub item_text : Item → List ℕ
-item_text item = text_from (out-Item item)
+-- a mark, and a text behind a space, if there is one
+abbrev pub marked : List ℕ → List ℕ → List ℕ
+marked mark [] = mark
+marked mark (c ∷ cs) = mark ++ (32 ∷ c ∷ cs)
+
+abbrev pub title_line : Variables → Node → List ℕ
+title_line vars card = marked (codes "=") (value_text vars (value_of is_title card))
+
+abbrev pub text_from : Variables → ItemLevel → List ℕ
+text_from vars (Item-F.Text parts) = filled vars parts
+text_from vars (Item-F.Node node) = []
+
+abbrev pub item_text : Variables → Item → List ℕ
+item_text vars item = text_from vars (out-Item item)
 
 -- the text of a paragraph
-abbrev pub paragraph_line : Node → List ℕ
-paragraph_line paragraph = flat_map item_text paragraph.kids
+abbrev pub paragraph_line : Variables → Node → List ℕ
+paragraph_line vars paragraph = flat_map (item_text vars) paragraph.kids
 
-abbrev pub lines_from : ItemLevel → List (List ℕ)
-lines_from (Item-F.Node node) = if is_paragraph_tag node.tag then paragraph_line node ∷ [] else []
-lines_from (Item-F.Text parts) = []
+-- an empty text is on no line
+abbrev pub line_if_some : List ℕ → List (List ℕ)
+line_if_some [] = []
+line_if_some (c ∷ cs) = (c ∷ cs) ∷ []
 
-abbrev pub item_lines : Item → List (List ℕ)
-item_lines item = lines_from (out-Item item)
+abbrev pub lines_from : Variables → ItemLevel → List (List ℕ)
+lines_from vars (Item-F.Node node) = if is_paragraph_tag node.tag then line_if_some (paragraph_line vars node) else []
+lines_from vars (Item-F.Text parts) = []
 
--- a card's lines: its title line, and then its paragraphs
-abbrev pub screen : Node → List (List ℕ)
-screen card = codes "=" ∷ flat_map item_lines card.kids
+abbrev pub item_lines : Variables → Item → List (List ℕ)
+item_lines vars item = lines_from vars (out-Item item)
+
+-- a do: its type, and its label
+abbrev pub do_line : Variables → Node → List ℕ
+do_line vars node = marked (codes "* " ++ value_text vars (value_of is_type node)) (value_text vars (value_of is_label node))
+
+abbrev pub screen : Variables → Node → List (List ℕ)
+screen vars card = title_line vars card ∷ (flat_map (item_lines vars) card.kids ++ map (do_line vars) (dos_of card))

@@ -3,7 +3,7 @@ use Rattle.std.specs.Prelude.{ℕ, List, [], ◌∷◌, ◌++◌}
 use Rattle.wap_keys.specs.declared.key.Key.{Key}
 use Rattle.wap_world.specs.Lines.{lines_bytes}
 use Rattle.wap_world.specs.Pages.{Pages}
-use Rattle.wap_world.specs.World.{World, start, Step, opened, react}
+use Rattle.wap_world.specs.World.{World, Step, opened, react}
 
 -- one step, and what follows from its world on
 abbrev pub followed : Step → (World → Step) → Step
@@ -21,7 +21,7 @@ played pages (key ∷ keys) world = followed (react pages world key) (played pag
 
 -- a session opens its URL, and then plays its keys
 abbrev pub session : Pages → List ℕ → List Key → Step
-session pages url keys = followed (opened pages start url) (played pages keys)
+session pages url keys = followed (opened pages url) (played pages keys)
 
 -- its lines, as they are written
 abbrev pub transcript : Pages → List ℕ → List Key → List ℕ

@@ -2,7 +2,7 @@ use Rattle.std.proofs.Common.{◌≡◌, drop}
 use Rattle.std.specs.Prelude.{find}
 use Rattle.std.specs.List.{filter_map}
 use Rattle.wap_markup.specs.Decks.{node_of}
-use Rattle.wap_deck.specs.Parts.{is_task_tag}
+use Rattle.wap_markup.specs.Decks.{is_task_tag}
 use Rattle.wap_deck.proofs.tasks.task_of.Given as goal
 
 -- the first task is among the items that are left
