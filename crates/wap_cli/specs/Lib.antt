@@ -3,5 +3,8 @@ pub mod Scanning
 pub mod Words
 pub mod Judged
 pub mod Opening
+pub mod Refusals
+pub mod Tasks
+pub mod Playing
 pub mod Sessions
 pub mod Statuses

@@ -1,59 +1,57 @@
-//! Browsing a site.
-ghost use Rattle.std.specs.Prelude.{◌≡◌, ◌++◌, ◌≤◌, Some, IfOk, OnOk, IsErrOf, IfSome};
+//! Opening a session's URL.
+ghost use Rattle.std.specs.Prelude.{◌≡◌, ◌++◌, ◌≤◌, ℕ, List, Some, IfOk, OnOk, IsErrOf, IfSome};
 ghost use Rattle.wap_base.specs.Count.{raised, Rose};
 ghost use Rattle.wap_world.specs.Lines.{lines_bytes};
-ghost use Rattle.wap_world.specs.Pages.{Pages};
-ghost use Rattle.wap_world.specs.World.{World, start, card_lines, name_of, opened, react};
-ghost use Rattle.wap_world.specs.Transcript.{played};
-ghost use Rattle.wap_cli.specs.Judged.{judge, judged};
-ghost use Rattle.wap_cli.specs.Opening.{found_lines, answer_lines, opening_lines};
+ghost use Rattle.wap_world.specs.World.{world_at, lines_at, entered, name_of, opened};
+ghost use Rattle.wap_cli.specs.Judged.{judged};
+ghost use Rattle.wap_cli.specs.Opening.{page_judged, answer_page};
 
 use crate::judging::{Judged, judge};
-use crate::lines::{add_get, add_ignored, add_missing, add_refused};
-use crate::screen::add_screen;
+use crate::lines::{Refusal, add_get, add_refusal};
+use crate::session::Session;
 use std::alloc::Global;
-use wap_base::{Bytes, Fetched, NoMemory, RunErr, Store, StoreErr, Text};
-use wap_deck::GoodDeck;
-use wap_keys::Key;
+use wap_base::{Bytes, Fetched, NoMemory, RunErr, Store, Text};
 
-/// Appends the lines of a deck's first card.
-fn add_deck(alloc: Global, out: &mut Bytes, deck: &GoodDeck) -> Result<(), NoMemory>
-    ensures { OnOk result (out.new ≡ out.old ++ lines_bytes (card_lines (Some (deck.now, 0)))) }
+/// Begins a session with a page that was found, and appends the lines behind its request.
+fn enter_page(alloc: Global, out: &mut Bytes, page: Judged) -> Result<Session, NoMemory>
+    ensures world { IfOk result (λ session. session ≡ world_at (Some (page_judged page))) }
+    ensures lines { OnOk result (out.new ≡ out.old ++ lines_bytes (lines_at (Some (page_judged page)))) }
 {
-    match deck.card(0) {
-        Some(card) => add_screen(alloc, out, card),
-        None => Ok(()),
+    match page {
+        Judged::Deck(deck) => {
+            let session = Session::at_first(alloc, deck);
+            session.show(alloc, out)?;
+            Ok(session)
+        }
+        Judged::Refused => {
+            add_refusal(alloc, out, Refusal::Refused)?;
+            Ok(Session::new(alloc))
+        }
     }
 }
 
-/// Appends the lines of a page that was found.
-fn add_page(alloc: Global, out: &mut Bytes, bytes: &[u8]) -> Result<(), NoMemory>
-    ensures { OnOk result (out.new ≡ out.old ++ lines_bytes (found_lines (judge bytes.now))) }
-{
-    match judge(alloc, bytes)? {
-        Judged::Deck(deck) => add_deck(alloc, out, &deck),
-        Judged::Refused => add_refused(alloc, out),
-    }
-}
-
-/// Appends the lines of what the store answered.
-fn add_answer(alloc: Global, out: &mut Bytes, answer: &Fetched) -> Result<(), NoMemory>
-    ensures { OnOk result (out.new ≡ out.old ++ lines_bytes (answer_lines answer.now)) }
+/// Begins a session with what the store answered, and appends the lines behind its request.
+fn enter(alloc: Global, out: &mut Bytes, answer: &Fetched) -> Result<Session, NoMemory>
+    ensures world { IfOk result (λ session. session ≡ world_at (answer_page answer.now)) }
+    ensures lines { OnOk result (out.new ≡ out.old ++ lines_bytes (lines_at (answer_page answer.now))) }
 {
     match answer {
-        Fetched::Found(bytes) => add_page(alloc, out, bytes.as_slice()),
-        Fetched::Missing => add_missing(alloc, out),
+        Fetched::Found(bytes) => enter_page(alloc, out, judge(alloc, bytes.as_slice())?),
+        Fetched::Missing => {
+            add_refusal(alloc, out, Refusal::Missing)?;
+            Ok(Session::new(alloc))
+        }
     }
 }
 
-/// The lines of a URL that is opened.
-fn opening(alloc: Global, url: &Text, answer: &Fetched) -> Result<Bytes, NoMemory>
-    ensures { IfOk result (λ bytes. bytes ≡ lines_bytes (opening_lines url.now answer.now)) }
+/// A session behind the opening of its URL, and its lines.
+fn begun(alloc: Global, url: &Text, answer: &Fetched) -> Result<(Session, Bytes), NoMemory>
+    ensures { IfOk result (λ begun. (name : List ℕ) → let step = entered url.now name (answer_page answer.now) in (begun.0 ≡ step.world) × (begun.1 ≡ lines_bytes step.lines)) }
 {
     let mut out = Bytes::new(alloc);
     add_get(alloc, &mut out, url)?;
-    add_answer(alloc, &mut out, answer)?;
-    Ok(out)
+    let session = enter(alloc, &mut out, answer)?;
+    Ok((session, out))
 }
 
 /// The store's name of a URL: what follows `http://`.
@@ -67,9 +65,13 @@ fn name_of(alloc: Global, url: &Text) -> Result<Text, NoMemory>
     Text::of(alloc, characters.as_str())
 }
 
-/// The lines of a session's URL, which is asked for.
-pub(crate) fn opened<S: Store>(alloc: Global, url: &Text, store: &mut S) -> Result<Bytes, RunErr>
-    ensures told { IfOk result (λ bytes. IfSome (S.contents store.old) (λ contents. bytes ≡ lines_bytes (opened (judged contents) start url.now).lines)) }
+/// A session at a URL, which is asked for, and the lines that this shows.
+pub(crate) fn opened<S: Store>(
+    alloc: Global,
+    url: &Text,
+    store: &mut S,
+) -> Result<(Session, Bytes), RunErr>
+    ensures told { IfOk result (λ begun. IfSome (S.contents store.old) (λ contents. let step = opened (judged contents) url.now in (begun.0 ≡ step.world) × (begun.1 ≡ lines_bytes step.lines))) }
     ensures counted { OnOk result (S.fetches store.new ≡ raised (S.fetches store.old)) }
     ensures kept { S.contents store.new ≡ S.contents store.old }
     ensures faults { S.faults store.old ≤ S.faults store.new }
@@ -77,24 +79,5 @@ pub(crate) fn opened<S: Store>(alloc: Global, url: &Text, store: &mut S) -> Resu
 {
     let name = name_of(alloc, url)?;
     let answer = store.fetch(&name)?;
-    Ok(opening(alloc, url, &answer)?)
-}
-
-/// Appends the lines of a key.
-fn add_key(alloc: Global, out: &mut Bytes, key: &Key) -> Result<(), NoMemory>
-    ensures { OnOk result ((pages : Pages) (world : World) → out.new ≡ out.old ++ lines_bytes (react pages world key.now).lines) }
-{
-    match key {
-        Key::Do(_) => add_ignored(alloc, out),
-    }
-}
-
-/// Appends the lines of keys.
-pub(crate) fn add_keys(alloc: Global, out: &mut Bytes, keys: &[Key]) -> Result<(), NoMemory>
-    ensures { OnOk result ((pages : Pages) (world : World) → out.new ≡ out.old ++ lines_bytes (played pages keys.now world).lines) }
-{
-    for key in keys {
-        add_key(alloc, out, key)?;
-    }
-    Ok(())
+    Ok(begun(alloc, url, &answer)?)
 }

@@ -8,14 +8,14 @@ ghost use Rattle.wap_keys.specs.Lines.{keys_of, limit};
 ghost use Rattle.wap_keys.specs.Read.{TakesAtMost};
 ghost use Rattle.wap_world.specs.Lines.{lines_bytes};
 ghost use Rattle.wap_world.specs.Pages.{Pages};
-ghost use Rattle.wap_world.specs.World.{World};
 ghost use Rattle.wap_world.specs.Transcript.{played};
 ghost use Rattle.wap_cli.specs.Sessions.{IfTold, Writes, WritesFront, WritesBefore};
 ghost use Rattle.wap_cli.specs.Statuses.{ended, IsPlayed, IsOrStops, IsOrWants};
 ghost use Rattle.wap_cli.specs.Words.{command};
 
 use crate::Status;
-use crate::browse::{add_keys, opened};
+use crate::browse::opened;
+use crate::session::Session;
 use crate::status::ended;
 use crate::words::command;
 use std::alloc::Global;
@@ -23,21 +23,22 @@ use std::thread::Threads;
 use wap_base::{Bytes, Failed, Gate, NoMemory, RunErr, Sink, Source, Store, Text, write_all};
 use wap_keys::{Ending, Key, read_keys};
 
-/// Writes what was shown so far and what the keys show, and ends as the keys came to their end.
-fn write<O: Sink>(
+/// Plays the keys, writes all that was shown, and ends as the keys came to their end.
+fn play<O: Sink>(
     alloc: Global,
-    mut shown: Bytes,
+    begun: (Session, Bytes),
     keys: &[Key],
     ending: Ending,
     out: &mut O,
 ) -> Status
     ensures ends { IsOrStops (ended ending) result }
-    ensures whole { result ≡ ended ending → (pages : Pages) (world : World) → Appends (O.written out.old) (O.written out.new) (shown ++ lines_bytes (played pages keys.now world).lines) }
-    ensures front { (pages : Pages) (world : World) → AppendsFront (O.written out.old) (O.written out.new) (shown ++ lines_bytes (played pages keys.now world).lines) }
+    ensures whole { result ≡ ended ending → (pages : Pages) → Appends (O.written out.old) (O.written out.new) (begun.1 ++ lines_bytes (played pages keys.now begun.0).lines) }
+    ensures front { (pages : Pages) → AppendsFront (O.written out.old) (O.written out.new) (begun.1 ++ lines_bytes (played pages keys.now begun.0).lines) }
     ensures write_fault { result ≡ Status.WriteFault → Rose (O.faults out.old) (O.faults out.new) }
     ensures sink_faults { O.faults out.old ≤ O.faults out.new }
 {
-    if let Err(NoMemory) = add_keys(alloc, &mut shown, keys) {
+    let (mut session, mut shown) = begun;
+    if let Err(NoMemory) = session.play_all(alloc, &mut shown, keys) {
         return Status::NoMemory;
     }
     match write_all(out, shown.as_slice()) {
@@ -71,13 +72,13 @@ fn browse<S: Store, I: Source, O: Sink>(
     ensures source_faults { I.faults keys.old ≤ I.faults keys.new }
     ensures sink_faults { O.faults out.old ≤ O.faults out.new }
 {
-    let shown = match opened(alloc, url, store) {
-        Ok(shown) => shown,
+    let begun = match opened(alloc, url, store) {
+        Ok(begun) => begun,
         Err(RunErr::Store) => return Status::StoreFault,
         Err(RunErr::NoMemory) => return Status::NoMemory,
     };
     match read_keys(alloc, keys) {
-        Ok((pressed, ending)) => write(alloc, shown, &pressed, ending, out),
+        Ok((pressed, ending)) => play(alloc, begun, &pressed, ending, out),
         Err(NoMemory) => Status::NoMemory,
     }
 }

@@ -7,7 +7,9 @@ mod judging;
 mod law;
 mod lines;
 mod screen;
+mod session;
 mod status;
+mod tasks;
 mod url;
 mod words;
 

@@ -1,9 +1,45 @@
 //! Writing lines.
-ghost use Rattle.std.specs.Prelude.{◌≡◌, ◌++◌, map, IfOk, OnOk, codes};
-ghost use Rattle.wap_world.specs.Lines.{shown_character, line_bytes, get_line, refusal_line};
+ghost use Rattle.std.specs.Prelude.{◌≡◌, ◌++◌, map, codes, IfOk, OnOk};
+ghost use Rattle.std.specs.Str.{chars};
+ghost use Rattle.wap_world.specs.Lines.{shown_character, line_bytes, lines_bytes, get_line, refusal_line, variable_line};
+ghost use Rattle.wap_cli.specs.Refusals.{word_of};
 
 use std::alloc::Global;
 use wap_base::{Bytes, NoMemory, Text};
+use wap_vars::Vars;
+
+/// Why nothing was done.
+#[derive(Clone, Copy, Debug, PartialEq, Eq)]
+pub(crate) enum Refusal {
+    /// The page isn't there.
+    Missing,
+    /// The page isn't one that is read.
+    Refused,
+    /// The key fits nothing.
+    Ignored,
+    /// There is no card before the first.
+    First,
+    /// No more variables are kept.
+    Full,
+    /// The text is too long for a variable.
+    Long,
+}
+
+impl Refusal {
+    /// Its line.
+    fn line(self) -> &'static str
+        ensures { chars result.now ≡ refusal_line (word_of self) }
+    {
+        match self {
+            Refusal::Missing => "! missing",
+            Refusal::Refused => "! refused",
+            Refusal::Ignored => "! ignored",
+            Refusal::First => "! first",
+            Refusal::Full => "! full",
+            Refusal::Long => "! long",
+        }
+    }
+}
 
 /// Appends a line, control characters as dots.
 pub(crate) fn add_line(alloc: Global, out: &mut Bytes, line: &Text) -> Result<(), NoMemory>
@@ -44,23 +80,30 @@ pub(crate) fn add_get(alloc: Global, out: &mut Bytes, url: &Text) -> Result<(), 
     add_line(alloc, out, &line)
 }
 
-/// Appends the line of a page that is missing.
-pub(crate) fn add_missing(alloc: Global, out: &mut Bytes) -> Result<(), NoMemory>
-    ensures { OnOk result (out.new ≡ out.old ++ line_bytes (refusal_line (codes "missing"))) }
+/// Appends the line of a refusal.
+pub(crate) fn add_refusal(alloc: Global, out: &mut Bytes, refusal: Refusal) -> Result<(), NoMemory>
+    ensures { OnOk result (out.new ≡ out.old ++ line_bytes (refusal_line (word_of refusal))) }
 {
-    add_line(alloc, out, &Text::of(alloc, "! missing")?)
+    add_line(alloc, out, &Text::of(alloc, refusal.line())?)
 }
 
-/// Appends the line of a page that is refused.
-pub(crate) fn add_refused(alloc: Global, out: &mut Bytes) -> Result<(), NoMemory>
-    ensures { OnOk result (out.new ≡ out.old ++ line_bytes (refusal_line (codes "refused"))) }
+/// Appends the line of a variable.
+fn add_variable(alloc: Global, out: &mut Bytes, name: &Text, text: &Text) -> Result<(), NoMemory>
+    ensures { OnOk result (out.new ≡ out.old ++ line_bytes (variable_line (name.now, text.now))) }
 {
-    add_line(alloc, out, &Text::of(alloc, "! refused")?)
+    let mut line = Text::of(alloc, "$ ")?;
+    line.add(name.as_str())?;
+    line.push('=')?;
+    line.add(text.as_str())?;
+    add_line(alloc, out, &line)
 }
 
-/// Appends the line of a key that fits nothing.
-pub(crate) fn add_ignored(alloc: Global, out: &mut Bytes) -> Result<(), NoMemory>
-    ensures { OnOk result (out.new ≡ out.old ++ line_bytes (refusal_line (codes "ignored"))) }
+/// Appends a line for each variable, in ascending order of names.
+pub(crate) fn add_variables(alloc: Global, out: &mut Bytes, vars: &Vars) -> Result<(), NoMemory>
+    ensures { OnOk result (out.new ≡ out.old ++ lines_bytes (map variable_line vars.now)) }
 {
-    add_line(alloc, out, &Text::of(alloc, "! ignored")?)
+    for (name, text) in vars.entries(alloc)?.as_slice() {
+        add_variable(alloc, out, name, text)?;
+    }
+    Ok(())
 }

@@ -1,42 +1,112 @@
 //! Writing screens.
-ghost use Rattle.std.specs.Prelude.{◌≡◌, ◌++◌, IfOk, OnOk};
-ghost use Rattle.wap_world.specs.Lines.{lines_bytes};
-ghost use Rattle.wap_world.specs.Screens.{part_text, item_text, paragraph_line, item_lines, screen};
-ghost use Rattle.std.specs.List.{flat_map};
+ghost use Rattle.std.specs.Prelude.{◌≡◌, ◌++◌, map, IfOk, OnOk};
+ghost use Rattle.std.specs.List.{flat_map, filter_map};
+ghost use Rattle.std.specs.Option.{option_copied};
 ghost use Rattle.wap_markup.specs.Decks.{is_paragraph_tag};
+ghost use Rattle.wap_deck.specs.Parts.{do_in};
+ghost use Rattle.wap_world.specs.Lines.{lines_bytes};
+ghost use Rattle.wap_world.specs.Screens.{value_text, marked, title_line, item_text, paragraph_line, item_lines, line_if_some, do_line, screen};
 
 use crate::lines::add_line;
 use std::alloc::Global;
-use wap_base::{Bytes, NoMemory, Part, Text};
+use wap_base::{Bytes, NoMemory, Part, Rows, Text};
+use wap_deck::{do_in, label, title, type_value};
 use wap_markup::{Item, Node, Tag};
+use wap_vars::Vars;
 
-/// Appends the lines of a card.
-pub(crate) fn add_screen(alloc: Global, out: &mut Bytes, card: &Node) -> Result<(), NoMemory>
-    ensures { OnOk result (out.new ≡ out.old ++ lines_bytes (screen card.now)) }
+/// Appends the lines of a card, filled from the variables.
+pub(crate) fn add_screen(
+    alloc: Global,
+    out: &mut Bytes,
+    vars: &Vars,
+    card: &Node,
+) -> Result<(), NoMemory>
+    ensures { OnOk result (out.new ≡ out.old ++ lines_bytes (screen vars.now card.now)) }
 {
-    add_line(alloc, out, &Text::of(alloc, "=")?)?;
-    add_items(alloc, out, card.kids.as_slice())
+    add_line(alloc, out, &title_line(alloc, vars, card)?)?;
+    add_paragraphs(alloc, out, vars, card.kids.as_slice())?;
+    add_dos(alloc, out, vars, card.kids.as_slice())
 }
 
-fn add_items(alloc: Global, out: &mut Bytes, items: &[Item]) -> Result<(), NoMemory>
-    ensures { OnOk result (out.new ≡ out.old ++ lines_bytes (flat_map item_lines items.now)) }
+/// The value of an attribute, filled; without the attribute nothing.
+pub(crate) fn value_text(
+    alloc: Global,
+    vars: &Vars,
+    value: Option<&Rows<Part>>,
+) -> Result<Text, NoMemory>
+    ensures { IfOk result (λ text. text ≡ value_text vars.now (option_copied value)) }
+{
+    match value {
+        Some(parts) => vars.fill(alloc, parts.as_slice()),
+        None => Ok(Text::new(alloc)),
+    }
+}
+
+/// A mark, and a text behind a space, if there is one.
+fn marked(mark: Text, text: &Text) -> Result<Text, NoMemory>
+    ensures { IfOk result (λ line. line ≡ marked mark text.now) }
+{
+    let mut line = mark;
+    if !text.is_empty() {
+        line.push(' ')?;
+        line.add(text.as_str())?;
+    }
+    Ok(line)
+}
+
+/// The line of a card's title.
+fn title_line(alloc: Global, vars: &Vars, card: &Node) -> Result<Text, NoMemory>
+    ensures { IfOk result (λ line. line ≡ title_line vars.now card.now) }
+{
+    let title = value_text(alloc, vars, title(card))?;
+    marked(Text::of(alloc, "=")?, &title)
+}
+
+/// The line of a do.
+fn do_line(alloc: Global, vars: &Vars, node: &Node) -> Result<Text, NoMemory>
+    ensures { IfOk result (λ line. line ≡ do_line vars.now node.now) }
+{
+    let mut mark = Text::of(alloc, "* ")?;
+    mark.add(value_text(alloc, vars, type_value(node))?.as_str())?;
+    let label = value_text(alloc, vars, label(node))?;
+    marked(mark, &label)
+}
+
+/// Appends the lines of paragraphs.
+fn add_paragraphs(
+    alloc: Global,
+    out: &mut Bytes,
+    vars: &Vars,
+    items: &[Item],
+) -> Result<(), NoMemory>
+    ensures { OnOk result (out.new ≡ out.old ++ lines_bytes (flat_map (item_lines vars.now) items.now)) }
 {
     for item in items {
-        add_item(alloc, out, item)?;
+        add_paragraph(alloc, out, vars, item)?;
     }
     Ok(())
 }
 
-/// Appends the lines of a part of a card.
-fn add_item(alloc: Global, out: &mut Bytes, item: &Item) -> Result<(), NoMemory>
-    ensures { OnOk result (out.new ≡ out.old ++ lines_bytes (item_lines item.now)) }
+/// Appends the line of a part of a card, where it is a paragraph that isn't empty.
+fn add_paragraph(alloc: Global, out: &mut Bytes, vars: &Vars, item: &Item) -> Result<(), NoMemory>
+    ensures { OnOk result (out.new ≡ out.old ++ lines_bytes (item_lines vars.now item.now)) }
 {
     match item {
         Item::Node(node) if is_paragraph(node.tag) => {
-            add_line(alloc, out, &paragraph_line(alloc, node)?)
+            add_some(alloc, out, &paragraph_line(alloc, vars, node)?)
         }
         _ => Ok(()),
     }
+}
+
+/// Appends a line that isn't empty.
+fn add_some(alloc: Global, out: &mut Bytes, line: &Text) -> Result<(), NoMemory>
+    ensures { OnOk result (out.new ≡ out.old ++ lines_bytes (line_if_some line.now)) }
+{
+    if line.is_empty() {
+        return Ok(());
+    }
+    add_line(alloc, out, line)
 }
 
 fn is_paragraph(tag: Tag) -> bool
@@ -46,25 +116,25 @@ fn is_paragraph(tag: Tag) -> bool
 }
 
 /// The text of a paragraph.
-fn paragraph_line(alloc: Global, paragraph: &Node) -> Result<Text, NoMemory>
-    ensures { IfOk result (λ line. line ≡ paragraph_line paragraph.now) }
+fn paragraph_line(alloc: Global, vars: &Vars, paragraph: &Node) -> Result<Text, NoMemory>
+    ensures { IfOk result (λ line. line ≡ paragraph_line vars.now paragraph.now) }
 {
     let mut line = Text::new(alloc);
     for item in paragraph.kids.as_slice() {
         if let Item::Text(parts) = item {
-            add_parts(&mut line, parts.as_slice())?;
+            line.add(vars.fill(alloc, parts.as_slice())?.as_str())?;
         }
     }
     Ok(line)
 }
 
-/// Appends the literal text of parts.
-fn add_parts(line: &mut Text, parts: &[Part]) -> Result<(), NoMemory>
-    ensures { OnOk result (line.new ≡ line.old ++ flat_map part_text parts.now) }
+/// Appends the lines of dos.
+fn add_dos(alloc: Global, out: &mut Bytes, vars: &Vars, items: &[Item]) -> Result<(), NoMemory>
+    ensures { OnOk result (out.new ≡ out.old ++ lines_bytes (map (do_line vars.now) (filter_map do_in items.now))) }
 {
-    for part in parts {
-        if let Part::Lit(text) = part {
-            line.add(text.as_str())?;
+    for item in items {
+        if let Some(node) = do_in(item) {
+            add_line(alloc, out, &do_line(alloc, vars, node)?)?;
         }
     }
     Ok(())

@@ -14,7 +14,7 @@ pub use fault::DeckErr;
 pub use good::GoodDeck;
 pub use parts::do_in;
 pub use tasks::{do_of, task_of};
-pub use values::{href, label, name_value, title, value};
+pub use values::{href, label, name_value, title, type_value, value};
 pub use wap_markup::{AttrName, Deck, Item, Node, Tag};
 
 #[cfg(test)]

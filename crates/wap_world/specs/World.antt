@@ -153,25 +153,28 @@ react pages world key.Vars = quiet world (map variable_line world.vars)
 abbrev pub name_of : List ℕ → List ℕ
 name_of url = drop 7 url
 
--- a session begins: its page is asked for, without a URL that led there, and entered at its first card, or refused
+-- a session begins at the first card of its page, if that is a deck
+abbrev pub world_at : Option Page → World
+world_at (Some (is_deck deck)) = record { deck = Some deck; history = 0 ∷ []; vars = [] }
+world_at _ = start
+
+abbrev pub lines_at : Option Page → List (List ℕ)
+lines_at None = refusal_line (codes "missing") ∷ []
+lines_at (Some is_refused) = refusal_line (codes "refused") ∷ []
+lines_at (Some (is_deck deck)) = shown (world_at (Some (is_deck deck)))
+
+-- no URL led there
+abbrev pub tests_at : List ℕ → Option Page → List AccessTest
+tests_at name (Some (is_deck deck)) = record { page = name; caller = None; allowed = true } ∷ []
+tests_at name _ = []
+
+-- the page of a name is asked for, and entered or refused
 abbrev pub entered : List ℕ → List ℕ → Option Page → Step
-entered url name None = record {
-  world = start;
-  lines = get_line url ∷ refusal_line (codes "missing") ∷ [];
+entered url name page = record {
+  world = world_at page;
+  lines = get_line url ∷ lines_at page;
   asked = (name, false) ∷ [];
-  tests = [];
-}
-entered url name (Some is_refused) = record {
-  world = start;
-  lines = get_line url ∷ refusal_line (codes "refused") ∷ [];
-  asked = (name, false) ∷ [];
-  tests = [];
-}
-entered url name (Some (is_deck deck)) = let world : World = record { deck = Some deck; history = 0 ∷ []; vars = [] } in record {
-  world = world;
-  lines = get_line url ∷ shown world;
-  asked = (name, false) ∷ [];
-  tests = record { page = name; caller = None; allowed = true } ∷ [];
+  tests = tests_at name page;
 }
 
 abbrev pub opened : Pages → List ℕ → Step
