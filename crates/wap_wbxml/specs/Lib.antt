@@ -1,1 +1,5 @@
+pub mod Steps
+pub mod Strings
+pub mod Tasks
+pub mod Cards
 pub mod Reading

@@ -1,8 +1,8 @@
 use Rattle.std.proofs.Common.{ap, length, Option, Ok, ◌∙◌}
 use Rattle.wap_markup.specs.declared.document.Kid.{Kid}
-use Rattle.wap_wbxml.specs.Reading.{next_card_at, cards_at}
+use Rattle.wap_wbxml.specs.Cards.{next_card_at, cards_at}
 use Rattle.wap_wbxml.proofs.Parts.{begins, one_more}
-use Rattle.wap_wbxml.proofs.reading.cards.Goals as goal
+use Rattle.wap_wbxml.proofs.cards.read_cards.Goals as goal
 
 pub loop-init : goal.loop-init
 unfolding cards_at
