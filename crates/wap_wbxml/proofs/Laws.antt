@@ -112,7 +112,7 @@ module _ {P X : Type 0} {read : List ℕ → Reading X} {Is : P → Type 0} {spe
   }
 
   pub reads_told : {Y : Type 0} (made : X → Y) → Reads (told made read) Is spell (λ p. made (tree p))
-  reads_told {Y} made = record {
+  reads_told {Y = Y} made = record {
     takes = λ bytes x rest e.
         let a = bind_ok (read bytes) (λ y. Ok (made y.0, y.1)) (x, rest) e in
         let same = ok_same (made a.0.0, a.0.1) (x, rest) a.2 in
@@ -197,19 +197,20 @@ reads_nothing = record {
     no [] x rest e = cc
     no (byte ∷ bytes) x rest e = cc
 
-module _ {P Q X : Type 0} {read : List ℕ → Reading X} {other : ℕ → List ℕ → Reading X} {IsP : P → Type 0} {IsQ : Q → Type 0}
-    {spell : P → List ℕ} {write : Q → List ℕ} {tree : P → X} {form : Q → X} where
-  on_passes : (byte : ℕ) → ((rest : List ℕ) → other byte rest ≡ Err Unbuilt) → (bytes : List ℕ) (y : X × List ℕ) → by_first other bytes ≡ Ok y → by_first (on byte read other) bytes ≡ Ok y
-  on_passes byte none [] y e = absurd cc
-  on_passes byte none (first ∷ rest) y e = elim (chosen (eqb first byte) true false (eqb first byte) (test (eqb first byte))) [
-    | inl t ↦ absurd (cc (sym (none rest) ∙ ap (λ (b : ℕ). other b rest) (sym (eqb-true first byte t.0)) ∙ e))
-    | inr f ↦ ap (λ (b : Bool). cond b (read rest) (other first rest)) f.0 ∙ e
-  ]
-    where
-      test : (b : Bool) → cond b true false ≡ b
-      test true = refl
-      test false = refl
+test_of : (b : Bool) → cond b true false ≡ b
+test_of true = refl
+test_of false = refl
 
+on_passes : {X : Type 0} (byte : ℕ) (read : List ℕ → Reading X) (other : ℕ → List ℕ → Reading X) → ((rest : List ℕ) → other byte rest ≡ Err Unbuilt) → (bytes : List ℕ) (y : X × List ℕ)
+    → by_first other bytes ≡ Ok y → by_first (on byte read other) bytes ≡ Ok y
+on_passes byte read other none [] y e = absurd cc
+on_passes byte read other none (first ∷ rest) y e = elim (chosen (eqb first byte) true false (eqb first byte) (test_of (eqb first byte))) [
+  | inl t ↦ absurd (cc (sym (none rest) ∙ ap (λ (b : ℕ). other b rest) (sym (eqb-true first byte t.0)) ∙ e))
+  | inr f ↦ ap (λ (b : Bool). cond b (read rest) (other first rest)) f.0 ∙ e
+]
+
+module _ {P Q X : Type 0} {read : List ℕ → Reading X} (other : ℕ → List ℕ → Reading X) {IsP : P → Type 0} {IsQ : Q → Type 0}
+    {spell : P → List ℕ} {write : Q → List ℕ} {tree : P → X} {form : Q → X} where
   on_takes : (byte : ℕ) → Reads read IsP spell tree → Reads (by_first other) IsQ write form → (bytes : List ℕ) (x : X) (rest : List ℕ) → by_first (on byte read other) bytes ≡ Ok (x, rest)
       → (p : P ⊎ Q) × IsEither IsP IsQ p × (bytes ≡ either (λ p. byte ∷ spell p) write p ++ rest) × (x ≡ either tree form p)
   on_takes byte first second [] x rest e = absurd cc
@@ -221,7 +222,7 @@ module _ {P Q X : Type 0} {read : List ℕ → Reading X} {other : ℕ → List 
   on_again : (byte : ℕ) → Reads read IsP spell tree → Reads (by_first other) IsQ write form → ((rest : List ℕ) → other byte rest ≡ Err Unbuilt)
       → (p : P ⊎ Q) (rest : List ℕ) → IsEither IsP IsQ p → by_first (on byte read other) (either (λ p. byte ∷ spell p) write p ++ rest) ≡ Ok (either tree form p, rest)
   on_again byte first second none (inl p) rest is = ap (λ (b : Bool). cond b (read (spell p ++ rest)) (other byte (spell p ++ rest))) (eqb-same byte) ∙ first.again p rest is
-  on_again byte first second none (inr q) rest is = on_passes byte none (write q ++ rest) (form q, rest) (second.again q rest is)
+  on_again byte first second none (inr q) rest is = on_passes byte read other none (write q ++ rest) (form q, rest) (second.again q rest is)
 
   on_fails : (byte : ℕ) → Reads read IsP spell tree → Reads (by_first other) IsQ write form → (bytes : List ℕ) (fault : DocFault) → by_first (on byte read other) bytes ≡ Err fault → fault ≡ Unbuilt
   on_fails byte first second [] fault e = cc
@@ -240,7 +241,7 @@ module _ {P Q X : Type 0} {read : List ℕ → Reading X} {other : ℕ → List 
 
 -- ---- all parts of some content
 
-module _ {P X : Type 0} {read : ℕ → List ℕ → Reading X} {Is : P → Type 0} {spell : P → List ℕ} {tree : P → X} (reads : Reads (by_first read) Is spell tree) (none : (rest : List ℕ) → read 0x01 rest ≡ Err Unbuilt) where
+module _ {P X : Type 0} (read : ℕ → List ℕ → Reading X) {Is : P → Type 0} {spell : P → List ℕ} {tree : P → X} (reads : Reads (by_first read) Is spell tree) (none : (rest : List ℕ) → read 0x01 rest ≡ Err Unbuilt) where
   next_end_takes : (bytes rest : List ℕ) → next_by read bytes ≡ Ok (None, rest) → bytes ≡ 0x01 ∷ rest
   next_end_takes [] rest e = absurd cc
   next_end_takes (tag ∷ others) rest e = elim (chosen (eqb tag 0x01) (Ok (None, others)) (read tag others >>= λ x. Ok (Some x.0, x.1)) (Ok (None, rest)) e) [
@@ -262,16 +263,12 @@ module _ {P X : Type 0} {read : ℕ → List ℕ → Reading X} {Is : P → Type
 
   next_again : (bytes : List ℕ) (x : X) (rest : List ℕ) → by_first read bytes ≡ Ok (x, rest) → next_by read bytes ≡ Ok (Some x, rest)
   next_again [] x rest e = absurd cc
-  next_again (tag ∷ others) x rest e = elim (chosen (eqb tag 0x01) true false (eqb tag 0x01) (test (eqb tag 0x01))) [
+  next_again (tag ∷ others) x rest e = elim (chosen (eqb tag 0x01) true false (eqb tag 0x01) (test_of (eqb tag 0x01))) [
     | inl t ↦ absurd (cc (sym (none others) ∙ ap (λ (b : ℕ). read b others) (sym (eqb-true tag 0x01 t.0)) ∙ e))
     | inr f ↦
         ap (λ (b : Bool). cond b (Ok (None, others)) (read tag others >>= λ x. Ok (Some x.0, x.1))) f.0
         ∙ ap (λ (r : Reading X). r >>= λ x. Ok (Some x.0, x.1)) e
   ]
-    where
-      test : (b : Bool) → cond b true false ≡ b
-      test true = refl
-      test false = refl
 
   next_fails : (bytes : List ℕ) (fault : DocFault) → next_by read bytes ≡ Err fault → fault ≡ Unbuilt
   next_fails [] fault e = cc

@@ -1,2 +1,4 @@
 pub mod Laws
 pub mod Parts
+pub mod TextReading
+pub mod TaskReading

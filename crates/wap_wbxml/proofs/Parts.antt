@@ -15,7 +15,7 @@ abbrev pub Continues : {A : Type 0} → (List ℕ → Reading (Option A)) → �
 Continues next turns done front bytes whole = with_front front (parts_at next (turns - done) bytes) ≡ whole
 
 regrouped : {A : Type 0} (front : List A) (part : A) (read : Reading (List A)) → with_front front (read >>= λ others. Ok (part ∷ others.0, others.1)) ≡ with_front (front ++ part ∷ []) read
-regrouped front part (Ok x) = ap (λ (kids : List A). Ok (kids, x.1)) (sym (append_assoc front (part ∷ []) x.0))
+regrouped {A = A} front part (Ok x) = ap (λ (kids : List A). Ok (kids, x.1)) (sym (append_assoc front (part ∷ []) x.0))
 regrouped front part (Err f) = refl
 
 module _ {A : Type 0} (next : List ℕ → Reading (Option A)) (turns done : ℕ) (front : List A) (bytes : List ℕ) (whole : Reading (List A)) where
@@ -50,6 +50,6 @@ nothing_before (Ok x) = refl
 nothing_before (Err f) = refl
 
 pub begins : {A : Type 0} (next : List ℕ → Reading (Option A)) (turns : ℕ) (front : List A) (bytes : List ℕ) → front ≡ [] → Continues next turns 0 front bytes (parts_at next turns bytes)
-begins next turns front bytes none =
+begins {A = A} next turns front bytes none =
     let all : turns - 0 ≡ turns = omega arith in
     ap (λ (kids : List A). with_front kids (parts_at next (turns - 0) bytes)) none ∙ nothing_before (parts_at next (turns - 0) bytes) ∙ ap (λ (n : ℕ). parts_at next n bytes) all
