@@ -150,6 +150,16 @@ module _ {P X : Type 0} {read : List ℕ → Reading X} {Is : P → Type 0} {spe
     fails = reads.fails;
   }
 
+-- what stands for nothing is read of no bytes
+pub reads_given : {X : Type 0} (x : X) → Reads {P = Unit {0}} (λ rest. Ok (x, rest)) (λ p. Unit {0}) (λ p. []) (λ p. x)
+reads_given {X = X} x = record {
+  takes = λ bytes y rest e.
+      let same = ok_same (x, bytes) (y, rest) e in
+      (tt, tt, ap (λ (z : X × List ℕ). z.1) same, sym (ap (λ (z : X × List ℕ). z.0) same));
+  again = λ p rest is. refl;
+  fails = λ bytes. fails_not (x, bytes);
+}
+
 -- ---- two readings
 
 module _ {P Q X Y : Type 0} {read : List ℕ → Reading X} {more : List ℕ → Reading Y} {IsP : P → Type 0} {IsQ : Q → Type 0}

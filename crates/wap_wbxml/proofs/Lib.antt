@@ -1,4 +1,6 @@
 pub mod Laws
-pub mod Parts
 pub mod TextReading
 pub mod TaskReading
+pub mod CardReading
+pub mod Pages
+pub mod Parts

@@ -5,7 +5,7 @@ use Rattle.std.specs.List.{list_all, flat_map, AllByRecursion}
 use Rattle.std.proofs.lemmas.Bool.{eqb-true, ltb-true, lt-ltb}
 use Rattle.std.proofs.lemmas.List.{length-map}
 use Rattle.wap_base.specs.Outcome.{◌>>=◌}
-use Rattle.wap_base.proofs.Choices.{chosen, ok_same}
+use Rattle.wap_base.proofs.Choices.{chosen}
 use Rattle.wap_markup.specs.declared.document.Element.{Element}
 use Rattle.wap_markup.specs.declared.document.Attr.{Attr}
 use Rattle.wap_markup.specs.declared.document.Kid.{Kid}
@@ -19,7 +19,7 @@ use Rattle.wap_wbxml.specs.declared.values.Value.{Value as Read}
 use Rattle.wap_wbxml.specs.Steps.{Reading, both, kept, told, on, nothing_else, by_first}
 use Rattle.wap_wbxml.specs.Strings.{fits, piece_of}
 use Rattle.wap_wbxml.specs.Tasks.{setvar_kid, setvar_at, next_setvar_at, setvars_at, bare_at, way_at, has_content, task_kid, task_from, task_at}
-use Rattle.wap_wbxml.proofs.Laws.{Reads, fails_not, either, IsEither, reads_behind, reads_ended, reads_kept, reads_told, reads_those, reads_both, reads_nothing, reads_on, reads_all}
+use Rattle.wap_wbxml.proofs.Laws.{Reads, either, IsEither, reads_behind, reads_ended, reads_kept, reads_told, reads_those, reads_given, reads_both, reads_nothing, reads_on, reads_all}
 use Rattle.wap_wbxml.proofs.TextReading.{and_parts, read_as, piece_same, reads_plain, reads_value}
 
 -- ---- setvars
@@ -54,15 +54,6 @@ unfolding setvars_at next_setvar_at
 reads_setvars = reads_all (on 0xBE setvar_at nothing_else) reads_setvar (λ rest. refl)
 
 -- ---- ways
-
-reads_bare : (code : ℕ) → Reads {P = Unit {0}} (bare_at code) (λ p. Unit {0}) (λ p. []) (λ p. element code [] [])
-reads_bare code = record {
-  takes = λ bytes x rest e.
-      let same = ok_same (element code [] [], bytes) (x, rest) e in
-      (tt, tt, ap (λ (y : Element × List ℕ). y.1) same, sym (ap (λ (y : Element × List ℕ). y.0) same));
-  again = λ p rest is. refl;
-  fails = λ bytes. fails_not (element code [] [], bytes);
-}
 
 abbrev Found : Type 0
 Found = List ℕ ⊎ (Unit {0} ⊎ (Unit {0} ⊎ ⊥))
@@ -108,7 +99,7 @@ unfolding way_at
 reads_way =
     reads_those
     (reads_on (on 0x32 (bare_at 0x32) (on 0x36 (bare_at 0x36) nothing_else)) 0xAB (reads_told (reads_behind (reads_ended (reads_plain 0x4A form.Reference) 0x01) 0x4A) (λ href. element 0x2B (href ∷ []) []))
-    (reads_on (on 0x36 (bare_at 0x36) nothing_else) 0x32 (reads_bare 0x32) (reads_on nothing_else 0x36 (reads_bare 0x36) reads_nothing (λ rest. refl)) (λ rest. refl)) (λ rest. refl))
+    (reads_on (on 0x36 (bare_at 0x36) nothing_else) 0x32 (reads_given (element 0x32 [] [])) (reads_on nothing_else 0x36 (reads_given (element 0x36 [] [])) reads_nothing (λ rest. refl)) (λ rest. refl)) (λ rest. refl))
     found_way way_found
 
 -- ---- tasks
