@@ -8,7 +8,7 @@ use Rattle.wap_base.specs.Outcome.{◌>>=◌}
 use Rattle.wap_base.proofs.Choices.{chosen, bind_ok, bind_err, ok_same, some_same}
 use Rattle.wap_wbxml.specs.declared.fault.DocFault.{DocFault}
 use Rattle.wap_wbxml.specs.declared.fault.DocFault.TheVariants.{Unbuilt}
-use Rattle.wap_wbxml.specs.Steps.{Reading, first_at, after, behind, ended, both, kept, told, on, nothing_else, by_first, next_by, chained, parts_at, all_by}
+use Rattle.wap_wbxml.specs.Steps.{Reading, first_at, after, behind, ended, both, kept, told, on, nothing_else, by_first, next_by, chained, run_at, all_by}
 
 -- read reads the bytes that spell gives for the things that are such, as what tree makes of them, and fails in one way alone
 pub record Reads {P X : Type 0} (read : List ℕ → Reading X) (Is : P → Type 0) (spell : P → List ℕ) (tree : P → X) : Type 0 where
@@ -54,6 +54,19 @@ pub fails_in_turn : {A B : Type 0} (r : Result A DocFault) (next : A → Result 
 fails_in_turn (Ok x) next fault first others e = others x fault e
 fails_in_turn (Err c) next fault first others e = first fault (cc e)
 
+-- ---- what was read in front, and then
+
+joined : (bytes a b l m rest : List ℕ) → bytes ≡ a ++ l → l ≡ b ++ m → m ≡ rest → bytes ≡ (a ++ b) ++ rest
+joined bytes a b l m rest first second same = first ∙ ap (λ (x : List ℕ). a ++ x) second ∙ ap (λ (x : List ℕ). a ++ (b ++ x)) same ∙ sym (append_assoc a b rest)
+
+followed : (bytes a l rest : List ℕ) → bytes ≡ a ++ l → l ≡ rest → bytes ≡ a ++ rest
+followed bytes a l rest first same = first ∙ ap (λ (x : List ℕ). a ++ x) same
+
+pair_same : {A : Type 0} (x y : A) (l m : List ℕ) → ◌≡◌ {A = Reading A} (Ok (x, l)) (Ok (y, m)) → (x ≡ y) × (l ≡ m)
+pair_same {A = A} x y l m e =
+    let same = ok_same (x, l) (y, m) e in
+    (ap (λ (z : A × List ℕ). z.0) same, ap (λ (z : A × List ℕ). z.1) same)
+
 -- ---- one reading
 
 module _ {P X : Type 0} {read : List ℕ → Reading X} {Is : P → Type 0} {spell : P → List ℕ} {tree : P → X} (reads : Reads read Is spell tree) where
@@ -72,13 +85,9 @@ module _ {P X : Type 0} {read : List ℕ → Reading X} {Is : P → Type 0} {spe
     takes = λ bytes x rest e.
         let a = bind_ok (read bytes) (λ y. after byte y.1 >>= λ others. Ok (y.0, others)) (x, rest) e in
         let b = bind_ok (after byte a.0.1) (λ others. Ok (a.0.0, others)) (x, rest) a.2 in
-        let same = ok_same (a.0.0, b.0) (x, rest) b.2 in
-        let c = reads.takes bytes a.0.0 a.0.1 a.1 in (
-          c.0,
-          c.1,
-          c.2 ∙ ap (λ (l : List ℕ). spell c.0 ++ l) (after_takes byte a.0.1 b.0 b.1) ∙ ap (λ (y : X × List ℕ). spell c.0 ++ (byte ∷ y.1)) same ∙ sym (append_assoc (spell c.0) (byte ∷ []) rest),
-          sym (ap (λ (y : X × List ℕ). y.0) same) ∙ c.3,
-        );
+        let same = pair_same a.0.0 x b.0 rest b.2 in
+        let c = reads.takes bytes a.0.0 a.0.1 a.1 in
+        (c.0, c.1, joined bytes (spell c.0) (byte ∷ []) a.0.1 b.0 rest c.2 (after_takes byte a.0.1 b.0 b.1) same.1, sym same.0 ∙ c.3);
     again = λ p rest is.
         ap (ended byte read) (append_assoc (spell p) (byte ∷ []) rest)
         ∙ ap (λ (r : Reading X). r >>= λ y. after byte y.1 >>= λ others. Ok (y.0, others)) (reads.again p (byte ∷ rest) is)
@@ -94,13 +103,9 @@ module _ {P X : Type 0} {read : List ℕ → Reading X} {Is : P → Type 0} {spe
         let a = bind_ok (read bytes) (λ y. cond (test y.0) (Ok y) (Err Unbuilt)) (x, rest) e in
         elim (chosen (test a.0.0) (Ok a.0) (Err Unbuilt) (Ok (x, rest)) a.2) [
           | inl t ↦
-              let same = ok_same a.0 (x, rest) t.1 in
-              let c = reads.takes bytes a.0.0 a.0.1 a.1 in (
-                c.0,
-                (c.1, ap test (sym c.3) ∙ t.0),
-                c.2 ∙ ap (λ (y : X × List ℕ). spell c.0 ++ y.1) same,
-                sym (ap (λ (y : X × List ℕ). y.0) same) ∙ c.3,
-              )
+              let same = pair_same a.0.0 x a.0.1 rest t.1 in
+              let c = reads.takes bytes a.0.0 a.0.1 a.1 in
+              (c.0, (c.1, ap test (sym c.3) ∙ t.0), followed bytes (spell c.0) a.0.1 rest c.2 same.1, sym same.0 ∙ c.3)
           | inr f ↦ absurd (cc f.1)
         ];
     again = λ p rest is.
@@ -112,16 +117,12 @@ module _ {P X : Type 0} {read : List ℕ → Reading X} {Is : P → Type 0} {spe
   }
 
   pub reads_told : {Y : Type 0} (made : X → Y) → Reads (told made read) Is spell (λ p. made (tree p))
-  reads_told {Y = Y} made = record {
+  reads_told made = record {
     takes = λ bytes x rest e.
         let a = bind_ok (read bytes) (λ y. Ok (made y.0, y.1)) (x, rest) e in
-        let same = ok_same (made a.0.0, a.0.1) (x, rest) a.2 in
-        let c = reads.takes bytes a.0.0 a.0.1 a.1 in (
-          c.0,
-          c.1,
-          c.2 ∙ ap (λ (y : Y × List ℕ). spell c.0 ++ y.1) same,
-          sym (ap (λ (y : Y × List ℕ). y.0) same) ∙ ap made c.3,
-        );
+        let same = pair_same (made a.0.0) x a.0.1 rest a.2 in
+        let c = reads.takes bytes a.0.0 a.0.1 a.1 in
+        (c.0, c.1, followed bytes (spell c.0) a.0.1 rest c.2 same.1, sym same.0 ∙ ap made c.3);
     again = λ p rest is. ap (λ (r : Reading X). r >>= λ y. Ok (made y.0, y.1)) (reads.again p rest is);
     fails = λ bytes fault e. fails_in_turn (read bytes) (λ y. Ok (made y.0, y.1)) fault (reads.fails bytes) (λ y. fails_not (made y.0, y.1)) e;
   }
@@ -152,15 +153,21 @@ module _ {P X : Type 0} {read : List ℕ → Reading X} {Is : P → Type 0} {spe
 
 -- what stands for nothing is read of no bytes
 pub reads_given : {X : Type 0} (x : X) → Reads {P = Unit {0}} (λ rest. Ok (x, rest)) (λ p. Unit {0}) (λ p. []) (λ p. x)
-reads_given {X = X} x = record {
+reads_given x = record {
   takes = λ bytes y rest e.
-      let same = ok_same (x, bytes) (y, rest) e in
-      (tt, tt, ap (λ (z : X × List ℕ). z.1) same, sym (ap (λ (z : X × List ℕ). z.0) same));
+      let same = pair_same x y bytes rest e in
+      (tt, tt, same.1, sym same.0);
   again = λ p rest is. refl;
   fails = λ bytes. fails_not (x, bytes);
 }
 
 -- ---- two readings
+
+pairs_same : {A B : Type 0} (a x : A) (b y : B) → a ≡ x → b ≡ y → ◌≡◌ {A = A × B} (a, b) (x, y)
+pairs_same {A = A} {B = B} a x b y first second = ap (λ (z : A). (z, b)) first ∙ ap (λ (z : B). (x, z)) second
+
+pair_is : {A B : Type 0} (x : A × B) (a c : A) (b d : B) → ◌≡◌ {A = A × B} (a, b) x → a ≡ c → b ≡ d → ◌≡◌ {A = A × B} x (c, d)
+pair_is x a c b d made first second = sym made ∙ pairs_same a c b d first second
 
 module _ {P Q X Y : Type 0} {read : List ℕ → Reading X} {more : List ℕ → Reading Y} {IsP : P → Type 0} {IsQ : Q → Type 0}
     {spell : P → List ℕ} {write : Q → List ℕ} {tree : P → X} {form : Q → Y} where
@@ -169,14 +176,10 @@ module _ {P Q X Y : Type 0} {read : List ℕ → Reading X} {more : List ℕ →
     takes = λ bytes x rest e.
         let a = bind_ok (read bytes) (λ y. more y.1 >>= λ z. Ok ((y.0, z.0), z.1)) (x, rest) e in
         let b = bind_ok (more a.0.1) (λ z. Ok ((a.0.0, z.0), z.1)) (x, rest) a.2 in
-        let same = ok_same ((a.0.0, b.0.0), b.0.1) (x, rest) b.2 in
+        let same = pair_same (a.0.0, b.0.0) x b.0.1 rest b.2 in
         let c = first.takes bytes a.0.0 a.0.1 a.1 in
-        let d = second.takes a.0.1 b.0.0 b.0.1 b.1 in (
-          (c.0, d.0),
-          (c.1, d.1),
-          c.2 ∙ ap (λ (l : List ℕ). spell c.0 ++ l) d.2 ∙ ap (λ (y : (X × Y) × List ℕ). spell c.0 ++ (write d.0 ++ y.1)) same ∙ sym (append_assoc (spell c.0) (write d.0) rest),
-          sym (ap (λ (y : (X × Y) × List ℕ). y.0) same) ∙ ap (λ (z : X). (z, b.0.0)) c.3 ∙ ap (λ (z : Y). (tree c.0, z)) d.3,
-        );
+        let d = second.takes a.0.1 b.0.0 b.0.1 b.1 in
+        ((c.0, d.0), (c.1, d.1), joined bytes (spell c.0) (write d.0) a.0.1 b.0.1 rest c.2 d.2 same.1, pair_is x a.0.0 (tree c.0) b.0.0 (form d.0) same.0 c.3 d.3);
     again = λ p rest is.
         ap (both read more) (append_assoc (spell p.0) (write p.1) rest)
         ∙ ap (λ (r : Reading X). r >>= λ y. more y.1 >>= λ z. Ok ((y.0, z.0), z.1)) (first.again p.0 (write p.1 ++ rest) is.0)
@@ -251,24 +254,27 @@ module _ {P Q X : Type 0} {read : List ℕ → Reading X} (other : ℕ → List 
 
 -- ---- all parts of some content
 
+lists_same : {A : Type 0} (a x : A) (b y : List A) → a ≡ x → b ≡ y → (a ∷ b) ≡ (x ∷ y)
+lists_same {A = A} a x b y first second = ap (λ z. z ∷ b) first ∙ ap (λ (l : List A). x ∷ l) second
+
 module _ {P X : Type 0} (read : ℕ → List ℕ → Reading X) {Is : P → Type 0} {spell : P → List ℕ} {tree : P → X} (reads : Reads (by_first read) Is spell tree) (none : (rest : List ℕ) → read 0x01 rest ≡ Err Unbuilt) where
   next_end_takes : (bytes rest : List ℕ) → next_by read bytes ≡ Ok (None, rest) → bytes ≡ 0x01 ∷ rest
   next_end_takes [] rest e = absurd cc
   next_end_takes (tag ∷ others) rest e = elim (chosen (eqb tag 0x01) (Ok (None, others)) (read tag others >>= λ x. Ok (Some x.0, x.1)) (Ok (None, rest)) e) [
-    | inl t ↦ ap (λ (b : ℕ). b ∷ others) (eqb-true tag 0x01 t.0) ∙ ap (λ (x : Option X × List ℕ). 0x01 ∷ x.1) (ok_same (None, others) (None, rest) t.1)
+    | inl t ↦ lists_same tag 0x01 others rest (eqb-true tag 0x01 t.0) (pair_same None None others rest t.1).1
     | inr f ↦
         let a = bind_ok (read tag others) (λ x. Ok (Some x.0, x.1)) (None, rest) f.1 in
-        absurd (cc (ap (λ (x : Option X × List ℕ). x.0) (ok_same (Some a.0.0, a.0.1) (None, rest) a.2)))
+        absurd (cc (pair_same (Some a.0.0) None a.0.1 rest a.2).0)
   ]
 
   next_takes : (bytes : List ℕ) (x : X) (rest : List ℕ) → next_by read bytes ≡ Ok (Some x, rest) → by_first read bytes ≡ Ok (x, rest)
   next_takes [] x rest e = absurd cc
   next_takes (tag ∷ others) x rest e = elim (chosen (eqb tag 0x01) (Ok (None, others)) (read tag others >>= λ x. Ok (Some x.0, x.1)) (Ok (Some x, rest)) e) [
-    | inl t ↦ absurd (cc (ap (λ (x : Option X × List ℕ). x.0) (ok_same (None, others) (Some x, rest) t.1)))
+    | inl t ↦ absurd (cc (pair_same None (Some x) others rest t.1).0)
     | inr f ↦
         let a = bind_ok (read tag others) (λ x. Ok (Some x.0, x.1)) (Some x, rest) f.1 in
-        let same = ok_same (Some a.0.0, a.0.1) (Some x, rest) a.2 in
-        a.1 ∙ ap (λ (y : X). Ok (y, a.0.1)) (some_same a.0.0 x (ap (λ (x : Option X × List ℕ). x.0) same)) ∙ ap (λ (y : Option X × List ℕ). Ok (x, y.1)) same
+        let same = pair_same (Some a.0.0) (Some x) a.0.1 rest a.2 in
+        a.1 ∙ ap Ok (pairs_same a.0.0 x a.0.1 rest (some_same a.0.0 x same.0) same.1)
   ]
 
   next_again : (bytes : List ℕ) (x : X) (rest : List ℕ) → by_first read bytes ≡ Ok (x, rest) → next_by read bytes ≡ Ok (Some x, rest)
@@ -294,43 +300,42 @@ module _ {P X : Type 0} (read : ℕ → List ℕ → Reading X) {Is : P → Type
       → ((inner : List ℕ) (found : List X × List ℕ) → more inner ≡ Ok found → Taken inner found)
       → next_by read bytes ≡ Ok (part, rest) → chained more (part, rest) ≡ Ok found → Taken bytes found
   chain_takes more bytes None rest found take first e =
-      let same = ok_same ([], rest) found e in
-      ([], tt, next_end_takes bytes rest first ∙ ap (λ (x : List X × List ℕ). 0x01 ∷ x.1) same, sym (ap (λ (x : List X × List ℕ). x.0) same))
+      let same = pair_same [] found.0 rest found.1 e in
+      ([], tt, next_end_takes bytes rest first ∙ ap (λ (l : List ℕ). 0x01 ∷ l) same.1, sym same.0)
   chain_takes more bytes (Some x) rest found take first e =
       let b = bind_ok (more rest) (λ others. Ok (x ∷ others.0, others.1)) found e in
       let one = reads.takes bytes x rest (next_takes bytes x rest first) in
       let others = take rest b.0 b.1 in
-      let same = ok_same (x ∷ b.0.0, b.0.1) found b.2 in (
+      let same = pair_same (x ∷ b.0.0) found.0 b.0.1 found.1 b.2 in (
         one.0 ∷ others.0,
         (one.1, others.1),
-        one.2 ∙ ap (λ (l : List ℕ). spell one.0 ++ l) others.2 ∙ sym (append_assoc (spell one.0) (flat_map spell others.0) (0x01 ∷ b.0.1))
-            ∙ ap (λ (x : List X × List ℕ). flat_map spell (one.0 ∷ others.0) ++ (0x01 ∷ x.1)) same,
-        sym (ap (λ (x : List X × List ℕ). x.0) same) ∙ ap (λ (k : X). k ∷ b.0.0) one.3 ∙ ap (λ (l : List X). tree one.0 ∷ l) others.3,
+        joined bytes (spell one.0) (flat_map spell others.0) rest (0x01 ∷ b.0.1) (0x01 ∷ found.1) one.2 others.2 (ap (λ (l : List ℕ). 0x01 ∷ l) same.1),
+        sym same.0 ∙ lists_same x (tree one.0) b.0.0 (map tree others.0) one.3 others.3,
       )
 
-  parts_take : (left : ℕ) (bytes : List ℕ) (found : List X × List ℕ) → parts_at (next_by read) left bytes ≡ Ok found → Taken bytes found
+  parts_take : (left : ℕ) (bytes : List ℕ) (found : List X × List ℕ) → run_at (next_by read) left bytes ≡ Ok found → Taken bytes found
   parts_take zero bytes found e = absurd cc
   parts_take (suc left) bytes found e =
-      let a = bind_ok (next_by read bytes) (chained (parts_at (next_by read) left)) found e in
-      chain_takes (parts_at (next_by read) left) bytes a.0.0 a.0.1 found (parts_take left) a.1 a.2
+      let a = bind_ok (next_by read bytes) (chained (run_at (next_by read) left)) found e in
+      chain_takes (run_at (next_by read) left) bytes a.0.0 a.0.1 found (parts_take left) a.1 a.2
 
-  parts_again : (left : ℕ) (parts : List P) (rest : List ℕ) → AllByRecursion Is parts → length parts < left → parts_at (next_by read) left (flat_map spell parts ++ (0x01 ∷ rest)) ≡ Ok (map tree parts, rest)
+  parts_again : (left : ℕ) (parts : List P) (rest : List ℕ) → AllByRecursion Is parts → length parts < left → run_at (next_by read) left (flat_map spell parts ++ (0x01 ∷ rest)) ≡ Ok (map tree parts, rest)
   parts_again zero parts rest each few = absurd (omega arith)
   parts_again (suc left) [] rest each few = refl
   parts_again (suc left) (part ∷ parts) rest each few =
       let others : List ℕ = flat_map spell parts ++ (0x01 ∷ rest) in
-      ap (parts_at (next_by read) (suc left)) (append_assoc (spell part) (flat_map spell parts) (0x01 ∷ rest))
-      ∙ ap (λ (r : Reading (Option X)). r >>= chained (parts_at (next_by read) left)) (next_again (spell part ++ others) (tree part) others (reads.again part others each.0))
+      ap (run_at (next_by read) (suc left)) (append_assoc (spell part) (flat_map spell parts) (0x01 ∷ rest))
+      ∙ ap (λ (r : Reading (Option X)). r >>= chained (run_at (next_by read) left)) (next_again (spell part ++ others) (tree part) others (reads.again part others each.0))
       ∙ ap (λ (r : Reading (List X)). r >>= λ others. Ok (tree part ∷ others.0, others.1)) (parts_again left parts rest each.1 (omega arith))
 
   chain_fails : (more : List ℕ → Reading (List X)) (one : Option X × List ℕ) (fault : DocFault) → ((inner : List ℕ) (f : DocFault) → more inner ≡ Err f → f ≡ Unbuilt) → chained more one ≡ Err fault → fault ≡ Unbuilt
   chain_fails more (None, rest) fault fail e = absurd cc
   chain_fails more (Some part, rest) fault fail e = fails_in_turn (more rest) (λ others. Ok (part ∷ others.0, others.1)) fault (fail rest) (λ others. fails_not (part ∷ others.0, others.1)) e
 
-  parts_fail : (left : ℕ) (bytes : List ℕ) (fault : DocFault) → parts_at (next_by read) left bytes ≡ Err fault → fault ≡ Unbuilt
+  parts_fail : (left : ℕ) (bytes : List ℕ) (fault : DocFault) → run_at (next_by read) left bytes ≡ Err fault → fault ≡ Unbuilt
   parts_fail zero bytes fault e = cc
   parts_fail (suc left) bytes fault e =
-      fails_in_turn (next_by read bytes) (chained (parts_at (next_by read) left)) fault (next_fails bytes) (λ one f g. chain_fails (parts_at (next_by read) left) one f (parts_fail left) g) e
+      fails_in_turn (next_by read bytes) (chained (run_at (next_by read) left)) fault (next_fails bytes) (λ one f g. chain_fails (run_at (next_by read) left) one f (parts_fail left) g) e
 
   -- a part has bytes, since nothing is read of none
   spelled_some : (bytes : List ℕ) (x : X) → by_first read bytes ≡ Ok (x, []) → 0 < length bytes

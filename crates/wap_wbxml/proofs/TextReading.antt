@@ -133,7 +133,7 @@ reads_plain code f = reads_told (reads_string f) (plain code)
 -- ---- values
 
 word_fits : (text : List ℕ) → IsWord text → is_word text ≡ true
-word_fits text is = 
+word_fits text is =
     and_both (is_kind text) (leb (length text) 20) (and_both (ltb 0 (length text)) (list_all is_visible text) (lt-ltb 0 (length text) is.some) is.visible) (let few = is.few in grind (arith, nat_tests))
 
 fits_word : (text : List ℕ) → is_word text ≡ true → IsWord text

@@ -54,9 +54,9 @@ chained more (None, rest) = Ok ([], rest)
 chained more (Some part, rest) = more rest >>= λ others. Ok (part ∷ others.0, others.1)
 
 -- all parts up to the end of the content, so many bytes being left
-abbrev pub parts_at : {A : Type 0} → (List ℕ → Reading (Option A)) → ℕ → List ℕ → Reading (List A)
-parts_at next zero bytes = Err Unbuilt
-parts_at next (suc left) bytes = next bytes >>= chained (parts_at next left)
+abbrev pub run_at : {A : Type 0} → (List ℕ → Reading (Option A)) → ℕ → List ℕ → Reading (List A)
+run_at next zero bytes = Err Unbuilt
+run_at next (suc left) bytes = next bytes >>= chained (run_at next left)
 
 abbrev pub all_by : {A : Type 0} → (List ℕ → Reading (Option A)) → List ℕ → Reading (List A)
-all_by next bytes = parts_at next (length bytes) bytes
+all_by next bytes = run_at next (length bytes) bytes

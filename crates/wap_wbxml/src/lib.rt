@@ -3,9 +3,11 @@
 
 mod cards;
 mod characters;
+mod elements;
 mod fault;
 mod front;
 mod page;
+mod parts;
 mod strings;
 mod tasks;
 mod values;

@@ -8,10 +8,11 @@ ghost use Rattle.wap_wbxml.specs.Reading.{document_at};
 
 use crate::DocFault;
 use crate::cards::read_cards;
+use crate::elements::element;
 use crate::front::after;
 use std::alloc::Global;
 use wap_base::Rows;
-use wap_markup::{Document, Element, Token};
+use wap_markup::Document;
 
 /// The document that the bytes spell, where they are of the one form that is read so far.
 #[tactic(auto, unfolding(crate::specs::Reading::document_at))]
@@ -41,11 +42,6 @@ fn read_page(alloc: Global, bytes: &[u8]) -> Result<Document, DocFault>
         version: 3,
         public: 10,
         charset: 106,
-        root: Element {
-            page: 0,
-            tag: Token::Code(0x3F),
-            attrs: Rows::new(alloc),
-            kids: cards,
-        },
+        root: element(0x3F, Rows::new(alloc), cards),
     })
 }

@@ -1,37 +1,29 @@
 //! Texts, up to the 0 at their end, and attributes of one string.
-ghost use Rattle.std.specs.Prelude.{◌≡◌, ◌≤◌, [], ◌∷◌, length, IfOk};
+ghost use Rattle.std.specs.Prelude.{◌≡◌, ◌≤◌, length, IfOk};
 ghost use Rattle.wap_base.specs.Outcome.{Meets};
-ghost use Rattle.wap_markup.specs.Documents.{attribute};
 ghost use Rattle.wap_wbxml.specs.declared.fault.DocFault.TheVariants.{NoMemory};
 ghost use Rattle.wap_wbxml.specs.Strings.{zero_place, zero_ended_at, characters_at, string_at, plain_at};
 
 use crate::DocFault;
 use crate::characters::{TextForm, fits};
+use crate::elements::attribute;
 use crate::front::after;
 use std::alloc::Global;
-use wap_base::{Rows, Text};
-use wap_markup::{Attr, Piece, Token};
+use wap_base::Text;
+use wap_markup::{Attr, Piece};
 
 /// A string as an attribute of this code.
 #[tactic(auto, unfolding(crate::specs::Strings::plain_at))]
-pub fn read_plain(alloc: Global, code: u8, form: TextForm, bytes: &[u8]) -> Result<(Attr, &[u8]), DocFault>
+pub fn read_plain(
+    alloc: Global,
+    code: u8,
+    form: TextForm,
+    bytes: &[u8],
+) -> Result<(Attr, &[u8]), DocFault>
     ensures { Meets NoMemory (λ read. (read.0, read.1.now)) result (plain_at code form bytes.now) }
 {
     let (text, rest) = read_string(alloc, form, bytes)?;
     Ok((attribute(alloc, code, Piece::Str(text))?, rest))
-}
-
-/// An attribute of one piece, by its code on page 0.
-pub fn attribute(alloc: Global, code: u8, piece: Piece) -> Result<Attr, wap_base::NoMemory>
-    ensures { IfOk result (λ attr. attr ≡ attribute code (piece ∷ [])) }
-{
-    let mut value = Rows::new(alloc);
-    value.add(piece)?;
-    Ok(Attr {
-        page: 0,
-        start: Token::Code(code),
-        value,
-    })
 }
 
 /// A string: 3, and the characters of a text.
@@ -45,7 +37,11 @@ fn read_string(alloc: Global, form: TextForm, bytes: &[u8]) -> Result<(Text, &[u
 
 /// The characters of a text of this form, and the 0 behind them.
 #[tactic(auto, unfolding(crate::specs::Strings::characters_at))]
-pub fn read_characters(alloc: Global, form: TextForm, bytes: &[u8]) -> Result<(Text, &[u8]), DocFault>
+pub fn read_characters(
+    alloc: Global,
+    form: TextForm,
+    bytes: &[u8],
+) -> Result<(Text, &[u8]), DocFault>
     ensures { Meets NoMemory (λ read. (read.0, read.1.now)) result (characters_at form bytes.now) }
 {
     let (characters, rest) = zero_ended(bytes)?;

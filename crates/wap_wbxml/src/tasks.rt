@@ -1,18 +1,17 @@
 //! Tasks, and the settings of variables in them.
-ghost use Rattle.std.specs.Prelude.{◌≡◌, [], ◌∷◌};
 ghost use Rattle.wap_base.specs.Outcome.{Meets};
-ghost use Rattle.wap_markup.specs.Documents.{element};
 ghost use Rattle.wap_wbxml.specs.declared.fault.DocFault.TheVariants.{NoMemory};
 ghost use Rattle.wap_wbxml.specs.Tasks.{setvar_at, next_setvar_at, setvars_at, way_at, task_from, task_at};
 
 use crate::DocFault;
 use crate::characters::TextForm;
+use crate::elements::{attribute, element};
 use crate::front::{after, first};
-use crate::strings::{attribute, read_plain};
+use crate::strings::read_plain;
 use crate::values::read_value;
 use std::alloc::Global;
 use wap_base::Rows;
-use wap_markup::{Attr, Element, Kid, Token};
+use wap_markup::{Element, Kid};
 
 /// A task: where it goes, and the variables that it sets.
 #[tactic(auto, unfolding(crate::specs::Tasks::task_at))]
@@ -54,22 +53,10 @@ fn read_way(alloc: Global, tag: u8, bytes: &[u8]) -> Result<(Element, &[u8]), Do
             let (href, rest) = read_plain(alloc, 0x4A, TextForm::Reference, href)?;
             let rest = after(0x01, rest)?;
             attrs.add(href)?;
-            Ok((element(alloc, 0x2B, attrs), rest))
+            Ok((element(0x2B, attrs, Rows::new(alloc)), rest))
         }
-        0x32 | 0x36 => Ok((element(alloc, tag, attrs), bytes)),
+        0x32 | 0x36 => Ok((element(tag, attrs, Rows::new(alloc)), bytes)),
         _ => Err(DocFault::Unbuilt),
-    }
-}
-
-/// An element without content, by its code on page 0.
-fn element(alloc: Global, code: u8, attrs: Rows<Attr>) -> Element
-    ensures { result ≡ element code attrs [] }
-{
-    Element {
-        page: 0,
-        tag: Token::Code(code),
-        attrs,
-        kids: Rows::new(alloc),
     }
 }
 
@@ -119,5 +106,5 @@ fn read_setvar(alloc: Global, bytes: &[u8]) -> Result<(Kid, &[u8]), DocFault>
     let mut attrs = Rows::new(alloc);
     attrs.add(name)?;
     attrs.add(attribute(alloc, 0x4D, value.into_piece())?)?;
-    Ok((Kid::Element(element(alloc, 0x3E, attrs)), rest))
+    Ok((Kid::Element(element(0x3E, attrs, Rows::new(alloc))), rest))
 }

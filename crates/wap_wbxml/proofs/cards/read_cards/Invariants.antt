@@ -1,6 +1,6 @@
 use Rattle.std.proofs.Common.{length}
 use Rattle.wap_wbxml.specs.Cards.{next_card_at, cards_at}
-use Rattle.wap_wbxml.proofs.Parts.{Continues}
+use Rattle.wap_wbxml.proofs.Loops.{Continues}
 use Rattle.wap_wbxml.proofs.cards.read_cards.Given as goal
 
 abbrev pub invariant-loop : goal.invariant-loop

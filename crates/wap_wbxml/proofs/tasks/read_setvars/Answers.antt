@@ -1,7 +1,7 @@
 use Rattle.std.proofs.Common.{ap, length, Option, Ok, ◌∙◌}
 use Rattle.wap_markup.specs.declared.document.Kid.{Kid}
 use Rattle.wap_wbxml.specs.Tasks.{next_setvar_at, setvars_at}
-use Rattle.wap_wbxml.proofs.Parts.{begins, one_more}
+use Rattle.wap_wbxml.proofs.Loops.{begins, one_more}
 use Rattle.wap_wbxml.proofs.tasks.read_setvars.Goals as goal
 
 pub loop-init : goal.loop-init

@@ -1,6 +1,6 @@
 use Rattle.std.proofs.Common.{length}
 use Rattle.wap_wbxml.specs.Tasks.{next_setvar_at, setvars_at}
-use Rattle.wap_wbxml.proofs.Parts.{Continues}
+use Rattle.wap_wbxml.proofs.Loops.{Continues}
 use Rattle.wap_wbxml.proofs.tasks.read_setvars.Given as goal
 
 abbrev pub invariant-loop : goal.invariant-loop
