@@ -1,8 +1,6 @@
 -- Cards are read as they are spelled.
-use Rattle.std.proofs.Common.{◌≡◌, ℕ, zero, suc, ◌+◌, ◌<◌, ◌≤◌, Bool, true, false, cond, eqb, ltb, List, [], ◌∷◌, ◌++◌, length, map, Option, Some, None, Result, Ok, Err, refl, sym, ap, ◌∙◌, append_assoc, ◌⊎◌, inl, inr, arith}
-use Rattle.std.specs.Prelude.{◌&&◌}
+use Rattle.std.proofs.Common.{◌≡◌, ℕ, ◌<◌, true, false, cond, eqb, ltb, List, [], ◌∷◌, ◌++◌, length, map, Ok, Err, refl, sym, ap, ◌∙◌, append_assoc, ◌⊎◌, inl, inr, arith}
 use Rattle.std.specs.List.{list_all, flat_map, AllByRecursion, IsDistinct}
-use Rattle.std.specs.Option.{option_map}
 use Rattle.std.proofs.lemmas.Bool.{eqb-true, ltb-true, lt-ltb}
 use Rattle.std.proofs.lemmas.List.{append-nil}
 use Rattle.wap_base.specs.Outcome.{◌>>=◌}
@@ -10,16 +8,16 @@ use Rattle.wap_base.proofs.Choices.{chosen, bind_ok, ok_same}
 use Rattle.wap_markup.specs.declared.document.Attr.{Attr}
 use Rattle.wap_markup.specs.declared.document.Kid.{Kid}
 use Rattle.wap_markup.specs.declared.document.Kid.TheVariants as kid
-use Rattle.wap_markup.specs.Form.{is_printable, is_visible, IsText, Value, IsValue, Task, IsTask, Do, IsLabel, IsDo, Part, paragraph, a_do, IsPart, Attribute, id, title, IsAttribute, is_same_attribute, Card, IsCard, string_bytes, value_bytes, task_bytes, label_bytes, do_bytes, part_bytes, attribute_bytes, head_bytes, card_bytes}
-use Rattle.wap_markup.specs.Documents.{element, plain, value_kid, task_tree, do_attrs, part_tree, attribute_tree, card_tree}
+use Rattle.wap_markup.specs.Form.{is_printable, Attribute, id, title, IsAttribute, is_same_attribute, IsCard, string_bytes, attribute_bytes, head_bytes, card_bytes}
+use Rattle.wap_markup.specs.Documents.{element, plain, attribute_tree, card_tree}
 use Rattle.wap_wbxml.specs.declared.fault.DocFault.{DocFault}
 use Rattle.wap_wbxml.specs.declared.fault.DocFault.TheVariants.{Unbuilt}
 use Rattle.wap_wbxml.specs.declared.characters.TextForm.TheVariants as form
-use Rattle.wap_wbxml.specs.Steps.{Reading, first_at, ended, both, told, on, nothing_else, by_first}
-use Rattle.wap_wbxml.specs.Strings.{fits, is_some_text, is_kind, plain_at, kid_of}
+use Rattle.wap_wbxml.specs.Steps.{Reading, ended, both, told, on, nothing_else, by_first}
+use Rattle.wap_wbxml.specs.Strings.{fits, plain_at}
 use Rattle.wap_wbxml.specs.Parts.{parts_at}
 use Rattle.wap_wbxml.specs.Cards.{attribute_at, second_at, attributes_at, head_at, card_at, next_card_at, cards_at}
-use Rattle.wap_wbxml.proofs.Laws.{Reads, first_fails, fails_here, fails_not, fails_in_turn, either, IsEither, reads_behind, reads_ended, reads_told, reads_as, reads_those, reads_given, reads_both, reads_nothing, reads_on, reads_all}
+use Rattle.wap_wbxml.proofs.Laws.{Reads, fails_in_turn, either, IsEither, reads_ended, reads_told, reads_as, reads_those, reads_given, reads_both, reads_nothing, reads_on, reads_all}
 use Rattle.wap_wbxml.proofs.TextReading.{and_parts, and_both, reads_plain}
 use Rattle.wap_wbxml.proofs.PartReading.{reads_parts}
 

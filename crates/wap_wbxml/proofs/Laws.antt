@@ -1,11 +1,11 @@
 -- What it is to read the things of a spelling, and how such readings are put together.
-use Rattle.std.proofs.Common.{◌≡◌, ◌≢◌, ℕ, zero, suc, ◌+◌, ◌<◌, ◌≤◌, Bool, true, false, cond, eqb, List, [], ◌∷◌, ◌++◌, length, map, Option, Some, None, Result, Ok, Err, refl, sym, ap, subst, ◌∙◌, append_assoc, ◌⊎◌, inl, inr, arith}
+use Rattle.std.proofs.Common.{◌≡◌, ℕ, zero, suc, ◌<◌, ◌≤◌, Bool, true, false, cond, eqb, List, [], ◌∷◌, ◌++◌, length, map, Option, Some, None, Result, Ok, Err, refl, sym, ap, ◌∙◌, append_assoc, ◌⊎◌, inl, inr, arith}
 use Rattle.std.specs.List.{flat_map, AllByRecursion}
 use Rattle.std.proofs.lemmas.Bool.{eqb-true}
 use Rattle.std.proofs.lemmas.Bool.Decides.{nat_tests}
 use Rattle.std.proofs.lemmas.List.{length-append}
 use Rattle.wap_base.specs.Outcome.{◌>>=◌}
-use Rattle.wap_base.proofs.Choices.{chosen, bind_ok, bind_err, ok_same, some_same}
+use Rattle.wap_base.proofs.Choices.{chosen, bind_ok, ok_same, some_same}
 use Rattle.wap_wbxml.specs.declared.fault.DocFault.{DocFault}
 use Rattle.wap_wbxml.specs.declared.fault.DocFault.TheVariants.{Unbuilt}
 use Rattle.wap_wbxml.specs.Steps.{Reading, first_at, after, behind, ended, both, kept, told, on, nothing_else, by_first, next_by, chained, run_at, all_by}

@@ -1,13 +1,10 @@
 -- Tasks and their setvars are read as they are spelled.
-use Rattle.std.proofs.Common.{◌≡◌, ℕ, zero, suc, ◌+◌, ◌-◌, ◌<◌, ◌≤◌, Bool, true, false, cond, eqb, ltb, List, [], ◌∷◌, ◌++◌, length, map, Option, Some, None, Result, Ok, Err, refl, sym, ap, ◌∙◌, append_assoc, ◌⊎◌, inl, inr, arith}
-use Rattle.std.specs.Prelude.{◌&&◌, ◌||◌}
+use Rattle.std.proofs.Common.{◌≡◌, ℕ, ◌+◌, ◌-◌, ◌≤◌, Bool, true, false, cond, eqb, ltb, List, [], ◌∷◌, ◌++◌, length, map, Ok, Err, refl, ap, ◌∙◌, ◌⊎◌, inl, inr, arith}
+use Rattle.std.specs.Prelude.{◌||◌}
 use Rattle.std.specs.List.{list_all, flat_map, AllByRecursion}
-use Rattle.std.proofs.lemmas.Bool.{eqb-true, ltb-true, lt-ltb}
-use Rattle.std.proofs.lemmas.List.{length-map}
-use Rattle.wap_base.specs.Outcome.{◌>>=◌}
+use Rattle.std.proofs.lemmas.Bool.{eqb-true, lt-ltb}
 use Rattle.wap_base.proofs.Choices.{chosen}
 use Rattle.wap_markup.specs.declared.document.Element.{Element}
-use Rattle.wap_markup.specs.declared.document.Attr.{Attr}
 use Rattle.wap_markup.specs.declared.document.Kid.{Kid}
 use Rattle.wap_markup.specs.declared.document.Kid.TheVariants as kid
 use Rattle.wap_markup.specs.Form.{is_printable, Value, IsValue, value_bytes, Setvar, IsSetvar, Way, go, prev, refresh, IsWay, Task, IsTask, string_bytes, setvar_bytes, way_code, way_bytes, task_with, task_bytes}
@@ -15,9 +12,8 @@ use Rattle.wap_markup.specs.Documents.{element, attribute, plain, setvar_tree, w
 use Rattle.wap_wbxml.specs.declared.fault.DocFault.{DocFault}
 use Rattle.wap_wbxml.specs.declared.fault.DocFault.TheVariants.{Unbuilt}
 use Rattle.wap_wbxml.specs.declared.characters.TextForm.TheVariants as form
-use Rattle.wap_wbxml.specs.declared.values.Value.{Value as Read}
-use Rattle.wap_wbxml.specs.Steps.{Reading, both, kept, told, on, nothing_else, by_first}
-use Rattle.wap_wbxml.specs.Strings.{fits, piece_of}
+use Rattle.wap_wbxml.specs.Steps.{both, kept, told, on, nothing_else, by_first}
+use Rattle.wap_wbxml.specs.Strings.{fits}
 use Rattle.wap_wbxml.specs.Tasks.{setvar_kid, setvar_at, next_setvar_at, setvars_at, bare_at, way_at, has_content, task_kid, task_from, task_at}
 use Rattle.wap_wbxml.proofs.Laws.{Reads, either, IsEither, reads_behind, reads_ended, reads_kept, reads_told, reads_those, reads_given, reads_both, reads_nothing, reads_on, reads_all}
 use Rattle.wap_wbxml.proofs.TextReading.{and_parts, read_as, piece_same, reads_plain, reads_value}

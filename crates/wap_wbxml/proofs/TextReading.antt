@@ -1,6 +1,6 @@
 -- Texts and values are read as they are spelled.
-use Rattle.std.proofs.Common.{◌≡◌, ℕ, zero, suc, ◌+◌, ◌<◌, ◌≤◌, Bool, true, false, cond, eqb, ltb, leb, List, [], ◌∷◌, ◌++◌, length, take, drop, Result, Ok, Err, refl, sym, ap, ◌∙◌, append_assoc, ◌⊎◌, inl, inr, arith}
-use Rattle.std.specs.Prelude.{not, ◌&&◌, ◌||◌}
+use Rattle.std.proofs.Common.{◌≡◌, ℕ, suc, ◌+◌, Bool, true, false, cond, eqb, ltb, leb, List, [], ◌∷◌, ◌++◌, length, take, drop, Ok, refl, sym, ap, ◌∙◌, append_assoc, ◌⊎◌, inl, inr, arith}
+use Rattle.std.specs.Prelude.{not, ◌&&◌}
 use Rattle.std.specs.List.{list_all, prefix_len}
 use Rattle.std.proofs.lemmas.Bool.{eqb-true, ltb-true, lt-ltb, leb-true}
 use Rattle.std.proofs.lemmas.Bool.Decides.{nat_tests}
@@ -8,17 +8,15 @@ use Rattle.std.proofs.lemmas.List.{take_at, drop_at, take-append-drop}
 use Rattle.wap_base.specs.Names.{begins_name, continues_name, is_name}
 use Rattle.wap_base.specs.Outcome.{◌>>=◌}
 use Rattle.wap_base.proofs.Choices.{bind_ok, ok_same}
-use Rattle.wap_markup.specs.declared.document.Attr.{Attr}
-use Rattle.wap_markup.specs.Form.{is_printable, is_visible, IsText, IsWord, Value, word, variable, IsValue, string_bytes, value_bytes}
+use Rattle.wap_markup.specs.Form.{is_printable, is_visible, IsWord, Value, word, variable, IsValue, string_bytes, value_bytes}
 use Rattle.wap_markup.specs.Documents.{plain, value_piece, value_kid}
-use Rattle.wap_wbxml.specs.declared.fault.DocFault.{DocFault}
 use Rattle.wap_wbxml.specs.declared.characters.TextForm.{TextForm}
 use Rattle.wap_wbxml.specs.declared.characters.TextForm.TheVariants as form
 use Rattle.wap_wbxml.specs.declared.values.Value.{Value as Read}
 use Rattle.wap_wbxml.specs.declared.values.Value.TheVariants as read
-use Rattle.wap_wbxml.specs.Steps.{Reading, after, told, on, nothing_else, by_first}
+use Rattle.wap_wbxml.specs.Steps.{after, told, on, nothing_else}
 use Rattle.wap_wbxml.specs.Strings.{is_kind, is_word, fits, zero_place, zero_ended_at, characters_at, string_at, plain_at, value_at, piece_of, kid_of}
-use Rattle.wap_wbxml.proofs.Laws.{Reads, after_takes, after_again, after_fails, fails_in_turn, fails_not, either, IsEither, reads_behind, reads_kept, reads_told, reads_those, reads_nothing, reads_on}
+use Rattle.wap_wbxml.proofs.Laws.{Reads, after_takes, after_fails, fails_in_turn, fails_not, either, IsEither, reads_behind, reads_kept, reads_told, reads_those, reads_nothing, reads_on}
 
 pub and_parts : (a b : Bool) → (a && b) ≡ true → (a ≡ true) × (b ≡ true)
 and_parts true b e = (refl, e)

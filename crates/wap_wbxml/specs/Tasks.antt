@@ -1,6 +1,5 @@
 -- Reading tasks and the settings of variables in them. This project's own.
 use Rattle.std.specs.Prelude.{ℕ, Bool, ◌-◌, ◌==◌, ◌||◌, nat_lt, if◌then◌else◌, List, [], ◌∷◌, length, Option, Ok}
-use Rattle.wap_base.specs.Outcome.{◌>>=◌}
 use Rattle.wap_markup.specs.declared.document.Element.{Element}
 use Rattle.wap_markup.specs.declared.document.Attr.{Attr}
 use Rattle.wap_markup.specs.declared.document.Kid.{Kid}
