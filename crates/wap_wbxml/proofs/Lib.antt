@@ -1,2 +1,7 @@
+pub mod Laws
+pub mod Loops
+pub mod TextReading
+pub mod TaskReading
+pub mod PartReading
+pub mod CardReading
 pub mod Pages
-pub mod Parts

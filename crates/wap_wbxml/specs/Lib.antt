@@ -1,1 +1,6 @@
+pub mod Steps
+pub mod Strings
+pub mod Tasks
+pub mod Parts
+pub mod Cards
 pub mod Reading

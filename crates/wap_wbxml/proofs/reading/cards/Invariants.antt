@@ -1,7 +1,0 @@
-use Rattle.std.proofs.Common.{length}
-use Rattle.wap_wbxml.specs.Reading.{next_card_at, cards_at}
-use Rattle.wap_wbxml.proofs.Parts.{Continues}
-use Rattle.wap_wbxml.proofs.reading.cards.Given as goal
-
-abbrev pub invariant-loop : goal.invariant-loop
-invariant-loop l = Continues next_card_at (length l.bytes) l.counter l.cards l.rest (cards_at l.bytes)
