@@ -12,14 +12,15 @@ use Rattle.wap_keys.specs.Lines.{Keys, keys_of}
 use Rattle.wap_keys.specs.Read.{IsReadBefore, AreFirst}
 use Rattle.wap_world.specs.Lines.{lines_bytes}
 use Rattle.wap_world.specs.Pages.{Pages}
-use Rattle.wap_world.specs.World.{World, start, opened}
+use Rattle.wap_world.specs.World.{World, opened}
 use Rattle.wap_world.specs.Transcript.{played, transcript}
 use Rattle.wap_cli.specs.Judged.{judged}
 use Rattle.wap_cli.specs.Sessions.{IfTold, Writes, WritesFront, WritesBefore}
 use Rattle.wap_cli.specs.Statuses.{ended, IsPlayed, IsOrStops}
 use Rattle.wap_cli.specs.declared.status.Status.{Status}
 use Rattle.wap_cli.specs.declared.status.Status.TheVariants.{Done, KeyReadFault, BadKey, TooManyKeys}
-use Rattle.wap_cli.proofs.Playing.{followed_bytes, played_first}
+use Rattle.wap_cli.proofs.Steps.{followed_bytes, played_first}
+use Rattle.wap_cli.proofs.Sessions.{AreOf}
 use Rattle.wap_cli.proofs.Printing.{front_longer}
 
 -- ---- how it ends
@@ -86,58 +87,58 @@ too_many_ends (Some bytes) result is ends = too_many_by (keys_of bytes).ending (
 
 -- ---- what it writes
 
--- what was shown when the URL was opened
-abbrev pub Shows : Option Contents → List ℕ → List ℕ → Type 0
-Shows contents url shown = IfSome contents (λ pages. shown ≡ lines_bytes (opened (judged pages) start url).lines)
+-- the world and the lines behind the opening of the URL
+abbrev pub Begins : Option Contents → List ℕ → World → List ℕ → Type 0
+Begins contents url world shown = IfSome contents (λ pages. AreOf world shown (opened (judged pages) url))
 
-abbrev pub Wrote : List ℕ → List Key → Option (List ℕ) → Option (List ℕ) → Type 0
-Wrote shown keys before after = (pages : Pages) (world : World) → Appends before after (shown ++ lines_bytes (played pages keys world).lines)
+abbrev pub Wrote : World → List ℕ → List Key → Option (List ℕ) → Option (List ℕ) → Type 0
+Wrote world shown keys before after = (pages : Pages) → Appends before after (shown ++ lines_bytes (played pages keys world).lines)
 
-abbrev pub WroteFront : List ℕ → List Key → Option (List ℕ) → Option (List ℕ) → Type 0
-WroteFront shown keys before after = (pages : Pages) (world : World) → AppendsFront before after (shown ++ lines_bytes (played pages keys world).lines)
+abbrev pub WroteFront : World → List ℕ → List Key → Option (List ℕ) → Option (List ℕ) → Type 0
+WroteFront world shown keys before after = (pages : Pages) → AppendsFront before after (shown ++ lines_bytes (played pages keys world).lines)
 
 -- what opening showed and what the keys show are the transcript
-transcript_of : (pages : Pages) (url shown : List ℕ) (keys : List Key) → shown ≡ lines_bytes (opened pages start url).lines
-    → shown ++ lines_bytes (played pages keys (opened pages start url).world).lines ≡ transcript pages url keys
-transcript_of pages url shown keys is =
-    ap (λ (l : List ℕ). l ++ lines_bytes (played pages keys (opened pages start url).world).lines) is
-    ∙ sym (followed_bytes (opened pages start url) (played pages keys))
+transcript_of : (pages : Pages) (url : List ℕ) (world : World) (shown : List ℕ) (keys : List Key) → AreOf world shown (opened pages url)
+    → shown ++ lines_bytes (played pages keys world).lines ≡ transcript pages url keys
+transcript_of pages url world shown keys are =
+    ap (λ (l : List ℕ). l ++ lines_bytes (played pages keys world).lines) are.1
+    ∙ ap (λ (w : World). lines_bytes (opened pages url).lines ++ lines_bytes (played pages keys w).lines) are.0
+    ∙ sym (followed_bytes (opened pages url) (played pages keys))
 
-wrote_transcript : (pages : Pages) (url shown : List ℕ) (keys : List Key) (before after : Option (List ℕ)) → shown ≡ lines_bytes (opened pages start url).lines → Wrote shown keys before after
+wrote_transcript : (pages : Pages) (url : List ℕ) (world : World) (shown : List ℕ) (keys : List Key) (before after : Option (List ℕ)) → AreOf world shown (opened pages url) → Wrote world shown keys before after
     → Appends before after (transcript pages url keys)
-wrote_transcript pages url shown keys before after is wrote =
-    subst (λ (l : List ℕ). Appends before after l) (transcript_of pages url shown keys is) (wrote pages (opened pages start url).world)
+wrote_transcript pages url world shown keys before after are wrote =
+    subst (λ (l : List ℕ). Appends before after l) (transcript_of pages url world shown keys are) (wrote pages)
 
-pub whole_told : (contents : Option Contents) (left : Option (List ℕ)) (url shown : List ℕ) (keys : List Key) (e : Ending) (before after : Option (List ℕ)) → Shows contents url shown
-    → IfSome left (λ bytes. keys_of bytes ≡ record { keys = keys; ending = e }) → Wrote shown keys before after → IfTold contents left (Writes url before after)
-whole_told None left url shown keys e before after shows told wrote = tt
-whole_told (Some pages) None url shown keys e before after shows told wrote = tt
-whole_told (Some pages) (Some bytes) url shown keys e before after shows told wrote =
-    subst (λ (read : Keys). Appends before after (transcript (judged pages) url read.keys)) (sym told) (wrote_transcript (judged pages) url shown keys before after shows wrote)
+pub whole_told : (contents : Option Contents) (left : Option (List ℕ)) (url : List ℕ) (world : World) (shown : List ℕ) (keys : List Key) (e : Ending) (before after : Option (List ℕ)) → Begins contents url world shown
+    → IfSome left (λ bytes. keys_of bytes ≡ record { keys = keys; ending = e }) → Wrote world shown keys before after → IfTold contents left (Writes url before after)
+whole_told None left url world shown keys e before after begins told wrote = tt
+whole_told (Some pages) None url world shown keys e before after begins told wrote = tt
+whole_told (Some pages) (Some bytes) url world shown keys e before after begins told wrote =
+    subst (λ (read : Keys). Appends before after (transcript (judged pages) url read.keys)) (sym told) (wrote_transcript (judged pages) url world shown keys before after begins wrote)
 
-pub before_told : (contents : Option Contents) (left now : Option (List ℕ)) (url shown : List ℕ) (keys : List Key) (before after : Option (List ℕ)) → Shows contents url shown
-    → IfSome left (IsReadBefore keys now) → Wrote shown keys before after → IfTold contents left (WritesBefore url now before after)
-before_told None left now url shown keys before after shows told wrote = tt
-before_told (Some pages) None now url shown keys before after shows told wrote = tt
-before_told (Some pages) (Some bytes) now url shown keys before after shows told wrote =
-    (keys, told, wrote_transcript (judged pages) url shown keys before after shows wrote)
+pub before_told : (contents : Option Contents) (left now : Option (List ℕ)) (url : List ℕ) (world : World) (shown : List ℕ) (keys : List Key) (before after : Option (List ℕ)) → Begins contents url world shown
+    → IfSome left (IsReadBefore keys now) → Wrote world shown keys before after → IfTold contents left (WritesBefore url now before after)
+before_told None left now url world shown keys before after begins told wrote = tt
+before_told (Some pages) None now url world shown keys before after begins told wrote = tt
+before_told (Some pages) (Some bytes) now url world shown keys before after begins told wrote =
+    (keys, told, wrote_transcript (judged pages) url world shown keys before after begins wrote)
 
-front_of_all : (pages : Pages) (url shown : List ℕ) (keys all : List Key) (before after : Option (List ℕ)) → shown ≡ lines_bytes (opened pages start url).lines → AreFirst keys all → WroteFront shown keys before after
+front_of_all : (pages : Pages) (url : List ℕ) (world : World) (shown : List ℕ) (keys all : List Key) (before after : Option (List ℕ)) → AreOf world shown (opened pages url) → AreFirst keys all → WroteFront world shown keys before after
     → AppendsFront before after (transcript pages url all)
-front_of_all pages url shown keys all before after is first wrote =
-    let world = (opened pages start url).world in
+front_of_all pages url world shown keys all before after are first wrote =
     let some = lines_bytes (played pages keys world).lines in
     let more = played_first pages keys first.0 world in
     subst (λ (l : List ℕ). AppendsFront before after l)
-    (append_assoc shown some more.0 ∙ ap (λ (l : List ℕ). shown ++ l) (sym more.1) ∙ ap (λ (l : List Key). shown ++ lines_bytes (played pages l world).lines) (sym first.1) ∙ transcript_of pages url shown all is)
-    (front_longer before after (shown ++ some) more.0 (wrote pages world))
+    (append_assoc shown some more.0 ∙ ap (λ (l : List ℕ). shown ++ l) (sym more.1) ∙ ap (λ (l : List Key). shown ++ lines_bytes (played pages l world).lines) (sym first.1) ∙ transcript_of pages url world shown all are)
+    (front_longer before after (shown ++ some) more.0 (wrote pages))
 
-pub front_told : (contents : Option Contents) (left : Option (List ℕ)) (url shown : List ℕ) (keys : List Key) (before after : Option (List ℕ)) → Shows contents url shown
-    → IfSome left (λ bytes. AreFirst keys (keys_of bytes).keys) → WroteFront shown keys before after → IfTold contents left (WritesFront url before after)
-front_told None left url shown keys before after shows first wrote = tt
-front_told (Some pages) None url shown keys before after shows first wrote = tt
-front_told (Some pages) (Some bytes) url shown keys before after shows first wrote =
-    front_of_all (judged pages) url shown keys (keys_of bytes).keys before after shows first wrote
+pub front_told : (contents : Option Contents) (left : Option (List ℕ)) (url : List ℕ) (world : World) (shown : List ℕ) (keys : List Key) (before after : Option (List ℕ)) → Begins contents url world shown
+    → IfSome left (λ bytes. AreFirst keys (keys_of bytes).keys) → WroteFront world shown keys before after → IfTold contents left (WritesFront url before after)
+front_told None left url world shown keys before after begins first wrote = tt
+front_told (Some pages) None url world shown keys before after begins first wrote = tt
+front_told (Some pages) (Some bytes) url world shown keys before after begins first wrote =
+    front_of_all (judged pages) url world shown keys (keys_of bytes).keys before after begins first wrote
 
 pub nothing_told : (contents : Option Contents) (left : Option (List ℕ)) (url : List ℕ) (before : Option (List ℕ)) → IfTold contents left (WritesFront url before before)
 nothing_told None left url before = tt

@@ -3,5 +3,5 @@ pub mod TextLaws
 pub mod Apart
 pub mod Sessions
 pub mod Printing
-pub mod Playing
+pub mod Steps
 pub mod Browsing

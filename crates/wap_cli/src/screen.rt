@@ -34,7 +34,7 @@ pub(crate) fn value_text(
     vars: &Vars,
     value: Option<&Rows<Part>>,
 ) -> Result<Text, NoMemory>
-    ensures { IfOk result (λ text. text ≡ value_text vars.now (option_copied value)) }
+    ensures { IfOk result (λ text. text ≡ value_text vars.now (option_copied value.entry)) }
 {
     match value {
         Some(parts) => vars.fill(alloc, parts.as_slice()),

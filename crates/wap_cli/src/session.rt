@@ -9,7 +9,7 @@ ghost use Rattle.wap_cli.specs.Playing.{Shows, Plays, PlaysAll};
 
 use crate::lines::{Refusal, add_refusal, add_variables};
 use crate::screen::add_screen;
-use crate::tasks::{Plan, Way, plan};
+use crate::tasks::{Plan, Way, plan_for};
 use arrayvec::ArrayVec;
 use std::alloc::Global;
 use std::marker::Model;
@@ -32,8 +32,12 @@ pub(crate) struct Session {
 
 impl Model for Session {
     ghost use Rattle.wap_world.specs.World.{World};
+    ghost use Rattle.wap_markup.specs.contracts.deck.Item as item;
+    ghost use Rattle.std.specs.Coded.{codes};
 
     ghost Value = { World };
+
+    ghost coded = { Prim.hlevel (codes, item.the_row.coded) };
 
     ghost view = { λ session. record { deck = session.deck; history = session.history.items; vars = session.vars } };
 }
@@ -125,7 +129,7 @@ impl Session {
             return Ok(None);
         };
         match task_of(action) {
-            Some(task) => plan(alloc, &self.vars, deck, task),
+            Some(task) => plan_for(alloc, &self.vars, deck, task),
             None => Ok(None),
         }
     }

@@ -66,7 +66,7 @@ fn destination(alloc: Global, deck: &GoodDeck, href: &Text) -> Result<usize, NoM
 }
 
 /// Where a task leads, if it is one.
-fn way(alloc: Global, vars: &Vars, deck: &GoodDeck, task: &Node) -> Result<Option<Way>, NoMemory>
+fn way_of(alloc: Global, vars: &Vars, deck: &GoodDeck, task: &Node) -> Result<Option<Way>, NoMemory>
     ensures { IfOk result (λ way. way ≡ way_of vars.now deck.now task.now task.now.tag) }
 {
     match task.tag {
@@ -81,7 +81,7 @@ fn way(alloc: Global, vars: &Vars, deck: &GoodDeck, task: &Node) -> Result<Optio
 }
 
 /// A task of a deck, filled, if it is one.
-pub(crate) fn plan(
+pub(crate) fn plan_for(
     alloc: Global,
     vars: &Vars,
     deck: &GoodDeck,
@@ -89,7 +89,7 @@ pub(crate) fn plan(
 ) -> Result<Option<Plan>, NoMemory>
     ensures { IfOk result (λ plan. (history : List ℕ) → let world : World = record { deck = Some deck.now; history = history; vars = vars.now } in planned world plan ≡ task_of_tag world deck.now task.now task.now.tag) }
 {
-    let Some(way) = way(alloc, vars, deck, task)? else {
+    let Some(way) = way_of(alloc, vars, deck, task)? else {
         return Ok(None);
     };
     let texts = setvar_texts(alloc, vars, task.kids.as_slice())?;

@@ -4,4 +4,4 @@ use Rattle.wap_world.specs.Screens.{item_text}
 use Rattle.wap_cli.proofs.screen.paragraph_line.Given as goal
 
 abbrev pub invariant-loop-item : goal.invariant-loop-item
-invariant-loop-item l = l.line ≡ flat_map item_text (take l.item-index l.paragraph.kids)
+invariant-loop-item l = l.line ≡ flat_map (item_text l.vars) (take l.item-index l.paragraph.kids)
