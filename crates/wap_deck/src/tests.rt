@@ -133,15 +133,19 @@ fn attributes_of_a_document(rt: HostRuntime) -> Result<(), Fail> {
     Ok(())
 }
 
+/// A text, references, the first of them to no name of a variable, an element and a character.
+fn content(alloc: Global) -> Result<Rows<Kid>, NoMemory> {
+    let mut kids = one(alloc, text(alloc, "Hi")?)?;
+    kids.add(reference(alloc, "a-b")?)?;
+    kids.add(Kid::Element(element(alloc, 0, 0x2b, Rows::new(alloc))))?;
+    kids.add(Kid::Entity(65))?;
+    kids.add(reference(alloc, "next")?)?;
+    Ok(kids)
+}
+
 /// A card of two elements of no name here, by their code and by their page, whose content stays.
 fn card_of_a_document(alloc: Global) -> Result<Kid, NoMemory> {
-    let go = element(alloc, 0, 0x2b, Rows::new(alloc));
-    let mut inner = one(alloc, text(alloc, "Hi")?)?;
-    inner.add(reference(alloc, "a-b")?)?;
-    inner.add(Kid::Element(go))?;
-    inner.add(Kid::Entity(65))?;
-    inner.add(reference(alloc, "next")?)?;
-    let unknown = element(alloc, 0, 0x29, inner);
+    let unknown = element(alloc, 0, 0x29, content(alloc)?);
     let mut kids = one(alloc, Kid::Element(unknown))?;
     let inner = one(alloc, text(alloc, "Yo")?)?;
     kids.add(Kid::Element(element(alloc, 1, 0x27, inner)))?;
