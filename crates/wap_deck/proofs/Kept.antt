@@ -1,9 +1,7 @@
 -- What a map that may give nothing gives of items from a place on.
-use Rattle.std.proofs.Common.{◌≡◌, ℕ, suc, add-one, drop, ◌+◌, ◌<◌, List, [], ◌∷◌, ◌++◌, length, get_or, take, Option, Some, None, ap, sym, ◌∙◌, append-nil}
+use Rattle.std.proofs.Common.{◌≡◌, ℕ, suc, add-one, drop, ◌+◌, ◌<◌, List, ◌∷◌, length, get_or, Option, ap, sym, ◌∙◌}
 use Rattle.std.specs.List.{filter_map, cons_option}
 use Rattle.std.proofs.Math.Seq.{drop-cons}
-use Rattle.std.proofs.lemmas.List.{take_more}
-use Rattle.std.proofs.lemmas.List.Elements.{filter_map-append}
 
 -- from a place on: the item there, and those behind it
 at_place : {X : Type 0} (xs : List X) (i : ℕ) (x : X) → i < length xs → x ≡ get_or xs i x → drop i xs ≡ x ∷ drop (i + 1) xs

@@ -7,7 +7,7 @@ use std::alloc::Global;
 use wap_base::{Conv, Name, NameFault, NoMemory, Part, Rows, Text};
 use wap_markup::{Attr, AttrName, Deck, Document, Element, Item, Kid, Node, Piece, Tag, Token};
 
-/// The most levels of elements of a document that its deck holds, under the root.
+/// The most levels of content that are read, the root's being the first.
 const LEVEL_LIMIT: usize = 64;
 
 /// The name of an element by its code on page 0.
@@ -133,7 +133,7 @@ fn add_text(alloc: Global, part: Option<Part>, items: &mut Rows<Item>) -> Result
     Ok(())
 }
 
-/// Adds an element with so many levels of its content, or where it has no name here its content.
+/// Adds an element with so many levels of its content, or these alone where it has no name here.
 #[cycle(content)]
 fn add_element(
     alloc: Global,
@@ -185,7 +185,8 @@ fn add_kids(
 }
 
 /// The deck that a document means (WAP-191, sections 11.1 to 11.5). Elements and attributes
-/// without a name here are left out, but not the content of such an element.
+/// without a name here are left out, but not the content of such an element. What lies deeper than
+/// 64 levels of content is left out.
 pub fn deck_of(alloc: Global, document: &Document) -> Result<Deck, NoMemory>
     ensures { IfOk result (λ deck. deck ≡ deck_of document.now) }
 {

@@ -5,31 +5,36 @@ use std::test::Fail;
 use wap_base::{Conv, Name, NameFault, NoMemory, Part, Rows, Text};
 use wap_markup::{Attr, Document, Element, Kid, Piece, Token};
 
-fn rows<T: Drop, const N: usize>(alloc: Global, items: [T; N]) -> Result<Rows<T>, NoMemory> {
+/// Rows of one item.
+fn one<T: Drop>(alloc: Global, item: T) -> Result<Rows<T>, NoMemory> {
     let mut rows = Rows::new(alloc);
-    for item in items {
-        rows.add(item)?;
-    }
+    rows.add(item)?;
     Ok(rows)
 }
 
-/// An attribute of one string.
+/// An attribute on a page of codes, of one string.
 fn attr(alloc: Global, page: u8, code: u8, text: &str) -> Result<Attr, NoMemory> {
-    Ok(Attr {
-        page,
-        start: Token::Code(code),
-        value: rows(alloc, [Piece::Str(Text::of(alloc, text)?)])?,
-    })
+    let value = one(alloc, Piece::Str(Text::of(alloc, text)?))?;
+    let start = Token::Code(code);
+    Ok(Attr { page, start, value })
 }
 
-/// An element of the code page 0.
-fn element(code: u8, attrs: Rows<Attr>, kids: Rows<Kid>) -> Element {
+/// An element of no attributes on a page of codes.
+fn element(alloc: Global, page: u8, code: u8, kids: Rows<Kid>) -> Element {
     Element {
-        page: 0,
+        page,
         tag: Token::Code(code),
-        attrs,
+        attrs: Rows::new(alloc),
         kids,
     }
+}
+
+fn text(alloc: Global, text: &str) -> Result<Kid, NoMemory> {
+    Ok(Kid::Str(Text::of(alloc, text)?))
+}
+
+fn reference(alloc: Global, name: &str) -> Result<Kid, NoMemory> {
+    Ok(Kid::Var(Text::of(alloc, name)?, Conv::Plain))
 }
 
 fn document(root: Element) -> Document {
@@ -52,19 +57,29 @@ fn words(alloc: Global, text: &str) -> Result<Rows<Part>, NoMemory> {
     if text.is_empty() {
         return Ok(Rows::new(alloc));
     }
-    rows(alloc, [Part::Lit(Text::of(alloc, text)?)])
+    one(alloc, Part::Lit(Text::of(alloc, text)?))
 }
 
 fn node(tag: Tag, attrs: Rows<(AttrName, Rows<Part>)>, kids: Rows<Item>) -> Item {
     Item::Node(Node { tag, attrs, kids })
 }
 
+/// A node of no attributes.
+fn plain(alloc: Global, tag: Tag, kids: Rows<Item>) -> Item {
+    node(tag, Rows::new(alloc), kids)
+}
+
+/// A node of one attribute, and no content.
+fn leaf(alloc: Global, tag: Tag, name: AttrName, text: &str) -> Result<Item, NoMemory> {
+    let attrs = one(alloc, (name, words(alloc, text)?))?;
+    Ok(node(tag, attrs, Rows::new(alloc)))
+}
+
 /// A card with an id, and a do for each type.
 fn card(alloc: Global, id: Option<&str>, types: &[&str]) -> Result<Item, NoMemory> {
     let mut kids = Rows::new(alloc);
     for kind in types {
-        let attrs = rows(alloc, [(AttrName::Type, words(alloc, kind)?)])?;
-        kids.add(node(Tag::Do, attrs, Rows::new(alloc)))?;
+        kids.add(leaf(alloc, Tag::Do, AttrName::Type, kind)?)?;
     }
     let mut attrs = Rows::new(alloc);
     if let Some(id) = id {
@@ -75,8 +90,7 @@ fn card(alloc: Global, id: Option<&str>, types: &[&str]) -> Result<Item, NoMemor
 
 /// A deck of these cards, behind a head with an id.
 fn deck(alloc: Global, cards: &[(Option<&str>, &[&str])]) -> Result<Deck, NoMemory> {
-    let attrs = rows(alloc, [(AttrName::Id, words(alloc, "a")?)])?;
-    let mut kids = rows(alloc, [node(Tag::Head, attrs, Rows::new(alloc))])?;
+    let mut kids = one(alloc, leaf(alloc, Tag::Head, AttrName::Id, "a")?)?;
     for (id, types) in cards {
         kids.add(card(alloc, *id, types)?)?;
     }
@@ -89,100 +103,67 @@ fn deck(alloc: Global, cards: &[(Option<&str>, &[&str])]) -> Result<Deck, NoMemo
     })
 }
 
-/// A do with a known and an unknown attribute and with a reference to no name of a variable, and
-/// unknown elements, by their code and by their page, whose content stays.
-#[test]
-fn deck_of_a_document(rt: HostRuntime) -> Result<(), Fail> {
-    let alloc = rt.alloc();
-    let label = Attr {
-        page: 0,
-        start: Token::Code(0x18),
-        value: rows(
-            alloc,
-            [
-                Piece::Str(Text::of(alloc, "To ")?),
-                Piece::Var(Text::of(alloc, "1st")?, Conv::Plain),
-                Piece::Var(Text::of(alloc, "next")?, Conv::Plain),
-                Piece::Ext(0),
-            ],
-        )?,
-    };
-    let go = element(
-        0x2b,
-        rows(alloc, [attr(alloc, 0, 0x4a, "#b")?])?,
-        Rows::new(alloc),
-    );
-    let attrs = rows(
-        alloc,
-        [
-            attr(alloc, 0, 0x60, "unknown")?,
-            attr(alloc, 0, 0x37, "accept")?,
-            attr(alloc, 1, 0x55, "on another page")?,
-            label,
-        ],
-    )?;
-    let action = element(0x28, attrs, rows(alloc, [Kid::Element(go)])?);
-    let texts = rows(
-        alloc,
-        [
-            Kid::Str(Text::of(alloc, "Hi")?),
-            Kid::Var(Text::of(alloc, "a-b")?, Conv::Plain),
-            Kid::Entity(65),
-            Kid::Var(Text::of(alloc, "next")?, Conv::Plain),
-        ],
-    )?;
-    let paragraph = element(0x20, Rows::new(alloc), texts);
-    let unknown = element(
-        0x29,
-        rows(alloc, [attr(alloc, 0, 0x55, "x")?])?,
-        rows(alloc, [Kid::Element(paragraph), Kid::Element(action)])?,
-    );
-    let elsewhere = Element {
-        page: 1,
-        tag: Token::Code(0x27),
-        attrs: Rows::new(alloc),
-        kids: rows(alloc, [Kid::Str(Text::of(alloc, "Yo")?)])?,
-    };
-    let card = element(
-        0x27,
-        rows(alloc, [attr(alloc, 0, 0x36, "News")?])?,
-        rows(alloc, [Kid::Element(unknown), Kid::Element(elsewhere)])?,
-    );
-    let root = element(0x3f, Rows::new(alloc), rows(alloc, [Kid::Element(card)])?);
+/// A label of a text and of references, the first of them to no name of a variable.
+fn label_of_a_document(alloc: Global) -> Result<Attr, NoMemory> {
+    let mut label = attr(alloc, 0, 0x18, "To ")?;
+    for name in ["1st", "next"] {
+        let name = Text::of(alloc, name)?;
+        label.value.add(Piece::Var(name, Conv::Plain))?;
+    }
+    label.value.add(Piece::Ext(0))?;
+    Ok(label)
+}
 
-    let go = node(
-        Tag::Go,
-        rows(alloc, [(AttrName::Href, words(alloc, "#b")?)])?,
-        Rows::new(alloc),
-    );
-    let label = rows(
-        alloc,
-        [Part::Lit(Text::of(alloc, "To ")?), variable(alloc, "next")?],
-    )?;
-    let attrs = rows(
-        alloc,
-        [
-            (AttrName::Type, words(alloc, "accept")?),
-            (AttrName::Label, label),
-        ],
-    )?;
-    let action = node(Tag::Do, attrs, rows(alloc, [go])?);
-    let texts = rows(
-        alloc,
-        [
-            Item::Text(words(alloc, "Hi")?),
-            Item::Text(rows(alloc, [variable(alloc, "next")?])?),
-        ],
-    )?;
-    let paragraph = node(Tag::P, Rows::new(alloc), texts);
-    let kids = rows(alloc, [paragraph, action, Item::Text(words(alloc, "Yo")?)])?;
-    let attrs = rows(alloc, [(AttrName::Title, words(alloc, "News")?)])?;
-    let root_node = Node {
-        tag: Tag::Wml,
-        attrs: Rows::new(alloc),
-        kids: rows(alloc, [node(Tag::Card, attrs, kids)])?,
-    };
-    assert!(rt; deck_of(alloc, &document(root))? == Deck { root: root_node });
+/// Of a known attribute, one of no name here, one on another page and a label, two stay.
+#[test]
+fn attributes_of_a_document(rt: HostRuntime) -> Result<(), Fail> {
+    let alloc = rt.alloc();
+    let mut root = element(alloc, 0, 0x28, Rows::new(alloc));
+    root.attrs.add(attr(alloc, 0, 0x37, "accept")?)?;
+    root.attrs.add(attr(alloc, 0, 0x60, "unknown")?)?;
+    root.attrs.add(attr(alloc, 1, 0x55, "elsewhere")?)?;
+    root.attrs.add(label_of_a_document(alloc)?)?;
+    let deck = deck_of(alloc, &document(root))?;
+    let mut label = words(alloc, "To ")?;
+    label.add(variable(alloc, "next")?)?;
+    let mut attrs = one(alloc, (AttrName::Type, words(alloc, "accept")?))?;
+    attrs.add((AttrName::Label, label))?;
+    assert!(rt; deck.root.tag == Tag::Do);
+    assert!(rt; deck.root.attrs == attrs);
+    Ok(())
+}
+
+/// A text, references, the first of them to no name of a variable, an element and a character.
+fn content(alloc: Global) -> Result<Rows<Kid>, NoMemory> {
+    let mut kids = one(alloc, text(alloc, "Hi")?)?;
+    kids.add(reference(alloc, "a-b")?)?;
+    kids.add(Kid::Element(element(alloc, 0, 0x2b, Rows::new(alloc))))?;
+    kids.add(Kid::Entity(65))?;
+    kids.add(reference(alloc, "next")?)?;
+    Ok(kids)
+}
+
+/// A card of two elements of no name here, by their code and by their page, whose content stays.
+fn card_of_a_document(alloc: Global) -> Result<Kid, NoMemory> {
+    let unknown = element(alloc, 0, 0x29, content(alloc)?);
+    let mut kids = one(alloc, Kid::Element(unknown))?;
+    let inner = one(alloc, text(alloc, "Yo")?)?;
+    kids.add(Kid::Element(element(alloc, 1, 0x27, inner)))?;
+    Ok(Kid::Element(element(alloc, 0, 0x27, kids)))
+}
+
+#[test]
+fn content_of_a_document(rt: HostRuntime) -> Result<(), Fail> {
+    let alloc = rt.alloc();
+    let cards = one(alloc, card_of_a_document(alloc)?)?;
+    let deck = deck_of(alloc, &document(element(alloc, 0, 0x3f, cards)))?;
+    let mut kids = one(alloc, Item::Text(words(alloc, "Hi")?))?;
+    kids.add(plain(alloc, Tag::Go, Rows::new(alloc)))?;
+    kids.add(Item::Text(one(alloc, variable(alloc, "next")?)?))?;
+    kids.add(Item::Text(words(alloc, "Yo")?))?;
+    let cards = one(alloc, plain(alloc, Tag::Card, kids))?;
+    assert!(rt; deck.root.tag == Tag::Wml);
+    assert!(rt; deck.root.kids == cards);
     Ok(())
 }
 
@@ -191,12 +172,11 @@ fn deck_of_a_document(rt: HostRuntime) -> Result<(), Fail> {
 fn levels_of_a_document(rt: HostRuntime) -> Result<(), Fail> {
     let alloc = rt.alloc();
     for (depth, stays) in [(0, true), (63, true), (64, false)] {
-        let mut kids = rows(alloc, [Kid::Str(Text::of(alloc, "Hi")?)])?;
+        let mut kids = one(alloc, text(alloc, "Hi")?)?;
         for _ in 0..depth {
-            let unknown = element(0x29, Rows::new(alloc), kids);
-            kids = rows(alloc, [Kid::Element(unknown)])?;
+            kids = one(alloc, Kid::Element(element(alloc, 0, 0x29, kids)))?;
         }
-        let deck = deck_of(alloc, &document(element(0x05, Rows::new(alloc), kids)))?;
+        let deck = deck_of(alloc, &document(element(alloc, 0, 0x05, kids)))?;
         assert!(rt; deck.root.tag == Tag::Other);
         assert_eq!(rt; deck.root.kids.len(), usize::from(stays), "{depth}");
     }
@@ -273,74 +253,71 @@ fn cards_by_id(rt: HostRuntime) -> Result<(), Fail> {
     Ok(())
 }
 
-/// The first of two dos of one type, its task behind a text, and the values of the attributes.
-#[test]
-fn dos_and_tasks(rt: HostRuntime) -> Result<(), Fail> {
-    let alloc = rt.alloc();
-    let attrs = rows(
-        alloc,
-        [
-            (AttrName::Name, words(alloc, "n")?),
-            (AttrName::Value, words(alloc, "v")?),
-        ],
-    )?;
-    let setvar = node(Tag::Setvar, attrs, Rows::new(alloc));
-    let attrs = rows(alloc, [(AttrName::Href, words(alloc, "#b")?)])?;
-    let go = node(Tag::Go, attrs, rows(alloc, [setvar])?);
-    let paragraph = node(Tag::P, Rows::new(alloc), Rows::new(alloc));
-    let mut kids = rows(alloc, [paragraph, card(alloc, None, &["help"])?])?;
-    for (kind, label) in [("accept", "A"), ("help", "B"), ("help", "C")] {
-        let attrs = rows(
-            alloc,
-            [
-                (AttrName::Label, words(alloc, label)?),
-                (AttrName::Type, words(alloc, kind)?),
-                (AttrName::Label, words(alloc, "second")?),
-            ],
-        )?;
-        kids.add(node(Tag::Do, attrs, Rows::new(alloc)))?;
-    }
-    let attrs = rows(alloc, [(AttrName::Type, words(alloc, "prev")?)])?;
-    let texts = Item::Text(words(alloc, "back")?);
-    kids.add(node(Tag::Do, attrs, rows(alloc, [texts, go])?))?;
-    let card = Node {
-        tag: Tag::Card,
-        attrs: rows(alloc, [(AttrName::Title, words(alloc, "T")?)])?,
-        kids,
-    };
+/// A do with two labels, a type and this content.
+fn action(alloc: Global, label: &str, kind: &str, kids: Rows<Item>) -> Result<Item, NoMemory> {
+    let mut attrs = one(alloc, (AttrName::Label, words(alloc, label)?))?;
+    attrs.add((AttrName::Type, words(alloc, kind)?))?;
+    attrs.add((AttrName::Label, words(alloc, "second")?))?;
+    Ok(node(Tag::Do, attrs, kids))
+}
 
+/// A card of a paragraph, a card and three dos, the last of them with two tasks behind a setvar.
+fn card_of_dos(alloc: Global) -> Result<Node, NoMemory> {
+    let mut kids = one(alloc, plain(alloc, Tag::P, Rows::new(alloc)))?;
+    kids.add(card(alloc, None, &["help"])?)?;
+    kids.add(action(alloc, "A", "accept", Rows::new(alloc))?)?;
+    kids.add(action(alloc, "B", "help", Rows::new(alloc))?)?;
+    let mut tasks = one(alloc, plain(alloc, Tag::Setvar, Rows::new(alloc)))?;
+    tasks.add(leaf(alloc, Tag::Go, AttrName::Href, "#b")?)?;
+    tasks.add(plain(alloc, Tag::Prev, Rows::new(alloc)))?;
+    kids.add(action(alloc, "C", "help", tasks)?)?;
+    Ok(Node {
+        tag: Tag::Card,
+        attrs: one(alloc, (AttrName::Title, words(alloc, "T")?))?,
+        kids,
+    })
+}
+
+#[test]
+fn dos_of_a_card(rt: HostRuntime) -> Result<(), Fail> {
+    let alloc = rt.alloc();
+    let card = card_of_dos(alloc)?;
+    for (kind, first) in [("accept", "A"), ("help", "B")] {
+        let found = do_of(&card, &Text::of(alloc, kind)?).and_then(label);
+        assert!(rt; found == Some(&words(alloc, first)?), "{kind}");
+    }
+    assert!(rt; do_of(&card, &Text::of(alloc, "prev")?).is_none());
+    let dos = card.kids.as_slice().iter().filter_map(do_in).count();
+    assert_eq!(rt; dos, 3);
+    Ok(())
+}
+
+#[test]
+fn tasks_of_dos(rt: HostRuntime) -> Result<(), Fail> {
+    let alloc = rt.alloc();
+    let card = card_of_dos(alloc)?;
+    let without = card.kids.get(3).and_then(do_in).and_then(task_of);
+    assert!(rt; without.is_none());
+    let task = card.kids.get(4).and_then(do_in).and_then(task_of);
+    assert!(rt; task.and_then(href) == Some(&words(alloc, "#b")?));
+    Ok(())
+}
+
+#[test]
+fn values_of_attributes(rt: HostRuntime) -> Result<(), Fail> {
+    let alloc = rt.alloc();
+    let card = card_of_dos(alloc)?;
     assert!(rt; title(&card) == Some(&words(alloc, "T")?));
     assert!(rt; label(&card).is_none());
-    assert!(rt; do_of(&card, &Text::of(alloc, "options")?).is_none());
-    if let Some(action) = do_of(&card, &Text::of(alloc, "help")?) {
-        assert!(rt; label(action) == Some(&words(alloc, "B")?));
-        assert!(rt; task_of(action).is_none());
-    } else {
-        assert!(rt; false);
-    }
-    if let Some(action) = do_of(&card, &Text::of(alloc, "prev")?) {
-        if let Some(task) = task_of(action) {
-            assert!(rt; task.tag == Tag::Go);
-            assert!(rt; href(task) == Some(&words(alloc, "#b")?));
-            if let Some(Item::Node(setvar)) = task.kids.get(0) {
-                assert!(rt; name_value(setvar) == Some(&words(alloc, "n")?));
-                assert!(rt; value(setvar) == Some(&words(alloc, "v")?));
-            } else {
-                assert!(rt; false);
-            }
-        } else {
-            assert!(rt; false);
-        }
-    } else {
-        assert!(rt; false);
-    }
-    let mut dos = 0;
-    for item in card.kids.as_slice() {
-        if do_in(item).is_some() {
-            dos += 1;
-        }
-    }
-    assert_eq!(rt; dos, 4);
+    let mut attrs = one(alloc, (AttrName::Name, words(alloc, "n")?))?;
+    attrs.add((AttrName::Value, words(alloc, "v")?))?;
+    let setvar = Node {
+        tag: Tag::Setvar,
+        attrs,
+        kids: Rows::new(alloc),
+    };
+    assert!(rt; name_value(&setvar) == Some(&words(alloc, "n")?));
+    assert!(rt; value(&setvar) == Some(&words(alloc, "v")?));
     Ok(())
 }
 
