@@ -3,5 +3,7 @@ pub mod TextLaws
 pub mod Apart
 pub mod Sessions
 pub mod Printing
+pub mod Screens
+pub mod Plans
 pub mod Steps
 pub mod Browsing

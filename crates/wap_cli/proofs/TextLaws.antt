@@ -35,6 +35,26 @@ pub ignored_letters : chars (codes "! ignored") ≡ codes "! ignored"
 unfolding chars
 ignored_letters = refl
 
+pub first_letters : chars (codes "! first") ≡ codes "! first"
+unfolding chars
+first_letters = refl
+
+pub full_letters : chars (codes "! full") ≡ codes "! full"
+unfolding chars
+full_letters = refl
+
+pub long_letters : chars (codes "! long") ≡ codes "! long"
+unfolding chars
+long_letters = refl
+
+pub dollar_letters : chars (codes "$ ") ≡ codes "$ "
+unfolding chars
+dollar_letters = refl
+
+pub star_letters : chars (codes "* ") ≡ codes "* "
+unfolding chars
+star_letters = refl
+
 pub equals_letters : chars (codes "=") ≡ codes "="
 unfolding chars
 equals_letters = refl

@@ -98,12 +98,20 @@ fn add_variable(alloc: Global, out: &mut Bytes, name: &Text, text: &Text) -> Res
     add_line(alloc, out, &line)
 }
 
+/// Appends a line for each pair of a name and a text.
+fn add_pairs(alloc: Global, out: &mut Bytes, pairs: &[(Text, Text)]) -> Result<(), NoMemory>
+    ensures { OnOk result (out.new ≡ out.old ++ lines_bytes (map variable_line pairs.now)) }
+{
+    for pair in pairs {
+        add_variable(alloc, out, &pair.0, &pair.1)?;
+    }
+    Ok(())
+}
+
 /// Appends a line for each variable, in ascending order of names.
 pub(crate) fn add_variables(alloc: Global, out: &mut Bytes, vars: &Vars) -> Result<(), NoMemory>
     ensures { OnOk result (out.new ≡ out.old ++ lines_bytes (map variable_line vars.now)) }
 {
-    for (name, text) in vars.entries(alloc)?.as_slice() {
-        add_variable(alloc, out, name, text)?;
-    }
-    Ok(())
+    let pairs = vars.entries(alloc)?;
+    add_pairs(alloc, out, pairs.as_slice())
 }

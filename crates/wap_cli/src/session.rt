@@ -2,7 +2,8 @@
 ghost use Rattle.std.specs.Prelude.{◌≡◌, ◌++◌, [], ◌∷◌, Some, None, IfOk, OnOk};
 ghost use Rattle.std.specs.Option.{option_copied};
 ghost use Rattle.wap_world.specs.Lines.{lines_bytes};
-ghost use Rattle.wap_world.specs.Setting.{set_all};
+ghost use Rattle.wap_vars.specs.Setting.{set_in};
+ghost use Rattle.wap_world.specs.Setting.{outcome, set_all};
 ghost use Rattle.wap_world.specs.World.{start, current, shown, pushed, back, do_task, take_task};
 ghost use Rattle.wap_cli.specs.Tasks.{planned};
 ghost use Rattle.wap_cli.specs.Playing.{Shows, Plays, PlaysAll};
@@ -42,6 +43,25 @@ impl Model for Session {
     ghost view = { λ session. record { deck = session.deck; history = session.history.items; vars = session.vars } };
 }
 
+/// Sets a variable, or appends the line of a refusal.
+fn set_one(
+    alloc: Global,
+    out: &mut Bytes,
+    vars: &mut Vars,
+    name: &Text,
+    text: Text,
+) -> Result<(), NoMemory>
+    ensures vars { OnOk result (vars.new ≡ (outcome vars.old (set_in vars.old name.now text)).vars) }
+    ensures lines { OnOk result (out.new ≡ out.old ++ lines_bytes (outcome vars.old (set_in vars.old name.now text)).lines) }
+{
+    match vars.set(name, text) {
+        Ok(()) | Err(VarFault::BadName) => Ok(()),
+        Err(VarFault::TooLong { .. }) => add_refusal(alloc, out, Refusal::Long),
+        Err(VarFault::Full) => add_refusal(alloc, out, Refusal::Full),
+        Err(VarFault::NoMemory) => Err(NoMemory),
+    }
+}
+
 /// Sets variables one after the other, and appends the lines of those that are refused.
 fn set_all(
     alloc: Global,
@@ -53,12 +73,7 @@ fn set_all(
     ensures lines { OnOk result (out.new ≡ out.old ++ lines_bytes (set_all vars.old texts.items).lines) }
 {
     for (name, text) in texts {
-        match vars.set(&name, text) {
-            Ok(()) | Err(VarFault::BadName) => {}
-            Err(VarFault::TooLong { .. }) => add_refusal(alloc, out, Refusal::Long)?,
-            Err(VarFault::Full) => add_refusal(alloc, out, Refusal::Full)?,
-            Err(VarFault::NoMemory) => return Err(NoMemory),
-        }
+        set_one(alloc, out, vars, &name, text)?;
     }
     Ok(())
 }

@@ -62,7 +62,10 @@ fn destination(alloc: Global, deck: &GoodDeck, href: &Text) -> Result<usize, NoM
     let mut characters = href.as_str().chars();
     let _sign = characters.next();
     let id = Text::of(alloc, characters.as_str())?;
-    Ok(deck.find_card(&id).unwrap_or(0))
+    match deck.find_card(&id) {
+        Some(number) => Ok(number),
+        None => Ok(0),
+    }
 }
 
 /// Where a task leads, if it is one.

@@ -19,7 +19,7 @@ first_with : (named : Node → Bool) (first : Option Node) (rest : List Node) �
 first_with named None rest = refl
 first_with named (Some node) rest = by_test (named node) node (filter named rest)
 
-nodes_with : (named : Node → Bool) (items : List Item) → filter named (filter_map node_of items) ≡ filter_map (λ item. with_tag named (node_of item)) items
+pub nodes_with : (named : Node → Bool) (items : List Item) → filter named (filter_map node_of items) ≡ filter_map (λ item. with_tag named (node_of item)) items
 nodes_with named [] = refl
 nodes_with named (item ∷ items) =
     first_with named (node_of item) (filter_map node_of items) ∙ ap (cons_option (with_tag named (node_of item))) (nodes_with named items)
