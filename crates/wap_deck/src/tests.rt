@@ -114,16 +114,20 @@ fn label_of_a_document(alloc: Global) -> Result<Attr, NoMemory> {
     Ok(label)
 }
 
-/// Of a known attribute, one of no name here, one on another page and a label, two stay.
-#[test]
-fn attributes_of_a_document(rt: HostRuntime) -> Result<(), Fail> {
-    let alloc = rt.alloc();
+/// An element of a known attribute, one of no name here, one on another page and a label.
+fn element_of_attributes(alloc: Global) -> Result<Element, NoMemory> {
     let mut root = element(alloc, 0, 0x28, Rows::new(alloc));
     root.attrs.add(attr(alloc, 0, 0x37, "accept")?)?;
     root.attrs.add(attr(alloc, 0, 0x60, "unknown")?)?;
     root.attrs.add(attr(alloc, 1, 0x55, "elsewhere")?)?;
     root.attrs.add(label_of_a_document(alloc)?)?;
-    let deck = deck_of(alloc, &document(root))?;
+    Ok(root)
+}
+
+#[test]
+fn attributes_of_a_document(rt: HostRuntime) -> Result<(), Fail> {
+    let alloc = rt.alloc();
+    let deck = deck_of(alloc, &document(element_of_attributes(alloc)?))?;
     let mut label = words(alloc, "To ")?;
     label.add(variable(alloc, "next")?)?;
     let mut attrs = one(alloc, (AttrName::Type, words(alloc, "accept")?))?;
@@ -261,16 +265,21 @@ fn action(alloc: Global, label: &str, kind: &str, kids: Rows<Item>) -> Result<It
     Ok(node(Tag::Do, attrs, kids))
 }
 
-/// A card of a paragraph, a card and three dos, the last of them with two tasks behind a setvar.
+/// Two tasks behind a setvar.
+fn tasks(alloc: Global) -> Result<Rows<Item>, NoMemory> {
+    let mut tasks = one(alloc, plain(alloc, Tag::Setvar, Rows::new(alloc)))?;
+    tasks.add(leaf(alloc, Tag::Go, AttrName::Href, "#b")?)?;
+    tasks.add(plain(alloc, Tag::Prev, Rows::new(alloc)))?;
+    Ok(tasks)
+}
+
+/// A card of a paragraph, a card and three dos, the last of them with tasks.
 fn card_of_dos(alloc: Global) -> Result<Node, NoMemory> {
     let mut kids = one(alloc, plain(alloc, Tag::P, Rows::new(alloc)))?;
     kids.add(card(alloc, None, &["help"])?)?;
     kids.add(action(alloc, "A", "accept", Rows::new(alloc))?)?;
     kids.add(action(alloc, "B", "help", Rows::new(alloc))?)?;
-    let mut tasks = one(alloc, plain(alloc, Tag::Setvar, Rows::new(alloc)))?;
-    tasks.add(leaf(alloc, Tag::Go, AttrName::Href, "#b")?)?;
-    tasks.add(plain(alloc, Tag::Prev, Rows::new(alloc)))?;
-    kids.add(action(alloc, "C", "help", tasks)?)?;
+    kids.add(action(alloc, "C", "help", tasks(alloc)?)?)?;
     Ok(Node {
         tag: Tag::Card,
         attrs: one(alloc, (AttrName::Title, words(alloc, "T")?))?,
