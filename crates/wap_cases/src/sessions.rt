@@ -210,5 +210,11 @@ fn many_cards(rt: HostRuntime) -> Result<(), Fail> {
     page.add(b"\x01")?;
     twice.add(b"\xE7\x55\x03c0000\0\x01\x01\x01")?;
     check(&rt, alloc, page.as_slice(), b"do z\n", b"=\n* z\n=\nlast\n")?;
-    check(&rt, alloc, twice.as_slice(), b"do z\n", b"! refused\n! ignored\n")
+    check(
+        &rt,
+        alloc,
+        twice.as_slice(),
+        b"do z\n",
+        b"! refused\n! ignored\n",
+    )
 }
