@@ -110,11 +110,13 @@ root_tag None = tag.Other
 root_tag (Some name) = name
 
 abbrev pub deck_of : Document → Deck
-deck_of document = record { root = record {
-  tag = root_tag (on_page_0 tag_of document.root.page document.root.tag);
-  attrs = filter_map attr_named document.root.attrs;
-  kids = items_of level_limit document.root.kids;
-} }
+deck_of document = record {
+  root = record {
+    tag = root_tag (on_page_0 tag_of document.root.page document.root.tag);
+    attrs = filter_map attr_named document.root.attrs;
+    kids = items_of level_limit document.root.kids;
+  };
+}
 
 -- ---- the parts of a deck
 
