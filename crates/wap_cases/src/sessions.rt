@@ -1,10 +1,11 @@
 //! Sessions of several keys, over a store, a source and a sink in memory.
+use crate::runs::Run;
 use std::alloc::Global;
 use std::process::Abort;
 use std::test::Fail;
 use std::thread::Threads;
-use wap_base::{Bytes, MemSink, MemSource, MemStore, NoGate, Text, are_pages};
-use wap_cli::{Status, run};
+use wap_base::Bytes;
+use wap_cli::Status;
 
 /// Two cards with titles: `a` has a do to `b`.
 const TITLES: &[u8] =
@@ -14,27 +15,6 @@ const TITLES: &[u8] =
 const NUMBER: &[u8] =
     b"\x03\x0A\x6A\0\x7F\xE7\x55\x03a\0\x01\xE8\x37\x03ok\0\x01\xEB\x4A\x03#b\0\x01\xBE\x21\x03n\0\x4D\x037\0\x01\x01\x01\x60\x03one\0\x01\x01\xE7\x55\x03b\0\x01\x60\x42n\0\x01\x01\x01";
 
-/// What a session shows of a page by keys, each on a line, and how it ends.
-fn played<R: Abort + Threads + Sync>(
-    rt: &R,
-    alloc: Global,
-    page: &[u8],
-    keys: &[u8],
-) -> Result<(Status, Bytes), Fail> {
-    let mut pages = Vec::new(alloc);
-    pages.push((Text::of(alloc, "h/a.wmlc")?, Bytes::of(alloc, page)?))?;
-    assert!(rt; are_pages(&pages));
-    let store = MemStore::new(pages, Vec::new(alloc));
-    let words = vec![in alloc;
-        Text::of(alloc, "browse")?,
-        Text::of(alloc, "http://h/a.wmlc")?,
-    ]?;
-    let mut source = MemSource::new(Bytes::of(alloc, keys)?, 4096, Vec::new(alloc));
-    let mut out = MemSink::new(alloc, 1 << 20, 4096, Vec::new(alloc))?;
-    let (status, _) = run(rt, alloc, &words, store, &mut source, &mut out, &NoGate);
-    Ok((status, Bytes::of(alloc, out.bytes())?))
-}
-
 /// Checks what a session shows behind its request.
 fn check<R: Abort + Threads + Sync>(
     rt: &R,
@@ -43,13 +23,23 @@ fn check<R: Abort + Threads + Sync>(
     keys: &[u8],
     shown: &[u8],
 ) -> Result<(), Fail> {
-    let mut wanted = Bytes::of(alloc, b"> GET http://h/a.wmlc\n")?;
-    wanted.add(shown)?;
-    let (status, written) = played(rt, alloc, page, keys)?;
-    assert_eq!(rt; status, Status::Done, "{page:?} by {keys:?}");
-    assert_eq!(rt;
-        written.as_slice(),
-        wanted.as_slice(),
+    let run = Run {
+        name: "h/a.wmlc",
+        page,
+        words: &["browse", "http://h/a.wmlc"],
+        keys,
+        store_fails: 2,
+        source_fails: 0,
+        sink_fails: 0,
+        source_piece: 4096,
+        sink_piece: 4096,
+        room: 1 << 20,
+    };
+    let outcome = run.outcome(rt, alloc)?;
+    let mut all = Bytes::of(alloc, b"> GET http://h/a.wmlc\n")?;
+    all.add(shown)?;
+    assert!(rt;
+        outcome.is(Status::Done, all.as_slice()),
         "{page:?} by {keys:?}"
     );
     Ok(())

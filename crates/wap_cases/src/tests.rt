@@ -1,12 +1,9 @@
-//! Whole runs, over a store, a source and a sink in memory.
+//! Whole runs: pages, words, key lines and failing devices.
+use crate::runs::Run;
 use std::alloc::Global;
-use std::process::Abort;
 use std::test::Fail;
-use std::thread::Threads;
-use wap_base::{
-    Bytes, MemSink, MemSource, MemStore, NoGate, Sink, Source, Store, StoreErr, Text, are_pages,
-};
-use wap_cli::{Status, run};
+use wap_base::{Bytes, MemSink};
+use wap_cli::Status;
 use wap_keys::KeyFault;
 
 /// A page of one card, whose one paragraph is `Hi`.
@@ -17,52 +14,35 @@ const URL: &str = "http://h/a.wmlc";
 
 const SHOWN: &[u8] = b"> GET http://h/a.wmlc\n=\nHi\n";
 
-/// A sink with ample room that takes all that it is given at once.
-fn ample(rt: &HostRuntime) -> Result<MemSink, Fail> {
-    Ok(MemSink::new(rt.alloc(), 1000, 1000, Vec::new(rt.alloc()))?)
-}
+/// A run that shows the page, over devices of which only the store's second call fails.
+const BROWSING: Run<'static> = Run {
+    name: "h/a.wmlc",
+    page: &PAGE,
+    words: &["browse", URL],
+    keys: b"",
+    store_fails: 2,
+    source_fails: 0,
+    sink_fails: 0,
+    source_piece: 4096,
+    sink_piece: 4096,
+    room: 4096,
+};
 
-/// A store of one page, whose call of the number `fail` fails.
-fn store_of(
-    rt: &impl Abort,
-    alloc: Global,
-    name: &str,
-    page: &[u8],
-    fail: u64,
-) -> Result<MemStore, Fail> {
-    let mut pages = Vec::new(alloc);
-    pages.push((Text::of(alloc, name)?, Bytes::of(alloc, page)?))?;
-    assert!(rt; are_pages(&pages));
-    Ok(MemStore::new(pages, vec![in alloc; fail]?))
-}
-
-/// Runs a command without keys. Answers how it ended, and whether the store's next call failed.
-fn ran<R: Abort + Threads + Sync>(
-    rt: &R,
-    alloc: Global,
-    words: &[&str],
-    store: MemStore,
-    out: &mut MemSink,
-) -> Result<(Status, bool), Fail> {
-    let mut keys = MemSource::new(Bytes::new(alloc), 1, Vec::new(alloc));
-    pressed(rt, alloc, words, store, &mut keys, out)
-}
-
-/// Runs a command with keys. Answers how it ended, and whether the store's next call failed.
-fn pressed<R: Abort + Threads + Sync>(
-    rt: &R,
-    alloc: Global,
-    words: &[&str],
-    store: MemStore,
-    keys: &mut MemSource,
-    out: &mut MemSink,
-) -> Result<(Status, bool), Fail> {
-    let mut command = Vec::new(alloc);
-    for word in words {
-        command.push(Text::of(alloc, word)?)?;
+/// A line that is no key line.
+const fn bad(line: u32) -> Status {
+    Status::BadKey {
+        line,
+        fault: KeyFault::UnknownWord,
     }
-    let (status, mut store) = run(rt, alloc, &command, store, keys, out, &NoGate);
-    Ok((status, matches!(store.list(), Err(StoreErr::Failed))))
+}
+
+/// What is shown of the page, and behind it by so many keys that are ignored.
+fn ignored(alloc: Global, count: usize) -> Result<Bytes, Fail> {
+    let mut shown = Bytes::of(alloc, SHOWN)?;
+    for _ in 0..count {
+        shown.add(b"! ignored\n")?;
+    }
+    Ok(shown)
 }
 
 /// Pages that are shown, refused or missing: each is asked for once.
@@ -163,12 +143,18 @@ fn pages_are_browsed(rt: HostRuntime) -> Result<(), Fail> {
             b"> GET http://h-0.z/Az-_.9/1.wmlc\n=\nHi\n".as_slice(),
         ),
     ] {
-        let mut out = ample(&rt)?;
-        let store = store_of(&rt, rt.alloc(), name, page, 2)?;
-        let (status, is_second) = ran(&rt, rt.alloc(), &["browse", url], store, &mut out)?;
-        assert_eq!(rt; (status, status.number()), (Status::Done, 0), "at {page:?}");
-        assert_eq!(rt; out.bytes(), shown, "at {page:?}");
-        assert!(rt; is_second, "asked more or less than once at {page:?}");
+        let run = Run {
+            name,
+            page,
+            words: &["browse", url],
+            ..BROWSING
+        };
+        let outcome = run.outcome(&rt, rt.alloc())?;
+        assert!(rt; outcome.is(Status::Done, shown), "at {page:?}");
+        assert!(rt;
+            outcome.is_store_next,
+            "asked more or less than once at {page:?}"
+        );
     }
     Ok(())
 }
@@ -189,16 +175,16 @@ fn other_words_are_refused(rt: HostRuntime) -> Result<(), Fail> {
         &["browse", URL, ""],
         &["browse", URL, URL],
     ] {
-        let mut out = ample(&rt)?;
-        let store = store_of(&rt, rt.alloc(), "h/a.wmlc", &PAGE, 1)?;
-        let (status, is_first) = ran(&rt, rt.alloc(), words, store, &mut out)?;
-        assert_eq!(rt;
-            (status, status.number()),
-            (Status::Usage, 1),
+        let run = Run {
+            words,
+            store_fails: 1,
+            ..BROWSING
+        };
+        let outcome = run.outcome(&rt, rt.alloc())?;
+        assert!(rt;
+            outcome.is(Status::Usage, b"") && outcome.is_store_next,
             "at {words:?}"
         );
-        assert_eq!(rt; out.bytes(), b"".as_slice(), "at {words:?}");
-        assert!(rt; is_first, "asked at {words:?}");
     }
     Ok(())
 }
@@ -257,108 +243,86 @@ fn other_urls_are_refused(rt: HostRuntime) -> Result<(), Fail> {
         ("h/\u{e9}.wmlc", "http://h/\u{e9}.wmlc"),
         ("\u{e9}/a.wmlc", "http://\u{e9}/a.wmlc"),
     ] {
-        let mut out = ample(&rt)?;
-        let store = store_of(&rt, rt.alloc(), name, &PAGE, 1)?;
-        let (status, is_first) = ran(&rt, rt.alloc(), &["browse", url], store, &mut out)?;
-        assert_eq!(rt; (status, status.number()), (Status::Usage, 1), "at {url:?}");
-        assert_eq!(rt; out.bytes(), b"".as_slice(), "at {url:?}");
-        assert!(rt; is_first, "asked at {url:?}");
+        let run = Run {
+            name,
+            words: &["browse", url],
+            store_fails: 1,
+            ..BROWSING
+        };
+        let outcome = run.outcome(&rt, rt.alloc())?;
+        assert!(rt;
+            outcome.is(Status::Usage, b"") && outcome.is_store_next,
+            "at {url:?}"
+        );
     }
     Ok(())
 }
 
-/// A store whose first call fails.
-#[test]
-fn a_store_fails(rt: HostRuntime) -> Result<(), Fail> {
-    let mut out = ample(&rt)?;
-    let store = store_of(&rt, rt.alloc(), "h/a.wmlc", &PAGE, 1)?;
-    let (status, is_first) = ran(&rt, rt.alloc(), &["browse", URL], store, &mut out)?;
-    assert_eq!(rt; (status, status.number()), (Status::StoreFault, 3));
-    assert_eq!(rt; out.bytes(), b"".as_slice());
-    assert!(rt; !is_first, "not asked");
-    Ok(())
-}
-
-/// Sinks that take a byte at a time, of which each call fails in turn, and then none.
+/// A sink that takes a byte at a time, of which each call fails in turn, and then none.
 #[test]
 fn a_sink_fails(rt: HostRuntime) -> Result<(), Fail> {
-    let words = ["browse", URL];
-    for calls in 0..SHOWN.len() {
-        let fail = vec![in rt.alloc(); calls as u64 + 1]?;
-        let mut out = MemSink::new(rt.alloc(), 1000, 1, fail)?;
-        let store = store_of(&rt, rt.alloc(), "h/a.wmlc", &PAGE, 2)?;
-        let (status, is_second) = ran(&rt, rt.alloc(), &words, store, &mut out)?;
-        assert_eq!(rt;
-            (status, status.number()),
-            (Status::WriteFault, 5),
-            "behind {calls}"
-        );
-        assert_eq!(rt; out.bytes(), &SHOWN[..calls], "behind {calls}");
-        assert!(rt; is_second, "behind {calls}");
+    for calls in 0..=SHOWN.len() {
+        let run = Run {
+            sink_fails: calls as u64 + 1,
+            sink_piece: 1,
+            ..BROWSING
+        };
+        let outcome = run.outcome(&rt, rt.alloc())?;
+        let status = if calls < SHOWN.len() {
+            Status::WriteFault
+        } else {
+            Status::Done
+        };
+        assert!(rt; outcome.is(status, &SHOWN[..calls]), "behind {calls}");
     }
-    let fail = vec![in rt.alloc(); SHOWN.len() as u64 + 1]?;
-    let mut out = MemSink::new(rt.alloc(), 1000, 1, fail)?;
-    let store = store_of(&rt, rt.alloc(), "h/a.wmlc", &PAGE, 2)?;
-    let (status, is_second) = ran(&rt, rt.alloc(), &words, store, &mut out)?;
-    assert_eq!(rt; (status, status.number()), (Status::Done, 0));
-    assert_eq!(rt; out.bytes(), SHOWN);
-    assert!(rt; is_second);
     Ok(())
 }
 
-/// Sinks with room for a front of what is shown, and with room for all of it.
+/// Of several faults the first is told: the store's, and then how the keys end; a sink that is full
+/// takes their place.
 #[test]
-fn a_sink_is_full(rt: HostRuntime) -> Result<(), Fail> {
-    for (front, piece, status, number) in [
-        (b"".as_slice(), 1000, Status::WriteFault, 5),
-        (b">".as_slice(), 1000, Status::WriteFault, 5),
+fn the_first_fault_is_told(rt: HostRuntime) -> Result<(), Fail> {
+    for (store_fails, room, keys, status, shown) in [
         (
-            b"> GET http://h/a.wmlc\n=\nHi".as_slice(),
-            1000,
-            Status::WriteFault,
-            5,
+            1_u64,
+            4096_usize,
+            b"do x\njump".as_slice(),
+            Status::StoreFault,
+            0_usize,
         ),
-        (
-            b"> GET http://h/a.wmlc\n=\nHi".as_slice(),
-            4,
-            Status::WriteFault,
-            5,
-        ),
-        (SHOWN, 1000, Status::Done, 0),
-        (SHOWN, 4, Status::Done, 0),
+        (1, 0, b"", Status::StoreFault, 0),
+        (2, 4096, b"do x\njump", bad(2), 37),
+        (2, 37, b"do x\njump", bad(2), 37),
+        (2, 36, b"do x\njump", Status::WriteFault, 36),
+        (2, 27, b"do x\njump", Status::WriteFault, 27),
+        (2, 27, b"jump", bad(1), 27),
+        (2, 27, b"", Status::Done, 27),
+        (2, 26, b"", Status::WriteFault, 26),
+        (2, 1, b"", Status::WriteFault, 1),
+        (2, 0, b"", Status::WriteFault, 0),
     ] {
-        let mut out = MemSink::new(rt.alloc(), front.len(), piece, Vec::new(rt.alloc()))?;
-        let store = store_of(&rt, rt.alloc(), "h/a.wmlc", &PAGE, 2)?;
-        let (ended, is_second) = ran(&rt, rt.alloc(), &["browse", URL], store, &mut out)?;
-        assert_eq!(rt; (ended, ended.number()), (status, number), "at {front:?}");
-        assert_eq!(rt; out.bytes(), front, "at {front:?}");
-        assert!(rt; is_second, "at {front:?}");
+        let run = Run {
+            keys,
+            store_fails,
+            room,
+            sink_piece: 4,
+            ..BROWSING
+        };
+        let outcome = run.outcome(&rt, rt.alloc())?;
+        let all = ignored(rt.alloc(), 1)?;
+        assert!(rt;
+            outcome.is(status, &all.as_slice()[..shown]),
+            "at {store_fails}, {room} and {keys:?}"
+        );
     }
     Ok(())
-}
-
-/// A line that is no key line.
-const fn bad(line: u32) -> Status {
-    Status::BadKey {
-        line,
-        fault: KeyFault::UnknownWord,
-    }
-}
-
-/// What is shown behind the page, by so many keys that are ignored.
-fn ignored(alloc: Global, count: usize) -> Result<Bytes, Fail> {
-    let mut shown = Bytes::of(alloc, SHOWN)?;
-    for _ in 0..count {
-        shown.add(b"! ignored\n")?;
-    }
-    Ok(shown)
 }
 
 /// Key lines, how the run ends, and how many keys before the end are shown: by sources that give one
 /// byte at a time, seven, and 4,096.
 #[test]
 fn key_lines(rt: HostRuntime) -> Result<(), Fail> {
-    for (lines, status, count) in [
+    for (keys, status, count) in [
         (b"do x".as_slice(), Status::Done, 1),
         (b"do x\r\ndo  y \n\n".as_slice(), Status::Done, 2),
         // The last line keeps its carriage return, which no type has.
@@ -368,41 +332,45 @@ fn key_lines(rt: HostRuntime) -> Result<(), Fail> {
         (b"do\n".as_slice(), bad(1), 0),
         (b"#".as_slice(), Status::Done, 0),
     ] {
-        for piece in [1_usize, 7, 4096] {
-            assert!(rt; 1 <= piece);
-            let alloc = rt.alloc();
-            let mut keys = MemSource::new(Bytes::of(alloc, lines)?, piece, Vec::new(alloc));
-            let mut out = ample(&rt)?;
-            let store = store_of(&rt, alloc, "h/a.wmlc", &PAGE, 2)?;
-            let (ended, is_second) = pressed(
-                &rt,
-                alloc,
-                &["browse", URL],
-                store,
-                &mut keys,
-                &mut out,
-            )?;
-            assert_eq!(rt; ended, status, "at {lines:?} by {piece}");
-            assert_eq!(rt;
-                out.bytes(),
-                ignored(alloc, count)?.as_slice(),
-                "at {lines:?} by {piece}"
+        for source_piece in [1_usize, 7, 4096] {
+            let run = Run {
+                keys,
+                source_piece,
+                ..BROWSING
+            };
+            let outcome = run.outcome(&rt, rt.alloc())?;
+            let shown = ignored(rt.alloc(), count)?;
+            assert!(rt;
+                outcome.is(status, shown.as_slice()),
+                "at {keys:?} by {source_piece}"
             );
             assert!(rt;
-                is_second,
-                "asked more or less than once at {lines:?} by {piece}"
+                outcome.is_store_next,
+                "asked more or less than once at {keys:?}"
             );
         }
     }
     Ok(())
 }
 
-/// Lines and sources of the greatest length, and longer: a line, how often it is there, what stands
-/// behind, and how the run ends.
+/// So many comment lines of so many bytes, and what stands behind them.
+fn comments(alloc: Global, count: usize, length: usize, last: &[u8]) -> Result<Bytes, Fail> {
+    let mut bytes = Bytes::new(alloc);
+    for _ in 0..count {
+        bytes.add(b"#")?;
+        for _ in 2..length {
+            bytes.add(b" ")?;
+        }
+        bytes.add(b"\n")?;
+    }
+    bytes.add(last)?;
+    Ok(bytes)
+}
+
+/// Lines and sources of the greatest length, and longer.
 #[test]
 fn long_sources(rt: HostRuntime) -> Result<(), Fail> {
-    let alloc = rt.alloc();
-    for (line, count, last, status, shown) in [
+    for (count, length, last, status, shown) in [
         (
             1024_usize,
             1024_usize,
@@ -410,93 +378,45 @@ fn long_sources(rt: HostRuntime) -> Result<(), Fail> {
             Status::Done,
             0_usize,
         ),
-        (1024, 1024, b"\n".as_slice(), Status::TooManyKeys, 0),
-        (1024, 1024, b"do x\n".as_slice(), Status::TooManyKeys, 0),
-        (4096, 0, b"do x".as_slice(), Status::Done, 1),
-        (4097, 1, b"do x".as_slice(), Status::Done, 1),
-        (4098, 1, b"do x".as_slice(), bad(1), 0),
+        (1024, 1024, b"\n", Status::TooManyKeys, 0),
+        (1024, 1024, b"do x\n", Status::TooManyKeys, 0),
+        (0, 0, b"do x", Status::Done, 1),
+        (1, 4097, b"do x", Status::Done, 1),
+        (1, 4098, b"do x", bad(1), 0),
     ] {
-        let mut bytes = Bytes::new(alloc);
-        for _ in 0..count {
-            bytes.add(b"#")?;
-            for _ in 2..line {
-                bytes.add(b" ")?;
-            }
-            bytes.add(b"\n")?;
-        }
-        bytes.add(last)?;
-        let mut keys = MemSource::new(bytes, 4096, Vec::new(alloc));
-        let mut out = ample(&rt)?;
-        let store = store_of(&rt, alloc, "h/a.wmlc", &PAGE, 2)?;
-        let (ended, _) = pressed(&rt, alloc, &["browse", URL], store, &mut keys, &mut out)?;
-        assert_eq!(rt; ended, status, "at {count} lines of {line}, and {last:?}");
-        assert_eq!(rt;
-            out.bytes(),
-            ignored(alloc, shown)?.as_slice(),
-            "at {count} lines of {line}, and {last:?}"
+        let keys = comments(rt.alloc(), count, length, last)?;
+        let run = Run {
+            keys: keys.as_slice(),
+            ..BROWSING
+        };
+        let outcome = run.outcome(&rt, rt.alloc())?;
+        let shown = ignored(rt.alloc(), shown)?;
+        assert!(rt;
+            outcome.is(status, shown.as_slice()),
+            "at {count} lines of {length}, and {last:?}"
         );
     }
     Ok(())
 }
 
-/// A source whose calls fail in turn: the keys of whole lines before are shown.
+/// A source of which each call fails in turn: the keys of whole lines before are shown.
 #[test]
 fn a_source_fails(rt: HostRuntime) -> Result<(), Fail> {
-    let alloc = rt.alloc();
-    let lines = b"do x\n# c\ndo y";
-    for call in 1..=lines.len() + 1 {
-        let mut keys = MemSource::new(Bytes::of(alloc, lines)?, 1, vec![in alloc; call as u64]?);
-        let mut out = ample(&rt)?;
-        let store = store_of(&rt, alloc, "h/a.wmlc", &PAGE, 2)?;
-        let (ended, _) = pressed(&rt, alloc, &["browse", URL], store, &mut keys, &mut out)?;
-        assert_eq!(rt;
-            (ended, ended.number()),
-            (Status::KeyReadFault, 4),
+    let keys = b"do x\n# c\ndo y";
+    for call in 1..=keys.len() + 1 {
+        let run = Run {
+            keys,
+            source_fails: call as u64,
+            source_piece: 1,
+            ..BROWSING
+        };
+        let outcome = run.outcome(&rt, rt.alloc())?;
+        let shown = ignored(rt.alloc(), if call > 5 { 1 } else { 0 })?;
+        assert!(rt;
+            outcome.is(Status::KeyReadFault, shown.as_slice()),
             "at {call}"
         );
-        let count = if call > 5 { 1 } else { 0 };
-        assert_eq!(rt; out.bytes(), ignored(alloc, count)?.as_slice(), "at {call}");
     }
-    Ok(())
-}
-
-/// A store that fails is told first, and a sink that fails in place of how the keys end.
-#[test]
-fn the_first_fault_is_told(rt: HostRuntime) -> Result<(), Fail> {
-    let alloc = rt.alloc();
-    for (asked, room, status) in [
-        (1, 1000, Status::StoreFault),
-        (2, 1000, bad(2)),
-        (2, SHOWN.len(), Status::WriteFault),
-    ] {
-        let mut keys = MemSource::new(Bytes::of(alloc, b"do x\njump")?, 7, Vec::new(alloc));
-        let mut out = MemSink::new(alloc, room, 1000, Vec::new(alloc))?;
-        let store = store_of(&rt, alloc, "h/a.wmlc", &PAGE, asked)?;
-        let (ended, _) = pressed(&rt, alloc, &["browse", URL], store, &mut keys, &mut out)?;
-        assert_eq!(rt; ended, status, "at {asked} and {room}");
-        let mut buffer = [0; 2];
-        assert_eq!(rt;
-            keys.read(&mut buffer),
-            Ok(if asked == 1 { 2 } else { 0 }),
-            "at {asked} and {room}"
-        );
-    }
-    Ok(())
-}
-
-/// With ample memory no run wants any: the one ending that no clause ties to a cause.
-#[test]
-fn memory_suffices(rt: HostRuntime) -> Result<(), Fail> {
-    let mut out = ample(&rt)?;
-    let store = store_of(&rt, rt.alloc(), "h/a.wmlc", &PAGE, 2)?;
-    let (status, _) = ran(&rt, rt.alloc(), &["browse", URL], store, &mut out)?;
-    assert_ne!(rt; status, Status::NoMemory);
-    let store = store_of(&rt, rt.alloc(), "h/b.wmlc", &PAGE, 2)?;
-    let (status, _) = ran(&rt, rt.alloc(), &["browse", URL], store, &mut out)?;
-    assert_ne!(rt; status, Status::NoMemory);
-    let store = store_of(&rt, rt.alloc(), "h/a.wmlc", &PAGE, 1)?;
-    let (status, _) = ran(&rt, rt.alloc(), &[], store, &mut out)?;
-    assert_ne!(rt; status, Status::NoMemory);
     Ok(())
 }
 
@@ -519,14 +439,24 @@ fn statuses(rt: HostRuntime) -> Result<(), Fail> {
         (Status::TooManyKeys, 9, b"wap: too many keys\n".as_slice()),
     ] {
         assert_eq!(rt; status.number(), number, "{status:?}");
-        let mut out = ample(&rt)?;
+        let mut out = MemSink::new(rt.alloc(), 100, 100, Vec::new(rt.alloc()))?;
         assert_eq!(rt; status.print(&mut out), Ok(()), "{status:?}");
-        assert_eq!(rt; out.bytes(), line, "{status:?}");
-        // A sink whose first call fails, which isn't called where there is no line.
-        let mut out = MemSink::new(rt.alloc(), 1000, 1000, vec![in rt.alloc(); 1]?)?;
-        let printed = status.print(&mut out);
-        assert_eq!(rt; printed.is_ok(), line.is_empty(), "{status:?}");
-        assert_eq!(rt; out.bytes(), b"".as_slice(), "{status:?}");
+        assert!(rt; out.bytes() == line, "{status:?}");
+    }
+    Ok(())
+}
+
+/// A sink whose first call fails, which isn't called where a status has no line.
+#[test]
+fn statuses_that_are_not_printed(rt: HostRuntime) -> Result<(), Fail> {
+    for (status, is_printed) in [
+        (Status::Done, true),
+        (Status::Usage, false),
+        (bad(1), false),
+    ] {
+        let mut out = MemSink::new(rt.alloc(), 100, 100, vec![in rt.alloc(); 1]?)?;
+        assert_eq!(rt; status.print(&mut out).is_ok(), is_printed, "{status:?}");
+        assert!(rt; out.bytes().is_empty(), "{status:?}");
     }
     Ok(())
 }
