@@ -1,7 +1,11 @@
+pub mod CharsetLaws
 pub mod Choices
 pub mod Utf8Order
+pub mod Orders
 pub mod TextLaws
 pub mod Utf8Lengths
+pub mod Splits
+pub mod Utf8Cuts
 pub mod NumberLaws
 pub mod NumberLoop
 pub mod NumberSpelling

@@ -1,5 +1,6 @@
 -- What a store holds: pages by their names. This project's own.
-use Rattle.std.specs.Prelude.{ℕ, List, [], ◌∷◌, map, Option, Some, None, if◌then◌else◌}
+use Rattle.std.specs.Prelude.{ℕ, List, Option, Some, None}
+use Rattle.std.specs.Map.{keys_of, lookup}
 use Rattle.wap_base.specs.Texts.{is_same_text}
 use Rattle.wap_base.specs.declared.store.Fetched.{Fetched}
 use Rattle.wap_base.specs.declared.store.Fetched.TheVariants.{Found, Missing}
@@ -9,12 +10,11 @@ abbrev pub Contents : Type 0
 Contents = List (List ℕ × List ℕ)
 
 abbrev pub names_of : Contents → List (List ℕ)
-names_of pages = map (λ page. page.0) pages
+names_of pages = keys_of pages
 
 -- the bytes under a name
 abbrev pub page_named : List ℕ → Contents → Option (List ℕ)
-page_named name [] = None
-page_named name (page ∷ pages) = if is_same_text page.0 name then Some page.1 else page_named name pages
+page_named name pages = lookup (λ other. is_same_text other name) pages
 
 abbrev pub answer_of : Option (List ℕ) → Fetched
 answer_of (Some bytes) = Found bytes

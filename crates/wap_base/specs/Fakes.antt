@@ -1,9 +1,10 @@
 -- Stores, sources and sinks in memory, which fail at the calls that a list names. This project's own.
-use Rattle.std.specs.Prelude.{ℕ, ◌-◌, ◌<◌, ◌^◌, All, Bool, ◌==◌, ◌||◌, ◌&&◌, nat_lt, List, ◌++◌, length, take, drop, min, if◌then◌else◌}
+use Rattle.std.specs.Prelude.{ℕ, ◌-◌, All, Bool, not, ◌==◌, ◌||◌, ◌&&◌, nat_lt, List, ◌++◌, length, take, drop, min, if◌then◌else◌}
 use Rattle.std.specs.List.{list_any}
 use Rattle.wap_base.specs.Count.{raised}
 use Rattle.wap_base.specs.Texts.{AreDistinct}
 use Rattle.wap_base.specs.Contents.{Contents, names_of}
+use Rattle.wap_base.specs.Pages.{IsPage}
 
 -- the numbers, from 1, of the calls that fail; how many calls were made; how often one failed
 pub record Schedule : Type 0 where
@@ -23,30 +24,42 @@ fails_next calls = list_any (λ number. number == raised calls.made) calls.fail
 abbrev pub called : Schedule → Bool → Schedule
 called calls failed = record { fail = calls.fail; made = raised calls.made; faults = if failed then raised calls.faults else calls.faults }
 
--- pages that a store may hold: no name stands twice, and each page has fewer than 2 ^ 31 bytes
+-- pages that a store may hold: no name stands twice, and each page is small
 pub record ArePages (pages : Contents) : Type 0 where
   pub distinct : AreDistinct (names_of pages)
-  pub small : All (λ page. length page.1 < 2 ^ 31) pages
+  pub small : All (λ page. IsPage page.1) pages
 
--- a store: its pages, its calls of both kinds in one row, and how many of them asked for a page
+-- a store: its pages, its calls of both kinds in one row, and how many of each kind there were
 pub record StoreState : Type 0 where
   pub pages : Contents
   pub calls : Schedule
   pub fetches : ℕ
+  pub listings : ℕ
 
--- after any call; whether it asked for a page
-abbrev pub after_call : StoreState → Bool → StoreState
-after_call store asked = record {
+-- after a call that asks for a page
+abbrev pub after_fetch : StoreState → StoreState
+after_fetch store = record {
   pages = store.pages;
   calls = called store.calls (fails_next store.calls);
-  fetches = if asked then raised store.fetches else store.fetches;
+  fetches = raised store.fetches;
+  listings = store.listings;
 }
 
--- a source: the bytes that are left, and how many one call moves at most
+-- after a call that asks for the names
+abbrev pub after_listing : StoreState → StoreState
+after_listing store = record {
+  pages = store.pages;
+  calls = called store.calls (fails_next store.calls);
+  fetches = store.fetches;
+  listings = raised store.listings;
+}
+
+-- a source: the bytes that are left, how many one call moves at most, and how often it told its end
 pub record SourceState : Type 0 where
   pub left : List ℕ
   pub piece : ℕ
   pub calls : Schedule
+  pub ends : ℕ
 
 -- how many bytes a read into so much room moves
 abbrev pub read_count : SourceState → ℕ → ℕ
@@ -57,6 +70,7 @@ after_read source room = record {
   left = if fails_next source.calls then source.left else drop (read_count source room) source.left;
   piece = source.piece;
   calls = called source.calls (fails_next source.calls);
+  ends = if not (fails_next source.calls) && (read_count source room == 0) then raised source.ends else source.ends;
 }
 
 -- a sink: what was written, how many bytes it holds, and how many one call moves at most

@@ -1,9 +1,13 @@
 -- How large a page may be. This project's own.
-use Rattle.std.specs.Prelude.{◌<◌, ◌^◌, length}
+use Rattle.std.specs.Prelude.{ℕ, ◌<◌, List, length}
+use Rattle.wap_base.specs.declared.store.TheConstants.{PAGE_LIMIT}
 use Rattle.wap_base.specs.declared.store.Fetched.{Fetched}
 use Rattle.wap_base.specs.declared.store.Fetched.TheVariants.{Found, Missing}
 
--- a page that is found has fewer than 2 ^ 31 bytes
+abbrev pub IsPage : List ℕ → Type 0
+IsPage bytes = length bytes < PAGE_LIMIT
+
+-- a page that is found is small
 abbrev pub IsSmall : Fetched → Type 0
-IsSmall (Found bytes) = length bytes < 2 ^ 31
+IsSmall (Found bytes) = IsPage bytes
 IsSmall Missing = Unit {0}

@@ -1,6 +1,8 @@
 -- What a read takes and a write gives, where the bytes are told. This project's own.
-use Rattle.std.specs.Prelude.{◌≡◌, ℕ, List, [], ◌++◌, Option, IfSome}
+use Rattle.std.specs.Prelude.{◌≡◌, ℕ, List, [], ◌++◌, Option, IfSome, Result, Ok, Err, ◌==◌, if◌then◌else◌}
 use Rattle.std.specs.Option.{option_map}
+use Rattle.wap_base.specs.Count.{raised}
+use Rattle.wap_base.specs.declared.fault.Failed.{Failed}
 
 -- the source had these bytes first, and has the others still
 abbrev pub TakesFrom : Option (List ℕ) → Option (List ℕ) → List ℕ → Type 0
@@ -17,3 +19,8 @@ AppendsFront before after bytes = (front : List ℕ) × (rest : List ℕ) × (by
 -- no bytes are left, where they are told
 abbrev pub IsAtEnd : Option (List ℕ) → Type 0
 IsAtEnd left = IfSome left (λ bytes. bytes ≡ [])
+
+-- how often a source has told its end, after a read that answers so
+abbrev pub ends_after : ℕ → Result ℕ Failed → ℕ
+ends_after ends (Ok count) = if count == 0 then raised ends else ends
+ends_after ends (Err fault) = ends

@@ -1,5 +1,5 @@
 //! `Bytes`, a `Vec<u8>` that contracts see as the list of its bytes.
-ghost use Rattle.std.specs.Prelude.{◌≡◌, [], ◌++◌, length, IsTrue, ◌↔◌, IfOk, OnOk, OnErr};
+ghost use Rattle.std.specs.Prelude.{◌≡◌, [], ◌∷◌, ◌++◌, length, IsTrue, ◌↔◌, IfOk, OnOk, OnErr};
 
 use crate::NoMemory;
 use std::alloc::Global;
@@ -77,6 +77,15 @@ impl Bytes {
         ensures err { OnErr result (self.new ≡ self.old) }
     {
         self.inner.extend_from_slice(bytes)?;
+        Ok(())
+    }
+
+    /// Appends a byte. On want of memory nothing is added.
+    pub fn push(&mut self, byte: u8) -> Result<(), NoMemory>
+        ensures ok { OnOk result (self.new ≡ self.old ++ byte ∷ []) }
+        ensures err { OnErr result (self.new ≡ self.old) }
+    {
+        self.inner.push(byte)?;
         Ok(())
     }
 }

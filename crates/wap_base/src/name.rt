@@ -47,7 +47,7 @@ impl From<NoMemory> for NameFault {
 fn begins_name(byte: u8) -> bool
     ensures { result ≡ begins_name byte }
 {
-    matches!(byte, b'A'..=b'Z' | b'a'..=b'z' | b'_')
+    byte.is_ascii_alphabetic() || byte == b'_'
 }
 
 fn continues_name(byte: u8) -> bool
@@ -62,8 +62,8 @@ fn all_continue(bytes: &[u8]) -> bool
     bytes.iter().all(|byte| continues_name(*byte))
 }
 
-/// Whether the bytes are those of a name.
-fn is_name(bytes: &[u8]) -> bool
+/// Whether the bytes are those of a name (WAP-191, section 10.3.1).
+pub fn is_name(bytes: &[u8]) -> bool
     ensures { result ≡ is_name bytes.now }
 {
     match bytes {
@@ -91,6 +91,15 @@ impl Name {
         ensures name { is_name self.now ≡ true }
     {
         &self.text
+    }
+
+    /// A copy of the name.
+    pub fn copy(&self, alloc: Global) -> Result<Name, NoMemory>
+        ensures { IfOk result (λ copy. copy ≡ self.now) }
+    {
+        Ok(Name {
+            text: self.text.copy(alloc)?,
+        })
     }
 }
 
@@ -146,7 +155,7 @@ impl Ord for Name {
     }
 }
 
-/// How a reference to a variable is written out (WAP-191, section 10.3.2).
+/// How a reference to a variable is written out (WAP-191, section 10.3.1).
 #[derive(Clone, Copy, Debug, PartialEq, Eq)]
 pub enum Conv {
     Escape,

@@ -27,14 +27,17 @@ pub trait Sink {
 
         ensures faults { faults self.old ≤ faults self.new }
         ensures failed { OnErr result (Rose (faults self.old) (faults self.new)) }
-        // To take nothing of a piece that isn't empty is a fault too.
-        ensures stuck { result ≡ Ok 0 → 0 < length piece.now → Rose (faults self.old) (faults self.new) };
+        // To take nothing of a piece that isn't empty is a fault too, and any other answer is none.
+        ensures stuck { result ≡ Ok 0 → 0 < length piece.now → Rose (faults self.old) (faults self.new) }
+        ensures steady { IfOk result (λ count. 0 < count → faults self.new ≡ faults self.old) }
+        ensures nothing { piece.now ≡ [] → OnOk result (faults self.new ≡ faults self.old) };
 }
 
 /// Writes the whole piece, in as many calls as the sink needs. After a fault a front of it was written.
 pub fn write_all<O: Sink>(out: &mut O, piece: &[u8]) -> Result<(), Failed>
     ensures whole { OnOk result (Appends (O.written out.old) (O.written out.new) piece.now) }
     ensures front { OnErr result (AppendsFront (O.written out.old) (O.written out.new) piece.now) }
+    ensures steady { OnOk result (O.faults out.new ≡ O.faults out.old) }
     ensures faults { O.faults out.old ≤ O.faults out.new }
     ensures failed { OnErr result (Rose (O.faults out.old) (O.faults out.new)) }
 {
@@ -108,6 +111,7 @@ impl Sink for MemSink {
         ensures failed { IsErr result ↔ (fails_write self.old piece.now ≡ true) }
         ensures after { self.new ≡ after_write self.old piece.now }
         ensures stuck { result ≡ Ok 0 → piece.now ≡ [] }
+        ensures steady { OnOk result (self.new.calls.faults ≡ self.old.calls.faults) }
         ensures faults { self.old.calls.faults ≤ self.new.calls.faults }
     {
         let left = self.room - self.written.len();

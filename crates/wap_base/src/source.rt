@@ -1,7 +1,7 @@
 //! Where key lines come from.
-ghost use Rattle.std.specs.Prelude.{◌≡◌, ℕ, ◌<◌, ◌≤◌, List, [], ◌++◌, length, take, true, ◌↔◌, Option, Some, Ok, IfOk, OnErr, IsErr};
+ghost use Rattle.std.specs.Prelude.{◌≡◌, ℕ, ◌<◌, ◌≤◌, List, [], ◌++◌, length, take, drop, true, ◌↔◌, Option, Some, Ok, IfOk, OnOk, OnErr, IsErr};
 ghost use Rattle.wap_base.specs.Count.{Rose};
-ghost use Rattle.wap_base.specs.Transfer.{TakesFrom, IsAtEnd};
+ghost use Rattle.wap_base.specs.Transfer.{TakesFrom, IsAtEnd, ends_after};
 ghost use Rattle.wap_base.specs.Fakes.{SourceState, fresh, fails_next, read_count, after_read};
 
 use crate::calls::Calls;
@@ -16,6 +16,9 @@ pub trait Source {
     /// How often it has failed.
     ghost faults: { Self → ℕ };
 
+    /// How often it has told its end.
+    ghost ends: { Self → ℕ };
+
     /// Fills a front of the buffer with the next bytes, and answers their number; 0 means the end.
     fn read(&mut self, buffer: &mut [u8]) -> Result<usize, Failed>
         requires { 0 < length buffer.old }
@@ -23,12 +26,17 @@ pub trait Source {
         ensures bytes { IfOk result (λ count. TakesFrom (left self.old) (left self.new) (take count buffer.new)) }
         ensures end { result ≡ Ok 0 → IsAtEnd (left self.old) }
 
+        // The rest of the buffer stays as it was.
+        ensures rest { IfOk result (λ count. drop count buffer.new ≡ drop count buffer.old) }
+
         // A read that failed moved no bytes.
         ensures unmoved { OnErr result (left self.new ≡ left self.old) }
         ensures buffer { OnErr result (buffer.new ≡ buffer.old) }
 
         ensures faults { faults self.old ≤ faults self.new }
-        ensures failed { OnErr result (Rose (faults self.old) (faults self.new)) };
+        ensures failed { OnErr result (Rose (faults self.old) (faults self.new)) }
+        ensures steady { OnOk result (faults self.new ≡ faults self.old) }
+        ensures ends { ends self.new ≡ ends_after (ends self.old) result };
 }
 
 /// A source in memory.
@@ -38,6 +46,7 @@ pub struct MemSource {
     at: usize,
     piece: usize,
     calls: Calls,
+    ends: u64,
 }
 
 impl Model for MemSource {
@@ -46,7 +55,7 @@ impl Model for MemSource {
 
     ghost Value = { SourceState };
 
-    ghost view = { λ source. record { left = drop source.at source.bytes; piece = source.piece; calls = source.calls } };
+    ghost view = { λ source. record { left = drop source.at source.bytes; piece = source.piece; calls = source.calls; ends = source.ends } };
 
     ghost invariant = { λ source. (source.at ≤ length source.bytes) × (1 ≤ source.piece) };
 }
@@ -56,7 +65,7 @@ impl MemSource {
     /// from 1, of the calls that fail.
     pub fn new(bytes: Bytes, piece: usize, fail: Vec<u64>) -> MemSource
         requires { 1 ≤ piece }
-        ensures holds { result ≡ record { left = bytes; piece = piece; calls = fresh fail.items } }
+        ensures holds { result ≡ record { left = bytes; piece = piece; calls = fresh fail.items; ends = 0 } }
         ensures told { ⟦<MemSource as Source>⟧.left result ≡ Some bytes }
     {
         MemSource {
@@ -64,7 +73,19 @@ impl MemSource {
             at: 0,
             piece,
             calls: Calls::new(fail),
+            ends: 0,
         }
+    }
+}
+
+/// How often the end was told, after a read that moves so many bytes.
+fn ends_after(ends: u64, count: usize) -> u64
+    ensures { result ≡ ends_after ends (Ok count) }
+{
+    if count == 0 {
+        ends.saturating_add(1)
+    } else {
+        ends
     }
 }
 
@@ -73,14 +94,19 @@ impl Source for MemSource {
 
     ghost faults = { λ source. source.calls.faults };
 
+    ghost ends = { λ source. source.ends };
+
     fn read(&mut self, buffer: &mut [u8]) -> Result<usize, Failed>
         requires { 0 < length buffer.old }
         ensures count { IfOk result (λ count. count ≡ read_count self.old (length buffer.old)) }
         ensures bytes { IfOk result (λ count. self.old.left ≡ take count buffer.new ++ self.new.left) }
         ensures failed { IsErr result ↔ (fails_next self.old.calls ≡ true) }
         ensures after { self.new ≡ after_read self.old (length buffer.old) }
+        ensures rest { IfOk result (λ count. drop count buffer.new ≡ drop count buffer.old) }
         ensures buffer { OnErr result (buffer.new ≡ buffer.old) }
         ensures end { result ≡ Ok 0 → self.old.left ≡ [] }
+        ensures steady { OnOk result (self.new.calls.faults ≡ self.old.calls.faults) }
+        ensures ends { self.new.ends ≡ ends_after self.old.ends result }
         ensures faults { self.old.calls.faults ≤ self.new.calls.faults }
     {
         let failed = self.calls.fails_next();
@@ -92,6 +118,7 @@ impl Source for MemSource {
         let count = self.piece.min(buffer.len()).min(left.len());
         buffer[..count].copy_from_slice(&left[..count]);
         self.at += count;
+        self.ends = ends_after(self.ends, count);
         Ok(count)
     }
 }

@@ -1,17 +1,20 @@
 //! Where pages come from.
-ghost use Rattle.std.specs.Prelude.{◌≡◌, ℕ, ◌≤◌, true, false, Option, Some, IfSome, IfOk, IsErrOf, IsTrue, ◌↔◌};
+ghost use Rattle.std.specs.Prelude.{◌≡◌, ℕ, ◌≤◌, true, All, Option, Some, IfSome, IfOk, OnOk, IsErrOf, IsTrue, ◌↔◌};
 ghost use Rattle.std.specs.Option.{option_copied};
 ghost use Rattle.std.specs.List.Sorted.{IsPermutation};
 ghost use Rattle.wap_base.specs.Count.{raised, Rose};
 ghost use Rattle.wap_base.specs.Texts.{AreAscending, AreDistinct};
 ghost use Rattle.wap_base.specs.Contents.{Contents, names_of, page_named, answer_for};
-ghost use Rattle.wap_base.specs.Pages.{IsSmall};
-ghost use Rattle.wap_base.specs.Fakes.{StoreState, ArePages, fresh, fails_next, after_call};
+ghost use Rattle.wap_base.specs.Pages.{IsPage, IsSmall};
+ghost use Rattle.wap_base.specs.Fakes.{StoreState, ArePages, fresh, fails_next, after_fetch, after_listing};
 
 use crate::calls::Calls;
-use crate::{Bytes, NoMemory, RunErr, Text};
+use crate::{Bytes, NoMemory, RunErr, Text, are_distinct};
 use std::alloc::{AllocError, AllocFailed, Global};
 use std::marker::Model;
+
+/// A page has fewer bytes than this.
+pub const PAGE_LIMIT: usize = 1 << 31;
 
 /// What a store answers for a name.
 #[derive(Debug, Drop, PartialEq, Eq)]
@@ -86,6 +89,9 @@ pub trait Store {
     /// How often it was asked for a page.
     ghost fetches: { Self → ℕ };
 
+    /// How often it was asked for its names.
+    ghost listings: { Self → ℕ };
+
     /// The page of a name.
     fn fetch(&mut self, name: &Text) -> Result<Fetched, StoreErr>
         // What is told is so.
@@ -95,8 +101,10 @@ pub trait Store {
         ensures kept { contents self.new ≡ contents self.old }
 
         ensures counted { fetches self.new ≡ raised (fetches self.old) }
+        ensures listings { listings self.new ≡ listings self.old }
         ensures faults { faults self.old ≤ faults self.new }
-        ensures failed { IsErrOf result StoreErr.Failed → Rose (faults self.old) (faults self.new) };
+        ensures failed { IsErrOf result StoreErr.Failed → Rose (faults self.old) (faults self.new) }
+        ensures steady { OnOk result (faults self.new ≡ faults self.old) };
 
     /// The names of all pages, in the order of their UTF-8 bytes.
     fn list(&mut self) -> Result<Vec<Text>, StoreErr>
@@ -105,9 +113,11 @@ pub trait Store {
         ensures distinct { IfSome (contents self.old) (λ pages. AreDistinct (names_of pages)) }
         ensures kept { contents self.new ≡ contents self.old }
 
+        ensures counted { listings self.new ≡ raised (listings self.old) }
         ensures fetches { fetches self.new ≡ fetches self.old }
         ensures faults { faults self.old ≤ faults self.new }
-        ensures failed { IsErrOf result StoreErr.Failed → Rose (faults self.old) (faults self.new) };
+        ensures failed { IsErrOf result StoreErr.Failed → Rose (faults self.old) (faults self.new) }
+        ensures steady { OnOk result (faults self.new ≡ faults self.old) };
 }
 
 /// A store in memory.
@@ -116,6 +126,7 @@ pub struct MemStore {
     pages: Vec<(Text, Bytes)>,
     calls: Calls,
     fetches: u64,
+    listings: u64,
 }
 
 impl Model for MemStore {
@@ -126,7 +137,7 @@ impl Model for MemStore {
 
     ghost Value = { StoreState };
 
-    ghost view = { λ store. record { pages = store.pages.items; calls = store.calls; fetches = store.fetches } };
+    ghost view = { λ store. record { pages = store.pages.items; calls = store.calls; fetches = store.fetches; listings = store.listings } };
 
     ghost invariant = { λ store. ArePages store.pages.items };
 }
@@ -136,29 +147,32 @@ impl MemStore {
     /// ask for a page and those that ask for the names in one row.
     pub fn new(pages: Vec<(Text, Bytes)>, fail: Vec<u64>) -> MemStore
         requires { ArePages pages.items }
-        ensures holds { result ≡ record { pages = pages.items; calls = fresh fail.items; fetches = 0 } }
+        ensures holds { result ≡ record { pages = pages.items; calls = fresh fail.items; fetches = 0; listings = 0 } }
         ensures told { ⟦<MemStore as Store>⟧.contents result ≡ Some pages.items }
     {
         MemStore {
             pages,
             calls: Calls::new(fail),
             fetches: 0,
+            listings: 0,
         }
     }
 }
 
-/// Whether a store in memory may hold these pages: no name stands twice, and each page has fewer
-/// than 2^31 bytes.
-pub fn are_pages(pages: &[(Text, Bytes)]) -> bool
-    ensures { IsTrue result ↔ ArePages pages.now }
+/// Whether each page has fewer bytes than the limit.
+fn are_small(pages: &[(Text, Bytes)]) -> bool
+    ensures { IsTrue result ↔ All (λ page. IsPage page.1) pages.now }
 {
-    for (at, (name, bytes)) in pages.iter().enumerate() {
-        let (_, others) = pages.split_at(at + 1);
-        if bytes.len() >= 1 << 31 || find(others, name).is_some() {
-            return false;
-        }
-    }
-    true
+    pages.iter().all(|page| page.1.len() < PAGE_LIMIT)
+}
+
+/// Whether a store in memory may hold these pages: no name stands twice, and each page has fewer
+/// bytes than the limit.
+pub fn are_pages(alloc: Global, pages: &[(Text, Bytes)]) -> Result<bool, NoMemory>
+    ensures { IfOk result (λ fit. IsTrue fit ↔ ArePages pages.now) }
+{
+    let distinct = are_distinct(names(alloc, pages)?);
+    Ok(distinct && are_small(pages))
 }
 
 /// The page of a name.
@@ -191,10 +205,13 @@ impl Store for MemStore {
 
     ghost fetches = { λ store. store.fetches };
 
+    ghost listings = { λ store. store.listings };
+
     fn fetch(&mut self, name: &Text) -> Result<Fetched, StoreErr>
         ensures found { IfOk result (λ answer. answer ≡ answer_for name.now self.old.pages) }
         ensures failed { IsErrOf result StoreErr.Failed ↔ (fails_next self.old.calls ≡ true) }
-        ensures after { self.new ≡ after_call self.old true }
+        ensures after { self.new ≡ after_fetch self.old }
+        ensures steady { OnOk result (self.new.calls.faults ≡ self.old.calls.faults) }
         ensures small { IfOk result IsSmall }
         ensures distinct { AreDistinct (names_of self.old.pages) }
         ensures faults { self.old.calls.faults ≤ self.new.calls.faults }
@@ -218,10 +235,12 @@ impl Store for MemStore {
         ensures ascending { IfOk result (λ names. AreAscending names.items) }
         ensures names { IfOk result (λ names. IsPermutation (names_of self.old.pages) names.items) }
         ensures failed { IsErrOf result StoreErr.Failed ↔ (fails_next self.old.calls ≡ true) }
-        ensures after { self.new ≡ after_call self.old false }
+        ensures after { self.new ≡ after_listing self.old }
+        ensures steady { OnOk result (self.new.calls.faults ≡ self.old.calls.faults) }
         ensures distinct { AreDistinct (names_of self.old.pages) }
         ensures faults { self.old.calls.faults ≤ self.new.calls.faults }
     {
+        self.listings = self.listings.saturating_add(1);
         let failed = self.calls.fails_next();
         self.calls.count(failed);
         if failed {

@@ -1,9 +1,10 @@
 //! `Text`, UTF-8 that contracts see as the list of its characters.
-ghost use Rattle.std.specs.Prelude.{◌≡◌, [], ◌∷◌, ◌++◌, length, true, IsTrue, ◌↔◌, IfOk, OnOk, OnErr, string_bytes, encode_utf8_all};
+ghost use Rattle.std.specs.Prelude.{◌≡◌, [], ◌∷◌, ◌++◌, length, true, IsTrue, ◌↔◌, IfOk, OnOk, OnErr, string_bytes, encode_utf8_all, decimal};
 ghost use Rattle.std.specs.Str.{chars, all_scalars};
 ghost use Rattle.wap_base.specs.Utf8.{utf8_len};
 
 use crate::NoMemory;
+use itoa::Buffer;
 use std::alloc::Global;
 use std::cmp::Ordering;
 use std::hash::{Hash, Hasher};
@@ -41,6 +42,17 @@ impl Text {
         Ok(Text {
             inner: String::from_str(alloc, text)?,
         })
+    }
+
+    /// The text whose characters have the numbers of these bytes (ISO-8859-1).
+    pub fn from_latin1(alloc: Global, bytes: &[u8]) -> Result<Text, NoMemory>
+        ensures { IfOk result (λ text. text ≡ bytes.now) }
+    {
+        let mut text = Text::new(alloc);
+        for byte in bytes {
+            text.push(char::from(*byte))?;
+        }
+        Ok(text)
     }
 
     /// The text of a string, which takes no memory.
@@ -104,6 +116,15 @@ impl Text {
     {
         self.inner.push(character)?;
         Ok(())
+    }
+
+    /// Appends a number in decimal digits. On want of memory nothing is added.
+    pub fn add_number(&mut self, number: u64) -> Result<(), NoMemory>
+        ensures ok { OnOk result (self.new ≡ self.old ++ decimal number) }
+        ensures err { OnErr result (self.new ≡ self.old) }
+    {
+        let mut digits = Buffer::new();
+        self.add(digits.format(number))
     }
 }
 

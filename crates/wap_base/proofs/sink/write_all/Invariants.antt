@@ -1,4 +1,4 @@
-use Rattle.std.proofs.Common.{◌≡◌, ◌≤◌, ◌++◌, List, ℕ, length}
+use Rattle.std.proofs.Common.{◌≡◌, ◌++◌, List, ℕ, length}
 use Rattle.wap_base.specs.Transfer.{Appends}
 use Rattle.wap_base.proofs.sink.write_all.Given as goal
 
@@ -8,7 +8,7 @@ invariant-loop-rest g l = record {
   front : List ℕ;
   split : l.piece ≡ front ++ l.rest;
   written : Appends (g.O.Sink.written l.fn.out) (g.O.Sink.written l.out) front;
-  faults : g.O.Sink.faults l.fn.out ≤ g.O.Sink.faults l.out;
+  faults : g.O.Sink.faults l.out ≡ g.O.Sink.faults l.fn.out;
 }
 
 abbrev pub decreases-loop-rest : goal.decreases-loop-rest

@@ -1,6 +1,7 @@
-use Rattle.std.proofs.Common.{ℕ, ◌<◌, ◌^◌, List, length, sym, ap, ◌∙◌, subst}
+use Rattle.std.proofs.Common.{sym, ap, ◌∙◌, subst}
 use Rattle.std.specs.Option.{option_copied}
 use Rattle.wap_base.specs.Contents.{page_named}
+use Rattle.wap_base.specs.Pages.{IsPage}
 use Rattle.wap_base.proofs.StoreLaws.{page_named-small}
 use Rattle.wap_base.proofs.store.MemStoreStore.fetch.Goals as goal
 use Rattle.wap_base.proofs.store.MemStoreStore.fetch.Goals.{in-Some+in_ok-of-in-Some, in-None}
@@ -10,6 +11,6 @@ returns-clause-small c = elim c.match-find.branch [
   | in-Some+in_ok-of-in-Some w ↦
       let found = ap (page_named c.args.name.now) (sym c.as_slice.ensures.value) ∙ sym c.find.ensures ∙ ap option_copied w.in-Some.is in
       let small = page_named-small c.args.name.now w.in-Some.bytes.now c.self.inside.pages.items c.self.invariant.small found in
-      rw w.result-is (subst (λ (b : List ℕ). length b < 2 ^ 31) (sym (w.in_ok-of-in-Some.ensures ∙ w.as_slice-in-Some.ensures)) small)
+      rw w.result-is (subst IsPage (sym (w.in_ok-of-in-Some.ensures ∙ w.as_slice-in-Some.ensures)) small)
   | in-None w ↦ rw w.result-is tt
 ]
