@@ -1,13 +1,13 @@
 -- The lines of a preformatted text, as far as it was read.
 use Rattle.std.proofs.Common.{◌≡◌, ◌≢◌, ℕ, List, [], ◌∷◌, ◌++◌, Bool, true, false, refl, sym, ap, ◌∙◌, append_assoc, arith}
-use Rattle.std.specs.List.{flat_map}
+use Rattle.std.specs.List.{flat_map, slice_split}
 use Rattle.std.proofs.lemmas.Bool.Decides.{nat_tests}
 use Rattle.std.proofs.lemmas.List.{append-nil}
 use Rattle.wap_layout.specs.declared.flow.Mode.TheVariants.{Preformatted}
-use Rattle.wap_layout.specs.Words.{split, parted, is_line_feed}
+use Rattle.wap_layout.specs.Words.{is_line_feed}
 use Rattle.wap_layout.specs.Pieces.{Piece, kept}
 use Rattle.wap_layout.specs.Calculation.{piece_lines}
-use Rattle.wap_layout.proofs.Splitting.{before_parts, before_parts-first}
+use Rattle.wap_layout.proofs.Splitting.{parted, before_parts, before_parts-first}
 
 -- a line of a preformatted text
 abbrev pub kept_piece : List ℕ → Bool → Piece
@@ -15,7 +15,7 @@ kept_piece line hard = record { mode = Preformatted; text = line; is_hard = hard
 
 -- the pieces of a preformatted text that goes on a line
 abbrev pub kept_from : List ℕ → List ℕ → Bool → List Piece
-kept_from line text hard = kept (before_parts line (split is_line_feed text)) hard
+kept_from line text hard = kept (before_parts line (slice_split is_line_feed text)) hard
 
 -- a text is split into one part at least
 record HasParts (parts : List (List ℕ)) : Type 0 where
@@ -28,11 +28,11 @@ parted-parts true c parts = record { first = []; others = parts; parts_are = ref
 parted-parts false c [] = record { first = c ∷ []; others = []; parts_are = refl }
 parted-parts false c (part ∷ parts) = record { first = c ∷ part; others = parts; parts_are = refl }
 
-split-parts : (test : ℕ → Bool) (text : List ℕ) → HasParts (split test text)
+split-parts : (test : ℕ → Bool) (text : List ℕ) → HasParts (slice_split test text)
 split-parts test [] = record { first = []; others = []; parts_are = refl }
-split-parts test (c ∷ text) = parted-parts (test c) c (split test text)
+split-parts test (c ∷ text) = parted-parts (test c) c (slice_split test text)
 
-pub kept_from-start : (text : List ℕ) (hard : Bool) → kept_from [] text hard ≡ kept (split is_line_feed text) hard
+pub kept_from-start : (text : List ℕ) (hard : Bool) → kept_from [] text hard ≡ kept (slice_split is_line_feed text) hard
 kept_from-start text hard =
     let p = split-parts is_line_feed text in
     ap (λ parts. kept (before_parts [] parts) hard) p.parts_are ∙ ap (λ parts. kept parts hard) (sym p.parts_are)
@@ -44,12 +44,12 @@ kept-parts line (part ∷ parts) hard p = ap (λ l. kept_piece l true ∷ kept (
 -- a line feed ends the line by a hard break
 kept_from-feed : (line text : List ℕ) (c : ℕ) (hard : Bool) → is_line_feed c ≡ true → kept_from line (c ∷ text) hard ≡ kept_piece line true ∷ kept_from [] text hard
 kept_from-feed line text c hard feed =
-    ap (λ test. kept (before_parts line (parted test c (split is_line_feed text))) hard) feed ∙ kept-parts line (split is_line_feed text) hard (split-parts is_line_feed text)
+    ap (λ test. kept (before_parts line (parted test c (slice_split is_line_feed text))) hard) feed ∙ kept-parts line (slice_split is_line_feed text) hard (split-parts is_line_feed text)
 
 -- any other character goes on it
 kept_from-letter : (line text : List ℕ) (c : ℕ) (hard : Bool) → is_line_feed c ≡ false → kept_from line (c ∷ text) hard ≡ kept_from (line ++ c ∷ []) text hard
 kept_from-letter line text c hard letter =
-    ap (λ test. kept (before_parts line (parted test c (split is_line_feed text))) hard) letter ∙ ap (λ parts. kept parts hard) (before_parts-first line c (split is_line_feed text))
+    ap (λ test. kept (before_parts line (parted test c (slice_split is_line_feed text))) hard) letter ∙ ap (λ parts. kept parts hard) (before_parts-first line c (slice_split is_line_feed text))
 
 -- the end ends it as the whole text ends
 kept_from-end : (line : List ℕ) (hard : Bool) → kept_from line [] hard ≡ kept_piece line hard ∷ []
@@ -90,6 +90,6 @@ kept-end width hard lines new line left whole ends turn was =
     ∙ was
 
 pub kept-start : (width : ℕ) (hard : Bool) (lines : List (List ℕ)) (line text : List ℕ) → line ≡ []
-    → lines ++ flat_map (piece_lines width) (kept_from line text hard) ≡ lines ++ flat_map (piece_lines width) (kept (split is_line_feed text) hard)
+    → lines ++ flat_map (piece_lines width) (kept_from line text hard) ≡ lines ++ flat_map (piece_lines width) (kept (slice_split is_line_feed text) hard)
 kept-start width hard lines line text starts =
     ap (λ l. lines ++ flat_map (piece_lines width) (kept_from l text hard)) starts ∙ ap (λ ps. lines ++ flat_map (piece_lines width) ps) (kept_from-start text hard)

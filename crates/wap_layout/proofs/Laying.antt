@@ -1,12 +1,12 @@
 -- What is laid out by calculation is laid out as the definition says, and so is nothing else.
 use Rattle.std.proofs.Common.{◌≡◌, ℕ, ◌≤◌, List, [], ◌∷◌, ◌++◌, length, Bool, true, false, refl, sym, ap, ◌∙◌, subst, arith}
 use Rattle.std.specs.Prelude.{All, filter}
-use Rattle.std.specs.List.{flat_map}
+use Rattle.std.specs.List.{flat_map, slice_split}
 use Rattle.std.proofs.lemmas.List.Elements.{All-nil, All-cons, All-head, All-tail, All-append}
 use Rattle.wap_layout.specs.declared.flow.Flow.{Flow}
 use Rattle.wap_layout.specs.declared.flow.Mode.{Mode}
 use Rattle.wap_layout.specs.declared.flow.Mode.TheVariants.{Wrapped, Unwrapped, Preformatted}
-use Rattle.wap_layout.specs.Words.{is_blank, split, words_of}
+use Rattle.wap_layout.specs.Words.{is_blank, words_of}
 use Rattle.wap_layout.specs.Pieces.{Piece, pieces_of}
 use Rattle.wap_layout.specs.Layout.{IsLaid, AreLaid, closed}
 use Rattle.wap_layout.specs.Calculation.{laid, piece_lines, lines_of}
@@ -21,7 +21,7 @@ AreWords-filter ((c ∷ part) ∷ parts) = (omega arith, AreWords-filter parts)
 
 -- a text's words are not empty
 pub AreWords-words_of : (text : List ℕ) → AreWords (words_of text)
-AreWords-words_of text = AreWords-filter (split is_blank text)
+AreWords-words_of text = AreWords-filter (slice_split is_blank text)
 
 pub laid-is : (width : ℕ) (mode : Mode) (text : List ℕ) → 1 ≤ width → IsLaid width mode text (laid width mode text)
 laid-is width Wrapped text one = filled-is width (words_of text) one (AreWords-words_of text)

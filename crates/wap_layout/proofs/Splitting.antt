@@ -1,9 +1,14 @@
 -- The words of a text, as far as it was read.
-use Rattle.std.proofs.Common.{◌≡◌, ℕ, ◌<◌, ◌+◌, length, drop, get_or, List, [], ◌∷◌, ◌++◌, Bool, true, false, refl, sym, ap, ◌∙◌, append_assoc}
+use Rattle.std.proofs.Common.{◌≡◌, ℕ, ◌<◌, ◌+◌, length, drop, get_or, List, [], ◌∷◌, ◌++◌, Bool, true, false, cond, refl, sym, ap, ◌∙◌, append_assoc}
 use Rattle.std.proofs.lemmas.List.{append-nil, at_drop_more, length_push}
 use Rattle.std.proofs.Math.Seq.{drop-length}
 use Rattle.std.specs.Prelude.{filter, not}
-use Rattle.wap_layout.specs.Words.{is_blank, is_empty, split, parted, onto_first, words_of, unless_empty}
+use Rattle.std.specs.List.{slice_split, onto_first}
+use Rattle.wap_layout.specs.Words.{is_blank, is_empty, words_of, unless_empty}
+
+-- the parts of a text whose first character passes a test or doesn't
+abbrev pub parted : Bool → ℕ → List (List ℕ) → List (List ℕ)
+parted passes c parts = cond passes ([] ∷ parts) (onto_first c parts)
 
 -- the parts of a text that goes on a part
 abbrev pub before_parts : List ℕ → List (List ℕ) → List (List ℕ)
@@ -15,7 +20,7 @@ is_word word = not (is_empty word)
 
 -- the words of a text that goes on a word
 abbrev pub words_from : List ℕ → List ℕ → List (List ℕ)
-words_from word text = filter is_word (before_parts word (split is_blank text))
+words_from word text = filter is_word (before_parts word (slice_split is_blank text))
 
 filter-word : (word : List ℕ) (words : List (List ℕ)) → filter is_word (word ∷ words) ≡ unless_empty word ++ filter is_word words
 filter-word [] words = refl
@@ -31,7 +36,7 @@ words_from-blank_parts word parts = ap (λ w. filter is_word (w ∷ parts)) (app
 -- a blank ends the word
 pub words_from-blank : (word text : List ℕ) (c : ℕ) → is_blank c ≡ true → words_from word (c ∷ text) ≡ unless_empty word ++ words_from [] text
 words_from-blank word text c blank =
-    ap (λ test. filter is_word (before_parts word (parted test c (split is_blank text)))) blank ∙ words_from-blank_parts word (split is_blank text)
+    ap (λ test. filter is_word (before_parts word (parted test c (slice_split is_blank text)))) blank ∙ words_from-blank_parts word (slice_split is_blank text)
 
 pub before_parts-first : (word : List ℕ) (c : ℕ) (parts : List (List ℕ)) → before_parts word (onto_first c parts) ≡ before_parts (word ++ c ∷ []) parts
 before_parts-first word c [] = refl
@@ -40,14 +45,14 @@ before_parts-first word c (part ∷ parts) = ap (λ w. w ∷ parts) (sym (append
 -- any other character goes on it
 pub words_from-letter : (word text : List ℕ) (c : ℕ) → is_blank c ≡ false → words_from word (c ∷ text) ≡ words_from (word ++ c ∷ []) text
 words_from-letter word text c letter =
-    ap (λ test. filter is_word (before_parts word (parted test c (split is_blank text)))) letter ∙ ap (filter is_word) (before_parts-first word c (split is_blank text))
+    ap (λ test. filter is_word (before_parts word (parted test c (slice_split is_blank text)))) letter ∙ ap (filter is_word) (before_parts-first word c (slice_split is_blank text))
 
 -- and so does the end
 pub words_from-end : (word : List ℕ) → words_from word [] ≡ unless_empty word
 words_from-end word = words_from-blank_parts word [] ∙ append-nil (unless_empty word)
 
 pub words_from-start : (text : List ℕ) → words_from [] text ≡ words_of text
-words_from-start text = before_nothing (split is_blank text)
+words_from-start text = before_nothing (slice_split is_blank text)
 
 -- the place of a loop over characters, and what is left there
 pub drop-turn : (text yielded : List ℕ) (c : ℕ) → (length yielded < length text) × (c ≡ get_or text (length yielded) c) → drop (length yielded) text ≡ c ∷ drop (length (yielded ++ c ∷ [])) text

@@ -1,7 +1,7 @@
 -- What is no blank comes out in order, and nothing of it is lost.
 use Rattle.std.proofs.Common.{◌≡◌, ℕ, ◌≤◌, List, [], ◌∷◌, ◌++◌, take, drop, Bool, true, false, cond, refl, sym, ap, ◌∙◌, append_assoc, arith}
 use Rattle.std.specs.Prelude.{filter, not}
-use Rattle.std.specs.List.{concat}
+use Rattle.std.specs.List.{concat, slice_split, onto_first}
 use Rattle.std.proofs.lemmas.Bool.Decides.{nat_tests}
 use Rattle.std.proofs.lemmas.List.{append-nil, take-append-drop}
 use Rattle.std.proofs.lemmas.List.Elements.{filter-append}
@@ -9,11 +9,11 @@ use Rattle.wap_layout.specs.declared.flow.Flow.{Flow}
 use Rattle.wap_layout.specs.declared.flow.Flow.TheVariants.{Words, Hard, Soft, Wrap, NoWrap, Pre}
 use Rattle.wap_layout.specs.declared.flow.Mode.{Mode}
 use Rattle.wap_layout.specs.declared.flow.Mode.TheVariants.{Wrapped, Unwrapped, Preformatted}
-use Rattle.wap_layout.specs.Words.{is_blank, is_line_feed, split, parted, onto_first, words_of, joined, unless_empty, visible}
+use Rattle.wap_layout.specs.Words.{is_blank, is_line_feed, words_of, joined, unless_empty, visible}
 use Rattle.wap_layout.specs.Pieces.{Piece, kept, ended, pieces, pieces_of, text_of}
 use Rattle.wap_layout.specs.Layout.{IsFilled, done, line, cut, IsLaid, AreLaid, closed}
 use Rattle.wap_layout.specs.Calculation.{lines_of}
-use Rattle.wap_layout.proofs.Splitting.{is_word}
+use Rattle.wap_layout.proofs.Splitting.{is_word, parted}
 use Rattle.wap_layout.proofs.Laying.{laid_of}
 
 visible-append : (a b : List ℕ) → visible (a ++ b) ≡ visible a ++ visible b
@@ -55,11 +55,11 @@ visible-parted : (test blank : Bool) (c : ℕ) (parts : List (List ℕ)) → (te
 visible-parted true blank c parts implies was = ap (λ b. cond (not b) (c ∷ visible (concat parts)) (visible (concat parts))) (sym (was ∙ implies refl))
 visible-parted false blank c parts implies was = ap visible (concat-first c parts)
 
-visible-split : (test : ℕ → Bool) (text : List ℕ) → ((c : ℕ) → test c ≡ true → is_blank c ≡ true) → visible (concat (split test text)) ≡ visible text
+visible-split : (test : ℕ → Bool) (text : List ℕ) → ((c : ℕ) → test c ≡ true → is_blank c ≡ true) → visible (concat (slice_split test text)) ≡ visible text
 visible-split test [] implies = refl
 visible-split test (c ∷ text) implies =
-    visible-parted (test c) (is_blank c) c (split test text) (implies c) refl
-    ∙ visible-before (c ∷ []) (concat (split test text)) text (visible-split test text implies)
+    visible-parted (test c) (is_blank c) c (slice_split test text) (implies c) refl
+    ∙ visible-before (c ∷ []) (concat (slice_split test text)) text (visible-split test text implies)
 
 concat-filter : (parts : List (List ℕ)) → concat (filter is_word parts) ≡ concat parts
 concat-filter [] = refl
@@ -68,7 +68,7 @@ concat-filter ((c ∷ part) ∷ parts) = ap (λ t. (c ∷ part) ++ t) (concat-fi
 
 -- the words of a text
 pub visible-words : (text : List ℕ) → visible (concat (words_of text)) ≡ visible text
-visible-words text = ap visible (concat-filter (split is_blank text)) ∙ visible-split is_blank text (λ c blank. blank)
+visible-words text = ap visible (concat-filter (slice_split is_blank text)) ∙ visible-split is_blank text (λ c blank. blank)
 
 visible-alone : (text : List ℕ) → visible (concat (unless_empty text)) ≡ visible text
 visible-alone [] = refl
@@ -112,7 +112,7 @@ feed-blank c feed = grind (arith, nat_tests)
 visible-ended : (mode : Mode) (text : List ℕ) (hard : Bool) → visible (texts_of (ended mode text hard)) ≡ visible text
 visible-ended Wrapped text hard = ap visible (append-nil text)
 visible-ended Unwrapped text hard = ap visible (append-nil text)
-visible-ended Preformatted text hard = ap visible (texts_of-kept (split is_line_feed text) hard) ∙ visible-split is_line_feed text feed-blank
+visible-ended Preformatted text hard = ap visible (texts_of-kept (slice_split is_line_feed text) hard) ∙ visible-split is_line_feed text feed-blank
 
 visible-mark : (mode next : Mode) (text rest : List ℕ) (hard : Bool) (flow : List Flow) → visible (texts_of (pieces next [] flow)) ≡ visible rest → visible (texts_of (ended mode text hard ++ pieces next [] flow)) ≡ visible (text ++ rest)
 visible-mark mode next text rest hard flow e =

@@ -1,10 +1,11 @@
 -- The pieces of a flow, by its breaks and modes (WAP-191, section 11.8).
 use Rattle.std.specs.Prelude.{ℕ, Bool, true, false, List, [], ◌∷◌, ◌++◌}
+use Rattle.std.specs.List.{slice_split}
 use Rattle.wap_layout.specs.declared.flow.Flow.{Flow}
 use Rattle.wap_layout.specs.declared.flow.Flow.TheVariants.{Words, Hard, Soft, Wrap, NoWrap, Pre}
 use Rattle.wap_layout.specs.declared.flow.Mode.{Mode}
 use Rattle.wap_layout.specs.declared.flow.Mode.TheVariants.{Wrapped, Unwrapped, Preformatted}
-use Rattle.wap_layout.specs.Words.{split, is_line_feed}
+use Rattle.wap_layout.specs.Words.{is_line_feed}
 
 -- a text between two breaks, its mode, and whether a hard break ends it
 pub record Piece : Type 0 where
@@ -20,7 +21,7 @@ kept (text ∷ next ∷ rest) hard = record { mode = Preformatted; text = text; 
 
 -- a text that ends: in a preformatted one a line feed is a hard break
 abbrev pub ended : Mode → List ℕ → Bool → List Piece
-ended Preformatted text hard = kept (split is_line_feed text) hard
+ended Preformatted text hard = kept (slice_split is_line_feed text) hard
 ended Wrapped text hard = record { mode = Wrapped; text = text; is_hard = hard } ∷ []
 ended Unwrapped text hard = record { mode = Unwrapped; text = text; is_hard = hard } ∷ []
 

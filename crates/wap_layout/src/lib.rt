@@ -13,6 +13,3 @@ mod words;
 
 pub use flow::{Flow, Mode};
 pub use layout::lines;
-
-#[cfg(test)]
-mod tests;

@@ -1,8 +1,8 @@
 //! Pieces of a flow, each laid out as its mode says.
 ghost use Rattle.std.specs.Prelude.{◌≡◌, ◌≤◌, ◌++◌, OnOk};
-ghost use Rattle.std.specs.List.{flat_map};
+ghost use Rattle.std.specs.List.{flat_map, slice_split};
 ghost use Rattle.std.specs.Str.{chars};
-ghost use Rattle.wap_layout.specs.Words.{split, is_line_feed};
+ghost use Rattle.wap_layout.specs.Words.{is_line_feed};
 ghost use Rattle.wap_layout.specs.Pieces.{kept, ended};
 ghost use Rattle.wap_layout.specs.Layout.{closed};
 ghost use Rattle.wap_layout.specs.Calculation.{laid, piece_lines};
@@ -70,7 +70,7 @@ fn add_kept(
 ) -> Result<(), NoMemory>
     requires { 1 ≤ width }
     ensures { OnOk result (lines.new ≡ lines.old
-        ++ flat_map (piece_lines width) (kept (split is_line_feed (chars text.now)) is_hard)) }
+        ++ flat_map (piece_lines width) (kept (slice_split is_line_feed (chars text.now)) is_hard)) }
 {
     let mut line = Text::new(alloc);
     for character in text.chars() {
@@ -121,7 +121,7 @@ pub struct Page {
 
 impl Page {
     ghost use Rattle.std.specs.Prelude.{◌≡◌, ◌≤◌, ◌∷◌, ◌++◌, [], List, IfOk, OnOk};
-    ghost use Rattle.std.specs.List.{flat_map};
+    ghost use Rattle.std.specs.List.{flat_map, slice_split};
     ghost use Rattle.wap_layout.specs.declared.flow.Flow.{Flow};
     ghost use Rattle.wap_layout.specs.declared.flow.Mode.TheVariants.{Wrapped};
     ghost use Rattle.wap_layout.specs.Pieces.{ended};

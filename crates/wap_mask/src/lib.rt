@@ -14,6 +14,3 @@ mod symbol;
 pub use class::Class;
 pub use mask::Mask;
 pub use symbol::Symbol;
-
-#[cfg(test)]
-mod tests;

@@ -8,7 +8,8 @@ use Rattle.std.proofs.lemmas.Bool.{eqb-true, ne_eqb, cond-true, cond-false}
 use Rattle.wap_url.specs.Access.{without_empty_last}
 use Rattle.wap_url.specs.Segments.{segments, last_segment, all_but_last}
 use Rattle.wap_url.specs.Characters.{is_slash}
-use Rattle.wap_url.proofs.SplitLaws.{cut_last, split-cut, split-none, all_but_last-push, last_segment-push, suffix_from_parts, suffix_same, suffix_after, prefix_from_parts, prefix_same, prefix_before}
+use Rattle.wap_base.proofs.Splits.{split-none}
+use Rattle.wap_url.proofs.SplitLaws.{cut_last, split-cut, all_but_last-push, last_segment-push, suffix_from_parts, suffix_same, suffix_after, prefix_from_parts, prefix_same, prefix_before}
 
 abbrev parts : ℕ → List ℕ → List (List ℕ)
 parts c xs = slice_split (λ b. b == c) xs

@@ -7,7 +7,7 @@ use Rattle.wap_url.specs.declared.fault.UrlFault.{UrlFault}
 use Rattle.wap_url.specs.declared.fault.UrlFault.TheVariants.{BadChar, BadScheme, BadHost, BadPort, NoMemory}
 use Rattle.wap_url.specs.Refusal.{IsRefused}
 use Rattle.wap_url.specs.Characters.{is_hash, is_slash, is_colon, is_question, is_allowed, ends_scheme, ends_authority, is_scheme, is_host}
-use Rattle.wap_url.specs.Splitting.{until, onward, after_one, begins_with}
+use Rattle.wap_base.specs.Cuts.{until, onward, after_one, begins_with}
 use Rattle.wap_url.specs.Parts.{Parts, spelled, followed_by, led_by, authority, is_port, url_of, IsSplit, Fits, IsUrl, ends_word, may_be_scheme, may_be_host, may_be_port, may_be_path}
 use Rattle.wap_url.specs.Reading.{is_stop, front, has_bad_char, has_scheme, scheme_of, after_scheme, has_authority, authority_of, after_authority, host_in, port_in, host_of, port_of, tail_of, parts_of, fits, fault_of, unless, url_at}
 use Rattle.wap_url.proofs.UntilLaws.{NonePasses, StopsAtOnce, all-weaker, all-append, until-past, onward-past, until-stop, onward-stop, led-stops, after-led}

@@ -6,14 +6,15 @@ use Rattle.std.proofs.lemmas.List.Splits.{join_with_byte-slice_split}
 use Rattle.std.proofs.lemmas.Slice.Eq.{bytes_eq-Decides}
 use Rattle.wap_url.specs.declared.url.Url.{Url}
 use Rattle.wap_url.specs.Characters.{is_slash, is_colon, is_allowed}
-use Rattle.wap_url.specs.Splitting.{onward, begins_with}
+use Rattle.wap_base.specs.Cuts.{onward, begins_with}
 use Rattle.wap_url.specs.Parts.{Parts, led_by, IsUrl, may_be_path, ends_word}
 use Rattle.wap_url.specs.Reading.{has_authority}
 use Rattle.wap_url.specs.Printing.{page_text, without_fragment, IsNormal}
 use Rattle.wap_url.specs.Segments.{segments, path_of, all_but_last, last_segment}
 use Rattle.wap_url.specs.Joining.{kept_with, without_dots, resolved_path, rooted, merged_path, lead_segments, joined, is_here, is_above, is_dot_segment}
 use Rattle.wap_url.specs.Relative.{same_text, same_port, same_site, same_folder, stands_alone, local_path, relative_form, IsPage, LeadsBack}
-use Rattle.wap_url.proofs.SplitLaws.{HasFirst, HasFirst-split, split-none, cut_last, split-cut, all_but_last-push, last_segment-push}
+use Rattle.wap_base.proofs.Splits.{HasFirst, HasFirst-split, split-none}
+use Rattle.wap_url.proofs.SplitLaws.{cut_last, split-cut, all_but_last-push, last_segment-push}
 use Rattle.wap_url.proofs.JoinLaws.{resolved_at_root}
 use Rattle.wap_url.proofs.RelationLaws.{same_segments-Decides}
 use Rattle.wap_url.proofs.UntilLaws.{all-back}

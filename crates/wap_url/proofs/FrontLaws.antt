@@ -5,11 +5,11 @@ use Rattle.std.proofs.Math.Utf8.{scalar}
 use Rattle.std.proofs.lemmas.Bool.{cases_Bool, cases_lt, and_parts, not-false, not_from_false, cond-true, cond-false, eqb-true, ne_eqb}
 use Rattle.std.proofs.lemmas.List.{get_or_at, drop_at}
 use Rattle.std.proofs.lemmas.Str.{encode_ascii, chars-encodes, IsCharBoundary-after_ascii}
-use Rattle.wap_url.specs.Splitting.{until, onward, begins_with}
+use Rattle.wap_base.specs.Cuts.{until, onward, begins_with}
 use Rattle.wap_url.specs.Characters.{is_hash, is_allowed}
 use Rattle.wap_url.specs.Reading.{is_stop, front, has_bad_char}
 use Rattle.wap_url.proofs.CharacterLaws.{allowed_high}
-use Rattle.wap_url.proofs.Utf8Laws.{AllHigh, high_bytes, encode_some, SameCut, cut-encodes}
+use Rattle.wap_base.proofs.Utf8Cuts.{AllHigh, high_bytes, encode_some, SameCut, cut-encodes}
 
 pub until-onward : (p : ℕ → Bool) (xs : List ℕ) → until p xs ++ onward p xs ≡ xs
 until-onward p [] = refl

@@ -12,11 +12,12 @@ use Rattle.std.proofs.lemmas.Str.{chars-nil, chars_from_encodes, chars-append, c
 use Rattle.std.proofs.lemmas.Str.Ascii.{IsAscii-cons, IsAscii-nil}
 use Rattle.std.proofs.lemmas.Str.Pattern.{IsSplitOnceResult, split_once_first, split_parts, NoCharPasses-char, drop_at_char}
 use Rattle.wap_url.specs.Characters.{is_slash}
-use Rattle.wap_url.specs.Splitting.{begins_with}
+use Rattle.wap_base.specs.Cuts.{begins_with}
 use Rattle.wap_url.specs.Segments.{segments, path_of, folder_of, last_segment, all_but_last}
 use Rattle.wap_url.specs.Joining.{kept_with, end_of, without_dots, resolved, resolved_path, is_here, is_above, is_dot_segment}
-use Rattle.wap_url.proofs.SplitLaws.{HasFirst, HasFirst-split, split-none, split-cut, join-append, all_but_last-push}
-use Rattle.wap_url.proofs.Utf8Laws.{AllText, AllText-split, AllText-take, chars-map, split-encodes, AllHigh, high_bytes, encode_some}
+use Rattle.wap_base.proofs.Splits.{HasFirst, HasFirst-split, split-none, join-append}
+use Rattle.wap_url.proofs.SplitLaws.{split-cut, all_but_last-push}
+use Rattle.wap_base.proofs.Utf8Cuts.{AllText, AllText-split, AllText-take, chars-map, split-encodes, AllHigh, high_bytes, encode_some}
 
 -- a text that is cut at a character of US-ASCII
 pub record CutText (bytes front back : List ℕ) (c : ℕ) : Type 0 where

@@ -11,7 +11,7 @@ use Rattle.std.proofs.lemmas.Str.Ascii.{lowercase-lowercase}
 use Rattle.std.proofs.lemmas.Str.Parse.{digit_from_value}
 use Rattle.wap_url.specs.declared.url.Url.{Url}
 use Rattle.wap_url.specs.Characters.{is_scheme, is_scheme_character, is_host, is_host_character, is_allowed, is_colon, is_slash}
-use Rattle.wap_url.specs.Splitting.{begins_with}
+use Rattle.wap_base.specs.Cuts.{begins_with}
 use Rattle.wap_url.specs.Parts.{Parts, is_port, port_number, url_of, IsSplit, Fits, IsUrl, may_be_scheme, may_be_host, may_be_port}
 use Rattle.wap_url.specs.Printing.{parts_for, printed, IsNormal}
 use Rattle.wap_url.proofs.CharacterLaws.{scheme_high, host_high, digit_high, alphabetic_high, allowed_high}

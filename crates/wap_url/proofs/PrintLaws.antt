@@ -4,7 +4,7 @@ use Rattle.std.specs.Str.{chars}
 use Rattle.std.proofs.lemmas.Bool.{cond-true, cond-false, cases_lt, ne_eqb}
 use Rattle.std.proofs.lemmas.Str.{encode_ascii}
 use Rattle.wap_url.specs.Printing.{ends_in_slash, named_page}
-use Rattle.wap_url.proofs.Utf8Laws.{AllHigh, high_bytes, encode_some}
+use Rattle.wap_base.proofs.Utf8Cuts.{AllHigh, high_bytes, encode_some}
 
 pub ends-last : (xs : List ℕ) → 0 < length xs → (get_or xs (length xs - 1) 0 == 47) ≡ ends_in_slash xs
 ends-last [] some = absurd (omega arith)

@@ -5,7 +5,7 @@ use Rattle.wap_url.specs.declared.url.Url.{Url}
 use Rattle.wap_url.specs.declared.fault.UrlFault.{UrlFault}
 use Rattle.wap_url.specs.declared.fault.UrlFault.TheVariants.{BadChar}
 use Rattle.wap_url.specs.Characters.{is_hash}
-use Rattle.wap_url.specs.Splitting.{until, onward, begins_with}
+use Rattle.wap_base.specs.Cuts.{until, onward, begins_with}
 use Rattle.wap_url.specs.Parts.{url_of}
 use Rattle.wap_url.specs.Reading.{is_stop, front, has_bad_char, fault_of, parts_of, parts_with, unless, fragment_of, url_at}
 use Rattle.wap_url.specs.Parts.{IsUrl}

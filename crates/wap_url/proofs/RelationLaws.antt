@@ -13,8 +13,9 @@ use Rattle.wap_url.specs.Characters.{is_slash, is_colon}
 use Rattle.wap_url.specs.Reading.{has_authority}
 use Rattle.wap_url.specs.Segments.{segments, last_segment, all_but_last}
 use Rattle.wap_url.specs.Relative.{same_text, same_segments, same_folder, stands_alone}
-use Rattle.wap_url.proofs.SplitLaws.{HasFirst, HasFirst-split, split-none, split-cut, all_but_last-push, last_segment-push}
-use Rattle.wap_url.proofs.Utf8Laws.{encode_some, split-encodes, no_bytes, none_inside}
+use Rattle.wap_base.proofs.Splits.{HasFirst, HasFirst-split, split-none}
+use Rattle.wap_url.proofs.SplitLaws.{split-cut, all_but_last-push, last_segment-push}
+use Rattle.wap_base.proofs.Utf8Cuts.{encode_some, split-encodes, no_bytes, none_inside}
 use Rattle.wap_url.proofs.JoinLaws.{IsRSplitOnceResult, cut_text, no_char}
 
 none_at : (bs : List ℕ) → ((i : ℕ) → i < length bs → get_or bs i 0 ≢ 47) → list_any is_slash bs ≡ false

@@ -2,7 +2,7 @@
 use Rattle.std.proofs.Common.{◌≡◌, inl, inr, ℕ, ◌≤◌, Bool, true, false, not, ◌&&◌, ◌||◌, ◌==◌, List, [], ◌∷◌, ◌++◌, refl, ap, sym, ◌∙◌, Some, None, Option}
 use Rattle.std.specs.List.{list_all}
 use Rattle.std.proofs.lemmas.Bool.{cases_Bool, cases_lt, and_parts, and_from, cond-true, cond-false, not-true, not-false, not_from_true, not_from_false, eqb-true, eq-eqb, ne_eqb, agree_below, agree_below_at, or_parts, or_left, or_right, or_cases}
-use Rattle.wap_url.specs.Splitting.{until, onward, after_one}
+use Rattle.wap_base.specs.Cuts.{until, onward, after_one}
 use Rattle.wap_url.specs.Parts.{led_by}
 
 -- no character passes

@@ -4,7 +4,7 @@ use Rattle.std.specs.Char.{to_ascii_lowercase}
 use Rattle.wap_url.specs.declared.url.Url.{Url}
 use Rattle.wap_url.specs.declared.access.Access.{Access}
 use Rattle.wap_url.specs.Characters.{is_slash}
-use Rattle.wap_url.specs.Splitting.{begins_with}
+use Rattle.wap_base.specs.Cuts.{begins_with}
 use Rattle.wap_url.specs.Segments.{segments, labels, all_but_last, last_segment, IsPrefix, IsSuffix}
 
 -- the path without a leading slash

@@ -1,23 +1,24 @@
 -- The characters of URLs (RFC 2396, section 2 and appendix A).
 use Rattle.std.specs.Prelude.{ℕ, Bool, ◌==◌, ◌||◌, ◌&&◌, not, List, length, codes}
-use Rattle.wap_url.specs.Splitting.{begins_with}
+use Rattle.wap_base.specs.Cuts.{begins_with}
 use Rattle.std.specs.List.{list_all, list_any}
 use Rattle.std.specs.Char.{is_ascii_graphic, is_ascii_alphabetic, is_ascii_alphanumeric}
+use Rattle.wap_base.specs.Ascii.{number_sign, full_stop, slash, colon, question_mark}
 
 abbrev pub is_hash : ℕ → Bool
-is_hash c = c == 35
+is_hash c = c == number_sign
 
 abbrev pub is_dot : ℕ → Bool
-is_dot c = c == 46
+is_dot c = c == full_stop
 
 abbrev pub is_slash : ℕ → Bool
-is_slash c = c == 47
+is_slash c = c == slash
 
 abbrev pub is_colon : ℕ → Bool
-is_colon c = c == 58
+is_colon c = c == colon
 
 abbrev pub is_question : ℕ → Bool
-is_question c = c == 63
+is_question c = c == question_mark
 
 -- ends a scheme, or what could be one
 abbrev pub ends_scheme : ℕ → Bool

@@ -4,15 +4,16 @@ use Rattle.std.specs.List.{fold}
 use Rattle.std.specs.Str.{bytes_eq}
 use Rattle.wap_url.specs.declared.url.Url.{Url}
 use Rattle.wap_url.specs.Characters.{is_slash}
-use Rattle.wap_url.specs.Splitting.{begins_with}
+use Rattle.wap_base.specs.Cuts.{begins_with}
 use Rattle.wap_url.specs.Segments.{segments, path_of, all_but_last, last_segment}
+use Rattle.wap_base.specs.Ascii.{full_stop, slash}
 
 -- the segments `.` and `..`
 abbrev pub is_here : List ℕ → Bool
-is_here s = bytes_eq s (46 ∷ [])
+is_here s = bytes_eq s (full_stop ∷ [])
 
 abbrev pub is_above : List ℕ → Bool
-is_above s = bytes_eq s (46 ∷ 46 ∷ [])
+is_above s = bytes_eq s (full_stop ∷ full_stop ∷ [])
 
 abbrev pub is_dot_segment : List ℕ → Bool
 is_dot_segment s = is_here s || is_above s
@@ -52,7 +53,7 @@ target base r =
 
 -- under a host an empty path is the root
 abbrev pub rooted : Bool → List ℕ → List ℕ
-rooted under_host path = if under_host && length path == 0 then 47 ∷ [] else path
+rooted under_host path = if under_host && length path == 0 then slash ∷ [] else path
 
 abbrev pub resolved_path : List ℕ → List ℕ
 resolved_path path = path_of (resolved (segments path))

@@ -1,4 +1,3 @@
-pub mod Splitting
 pub mod Characters
 pub mod Parts
 pub mod Reading

@@ -6,7 +6,8 @@ use Rattle.std.specs.Char.{is_ascii_digit, to_ascii_lowercase}
 use Rattle.std.specs.Str.Parse.{digits_value}
 use Rattle.wap_url.specs.declared.url.Url.{Url}
 use Rattle.wap_url.specs.Characters.{is_allowed, is_colon, is_question, is_slash, ends_scheme, ends_authority, is_scheme, is_host}
-use Rattle.wap_url.specs.Splitting.{onward, begins_with}
+use Rattle.wap_base.specs.Cuts.{onward, begins_with}
+use Rattle.wap_base.specs.Ascii.{slash, colon, question_mark, number_sign}
 
 -- The parts. A port is the text after the host's colon, and may be empty.
 pub record Parts : Type 0 where
@@ -27,11 +28,11 @@ led_by lead (Some part) = lead ++ part
 
 abbrev pub authority : Option (List ℕ) → Option (List ℕ) → List ℕ
 authority None port = []
-authority (Some host) port = 47 ∷ 47 ∷ host ++ led_by (58 ∷ []) port
+authority (Some host) port = slash ∷ slash ∷ host ++ led_by (colon ∷ []) port
 
 -- the parts in a row, as section 5.2 puts them together
 abbrev pub spelled : Parts → List ℕ
-spelled p = followed_by 58 p.scheme ++ (authority p.host p.port ++ (p.path ++ (led_by (63 ∷ []) p.query ++ led_by (35 ∷ []) p.fragment)))
+spelled p = followed_by colon p.scheme ++ (authority p.host p.port ++ (p.path ++ (led_by (question_mark ∷ []) p.query ++ led_by (number_sign ∷ []) p.fragment)))
 
 -- an empty port, or one to five digits up to 65535
 abbrev pub is_port : List ℕ → Bool
@@ -83,7 +84,7 @@ pub record IsSplit (text : List ℕ) (p : Parts) : Type 0 where
   pub no_scheme : p.scheme ≡ None → p.host ≡ None → begins_with is_colon (onward ends_word p.path) ≡ false
   -- after a host the path is empty or begins with a slash, and without one it does not begin with two
   pub rooted : IsSome p.host → (p.path ≡ []) ⊎ (begins_with is_slash p.path ≡ true)
-  pub no_host : p.host ≡ None → (rest : List ℕ) → p.path ≢ 47 ∷ 47 ∷ rest
+  pub no_host : p.host ≡ None → (rest : List ℕ) → p.path ≢ slash ∷ slash ∷ rest
 
 -- scheme, host and port are what they may be
 pub record Fits (p : Parts) : Type 0 where

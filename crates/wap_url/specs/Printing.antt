@@ -6,6 +6,7 @@ use Rattle.std.specs.Fmt.{decimal}
 use Rattle.wap_url.specs.declared.url.Url.{Url}
 use Rattle.wap_url.specs.Characters.{is_slash}
 use Rattle.wap_url.specs.Parts.{Parts, spelled, IsSplit, Fits}
+use Rattle.wap_base.specs.Ascii.{colon}
 
 -- the parts that spell the URL
 abbrev pub parts_for : Url → Parts
@@ -40,7 +41,7 @@ pub record IsNormal (u : Url) : Type 0 where
 -- the port of the name: one that is not HTTP's own
 abbrev pub named_port : Option ℕ → List ℕ
 named_port None = []
-named_port (Some port) = if port == 80 then [] else 58 ∷ decimal port
+named_port (Some port) = if port == 80 then [] else colon ∷ decimal port
 
 abbrev pub ends_in_slash : List ℕ → Bool
 ends_in_slash [] = false

@@ -4,12 +4,13 @@ use Rattle.std.specs.List.{list_any}
 use Rattle.std.specs.Str.{bytes_eq}
 use Rattle.wap_url.specs.declared.url.Url.{Url}
 use Rattle.wap_url.specs.Characters.{is_slash, is_colon}
-use Rattle.wap_url.specs.Splitting.{begins_with}
+use Rattle.wap_base.specs.Cuts.{begins_with}
 use Rattle.wap_url.specs.Parts.{led_by, IsUrl}
 use Rattle.wap_url.specs.Reading.{has_authority}
 use Rattle.wap_url.specs.Printing.{page_text, without_fragment, IsNormal}
 use Rattle.wap_url.specs.Segments.{segments, all_but_last, last_segment}
 use Rattle.wap_url.specs.Joining.{joined, is_dot_segment}
+use Rattle.wap_base.specs.Ascii.{question_mark}
 
 abbrev pub same_text : Option (List ℕ) → Option (List ℕ) → Bool
 same_text None None = true
@@ -50,7 +51,7 @@ local_path base path =
 abbrev pub relative_form : Url → Url → List ℕ
 relative_form base u =
     if not (same_site base u) || has_authority u.path then page_text u
-    else local_path base.path u.path ++ led_by (63 ∷ []) u.query
+    else local_path base.path u.path ++ led_by (question_mark ∷ []) u.query
 
 -- a URL as it is read, of a page: with scheme and host (as an http URL has), its path from the root and without dot segments
 pub record IsPage (u : Url) : Type 0 where

@@ -2,6 +2,7 @@
 use Rattle.std.specs.Prelude.{◌≡◌, ℕ, ◌-◌, ◌⊎◌, List, [], ◌∷◌, ◌++◌, length, take}
 use Rattle.std.specs.List.{slice_split, join_with_byte}
 use Rattle.wap_url.specs.Characters.{is_slash, is_dot}
+use Rattle.wap_base.specs.Ascii.{slash}
 
 -- what stands between the slashes of a path
 abbrev pub segments : List ℕ → List (List ℕ)
@@ -9,12 +10,12 @@ segments path = slice_split is_slash path
 
 -- the path of these segments
 abbrev pub path_of : List (List ℕ) → List ℕ
-path_of segments = join_with_byte 47 segments
+path_of segments = join_with_byte slash segments
 
 -- these segments, each with the slash behind it
 abbrev pub folder_of : List (List ℕ) → List ℕ
 folder_of [] = []
-folder_of (s ∷ segments) = s ++ 47 ∷ folder_of segments
+folder_of (s ∷ segments) = s ++ slash ∷ folder_of segments
 
 -- what stands between the dots of a host
 abbrev pub labels : List ℕ → List (List ℕ)

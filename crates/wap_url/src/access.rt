@@ -3,6 +3,7 @@ ghost use Rattle.std.specs.Prelude.{◌≡◌, IsTrue, ◌↔◌, map, length, [
 ghost use Rattle.std.specs.Char.{to_ascii_lowercase};
 ghost use Rattle.wap_url.specs.Segments.{labels, segments, IsPrefix, IsSuffix, EndsAt, BeginsAt};
 ghost use Rattle.wap_url.specs.Access.{below_root, access_segments, without_empty_last};
+ghost use Rattle.wap_base.specs.Ascii.{full_stop, slash};
 
 use crate::Url;
 use wap_base::Text;
@@ -57,7 +58,7 @@ fn ends_in_labels(host: &[u8], domain: &[u8]) -> bool
 }
 
 fn ends_at_dot(lead: &[u8]) -> bool
-    ensures { IsTrue result ↔ EndsAt 46 lead.now }
+    ensures { IsTrue result ↔ EndsAt full_stop lead.now }
 {
     match lead {
         [] => true,
@@ -107,7 +108,7 @@ fn begins_with_all(path: &[u8], lead: &[u8]) -> bool
 }
 
 fn begins_at_slash(rest: &[u8]) -> bool
-    ensures { IsTrue result ↔ BeginsAt 47 rest.now }
+    ensures { IsTrue result ↔ BeginsAt slash rest.now }
 {
     match rest {
         [] => true,

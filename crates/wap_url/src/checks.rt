@@ -2,7 +2,7 @@
 ghost use Rattle.std.specs.Prelude.{◌≡◌, ◌≤◌, length, true, ℕ};
 ghost use Rattle.std.specs.List.{list_all};
 ghost use Rattle.std.specs.Char.{is_ascii_digit, is_ascii_alphabetic};
-ghost use Rattle.wap_url.specs.Splitting.{begins_with};
+ghost use Rattle.wap_base.specs.Cuts.{begins_with};
 ghost use Rattle.std.specs.Str.Parse.{digits_value};
 ghost use Rattle.wap_url.specs.Characters.{is_scheme, is_scheme_character, is_host, is_host_character};
 ghost use Rattle.wap_url.specs.Parts.{is_port};

@@ -1,6 +1,6 @@
 //! Where a part of a URL ends.
 ghost use Rattle.std.specs.Prelude.{◌≡◌, ◌==◌, length, ◌&&◌, not, false};
-ghost use Rattle.wap_url.specs.Splitting.{until, onward, begins_with};
+ghost use Rattle.wap_base.specs.Cuts.{until, onward, begins_with};
 ghost use Rattle.wap_url.specs.Characters.{is_allowed};
 ghost use Rattle.wap_url.specs.Cut.{stops};
 

@@ -1,7 +1,6 @@
 //! Why a text is no URL.
 ghost use Rattle.std.specs.Prelude.{◌≡◌};
 
-use std::alloc::{AllocError, AllocFailed};
 use thiserror::Error;
 use wap_base::NoMemory;
 
@@ -30,26 +29,6 @@ impl From<NoMemory> for UrlFault {
     ghost from_gives = { λ _ fault. fault ≡ fault_variants.NoMemory };
 
     fn from(_error: NoMemory) -> UrlFault {
-        UrlFault::NoMemory
-    }
-}
-
-impl From<AllocError> for UrlFault {
-    ghost use Rattle.wap_url.specs.declared.fault.UrlFault.TheVariants as fault_variants;
-
-    ghost from_gives = { λ _ fault. fault ≡ fault_variants.NoMemory };
-
-    fn from(_error: AllocError) -> UrlFault {
-        UrlFault::NoMemory
-    }
-}
-
-impl<T: Drop> From<AllocFailed<T>> for UrlFault {
-    ghost use Rattle.wap_url.specs.declared.fault.UrlFault.TheVariants as fault_variants;
-
-    ghost from_gives = { λ _ fault. fault ≡ fault_variants.NoMemory };
-
-    fn from(_error: AllocFailed<T>) -> UrlFault {
         UrlFault::NoMemory
     }
 }

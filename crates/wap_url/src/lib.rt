@@ -23,6 +23,3 @@ pub use joining::join;
 pub use printing::{name_of, print};
 pub use relation::relative;
 pub use url::Url;
-
-#[cfg(test)]
-mod tests;

@@ -1,7 +1,7 @@
 //! The parts of what stands before a URL's fragment (RFC 2396, appendix B), each as a slice of it.
 ghost use Rattle.std.specs.Prelude.{◌≡◌, ◌==◌};
 ghost use Rattle.std.specs.Option.{option_copied};
-ghost use Rattle.wap_url.specs.Splitting.{begins_with, after_one};
+ghost use Rattle.wap_base.specs.Cuts.{begins_with, after_one};
 ghost use Rattle.wap_url.specs.Reading.{scheme_of, after_scheme, has_authority, authority_of, after_authority, host_of, port_of, tail_of, path_part, query_part, host_in, port_in};
 
 use crate::cut::{Cut, begins_with_byte, cut_at};

@@ -4,6 +4,7 @@ ghost use Rattle.std.specs.Fmt.{decimal};
 ghost use Rattle.wap_url.specs.Parts.{followed_by, led_by, authority, IsUrl};
 ghost use Rattle.wap_url.specs.Printing.{printed, page_text, parts_for, named_port, named_page, ends_in_slash, name_for, IsNormal};
 ghost use Rattle.std.specs.Option.{option_map, unwrap_or};
+ghost use Rattle.wap_base.specs.Ascii.{colon};
 
 use crate::Url;
 use std::alloc::Global;
@@ -27,14 +28,14 @@ pub fn page(alloc: Global, url: &Url) -> Result<Text, NoMemory>
 {
     let mut text = Text::new(alloc);
     add_scheme(&mut text, &url.scheme)?;
-    add_authority(alloc, &mut text, &url.host, url.port)?;
+    add_authority(&mut text, &url.host, url.port)?;
     text.add(url.path.as_str())?;
     add_led(&mut text, '?', &url.query)?;
     Ok(text)
 }
 
 fn add_scheme(text: &mut Text, scheme: &Option<Text>) -> Result<(), NoMemory>
-    ensures { OnOk result (text.new ≡ text.old ++ followed_by 58 scheme.now) }
+    ensures { OnOk result (text.new ≡ text.old ++ followed_by colon scheme.now) }
 {
     if let Some(scheme) = scheme {
         text.add(scheme.as_str())?;
@@ -43,38 +44,26 @@ fn add_scheme(text: &mut Text, scheme: &Option<Text>) -> Result<(), NoMemory>
     Ok(())
 }
 
-fn add_authority(
-    alloc: Global,
-    text: &mut Text,
-    host: &Option<Text>,
-    port: Option<u16>,
-) -> Result<(), NoMemory>
+fn add_authority(text: &mut Text, host: &Option<Text>, port: Option<u16>) -> Result<(), NoMemory>
     ensures { OnOk result (text.new ≡ text.old ++ authority host.now (option_map decimal port)) }
 {
     if let Some(host) = host {
         text.push('/')?;
         text.push('/')?;
         text.add(host.as_str())?;
-        add_port(alloc, text, port)?;
+        add_port(text, port)?;
     }
     Ok(())
 }
 
-fn add_port(alloc: Global, text: &mut Text, port: Option<u16>) -> Result<(), NoMemory>
-    ensures { OnOk result (text.new ≡ text.old ++ led_by (58 ∷ []) (option_map decimal port)) }
+fn add_port(text: &mut Text, port: Option<u16>) -> Result<(), NoMemory>
+    ensures { OnOk result (text.new ≡ text.old ++ led_by (colon ∷ []) (option_map decimal port)) }
 {
     if let Some(port) = port {
         text.push(':')?;
-        add_number(alloc, text, port)?;
+        text.add_number(u64::from(port))?;
     }
     Ok(())
-}
-
-fn add_number(alloc: Global, text: &mut Text, number: u16) -> Result<(), NoMemory>
-    ensures { OnOk result (text.new ≡ text.old ++ decimal number) }
-{
-    let digits = format!(in alloc; "{number}")?;
-    text.add(digits.as_str())
 }
 
 /// Adds a part behind the character that leads it.
@@ -98,17 +87,17 @@ pub fn name_of(alloc: Global, url: &Url) -> Result<Text, NoMemory>
     if let Some(host) = &url.host {
         name.add(host.as_str())?;
     }
-    add_named_port(alloc, &mut name, url.port)?;
+    add_named_port(&mut name, url.port)?;
     add_named_page(&mut name, &url.path)?;
     Ok(name)
 }
 
-fn add_named_port(alloc: Global, name: &mut Text, port: Option<u16>) -> Result<(), NoMemory>
+fn add_named_port(name: &mut Text, port: Option<u16>) -> Result<(), NoMemory>
     ensures { OnOk result (name.new ≡ name.old ++ named_port port) }
 {
     match port {
         None | Some(80) => Ok(()),
-        Some(_) => add_port(alloc, name, port),
+        Some(_) => add_port(name, port),
     }
 }
 

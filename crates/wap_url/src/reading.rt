@@ -2,14 +2,14 @@
 ghost use Rattle.std.specs.Prelude.{◌≡◌, ◌≢◌, not, false, true, None, IfOk, IfErr, Ok, Err};
 ghost use Rattle.std.specs.Option.{option_and_then};
 ghost use Rattle.wap_base.specs.Outcome.{Meets};
-ghost use Rattle.wap_url.specs.Splitting.{begins_with};
+ghost use Rattle.wap_base.specs.Cuts.{begins_with};
 ghost use Rattle.wap_url.specs.Characters.{is_hash};
 ghost use Rattle.wap_url.specs.Parts.{url_of, port_number, is_port};
 ghost use Rattle.wap_url.specs.Reading.{url_at, has_bad_char, fragment_of, fault_of, fits, parts_with, port_of};
 
 use crate::checks::{fault_in, number};
 use crate::cut::{Cut, cut_at};
-use crate::texts::{lowered_part, text_of, text_of_part};
+use crate::texts::{lowered_part, text_of_part};
 use crate::{Url, UrlFault, parts};
 use std::alloc::Global;
 use wap_base::{NoMemory, Text};
@@ -79,7 +79,7 @@ fn url_of(alloc: Global, front: &[u8], fragment: Option<Text>) -> Result<Url, No
         scheme: lowered_part(alloc, parts::scheme(front))?,
         host: lowered_part(alloc, parts::host(front))?,
         port: port(front),
-        path: text_of(alloc, parts::path(front))?,
+        path: Text::from_latin1(alloc, parts::path(front))?,
         query: text_of_part(alloc, parts::query(front))?,
         fragment,
     })

@@ -6,18 +6,7 @@ ghost use Rattle.std.specs.Option.{option_copied, option_map};
 use std::alloc::Global;
 use wap_base::{NoMemory, Text};
 
-/// The text whose characters are these bytes.
-pub fn text_of(alloc: Global, bytes: &[u8]) -> Result<Text, NoMemory>
-    ensures { IfOk result (λ text. text ≡ bytes.now) }
-{
-    let mut text = Text::new(alloc);
-    for byte in bytes {
-        text.push(char::from(*byte))?;
-    }
-    Ok(text)
-}
-
-/// The same in lower case.
+/// The text whose characters are these bytes, in lower case.
 pub fn lowered_text(alloc: Global, bytes: &[u8]) -> Result<Text, NoMemory>
     ensures { IfOk result (λ text. text ≡ map to_ascii_lowercase bytes.now) }
 {
@@ -32,7 +21,7 @@ pub fn text_of_part(alloc: Global, part: Option<&[u8]>) -> Result<Option<Text>, 
     ensures { IfOk result (λ text. text ≡ option_copied part.entry) }
 {
     match part {
-        Some(bytes) => Ok(Some(text_of(alloc, bytes)?)),
+        Some(bytes) => Ok(Some(Text::from_latin1(alloc, bytes)?)),
         None => Ok(None),
     }
 }

@@ -5,5 +5,4 @@ pub mod Arithmetic
 pub mod Order
 pub mod Unary
 pub mod Binary
-pub mod Limits
 pub mod TooLong

@@ -12,8 +12,6 @@ mod conversion;
 mod fault;
 mod one_operand;
 mod operator;
-#[cfg(test)]
-mod tests;
 mod two_operands;
 mod value;
 

@@ -2,7 +2,7 @@
 ghost use Rattle.std.specs.Prelude.{◌≡◌, ℕ, Err};
 ghost use Rattle.wap_value.specs.Binary.{TakesBoth, binary_of, sum_of, on_integers};
 ghost use Rattle.wap_value.specs.Conversion.{integer_of};
-ghost use Rattle.wap_value.specs.Limits.{string_limit};
+ghost use Rattle.wap_base.specs.Limits.{IsStringLimit};
 ghost use Rattle.wap_base.specs.Outcome.{Meets};
 ghost use Rattle.wap_value.specs.TooLong.{kept_within, IsTooLong};
 
@@ -13,16 +13,23 @@ use crate::one_operand::{of_boolean, of_integer};
 use crate::{BinOp, Value, ValueFault, to_int};
 use std::alloc::Global;
 
-/// What an operator makes of two values. `&&`, `||` and `,` are no such operators: the machine
-/// takes their operands one at a time.
+/// What an operator makes of two values, where a String has at most `string` bytes of UTF-8. `&&`,
+/// `||` and `,` are no such operators: the machine takes their operands one at a time.
 #[tactic(auto, using(crate::proofs::Kept::on_integers_is_kept))]
-pub fn binary(alloc: Global, op: BinOp, left: &Value, right: &Value) -> Result<Value, ValueFault>
-    requires { TakesBoth op }
-    ensures value { Meets ValueFault.NoMemory (λ value. value) result (kept_within string_limit (binary_of op left.now right.now)) }
-    ensures too_long { (bytes : ℕ) → result ≡ Err (ValueFault.TooLong bytes) → IsTooLong string_limit (binary_of op left.now right.now) bytes }
+pub fn binary(
+    alloc: Global,
+    op: BinOp,
+    left: &Value,
+    right: &Value,
+    string: u32,
+) -> Result<Value, ValueFault>
+    requires operator { TakesBoth op }
+    requires limit { IsStringLimit string }
+    ensures value { Meets ValueFault.NoMemory (λ value. value) result (kept_within string (binary_of op left.now right.now)) }
+    ensures too_long { (bytes : ℕ) → result ≡ Err (ValueFault.TooLong bytes) → IsTooLong string (binary_of op left.now right.now) bytes }
 {
     match op {
-        BinOp::Add => sum(alloc, left, right),
+        BinOp::Add => sum(alloc, left, right, string),
         BinOp::Lt | BinOp::Le | BinOp::Gt | BinOp::Ge | BinOp::Eq | BinOp::Ne => {
             let order = order(alloc, left, right)?;
             Ok(of_boolean(order.map(|order| passes(op, order))))
@@ -42,11 +49,11 @@ pub fn binary(alloc: Global, op: BinOp, left: &Value, right: &Value) -> Result<V
     }
 }
 
-fn sum(alloc: Global, left: &Value, right: &Value) -> Result<Value, ValueFault>
-    ensures { Meets ValueFault.NoMemory (λ value. value) result (kept_within string_limit (sum_of left.now right.now)) }
+fn sum(alloc: Global, left: &Value, right: &Value, string: u32) -> Result<Value, ValueFault>
+    ensures { Meets ValueFault.NoMemory (λ value. value) result (kept_within string (sum_of left.now right.now)) }
 {
     match (left, right) {
-        (Value::Str(_), _) | (_, Value::Str(_)) => concatenation(alloc, left, right),
+        (Value::Str(_), _) | (_, Value::Str(_)) => concatenation(alloc, left, right, string),
         _ => Ok(of_integers(BinOp::Add, left, right)),
     }
 }

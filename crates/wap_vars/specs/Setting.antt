@@ -6,17 +6,18 @@ use Rattle.wap_base.specs.declared.name.NameFault.{NameFault}
 use Rattle.wap_base.specs.declared.name.NameFault.TheVariants as name_faults
 use Rattle.wap_vars.specs.declared.fault.VarFault.{VarFault}
 use Rattle.wap_vars.specs.declared.fault.VarFault.TheVariants.{BadName, TooLong, Full, NoMemory}
+use Rattle.wap_vars.specs.declared.vars.TheConstants.{VAR_LIMIT, TEXT_LIMIT}
 use Rattle.wap_vars.specs.Vars.{text_of, updated}
 
--- 1,024 names are kept, and this is none of them
+-- as many names are kept as may be, and this is none of them
 abbrev pub has_no_room : List (List ℕ × List ℕ) → List ℕ → Bool
-has_no_room vars name = nat_le 1024 (length vars) && not (is_some (text_of vars name))
+has_no_room vars name = nat_le VAR_LIMIT (length vars) && not (is_some (text_of vars name))
 
 -- the variables after a text is set under a name, or the first cause to refuse it
 abbrev pub set_in : List (List ℕ × List ℕ) → List ℕ → List ℕ → Result (List (List ℕ × List ℕ)) VarFault
 set_in vars name text =
     if not (is_name name) then Err BadName
-    else (if nat_lt 65535 (utf8_len text) then Err (TooLong (utf8_len text))
+    else (if nat_lt TEXT_LIMIT (utf8_len text) then Err (TooLong (utf8_len text))
     else (if has_no_room vars name then Err Full
     else Ok (updated vars name text)))
 

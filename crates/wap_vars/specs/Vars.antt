@@ -7,6 +7,7 @@ use Rattle.std.specs.BTreeMap.{insert_entry}
 use Rattle.wap_base.specs.Names.{is_name}
 use Rattle.wap_base.specs.Texts.{is_same_text, text_cmp}
 use Rattle.wap_base.specs.Utf8.{utf8_len}
+use Rattle.wap_vars.specs.declared.vars.TheConstants.{VAR_LIMIT, TEXT_LIMIT}
 
 -- the text under the name, where one is set
 abbrev pub text_of : List (List ℕ × List ℕ) → List ℕ → Option (List ℕ)
@@ -28,5 +29,5 @@ AreInOrder vars = IsStrictlySortedBy text_cmp (keys_of vars)
 pub record AreVars (vars : List (List ℕ × List ℕ)) : Type 0 where
   pub ordered : AreInOrder vars
   pub named : All (λ (name : List ℕ). is_name name ≡ true) (keys_of vars)
-  pub few : length vars ≤ 1024
-  pub short : All (λ (text : List ℕ). utf8_len text ≤ 65535) (values_of vars)
+  pub few : length vars ≤ VAR_LIMIT
+  pub short : All (λ (text : List ℕ). utf8_len text ≤ TEXT_LIMIT) (values_of vars)

@@ -1,7 +1,7 @@
 //! Why a variable isn't set.
 ghost use Rattle.std.specs.Prelude.{◌≡◌};
 
-use std::alloc::{AllocError, AllocFailed};
+use std::alloc::AllocFailed;
 use thiserror::Error;
 use wap_base::{NameFault, NoMemory};
 
@@ -39,16 +39,6 @@ impl From<NoMemory> for VarFault {
     ghost from_gives = { λ _ fault. fault ≡ fault_variants.NoMemory };
 
     fn from(_error: NoMemory) -> VarFault {
-        VarFault::NoMemory
-    }
-}
-
-impl From<AllocError> for VarFault {
-    ghost use Rattle.wap_vars.specs.declared.fault.VarFault.TheVariants as fault_variants;
-
-    ghost from_gives = { λ _ fault. fault ≡ fault_variants.NoMemory };
-
-    fn from(_error: AllocError) -> VarFault {
         VarFault::NoMemory
     }
 }

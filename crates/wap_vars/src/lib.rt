@@ -8,7 +8,4 @@ pub mod laws;
 mod vars;
 
 pub use fault::VarFault;
-pub use vars::Vars;
-
-#[cfg(test)]
-mod tests;
+pub use vars::{TEXT_LIMIT, VAR_LIMIT, Vars};

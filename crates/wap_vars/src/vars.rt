@@ -13,11 +13,11 @@ use std::collections::BTreeMap;
 use std::marker::Model;
 use wap_base::{Name, NoMemory, Text};
 
-/// How many variables are kept.
-const MOST: usize = 1024;
+/// How many variables are kept at most.
+pub const VAR_LIMIT: usize = 1024;
 
-/// How many bytes of UTF-8 a variable's text may have.
-const LONGEST: usize = 65535;
+/// How many bytes of UTF-8 a variable's text has at most.
+pub const TEXT_LIMIT: usize = 65_535;
 
 /// The variables of the browser (WAP-191, section 10.3). A contract sees the pairs of a name and its text, in
 /// ascending order of names.
@@ -50,17 +50,10 @@ impl Vars {
         }
     }
 
-    /// What is true of all variables that are kept, for a caller's proof. It does nothing.
-    pub fn keep_limits(&self)
-        ensures { AreVars self.now }
-    {
-        let _ = &self.texts;
-    }
-
     /// The text of a variable that is set.
     pub fn get(&self, name: &Name) -> Option<&Text>
         ensures value { option_copied result ≡ text_of self.now name.now }
-        ensures short { IfSome result (λ text. utf8_len text.now ≤ 65535) }
+        ensures short { IfSome result (λ text. utf8_len text.now ≤ TEXT_LIMIT) }
     {
         self.texts.get(name)
     }
@@ -73,8 +66,8 @@ impl Vars {
 
         // What each fault says. A bad name is told even where memory is wanting.
         ensures bad_name { IsErrOf result VarFault.BadName ↔ (is_name name.now ≡ false) }
-        ensures too_long { (bytes : ℕ) → IsErrOf result (VarFault.TooLong bytes) → (bytes ≡ utf8_len value) × (65535 < bytes) }
-        ensures full { IsErrOf result VarFault.Full → (length self.old ≡ 1024) × (text_of self.old name.now ≡ None) }
+        ensures too_long { (bytes : ℕ) → IsErrOf result (VarFault.TooLong bytes) → (bytes ≡ utf8_len value) × (TEXT_LIMIT < bytes) }
+        ensures full { IsErrOf result VarFault.Full → (length self.old ≡ VAR_LIMIT) × (text_of self.old name.now ≡ None) }
 
         // What is read afterwards.
         ensures here { OnOk result (text_of self.new name.now ≡ Some value) }
@@ -82,10 +75,10 @@ impl Vars {
     {
         let name = Name::of(self.alloc, name)?;
         let bytes = value.len();
-        if bytes > LONGEST {
+        if bytes > TEXT_LIMIT {
             return Err(VarFault::TooLong { bytes });
         }
-        if self.texts.len() >= MOST && !self.texts.contains_key(&name) {
+        if self.texts.len() >= VAR_LIMIT && !self.texts.contains_key(&name) {
             return Err(VarFault::Full);
         }
         self.texts.insert(name, value)?;

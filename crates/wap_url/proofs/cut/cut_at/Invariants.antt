@@ -1,5 +1,5 @@
 use Rattle.std.proofs.Common.{◌≡◌, ◌++◌, take, drop}
-use Rattle.wap_url.specs.Splitting.{until, onward}
+use Rattle.wap_base.specs.Cuts.{until, onward}
 use Rattle.wap_url.specs.Cut.{stops}
 use Rattle.wap_url.proofs.cut.cut_at.Given as goal
 

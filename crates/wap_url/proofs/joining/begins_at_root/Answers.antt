@@ -1,6 +1,6 @@
 use Rattle.std.proofs.Common.{ap, ◌∙◌}
 use Rattle.wap_url.specs.Characters.{is_slash}
-use Rattle.wap_url.specs.Splitting.{begins_with}
+use Rattle.wap_base.specs.Cuts.{begins_with}
 use Rattle.wap_url.proofs.JoinLaws.{begins-encodes}
 use Rattle.wap_url.proofs.joining.begins_at_root.Goals as goal
 

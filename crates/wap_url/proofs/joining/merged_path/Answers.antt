@@ -1,7 +1,7 @@
 use Rattle.std.proofs.Common.{◌++◌, ap, ap₂, sym, ◌∙◌}
 use Rattle.std.proofs.lemmas.Bool.{cond-false}
 use Rattle.wap_url.specs.Characters.{is_slash}
-use Rattle.wap_url.specs.Splitting.{begins_with}
+use Rattle.wap_base.specs.Cuts.{begins_with}
 use Rattle.wap_url.specs.Segments.{segments, path_of}
 use Rattle.wap_url.specs.Joining.{lead_segments}
 use Rattle.wap_url.proofs.JoinLaws.{path-lead}

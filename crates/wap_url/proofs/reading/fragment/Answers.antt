@@ -1,7 +1,7 @@
 use Rattle.std.proofs.Common.{◌≡◌, ℕ, ◌+◌, ◌<◌, true, false, List, length, drop, ap, sym, ◌∙◌, arith, subst, Some, encode_utf8_all, IsCharBoundary, ◌==◌}
 use Rattle.std.specs.Str.{chars, all_scalars}
 use Rattle.std.proofs.lemmas.Bool.{eqb-true, eqb-false}
-use Rattle.wap_url.specs.Splitting.{until, onward, after_one}
+use Rattle.wap_base.specs.Cuts.{until, onward, after_one}
 use Rattle.wap_url.specs.Reading.{is_stop, has_bad_char}
 use Rattle.wap_url.proofs.FrontLaws.{HasFragment, has_fragment, no_fragment, behind_hash, fragment_text}
 use Rattle.wap_url.proofs.reading.fragment.Goals as goal

@@ -1,20 +1,19 @@
 use Rattle.std.proofs.Common.{sym, ap, ◌∙◌, length, ◌+◌, ◌++◌}
 use Rattle.std.proofs.Common.{Ok}
 use Rattle.wap_value.specs.declared.value.Value.TheVariants.{Str}
-use Rattle.wap_value.specs.Limits.{string_limit}
 use Rattle.wap_value.proofs.Kept.{joined_len, long_is_refused, short_is_kept}
 use Rattle.wap_value.proofs.concatenation.joined.Goals as goal
 
-pub returns-then-bytes-gt-STRING_LIMIT : goal.returns-then-bytes-gt-STRING_LIMIT
-returns-then-bytes-gt-STRING_LIMIT c = λ _.
-    long_is_refused string_limit (length c.as_str.result.now + length c.as_str-2.result.now) (c.args.text ++ c.args.more.now)
+pub returns-then-bytes-limit : goal.returns-then-bytes-limit
+returns-then-bytes-limit c = λ _.
+    long_is_refused c.args.string (length c.as_str.result.now + length c.as_str-2.result.now) (c.args.text ++ c.args.more.now)
     (joined_len c.args.text c.args.more.now c.as_str.result.now c.as_str-2.result.now c.as_str.ensures.bytes c.as_str-2.ensures.bytes)
-    c.if-bytes-gt-STRING_LIMIT.true
+    c.if-bytes-limit.true
 
 pub returns : goal.returns
 returns c =
-    short_is_kept string_limit (length c.as_str.result.now + length c.as_str-2.result.now) (c.args.text ++ c.args.more.now)
+    short_is_kept c.args.string (length c.as_str.result.now + length c.as_str-2.result.now) (c.args.text ++ c.args.more.now)
     (joined_len c.args.text c.args.more.now c.as_str.result.now c.as_str-2.result.now c.as_str.ensures.bytes c.as_str-2.ensures.bytes)
-    c.if-bytes-gt-STRING_LIMIT.false
+    c.if-bytes-limit.false
     ∙ ap (λ more. Ok (Str (c.args.text ++ more))) (sym c.as_str-3.ensures.characters)
     ∙ ap (λ text. Ok (Str text)) (sym c.in_ok-add.ensures.ok)

@@ -1,6 +1,7 @@
 use Rattle.std.proofs.Common.{◌≤◌, ◌∙◌, ap, sym, subst, List, ℕ, Option}
 use Rattle.std.specs.Option.{IfSome}
 use Rattle.wap_base.specs.Utf8.{utf8_len}
+use Rattle.wap_vars.specs.declared.vars.TheConstants.{TEXT_LIMIT}
 use Rattle.wap_vars.specs.Vars.{text_of}
 use Rattle.wap_vars.proofs.TextLaws.{lookup_by_order, found_text, if_copied}
 use Rattle.wap_vars.proofs.vars.Vars.get.Goals as goal
@@ -10,6 +11,6 @@ returns-clause-value c = c.get.ensures.value ∙ lookup_by_order c.args.name.now
 
 pub returns-clause-short : goal.returns-clause-short
 returns-clause-short c =
-    let P : List ℕ → Type 0 = λ text. utf8_len text ≤ 65535 in
+    let P : List ℕ → Type 0 = λ text. utf8_len text ≤ TEXT_LIMIT in
     let Q : Option (List ℕ) → Type 0 = λ found. IfSome found P in
     if_copied P c.get.result (subst Q (sym c.get.ensures.value) (found_text P _ c.self.inside.texts.entries c.self.invariant.short))
