@@ -1,70 +1,98 @@
--- Bytes and the documents that they spell.
-use Rattle.std.specs.Prelude.{◌≡◌, ℕ, List, [], ◌∷◌, map, Option, Some, None}
-use Rattle.wap_base.specs.declared.name.Conv.TheVariants.{Plain}
+-- Documents and the bytes that spell them (WAP-192, section 5).
+use Rattle.std.specs.Prelude.{◌≡◌, ℕ, Bool, true, false, ◌==◌, ◌||◌, ◌&&◌, nat_le, if◌then◌else◌, codes, List, [], ◌∷◌, Option, Some, None}
+use Rattle.wap_base.specs.Numbers.{IsMb}
+use Rattle.wap_base.specs.Texts.{is_same_text}
+use Rattle.wap_markup.specs.declared.codes.TheConstants.{PI}
 use Rattle.wap_markup.specs.declared.document.Document.{Document}
+use Rattle.wap_markup.specs.declared.document.TheConstants.{LEVEL_LIMIT}
 use Rattle.wap_markup.specs.declared.document.Element.{Element}
 use Rattle.wap_markup.specs.declared.document.Attr.{Attr}
-use Rattle.wap_markup.specs.declared.document.Piece.{Piece}
-use Rattle.wap_markup.specs.declared.document.Piece.TheVariants as piece
-use Rattle.wap_markup.specs.declared.document.Token.TheVariants.{Code}
-use Rattle.wap_markup.specs.declared.document.Kid.{Kid}
-use Rattle.wap_markup.specs.declared.document.Kid.TheVariants as kid
-use Rattle.wap_markup.specs.Form.{Value, word, variable, Setvar, Way, go, prev, refresh, Task, Part, paragraph, a_do, Attribute, id, title, Card, IsPage, page_bytes}
+use Rattle.wap_base.specs.declared.charset.Charset.{Charset}
+use Rattle.wap_markup.specs.declared.mark.Lead.{Lead}
+use Rattle.wap_markup.specs.declared.mark.Identifier.{Identifier}
+use Rattle.wap_markup.specs.declared.mark.Identifier.TheVariants.{Numbered, Named}
+use Rattle.wap_markup.specs.declared.mark.ContentMark.{ContentMark}
+use Rattle.wap_markup.specs.declared.mark.ContentMark.TheVariants as content
+use Rattle.wap_base.specs.Charsets.{charset_of}
+use Rattle.wap_markup.specs.Codes.{content_mark}
+use Rattle.wap_markup.specs.Spellings.{Then, Told, Given, Never, ManyOf}
+use Rattle.wap_markup.specs.Strings.{Strings, string_from}
+use Rattle.wap_markup.specs.Grammar.{State, IsLead, IsOpaque, IsInstruction, IsElement}
 
--- an element and an attribute, by their codes on page 0
-abbrev pub element : ℕ → List Attr → List Kid → Element
-element code attrs kids = record { page = 0; tag = Code code; attrs = attrs; kids = kids }
+-- WBXML 1.1 to 1.3
+abbrev pub is_version : ℕ → Bool
+is_version byte = nat_le 1 byte && nat_le byte 3
 
-abbrev pub attribute : ℕ → List Piece → Attr
-attribute code value = record { page = 0; start = Code code; value = value }
+abbrev pub IsVersion : List ℕ → ℕ → Type 0
+IsVersion bytes version = (bytes ≡ version ∷ []) × (is_version version ≡ true)
 
--- an attribute of one string
-abbrev pub plain : ℕ → List ℕ → Attr
-plain code text = attribute code (piece.Str text ∷ [])
+-- WML 1.1 to 1.3, by number and by name (section 7.2)
+abbrev pub is_public : ℕ → Bool
+is_public number = number == 4 || (number == 9 || number == 10)
 
--- a value in an attribute, and in content
-abbrev pub value_piece : Value → Piece
-value_piece (word text) = piece.Str text
-value_piece (variable name) = piece.Var name Plain
+unfoldable pub public_named : List ℕ → Option ℕ
+public_named name =
+    if is_same_text name (codes "-//WAPFORUM//DTD WML 1.1//EN") then Some 4 else
+    if is_same_text name (codes "-//WAPFORUM//DTD WML 1.2//EN") then Some 9 else
+    if is_same_text name (codes "-//WAPFORUM//DTD WML 1.3//EN") then Some 10 else None
 
-abbrev pub value_kid : Value → Kid
-value_kid (word text) = kid.Str text
-value_kid (variable name) = kid.Var name Plain
+-- 0 stands before the index of a name in the string table
+abbrev pub IsIdentifierBehind : ℕ → Bool → List ℕ → Identifier → Type 0
+IsIdentifierBehind number true bytes identifier = Told Named IsMb bytes identifier
+IsIdentifierBehind number false bytes identifier = Given (Numbered number) bytes identifier × (is_public number ≡ true)
 
-abbrev pub setvar_tree : Setvar → Kid
-setvar_tree setvar = kid.Element (element 0x3E (plain 0x21 setvar.name ∷ attribute 0x4D (value_piece setvar.value ∷ []) ∷ []) [])
+abbrev pub IsIdentifier : List ℕ → Identifier → Type 0
+IsIdentifier = Then IsMb (λ number. IsIdentifierBehind number (number == 0))
 
--- a task's element, with this content
-abbrev pub way_tree : Way → List Kid → Kid
-way_tree (go fragment) kids = kid.Element (element 0x2B (plain 0x4A (0x23 ∷ fragment) ∷ []) kids)
-way_tree prev kids = kid.Element (element 0x32 [] kids)
-way_tree refresh kids = kid.Element (element 0x36 [] kids)
+-- the number that an identifier stands for, which takes no bytes
+abbrev pub IsPublic : List ℕ → Identifier → List ℕ → ℕ → Type 0
+IsPublic table (Numbered number) bytes public = Given number bytes public
+IsPublic table (Named index) bytes public = (bytes ≡ []) × (public_named (string_from table index) ≡ Some public)
 
-abbrev pub task_tree : Task → Kid
-task_tree task = way_tree task.way (map setvar_tree task.setvars)
+-- a character set by its number
+abbrev pub IsCharset : List ℕ → ℕ × Charset → Type 0
+IsCharset bytes charset = IsMb bytes charset.0 × (charset_of charset.0 ≡ Some charset.1)
 
--- a do's attributes: its type, and its label if it has one
-abbrev pub do_attrs : List ℕ → Option (List ℕ) → List Attr
-do_attrs kind None = plain 0x37 kind ∷ []
-do_attrs kind (Some label) = plain 0x37 kind ∷ plain 0x18 label ∷ []
+-- ---- the body: processing instructions, the root and processing instructions
 
-abbrev pub part_tree : Part → Kid
-part_tree (paragraph value) = kid.Element (element 0x20 [] (value_kid value ∷ []))
-part_tree (a_do action) = kid.Element (element 0x28 (do_attrs action.kind action.label) (task_tree action.task ∷ []))
+-- a processing instruction outside the root
+abbrev pub IsOuter : Strings → State → List ℕ → Attr × State → Type 0
+IsOuter strings before bytes x = (rest : List ℕ) × (bytes ≡ PI ∷ rest) × IsInstruction strings before rest x
 
-abbrev pub attribute_tree : Attribute → Attr
-attribute_tree (id text) = plain 0x55 text
-attribute_tree (title text) = plain 0x36 text
+abbrev pub IsRootBehind : Strings → State → Lead → ContentMark → List ℕ → Element × State → Type 0
+IsRootBehind strings before lead content.Element = IsElement strings LEVEL_LIMIT before lead
+IsRootBehind strings before lead content.Pi = Never
+IsRootBehind strings before lead (content.Leaf mark) = Never
+IsRootBehind strings before lead content.End = Never
+IsRootBehind strings before lead content.Nothing = Never
 
-abbrev pub card_tree : Card → Kid
-card_tree card = kid.Element (element 0x27 (map attribute_tree card.attributes) (map part_tree card.parts))
+unfoldable pub IsRoot : Strings → State → List ℕ → Element × State → Type 0
+IsRoot strings before = Then (IsLead before.tag_page) (λ lead. IsRootBehind strings before lead (content_mark lead))
 
-abbrev pub page_tree : List Card → Document
-page_tree cards = record { version = 3; public = 10; charset = 106; root = element 0x3F [] (map card_tree cards) }
+abbrev pub first_state : State
+first_state = record { tag_page = 0; attribute_page = 0; in_root = false; names = [] }
+
+abbrev pub into_root : State → State
+into_root state = record state { in_root = true }
+
+abbrev pub out_of_root : State → State
+out_of_root state = record state { in_root = false }
+
+unfoldable pub IsBody : Strings → List ℕ → Element → Type 0
+IsBody strings =
+    Then (ManyOf (IsOuter strings) first_state) (λ before.
+    Then (IsRoot strings (into_root before.1)) (λ root.
+    Told (λ after. root.0) (ManyOf (IsOuter strings) (out_of_root root.1))))
+
+-- ---- the whole
 
 -- the bytes spell the document
-pub record IsDocument (bytes : List ℕ) (document : Document) : Type 0 where
-  pub cards : List Card
-  pub form : IsPage cards
-  pub spelled : bytes ≡ page_bytes cards
-  pub meant : document ≡ page_tree cards
+unfoldable pub IsDocument : List ℕ → Document → Type 0
+IsDocument =
+    Then IsVersion (λ version.
+    Then IsIdentifier (λ identifier.
+    Then IsCharset (λ charset.
+    Then IsOpaque (λ table.
+    Then (IsPublic table identifier) (λ public.
+    Told (λ root. record { version = version; public = public; charset = charset.0; root = root })
+    (IsBody (record { charset = charset.1; table = table })))))))

@@ -1,3 +1,15 @@
-pub mod Form
+pub mod Codes
+pub mod Charsets
+pub mod Strings
+pub mod Spellings
+pub mod Grammar
 pub mod Documents
+pub mod Tables
 pub mod Decks
+pub mod Trees
+pub mod Cards
+pub mod Tasks
+pub mod Shown
+pub mod Normal
+pub mod Writing
+pub mod Good

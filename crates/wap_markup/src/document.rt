@@ -2,6 +2,9 @@
 //! table resolved, nothing yet of what they mean.
 use wap_base::{Bytes, Conv, Rows, Text};
 
+/// The most levels that the elements of a document have, the root's being the first.
+pub const LEVEL_LIMIT: u32 = 64;
+
 /// A document.
 #[derive(Debug, Drop, PartialEq, Eq)]
 pub struct Document {

@@ -1,0 +1,62 @@
+-- The decks that documents mean: at most 64 levels, known tags below the root, and neighbouring literals and
+-- neighbouring texts joined. This project's own.
+use Rattle.std.specs.Prelude.{◌≡◌, ◌≢◌, ℕ, zero, suc, ◌-◌, true, map, List, [], ◌∷◌}
+use Rattle.std.specs.List.{flat_map, AllByRecursion}
+use Rattle.wap_markup.specs.declared.document.TheConstants.{LEVEL_LIMIT}
+use Rattle.wap_base.specs.declared.name.Part.{Part}
+use Rattle.wap_base.specs.declared.name.Part.TheVariants.{Lit, Var}
+use Rattle.wap_base.specs.Names.{is_name}
+use Rattle.wap_markup.specs.declared.deck.Deck.{Deck}
+use Rattle.wap_markup.specs.declared.deck.Node.{Node}
+use Rattle.wap_markup.specs.declared.deck.Item.{Item, out-Item}
+use Rattle.wap_markup.specs.declared.deck.Item.TheOpen.{Item-F}
+use Rattle.wap_markup.specs.declared.name.Tag.TheVariants as tags
+use Rattle.wap_markup.specs.declared.name.AttrName.{AttrName}
+use Rattle.wap_markup.specs.Trees.{ItemLevel}
+use Rattle.wap_markup.specs.Decks.{joined, Mark, part, node, items_of}
+
+-- ---- values
+
+-- a literal has a character, and a reference the name of a variable
+abbrev pub IsPart : Part → Type 0
+IsPart (Lit text) = text ≢ []
+IsPart (Var name conv) = is_name name ≡ true
+
+pub record IsValue (parts : List Part) : Type 0 where
+  pub each : AllByRecursion IsPart parts
+  pub together : joined parts ≡ parts
+
+abbrev pub IsAttribute : AttrName × List Part → Type 0
+IsAttribute attribute = IsValue attribute.1
+
+-- ---- content
+
+abbrev pub marks_in : ItemLevel → List Mark
+marks_in (Item-F.Text parts) = map part parts
+marks_in (Item-F.Node one) = node one ∷ []
+
+-- the parts of texts and the nodes, one by one
+abbrev pub marks_of : List Item → List Mark
+marks_of items = flat_map (λ item. marks_in (out-Item item)) items
+
+abbrev pub IsItem : (Node → Type 0) → ItemLevel → Type 0
+IsItem inner (Item-F.Text parts) = AllByRecursion IsPart parts
+IsItem inner (Item-F.Node one) = inner one
+
+pub record IsContent (inner : Node → Type 0) (items : List Item) : Type 0 where
+  pub each : AllByRecursion (λ item. IsItem inner (out-Item item)) items
+  pub together : items_of (marks_of items) ≡ items
+
+pub record IsElement (inner : Node → Type 0) (one : Node) : Type 0 where
+  pub known : one.tag ≢ tags.Other
+  pub attributes : AllByRecursion IsAttribute one.attrs
+  pub content : IsContent inner one.kids
+
+-- a node of at most so many levels
+abbrev pub IsNode : ℕ → Node → Type 0
+IsNode zero one = ⊥
+IsNode (suc levels) one = IsElement (IsNode levels) one
+
+pub record IsNormal (deck : Deck) : Type 0 where
+  pub attributes : AllByRecursion IsAttribute deck.root.attrs
+  pub content : IsContent (IsNode (LEVEL_LIMIT - 1)) deck.root.kids
