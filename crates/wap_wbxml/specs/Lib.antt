@@ -1,6 +1,4 @@
-pub mod Steps
-pub mod Strings
-pub mod Tasks
-pub mod Parts
-pub mod Cards
-pub mod Reading
+pub mod Places
+pub mod Refusals
+pub mod Refusal
+pub mod reading

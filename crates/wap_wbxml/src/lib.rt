@@ -1,20 +1,17 @@
-//! WBXML (WAP-192), as far as it is read so far.
+//! WBXML (WAP-192): the documents that bytes spell.
 #![tactic(auto)]
 
-mod cards;
-mod characters;
+mod attributes;
+mod documents;
 mod elements;
 mod fault;
-mod front;
-mod page;
-mod parts;
-mod strings;
-mod tasks;
-mod values;
+mod fronts;
+mod header;
+mod input;
+mod leaves;
+mod marks;
+mod state;
 
+pub use documents::{decode, no_two_documents};
 pub use fault::DocFault;
-pub use page::decode;
 pub use wap_markup::{Attr, Document, Element, Kid, Piece, Token};
-
-#[cfg(test)]
-mod tests;

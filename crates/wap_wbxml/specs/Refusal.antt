@@ -1,0 +1,299 @@
+-- What is refused: a front of whole parts, and behind it what can't stand there. Places are counted from the
+-- beginning of the input, of which these bytes are the last. This project's own.
+use Rattle.std.specs.Prelude.{◌≡◌, ◌≢◌, ℕ, zero, suc, ◌<◌, ◌≤◌, ◌^◌, Bool, true, false, ◌==◌, ◌⊎◌, List, [], ◌∷◌, ◌++◌, length, None}
+use Rattle.std.specs.List.{list_all}
+use Rattle.wap_base.specs.Numbers.{IsMb, EndsInside, IsTooLong}
+use Rattle.wap_markup.specs.declared.codes.TheConstants.{SWITCH_PAGE, PI}
+use Rattle.wap_markup.specs.declared.document.Attr.{Attr}
+use Rattle.wap_markup.specs.declared.document.TheConstants.{LEVEL_LIMIT}
+use Rattle.wap_base.specs.declared.charset.Charset.{Charset}
+use Rattle.wap_markup.specs.declared.mark.Identifier.{Identifier}
+use Rattle.wap_markup.specs.declared.mark.Identifier.TheVariants.{Numbered, Named}
+use Rattle.wap_markup.specs.declared.mark.Lead.{Lead}
+use Rattle.wap_markup.specs.declared.mark.LeafMark.{LeafMark}
+use Rattle.wap_markup.specs.declared.mark.LeafMark.TheVariants as mark
+use Rattle.wap_markup.specs.declared.mark.ContentMark.{ContentMark}
+use Rattle.wap_markup.specs.declared.mark.ContentMark.TheVariants as content
+use Rattle.wap_markup.specs.declared.mark.AttributeMark.{AttributeMark}
+use Rattle.wap_markup.specs.declared.mark.AttributeMark.TheVariants as attribute
+use Rattle.wap_base.specs.Charsets.{charset_of}
+use Rattle.wap_markup.specs.Charsets.{IsText, is_character}
+use Rattle.wap_markup.specs.Codes.{content_mark, attribute_mark, is_end, begins_piece, is_named, has_attributes, has_content}
+use Rattle.wap_markup.specs.Spellings.{When, ManyOf}
+use Rattle.wap_markup.specs.Strings.{Strings, IsIndexed, is_not_zero, string_from}
+use Rattle.wap_markup.specs.Grammar as grammar
+use Rattle.wap_markup.specs.Grammar.{State, IsLead, IsName, IsPiece, IsAttribute, IsAttributes, IsInstruction, IsKid, IsElement, Elements, counted, table_size, on_attribute_page, on_tag_page}
+use Rattle.wap_markup.specs.Documents as documents
+use Rattle.wap_markup.specs.Documents.{is_version, is_public, public_named, IsVersion, IsIdentifier, IsCharset, IsPublic, IsOuter, IsRoot, IsBody, first_state, into_root, out_of_root}
+use Rattle.wap_wbxml.specs.declared.fault.DocFault.{DocFault}
+use Rattle.wap_wbxml.specs.declared.fault.DocFault.TheVariants as doc
+use Rattle.wap_wbxml.specs.Places.{Input, place, place_before, input_of}
+use Rattle.wap_wbxml.specs.Refusals.{Refusal, NotRefused, EitherRefused, BehindWhole, Behind, RefusedThen, RefusedAmong, Anything}
+
+-- ---- the byte that an item begins with, numbers, strings and names
+
+-- too few bytes for an item to begin
+abbrev pub IsCut : List ℕ → Type 0
+IsCut [] = Unit {0}
+IsCut (byte ∷ []) = byte ≡ SWITCH_PAGE
+IsCut (byte ∷ page ∷ []) = byte ≡ SWITCH_PAGE
+IsCut (byte ∷ page ∷ next ∷ rest) = ⊥
+
+abbrev pub RefusedLead : ℕ → Refusal
+RefusedLead total bytes fault = IsCut bytes × (fault ≡ doc.Short total)
+
+abbrev pub RefusedNumber : ℕ → Refusal
+RefusedNumber total bytes fault =
+    (EndsInside bytes × (fault ≡ doc.Short total)) ⊎ (IsTooLong bytes × (fault ≡ doc.Number (place total bytes)))
+
+-- fewer bytes than the number says
+abbrev pub TooFew : ℕ → ℕ → Refusal
+TooFew total count bytes fault = (length bytes < count) × (fault ≡ doc.Short total)
+
+unfoldable pub RefusedOpaque : ℕ → Refusal
+RefusedOpaque total = RefusedThen IsMb (RefusedNumber total) (TooFew total)
+
+-- at is the place of the byte before them, which calls for the string
+abbrev pub IsNoText : Charset → ℕ → List ℕ → DocFault → Type 0
+IsNoText charset at string fault = ((text : List ℕ) → IsText charset string text → ⊥) × (fault ≡ doc.Text at)
+
+-- a string with its 0 that is no text
+pub record RefusedString (charset : Charset) (at : ℕ) (bytes : List ℕ) (fault : DocFault) : Type 0 where
+  pub string : List ℕ
+  pub rest : List ℕ
+  pub spelled : bytes ≡ string ++ (0 ∷ rest)
+  pub no_zero : list_all is_not_zero string ≡ true
+  pub no_text : IsNoText charset at string fault
+
+abbrev pub RefusedInline : Input → ℕ → Refusal
+RefusedInline input at bytes fault =
+    ((list_all is_not_zero bytes ≡ true) × (fault ≡ doc.Short input.total))
+    ⊎ RefusedString input.strings.charset at bytes fault
+
+-- an index past the table, or of no text
+abbrev pub RefusedIndex : Strings → ℕ → ℕ → Refusal
+RefusedIndex strings at index rest fault =
+    ((length strings.table ≤ index) × (fault ≡ doc.Index at)) ⊎
+    ((index < length strings.table) × IsNoText strings.charset at (string_from strings.table index) fault)
+
+abbrev pub RefusedIndexed : Input → ℕ → Refusal
+RefusedIndexed input at = RefusedThen IsMb (RefusedNumber input.total) (RefusedIndex input.strings at)
+
+abbrev pub IsNoCharacter : ℕ → ℕ → Refusal
+IsNoCharacter at number rest fault = (is_character number ≡ false) × (fault ≡ doc.Text at)
+
+abbrev pub RefusedCharacter : ℕ → ℕ → Refusal
+RefusedCharacter total at = RefusedThen IsMb (RefusedNumber total) (IsNoCharacter at)
+
+-- a name with which the names of the root are too many
+abbrev pub TooMany : State → ℕ → List ℕ → Refusal
+TooMany before at name rest fault = (2 ^ 32 ≤ table_size (counted name before).names) × (fault ≡ doc.Table at)
+
+unfoldable pub RefusedName : Input → State → ℕ → Refusal
+RefusedName input before at = RefusedThen (IsIndexed input.strings) (RefusedIndexed input at) (TooMany before at)
+
+-- behind a byte that can't stand there
+abbrev pub NoToken : ℕ → Refusal
+NoToken total rest fault = fault ≡ doc.Token (place_before total rest)
+
+-- a string, a character, a reference or opaque data, behind the byte that says which it is
+unfoldable pub RefusedLeaf : Input → LeafMark → Refusal
+RefusedLeaf input (mark.Inline role) bytes = RefusedInline input (place_before input.total bytes) bytes
+RefusedLeaf input (mark.Indexed role) bytes = RefusedIndexed input (place_before input.total bytes) bytes
+RefusedLeaf input mark.Entity bytes = RefusedCharacter input.total (place_before input.total bytes) bytes
+RefusedLeaf input mark.Opaque bytes = RefusedOpaque input.total bytes
+RefusedLeaf input (mark.Extension number) bytes = NotRefused bytes
+
+-- ---- attributes
+
+unfoldable pub RefusedStart : Input → State → AttributeMark → Refusal
+RefusedStart input before attribute.Coded bytes = NotRefused bytes
+RefusedStart input before attribute.Named bytes = RefusedName input before (place_before input.total bytes) bytes
+RefusedStart input before attribute.End bytes = NoToken input.total bytes
+RefusedStart input before attribute.Value bytes = NoToken input.total bytes
+RefusedStart input before (attribute.Leaf mark) bytes = NoToken input.total bytes
+RefusedStart input before attribute.Nothing bytes = NoToken input.total bytes
+
+abbrev pub RefusedPieceBehind : Input → AttributeMark → Refusal
+RefusedPieceBehind input (attribute.Leaf mark) = RefusedLeaf input mark
+RefusedPieceBehind input attribute.Value = NotRefused
+RefusedPieceBehind input attribute.End = NotRefused
+RefusedPieceBehind input attribute.Coded = NotRefused
+RefusedPieceBehind input attribute.Named = NotRefused
+RefusedPieceBehind input attribute.Nothing = NotRefused
+
+-- a part of a value
+abbrev pub RefusedPiece : Input → State → Refusal
+RefusedPiece input before =
+    Behind (IsLead before.attribute_page) (λ lead. RefusedPieceBehind input (attribute_mark lead))
+
+-- no further part of a value begins here
+abbrev pub ValueEnds : State → List ℕ → Type 0
+ValueEnds state rest =
+    (front behind : List ℕ) (lead : Lead) → rest ≡ front ++ behind → IsLead state.attribute_page front lead
+    → begins_piece (attribute_mark lead) ≡ false
+
+abbrev pub AttributeEnds : Attr × State → List ℕ → Type 0
+AttributeEnds x rest = ValueEnds x.1 rest
+
+abbrev pub RefusedValue : Input → State → Refusal
+RefusedValue input = RefusedAmong (IsPiece input.strings) Anything (RefusedPiece input)
+
+-- an attribute behind the byte that it begins with
+unfoldable pub RefusedAttribute : Input → State → Lead → Refusal
+RefusedAttribute input before lead =
+    RefusedThen (grammar.IsStartBehind input.strings (on_attribute_page lead.page before) lead (attribute_mark lead))
+    (RefusedStart input (on_attribute_page lead.page before) (attribute_mark lead))
+    (λ start. RefusedValue input start.1)
+
+-- an attribute, or the end of attributes; the end isn't refused
+abbrev pub RefusedUnless : Bool → Refusal → Refusal
+RefusedUnless true Refused = NotRefused
+RefusedUnless false Refused = Refused
+
+unfoldable pub RefusedNext : Input → State → Refusal
+RefusedNext input before =
+    RefusedThen (IsLead before.attribute_page) (RefusedLead input.total)
+    (λ lead. RefusedUnless (is_end (attribute_mark lead)) (RefusedAttribute input before lead))
+
+unfoldable pub RefusedAttributes : Input → State → Refusal
+RefusedAttributes input = RefusedAmong (IsAttribute input.strings) AttributeEnds (RefusedNext input)
+
+-- an end
+abbrev pub RefusedEnd : ℕ → State → Refusal
+RefusedEnd total state =
+    RefusedThen (IsLead state.attribute_page) (RefusedLead total)
+    (λ lead. RefusedUnless (is_end (attribute_mark lead)) (NoToken total))
+
+-- a processing instruction behind its byte
+unfoldable pub RefusedInstruction : Input → State → Refusal
+RefusedInstruction input before =
+    EitherRefused (RefusedThen (IsLead before.attribute_page) (RefusedLead input.total) (RefusedAttribute input before))
+    (BehindWhole (IsAttribute input.strings before) AttributeEnds (λ x. RefusedEnd input.total x.1))
+
+-- ---- elements
+
+unfoldable pub RefusedTag : Input → State → Bool → Refusal
+RefusedTag input before true bytes = RefusedName input before (place_before input.total bytes) bytes
+RefusedTag input before false bytes = NotRefused bytes
+
+abbrev pub RefusedWhen : Bool → Refusal → Refusal
+RefusedWhen true Refused = Refused
+RefusedWhen false Refused = NotRefused
+
+-- which elements are refused, behind the byte of their tags
+abbrev pub ElementRefusal : Type 1
+ElementRefusal = State → Lead → Refusal
+
+abbrev pub RefusedKidBehind : Input → ElementRefusal → State → Lead → ContentMark → Refusal
+RefusedKidBehind input Inner before lead content.End = NotRefused
+RefusedKidBehind input Inner before lead content.Element = Inner before lead
+RefusedKidBehind input Inner before lead content.Pi = RefusedInstruction input before
+RefusedKidBehind input Inner before lead (content.Leaf mark) = RefusedLeaf input mark
+RefusedKidBehind input Inner before lead content.Nothing = NoToken input.total
+
+-- a part of content, or its end; the end isn't refused
+unfoldable pub RefusedKid : Input → ElementRefusal → State → Refusal
+RefusedKid input Inner before =
+    RefusedThen (IsLead before.tag_page) (RefusedLead input.total)
+    (λ lead. RefusedKidBehind input Inner before lead (content_mark lead))
+
+abbrev pub RefusedContent : Input → Elements → ElementRefusal → State → Refusal
+RefusedContent input Is Inner = RefusedAmong (IsKid input.strings Is) Anything (RefusedKid input Inner)
+
+unfoldable pub RefusedElementOf : Input → Elements → ElementRefusal → ElementRefusal
+RefusedElementOf input Is Inner before lead =
+    RefusedThen (grammar.IsTagBehind input.strings (on_tag_page lead.page before) lead.byte (is_named lead.byte))
+    (RefusedTag input (on_tag_page lead.page before) (is_named lead.byte)) (λ tag.
+    RefusedThen (When (has_attributes lead.byte) tag.1 (IsAttributes input.strings))
+    (RefusedWhen (has_attributes lead.byte) (RefusedAttributes input tag.1)) (λ attributes.
+    RefusedWhen (has_content lead.byte) (RefusedContent input Is Inner attributes.1)))
+
+-- an element of more than so many levels, or with a part that is refused
+unfoldable pub RefusedElement : Input → ℕ → ElementRefusal
+RefusedElement input zero before lead bytes fault = fault ≡ doc.Depth (place_before input.total bytes)
+RefusedElement input (suc levels) before lead bytes fault =
+    RefusedElementOf input (IsElement input.strings levels) (RefusedElement input levels) before lead bytes fault
+
+-- ---- the header
+
+abbrev pub RefusedVersion : ℕ → Refusal
+RefusedVersion total [] fault = fault ≡ doc.Short total
+RefusedVersion total (byte ∷ rest) fault = (is_version byte ≡ false) × (fault ≡ doc.Version)
+
+abbrev pub RefusedIdentifierBehind : ℕ → ℕ → Bool → Refusal
+RefusedIdentifierBehind total number true rest fault = RefusedNumber total rest fault
+RefusedIdentifierBehind total number false rest fault = (is_public number ≡ false) × (fault ≡ doc.PublicId)
+
+unfoldable pub RefusedIdentifier : ℕ → Refusal
+RefusedIdentifier total =
+    RefusedThen IsMb (RefusedNumber total) (λ number. RefusedIdentifierBehind total number (number == 0))
+
+abbrev pub NoCharset : ℕ → Refusal
+NoCharset number rest fault = (charset_of number ≡ None) × (fault ≡ doc.Charset)
+
+unfoldable pub RefusedCharset : ℕ → Refusal
+RefusedCharset total = RefusedThen IsMb (RefusedNumber total) NoCharset
+
+-- a name of no document type
+abbrev pub RefusedPublic : List ℕ → Identifier → Refusal
+RefusedPublic table (Numbered number) rest fault = ⊥
+RefusedPublic table (Named index) rest fault = (public_named (string_from table index) ≡ None) × (fault ≡ doc.PublicId)
+
+-- ---- the body
+
+-- a processing instruction outside the root
+abbrev pub RefusedOuter : Input → State → Refusal
+RefusedOuter input before [] fault = ⊥
+RefusedOuter input before (byte ∷ rest) fault = (byte ≡ PI) × RefusedInstruction input before rest fault
+
+-- no further processing instruction begins here
+abbrev pub InstructionsEnd : List ℕ → Type 0
+InstructionsEnd [] = Unit {0}
+InstructionsEnd (byte ∷ rest) = byte ≢ PI
+
+abbrev pub OutersEnd : List Attr × State → List ℕ → Type 0
+OutersEnd x rest = InstructionsEnd rest
+
+unfoldable pub RefusedOuters : Input → State → Refusal
+RefusedOuters input = RefusedAmong (IsOuter input.strings) Anything (RefusedOuter input)
+
+abbrev pub RefusedRootBehind : Input → State → Lead → ContentMark → Refusal
+RefusedRootBehind input before lead content.Element = RefusedElement input LEVEL_LIMIT before lead
+RefusedRootBehind input before lead content.Pi = NoToken input.total
+RefusedRootBehind input before lead (content.Leaf mark) = NoToken input.total
+RefusedRootBehind input before lead content.End = NoToken input.total
+RefusedRootBehind input before lead content.Nothing = NoToken input.total
+
+unfoldable pub RefusedRoot : Input → State → Refusal
+RefusedRoot input before =
+    RefusedThen (IsLead before.tag_page) (RefusedLead input.total)
+    (λ lead. RefusedRootBehind input before lead (content_mark lead))
+
+unfoldable pub RefusedBody : Input → Refusal
+RefusedBody input =
+    EitherRefused (RefusedOuters input first_state)
+    (BehindWhole (ManyOf (IsOuter input.strings) first_state) OutersEnd (λ before.
+    RefusedThen (IsRoot input.strings (into_root before.1)) (RefusedRoot input (into_root before.1)) (λ root.
+    RefusedOuters input (out_of_root root.1))))
+
+-- ---- the whole
+
+unfoldable pub RefusedWhole : ℕ → Refusal
+RefusedWhole total =
+    RefusedThen IsVersion (RefusedVersion total) (λ version.
+    RefusedThen IsIdentifier (RefusedIdentifier total) (λ identifier.
+    RefusedThen IsCharset (RefusedCharset total) (λ charset.
+    RefusedThen grammar.IsOpaque (RefusedOpaque total) (λ table.
+    RefusedThen (IsPublic table identifier) (RefusedPublic table identifier) (λ public.
+    RefusedBody (input_of total charset table))))))
+
+-- bytes behind a document that goes on no further
+abbrev pub RefusedRest : ℕ → Refusal
+RefusedRest total =
+    BehindWhole documents.IsDocument (λ document. InstructionsEnd)
+    (λ document rest fault. (0 < length rest) × (fault ≡ doc.Rest (place total rest)))
+
+-- the bytes are no document: this is the first thing in them that can't stand where it does
+unfoldable pub IsRefused : List ℕ → DocFault → Type 0
+IsRefused bytes = EitherRefused (RefusedWhole (length bytes)) (RefusedRest (length bytes)) bytes

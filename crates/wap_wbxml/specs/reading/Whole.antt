@@ -1,0 +1,111 @@
+-- Reading a whole document from the left. This project's own.
+use Rattle.std.specs.Prelude.{ℕ, Bool, true, false, ◌==◌, if◌then◌else◌, List, [], ◌∷◌, length, Option, Some, None, Result, Ok, Err}
+use Rattle.wap_base.specs.Outcome.{◌>>=◌}
+use Rattle.wap_markup.specs.declared.codes.TheConstants.{PI}
+use Rattle.wap_markup.specs.declared.document.Attr.{Attr}
+use Rattle.wap_markup.specs.declared.document.TheConstants.{LEVEL_LIMIT}
+use Rattle.wap_markup.specs.declared.document.Document.{Document}
+use Rattle.wap_markup.specs.declared.document.Element.{Element}
+use Rattle.wap_base.specs.declared.charset.Charset.{Charset}
+use Rattle.wap_markup.specs.declared.mark.Lead.{Lead}
+use Rattle.wap_markup.specs.declared.mark.Identifier.{Identifier}
+use Rattle.wap_markup.specs.declared.mark.Identifier.TheVariants.{Numbered, Named}
+use Rattle.wap_markup.specs.declared.mark.ContentMark.{ContentMark}
+use Rattle.wap_markup.specs.declared.mark.ContentMark.TheVariants as content
+use Rattle.wap_base.specs.Charsets.{charset_of}
+use Rattle.wap_markup.specs.Codes.{content_mark}
+use Rattle.wap_markup.specs.Strings.{string_from}
+use Rattle.wap_markup.specs.Grammar.{State}
+use Rattle.wap_markup.specs.Documents.{is_version, is_public, public_named, first_state, into_root, out_of_root}
+use Rattle.wap_wbxml.specs.declared.fault.DocFault.{DocFault}
+use Rattle.wap_wbxml.specs.declared.fault.DocFault.TheVariants as fault
+use Rattle.wap_wbxml.specs.Places.{Input, place, input_of}
+use Rattle.wap_wbxml.specs.reading.Steps.{Reading, Next, some, told, all_by}
+use Rattle.wap_wbxml.specs.reading.Fronts.{lead_at, number_at, opaque_at}
+use Rattle.wap_wbxml.specs.reading.Parts.{no_token, as_none, instruction_at, element_at}
+
+-- ---- the header
+
+unfoldable pub version_at : ℕ → List ℕ → Reading ℕ
+version_at total [] = Err (fault.Short total)
+version_at total (byte ∷ rest) = if is_version byte then Ok (byte, rest) else Err fault.Version
+
+abbrev pub identifier_from : ℕ → ℕ → Bool → List ℕ → Reading Identifier
+identifier_from total number true rest = told Named (number_at total rest)
+identifier_from total number false rest = if is_public number then Ok (Numbered number, rest) else Err fault.PublicId
+
+unfoldable pub identifier_at : ℕ → List ℕ → Reading Identifier
+identifier_at total bytes = number_at total bytes >>= λ number. identifier_from total number.0 (number.0 == 0) number.1
+
+abbrev pub or_no_charset : Option Charset → Result Charset DocFault
+or_no_charset (Some charset) = Ok charset
+or_no_charset None = Err fault.Charset
+
+unfoldable pub charset_at : ℕ → List ℕ → Reading (ℕ × Charset)
+charset_at total bytes =
+    number_at total bytes >>= λ number.
+    or_no_charset (charset_of number.0) >>= λ charset.
+    Ok ((number.0, charset), number.1)
+
+abbrev pub or_not_public : Option ℕ → Result ℕ DocFault
+or_not_public (Some number) = Ok number
+or_not_public None = Err fault.PublicId
+
+unfoldable pub public_of : List ℕ → Identifier → Result ℕ DocFault
+public_of table (Numbered number) = Ok number
+public_of table (Named index) = or_not_public (public_named (string_from table index))
+
+-- ---- the body
+
+-- the next processing instruction outside the root, or none
+abbrev pub outer_from : Input → State → List ℕ → Bool → List ℕ → Reading (Option Attr × State)
+outer_from input before bytes true rest = told some (instruction_at input before rest)
+outer_from input before bytes false rest = Ok ((None, before), bytes)
+
+unfoldable pub next_outer : Input → Next Attr State
+next_outer input before [] = Ok ((None, before), [])
+next_outer input before (byte ∷ rest) = outer_from input before (byte ∷ rest) (byte == PI) rest
+
+unfoldable pub outers_at : Input → State → List ℕ → Reading (List Attr × State)
+outers_at input = all_by (next_outer input) as_none
+
+abbrev pub root_from : Input → State → Lead → ContentMark → List ℕ → Reading (Element × State)
+root_from input before lead content.Element rest = element_at input LEVEL_LIMIT before lead rest
+root_from input before lead content.Pi rest = no_token input.total rest
+root_from input before lead (content.Leaf mark) rest = no_token input.total rest
+root_from input before lead content.End rest = no_token input.total rest
+root_from input before lead content.Nothing rest = no_token input.total rest
+
+unfoldable pub root_at : Input → State → List ℕ → Reading (Element × State)
+root_at input before bytes =
+    lead_at input.total before.tag_page bytes >>= λ lead.
+    root_from input before lead.0 (content_mark lead.0) lead.1
+
+unfoldable pub body_at : Input → List ℕ → Reading Element
+body_at input bytes =
+    outers_at input first_state bytes >>= λ before.
+    root_at input (into_root before.0.1) before.1 >>= λ root.
+    told (λ after. root.0.0) (outers_at input (out_of_root root.0.1) root.1)
+
+-- ---- the whole
+
+abbrev pub document_of : ℕ → ℕ → ℕ × Charset → Element → Document
+document_of version public charset root = record { version = version; public = public; charset = charset.0; root = root }
+
+-- a document, and what follows it
+unfoldable pub whole_at : ℕ → List ℕ → Reading Document
+whole_at total bytes =
+    version_at total bytes >>= λ version.
+    identifier_at total version.1 >>= λ identifier.
+    charset_at total identifier.1 >>= λ charset.
+    opaque_at total charset.1 >>= λ table.
+    public_of table.0 identifier.0 >>= λ public.
+    told (document_of version.0 public charset.0) (body_at (input_of total charset.0 table.0) table.1)
+
+-- nothing may follow it
+abbrev pub all_of_it : ℕ → Document × List ℕ → Result Document DocFault
+all_of_it total (document, []) = Ok document
+all_of_it total (document, byte ∷ rest) = Err (fault.Rest (place total (byte ∷ rest)))
+
+unfoldable pub document_at : List ℕ → Result Document DocFault
+document_at bytes = whole_at (length bytes) bytes >>= all_of_it (length bytes)

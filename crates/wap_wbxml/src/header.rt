@@ -1,0 +1,91 @@
+//! What stands before a document's body: version, public identifier, character set and string
+//! table.
+ghost use Rattle.std.specs.Prelude.{◌≡◌, codes};
+ghost use Rattle.std.specs.Option.{option_map};
+ghost use Rattle.wap_base.specs.Outcome.{Meets};
+ghost use Rattle.wap_markup.specs.Documents.{is_version, is_public, public_named};
+ghost use Rattle.wap_wbxml.specs.declared.fault.DocFault.TheVariants.{NoMemory};
+ghost use Rattle.wap_wbxml.specs.reading.Whole.{version_at, identifier_at, charset_at, public_of};
+
+use crate::DocFault;
+use crate::fronts::{read_number, string_from};
+use wap_base::Charset;
+use wap_markup::Identifier;
+
+/// The version.
+#[tactic(auto, unfolding(crate::specs::reading::Whole::version_at))]
+pub fn read_version(total: usize, bytes: &[u8]) -> Result<(u8, &[u8]), DocFault>
+    ensures { Meets NoMemory (λ read. (read.0, read.1.now)) result (version_at total bytes.now) }
+{
+    let Some((version, rest)) = bytes.split_first() else {
+        return Err(DocFault::Short { at: total });
+    };
+    if !(1..=3).contains(version) {
+        return Err(DocFault::Version);
+    }
+    Ok((*version, rest))
+}
+
+/// The public identifier, by its number or by the index of its name.
+#[tactic(auto, unfolding(crate::specs::reading::Whole::identifier_at))]
+pub fn read_identifier(total: usize, bytes: &[u8]) -> Result<(Identifier, &[u8]), DocFault>
+    ensures { Meets NoMemory (λ read. (read.0, read.1.now)) result (identifier_at total bytes.now) }
+{
+    let (number, rest) = read_number(total, bytes)?;
+    if number == 0 {
+        let (index, rest) = read_number(total, rest)?;
+        return Ok((Identifier::Named(index), rest));
+    }
+    if !is_public(number) {
+        return Err(DocFault::PublicId);
+    }
+    Ok((Identifier::Numbered(number), rest))
+}
+
+fn is_public(number: u32) -> bool
+    ensures { result ≡ is_public number }
+{
+    number == 4 || number == 9 || number == 10
+}
+
+/// The character set, with its number.
+#[tactic(auto, unfolding(crate::specs::reading::Whole::charset_at))]
+pub fn read_charset(total: usize, bytes: &[u8]) -> Result<((u32, Charset), &[u8]), DocFault>
+    ensures { Meets NoMemory (λ read. (read.0, read.1.now)) result (charset_at total bytes.now) }
+{
+    let (number, rest) = read_number(total, bytes)?;
+    match Charset::numbered(number) {
+        Some(charset) => Ok(((number, charset), rest)),
+        None => Err(DocFault::Charset),
+    }
+}
+
+/// The number of a public identifier, whose name the string table may have.
+#[tactic(auto, unfolding(crate::specs::reading::Whole::public_of))]
+pub fn find_public(table: &[u8], identifier: Identifier) -> Result<u32, DocFault>
+    ensures { Meets NoMemory (λ number. number) result (public_of table.now identifier) }
+{
+    match identifier {
+        Identifier::Numbered(number) => Ok(number),
+        Identifier::Named(index) => match public_named(string_from(table, index as usize)) {
+            Some(number) => Ok(number),
+            None => Err(DocFault::PublicId),
+        },
+    }
+}
+
+#[tactic(auto, unfolding(wap_markup::specs::Documents::public_named))]
+fn public_named(name: &[u8]) -> Option<u32>
+    ensures { result ≡ public_named name.now }
+{
+    if name == b"-//WAPFORUM//DTD WML 1.1//EN".as_slice() {
+        return Some(4);
+    }
+    if name == b"-//WAPFORUM//DTD WML 1.2//EN".as_slice() {
+        return Some(9);
+    }
+    if name == b"-//WAPFORUM//DTD WML 1.3//EN".as_slice() {
+        return Some(10);
+    }
+    None
+}
