@@ -1,3 +1,9 @@
+pub mod Items
 pub mod Kept
-pub mod Cards
-pub mod Sorting
+pub mod Repetition
+pub mod Joining
+pub mod Content
+pub mod Strings
+pub mod Values
+pub mod Nodes
+pub mod Normality

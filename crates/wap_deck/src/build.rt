@@ -1,199 +1,133 @@
 //! From a document to its deck.
-ghost use Rattle.std.specs.Prelude.{◌≡◌, ◌++◌, IfOk, OnOk};
-ghost use Rattle.std.specs.List.{filter_map};
-ghost use Rattle.wap_markup.specs.Decks.{on_page_0, tag_of, attr_of, variable_part, piece_part, attr_named, text_item, element_items, kid_items, items_of, deck_of};
+ghost use Rattle.std.specs.Prelude.{◌≡◌, [], ◌∷◌, ◌++◌, IfOk, OnOk};
+ghost use Rattle.wap_base.specs.declared.name.Part.{Part};
+ghost use Rattle.wap_markup.specs.Decks.{tag_in, part_marks, kid_marks, kids_marks, element_marks, deck_of};
+ghost use Rattle.wap_markup.specs.Normal.{IsNormal};
+ghost use Rattle.wap_deck.specs.Adding.{part_added, part_after, marks_after};
 
+use crate::attributes::attributes;
+use crate::pieces::{add_part, character, literal, reference};
 use std::alloc::Global;
-use wap_base::{Conv, Name, NameFault, NoMemory, Part, Rows, Text};
-use wap_markup::{Attr, AttrName, Deck, Document, Element, Item, Kid, Node, Piece, Tag, Token};
+use wap_base::{NoMemory, Part, Rows};
+use wap_markup::{Deck, Document, Element, Item, Kid, LEVEL_LIMIT, Node, Tag, Token};
+use wap_tokens::{tag_named, tag_of};
 
-/// The most levels of content that are read, the root's being the first.
-const LEVEL_LIMIT: usize = 64;
-
-/// The name of an element by its code on page 0.
-fn tag_of(code: u8) -> Option<Tag>
-    ensures { result ≡ tag_of code }
+/// The tag of a token, if it is known.
+fn tag_in(page: u8, token: &Token) -> Option<Tag>
+    ensures { result ≡ tag_in page token.now }
 {
-    match code {
-        0x20 => Some(Tag::P),
-        0x27 => Some(Tag::Card),
-        0x28 => Some(Tag::Do),
-        0x2b => Some(Tag::Go),
-        0x32 => Some(Tag::Prev),
-        0x36 => Some(Tag::Refresh),
-        0x3e => Some(Tag::Setvar),
-        0x3f => Some(Tag::Wml),
-        _ => None,
+    match token {
+        Token::Code(code) => tag_of(page, *code),
+        Token::Literal(name) => tag_named(name),
     }
 }
 
-/// The name of an attribute by its code on page 0.
-fn attr_of(code: u8) -> Option<AttrName>
-    ensures { result ≡ attr_of code }
+/// A text that goes on, or a new one behind a node. What is said is what items with one part more
+/// are.
+fn text_from(alloc: Global, last: Item, items: &mut Rows<Item>) -> Result<Rows<Part>, NoMemory>
+    ensures { IfOk result (λ parts. (more : Part) → items.old ++ part_after (last ∷ []) more
+        ≡ items.new ++ Item.Text (part_added parts more) ∷ []) }
 {
-    match code {
-        0x18 => Some(AttrName::Label),
-        0x21 => Some(AttrName::Name),
-        0x36 => Some(AttrName::Title),
-        0x37 => Some(AttrName::Type),
-        0x4a => Some(AttrName::Href),
-        0x4d => Some(AttrName::Value),
-        0x55 => Some(AttrName::Id),
-        _ => None,
-    }
-}
-
-/// The name of an element, where it has one here.
-fn tag_named(element: &Element) -> Option<Tag>
-    ensures { result ≡ on_page_0 tag_of element.now.page element.now.tag }
-{
-    match element.tag {
-        Token::Code(code) if element.page == 0 => tag_of(code),
-        _ => None,
-    }
-}
-
-/// The name of an attribute, where it has one here.
-fn name_of(attr: &Attr) -> Option<AttrName>
-    ensures { result ≡ on_page_0 attr_of attr.now.page attr.now.start }
-{
-    match attr.start {
-        Token::Code(code) if attr.page == 0 => attr_of(code),
-        _ => None,
-    }
-}
-
-/// A reference to a variable, where its name is one.
-fn variable(alloc: Global, name: &Text, conv: Conv) -> Result<Option<Part>, NoMemory>
-    ensures { IfOk result (λ part. part ≡ variable_part name.now conv) }
-{
-    match Name::of(alloc, name) {
-        Ok(name) => Ok(Some(Part::Var(name, conv))),
-        Err(NameFault::BadName) => Ok(None),
-        Err(NameFault::NoMemory) => Err(NoMemory),
-    }
-}
-
-/// What a part of an attribute's value gives.
-fn part_of(alloc: Global, piece: &Piece) -> Result<Option<Part>, NoMemory>
-    ensures { IfOk result (λ part. part ≡ piece_part piece.now) }
-{
-    match piece {
-        Piece::Str(text) => Ok(Some(Part::Lit(text.copy(alloc)?))),
-        Piece::Var(name, conv) => variable(alloc, name, *conv),
-        _ => Ok(None),
-    }
-}
-
-/// The value of an attribute.
-fn value(alloc: Global, pieces: &[Piece]) -> Result<Rows<Part>, NoMemory>
-    ensures { IfOk result (λ value. value ≡ filter_map piece_part pieces.now) }
-{
-    let mut value = Rows::new(alloc);
-    for piece in pieces {
-        if let Some(part) = part_of(alloc, piece)? {
-            value.add(part)?;
+    match last {
+        Item::Text(parts) => Ok(parts),
+        Item::Node(node) => {
+            items.add(Item::Node(node))?;
+            Ok(Rows::new(alloc))
         }
     }
-    Ok(value)
 }
 
-/// An attribute with its value, where it has a name here.
-fn named(alloc: Global, attr: &Attr) -> Result<Option<(AttrName, Rows<Part>)>, NoMemory>
-    ensures { IfOk result (λ named. named ≡ attr_named attr.now) }
+/// Takes the text at the end of items off, or begins one. What is said is what items with one part
+/// more are.
+fn last_text(alloc: Global, items: &mut Rows<Item>) -> Result<Rows<Part>, NoMemory>
+    ensures { IfOk result (λ parts. (more : Part) →
+        part_after items.old more ≡ items.new ++ Item.Text (part_added parts more) ∷ []) }
 {
-    match name_of(attr) {
-        Some(name) => Ok(Some((name, value(alloc, attr.value.as_slice())?))),
-        None => Ok(None),
+    match items.pop() {
+        Some(last) => Ok(text_from(alloc, last, items)?),
+        None => Ok(Rows::new(alloc)),
     }
 }
 
-/// The attributes that have a name here.
-fn attributes(alloc: Global, attrs: &[Attr]) -> Result<Rows<(AttrName, Rows<Part>)>, NoMemory>
-    ensures { IfOk result (λ attributes. attributes ≡ filter_map attr_named attrs.now) }
-{
-    let mut attributes = Rows::new(alloc);
-    for attr in attrs {
-        if let Some(attribute) = named(alloc, attr)? {
-            attributes.add(attribute)?;
-        }
-    }
-    Ok(attributes)
-}
-
-/// Adds a text of one part, where there is one.
+/// Adds a part of a text, if there is one. It joins a text that it follows.
 fn add_text(alloc: Global, part: Option<Part>, items: &mut Rows<Item>) -> Result<(), NoMemory>
-    ensures { OnOk result (items.new ≡ items.old ++ text_item part) }
+    ensures { OnOk result (items.new ≡ marks_after items.old (part_marks part)) }
 {
-    if let Some(part) = part {
-        let mut parts = Rows::new(alloc);
-        parts.add(part)?;
-        items.add(Item::Text(parts))?;
-    }
-    Ok(())
+    let Some(part) = part else {
+        return Ok(());
+    };
+    let mut parts = last_text(alloc, items)?;
+    add_part(&mut parts, part)?;
+    items.add(Item::Text(parts))
 }
 
-/// Adds an element with so many levels of its content, or these alone where it has no name here.
+/// Adds an element of so many levels, or what is in it where its tag isn't known.
 #[cycle(content)]
 fn add_element(
     alloc: Global,
-    levels: usize,
+    levels: u32,
     element: &Element,
     items: &mut Rows<Item>,
 ) -> Result<(), NoMemory>
-    ensures { OnOk result (items.new ≡ items.old ++ element_items (items_of levels) element.now) }
-{
-    let Some(tag) = tag_named(element) else {
-        return add_kids(alloc, levels, element.kids.as_slice(), items);
-    };
-    let attrs = attributes(alloc, element.attrs.as_slice())?;
-    let mut kids = Rows::new(alloc);
-    add_kids(alloc, levels, element.kids.as_slice(), &mut kids)?;
-    items.add(Item::Node(Node { tag, attrs, kids }))
-}
-
-/// Adds what a part of a document gives, with so many levels of an element's content.
-#[cycle(content)]
-fn add_kid(alloc: Global, levels: usize, kid: &Kid, items: &mut Rows<Item>) -> Result<(), NoMemory>
-    ensures { OnOk result (items.new ≡ items.old ++ kid_items (items_of levels) kid.now) }
-{
-    match kid {
-        Kid::Element(element) => add_element(alloc, levels, element, items),
-        Kid::Str(text) => add_text(alloc, Some(Part::Lit(text.copy(alloc)?)), items),
-        Kid::Var(name, conv) => add_text(alloc, variable(alloc, name, *conv)?, items),
-        _ => Ok(()),
-    }
-}
-
-/// Adds so many levels of content.
-#[cycle(content)]
-fn add_kids(
-    alloc: Global,
-    levels: usize,
-    kids: &[Kid],
-    items: &mut Rows<Item>,
-) -> Result<(), NoMemory>
-    ensures { OnOk result (items.new ≡ items.old ++ items_of levels kids.now) }
+    ensures { OnOk result (items.new ≡ marks_after items.old (element_marks levels element.now)) }
 {
     if levels == 0 {
         return Ok(());
     }
+    let Some(tag) = tag_in(element.page, &element.tag) else {
+        return add_kids(alloc, levels - 1, element.kids.as_slice(), items);
+    };
+    let attrs = attributes(alloc, element.attrs.as_slice())?;
+    let mut kids = Rows::new(alloc);
+    add_kids(alloc, levels - 1, element.kids.as_slice(), &mut kids)?;
+    items.add(Item::Node(Node { tag, attrs, kids }))?;
+    Ok(())
+}
+
+/// Adds what a kid gives, its elements of so many levels.
+#[cycle(content)]
+fn add_kid(alloc: Global, levels: u32, kid: &Kid, items: &mut Rows<Item>) -> Result<(), NoMemory>
+    ensures { let marks = kid_marks (element_marks levels) kid.now in
+        OnOk result (items.new ≡ marks_after items.old marks) }
+{
+    match kid {
+        Kid::Element(element) => add_element(alloc, levels, element, items),
+        Kid::Str(text) => add_text(alloc, literal(text.copy(alloc)?), items),
+        Kid::Entity(number) => add_text(alloc, character(alloc, *number)?, items),
+        Kid::Var(name, conv) => add_text(alloc, reference(alloc, name, *conv)?, items),
+        Kid::Ext(_) | Kid::Opaque(_) | Kid::Pi(_) => Ok(()),
+    }
+}
+
+/// Adds what kids give, their elements of so many levels.
+#[cycle(content)]
+fn add_kids(
+    alloc: Global,
+    levels: u32,
+    kids: &[Kid],
+    items: &mut Rows<Item>,
+) -> Result<(), NoMemory>
+    ensures { let marks = kids_marks (element_marks levels) kids.now in
+        OnOk result (items.new ≡ marks_after items.old marks) }
+{
     for kid in kids {
-        add_kid(alloc, levels - 1, kid, items)?;
+        add_kid(alloc, levels, kid, items)?;
     }
     Ok(())
 }
 
-/// The deck that a document means (WAP-191, sections 11.1 to 11.5). Elements and attributes
-/// without a name here are left out, but not the content of such an element. What lies deeper than
-/// 64 levels of content is left out.
+/// The deck that a document means (WAP-191, sections 11.1 to 11.5). An element whose tag isn't
+/// known stands for its content; what else is unknown is left out. Documents have at most 64
+/// levels; what lies deeper is left out.
 pub fn deck_of(alloc: Global, document: &Document) -> Result<Deck, NoMemory>
-    ensures { IfOk result (λ deck. deck ≡ deck_of document.now) }
+    ensures deck { IfOk result (λ deck. deck ≡ deck_of document.now) }
+    ensures normal { IfOk result IsNormal }
 {
-    let attrs = attributes(alloc, document.root.attrs.as_slice())?;
+    let root = &document.root;
+    let attrs = attributes(alloc, root.attrs.as_slice())?;
     let mut kids = Rows::new(alloc);
-    add_kids(alloc, LEVEL_LIMIT, document.root.kids.as_slice(), &mut kids)?;
-    let tag = tag_named(&document.root).unwrap_or(Tag::Other);
+    add_kids(alloc, LEVEL_LIMIT - 1, root.kids.as_slice(), &mut kids)?;
+    let tag = tag_in(root.page, &root.tag).unwrap_or(Tag::Other);
     Ok(Deck {
         root: Node { tag, attrs, kids },
     })

@@ -4,6 +4,8 @@ use wap_base::NoMemory;
 /// Why a deck became no good deck.
 #[derive(Clone, Copy, Debug, PartialEq, Eq)]
 pub enum DeckErr {
+    /// It has a form that isn't shown so far.
+    Unshown,
     /// An id stands twice among the cards, or a type among the dos of a card.
     Repeated,
     NoMemory,

@@ -1,20 +1,23 @@
 //! Decks in which no id and no type stands twice.
-ghost use Rattle.std.specs.Prelude.{◌≡◌, ◌↔◌, length, slice_get, IsTrue, IfOk, IfErr, OnOk};
+ghost use Rattle.std.specs.Prelude.{◌≡◌, ◌↔◌, true, false, length, slice_get, IsTrue, IfOk, IfErr, OnOk};
 ghost use Rattle.std.specs.List.{filter_map, AllByRecursion};
 ghost use Rattle.std.specs.Option.{option_copied};
 ghost use Rattle.wap_base.specs.Texts.{AreDistinct};
-ghost use Rattle.wap_markup.specs.Decks.{IsApart, cards_of, types_of, card_numbered};
-ghost use Rattle.wap_deck.specs.Parts.{card_in};
+ghost use Rattle.wap_markup.specs.Trees.{node_with};
+ghost use Rattle.wap_markup.specs.Cards.{IsApart, cards_of, types_of, card_numbered};
+ghost use Rattle.wap_markup.specs.Shown.{is_shown};
 
 use crate::DeckErr;
-use crate::distinct::are_distinct;
-use crate::parts::{card_at, card_in, count_cards, find_card, ids, types};
+use crate::cards::{card_at, count_cards, find_card, texts_of};
+use crate::shown::is_shown;
+use crate::trees::node_with;
 use std::alloc::Global;
 use std::marker::Model;
-use wap_base::{NoMemory, Text};
-use wap_markup::{Deck, Item, Node};
+use wap_base::{NoMemory, Text, are_distinct};
+use wap_markup::{AttrName, Deck, Item, Node, Tag};
 
-/// A deck in which no id and, within a card, no type of a do stands twice. A contract sees the deck.
+/// A deck in which no id and, within a card, no type of a do stands twice. A contract sees the
+/// deck.
 #[derive(Debug, Drop)]
 pub struct GoodDeck {
     deck: Deck,
@@ -29,7 +32,7 @@ impl Model for GoodDeck {
 
     ghost coded = { Prim.hlevel (codes, item.the_row.coded) };
 
-    ghost use Rattle.wap_markup.specs.Decks.{IsApart};
+    ghost use Rattle.wap_markup.specs.Cards.{IsApart};
 
     ghost view = { λ good. good.deck };
 
@@ -38,11 +41,14 @@ impl Model for GoodDeck {
 
 /// Whether, among the cards of these items, none has two dos of one type.
 fn have_apart_types(alloc: Global, items: &[Item]) -> Result<bool, NoMemory>
-    ensures { IfOk result (λ apart. IsTrue apart ↔ AllByRecursion (λ card. AreDistinct (types_of card)) (filter_map card_in items.now)) }
+    ensures { let cards = filter_map (node_with Tag.Card) items.now in
+        IfOk result (λ apart. IsTrue apart
+        ↔ AllByRecursion (λ card. AreDistinct (types_of card)) cards) }
 {
     for item in items {
-        if let Some(card) = card_in(item) {
-            if !are_distinct(types(alloc, card.kids.as_slice())?) {
+        if let Some(card) = node_with(Tag::Card, item) {
+            let dos = card.kids.as_slice();
+            if !are_distinct(texts_of(alloc, Tag::Do, AttrName::Type, dos)?) {
                 return Ok(false);
             }
         }
@@ -55,18 +61,25 @@ fn is_apart(alloc: Global, deck: &Deck) -> Result<bool, NoMemory>
     ensures { IfOk result (λ apart. IsTrue apart ↔ IsApart deck.now) }
 {
     let items = deck.root.kids.as_slice();
-    let apart = are_distinct(ids(alloc, items)?);
+    let apart = are_distinct(texts_of(alloc, Tag::Card, AttrName::Id, items)?);
     Ok(apart && have_apart_types(alloc, items)?)
 }
 
 impl GoodDeck {
-    /// The deck, where no id and no type stands twice in it. A deck that is refused comes back.
+    /// The deck, where it is shown so far, and no id and no type stands twice in it. A deck that is
+    /// refused comes back.
     pub fn try_new(alloc: Global, deck: Deck) -> Result<GoodDeck, (Deck, DeckErr)>
         ensures same { IfOk result (λ good. good ≡ deck) }
         ensures apart { OnOk result (IsApart deck) }
+        ensures shown { OnOk result (is_shown deck ≡ true) }
         ensures back { IfErr result (λ refused. refused.0 ≡ deck) }
+        ensures unshown { IfErr result (λ refused. refused.1 ≡ DeckErr.Unshown
+            → is_shown deck ≡ false) }
         ensures repeated { IfErr result (λ refused. refused.1 ≡ DeckErr.Repeated → ¬ IsApart deck) }
     {
+        if !is_shown(&deck) {
+            return Err((deck, DeckErr::Unshown));
+        }
         match is_apart(alloc, &deck) {
             Ok(true) => Ok(GoodDeck { deck }),
             Ok(false) => Err((deck, DeckErr::Repeated)),

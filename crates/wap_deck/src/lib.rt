@@ -1,21 +1,24 @@
 //! Decks that documents mean, and decks in which no id and no type stands twice.
 #![tactic(auto)]
 
+mod attributes;
 mod build;
-mod distinct;
+mod cards;
 mod fault;
 mod good;
-mod parts;
+mod names;
+mod pieces;
+mod runs;
+mod shown;
+mod starts;
 mod tasks;
-mod values;
+mod trees;
+mod writing;
 
 pub use build::deck_of;
 pub use fault::DeckErr;
 pub use good::GoodDeck;
-pub use parts::do_in;
 pub use tasks::{do_of, task_of};
-pub use values::{href, label, name_value, title, type_value, value};
+pub use trees::{node_with, value_of};
 pub use wap_markup::{AttrName, Deck, Item, Node, Tag};
-
-#[cfg(test)]
-mod tests;
+pub use writing::document_of;

@@ -1,31 +1,20 @@
 //! The dos of a card, and what they do.
 ghost use Rattle.std.specs.Prelude.{◌≡◌};
 ghost use Rattle.std.specs.Option.{option_copied};
-ghost use Rattle.wap_markup.specs.Decks.{node_of, type_of, is_text};
-ghost use Rattle.wap_markup.specs.Decks.{do_named, is_task_tag, task_of};
+ghost use Rattle.wap_markup.specs.Tasks.{do_named, is_task, task_of};
 
-use crate::parts::do_in;
-use crate::values::{is_text, type_value};
+use crate::cards::has_text;
+use crate::trees::node_with;
 use wap_base::Text;
-use wap_markup::{Item, Node, Tag};
-
-/// Whether a do has this type.
-fn has_type(node: &Node, kind: &Text) -> bool
-    ensures { result ≡ is_text kind.now (type_of node.now) }
-{
-    match type_value(node) {
-        Some(value) => is_text(value.as_slice(), kind),
-        None => false,
-    }
-}
+use wap_markup::{AttrName, Item, Node, Tag};
 
 /// The first do of a card with this type. A type with a reference to a variable is none.
 pub fn do_of<'a>(card: &'a Node, kind: &Text) -> Option<&'a Node>
     ensures { option_copied result ≡ do_named kind.now card.now }
 {
     for item in card.kids.as_slice() {
-        if let Some(node) = do_in(item) {
-            if has_type(node, kind) {
+        if let Some(node) = node_with(Tag::Do, item) {
+            if has_text(node, AttrName::Type, kind) {
                 return Some(node);
             }
         }
@@ -33,20 +22,20 @@ pub fn do_of<'a>(card: &'a Node, kind: &Text) -> Option<&'a Node>
     None
 }
 
-/// Whether an element of this name is a task.
-fn is_task_tag(tag: Tag) -> bool
-    ensures { result ≡ is_task_tag tag }
+/// Whether an element of this tag is a task: a go, a prev or a refresh.
+fn is_task(tag: Tag) -> bool
+    ensures { result ≡ is_task tag }
 {
-    matches!(tag, Tag::Go | Tag::Prev | Tag::Refresh)
+    tag == Tag::Go || tag == Tag::Prev || tag == Tag::Refresh
 }
 
-/// The first task in a node: a go, a prev or a refresh.
+/// The first task in a node.
 pub fn task_of(node: &Node) -> Option<&Node>
     ensures { option_copied result ≡ task_of node.now }
 {
     for item in node.kids.as_slice() {
         if let Item::Node(task) = item {
-            if is_task_tag(task.tag) {
+            if is_task(task.tag) {
                 return Some(task);
             }
         }

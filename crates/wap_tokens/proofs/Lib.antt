@@ -1,0 +1,5 @@
+pub mod Found
+pub mod Plain
+pub mod TagTable
+pub mod AttributeTable
+pub mod ValueTable
