@@ -1,4 +1,10 @@
-pub mod Splitting
-pub mod Taking
-pub mod Within
-pub mod Sources
+mod DecimalLaws
+mod KeyLaws
+mod FormLaws
+mod LineLaws
+mod LineSteps
+mod ReaderLaws
+mod ReaderSteps
+mod WholeLaws
+mod EndLaws
+mod SpellLaws

@@ -1,4 +1,7 @@
-pub mod Keys
+pub mod Decimal
+pub mod Forms
+pub mod Spelling
 pub mod Lines
-pub mod Begun
 pub mod Read
+pub mod Reading
+pub mod inside

@@ -1,12 +1,15 @@
 -- The lines of bytes, and the keys that they say. This project's own.
 use Rattle.std.specs.Prelude.{ℕ, ◌+◌, ◌-◌, nat_eq, Bool, true, false, ◌||◌, ◌==◌, nat_lt, if◌then◌else◌, List, [], ◌∷◌, length, take, Option, Some, None, Result, Ok, Err}
 use Rattle.std.specs.List.{ends_with}
-use Rattle.wap_keys.specs.declared.key.Key.{Key}
-use Rattle.wap_keys.specs.declared.key.KeyFault.{KeyFault}
-use Rattle.wap_keys.specs.declared.key.KeyFault.TheVariants.{UnknownWord}
-use Rattle.wap_keys.specs.declared.source.Ending.{Ending}
-use Rattle.wap_keys.specs.declared.source.Ending.TheVariants.{End, BadKey, TooManyKeys, ReadFault}
-use Rattle.wap_keys.specs.Keys.{key_at}
+use Rattle.wap_base.specs.Ascii.{line_feed, carriage_return, number_sign}
+use Rattle.wap_input.specs.declared.key.Key.{Key}
+use Rattle.wap_keys.specs.declared.fault.KeyFault.{KeyFault}
+use Rattle.wap_keys.specs.declared.fault.KeyFault.TheVariants.{TooLong}
+use Rattle.wap_keys.specs.declared.ending.Ending.{Ending}
+use Rattle.wap_keys.specs.declared.ending.Ending.TheVariants.{End, BadKey, TooManyKeys, ReadFault}
+use Rattle.wap_keys.specs.Forms.{line_limit, key_at}
+
+-- ---- lines
 
 -- a line, and whether a line feed ends it
 pub record Line : Type 0 where
@@ -20,14 +23,16 @@ led c (line ∷ lines) = record { bytes = c ∷ line.bytes; ended = line.ended }
 -- what stands between line feeds, but for nothing at the end
 abbrev pub lines_of : List ℕ → List Line
 lines_of [] = []
-lines_of (c ∷ cs) = if c == 10 then record { bytes = []; ended = true } ∷ lines_of cs else led c (lines_of cs)
+lines_of (c ∷ cs) = if c == line_feed then record { bytes = []; ended = true } ∷ lines_of cs else led c (lines_of cs)
 
 -- one carriage return before a line feed is no part of the line
 abbrev pub without_return : List ℕ → List ℕ
-without_return line = if ends_with nat_eq line (13 ∷ []) then take (length line - 1) line else line
+without_return line = if ends_with nat_eq line (carriage_return ∷ []) then take (length line - 1) line else line
 
 abbrev pub content : Line → List ℕ
 content line = if line.ended then without_return line.bytes else line.bytes
+
+-- ---- what a line says
 
 abbrev pub some_key : Result Key KeyFault → Result (Option Key) KeyFault
 some_key (Ok key) = Ok (Some key)
@@ -36,14 +41,7 @@ some_key (Err fault) = Err fault
 -- an empty line and a comment say no key
 abbrev pub content_key : List ℕ → Result (Option Key) KeyFault
 content_key [] = Ok None
-content_key (c ∷ cs) = if c == 35 then Ok None else some_key (key_at (c ∷ cs))
-
--- the most bytes of a line, and of all
-abbrev pub line_limit : ℕ
-line_limit = 4096
-
-abbrev pub limit : ℕ
-limit = 1048576
+content_key (c ∷ cs) = if c == number_sign then Ok None else some_key (key_at (c ∷ cs))
 
 -- whether the bytes came to their end
 abbrev pub is_end : Ending → Bool
@@ -52,9 +50,11 @@ is_end (BadKey line fault) = false
 is_end TooManyKeys = false
 is_end ReadFault = false
 
--- a line that is cut off is refused where it is too long already, and else says no key
+-- a line is refused where it is too long already; else one that is cut off says no key
 abbrev pub line_key : Ending → Line → Result (Option Key) KeyFault
-line_key ending line = if nat_lt line_limit (length line.bytes) then Err UnknownWord else if line.ended || is_end ending then content_key (content line) else Ok None
+line_key ending line = if nat_lt line_limit (length line.bytes) then Err TooLong else if line.ended || is_end ending then content_key (content line) else Ok None
+
+-- ---- keys
 
 -- keys, and how they came to an end
 pub record Keys : Type 0 where
@@ -71,10 +71,14 @@ abbrev pub keys_from : Ending → ℕ → List Line → Keys
 keys_from ending number [] = record { keys = []; ending = ending }
 keys_from ending number (line ∷ lines) = key_before number (line_key ending line) (keys_from ending (number + 1) lines)
 
--- the keys of bytes; of too many bytes the first ones count
-abbrev pub keys_of : List ℕ → Keys
-keys_of bytes = keys_from (if nat_lt limit (length bytes) then TooManyKeys else End) 1 (lines_of (take limit bytes))
+-- the keys of bytes behind which there is this ending
+unfoldable pub keys_at : Ending → List ℕ → Keys
+keys_at ending bytes = keys_from ending 1 (lines_of bytes)
 
--- the keys of bytes behind which a read failed
-abbrev pub keys_before_fault : List ℕ → Keys
-keys_before_fault bytes = keys_from ReadFault 1 (lines_of bytes)
+-- the most bytes of all
+abbrev pub limit : ℕ
+limit = 1048576
+
+-- the keys of bytes; of too many bytes the first ones count
+unfoldable pub keys_of : List ℕ → Keys
+keys_of bytes = keys_at (if nat_lt limit (length bytes) then TooManyKeys else End) (take limit bytes)

@@ -1,20 +1,12 @@
--- Keys that are read piece by piece, up to the limit or a read that failed. This project's own.
-use Rattle.std.specs.Prelude.{◌≡◌, ℕ, ◌+◌, ◌-◌, ◌≤◌, nat_lt, if◌then◌else◌, List, ◌++◌, length, take, Option, Some, None}
-use Rattle.wap_base.specs.Transfer.{TakesFrom}
-use Rattle.wap_keys.specs.declared.key.Key.{Key}
-use Rattle.wap_keys.specs.declared.source.Ending.{Ending}
-use Rattle.wap_keys.specs.declared.source.Ending.TheVariants.{End, TooManyKeys, ReadFault}
-use Rattle.wap_keys.specs.declared.lines.Lines.{Lines}
-use Rattle.wap_keys.specs.Lines.{Keys, limit, keys_before_fault}
-use Rattle.wap_keys.specs.Begun.{keys_with, keys_at, IsBegun}
-
--- a source with these bytes has still left, and the keys are those of the whole lines that it gave
-pub record IsReadBefore (keys : List Key) (left : Option (List ℕ)) (bytes : List ℕ) : Type 0 where
-  pub given : List ℕ
-  pub rest : List ℕ
-  pub split : bytes ≡ given ++ rest
-  pub still : left ≡ Some rest
-  pub said : keys_before_fault given ≡ record { keys = keys; ending = ReadFault }
+-- Keys whose bytes are taken from a source. This project's own.
+use Rattle.std.specs.Prelude.{◌≡◌, ◌≢◌, ◌⊎◌, ℕ, ◌+◌, ◌≤◌, List, [], ◌∷◌, ◌++◌, length, take, Option, Some, IfSome}
+use Rattle.wap_base.specs.Count.{raised}
+use Rattle.wap_base.specs.Transfer.{TakesFrom, IsAtEnd}
+use Rattle.wap_input.specs.declared.key.Key.{Key}
+use Rattle.wap_keys.specs.declared.fault.KeyFault.TheVariants.{NoMemory}
+use Rattle.wap_keys.specs.declared.ending.Ending.{Ending}
+use Rattle.wap_keys.specs.declared.ending.Ending.TheVariants.{End, BadKey, TooManyKeys, ReadFault}
+use Rattle.wap_keys.specs.Lines.{Keys, limit, keys_at, keys_of}
 
 -- the keys are the first of these
 abbrev pub AreFirst : List Key → List Key → Type 0
@@ -24,13 +16,65 @@ AreFirst keys all = (others : List Key) × (all ≡ keys ++ others)
 abbrev pub TakesAtMost : ℕ → Option (List ℕ) → Option (List ℕ) → Type 0
 TakesAtMost most before after = (taken : List ℕ) × (length taken ≤ most) × TakesFrom before after taken
 
--- what the keys come to, if these bytes follow those that were taken
-abbrev pub keys_within : Lines → ℕ → List ℕ → Keys
-keys_within lines taken bytes = keys_with lines (if nat_lt (limit - taken) (length bytes) then TooManyKeys else End) (take (limit - taken) bytes)
+-- a source with these bytes has still left, and the keys are those of the whole lines that it gave
+pub record IsReadBefore (keys : List Key) (left : Option (List ℕ)) (bytes : List ℕ) : Type 0 where
+  pub given : List ℕ
+  pub rest : List ℕ
+  pub split : bytes ≡ given ++ rest
+  pub still : left ≡ Some rest
+  pub said : keys_at ReadFault given ≡ record { keys = keys; ending = ReadFault }
 
--- a piece is taken as far as the limit lets, whatever follows; or it ends the reading
-abbrev pub TakesWithin : Lines → Lines → ℕ → List ℕ → Option Ending → Type 0
-TakesWithin before after taken piece None =
-    IsBegun after × (after.number ≤ before.number + length piece) × (length piece ≤ limit - taken)
-    × ((ending : Ending) (rest : List ℕ) → keys_with before ending (piece ++ rest) ≡ keys_with after ending rest)
-TakesWithin before after taken piece (Some stop) = (rest : List ℕ) → keys_within before taken (piece ++ rest) ≡ keys_at after stop
+-- a count rose once, or not at all
+abbrev pub AtMostOnce : ℕ → ℕ → Type 0
+AtMostOnce before after = (after ≡ before) ⊎ (after ≡ raised before)
+
+-- the whole lines among bytes that were taken: those that a line feed ends, and the last where no byte is left
+abbrev pub ending_before : List ℕ → Ending
+ending_before [] = End
+ending_before (byte ∷ bytes) = ReadFault
+
+abbrev pub keys_among : List ℕ → List ℕ → List Key
+keys_among taken rest = (keys_at (ending_before rest) taken).keys
+
+-- the most bytes that one read takes
+abbrev pub piece_limit : ℕ
+piece_limit = 4096
+
+-- before the last piece was taken, the whole lines were key lines, and said no more than a front of these keys
+pub record IsPrompt (taken : List ℕ) (keys : List Key) : Type 0 where
+  pub earlier : List ℕ
+  pub piece : List ℕ
+  pub said : List Key
+  pub split : taken ≡ earlier ++ piece
+  pub short : length piece ≤ piece_limit
+  pub before : keys_at ReadFault earlier ≡ record { keys = said; ending = ReadFault }
+  pub first : AreFirst said keys
+
+-- the bytes were taken, and the keys are the first that their whole lines say, and the first of all
+pub record HasGiven (start left : Option (List ℕ)) (taken : List ℕ) (keys : List Key) : Type 0 where
+  pub takes : TakesFrom start left taken
+  pub few : length taken ≤ limit + 1
+  pub prompt : IsPrompt taken keys
+  pub first : IfSome left (λ rest. AreFirst keys (keys_among taken rest))
+  pub of_all : IfSome start (λ bytes. AreFirst keys (keys_of bytes).keys)
+
+-- a line among the bytes is no key line, whatever follows; or their last line is none, which no line feed ends
+abbrev pub IsBad : Option (List ℕ) → List ℕ → Keys → Type 0
+IsBad left taken bad = ((ending : Ending) (rest : List ℕ) → keys_at ending (taken ++ rest) ≡ bad) ⊎ (IsAtEnd left × (keys_at End taken ≡ bad))
+
+-- how the keys of bytes that were taken came to an end: with the source, by a bad line, by one byte past the limit, or
+-- as the source failed
+abbrev pub EndsBy : Option (List ℕ) → List ℕ → List Key → Ending → Type 0
+EndsBy left taken keys End = IsAtEnd left × (length taken ≤ limit) × (keys_at End taken ≡ record { keys = keys; ending = End })
+EndsBy left taken keys (BadKey line fault) = (fault ≢ NoMemory) × (length taken ≤ limit) × IsBad left taken (record { keys = keys; ending = BadKey line fault })
+EndsBy left taken keys TooManyKeys = (length taken ≡ limit + 1) × (keys_at TooManyKeys (take limit taken) ≡ record { keys = keys; ending = TooManyKeys })
+EndsBy left taken keys ReadFault = (length taken ≤ limit) × (keys_at ReadFault taken ≡ record { keys = keys; ending = ReadFault })
+
+-- the keys were read to their end
+pub record IsRead (start left : Option (List ℕ)) (taken : List ℕ) (keys : List Key) (ending : Ending) : Type 0 where
+  pub given : HasGiven start left taken keys
+  pub ends : EndsBy left taken keys ending
+
+-- some bytes were taken, and so the keys were read to their end
+abbrev pub ReadsTo : Option (List ℕ) → Option (List ℕ) → List Key → Ending → Type 0
+ReadsTo start left keys ending = (taken : List ℕ) × IsRead start left taken keys ending

@@ -1,87 +1,187 @@
-//! Keys, and reading one from its line.
-ghost use Rattle.std.specs.Prelude.{◌≡◌, IfOk};
-ghost use Rattle.std.specs.List.{list_all};
+//! Reading a key from its line.
+ghost use Rattle.std.specs.Prelude.{◌≡◌, ◌≢◌, ◌≤◌, Ok, Err, IfOk, IfErr};
+ghost use Rattle.std.specs.Option.{option_map};
 ghost use Rattle.wap_base.specs.Outcome.{Meets};
-ghost use Rattle.wap_keys.specs.declared.key.KeyFault.TheVariants.{NoMemory};
-ghost use Rattle.wap_keys.specs.Keys.{is_printable, is_kind, do_at, key_at};
+ghost use Rattle.wap_input.specs.declared.key.Key.{Key};
+ghost use Rattle.wap_keys.specs.declared.fault.KeyFault.{KeyFault};
+ghost use Rattle.wap_keys.specs.declared.fault.KeyFault.TheVariants.{NoMemory};
+ghost use Rattle.wap_keys.specs.declared.word.Word.TheVariants as word;
+ghost use Rattle.wap_keys.specs.Forms.{front_of, rest_of, word_named, form_of, text_at};
+ghost use Rattle.wap_keys.specs.Forms.{text_or_none_at, nothing_at, number_in, number_at};
+ghost use Rattle.wap_keys.specs.Forms.{ReadsNumber, greatest_u16, key_by, key_of_word, key_at};
+ghost use Rattle.wap_keys.specs.Spelling.{IsKeyLine, IsNoKeyLine};
 
+use crate::decimal::decimal_of;
+use crate::word::Word;
+use crate::{Key, KeyFault};
 use std::alloc::Global;
-use wap_base::Text;
+use std::str;
+use wap_base::{NoMemory as WantOfMemory, Text};
 
-/// What a user does.
-#[derive(Debug, Drop, PartialEq, Eq)]
-pub enum Key {
-    /// Runs the do of a type.
-    Do(Text),
-    /// Goes back to the card before.
-    Back,
-    /// Shows the variables.
-    Vars,
-}
+/// The most bytes of a line.
+pub(crate) const LINE_LIMIT: usize = 4096;
 
-/// Why a line is no key line.
-#[derive(Clone, Copy, Debug, PartialEq, Eq)]
-pub enum KeyFault {
-    UnknownWord,
-    NoMemory,
-}
-
-impl From<wap_base::NoMemory> for KeyFault {
-    ghost from_gives = { λ _ fault. fault ≡ NoMemory };
-
-    fn from(_want: wap_base::NoMemory) -> KeyFault {
-        KeyFault::NoMemory
+/// What stands before the first space, and what stands behind it.
+fn split(text: &str) -> (&str, Option<&str>)
+    ensures front { result.0.now ≡ front_of text.now }
+    ensures rest { option_map (λ rest. rest.now) result.1 ≡ rest_of text.now }
+{
+    match text.split_once(' ') {
+        Some((front, rest)) => (front, Some(rest)),
+        None => (text, None),
     }
 }
 
-fn is_printable(byte: u8) -> bool
-    ensures { result ≡ is_printable byte }
+fn read_text(alloc: Global, rest: Option<&str>) -> Result<Text, KeyFault>
+    ensures { Meets NoMemory (λ text. text) result (text_at
+        (option_map (λ rest. rest.now) rest.entry)) }
 {
-    matches!(byte, b' '..=b'~')
-}
-
-fn are_printable(bytes: &[u8]) -> bool
-    ensures { result ≡ list_all is_printable bytes.now }
-{
-    bytes.iter().all(|byte| is_printable(*byte))
-}
-
-fn is_kind(bytes: &[u8]) -> bool
-    ensures { result ≡ is_kind bytes.now }
-{
-    !bytes.is_empty() && are_printable(bytes)
-}
-
-/// The text of bytes of which each is a character's number.
-fn text_of(alloc: Global, bytes: &[u8]) -> Result<Text, wap_base::NoMemory>
-    ensures { IfOk result (λ text. text ≡ bytes.now) }
-{
-    let mut text = Text::new(alloc);
-    for byte in bytes {
-        text.push(char::from(*byte))?;
-    }
-    Ok(text)
-}
-
-/// The key of a line that begins with `do` and a space.
-fn read_do(alloc: Global, line: &[u8]) -> Result<Key, KeyFault>
-    ensures { Meets NoMemory (λ key. key) result (do_at line.now) }
-{
-    match line {
-        [b'd', b'o', b' ', kind @ ..] if is_kind(kind) => Ok(Key::Do(text_of(alloc, kind)?)),
-        _ => Err(KeyFault::UnknownWord),
+    match rest {
+        Some(text) if !text.is_empty() => Ok(Text::of(alloc, text)?),
+        _ => Err(KeyFault::Missing),
     }
 }
 
-/// The key of a line that is neither empty nor a comment.
-pub fn read_key(alloc: Global, line: &[u8]) -> Result<Key, KeyFault>
+fn read_text_or_none(alloc: Global, rest: Option<&str>) -> Result<Text, WantOfMemory>
+    ensures { IfOk result (λ text. text ≡ text_or_none_at
+        (option_map (λ rest. rest.now) rest.entry)) }
+{
+    match rest {
+        Some(text) => Text::of(alloc, text),
+        None => Ok(Text::new(alloc)),
+    }
+}
+
+fn read_nothing(key: Key, rest: Option<&str>) -> Result<Key, KeyFault>
+    ensures { result ≡ nothing_at key (option_map (λ rest. rest.now) rest.entry) }
+{
+    match rest {
+        Some(_) => Err(KeyFault::Surplus),
+        None => Ok(key),
+    }
+}
+
+/// The number that an argument is.
+fn number_in(argument: &str, greatest: u32) -> Result<u32, KeyFault>
+    ensures is { result ≡ number_in greatest argument.now }
+    ensures small { IfOk result (λ number. number ≤ greatest) }
+{
+    if argument.is_empty() {
+        return Err(KeyFault::Missing);
+    }
+    match decimal_of(argument.as_bytes(), greatest) {
+        Some(number) => Ok(number),
+        None => Err(KeyFault::BadNumber),
+    }
+}
+
+/// A number, and what follows it.
+fn read_number(rest: Option<&str>, greatest: u32) -> Result<(u32, Option<&str>), KeyFault>
+    ensures is { ReadsNumber result (number_at greatest (option_map
+        (λ rest. rest.now) rest.entry)) }
+    ensures small { IfOk result (λ read. read.0 ≤ greatest) }
+{
+    let Some(text) = rest else {
+        return Err(KeyFault::Missing);
+    };
+    let (argument, rest) = split(text);
+    Ok((number_in(argument, greatest)?, rest))
+}
+
+/// A number of at most 65,535, and what follows it.
+fn read_u16(rest: Option<&str>) -> Result<(u16, Option<&str>), KeyFault>
+    ensures { ReadsNumber result (number_at greatest_u16
+        (option_map (λ rest. rest.now) rest.entry)) }
+{
+    let (number, rest) = read_number(rest, u32::from(u16::MAX))?;
+    Ok((number as u16, rest))
+}
+
+/// The key of a word and its arguments.
+fn read_form(alloc: Global, word: Word, rest: Option<&str>) -> Result<Key, KeyFault>
+    ensures { Meets NoMemory (λ key. key) result (key_by (form_of word)
+        (option_map (λ rest. rest.now) rest.entry)) }
+{
+    match word {
+        Word::Open => Ok(Key::Open(read_text(alloc, rest)?)),
+        Word::Do => Ok(Key::Do(read_text(alloc, rest)?)),
+        Word::Pick => read_pick(rest),
+        Word::Type => read_type(alloc, rest),
+        Word::Choose => read_choose(rest),
+        Word::Back => read_nothing(Key::Back, rest),
+        Word::Tick => read_tick(rest),
+        Word::Ok => read_nothing(Key::Ok, rest),
+        Word::Cancel => read_nothing(Key::Cancel, rest),
+        Word::Answer => Ok(Key::Answer(read_text_or_none(alloc, rest)?)),
+        Word::Stop => read_nothing(Key::Stop, rest),
+        Word::Vars => read_nothing(Key::Vars, rest),
+    }
+}
+
+fn read_pick(rest: Option<&str>) -> Result<Key, KeyFault>
+    ensures { result ≡ key_by (form_of word.Pick) (option_map (λ rest. rest.now) rest.entry) }
+{
+    let (number, rest) = read_u16(rest)?;
+    read_nothing(Key::Pick(number), rest)
+}
+
+fn read_type(alloc: Global, rest: Option<&str>) -> Result<Key, KeyFault>
+    ensures { Meets NoMemory (λ key. key) result (key_by (form_of word.Type)
+        (option_map (λ rest. rest.now) rest.entry)) }
+{
+    let (number, rest) = read_u16(rest)?;
+    Ok(Key::Enter(number, read_text_or_none(alloc, rest)?))
+}
+
+fn read_choose(rest: Option<&str>) -> Result<Key, KeyFault>
+    ensures { result ≡ key_by (form_of word.Choose) (option_map (λ rest. rest.now) rest.entry) }
+{
+    let (field, rest) = read_u16(rest)?;
+    let (option, rest) = read_u16(rest)?;
+    read_nothing(Key::Choose(field, option), rest)
+}
+
+fn read_tick(rest: Option<&str>) -> Result<Key, KeyFault>
+    ensures { result ≡ key_by (form_of word.Tick) (option_map (λ rest. rest.now) rest.entry) }
+{
+    let (count, rest) = read_number(rest, u32::MAX)?;
+    read_nothing(Key::Tick(count), rest)
+}
+
+/// The key of a text.
+fn read_words(alloc: Global, text: &str) -> Result<Key, KeyFault>
+    ensures { Meets NoMemory (λ key. key) result (key_of_word (word_named (front_of text.now))
+        (rest_of text.now)) }
+{
+    let (front, rest) = split(text);
+    match Word::named(front.as_bytes()) {
+        Some(word) => read_form(alloc, word, rest),
+        None => Err(KeyFault::UnknownWord),
+    }
+}
+
+/// The key of a line.
+fn read_line(alloc: Global, line: &[u8]) -> Result<Key, KeyFault>
     ensures { Meets NoMemory (λ key. key) result (key_at line.now) }
 {
-    if line == b"back".as_slice() {
-        return Ok(Key::Back);
+    if line.len() > LINE_LIMIT {
+        return Err(KeyFault::TooLong);
     }
-    if line == b"vars".as_slice() {
-        return Ok(Key::Vars);
+    match str::from_utf8(line) {
+        Ok(text) => read_words(alloc, text),
+        Err(_) => Err(KeyFault::NotText),
     }
-    read_do(alloc, line)
+}
+
+/// The key of a line that is neither empty nor a comment, without its line feed.
+pub fn read_key(alloc: Global, line: &[u8]) -> Result<Key, KeyFault>
+    ensures found { IfOk result (IsKeyLine line.now) }
+    ensures only { (key : Key) → IsKeyLine line.now key → Meets NoMemory (λ key. key) result
+        (Ok key) }
+    ensures refused { IfErr result (λ fault. fault ≢ NoMemory → IsNoKeyLine line.now fault) }
+    ensures first { (fault : KeyFault) → IsNoKeyLine line.now fault
+        → Meets NoMemory (λ key. key) result (Err fault) }
+    ensures exact { Meets NoMemory (λ key. key) result (key_at line.now) }
+{
+    read_line(alloc, line)
 }

@@ -1,13 +1,20 @@
 //! Key lines: the recorded keys of a session, one a line.
 #![tactic(auto)]
 
+mod decimal;
+mod ending;
+mod fault;
+mod front;
 mod key;
 mod line;
-mod lines;
-mod source;
+mod reader;
+mod reading;
+mod word;
 
-pub use key::{Key, KeyFault, read_key};
-pub use source::{Ending, read_keys};
-
-#[cfg(test)]
-mod tests;
+pub use decimal::decimal_of;
+pub use ending::{Ending, Next};
+pub use fault::KeyFault;
+pub use key::read_key;
+pub use reader::Reader;
+pub use reading::read_keys;
+pub use wap_input::Key;

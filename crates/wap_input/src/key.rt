@@ -1,0 +1,31 @@
+//! Keys.
+use wap_base::Text;
+
+/// What a user does.
+#[derive(Debug, Drop, PartialEq, Eq)]
+pub enum Key {
+    /// Opens a URL.
+    Open(Text),
+    /// Runs the do of a type.
+    Do(Text),
+    /// Follows the link of a number.
+    Pick(u16),
+    /// Enters a text into the field of a number.
+    Enter(u16, Text),
+    /// Chooses in the field of a number the option of another.
+    Choose(u16, u16),
+    /// Goes back to the card before.
+    Back,
+    /// Lets so many tenths of a second pass.
+    Tick(u32),
+    /// Answers a dialog by its first button.
+    Ok,
+    /// Answers a dialog by its second button.
+    Cancel,
+    /// Answers a dialog by a text.
+    Answer(Text),
+    /// Stops a script.
+    Stop,
+    /// Shows the variables.
+    Vars,
+}

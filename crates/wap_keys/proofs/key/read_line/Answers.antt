@@ -1,0 +1,16 @@
+use Rattle.std.proofs.Common.{◌≡◌, ℕ, ◌∙◌, ap, sym, subst, Bool, true, false, cond, length, rules, Result, Ok, Err, nat_lt}
+use Rattle.std.proofs.lemmas.Bool.{lt-ltb, le-ltb}
+use Rattle.std.specs.Str.{is_utf8}
+use Rattle.std.proofs.lemmas.Str.{is_utf8-from_IsUtf8}
+use Rattle.wap_keys.specs.Forms.{key_at}
+use Rattle.wap_keys.proofs.KeyLaws.{long_key, bad_text, text_key}
+use Rattle.wap_keys.proofs.key.read_line.Goals as goal
+
+pub returns-then-line-gt-LINE_LIMIT : goal.returns-then-line-gt-LINE_LIMIT
+returns-then-line-gt-LINE_LIMIT c = λ _. long_key c.args.line.now c.if-line-gt-LINE_LIMIT.true
+
+pub returns-in-Ok : goal.returns-in-Ok
+returns-in-Ok c = text_key c.read_words.result c.args.line.now c.in-Ok.text.now c.if-line-gt-LINE_LIMIT.false c.in-Ok.ensures.cases.0 c.in-Ok.ensures.cases.1 c.read_words.ensures
+
+pub returns-in-Err : goal.returns-in-Err
+returns-in-Err c = λ _. bad_text c.args.line.now c.if-line-gt-LINE_LIMIT.false c.in-Err.ensures.cases.0

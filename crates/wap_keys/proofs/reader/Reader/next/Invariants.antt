@@ -1,0 +1,17 @@
+use Rattle.std.proofs.Common.{◌≡◌, ◌≤◌, ◌+◌, ◌-◌}
+use Rattle.wap_keys.specs.Lines.{limit}
+use Rattle.wap_keys.specs.Reading.{room}
+use Rattle.wap_keys.proofs.ReaderSteps.{Keeps}
+use Rattle.wap_keys.proofs.reader.Reader.next.Given as goal
+
+abbrev pub invariant-loop-self : goal.invariant-loop-self
+invariant-loop-self g l = record {
+  keeps : Keeps (g.I.Source.left l.fn.source) (g.I.Source.left l.source) l.fn.self l.self;
+  room : room l.self ≤ room l.fn.self;
+  over : l.self.over ≡ l.fn.self.over;
+  steady : g.I.Source.faults l.source ≡ g.I.Source.faults l.fn.source;
+  ends : g.I.Source.ends l.source ≡ g.I.Source.ends l.fn.source;
+}
+
+abbrev pub decreases-loop-self : goal.decreases-loop-self
+decreases-loop-self g l = room l.self + (limit - l.self.count)

@@ -1,0 +1,136 @@
+-- Key lines: the forms, each a word and its arguments, and what one line says. This project's own.
+use Rattle.std.specs.Prelude.{◌≡◌, ℕ, ◌==◌, nat_lt, if◌then◌else◌, Bool, List, [], ◌∷◌, length, Option, Some, None, Result, Ok, Err, codes, find}
+use Rattle.std.specs.Borrow.{Bor}
+use Rattle.std.specs.Option.{option_map}
+use Rattle.std.specs.List.{position_or_len, before_first, after_first}
+use Rattle.std.specs.Str.{chars, is_utf8}
+use Rattle.wap_base.specs.Outcome.{◌>>=◌}
+use Rattle.wap_base.specs.Ascii.{space}
+use Rattle.wap_base.specs.Texts.{is_same_text}
+use Rattle.wap_input.specs.declared.key.Key.{Key}
+use Rattle.wap_input.specs.declared.key.Key.TheVariants as key
+use Rattle.wap_keys.specs.declared.fault.KeyFault.{KeyFault}
+use Rattle.wap_keys.specs.declared.fault.KeyFault.TheVariants.{TooLong, NotText, UnknownWord, Missing, BadNumber, Surplus}
+use Rattle.wap_keys.specs.declared.word.Word.{Word}
+use Rattle.wap_keys.specs.declared.word.Word.TheVariants as word
+use Rattle.wap_keys.specs.Decimal.{decimal_of}
+
+-- ---- words and what follows them
+
+abbrev pub is_space : ℕ → Bool
+is_space c = c == space
+
+-- what stands before the first space
+abbrev pub front_of : List ℕ → List ℕ
+front_of = before_first is_space
+
+-- and what stands behind it, if there is one
+abbrev pub rest_of : List ℕ → Option (List ℕ)
+rest_of bytes = if nat_lt (position_or_len is_space bytes) (length bytes) then Some (after_first is_space bytes) else None
+
+-- ---- forms
+
+-- what follows a word, and the key that it makes
+pub data Form : Type 0 where
+  nothing : Key → Form
+  text : (List ℕ → Key) → Form
+  text_or_none : (List ℕ → Key) → Form
+  number : ℕ → (ℕ → Form) → Form
+
+abbrev pub greatest_u16 : ℕ
+greatest_u16 = 65535
+
+abbrev pub greatest_u32 : ℕ
+greatest_u32 = 4294967295
+
+abbrev pub form_of : Word → Form
+form_of word.Open = text key.Open
+form_of word.Do = text key.Do
+form_of word.Pick = number greatest_u16 (λ n. nothing (key.Pick n))
+form_of word.Type = number greatest_u16 (λ n. text_or_none (key.Enter n))
+form_of word.Choose = number greatest_u16 (λ n. number greatest_u16 (λ m. nothing (key.Choose n m)))
+form_of word.Back = nothing key.Back
+form_of word.Tick = number greatest_u32 (λ n. nothing (key.Tick n))
+form_of word.Ok = nothing key.Ok
+form_of word.Cancel = nothing key.Cancel
+form_of word.Answer = text_or_none key.Answer
+form_of word.Stop = nothing key.Stop
+form_of word.Vars = nothing key.Vars
+
+-- the name of a form's word
+abbrev pub name_of : Word → List ℕ
+name_of word.Open = codes "open"
+name_of word.Do = codes "do"
+name_of word.Pick = codes "pick"
+name_of word.Type = codes "type"
+name_of word.Choose = codes "choose"
+name_of word.Back = codes "back"
+name_of word.Tick = codes "tick"
+name_of word.Ok = codes "ok"
+name_of word.Cancel = codes "cancel"
+name_of word.Answer = codes "answer"
+name_of word.Stop = codes "stop"
+name_of word.Vars = codes "vars"
+
+abbrev pub words : List Word
+words =
+    word.Open ∷ word.Do ∷ word.Pick ∷ word.Type ∷ word.Choose ∷ word.Back ∷ word.Tick ∷ word.Ok ∷ word.Cancel ∷ word.Answer ∷ word.Stop ∷ word.Vars ∷ []
+
+abbrev pub word_named : List ℕ → Option Word
+word_named name = find (λ word. is_same_text name (name_of word)) words
+
+-- ---- arguments
+
+abbrev pub text_at : Option (List ℕ) → Result (List ℕ) KeyFault
+text_at None = Err Missing
+text_at (Some []) = Err Missing
+text_at (Some (c ∷ cs)) = Ok (chars (c ∷ cs))
+
+abbrev pub text_or_none_at : Option (List ℕ) → List ℕ
+text_or_none_at None = []
+text_or_none_at (Some bytes) = chars bytes
+
+abbrev pub nothing_at : Key → Option (List ℕ) → Result Key KeyFault
+nothing_at key None = Ok key
+nothing_at key (Some bytes) = Err Surplus
+
+abbrev pub number_of : Option ℕ → Result ℕ KeyFault
+number_of None = Err BadNumber
+number_of (Some n) = Ok n
+
+abbrev pub number_in : ℕ → List ℕ → Result ℕ KeyFault
+number_in greatest [] = Err Missing
+number_in greatest (c ∷ cs) = number_of (decimal_of greatest (c ∷ cs))
+
+-- a number, and what follows it
+abbrev pub number_at : ℕ → Option (List ℕ) → Result (ℕ × Option (List ℕ)) KeyFault
+number_at greatest None = Err Missing
+number_at greatest (Some bytes) = number_in greatest (front_of bytes) >>= λ n. Ok (n, rest_of bytes)
+
+-- a call read this number, and has what follows it
+abbrev pub ReadsNumber : Result (ℕ × Option (Bor (List ℕ))) KeyFault → Result (ℕ × Option (List ℕ)) KeyFault → Type 0
+ReadsNumber (Ok read) at = at ≡ Ok (read.0, option_map (λ rest. rest.now) read.1)
+ReadsNumber (Err fault) at = at ≡ Err fault
+
+-- arguments are read from the left
+abbrev pub key_by : Form → Option (List ℕ) → Result Key KeyFault
+key_by (nothing key) rest = nothing_at key rest
+key_by (text make) rest = text_at rest >>= λ t. Ok (make t)
+key_by (text_or_none make) rest = Ok (make (text_or_none_at rest))
+key_by (number greatest form) rest = number_at greatest rest >>= λ read. key_by (form read.0) read.1
+
+-- ---- lines
+
+abbrev pub key_of_word : Option Word → Option (List ℕ) → Result Key KeyFault
+key_of_word None rest = Err UnknownWord
+key_of_word (Some word) rest = key_by (form_of word) rest
+
+-- the most bytes of a line
+abbrev pub line_limit : ℕ
+line_limit = 4096
+
+-- what a line says that is neither empty nor a comment
+unfoldable pub key_at : List ℕ → Result Key KeyFault
+key_at line =
+    if nat_lt line_limit (length line) then Err TooLong else
+    if is_utf8 line then key_of_word (word_named (front_of line)) (rest_of line) else Err NotText

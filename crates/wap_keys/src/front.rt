@@ -1,0 +1,57 @@
+//! Fronts of bytes, up to a line feed.
+ghost use Rattle.std.specs.Prelude.{◌≡◌, ◌<◌, ◌≤◌, ◌+◌, ◌++◌, ◌∷◌, true, length, take, drop, IfOk};
+ghost use Rattle.std.specs.Prelude.{OnErr, IfNone, IfSome};
+ghost use Rattle.wap_base.specs.Ascii.{line_feed};
+ghost use Rattle.wap_keys.specs.Forms.{line_limit};
+ghost use Rattle.wap_keys.specs.inside.Taking.{is_unended, TakesFront};
+
+use crate::key::LINE_LIMIT;
+use wap_base::NoMemory;
+
+/// What follows a line that is begun.
+#[derive(Clone, Copy, Debug, PartialEq, Eq)]
+pub(crate) enum Front {
+    /// There is no line feed yet.
+    Begun,
+    /// A line feed stands at a place.
+    Whole(usize),
+    /// The line is too long, with or without a line feed.
+    TooLong,
+}
+
+/// Where the first line feed stands.
+fn feed_at(bytes: &[u8]) -> Option<usize>
+    ensures none { IfNone result (is_unended bytes.now ≡ true) }
+    ensures within { IfSome result (λ place. place < length bytes.now) }
+    ensures some { IfSome result (λ place. is_unended (take place bytes.now) ≡ true) }
+    ensures here { IfSome result (λ place. bytes.now ≡ take place bytes.now ++ line_feed
+        ∷ drop (place + 1) bytes.now) }
+{
+    for (place, byte) in bytes.iter().enumerate() {
+        if *byte == b'\n' {
+            return Some(place);
+        }
+    }
+    None
+}
+
+/// Appends to a line what follows it up to the first line feed, unless that is too long.
+pub(crate) fn take_front(line: &mut Vec<u8>, unread: &[u8]) -> Result<Front, NoMemory>
+    requires { length line.old.items ≤ line_limit }
+    ensures takes { IfOk result (TakesFront line.old.items line.new.items unread.now) }
+    ensures err { OnErr result (line.new.items ≡ line.old.items) }
+{
+    let room = LINE_LIMIT - line.as_slice().len();
+    let Some(place) = feed_at(unread) else {
+        if unread.len() > room {
+            return Ok(Front::TooLong);
+        }
+        line.extend_from_slice(unread)?;
+        return Ok(Front::Begun);
+    };
+    if place > room {
+        return Ok(Front::TooLong);
+    }
+    line.extend_from_slice(unread.split_at(place).0)?;
+    Ok(Front::Whole(place))
+}

@@ -1,0 +1,230 @@
+//! Reading one key after the other.
+ghost use Rattle.std.specs.Prelude.{◌≡◌, ◌≢◌, ◌+◌, ◌<◌, ◌≤◌, [], ◌∷◌, ◌++◌, Option, List, ℕ, Ok};
+ghost use Rattle.std.specs.Prelude.{true, false, length, take, drop, IfOk, IfNone, IfSome, OnOk};
+ghost use Rattle.std.specs.Prelude.{OnErr};
+ghost use Rattle.wap_base.specs.Count.{Rose};
+ghost use Rattle.wap_base.specs.Transfer.{TakesFrom, IsAtEnd, ends_after};
+ghost use Rattle.wap_keys.specs.declared.ending.Next.TheVariants.{Ended};
+ghost use Rattle.wap_keys.specs.declared.ending.Ending.TheVariants.{ReadFault};
+ghost use Rattle.wap_keys.specs.declared.reader.More.TheVariants.{Failed as fails};
+ghost use Rattle.wap_keys.specs.Forms.{line_limit};
+ghost use Rattle.wap_keys.specs.Lines.{content_key};
+ghost use Rattle.wap_keys.specs.Reading.{HasRead, Answers, GivesUp, Falls, KeepsEnds, GivesUpEnds};
+ghost use Rattle.wap_keys.specs.inside.Taking.{is_unended, said_of, TakesLine, ReadsMore, ends_by};
+ghost use Rattle.wap_keys.specs.inside.Taking.{TakesSome, last_next};
+
+use crate::front::{Front, take_front};
+use crate::line::{Said, line_said, without_return};
+use crate::{Ending, KeyFault, Next};
+use std::alloc::Global;
+use std::marker::Model;
+use wap_base::{Failed, NoMemory, Source};
+
+/// The most bytes of all key lines.
+const LIMIT: usize = 1 << 20;
+
+/// The most bytes that one read takes.
+const PIECE: usize = 4096;
+
+/// What a line comes to.
+#[derive(Debug, Drop)]
+pub(crate) enum Taken {
+    /// It isn't whole yet.
+    Begun,
+    Line(Said),
+}
+
+/// What a read comes to.
+#[derive(Clone, Copy, Debug, PartialEq, Eq)]
+pub(crate) enum More {
+    Piece,
+    AtEnd,
+    /// There is a byte past the limit.
+    Past,
+    Failed,
+}
+
+/// Reads keys as their bytes come: a key is given before more bytes are asked for than it needs.
+/// Behind an end or a want of memory no more keys are to be asked for.
+#[derive(Drop)]
+pub struct Reader {
+    /// The line that is begun, of pieces before.
+    line: Vec<u8>,
+    /// The last piece, of which what stands from a place on isn't read yet.
+    piece: Vec<u8>,
+    at: usize,
+    /// The number of the line that is begun.
+    number: u32,
+    /// How many bytes were taken.
+    count: usize,
+    /// Whether the source came to its end.
+    over: bool,
+}
+
+impl Model for Reader {
+    ghost use Rattle.std.specs.Prelude.{drop, length, true, ◌≡◌, ◌≤◌, ◌+◌, ◌-◌, ◌++◌};
+    ghost use Rattle.wap_keys.specs.Forms.{line_limit};
+    ghost use Rattle.wap_keys.specs.Lines.{limit};
+    ghost use Rattle.wap_keys.specs.Reading.{Reading};
+    ghost use Rattle.wap_keys.specs.inside.Taking.{is_unended};
+
+    ghost Value = { Reading };
+
+    ghost view = { λ reader. record {
+      unread = reader.line.items ++ drop reader.at
+          reader.piece.items;
+      number = reader.number;
+      count = reader.count;
+      over = reader.over;
+    } };
+
+    ghost invariant = { λ reader. (reader.at ≤ length reader.piece.items)
+        × (is_unended reader.line.items ≡ true) × (length reader.line.items ≤ line_limit)
+        × (reader.number + (length reader.line.items + (length reader.piece.items - reader.at)) ≤
+        reader.count + 1) × (reader.count ≤ limit) };
+}
+
+/// Reads the next bytes into a front of the buffer that is so long, and answers their number.
+fn read_front<I: Source>(source: &mut I, buffer: &mut [u8], room: usize) -> Result<usize, Failed>
+    requires some { 0 < room }
+    requires within { room ≤ length buffer.old }
+    ensures within { IfOk result (λ count. count ≤ room) }
+    ensures bytes { IfOk result (λ count. TakesFrom (I.left source.old) (I.left source.new)
+        (take count buffer.new)) }
+    ensures end { result ≡ Ok 0 → IsAtEnd (I.left source.old) }
+    ensures length { length buffer.new ≡ length buffer.old }
+    ensures unmoved { OnErr result (I.left source.new ≡ I.left source.old) }
+    ensures faults { I.faults source.old ≤ I.faults source.new }
+    ensures failed { OnErr result (Rose (I.faults source.old) (I.faults source.new)) }
+    ensures steady { OnOk result (I.faults source.new ≡ I.faults source.old) }
+    ensures ends { I.ends source.new ≡ ends_after (I.ends source.old) result }
+{
+    source.read(buffer.split_at_mut(room).0)
+}
+
+impl Reader {
+    /// A reader that has read nothing.
+    pub fn new(alloc: Global) -> Reader
+        ensures read { (start : Option (List ℕ)) → HasRead start start [] [] result }
+        ensures begun { result.over ≡ false }
+    {
+        Reader {
+            line: Vec::new(alloc),
+            piece: Vec::new(alloc),
+            at: 0,
+            number: 1,
+            count: 0,
+            over: false,
+        }
+    }
+
+    /// Takes a whole line, or one that is too long already.
+    fn take_line(&mut self, alloc: Global) -> Result<Taken, NoMemory>
+        ensures { IfOk result (TakesLine self.old self.new) }
+    {
+        let (_, unread) = self.piece.as_slice().split_at(self.at);
+        match take_front(&mut self.line, unread)? {
+            Front::Begun => {
+                self.piece.clear();
+                self.at = 0;
+                Ok(Taken::Begun)
+            }
+            Front::Whole(place) => {
+                self.at += place + 1;
+                let said = line_said(alloc, without_return(&self.line))?;
+                self.line.clear();
+                self.number += 1;
+                Ok(Taken::Line(said))
+            }
+            Front::TooLong => Ok(Taken::Line(Said::Bad(KeyFault::TooLong))),
+        }
+    }
+
+    /// Reads more bytes.
+    fn read_more<I: Source>(&mut self, source: &mut I) -> Result<More, NoMemory>
+        ensures more { IfOk result (ReadsMore (I.left source.old)
+            (I.left source.new) self.old self.new) }
+        ensures lost { OnErr result (TakesSome (I.left source.old) (I.left source.new) self.old) }
+        ensures faults { I.faults source.old ≤ I.faults source.new }
+        ensures failed { result ≡ Ok fails → Rose (I.faults source.old) (I.faults source.new) }
+        ensures steady { IfOk result (λ more. more ≢ fails → I.faults source.new
+            ≡ I.faults source.old) }
+        ensures lost_steady { OnErr result (I.faults source.new ≡ I.faults source.old) }
+        ensures ends { IfOk result (λ more. I.ends source.new ≡ ends_by (I.ends source.old) more) }
+        ensures lost_ends { OnErr result (I.ends source.new ≡ I.ends source.old) }
+    {
+        let mut buffer = [0; PIECE];
+        let left = LIMIT - self.count;
+        let room = if left == 0 { 1 } else { PIECE.min(left) };
+        let Ok(count) = read_front(source, &mut buffer, room) else {
+            return Ok(More::Failed);
+        };
+        if count == 0 {
+            self.over = true;
+            return Ok(More::AtEnd);
+        }
+        if left == 0 {
+            return Ok(More::Past);
+        }
+        self.piece.extend_from_slice(buffer.split_at(count).0)?;
+        self.count += count;
+        Ok(More::Piece)
+    }
+
+    /// What the last line comes to, which no line feed ends.
+    fn finish(&mut self, alloc: Global) -> Result<Next, NoMemory>
+        requires unended { is_unended self.old.unread ≡ true }
+        requires short { length self.old.unread ≤ line_limit }
+        ensures said { IfOk result (λ next. next ≡ last_next self.old.number
+            (said_of (content_key self.old.unread))) }
+        ensures rest { OnOk result (self.new ≡ record self.old { unread = [] }) }
+    {
+        let (_, unread) = self.piece.as_slice().split_at(self.at);
+        self.line.extend_from_slice(unread)?;
+        self.at = self.piece.as_slice().len();
+        let said = line_said(alloc, &self.line)?;
+        self.line.clear();
+        let line = self.number;
+        match said {
+            Said::Nothing => Ok(Next::Ended(Ending::End)),
+            Said::Key(key) => Ok(Next::Key(key)),
+            Said::Bad(fault) => Ok(Next::Ended(Ending::BadKey { line, fault })),
+        }
+    }
+
+    /// The next key, or how the keys came to their end.
+    pub fn next<I: Source>(&mut self, alloc: Global, source: &mut I) -> Result<Next, NoMemory>
+        ensures answers { IfOk result (Answers (I.left source.old)
+            (I.left source.new) self.old self.new) }
+        ensures gives_up { OnErr result (GivesUp (I.left source.old) (I.left source.new) self.old) }
+        ensures falls { IfOk result (Falls self.old self.new) }
+        ensures faults { I.faults source.old ≤ I.faults source.new }
+        ensures failed { IfOk result (λ next. next ≡ Ended ReadFault
+            → Rose (I.faults source.old) (I.faults source.new)) }
+        ensures steady { IfOk result (λ next. next ≢ Ended ReadFault → I.faults source.new
+            ≡ I.faults source.old) }
+        ensures lost_steady { OnErr result (I.faults source.new ≡ I.faults source.old) }
+        ensures ends { OnOk result (KeepsEnds self.old self.new (I.ends source.old)
+            (I.ends source.new)) }
+        ensures lost_ends { OnErr result (GivesUpEnds self.old (I.ends source.old)
+            (I.ends source.new)) }
+    {
+        while !self.over {
+            let line = self.number;
+            match self.take_line(alloc)? {
+                Taken::Line(Said::Nothing) => {}
+                Taken::Line(Said::Key(key)) => return Ok(Next::Key(key)),
+                Taken::Line(Said::Bad(fault)) => {
+                    return Ok(Next::Ended(Ending::BadKey { line, fault }));
+                }
+                Taken::Begun => match self.read_more(source)? {
+                    More::Piece => {}
+                    More::AtEnd => return self.finish(alloc),
+                    More::Past => return Ok(Next::Ended(Ending::TooManyKeys)),
+                    More::Failed => return Ok(Next::Ended(Ending::ReadFault)),
+                },
+            }
+        }
+        Ok(Next::Ended(Ending::End))
+    }
+}

@@ -1,0 +1,7 @@
+mod WordKinds
+mod Rules
+mod Walking
+mod Turns
+mod Simulation
+mod TextLaws
+mod Parsing

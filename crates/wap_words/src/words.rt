@@ -1,0 +1,133 @@
+//! Commands, and the words that say them.
+ghost use Rattle.std.specs.Prelude.{◌≡◌, IfOk, map, drop, option_map, option_and_then};
+ghost use Rattle.std.specs.Prelude.{encode_utf8_all, codes};
+ghost use Rattle.wap_base.specs.Texts.{is_same_text};
+ghost use Rattle.wap_words.specs.Reading.{uses_of};
+ghost use Rattle.wap_words.specs.Words.{number_of, browse_form, browse_by, browse_of, command};
+ghost use Rattle.wap_words.specs.inside.Matching.{AreTexts, text_in};
+
+use crate::matching::{browse_matches, text_in};
+use clap::ArgMatches;
+use std::alloc::Global;
+use wap_base::{NoMemory, Text};
+use wap_keys::decimal_of;
+
+/// What is browsed, and how.
+#[derive(Debug, Drop, PartialEq, Eq)]
+pub struct Browse {
+    pub url: Text,
+    /// What the first random number hangs on.
+    pub seed: u32,
+    /// How many turns each key has.
+    pub budget: u32,
+    /// How many pages are kept.
+    pub cache: u32,
+}
+
+/// A command, with its values.
+#[derive(Debug, Drop, PartialEq, Eq)]
+pub enum Command {
+    Browse(Browse),
+}
+
+/// A number in its range, or what it is where none is given.
+fn number_of(digits: Option<&str>, least: u32, greatest: u32, default: u32) -> Option<u32>
+    ensures { result ≡ number_of least greatest default (option_map
+        (λ digits. digits.now) digits.entry) }
+{
+    let Some(digits) = digits else {
+        return Some(default);
+    };
+    let number = decimal_of(digits.as_bytes(), greatest)?;
+    if number < least {
+        return None;
+    }
+    Some(number)
+}
+
+/// The command of the texts that were given.
+fn browse_by(
+    alloc: Global,
+    url: Option<&str>,
+    seed: Option<&str>,
+    budget: Option<&str>,
+    cache: Option<&str>,
+) -> Result<Option<Command>, NoMemory>
+    ensures { IfOk result (λ said. said ≡ browse_by (option_map (λ text. text.now) url.entry)
+        (option_map (λ text. text.now) seed.entry) (option_map (λ text. text.now) budget.entry)
+        (option_map (λ text. text.now) cache.entry)) }
+{
+    let Some(url) = url else {
+        return Ok(None);
+    };
+    let Some(seed) = number_of(seed, 0, u32::MAX, 0) else {
+        return Ok(None);
+    };
+    let Some(budget) = number_of(budget, 1, u32::MAX, 100_000) else {
+        return Ok(None);
+    };
+    let Some(cache) = number_of(cache, 1, 256, 16) else {
+        return Ok(None);
+    };
+    let url = Text::of(alloc, url)?;
+    Ok(Some(Command::Browse(Browse {
+        url,
+        seed,
+        budget,
+        cache,
+    })))
+}
+
+/// The command of matches.
+fn browse_in(alloc: Global, matches: &ArgMatches) -> Result<Option<Command>, NoMemory>
+    ensures { IfOk result (λ said. said ≡ browse_by (text_in matches.now (codes "url"))
+        (text_in matches.now (codes "seed")) (text_in matches.now (codes "budget"))
+        (text_in matches.now (codes "cache"))) }
+{
+    let url = text_in(matches, "url");
+    let seed = text_in(matches, "seed");
+    let budget = text_in(matches, "budget");
+    let cache = text_in(matches, "cache");
+    browse_by(alloc, url, seed, budget, cache)
+}
+
+/// The words as they are parsed.
+fn texts_of<'a>(alloc: Global, words: &'a [Text]) -> Result<Vec<&'a str>, NoMemory>
+    ensures same { IfOk result (λ texts. map (λ text. text.now) texts.items
+        ≡ map encode_utf8_all words.entry.now) }
+    ensures texts { IfOk result (λ texts. AreTexts (map (λ text. text.now) texts.items)) }
+{
+    let mut texts = Vec::new(alloc);
+    for word in words {
+        texts.push(word.as_str())?;
+    }
+    Ok(texts)
+}
+
+/// The command of words that begin with `browse`.
+fn read_browse(alloc: Global, words: &[Text]) -> Result<Option<Command>, NoMemory>
+    ensures { IfOk result (λ said. said ≡ option_and_then browse_of
+        (uses_of browse_form (drop 1 (map encode_utf8_all words.now)))) }
+{
+    let texts = texts_of(alloc, words)?;
+    match browse_matches(alloc, &texts)? {
+        Some(matches) => browse_in(alloc, &matches),
+        None => Ok(None),
+    }
+}
+
+fn is_browse(name: &Text) -> bool
+    ensures { result ≡ is_same_text name.now (codes "browse") }
+{
+    name.as_str() == "browse"
+}
+
+/// The command that words are, or none.
+pub fn read_words(alloc: Global, words: &[Text]) -> Result<Option<Command>, NoMemory>
+    ensures { IfOk result (λ said. said ≡ command words.now) }
+{
+    match words {
+        [name, ..] if is_browse(name) => read_browse(alloc, words),
+        _ => Ok(None),
+    }
+}
