@@ -1,12 +1,13 @@
 -- Which names can be those of pages in a folder. This project's own.
 use Rattle.std.specs.Prelude.{ℕ, List, [], ◌≢◌, ◌==◌, codes}
 use Rattle.std.specs.List.{All, slice_split}
+use Rattle.wap_base.specs.Ascii.{slash}
 use Rattle.wap_base.specs.declared.store.Fetched.{Fetched}
 use Rattle.wap_base.specs.declared.store.Fetched.TheVariants.{Found, Missing}
 
 -- what stands between the slashes of a name, by its bytes
 abbrev pub segments : List ℕ → List (List ℕ)
-segments name = slice_split (λ byte. byte == 47) name
+segments name = slice_split (λ byte. byte == slash) name
 
 -- neither nothing, nor the folder itself, nor the folder above it
 abbrev pub IsFileName : List ℕ → Type 0

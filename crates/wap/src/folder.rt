@@ -1,6 +1,8 @@
 //! A folder of files as a store of pages.
-ghost use Rattle.std.specs.Prelude.{◌≡◌, ◌≤◌, ◌↔◌, IsTrue, IfOk, IsSome, is_err, if◌then◌else◌, encode_utf8_all};
+ghost use Rattle.std.specs.Prelude.{◌≡◌, ◌≤◌, ◌↔◌, IsTrue, IfOk, is_err, if◌then◌else◌, encode_utf8_all};
+ghost use Rattle.std.specs.IoError.{error_kind};
 ghost use Rattle.wap.specs.Inside.{IsFileName, IsInside, IsFoundInside};
+ghost use Rattle.wap.specs.Missing.{tells_nothing, fault_of, there};
 ghost use Rattle.wap_base.specs.Count.{raised};
 ghost use Rattle.wap_base.specs.Texts.{AreAscending};
 ghost use Rattle.wap_base.specs.Pages.{IsSmall};
@@ -10,10 +12,7 @@ use std::io::{ErrorKind, Read};
 use std::path::Path;
 use std::rt::Files;
 use std::{fs, io};
-use wap_base::{Bytes, Fetched, Store, StoreErr, Text};
-
-/// A page has fewer bytes than this.
-const PAGE_LIMIT: u64 = 1 << 31;
+use wap_base::{Bytes, Fetched, PAGE_LIMIT, Store, StoreErr, Text, are_ascending};
 
 /// The deepest level of a folder below the store's own, whose folders have level 1.
 const DEEPEST: u32 = 64;
@@ -21,13 +20,16 @@ const DEEPEST: u32 = 64;
 /// The regular files below a folder, as pages named `host/path`.
 ///
 /// Below the folder a symbolic link to a file counts as that file, and one to a folder as nothing,
-/// so that a walk through the folder ends. It tells no contents, since files may change at any time.
+/// so that a walk through the folder ends. Where the folder itself isn't there, or isn't one, each
+/// call fails but for the pages of names that no file can have. It tells no contents, since files
+/// may change at any time.
 #[derive(Drop)]
 pub struct FolderStore<R> {
     rt: R,
     folder: String,
     faults: u64,
     fetches: u64,
+    listings: u64,
 }
 
 impl<R> FolderStore<R> {
@@ -38,6 +40,7 @@ impl<R> FolderStore<R> {
             folder,
             faults: 0,
             fetches: 0,
+            listings: 0,
         }
     }
 
@@ -46,6 +49,7 @@ impl<R> FolderStore<R> {
         ensures faults { self.new.faults ≡ (if failed then raised self.old.faults else self.old.faults) }
         ensures ordered { self.old.faults ≤ self.new.faults }
         ensures fetches { self.new.fetches ≡ self.old.fetches }
+        ensures listings { self.new.listings ≡ self.old.listings }
     {
         if failed {
             self.faults = self.faults.saturating_add(1);
@@ -62,12 +66,16 @@ impl<R: Files + AllocGlobal + Clone + Drop> Store for FolderStore<R> {
 
     ghost fetches = { λ store. store.fetches };
 
+    ghost listings = { λ store. store.listings };
+
     fn fetch(&mut self, name: &Text) -> Result<Fetched, StoreErr>
         ensures small { IfOk result IsSmall }
         // No name leaves the folder.
         ensures inside { IfOk result (IsFoundInside (encode_utf8_all name.now)) }
+        ensures outside { ¬ IsInside (encode_utf8_all name.now) → result ≡ Ok Fetched.Missing }
 
         ensures counted { self.new.fetches ≡ raised self.old.fetches }
+        ensures listings { self.new.listings ≡ self.old.listings }
         ensures faults { self.new.faults ≡ (if is_err result then raised self.old.faults else self.old.faults) }
         ensures ordered { self.old.faults ≤ self.new.faults }
     {
@@ -80,33 +88,47 @@ impl<R: Files + AllocGlobal + Clone + Drop> Store for FolderStore<R> {
     fn list(&mut self) -> Result<Vec<Text>, StoreErr>
         ensures ascending { IfOk result (λ names. AreAscending names.items) }
 
+        ensures counted { self.new.listings ≡ raised self.old.listings }
         ensures fetches { self.new.fetches ≡ self.old.fetches }
         ensures faults { self.new.faults ≡ (if is_err result then raised self.old.faults else self.old.faults) }
         ensures ordered { self.old.faults ≤ self.new.faults }
     {
+        self.listings = self.listings.saturating_add(1);
         let answer = names(&self.rt, self.folder.as_str());
         self.count(answer.is_err());
         answer
     }
 }
 
-/// What the system answers of a path, or `None` where no file of that path can be.
-fn if_there<T>(answer: io::Result<T>) -> Result<Option<T>, StoreErr> {
-    match answer {
-        Ok(found) => Ok(Some(found)),
-        Err(error) => match error.kind() {
-            ErrorKind::NotFound
+/// Whether an error tells that no file of a path can be.
+fn tells_nothing(kind: ErrorKind) -> bool
+    ensures { result ≡ tells_nothing kind }
+{
+    matches!(
+        kind,
+        ErrorKind::NotFound
             | ErrorKind::NotADirectory
             | ErrorKind::FilesystemLoop
             | ErrorKind::InvalidFilename
-            | ErrorKind::InvalidInput => Ok(None),
-            _ => Err(fault(error)),
-        },
+            | ErrorKind::InvalidInput
+    )
+}
+
+/// What the system answers of a path, or `None` where no file of that path can be.
+fn if_there<T>(answer: io::Result<T>) -> Result<Option<T>, StoreErr>
+    ensures { result ≡ there answer }
+{
+    match answer {
+        Ok(found) => Ok(Some(found)),
+        Err(error) if tells_nothing(error.kind()) => Ok(None),
+        Err(error) => Err(fault(error)),
     }
 }
 
 /// The store's fault for the system's.
-fn fault(error: io::Error) -> StoreErr {
+fn fault(error: io::Error) -> StoreErr
+    ensures { result ≡ fault_of (error_kind error) }
+{
     match error.kind() {
         ErrorKind::OutOfMemory => StoreErr::NoMemory,
         _ => StoreErr::Failed,
@@ -130,18 +152,12 @@ fn is_inside(name: &str) -> bool
     name.split('/').all(|segment| is_file_name(segment))
 }
 
-/// The path of a page, or `None` where a segment of its name is no file name, or a segment before
-/// the last is no folder's.
+/// The path of a page, or `None` where a segment of its name before the last is no folder's.
 fn path_of<R: Files + AllocGlobal>(
     rt: &R,
     folder: &str,
     name: &str,
-) -> Result<Option<String>, StoreErr>
-    ensures { IfOk result (λ path. IsSome path → IsInside name.now) }
-{
-    if !is_inside(name) {
-        return Ok(None);
-    }
+) -> Result<Option<String>, StoreErr> {
     let mut path = String::from_str(rt.alloc(), folder)?;
     let mut is_in_folder = true;
     for segment in name.split('/') {
@@ -153,6 +169,14 @@ fn path_of<R: Files + AllocGlobal>(
         is_in_folder = is_folder(rt, path.as_str())?;
     }
     Ok(Some(path))
+}
+
+/// Looks whether the store's own folder is there. It may be a link.
+fn look_at_store<R: Files>(rt: &R, folder: &str) -> Result<(), StoreErr> {
+    match if_there(fs::metadata(rt, folder))? {
+        Some(metadata) if metadata.is_dir() => Ok(()),
+        _ => Err(StoreErr::Failed),
+    }
 }
 
 /// Whether a folder stands at a path, and no link to one.
@@ -167,21 +191,33 @@ fn is_folder<R: Files>(rt: &R, path: &str) -> Result<bool, StoreErr> {
 fn page<R: Files + AllocGlobal>(rt: &R, folder: &str, name: &str) -> Result<Fetched, StoreErr>
     ensures small { IfOk result IsSmall }
     ensures inside { IfOk result (IsFoundInside name.now) }
+    ensures outside { ¬ IsInside name.now → result ≡ Ok Fetched.Missing }
 {
-    let Some(path) = path_of(rt, folder, name)? else {
+    if !is_inside(name) {
         return Ok(Fetched::Missing);
-    };
-    let Some(metadata) = if_there(fs::metadata(rt, path.as_str()))? else {
+    }
+    look_at_store(rt, folder)?;
+    match path_of(rt, folder, name)? {
+        Some(path) => page_at(rt, path.as_str()),
+        None => Ok(Fetched::Missing),
+    }
+}
+
+/// The page at a path.
+fn page_at<R: Files + AllocGlobal>(rt: &R, path: &str) -> Result<Fetched, StoreErr>
+    ensures { IfOk result IsSmall }
+{
+    let Some(metadata) = if_there(fs::metadata(rt, path))? else {
         return Ok(Fetched::Missing);
     };
     if !metadata.is_file() {
         return Ok(Fetched::Missing);
     }
     // The length is compared before anything is read.
-    if metadata.len() >= PAGE_LIMIT {
+    if metadata.len() >= PAGE_LIMIT as u64 {
         return Err(StoreErr::Failed);
     }
-    match if_there(read_front(rt, path.as_str()))? {
+    match if_there(read_front(rt, path))? {
         Some(bytes) => found(bytes),
         None => Ok(Fetched::Missing),
     }
@@ -191,7 +227,7 @@ fn page<R: Files + AllocGlobal>(rt: &R, folder: &str, name: &str) -> Result<Fetc
 fn read_front<R: Files + AllocGlobal>(rt: &R, path: &str) -> io::Result<Vec<u8>> {
     let mut bytes = Vec::new(rt.alloc());
     fs::open(rt, path)?
-        .take(PAGE_LIMIT)
+        .take(PAGE_LIMIT as u64)
         .read_to_end(&mut bytes)?;
     Ok(bytes)
 }
@@ -200,7 +236,7 @@ fn read_front<R: Files + AllocGlobal>(rt: &R, path: &str) -> io::Result<Vec<u8>>
 fn found(bytes: Vec<u8>) -> Result<Fetched, StoreErr>
     ensures { IfOk result IsSmall }
 {
-    if bytes.len() as u64 >= PAGE_LIMIT {
+    if bytes.len() >= PAGE_LIMIT {
         return Err(StoreErr::Failed);
     }
     Ok(Fetched::Found(Bytes::from_vec(bytes)))
@@ -217,18 +253,6 @@ fn names<R: Files + AllocGlobal + Clone + Drop>(rt: &R, folder: &str) -> Result<
         return Err(StoreErr::Failed);
     }
     Ok(names)
-}
-
-/// Whether each name comes before the next.
-fn are_ascending(names: &[Text]) -> bool
-    ensures { IsTrue result → AreAscending names.now }
-{
-    for next in 1..names.len() {
-        if !names[next - 1].cmp(&names[next]).is_lt() {
-            return false;
-        }
-    }
-    true
 }
 
 /// The names of all pages, level by level. A folder below the deepest level is a fault.

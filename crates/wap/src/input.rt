@@ -1,6 +1,8 @@
 //! Standard input as a source of key lines.
-ghost use Rattle.std.specs.Prelude.{◌≡◌, ◌<◌, ◌≤◌, length, IfOk, OnErr, is_err, if◌then◌else◌};
+ghost use Rattle.std.specs.Prelude.{◌≡◌, ◌<◌, ◌≤◌, length, drop, Ok, IfOk, OnErr, is_err, if◌then◌else◌};
+ghost use Rattle.std.specs.Io.KnownBytes.{ReadConsumes};
 ghost use Rattle.wap_base.specs.Count.{raised};
+ghost use Rattle.wap_base.specs.Transfer.{ends_after};
 
 use std::io::Read;
 use wap_base::{Failed, Source};
@@ -14,12 +16,28 @@ const PIECE: usize = 4096;
 pub struct StdinSource<I> {
     reader: I,
     faults: u64,
+    ends: u64,
 }
 
 impl<I> StdinSource<I> {
     /// The source of the bytes that the reader still has.
     pub fn new(reader: I) -> StdinSource<I> {
-        StdinSource { reader, faults: 0 }
+        StdinSource {
+            reader,
+            faults: 0,
+            ends: 0,
+        }
+    }
+}
+
+/// How often the end was told, after a read that moves so many bytes.
+fn ends_after(ends: u64, count: usize) -> u64
+    ensures { result ≡ ends_after ends (Ok count) }
+{
+    if count == 0 {
+        ends.saturating_add(1)
+    } else {
+        ends
     }
 }
 
@@ -30,10 +48,16 @@ impl<I: Read> Source for StdinSource<I> {
 
     ghost faults = { λ source. source.faults };
 
+    ghost ends = { λ source. source.ends };
+
     fn read(&mut self, buffer: &mut [u8]) -> Result<usize, Failed>
         requires { 0 < length buffer.old }
         ensures within { IfOk result (λ count. count ≤ length buffer.old) }
+        // The reader gave what the source gives.
+        ensures reader { ReadConsumes (I.remaining self.old.reader) (I.remaining self.new.reader) result buffer.new }
+        ensures rest { IfOk result (λ count. drop count buffer.new ≡ drop count buffer.old) }
         ensures buffer { OnErr result (buffer.new ≡ buffer.old) }
+        ensures ends { self.new.ends ≡ ends_after self.old.ends result }
         ensures faults { self.new.faults ≡ (if is_err result then raised self.old.faults else self.old.faults) }
         ensures ordered { self.old.faults ≤ self.new.faults }
     {
@@ -43,6 +67,7 @@ impl<I: Read> Source for StdinSource<I> {
         match self.reader.read(&mut piece[..room]) {
             Ok(count) => {
                 buffer[..count].copy_from_slice(&piece[..count]);
+                self.ends = ends_after(self.ends, count);
                 Ok(count)
             }
             Err(_) => {

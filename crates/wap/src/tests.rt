@@ -9,7 +9,7 @@ use std::os::unix::fs::symlink;
 use std::rt::Files;
 use std::test::Fail;
 use std::{fs, io, process};
-use wap_base::{Bytes, Failed, Fetched, Sink, Source, Store, StoreErr, Text};
+use wap_base::{Bytes, Failed, Fetched, Sink, Source, Store, StoreErr, Text, write_all};
 
 /// A folder of the test's own, which isn't there yet.
 fn scratch(rt: &HostRuntime, name: &str) -> io::Result<String> {
@@ -108,11 +108,12 @@ fn a_folder_has_64_levels(rt: HostRuntime) -> Result<(), Fail> {
 }
 
 /// A system whose folders hold these names, each ended by a NUL, and whose files have this length
-/// and can't be opened.
+/// and can't be opened, for this reason. The empty path is a folder's.
 #[derive(Clone, Copy)]
 struct Odd {
     names: &'static [u8],
     len: u64,
+    reason: ErrorKind,
 }
 
 /// What is left of the names.
@@ -139,15 +140,19 @@ impl Files for Odd {
     type Dir = Listing;
 
     fn open_file(&self, _how: &OpenOptions, _path: &str) -> io::Result<File> {
-        refused()
+        Err(Error::from(self.reason))
     }
 
     fn open_dir(&self, _path: &str) -> io::Result<Listing> {
         Ok(Listing(self.names))
     }
 
-    fn metadata(&self, _path: &str) -> io::Result<Metadata> {
-        Ok(Metadata::of_file(self.len))
+    fn metadata(&self, path: &str) -> io::Result<Metadata> {
+        Ok(if path.is_empty() {
+            Metadata::of_dir()
+        } else {
+            Metadata::of_file(self.len)
+        })
     }
 
     fn symlink_metadata(&self, _path: &str) -> io::Result<Metadata> {
@@ -181,7 +186,53 @@ impl Files for Odd {
 
 /// The store of an odd system.
 fn odd_store(rt: &HostRuntime, names: &'static [u8], len: u64) -> FolderStore<(Odd, Global)> {
-    FolderStore::new((Odd { names, len }, rt.alloc()), String::new(rt.alloc()))
+    let odd = Odd {
+        names,
+        len,
+        reason: ErrorKind::NotFound,
+    };
+    FolderStore::new((odd, rt.alloc()), String::new(rt.alloc()))
+}
+
+/// A file that may not be read is a fault, and not a page that is missing.
+#[test]
+fn what_may_not_be_read_is_a_fault(rt: HostRuntime) -> Result<(), Fail> {
+    let name = Text::of(rt.alloc(), "page")?;
+    for (reason, want) in [
+        (ErrorKind::PermissionDenied, Err(StoreErr::Failed)),
+        (ErrorKind::NotFound, Ok(Fetched::Missing)),
+    ] {
+        let odd = Odd {
+            names: b"".as_slice(),
+            len: 4,
+            reason,
+        };
+        let mut store = FolderStore::new((odd, rt.alloc()), String::new(rt.alloc()));
+        assert_eq!(rt; store.fetch(&name), want);
+    }
+    Ok(())
+}
+
+/// A folder that isn't there, or isn't one, is no folder without pages.
+#[test]
+fn a_store_is_a_folder(rt: HostRuntime) -> Result<(), Fail> {
+    let folder = scratch(&rt, "none")?;
+    for (name, want) in [
+        ("h/a.wmlc", "failed"),
+        ("a//b", "missing"),
+        ("..", "missing"),
+    ] {
+        assert_eq!(rt; answer(&rt, folder.as_str(), name)?, want, "at {name:?}");
+    }
+    fs::write(&rt, folder.as_str(), "page")?;
+    assert_eq!(rt; answer(&rt, folder.as_str(), "h/a.wmlc")?, "failed");
+    let mut store = FolderStore::new(rt.clone()?, folder.clone()?);
+    assert_eq!(rt;
+        store.list().map(|names| names.len()),
+        Err(StoreErr::Failed)
+    );
+    fs::remove_file(&rt, folder.as_str())?;
+    Ok(())
 }
 
 #[test]
@@ -232,6 +283,36 @@ impl Write for Broken {
     fn flush(&mut self) -> io::Result<()> {
         Ok(())
     }
+}
+
+/// A writer that takes two bytes at a time.
+#[derive(Drop)]
+struct Narrow {
+    bytes: Vec<u8>,
+}
+
+impl Write for Narrow {
+    fn write(&mut self, piece: &[u8]) -> io::Result<usize> {
+        let count = piece.len().min(2);
+        self.bytes.extend_from_slice(&piece[..count])?;
+        Ok(count)
+    }
+
+    fn flush(&mut self) -> io::Result<()> {
+        Ok(())
+    }
+}
+
+/// A piece of which a part is taken is written whole, in as many calls as that needs.
+#[test]
+fn a_part_of_a_piece_is_taken(rt: HostRuntime) {
+    let narrow = Narrow {
+        bytes: Vec::new(rt.alloc()),
+    };
+    let mut out = StdoutSink::new(narrow);
+    assert_eq!(rt; out.write(b"shown"), Ok(2));
+    assert_eq!(rt; write_all(&mut out, b"own\n"), Ok(()));
+    assert_eq!(rt; out.into_writer().bytes.as_slice(), b"shown\n".as_slice());
 }
 
 #[test]

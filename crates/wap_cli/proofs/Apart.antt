@@ -1,20 +1,21 @@
 -- The test whether a deck is apart, and what it tests.
-use Rattle.std.proofs.Common.{◌≡◌, ◌≢◌, ℕ, Bool, true, false, List, [], ◌∷◌, Result, Ok, Err, refl, sym, ap, ◌∙◌, cond}
+use Rattle.std.proofs.Common.{◌≡◌, ◌≢◌, ℕ, Bool, true, false, List, [], ◌∷◌, Result, Ok, Err, refl, sym, ap, subst, ◌∙◌, cond}
 use Rattle.std.specs.Prelude.{◌&&◌, ◌||◌, not}
 use Rattle.std.specs.List.{list_any, list_all, AllByRecursion, IsDistinct}
 use Rattle.wap_base.specs.Texts.{is_same_text, AreDistinct}
 use Rattle.wap_markup.specs.declared.deck.Deck.{Deck}
 use Rattle.wap_markup.specs.declared.deck.Node.{Node}
-use Rattle.wap_markup.specs.Decks.{cards_of, ids_of, types_of, IsApart}
+use Rattle.wap_markup.specs.Cards.{cards_of, ids_of, types_of, IsApart}
+use Rattle.wap_markup.specs.Shown.{is_shown, IsAccepted}
 use Rattle.wap_world.specs.Pages.{is_deck, is_refused}
 use Rattle.wap_markup.specs.declared.document.Document.{Document}
 use Rattle.wap_markup.specs.Decks.{deck_of}
 use Rattle.wap_wbxml.specs.declared.fault.DocFault.{DocFault}
-use Rattle.wap_wbxml.specs.declared.fault.DocFault.TheVariants.{Unbuilt, NoMemory}
-use Rattle.wap_wbxml.specs.Reading.{document_at}
-use Rattle.wap_wbxml.proofs.Pages.{document_takes, document_again}
+use Rattle.wap_wbxml.specs.declared.fault.DocFault.TheVariants.{NoMemory}
+use Rattle.wap_wbxml.specs.reading.Whole.{document_at}
+use Rattle.wap_wbxml.proofs.DocumentLaws.{document_takes, document_again}
 use Rattle.wap_markup.specs.Documents.{IsDocument}
-use Rattle.wap_cli.specs.Judged.{are_distinct, is_apart, judged_deck, judged_document, judge}
+use Rattle.wap_cli.specs.Judged.{are_distinct, is_apart, judged_deck, judged_document, judge, wants_memory}
 
 both : (a b : Bool) → (a && b) ≡ true → (a ≡ true) × (b ≡ true)
 both true b e = (refl, e)
@@ -72,15 +73,23 @@ apart_test deck good =
     ap (λ (b : Bool). b && list_all (λ card. are_distinct (types_of card)) (cards_of deck)) (distinct_test (ids_of deck) good.ids)
     ∙ types_test (cards_of deck) good.types
 
-pub good_page : (deck : Deck) → IsApart deck → judged_deck deck ≡ is_deck deck
-good_page deck good = ap (λ (b : Bool). cond b (is_deck deck) is_refused) (apart_test deck good)
+pub good_page : (deck : Deck) → IsAccepted deck → judged_deck deck ≡ is_deck deck
+good_page deck good =
+    ap (λ (b : Bool). cond (b && is_apart deck) (is_deck deck) is_refused) good.shown ∙ ap (λ (b : Bool). cond b (is_deck deck) is_refused) (apart_test deck good.apart)
 
-refused_by : (deck : Deck) (b : Bool) → is_apart deck ≡ b → ¬ IsApart deck → cond b (is_deck deck) is_refused ≡ is_refused
-refused_by deck true e bad = absurd (bad (apart deck e))
-refused_by deck false e bad = refl
+refused_by : (deck : Deck) (s b : Bool) → is_shown deck ≡ s → is_apart deck ≡ b → ¬ IsAccepted deck → cond (s && b) (is_deck deck) is_refused ≡ is_refused
+refused_by deck true true shown e bad = absurd (bad (record { shown = shown; apart = apart deck e }))
+refused_by deck true false shown e bad = refl
+refused_by deck false b shown e bad = refl
 
-pub refused_page : (deck : Deck) → ¬ IsApart deck → judged_deck deck ≡ is_refused
-refused_page deck bad = refused_by deck (is_apart deck) refl bad
+pub refused_page : (deck : Deck) → ¬ IsAccepted deck → judged_deck deck ≡ is_refused
+refused_page deck bad = refused_by deck (is_shown deck) (is_apart deck) refl refl bad
+
+pub unshown_page : (deck : Deck) → is_shown deck ≡ false → judged_deck deck ≡ is_refused
+unshown_page deck unshown = refused_page deck (λ good. absurd (cc (unshown, good.shown)))
+
+pub repeated_page : (deck : Deck) → ¬ IsApart deck → judged_deck deck ≡ is_refused
+repeated_page deck bad = refused_page deck (λ good. bad good.apart)
 
 -- ---- a page by its document
 
@@ -92,18 +101,22 @@ pub page_of_fault : (bytes : List ℕ) (fault : DocFault) → document_at bytes 
 unfolding judge
 page_of_fault bytes fault e = ap judged_document (sym e)
 
-pub unbuilt_wants_nothing : Unbuilt ≢ NoMemory
-unbuilt_wants_nothing e = absurd cc
+wants : wants_memory NoMemory ≡ false → ⊥
+wants e = cc
+
+pub page_of_refusal : (bytes : List ℕ) (fault : DocFault) → wants_memory fault ≡ false → (fault ≢ NoMemory → document_at bytes ≡ Err fault) → is_refused ≡ judge bytes
+page_of_refusal bytes fault other read =
+    page_of_fault bytes fault (read (λ e. absurd (wants (subst (λ (f : DocFault). wants_memory f ≡ false) e other))))
 
 -- ---- a page by the relation of bytes and documents
 
-pub deck_page : (bytes : List ℕ) (document : Document) → IsDocument bytes document → IsApart (deck_of document) → judge bytes ≡ is_deck (deck_of document)
+pub deck_page : (bytes : List ℕ) (document : Document) → IsDocument bytes document → IsAccepted (deck_of document) → judge bytes ≡ is_deck (deck_of document)
 deck_page bytes document is good = sym (page_of_document bytes document (document_again bytes document is)) ∙ good_page (deck_of document) good
 
-refused_read : (bytes : List ℕ) (read : Result Document DocFault) → document_at bytes ≡ read → ((document : Document) → IsDocument bytes document → ¬ IsApart (deck_of document)) → judge bytes ≡ is_refused
+refused_read : (bytes : List ℕ) (read : Result Document DocFault) → document_at bytes ≡ read → ((document : Document) → IsDocument bytes document → ¬ IsAccepted (deck_of document)) → judge bytes ≡ is_refused
 refused_read bytes (Ok document) e none =
     sym (page_of_document bytes document e) ∙ refused_page (deck_of document) (none document (document_takes bytes document e))
 refused_read bytes (Err fault) e none = sym (page_of_fault bytes fault e)
 
-pub no_deck_page : (bytes : List ℕ) → ((document : Document) → IsDocument bytes document → ¬ IsApart (deck_of document)) → judge bytes ≡ is_refused
+pub no_deck_page : (bytes : List ℕ) → ((document : Document) → IsDocument bytes document → ¬ IsAccepted (deck_of document)) → judge bytes ≡ is_refused
 no_deck_page bytes none = refused_read bytes (document_at bytes) refl none

@@ -4,10 +4,10 @@ use Rattle.std.specs.Prelude.{IfSome}
 use Rattle.wap_base.specs.Contents.{Contents}
 use Rattle.wap_base.specs.Transfer.{Appends, AppendsFront}
 use Rattle.wap_base.proofs.Transfers.{Appends-nil}
-use Rattle.wap_keys.specs.declared.key.Key.{Key}
-use Rattle.wap_keys.specs.declared.key.KeyFault.{KeyFault}
-use Rattle.wap_keys.specs.declared.source.Ending.{Ending}
-use Rattle.wap_keys.specs.declared.source.Ending.TheVariants as ending
+use Rattle.wap_input.specs.declared.key.Key.{Key}
+use Rattle.wap_keys.specs.declared.fault.KeyFault.{KeyFault}
+use Rattle.wap_keys.specs.declared.ending.Ending.{Ending}
+use Rattle.wap_keys.specs.declared.ending.Ending.TheVariants as ending
 use Rattle.wap_keys.specs.Lines.{Keys, keys_of}
 use Rattle.wap_keys.specs.Read.{IsReadBefore, AreFirst}
 use Rattle.wap_world.specs.Lines.{lines_bytes}

@@ -8,8 +8,9 @@ use Rattle.wap_markup.specs.declared.deck.Node.{Node}
 use Rattle.wap_markup.specs.declared.deck.Item.{Item}
 use Rattle.wap_markup.specs.declared.name.Tag.{Tag}
 use Rattle.wap_markup.specs.declared.name.Tag.TheVariants as tag
-use Rattle.wap_markup.specs.Decks.{card_numbered, is_setvar_tag, setvars_of, value_of, is_href}
-use Rattle.wap_deck.proofs.Cards.{nodes_with}
+use Rattle.wap_markup.specs.declared.name.AttrName.TheVariants as attrs
+use Rattle.wap_markup.specs.Trees.{node_with, value_of}
+use Rattle.wap_markup.specs.Cards.{card_numbered}
 use Rattle.wap_vars.specs.Setting.{set_in}
 use Rattle.wap_vars.specs.declared.fault.VarFault.{VarFault}
 use Rattle.wap_world.specs.Lines.{line_bytes, lines_bytes}
@@ -18,7 +19,7 @@ use Rattle.wap_world.specs.Setting.{Set, outcome, set_all, setvar_text, set_by}
 use Rattle.wap_world.specs.World.{World, Step, number_or_first, destination, go, task_of_tag}
 use Rattle.wap_cli.specs.declared.tasks.Way.{Way}
 use Rattle.wap_cli.specs.declared.tasks.Way.TheVariants.{To, Back, Again}
-use Rattle.wap_cli.specs.Tasks.{setvar_in, way_of, gone}
+use Rattle.wap_cli.specs.Tasks.{way_of, gone}
 
 -- ---- where a task leads
 
@@ -31,19 +32,16 @@ world_of vars deck history = record { deck = Some deck; history = history; vars 
 way_gone : (vars : Variables) (deck : Deck) (task : Node) (history : List ℕ) (t : Tag) (way : Way) → way_of vars deck task t ≡ Some way
     → gone (world_of vars deck history) way (set_by vars task) ≡ task_of_tag (world_of vars deck history) deck task t
 way_gone vars deck task history tag.Go way e =
-    ap (λ (w : Way). gone (world_of vars deck history) w (set_by vars task)) (sym (some_same (To (destination deck (value_text vars (value_of is_href task)))) way e))
+    ap (λ (w : Way). gone (world_of vars deck history) w (set_by vars task)) (sym (some_same (To (destination deck (value_text vars (value_of attrs.Href task)))) way e))
 way_gone vars deck task history tag.Prev way e = ap (λ (w : Way). gone (world_of vars deck history) w (set_by vars task)) (sym (some_same Back way e))
 way_gone vars deck task history tag.Refresh way e = ap (λ (w : Way). gone (world_of vars deck history) w (set_by vars task)) (sym (some_same Again way e))
 way_gone vars deck task history _ way e = absurd cc
 
-setvars_by_item : (task : Node) → setvars_of task ≡ filter_map setvar_in task.kids
-setvars_by_item task = nodes_with (λ node. is_setvar_tag node.tag) task.kids
-
-pub plan_made : (vars : Variables) (deck : Deck) (task : Node) (way : Way) (texts : List (List ℕ × List ℕ)) (items : List Item) → way_of vars deck task task.tag ≡ Some way → texts ≡ map (setvar_text vars) (filter_map setvar_in items) → items ≡ task.kids
+pub plan_made : (vars : Variables) (deck : Deck) (task : Node) (way : Way) (texts : List (List ℕ × List ℕ)) (items : List Item) → way_of vars deck task task.tag ≡ Some way → texts ≡ map (setvar_text vars) (filter_map (node_with tag.Setvar) items) → items ≡ task.kids
     → (history : List ℕ) → gone (world_of vars deck history) way (set_all vars texts) ≡ task_of_tag (world_of vars deck history) deck task task.tag
 plan_made vars deck task way texts items leads made are history =
     ap (λ (t : List (List ℕ × List ℕ)). gone (world_of vars deck history) way (set_all vars t))
-    (made ∙ ap (λ (l : List Item). map (setvar_text vars) (filter_map setvar_in l)) are ∙ ap (map (setvar_text vars)) (sym (setvars_by_item task)))
+    (made ∙ ap (λ (l : List Item). map (setvar_text vars) (filter_map (node_with tag.Setvar) l)) are)
     ∙ way_gone vars deck task history task.tag way leads
 
 -- ---- variables that are set one after the other

@@ -3,7 +3,7 @@ use Rattle.std.proofs.Common.{◌≡◌, ℕ, suc, add-one, ◌+◌, ◌<◌, �
 use Rattle.std.proofs.Math.Seq.{drop-cons}
 use Rattle.std.proofs.lemmas.List.{drop_all}
 use Rattle.std.proofs.lemmas.Grind.{flat_map-append}
-use Rattle.wap_keys.specs.declared.key.Key.{Key}
+use Rattle.wap_input.specs.declared.key.Key.{Key}
 use Rattle.wap_world.specs.Lines.{line_bytes, lines_bytes}
 use Rattle.wap_world.specs.Pages.{Pages}
 use Rattle.wap_world.specs.World.{World, Step, react}

@@ -82,10 +82,6 @@ shows_all shown rest whole none so_far =
 
 -- ---- the command's name
 
-pub browse_bytes : (name : List ℕ) → pointwise nat_eq (encode_utf8_all name) (codes "browse") ≡ is_same_text name (codes "browse")
-unfolding encode_utf8
-browse_bytes name = same-encode_utf8_all name (codes "browse")
-
 -- ---- stepping over characters
 
 pub drops_more : (rest after text : List ℕ) (i c : ℕ) → IsUtf8 rest → rest ≡ encode_utf8 c ++ after → chars rest ≡ drop i text → chars after ≡ drop (i + 1) text

@@ -1,6 +1,6 @@
 -- What a session does is a step of its world, with the lines that it adds.
 use Rattle.std.specs.Prelude.{◌≡◌, ℕ, List, ◌++◌}
-use Rattle.wap_keys.specs.declared.key.Key.{Key}
+use Rattle.wap_input.specs.declared.key.Key.{Key}
 use Rattle.wap_world.specs.Lines.{lines_bytes}
 use Rattle.wap_world.specs.Pages.{Pages}
 use Rattle.wap_world.specs.World.{World, Step, react}

@@ -2,7 +2,7 @@
 use Rattle.std.specs.Prelude.{ℕ, List, Option, IfSome}
 use Rattle.wap_base.specs.Contents.{Contents}
 use Rattle.wap_base.specs.Transfer.{Appends, AppendsFront}
-use Rattle.wap_keys.specs.declared.key.Key.{Key}
+use Rattle.wap_input.specs.declared.key.Key.{Key}
 use Rattle.wap_keys.specs.Lines.{keys_of}
 use Rattle.wap_keys.specs.Read.{IsReadBefore}
 use Rattle.wap_world.specs.Transcript.{transcript}

@@ -1,9 +1,9 @@
 -- Statuses of the program: their numbers and their lines. This project's own.
 use Rattle.std.specs.Prelude.{◌≡◌, ◌⊎◌, ℕ, List, [], ◌++◌, codes, decimal}
-use Rattle.wap_keys.specs.declared.key.KeyFault.{KeyFault}
-use Rattle.wap_keys.specs.declared.key.KeyFault.TheVariants as key
-use Rattle.wap_keys.specs.declared.source.Ending.{Ending}
-use Rattle.wap_keys.specs.declared.source.Ending.TheVariants as ending
+use Rattle.wap_keys.specs.declared.fault.KeyFault.{KeyFault}
+use Rattle.wap_keys.specs.declared.fault.KeyFault.TheVariants as key
+use Rattle.wap_keys.specs.declared.ending.Ending.{Ending}
+use Rattle.wap_keys.specs.declared.ending.Ending.TheVariants as ending
 use Rattle.wap_cli.specs.declared.status.Status.{Status}
 use Rattle.wap_cli.specs.declared.status.Status.TheVariants.{Done, Usage, StoreFault, KeyReadFault, WriteFault, NoMemory, BadKey, TooManyKeys}
 
@@ -18,7 +18,12 @@ number_of (BadKey line fault) = 7
 number_of TooManyKeys = 9
 
 abbrev pub fault_name : KeyFault → List ℕ
+fault_name key.TooLong = codes "TooLong"
+fault_name key.NotText = codes "NotText"
 fault_name key.UnknownWord = codes "UnknownWord"
+fault_name key.Missing = codes "Missing"
+fault_name key.BadNumber = codes "BadNumber"
+fault_name key.Surplus = codes "Surplus"
 fault_name key.NoMemory = codes "NoMemory"
 
 -- the lines that are the same each time
@@ -50,6 +55,17 @@ IsPlayed Done = Unit {0}
 IsPlayed (BadKey line fault) = Unit {0}
 IsPlayed TooManyKeys = Unit {0}
 IsPlayed _ = ⊥
+
+-- the store was asked for the page: the words are a command's, and memory for its name was there
+abbrev pub HasAsked : Status → Type 0
+HasAsked Done = Unit {0}
+HasAsked Usage = ⊥
+HasAsked StoreFault = Unit {0}
+HasAsked KeyReadFault = Unit {0}
+HasAsked WriteFault = Unit {0}
+HasAsked NoMemory = ⊥
+HasAsked (BadKey line fault) = Unit {0}
+HasAsked TooManyKeys = Unit {0}
 
 -- the run ended so, or was stopped by a sink's fault or a want of memory
 abbrev pub IsOrStops : Status → Status → Type 0

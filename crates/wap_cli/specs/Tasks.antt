@@ -1,12 +1,11 @@
 -- Tasks that are filled, and what they come to. This project's own.
-use Rattle.std.specs.Prelude.{ℕ, List, cond, Option, Some, None}
+use Rattle.std.specs.Prelude.{Option, Some, None}
 use Rattle.wap_markup.specs.declared.deck.Deck.{Deck}
 use Rattle.wap_markup.specs.declared.deck.Node.{Node}
-use Rattle.wap_markup.specs.declared.deck.Item.{Item}
 use Rattle.wap_markup.specs.declared.name.Tag.{Tag}
 use Rattle.wap_markup.specs.declared.name.Tag.TheVariants as tag
-use Rattle.wap_markup.specs.Decks.{node_of, is_setvar_tag, value_of, is_href}
-use Rattle.wap_deck.specs.Parts.{with_tag}
+use Rattle.wap_markup.specs.declared.name.AttrName.TheVariants as attrs
+use Rattle.wap_markup.specs.Trees.{value_of}
 use Rattle.wap_world.specs.Screens.{Variables, value_text}
 use Rattle.wap_world.specs.Setting.{Set, set_all}
 use Rattle.wap_world.specs.World.{World, Step, shows, pushed, back, refresh, ignored, destination}
@@ -14,12 +13,8 @@ use Rattle.wap_cli.specs.declared.tasks.Way.{Way}
 use Rattle.wap_cli.specs.declared.tasks.Way.TheVariants.{To, Back, Again}
 use Rattle.wap_cli.specs.declared.tasks.Plan.{Plan}
 
--- an item where it is a setvar
-abbrev pub setvar_in : Item → Option Node
-setvar_in item = with_tag (λ node. is_setvar_tag node.tag) (node_of item)
-
 abbrev pub way_of : Variables → Deck → Node → Tag → Option Way
-way_of vars deck task tag.Go = Some (To (destination deck (value_text vars (value_of is_href task))))
+way_of vars deck task tag.Go = Some (To (destination deck (value_text vars (value_of attrs.Href task))))
 way_of vars deck task tag.Prev = Some Back
 way_of vars deck task tag.Refresh = Some Again
 way_of vars deck task _ = None

@@ -72,8 +72,11 @@ pub(crate) fn opened<S: Store>(
     store: &mut S,
 ) -> Result<(Session, Bytes), RunErr>
     ensures told { IfOk result (λ begun. IfSome (S.contents store.old) (λ contents. let step = opened (judged contents) url.now in (begun.0 ≡ step.world) × (begun.1 ≡ lines_bytes step.lines))) }
-    ensures counted { OnOk result (S.fetches store.new ≡ raised (S.fetches store.old)) }
+    ensures asked { OnOk result (S.fetches store.new ≡ raised (S.fetches store.old)) }
+    ensures asked_where_failed { IsErrOf result RunErr.Store → S.fetches store.new ≡ raised (S.fetches store.old) }
+    ensures listings { S.listings store.new ≡ S.listings store.old }
     ensures kept { S.contents store.new ≡ S.contents store.old }
+    ensures steady { OnOk result (S.faults store.new ≡ S.faults store.old) }
     ensures faults { S.faults store.old ≤ S.faults store.new }
     ensures failed { IsErrOf result RunErr.Store → Rose (S.faults store.old) (S.faults store.new) }
 {

@@ -2,22 +2,22 @@
 ghost use Rattle.std.specs.Prelude.{◌≡◌, ◌≢◌, ◌+◌, ◌≤◌, ◌↔◌, ◌++◌, ℕ, List, Some, None, IfSome};
 ghost use Rattle.wap_base.specs.Count.{raised, Rose};
 ghost use Rattle.wap_base.specs.Transfer.{Appends, AppendsFront};
-ghost use Rattle.wap_keys.specs.declared.key.KeyFault.{KeyFault};
-ghost use Rattle.wap_keys.specs.declared.source.Ending.TheVariants as ending;
+ghost use Rattle.wap_keys.specs.declared.fault.KeyFault.{KeyFault};
+ghost use Rattle.wap_keys.specs.declared.ending.Ending.TheVariants as ending;
 ghost use Rattle.wap_keys.specs.Lines.{keys_of, limit};
-ghost use Rattle.wap_keys.specs.Read.{TakesAtMost};
+ghost use Rattle.wap_keys.specs.Read.{TakesAtMost, AtMostOnce};
 ghost use Rattle.wap_world.specs.Lines.{lines_bytes};
 ghost use Rattle.wap_world.specs.Pages.{Pages};
 ghost use Rattle.wap_world.specs.Transcript.{played};
 ghost use Rattle.wap_cli.specs.Sessions.{IfTold, Writes, WritesFront, WritesBefore};
-ghost use Rattle.wap_cli.specs.Statuses.{ended, IsPlayed, IsOrStops, IsOrWants};
+ghost use Rattle.wap_cli.specs.Statuses.{ended, IsPlayed, HasAsked, IsOrStops, IsOrWants};
 ghost use Rattle.wap_cli.specs.Words.{command};
 
 use crate::Status;
 use crate::browse::opened;
 use crate::session::Session;
 use crate::status::ended;
-use crate::words::command;
+use crate::words::browsed_url;
 use std::alloc::Global;
 use std::thread::Threads;
 use wap_base::{Bytes, Failed, Gate, NoMemory, RunErr, Sink, Source, Store, Text, write_all};
@@ -35,6 +35,7 @@ fn play<O: Sink>(
     ensures whole { result ≡ ended ending → (pages : Pages) → Appends (O.written out.old) (O.written out.new) (begun.1 ++ lines_bytes (played pages keys.now begun.0).lines) }
     ensures front { (pages : Pages) → AppendsFront (O.written out.old) (O.written out.new) (begun.1 ++ lines_bytes (played pages keys.now begun.0).lines) }
     ensures write_fault { result ≡ Status.WriteFault → Rose (O.faults out.old) (O.faults out.new) }
+    ensures write_steady { result ≢ Status.WriteFault → O.faults out.new ≡ O.faults out.old }
     ensures sink_faults { O.faults out.old ≤ O.faults out.new }
 {
     let (mut session, mut shown) = begun;
@@ -60,13 +61,18 @@ fn browse<S: Store, I: Source, O: Sink>(
     ensures before { result ≡ Status.KeyReadFault → IfTold (S.contents store.old) (I.left keys.old) (WritesBefore url.now (I.left keys.new) (O.written out.old) (O.written out.new)) }
     ensures front { IfTold (S.contents store.old) (I.left keys.old) (WritesFront url.now (O.written out.old) (O.written out.new)) }
     ensures ends { IsPlayed result → IfSome (I.left keys.old) (λ bytes. result ≡ ended (keys_of bytes).ending) }
-    ensures asked { IsPlayed result → S.fetches store.new ≡ raised (S.fetches store.old) }
+    ensures asked { HasAsked result → S.fetches store.new ≡ raised (S.fetches store.old) }
+    ensures listings { S.listings store.new ≡ S.listings store.old }
     ensures store_fault { result ≡ Status.StoreFault → Rose (S.faults store.old) (S.faults store.new) }
     ensures unwritten { result ≡ Status.StoreFault → O.written out.new ≡ O.written out.old }
     ensures unread { result ≡ Status.StoreFault → I.left keys.new ≡ I.left keys.old }
     ensures read_fault { result ≡ Status.KeyReadFault → Rose (I.faults keys.old) (I.faults keys.new) }
     ensures write_fault { result ≡ Status.WriteFault → Rose (O.faults out.old) (O.faults out.new) }
+    ensures store_steady { IsPlayed result → S.faults store.new ≡ S.faults store.old }
+    ensures read_steady { IsPlayed result → I.faults keys.new ≡ I.faults keys.old }
+    ensures write_steady { IsPlayed result → O.faults out.new ≡ O.faults out.old }
     ensures few { TakesAtMost (limit + 1) (I.left keys.old) (I.left keys.new) }
+    ensures end_once { AtMostOnce (I.ends keys.old) (I.ends keys.new) }
     ensures kept { S.contents store.new ≡ S.contents store.old }
     ensures store_faults { S.faults store.old ≤ S.faults store.new }
     ensures source_faults { I.faults keys.old ≤ I.faults keys.new }
@@ -96,17 +102,20 @@ pub fn run<R: Threads + Sync, S: Store, I: Source, O: Sink, G: Gate + Sync>(
 ) -> (Status, S)
     // What is written is the transcript, over all key lines before the first that is none.
     ensures whole { (url : List ℕ) → command words.now ≡ Some url → IsPlayed result.0 → IfTold (S.contents store) (I.left keys.old) (Writes url (O.written out.old) (O.written out.new)) }
-    ensures asked { IsPlayed result.0 → S.fetches result.1 ≡ raised (S.fetches store) }
+    // One page is asked for, and no names.
+    ensures asked { HasAsked result.0 → S.fetches result.1 ≡ raised (S.fetches store) }
+    ensures listings { S.listings result.1 ≡ S.listings store }
     // Where the source fails, it is the transcript over the key lines before.
     ensures before { (url : List ℕ) → command words.now ≡ Some url → result.0 ≡ Status.KeyReadFault → IfTold (S.contents store) (I.left keys.old) (WritesBefore url (I.left keys.new) (O.written out.old) (O.written out.new)) }
     // However it ends, no more than a front of it is.
     ensures front { (url : List ℕ) → command words.now ≡ Some url → IfTold (S.contents store) (I.left keys.old) (WritesFront url (O.written out.old) (O.written out.new)) }
 
     // Each status has its cause.
-    ensures usage { (result.0 ≡ Status.Usage) ↔ (command words.now ≡ None) }
-    ensures unasked { result.0 ≡ Status.Usage → S.fetches result.1 ≡ S.fetches store }
-    ensures quiet { result.0 ≡ Status.Usage → O.written out.new ≡ O.written out.old }
-    ensures unpressed { result.0 ≡ Status.Usage → I.left keys.new ≡ I.left keys.old }
+    ensures usage { result.0 ≡ Status.Usage → command words.now ≡ None }
+    ensures unused { command words.now ≡ None → IsOrWants Status.Usage result.0 }
+    ensures unasked { command words.now ≡ None → S.fetches result.1 ≡ S.fetches store }
+    ensures quiet { command words.now ≡ None → O.written out.new ≡ O.written out.old }
+    ensures unpressed { command words.now ≡ None → I.left keys.new ≡ I.left keys.old }
     ensures store_fault { result.0 ≡ Status.StoreFault → Rose (S.faults store) (S.faults result.1) }
     ensures unwritten { result.0 ≡ Status.StoreFault → O.written out.new ≡ O.written out.old }
     ensures unread { result.0 ≡ Status.StoreFault → I.left keys.new ≡ I.left keys.old }
@@ -117,18 +126,25 @@ pub fn run<R: Threads + Sync, S: Store, I: Source, O: Sink, G: Gate + Sync>(
     ensures too_many_keys { result.0 ≡ Status.TooManyKeys → IfSome (I.left keys.old) (λ bytes. (keys_of bytes).ending ≡ ending.TooManyKeys) }
     ensures complete { (url : List ℕ) → command words.now ≡ Some url → ¬ Rose (S.faults store) (S.faults result.1) → ¬ Rose (I.faults keys.old) (I.faults keys.new) → ¬ Rose (O.faults out.old) (O.faults out.new) → IfSome (I.left keys.old) (λ bytes. IsOrWants (ended (keys_of bytes).ending) result.0) }
 
+    // No fault is passed over: where the keys were played, each count is as before.
+    ensures store_steady { IsPlayed result.0 → S.faults result.1 ≡ S.faults store }
+    ensures read_steady { IsPlayed result.0 → I.faults keys.new ≡ I.faults keys.old }
+    ensures write_steady { IsPlayed result.0 → O.faults out.new ≡ O.faults out.old }
+
     // What stays, however it ends.
     ensures few { TakesAtMost (limit + 1) (I.left keys.old) (I.left keys.new) }
+    ensures end_once { AtMostOnce (I.ends keys.old) (I.ends keys.new) }
     ensures kept { S.contents result.1 ≡ S.contents store }
     ensures store_faults { S.faults store ≤ S.faults result.1 }
     ensures source_faults { I.faults keys.old ≤ I.faults keys.new }
     ensures sink_faults { O.faults out.old ≤ O.faults out.new }
 {
-    match command(words) {
-        Some(url) => {
-            let status = browse(alloc, url, &mut store, keys, out);
+    match browsed_url(alloc, words) {
+        Ok(Some(url)) => {
+            let status = browse(alloc, &url, &mut store, keys, out);
             (status, store)
         }
-        None => (Status::Usage, store),
+        Ok(None) => (Status::Usage, store),
+        Err(NoMemory) => (Status::NoMemory, store),
     }
 }

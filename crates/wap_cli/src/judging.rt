@@ -1,7 +1,7 @@
 //! Judging a page by its bytes.
 ghost use Rattle.std.specs.Prelude.{◌≡◌, IfOk};
 ghost use Rattle.wap_markup.specs.Decks.{deck_of};
-ghost use Rattle.wap_cli.specs.Judged.{judge, judged_deck};
+ghost use Rattle.wap_cli.specs.Judged.{judge, judged_deck, wants_memory};
 ghost use Rattle.wap_cli.specs.Opening.{page_judged};
 
 use std::alloc::Global;
@@ -24,8 +24,22 @@ fn judge_document(alloc: Global, document: &Document) -> Result<Judged, NoMemory
     let deck = deck_of(alloc, document)?;
     match GoodDeck::try_new(alloc, deck) {
         Ok(deck) => Ok(Judged::Deck(deck)),
+        Err((_, DeckErr::Unshown)) => Ok(Judged::Refused),
         Err((_, DeckErr::Repeated)) => Ok(Judged::Refused),
         Err((_, DeckErr::NoMemory)) => Err(NoMemory),
+    }
+}
+
+/// Whether a fault is the want of memory.
+fn wants_memory(fault: DocFault) -> bool
+    ensures { result ≡ wants_memory fault }
+{
+    match fault {
+        DocFault::NoMemory => true,
+        DocFault::Version | DocFault::PublicId | DocFault::Charset => false,
+        DocFault::Short { .. } | DocFault::Number { .. } | DocFault::Token { .. } => false,
+        DocFault::Index { .. } | DocFault::Text { .. } | DocFault::Depth { .. } => false,
+        DocFault::Table { .. } | DocFault::Rest { .. } => false,
     }
 }
 
@@ -35,7 +49,11 @@ pub(crate) fn judge(alloc: Global, bytes: &[u8]) -> Result<Judged, NoMemory>
 {
     match decode(alloc, bytes) {
         Ok(document) => judge_document(alloc, &document),
-        Err(DocFault::Unbuilt) => Ok(Judged::Refused),
-        Err(DocFault::NoMemory) => Err(NoMemory),
+        Err(fault) => {
+            if wants_memory(fault) {
+                return Err(NoMemory);
+            }
+            Ok(Judged::Refused)
+        }
     }
 }

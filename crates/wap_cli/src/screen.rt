@@ -2,16 +2,15 @@
 ghost use Rattle.std.specs.Prelude.{◌≡◌, ◌++◌, map, IfOk, OnOk};
 ghost use Rattle.std.specs.List.{flat_map, filter_map};
 ghost use Rattle.std.specs.Option.{option_copied};
-ghost use Rattle.wap_markup.specs.Decks.{is_paragraph_tag};
-ghost use Rattle.wap_deck.specs.Parts.{do_in};
+ghost use Rattle.wap_markup.specs.Trees.{node_with};
 ghost use Rattle.wap_world.specs.Lines.{lines_bytes};
 ghost use Rattle.wap_world.specs.Screens.{value_text, marked, title_line, item_text, paragraph_line, item_lines, line_if_some, do_line, screen};
 
 use crate::lines::add_line;
 use std::alloc::Global;
 use wap_base::{Bytes, NoMemory, Part, Rows, Text};
-use wap_deck::{do_in, label, title, type_value};
-use wap_markup::{Item, Node, Tag};
+use wap_deck::{node_with, value_of};
+use wap_markup::{AttrName, Item, Node, Tag};
 use wap_vars::Vars;
 
 /// Appends the lines of a card, filled from the variables.
@@ -58,7 +57,7 @@ fn marked(mark: Text, text: &Text) -> Result<Text, NoMemory>
 fn title_line(alloc: Global, vars: &Vars, card: &Node) -> Result<Text, NoMemory>
     ensures { IfOk result (λ line. line ≡ title_line vars.now card.now) }
 {
-    let title = value_text(alloc, vars, title(card))?;
+    let title = value_text(alloc, vars, value_of(AttrName::Title, card))?;
     marked(Text::of(alloc, "=")?, &title)
 }
 
@@ -67,8 +66,8 @@ fn do_line(alloc: Global, vars: &Vars, node: &Node) -> Result<Text, NoMemory>
     ensures { IfOk result (λ line. line ≡ do_line vars.now node.now) }
 {
     let mut mark = Text::of(alloc, "* ")?;
-    mark.add(value_text(alloc, vars, type_value(node))?.as_str())?;
-    let label = value_text(alloc, vars, label(node))?;
+    mark.add(value_text(alloc, vars, value_of(AttrName::Type, node))?.as_str())?;
+    let label = value_text(alloc, vars, value_of(AttrName::Label, node))?;
     marked(mark, &label)
 }
 
@@ -92,7 +91,7 @@ fn add_paragraph(alloc: Global, out: &mut Bytes, vars: &Vars, item: &Item) -> Re
     ensures { OnOk result (out.new ≡ out.old ++ lines_bytes (item_lines vars.now item.now)) }
 {
     match item {
-        Item::Node(node) if is_paragraph(node.tag) => {
+        Item::Node(node) if node.tag == Tag::P => {
             add_some(alloc, out, &paragraph_line(alloc, vars, node)?)
         }
         _ => Ok(()),
@@ -107,12 +106,6 @@ fn add_some(alloc: Global, out: &mut Bytes, line: &Text) -> Result<(), NoMemory>
         return Ok(());
     }
     add_line(alloc, out, line)
-}
-
-fn is_paragraph(tag: Tag) -> bool
-    ensures { result ≡ is_paragraph_tag tag }
-{
-    matches!(tag, Tag::P)
 }
 
 /// The text of a paragraph.
@@ -130,10 +123,11 @@ fn paragraph_line(alloc: Global, vars: &Vars, paragraph: &Node) -> Result<Text, 
 
 /// Appends the lines of dos.
 fn add_dos(alloc: Global, out: &mut Bytes, vars: &Vars, items: &[Item]) -> Result<(), NoMemory>
-    ensures { OnOk result (out.new ≡ out.old ++ lines_bytes (map (do_line vars.now) (filter_map do_in items.now))) }
+    ensures { let dos = filter_map (node_with Tag.Do) items.now in
+        OnOk result (out.new ≡ out.old ++ lines_bytes (map (do_line vars.now) dos)) }
 {
     for item in items {
-        if let Some(node) = do_in(item) {
+        if let Some(node) = node_with(Tag::Do, item) {
             add_line(alloc, out, &do_line(alloc, vars, node)?)?;
         }
     }

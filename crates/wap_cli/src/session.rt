@@ -14,14 +14,14 @@ use crate::tasks::{Plan, Way, plan_for};
 use arrayvec::ArrayVec;
 use std::alloc::Global;
 use std::marker::Model;
-use wap_base::{Bytes, NoMemory, Text};
+use wap_base::{Bytes, DEFAULT_HISTORY, NoMemory, Text};
 use wap_deck::{GoodDeck, do_of, task_of};
 use wap_keys::Key;
 use wap_markup::Node;
 use wap_vars::{VarFault, Vars};
 
 /// The most cards of a history.
-const HISTORY_LIMIT: usize = 64;
+const HISTORY_LIMIT: usize = DEFAULT_HISTORY as usize;
 
 /// A browser between two keys. A contract sees its world.
 #[derive(Drop)]
@@ -195,8 +195,17 @@ impl Session {
                 None => add_refusal(alloc, out, Refusal::Ignored),
             },
             Key::Back if self.current().is_some() => self.back(alloc, out, Vec::new(alloc)),
-            Key::Back => add_refusal(alloc, out, Refusal::Ignored),
             Key::Vars => add_variables(alloc, out, &self.vars),
+            Key::Back
+            | Key::Open(_)
+            | Key::Pick(_)
+            | Key::Enter(..)
+            | Key::Choose(..)
+            | Key::Tick(_)
+            | Key::Ok
+            | Key::Cancel
+            | Key::Answer(_)
+            | Key::Stop => add_refusal(alloc, out, Refusal::Ignored),
         }
     }
 

@@ -32,7 +32,12 @@ fn fault_end(fault: KeyFault) -> &'static [u8]
     ensures { result.now ≡ codes " " ++ (fault_name fault ++ codes "\n") }
 {
     match fault {
+        KeyFault::TooLong => b" TooLong\n",
+        KeyFault::NotText => b" NotText\n",
         KeyFault::UnknownWord => b" UnknownWord\n",
+        KeyFault::Missing => b" Missing\n",
+        KeyFault::BadNumber => b" BadNumber\n",
+        KeyFault::Surplus => b" Surplus\n",
         KeyFault::NoMemory => b" NoMemory\n",
     }
 }
@@ -53,6 +58,7 @@ pub(crate) fn ended(ending: Ending) -> Status
 fn print_bad_key<O: Sink>(out: &mut O, line: u32, fault: KeyFault) -> Result<(), Failed>
     ensures whole { OnOk result (Appends (O.written out.old) (O.written out.new) (status_line (Status.BadKey line fault))) }
     ensures front { OnErr result (AppendsFront (O.written out.old) (O.written out.new) (status_line (Status.BadKey line fault))) }
+    ensures steady { OnOk result (O.faults out.new ≡ O.faults out.old) }
     ensures faults { O.faults out.old ≤ O.faults out.new }
     ensures failed { OnErr result (Rose (O.faults out.old) (O.faults out.new)) }
 {
@@ -98,6 +104,7 @@ impl Status {
     pub fn print<O: Sink>(&self, out: &mut O) -> Result<(), Failed>
         ensures whole { OnOk result (Appends (O.written out.old) (O.written out.new) (status_line self.now)) }
         ensures front { OnErr result (AppendsFront (O.written out.old) (O.written out.new) (status_line self.now)) }
+        ensures steady { OnOk result (O.faults out.new ≡ O.faults out.old) }
         ensures faults { O.faults out.old ≤ O.faults out.new }
         ensures failed { OnErr result (Rose (O.faults out.old) (O.faults out.new)) }
     {

@@ -1,16 +1,16 @@
 //! The tasks of a card's dos, filled before they are taken.
 ghost use Rattle.std.specs.Prelude.{◌≡◌, ℕ, List, map, Some, IfOk};
-ghost use Rattle.std.specs.Option.{option_copied};
 ghost use Rattle.std.specs.List.{filter_map};
 ghost use Rattle.wap_world.specs.World.{World, destination, task_of_tag};
 ghost use Rattle.wap_world.specs.Setting.{setvar_text};
-ghost use Rattle.wap_cli.specs.Tasks.{setvar_in, way_of, planned};
+ghost use Rattle.wap_markup.specs.Trees.{node_with};
+ghost use Rattle.wap_cli.specs.Tasks.{way_of, planned};
 
 use crate::screen::value_text;
 use std::alloc::Global;
 use wap_base::{NoMemory, Text};
-use wap_deck::{GoodDeck, href, name_value, value};
-use wap_markup::{Item, Node, Tag};
+use wap_deck::{GoodDeck, node_with, value_of};
+use wap_markup::{AttrName, Item, Node, Tag};
 use wap_vars::Vars;
 
 /// Where a task leads.
@@ -31,25 +31,17 @@ pub(crate) struct Plan {
     pub(crate) texts: Vec<(Text, Text)>,
 }
 
-/// A setvar among the parts of a task.
-fn setvar_in(item: &Item) -> Option<&Node>
-    ensures { option_copied result ≡ setvar_in item.now }
-{
-    match item {
-        Item::Node(node) if matches!(node.tag, Tag::Setvar) => Some(node),
-        _ => None,
-    }
-}
-
 /// The names and texts that a task sets, filled.
 fn setvar_texts(alloc: Global, vars: &Vars, items: &[Item]) -> Result<Vec<(Text, Text)>, NoMemory>
-    ensures { IfOk result (λ texts. texts.items ≡ map (setvar_text vars.now) (filter_map setvar_in items.now)) }
+    ensures { let setvars = filter_map (node_with Tag.Setvar) items.now in
+        IfOk result (λ texts. texts.items ≡ map (setvar_text vars.now) setvars) }
 {
     let mut texts = Vec::new(alloc);
     for item in items {
-        if let Some(setvar) = setvar_in(item) {
-            let name = value_text(alloc, vars, name_value(setvar))?;
-            texts.push((name, value_text(alloc, vars, value(setvar))?))?;
+        if let Some(setvar) = node_with(Tag::Setvar, item) {
+            let name = value_text(alloc, vars, value_of(AttrName::Name, setvar))?;
+            let value = value_of(AttrName::Value, setvar);
+            texts.push((name, value_text(alloc, vars, value)?))?;
         }
     }
     Ok(texts)
@@ -74,7 +66,7 @@ fn way_of(alloc: Global, vars: &Vars, deck: &GoodDeck, task: &Node) -> Result<Op
 {
     match task.tag {
         Tag::Go => {
-            let href = value_text(alloc, vars, href(task))?;
+            let href = value_text(alloc, vars, value_of(AttrName::Href, task))?;
             Ok(Some(Way::To(destination(alloc, deck, &href)?)))
         }
         Tag::Prev => Ok(Some(Way::Back)),

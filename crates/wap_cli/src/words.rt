@@ -1,25 +1,35 @@
-//! The words of a command.
-ghost use Rattle.std.specs.Prelude.{◌≡◌};
-ghost use Rattle.std.specs.Option.{option_copied};
-ghost use Rattle.wap_base.specs.Texts.{is_same_text};
-ghost use Rattle.wap_cli.specs.Words.{command};
-ghost use Rattle.std.specs.Prelude.{codes};
+//! The words of a command that is run so far.
+ghost use Rattle.std.specs.Prelude.{◌≡◌, IfOk};
+ghost use Rattle.wap_cli.specs.Words.{url_of, command};
 
 use crate::url::is_url;
-use wap_base::Text;
+use std::alloc::Global;
+use wap_base::{NoMemory, Text};
+use wap_words::{Browse, Command, read_words};
 
-/// The URL that is browsed, or none where the words are no command.
-pub(crate) fn command(words: &[Text]) -> Option<&Text>
-    ensures { option_copied result ≡ command words.now }
+/// The URL that a command browses.
+fn url_of(command: Command) -> Option<Text>
+    ensures { result ≡ url_of command }
 {
-    match words {
-        [name, url] if is_browse(name) && is_url(url.as_str()) => Some(url),
-        _ => None,
+    let Command::Browse(browse) = command;
+    let Browse {
+        url,
+        seed: _,
+        budget: _,
+        cache: _,
+    } = browse;
+    if is_url(url.as_str()) {
+        return Some(url);
     }
+    None
 }
 
-fn is_browse(name: &Text) -> bool
-    ensures { result ≡ is_same_text name.now (codes "browse") }
+/// The URL that is browsed, or none where the words are no command.
+pub(crate) fn browsed_url(alloc: Global, words: &[Text]) -> Result<Option<Text>, NoMemory>
+    ensures { IfOk result (λ url. url ≡ command words.now) }
 {
-    name.as_str() == "browse"
+    match read_words(alloc, words)? {
+        Some(command) => Ok(url_of(command)),
+        None => Ok(None),
+    }
 }

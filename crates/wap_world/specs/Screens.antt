@@ -6,7 +6,11 @@ use Rattle.wap_base.specs.declared.name.Part.{Part}
 use Rattle.wap_markup.specs.declared.deck.Node.{Node}
 use Rattle.wap_markup.specs.declared.deck.Item.{Item, out-Item}
 use Rattle.wap_markup.specs.declared.deck.Item.TheOpen.{Item-F}
-use Rattle.wap_markup.specs.Decks.{ItemLevel, is_paragraph_tag, dos_of, value_of, is_title, is_type, is_label}
+use Rattle.wap_markup.specs.declared.name.Tag.TheVariants as tags
+use Rattle.wap_markup.specs.declared.name.AttrName.TheVariants as attrs
+use Rattle.wap_markup.specs.Tables.{is_same_tag}
+use Rattle.wap_markup.specs.Trees.{ItemLevel, value_of}
+use Rattle.wap_markup.specs.Cards.{dos_of}
 use Rattle.wap_vars.specs.Filling.{filled}
 
 -- texts under names, in ascending order of names
@@ -24,7 +28,7 @@ marked mark [] = mark
 marked mark (c ∷ cs) = mark ++ (32 ∷ c ∷ cs)
 
 abbrev pub title_line : Variables → Node → List ℕ
-title_line vars card = marked (codes "=") (value_text vars (value_of is_title card))
+title_line vars card = marked (codes "=") (value_text vars (value_of attrs.Title card))
 
 abbrev pub text_from : Variables → ItemLevel → List ℕ
 text_from vars (Item-F.Text parts) = filled vars parts
@@ -43,7 +47,7 @@ line_if_some [] = []
 line_if_some (c ∷ cs) = (c ∷ cs) ∷ []
 
 abbrev pub lines_from : Variables → ItemLevel → List (List ℕ)
-lines_from vars (Item-F.Node node) = if is_paragraph_tag node.tag then line_if_some (paragraph_line vars node) else []
+lines_from vars (Item-F.Node node) = if is_same_tag node.tag tags.P then line_if_some (paragraph_line vars node) else []
 lines_from vars (Item-F.Text parts) = []
 
 abbrev pub item_lines : Variables → Item → List (List ℕ)
@@ -51,7 +55,7 @@ item_lines vars item = lines_from vars (out-Item item)
 
 -- a do: its type, and its label
 abbrev pub do_line : Variables → Node → List ℕ
-do_line vars node = marked (codes "* " ++ value_text vars (value_of is_type node)) (value_text vars (value_of is_label node))
+do_line vars node = marked (codes "* " ++ value_text vars (value_of attrs.Type node)) (value_text vars (value_of attrs.Label node))
 
 abbrev pub screen : Variables → Node → List (List ℕ)
 screen vars card = title_line vars card ∷ (flat_map (item_lines vars) card.kids ++ map (do_line vars) (dos_of card))

@@ -2,7 +2,9 @@
 -- are this project's own.
 use Rattle.std.specs.Prelude.{ℕ, List, [], ◌∷◌, ◌++◌, map, Result, Ok, Err, codes}
 use Rattle.wap_markup.specs.declared.deck.Node.{Node}
-use Rattle.wap_markup.specs.Decks.{setvars_of, value_of, is_name_attr, is_value}
+use Rattle.wap_markup.specs.declared.name.AttrName.TheVariants as attrs
+use Rattle.wap_markup.specs.Trees.{value_of}
+use Rattle.wap_markup.specs.Tasks.{setvars_of}
 use Rattle.wap_vars.specs.Setting.{set_in}
 use Rattle.wap_vars.specs.declared.fault.VarFault.{VarFault}
 use Rattle.wap_vars.specs.declared.fault.VarFault.TheVariants.{BadName, TooLong, Full, NoMemory}
@@ -35,7 +37,7 @@ set_all vars (text ∷ texts) =
 
 -- a name and a text, both filled
 abbrev pub setvar_text : Variables → Node → List ℕ × List ℕ
-setvar_text vars setvar = (value_text vars (value_of is_name_attr setvar), value_text vars (value_of is_value setvar))
+setvar_text vars setvar = (value_text vars (value_of attrs.Name setvar), value_text vars (value_of attrs.Value setvar))
 
 -- a task's setvars are all filled, and then set
 abbrev pub set_by : Variables → Node → Set

@@ -1,6 +1,6 @@
 -- The transcript of a session: what its URL shows, and then its keys, one after the other. This project's own.
 use Rattle.std.specs.Prelude.{ℕ, List, [], ◌∷◌, ◌++◌}
-use Rattle.wap_keys.specs.declared.key.Key.{Key}
+use Rattle.wap_input.specs.declared.key.Key.{Key}
 use Rattle.wap_world.specs.Lines.{lines_bytes}
 use Rattle.wap_world.specs.Pages.{Pages}
 use Rattle.wap_world.specs.World.{World, Step, opened, react}

@@ -1,12 +1,16 @@
 -- The world of a browser, and its steps (WAP-191, sections 9.3 to 9.7 and 10; the lines are this project's own).
 use Rattle.std.specs.Prelude.{ℕ, ◌-◌, Bool, true, false, nat_le, nat_lt, if◌then◌else◌, List, [], ◌∷◌, ◌++◌, length, map, take, drop, Option, Some, None, slice_get, codes}
-use Rattle.wap_keys.specs.declared.key.Key.{Key}
-use Rattle.wap_keys.specs.declared.key.Key.TheVariants as key
+use Rattle.wap_base.specs.declared.limits.TheConstants.{DEFAULT_HISTORY}
+use Rattle.wap_input.specs.declared.key.Key.{Key}
+use Rattle.wap_input.specs.declared.key.Key.TheVariants as key
 use Rattle.wap_markup.specs.declared.deck.Deck.{Deck}
 use Rattle.wap_markup.specs.declared.deck.Node.{Node}
 use Rattle.wap_markup.specs.declared.name.Tag.{Tag}
 use Rattle.wap_markup.specs.declared.name.Tag.TheVariants as tag
-use Rattle.wap_markup.specs.Decks.{cards_of, card_numbered, do_named, task_of, value_of, is_href}
+use Rattle.wap_markup.specs.declared.name.AttrName.TheVariants as attrs
+use Rattle.wap_markup.specs.Trees.{value_of}
+use Rattle.wap_markup.specs.Cards.{cards_of, card_numbered}
+use Rattle.wap_markup.specs.Tasks.{do_named, task_of}
 use Rattle.wap_world.specs.Lines.{get_line, refusal_line, variable_line}
 use Rattle.wap_world.specs.Screens.{Variables, value_text, screen}
 use Rattle.wap_world.specs.Setting.{Set, set_by}
@@ -74,7 +78,7 @@ shows world refused = quiet world (refused ++ shown world)
 
 -- the most cards of a history
 abbrev pub history_limit : ℕ
-history_limit = 64
+history_limit = DEFAULT_HISTORY
 
 -- one card more; of a full history the oldest is dropped
 abbrev pub pushed : List ℕ → ℕ → List ℕ
@@ -98,7 +102,7 @@ destination deck href = number_or_first (card_numbered (drop 1 href) deck)
 abbrev pub go : World → Deck → Node → Step
 go world deck task =
     let set = set_by world.vars task in
-    let number = destination deck (value_text world.vars (value_of is_href task)) in
+    let number = destination deck (value_text world.vars (value_of attrs.Href task)) in
     shows (record { deck = Some deck; history = pushed world.history number; vars = set.vars }) set.lines
 
 -- back to the card that was entered before, with some variables set; from the first card nowhere
@@ -141,10 +145,19 @@ abbrev pub back_from : World → Option Node → Step
 back_from world None = ignored world
 back_from world (Some card) = back world (no_setvars world)
 
--- one key
+-- one key; those that are for links, fields, timers and dialogs fit nothing yet
 abbrev pub react : Pages → World → Key → Step
+react pages world (key.Open url) = ignored world
 react pages world (key.Do kind) = take_task world world.deck (do_task kind (current world))
+react pages world (key.Pick number) = ignored world
+react pages world (key.Enter number text) = ignored world
+react pages world (key.Choose number option) = ignored world
 react pages world key.Back = back_from world (current world)
+react pages world (key.Tick count) = ignored world
+react pages world key.Ok = ignored world
+react pages world key.Cancel = ignored world
+react pages world (key.Answer text) = ignored world
+react pages world key.Stop = ignored world
 react pages world key.Vars = quiet world (map variable_line world.vars)
 
 -- ---- a session's URL

@@ -1,6 +1,6 @@
 use Rattle.std.proofs.Common.{List, subst}
-use Rattle.wap_keys.specs.declared.key.Key.{Key}
-use Rattle.wap_cli.proofs.Browsing.{played_ending, read_fault_ending, Wrote, WroteFront, whole_told, before_told, front_told, nothing_told}
+use Rattle.wap_input.specs.declared.key.Key.{Key}
+use Rattle.wap_cli.proofs.Browsing.{played_ending, read_fault_ending, ends_told, Wrote, WroteFront, whole_told, before_told, front_told, nothing_told}
 use Rattle.wap_cli.proofs.commands.browse.Goals as goal
 
 pub returns-in-Ok-read_keys-clause-whole : goal.returns-in-Ok-read_keys-clause-whole
@@ -41,3 +41,8 @@ returns-in-Ok-read_keys-clause-front g c =
 
 pub returns-in-Err-clause-front : goal.returns-in-Err-clause-front
 returns-in-Err-clause-front g c = nothing_told (g.S.Store.contents c.args.store.now) (g.I.Source.left c.args.keys.now) c.args.url.now (g.O.Sink.written c.args.out.now)
+
+pub returns-in-Ok-read_keys-clause-ends : goal.returns-in-Ok-read_keys-clause-ends
+returns-in-Ok-read_keys-clause-ends g c = λ played.
+    let ended = played_ending c.in-Ok-read_keys.ending c.play.result c.play.ensures.ends played in
+    ends_told (g.I.Source.left c.args.keys.now) c.in-Ok-read_keys.pressed.items c.in-Ok-read_keys.ending c.play.result ended.0 (c.in-Ok-read_keys.ensures.told ended.1)
