@@ -1,0 +1,5 @@
+pub mod Finding
+pub mod SlotLaws
+pub mod RowLaws
+pub mod Spelled
+pub mod Gifts

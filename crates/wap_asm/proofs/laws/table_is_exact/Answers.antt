@@ -1,0 +1,6 @@
+use Rattle.wap_asm.proofs.RowLaws.{read_back, none_shorter, length-spelling}
+use Rattle.wap_asm.proofs.Spelled.{spelled}
+use Rattle.wap_asm.proofs.laws.table_is_exact.Goals as goal
+
+pub returns : goal.returns
+returns c = record { read = read_back; short = none_shorter; long = length-spelling; spelled = spelled }

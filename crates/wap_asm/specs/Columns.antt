@@ -1,0 +1,13 @@
+-- The columns of the table of libraries, as the code keeps it.
+use Rattle.std.specs.Prelude.{ℕ, Bool, ◌&&◌, bytes_eq, List}
+use Rattle.std.specs.Borrow.{Bor}
+
+-- a function by its numbers, and by its names
+abbrev pub lent_by_number : ℕ × ℕ × ℕ × Bor (List ℕ) × Bor (List ℕ) → (ℕ × ℕ) × ℕ
+lent_by_number row = ((row.0, row.1), row.2)
+
+abbrev pub lent_by_name : ℕ × ℕ × ℕ × Bor (List ℕ) × Bor (List ℕ) → (List ℕ × List ℕ) × (ℕ × ℕ × ℕ)
+lent_by_name row = ((row.3.now, row.4.now), (row.0, row.1, row.2))
+
+abbrev pub has_names : List ℕ → List ℕ → List ℕ × List ℕ → Bool
+has_names name function key = bytes_eq key.0 name && bytes_eq key.1 function

@@ -1,0 +1,91 @@
+//! Reading an instruction.
+ghost use Rattle.std.specs.Prelude.{◌≡◌, ◌+◌, ◌<◌, ◌≤◌, length, slice_index, find, IfSome};
+ghost use Rattle.wap_code.specs.Instructions.{width, size, has_code, row_of, value, read_row, instr_at};
+
+use wap_code::{Instr, InstrFault, ROWS, Row, Slot};
+
+/// How many bytes an operand takes.
+fn width(slot: Slot) -> usize
+    ensures { result ≡ width slot }
+{
+    match slot {
+        Slot::Absent => 0,
+        Slot::Low => 0,
+        Slot::Byte => 1,
+        Slot::Word => 2,
+    }
+}
+
+/// How many bytes a row's instruction takes.
+fn size(row: Row) -> usize
+    ensures { result ≡ size row }
+{
+    1 + width(row.a) + width(row.b) + width(row.c)
+}
+
+/// The first row that a code is of.
+fn row_in(rows: &[Row], code: u8) -> Option<Row>
+    ensures row { result ≡ find (has_code code) rows.now }
+    ensures within { IfSome result (λ row. row.first ≤ code) }
+{
+    for row in rows {
+        if row.first <= code && code - row.first < row.count {
+            return Some(*row);
+        }
+    }
+    None
+}
+
+/// The operand at a place.
+fn operand(code: &[u8], at: usize, slot: Slot, low: u8) -> u32
+    requires { at + width slot ≤ length code.now }
+    ensures { result ≡ value code.now at slot low }
+{
+    match slot {
+        Slot::Absent => 0,
+        Slot::Low => u32::from(low),
+        Slot::Byte => u32::from(code[at]),
+        Slot::Word => 256 * u32::from(code[at]) + u32::from(code[at + 1]),
+    }
+}
+
+/// The instruction of a row at a place, where the byte is a code of the row.
+pub fn read_row(row: Row, code: &[u8], at: usize) -> Result<Instr, InstrFault>
+    requires here { at < length code.now }
+    requires within { row.first ≤ slice_index code.now at }
+    ensures { result ≡ read_row row code.now at }
+{
+    if code.len() - at < size(row) {
+        return Err(InstrFault::Operand);
+    }
+    let low = code[at] - row.first;
+    let b_at = at + 1 + width(row.a);
+    let c_at = b_at + width(row.b);
+    Ok(Instr {
+        name: row.name,
+        a: operand(code, at + 1, row.a, low),
+        b: operand(code, b_at, row.b, low),
+        c: operand(code, c_at, row.c, low),
+        next: c_at + width(row.c),
+    })
+}
+
+/// The row that a code is of.
+pub fn row_of(code: u8) -> Option<Row>
+    ensures row { result ≡ row_of code }
+    ensures within { IfSome result (λ row. row.first ≤ code) }
+    ensures gives { IfSome result (λ row. row.gives ≤ 1) }
+{
+    row_in(&ROWS, code)
+}
+
+/// The instruction at a place.
+pub fn next_instr(code: &[u8], at: usize) -> Result<Instr, InstrFault>
+    requires { at < length code.now }
+    ensures { result ≡ instr_at code.now at }
+{
+    match row_of(code[at]) {
+        None => Err(InstrFault::Opcode),
+        Some(row) => read_row(row, code, at),
+    }
+}

@@ -1,0 +1,55 @@
+-- The instruction at a place of a function's code.
+use Rattle.std.specs.Prelude.{ℕ, ◌+◌, ◌-◌, ◌*◌, nat_lt, nat_le, Bool, ◌&&◌, if◌then◌else◌, List, length, slice_index, find, Option, Some, None, Result, Ok, Err}
+use Rattle.wap_code.specs.declared.row.Slot.{Slot}
+use Rattle.wap_code.specs.declared.row.Slot.TheVariants.{Absent, Low, Byte, Word}
+use Rattle.wap_code.specs.declared.row.Row.{Row}
+use Rattle.wap_code.specs.declared.instr.Instr.{Instr}
+use Rattle.wap_code.specs.declared.instr.InstrFault.{InstrFault}
+use Rattle.wap_code.specs.declared.instr.InstrFault.TheVariants.{Opcode, Operand}
+use Rattle.wap_code.specs.Rows.{rows}
+
+-- how many bytes an operand takes, and an instruction
+abbrev pub width : Slot → ℕ
+width Absent = 0
+width Low = 0
+width Byte = 1
+width Word = 2
+
+abbrev pub size : Row → ℕ
+size row = 1 + width row.a + width row.b + width row.c
+
+-- whether a code is of a row
+abbrev pub has_code : ℕ → Row → Bool
+has_code code row = nat_le row.first code && nat_lt (code - row.first) row.count
+
+unfoldable pub row_of : ℕ → Option Row
+row_of code = find (has_code code) rows
+
+-- the operand at a place, where the code's low bits are `low`
+abbrev pub value : List ℕ → ℕ → Slot → ℕ → ℕ
+value code at Absent low = 0
+value code at Low low = low
+value code at Byte low = slice_index code at
+value code at Word low = 256 * slice_index code at + slice_index code (at + 1)
+
+abbrev pub read : Row → List ℕ → ℕ → Instr
+read row code at =
+    let low = slice_index code at - row.first in
+    record {
+      name = row.name;
+      a = value code (at + 1) row.a low;
+      b = value code (at + 1 + width row.a) row.b low;
+      c = value code (at + 1 + width row.a + width row.b) row.c low;
+      next = at + size row;
+    }
+
+abbrev pub read_row : Row → List ℕ → ℕ → Result Instr InstrFault
+read_row row code at = if nat_lt (length code - at) (size row) then Err Operand else Ok (read row code at)
+
+abbrev pub read_by : Option Row → List ℕ → ℕ → Result Instr InstrFault
+read_by None code at = Err Opcode
+read_by (Some row) code at = read_row row code at
+
+-- the instruction that the row of the byte has, with its operands
+abbrev pub instr_at : List ℕ → ℕ → Result Instr InstrFault
+instr_at code at = read_by (row_of (slice_index code at)) code at

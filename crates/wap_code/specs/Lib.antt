@@ -1,0 +1,4 @@
+pub mod Rows
+pub mod Instructions
+pub mod Libraries
+pub mod Strings

@@ -1,0 +1,34 @@
+-- Which constants are strings, and their characters.
+use Rattle.std.specs.Prelude.{ℕ, Bool, true, false, List, [], Option, Some, None, slice_get, option_and_then}
+use Rattle.std.specs.Option.{option_map, option_map_or}
+use Rattle.wap_code.specs.declared.unit.Unit.{Unit}
+use Rattle.wap_code.specs.declared.unit.Constant.{Constant}
+use Rattle.wap_code.specs.declared.unit.Constant.TheVariants.{Int8, Int16, Int32, Float, Utf8, Empty, Coded}
+use Rattle.wap_base.specs.Charsets.{charset_of, characters_of}
+
+-- in a pool whose strings are in the character set of this number
+abbrev pub string_of : ℕ → Constant → Option (List ℕ)
+string_of charset (Int8 number) = None
+string_of charset (Int16 number) = None
+string_of charset (Int32 number) = None
+string_of charset (Float number) = None
+string_of charset (Utf8 text) = Some text
+string_of charset Empty = Some []
+string_of charset (Coded text) = option_map (λ set. characters_of set text) (charset_of charset)
+
+-- the constant with this index
+abbrev pub string_at : Unit → ℕ → Option (List ℕ)
+string_at unit index = option_and_then (string_of unit.charset) (slice_get unit.constants index)
+
+abbrev pub holds_text : Constant → Bool
+holds_text (Int8 number) = false
+holds_text (Int16 number) = false
+holds_text (Int32 number) = false
+holds_text (Float number) = false
+holds_text (Utf8 text) = true
+holds_text Empty = true
+holds_text (Coded text) = true
+
+-- whether there is such a constant, and it is a string
+abbrev pub is_string : Unit → ℕ → Bool
+is_string unit index = option_map_or holds_text (slice_get unit.constants index) false

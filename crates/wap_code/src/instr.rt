@@ -1,0 +1,22 @@
+//! Instructions of a function's code.
+use crate::row::OpName;
+
+/// An instruction. Operands that it doesn't have are 0.
+#[derive(Clone, Copy, Debug, PartialEq, Eq)]
+pub struct Instr {
+    pub name: OpName,
+    pub a: u32,
+    pub b: u32,
+    pub c: u32,
+    /// The place of the first byte after it.
+    pub next: usize,
+}
+
+/// Why there is no instruction.
+#[derive(Clone, Copy, Debug, PartialEq, Eq)]
+pub enum InstrFault {
+    /// The byte is no code.
+    Opcode,
+    /// The operands end past the code.
+    Operand,
+}

@@ -1,0 +1,7 @@
+use Rattle.wap_unit.specs.inside.Steps.{many}
+use Rattle.wap_unit.specs.inside.Reading.{name_at}
+use Rattle.wap_unit.proofs.Loops.{Continues}
+use Rattle.wap_unit.proofs.functions.read_names.Given as goal
+
+abbrev pub invariant-loop : goal.invariant-loop
+invariant-loop l = Continues (name_at l.functions) l.end l.count l.counter l.names l.rest (many (name_at l.functions) l.count l.end l.bytes)

@@ -1,0 +1,44 @@
+//! Texts in a character set.
+ghost use Rattle.wap_base.specs.Outcome.{Meets};
+ghost use Rattle.wap_unit.specs.declared.fault.UnitFault.TheVariants.{NoMemory};
+ghost use Rattle.wap_unit.specs.inside.Reading.{utf8_text, coded_text};
+
+use crate::UnitFault;
+use std::alloc::Global;
+use std::str;
+use wap_base::{Bytes, Charset, Text};
+
+/// The characters of bytes that have to be UTF-8, as part of the item at this place.
+#[tactic(auto, unfolding(crate::specs::inside::Reading::utf8_text))]
+pub fn utf8_text<'a>(
+    alloc: Global,
+    at: usize,
+    content: &[u8],
+    end: usize,
+    rest: &'a [u8],
+) -> Result<(Text, &'a [u8]), UnitFault>
+    ensures { Meets NoMemory (λ read. (read.0, read.1.now)) result (utf8_text at content.now end rest.now) }
+{
+    match str::from_utf8(content) {
+        Ok(text) => Ok((Text::of(alloc, text)?, rest)),
+        Err(_) => Err(UnitFault::Text { at }),
+    }
+}
+
+/// Bytes that have to be a text in a character set, as part of the item at this place.
+#[tactic(auto, unfolding(crate::specs::inside::Reading::coded_text))]
+pub fn coded_text<'a>(
+    alloc: Global,
+    set: Charset,
+    at: usize,
+    content: &[u8],
+    end: usize,
+    rest: &'a [u8],
+) -> Result<(Bytes, &'a [u8]), UnitFault>
+    ensures { Meets NoMemory (λ read. (read.0, read.1.now)) result (coded_text set at content.now end rest.now) }
+{
+    if !set.is_text(content) {
+        return Err(UnitFault::Text { at });
+    }
+    Ok((Bytes::of(alloc, content)?, rest))
+}

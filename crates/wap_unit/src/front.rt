@@ -1,0 +1,60 @@
+//! What stands in front of bytes: one byte, so many, a number, and bytes behind their number.
+ghost use Rattle.std.specs.Prelude.{◌≡◌, ◌-◌, length, IfOk};
+ghost use Rattle.wap_base.specs.Outcome.{Meets};
+ghost use Rattle.wap_unit.specs.declared.fault.UnitFault.TheVariants.{NoMemory};
+ghost use Rattle.wap_unit.specs.inside.Steps.{byte_at, taken_at, number_at};
+ghost use Rattle.wap_unit.specs.inside.Reading.{sized_at};
+
+use crate::UnitFault;
+use wap_base::{ReadFault, read_mb};
+
+/// The place of the first of the bytes that are left of an input of this length.
+pub fn place(end: usize, bytes: &[u8]) -> usize
+    ensures { result ≡ end - length bytes.now }
+{
+    end.saturating_sub(bytes.len())
+}
+
+/// One byte.
+pub fn byte(end: usize, bytes: &[u8]) -> Result<(u8, &[u8]), UnitFault>
+    ensures { Meets NoMemory (λ read. (read.0, read.1.now)) result (byte_at end bytes.now) }
+{
+    match bytes.split_first() {
+        Some((first, rest)) => Ok((*first, rest)),
+        None => Err(UnitFault::Short { at: end }),
+    }
+}
+
+/// So many bytes.
+pub fn taken(size: usize, end: usize, bytes: &[u8]) -> Result<(&[u8], &[u8]), UnitFault>
+    ensures read { Meets NoMemory (λ read. (read.0.now, read.1.now)) result (taken_at size end bytes.now) }
+    ensures size { IfOk result (λ read. length read.0.now ≡ size) }
+{
+    if bytes.len() < size {
+        return Err(UnitFault::Short { at: end });
+    }
+    Ok(bytes.split_at(size))
+}
+
+/// A number of several bytes.
+#[tactic(auto, unfolding(crate::specs::inside::Steps::number_at))]
+pub fn number(end: usize, bytes: &[u8]) -> Result<(u32, &[u8]), UnitFault>
+    ensures { Meets NoMemory (λ read. (read.0, read.1.now)) result (number_at end bytes.now) }
+{
+    match read_mb(bytes, 0) {
+        Ok((number, next)) => Ok((number, &bytes[next..])),
+        Err(ReadFault::Short { .. }) => Err(UnitFault::Short { at: end }),
+        Err(ReadFault::TooLong { .. }) => Err(UnitFault::Number {
+            at: place(end, bytes),
+        }),
+    }
+}
+
+/// Bytes behind their number.
+#[tactic(auto, unfolding(crate::specs::inside::Reading::sized_at))]
+pub fn sized(end: usize, bytes: &[u8]) -> Result<(&[u8], &[u8]), UnitFault>
+    ensures { Meets NoMemory (λ read. (read.0.now, read.1.now)) result (sized_at end bytes.now) }
+{
+    let (size, rest) = number(end, bytes)?;
+    taken(size as usize, end, rest)
+}

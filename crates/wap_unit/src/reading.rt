@@ -1,0 +1,84 @@
+//! Reading a unit from its bytes.
+ghost use Rattle.std.specs.Prelude.{◌≡◌, ◌≢◌, ℕ, ◌<◌, ◌^◌, List, length, IfOk, IfErr, Ok, Err};
+ghost use Rattle.wap_base.specs.Outcome.{Meets};
+ghost use Rattle.wap_code.specs.declared.unit.Unit.{Unit};
+ghost use Rattle.wap_unit.specs.declared.fault.UnitFault.{UnitFault};
+ghost use Rattle.wap_unit.specs.declared.fault.UnitFault.TheVariants.{NoMemory};
+ghost use Rattle.wap_unit.specs.Units.{IsUnit};
+ghost use Rattle.wap_unit.specs.Refusal.{IsRefused};
+ghost use Rattle.wap_unit.specs.inside.Reading.{body_at, unit_at};
+
+use crate::UnitFault;
+use crate::constants::read_constants;
+use crate::front::{byte, number, place};
+use crate::functions::read_functions;
+use crate::pragmas::read_pragmas;
+use std::alloc::Global;
+use wap_code::Unit;
+
+/// The unit that the bytes spell, all of them.
+pub fn decode(alloc: Global, bytes: &[u8]) -> Result<Unit, UnitFault>
+    requires { length bytes.now < 2 ^ 32 }
+    // What is read is spelled so, and what is spelled so is read.
+    ensures found { IfOk result (λ unit. IsUnit bytes.now unit) }
+    ensures only { (unit : Unit) → IsUnit bytes.now unit → Meets NoMemory (λ u. u) result (Ok unit) }
+    // A fault is the first one from the left, and the first one from the left is found.
+    ensures refused { IfErr result (λ fault. fault ≢ NoMemory → IsRefused bytes.now fault) }
+    ensures first { (fault : UnitFault) → IsRefused bytes.now fault → Meets {Y = Unit} NoMemory (λ u. u) result (Err fault) }
+    ensures exact { Meets NoMemory (λ u. u) result (unit_at bytes.now) }
+{
+    read_unit(alloc, bytes)
+}
+
+#[tactic(auto, unfolding(crate::specs::inside::Reading::unit_at, crate::specs::inside::Reading::unit_by))]
+fn read_unit(alloc: Global, bytes: &[u8]) -> Result<Unit, UnitFault>
+    ensures { Meets NoMemory (λ u. u) result (unit_at bytes.now) }
+{
+    let end = bytes.len();
+    let (version, rest) = byte(end, bytes)?;
+    if version > 0x0F {
+        return Err(UnitFault::Version { at: 0 });
+    }
+    let (size, rest) = number(end, rest)?;
+    if size as usize != rest.len() {
+        return Err(UnitFault::Size { at: 1 });
+    }
+    let (unit, rest) = read_body(alloc, version, end, rest)?;
+    if !rest.is_empty() {
+        return Err(UnitFault::Size {
+            at: place(end, rest),
+        });
+    }
+    Ok(unit)
+}
+
+/// What follows the number of the bytes that follow.
+#[tactic(auto, unfolding(crate::specs::inside::Reading::body_at))]
+fn read_body(
+    alloc: Global,
+    version: u8,
+    end: usize,
+    bytes: &[u8],
+) -> Result<(Unit, &[u8]), UnitFault>
+    ensures { Meets NoMemory (λ read. (read.0, read.1.now)) result (body_at version end bytes.now) }
+{
+    let (charset, constants, rest) = read_constants(alloc, end, bytes)?;
+    let (pragmas, rest) = read_pragmas(alloc, end, rest)?;
+    let (names, functions, rest) = read_functions(alloc, end, rest)?;
+    Ok((
+        Unit {
+            version,
+            charset,
+            constants,
+            pragmas,
+            names,
+            functions,
+        },
+        rest,
+    ))
+}
+
+/// No bytes have two units. It does nothing, and carries the law alone.
+pub fn no_bytes_have_two_units()
+    ensures { (bytes : List ℕ) (one two : Unit) → IsUnit bytes one → IsUnit bytes two → one ≡ two }
+{}
