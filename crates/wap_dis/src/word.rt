@@ -1,0 +1,91 @@
+//! The words of a line.
+ghost use Rattle.std.specs.Prelude.{◌≡◌, ◌<◌, map};
+ghost use Rattle.std.specs.List.{flat_map};
+ghost use Rattle.wap_dis.specs.Listing.{hex_digit, hex, shown_byte, spaced, line};
+ghost use Rattle.wap_dis.specs.inside.Puts.{Puts};
+ghost use Rattle.wap_dis.specs.inside.Held.{state};
+ghost use Rattle.wap_dis.specs.inside.Words.{word_bytes};
+
+use crate::held::{Held, put};
+use itoa::Buffer;
+use wap_base::Sink;
+
+/// A word of a line.
+#[derive(Clone, Copy, Debug)]
+pub enum Word<'a> {
+    /// As it stands.
+    Name(&'a str),
+    Number(u64),
+    Signed(i32),
+    /// Bytes as pairs of digits of base 16.
+    Hex(&'a [u8]),
+    /// A text, its control characters as dots.
+    Shown(&'a str),
+}
+
+/// Puts a line: a word, more words with a space before each, and its end.
+pub fn put_line<O: Sink>(out: &mut O, held: &mut Held, first: Word<'_>, words: &[Word<'_>])
+    ensures { Puts (O.written out.old) (O.written out.new) (O.faults out.old) (O.faults out.new) (state held.old) (state held.new) (line (word_bytes first.entry) (map word_bytes words.now)) }
+{
+    put_word(out, held, first);
+    put_words(out, held, words);
+    put(out, held, b"\n");
+}
+
+/// Puts words, with a space before each.
+fn put_words<O: Sink>(out: &mut O, held: &mut Held, words: &[Word<'_>])
+    ensures { Puts (O.written out.old) (O.written out.new) (O.faults out.old) (O.faults out.new) (state held.old) (state held.new) (flat_map spaced (map word_bytes words.now)) }
+{
+    for word in words {
+        put(out, held, b" ");
+        put_word(out, held, *word);
+    }
+}
+
+fn put_word<O: Sink>(out: &mut O, held: &mut Held, word: Word<'_>)
+    ensures { Puts (O.written out.old) (O.written out.new) (O.faults out.old) (O.faults out.new) (state held.old) (state held.new) (word_bytes word.entry) }
+{
+    match word {
+        Word::Name(text) => put(out, held, text.as_bytes()),
+        Word::Number(value) => {
+            let mut buffer = Buffer::new();
+            put(out, held, buffer.format(value).as_bytes());
+        }
+        Word::Signed(value) => {
+            let mut buffer = Buffer::new();
+            put(out, held, buffer.format(value).as_bytes());
+        }
+        Word::Hex(bytes) => put_hex(out, held, bytes),
+        Word::Shown(text) => put_shown(out, held, text.as_bytes()),
+    }
+}
+
+fn hex_digit(value: u8) -> u8
+    requires { value < 16 }
+    ensures { result ≡ hex_digit value }
+{
+    if value < 10 { 48 + value } else { 87 + value }
+}
+
+fn put_hex<O: Sink>(out: &mut O, held: &mut Held, bytes: &[u8])
+    ensures { Puts (O.written out.old) (O.written out.new) (O.faults out.old) (O.faults out.new) (state held.old) (state held.new) (hex bytes.now) }
+{
+    for byte in bytes {
+        put(out, held, &[hex_digit(*byte / 16), hex_digit(*byte % 16)]);
+    }
+}
+
+/// A control character is shown as a dot.
+fn shown_byte(byte: u8) -> u8
+    ensures { result ≡ shown_byte byte }
+{
+    if byte < 32 || byte == 127 { 46 } else { byte }
+}
+
+fn put_shown<O: Sink>(out: &mut O, held: &mut Held, bytes: &[u8])
+    ensures { Puts (O.written out.old) (O.written out.new) (O.faults out.old) (O.faults out.new) (state held.old) (state held.new) (map shown_byte bytes.now) }
+{
+    for byte in bytes {
+        put(out, held, &[shown_byte(*byte)]);
+    }
+}

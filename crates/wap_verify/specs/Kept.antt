@@ -1,0 +1,57 @@
+-- What is kept of a unit that may be run: room for the values of each function, and the texts of its coded strings.
+use Rattle.std.specs.Prelude.{◌≡◌, ⊤, ℕ, ◌<◌, true, List, length, map, slice_get, slice_index, Option, Some, None}
+use Rattle.std.specs.Map.{lookup}
+use Rattle.std.specs.Option.{option_map}
+use Rattle.wap_base.specs.Texts.{is_same_text}
+use Rattle.wap_base.specs.declared.charset.Charset.{Charset}
+use Rattle.wap_code.specs.declared.unit.Unit.{Unit}
+use Rattle.wap_code.specs.declared.unit.Code.{Code}
+use Rattle.wap_code.specs.declared.unit.Constant.{Constant}
+use Rattle.wap_code.specs.declared.unit.Constant.TheVariants.{Int8, Int16, Int32, Float, Utf8, Empty, Coded}
+use Rattle.wap_base.specs.Charsets.{charset_of, is_text, characters_of}
+use Rattle.wap_verify.specs.Sound.{IsRoom, AreSound, IsVerified}
+
+-- the first entry with a name
+abbrev pub by_name : ℕ × List ℕ → List ℕ × ℕ
+by_name entry = (entry.1, entry.0)
+
+abbrev pub names_first : List (ℕ × List ℕ) → List ℕ → Option ℕ
+names_first names name = lookup (λ other. is_same_text other name) (map by_name names)
+
+abbrev pub function_named : Unit → List ℕ → Option ℕ
+function_named unit name = names_first unit.names name
+
+-- the text of a coded string
+abbrev pub coded_text : Option Charset → Constant → Option (List ℕ)
+coded_text set (Int8 number) = None
+coded_text set (Int16 number) = None
+coded_text set (Int32 number) = None
+coded_text set (Float number) = None
+coded_text set (Utf8 text) = None
+coded_text set Empty = None
+coded_text set (Coded bytes) = option_map (λ known. characters_of known bytes) set
+
+-- its bytes are a text
+abbrev pub IsReadableText : Option Charset → List ℕ → Type 0
+IsReadableText None bytes = ⊤
+IsReadableText (Some set) bytes = is_text set bytes ≡ true
+
+abbrev pub IsReadable : Option Charset → Constant → Type 0
+IsReadable set (Int8 number) = ⊤
+IsReadable set (Int16 number) = ⊤
+IsReadable set (Int32 number) = ⊤
+IsReadable set (Float number) = ⊤
+IsReadable set (Utf8 text) = ⊤
+IsReadable set Empty = ⊤
+IsReadable set (Coded bytes) = IsReadableText set bytes
+
+-- of the functions before this index
+pub record AreRooms (unit : Unit) (count : ℕ) (rooms : List ℕ) : Type 0 where
+  pub long : length rooms ≡ count
+  pub sound : AreSound unit count
+  pub each : (index : ℕ) (function : Code) → index < count → slice_get unit.functions index ≡ Some function → IsRoom unit index function (slice_index rooms index)
+
+pub record IsKept (unit : Unit) (texts : List (Option (List ℕ))) (rooms : List ℕ) : Type 0 where
+  pub verified : IsVerified unit
+  pub rooms_are : AreRooms unit (length unit.functions) rooms
+  pub texts_are : texts ≡ map (coded_text (charset_of unit.charset)) unit.constants

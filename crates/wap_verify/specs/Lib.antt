@@ -1,0 +1,7 @@
+pub mod Steps
+pub mod Paths
+pub mod Sound
+pub mod Faults
+pub mod Kept
+pub mod Ready
+pub mod inside

@@ -1,0 +1,318 @@
+//! What stands at a place of a function's code, with its operands looked at.
+ghost use Rattle.std.specs.Prelude.{◌≡◌, ◌+◌, ◌<◌, ◌≤◌, ◌^◌, length, slice_index, IfOk, IfSome};
+ghost use Rattle.wap_code.specs.Instructions.{row_of, read_row};
+ghost use Rattle.wap_verify.specs.Steps.{arguments, values_taken, operand_fault, way_to, way_on, step_of, pair, is_conditional_forward, jump_by, pair_at, is_pair, fine_at, step_at};
+ghost use Rattle.wap_verify.specs.inside.Work.{GoesOn};
+
+use crate::VerifyFault;
+use crate::strings::is_string;
+use wap_asm::{args_of, read_row, row_of};
+use wap_code::{After, Code, Instr, Operands, Row, Takes, Unit};
+
+/// A place where it may go on, and how many values are given on the way there.
+#[derive(Clone, Copy, Debug, PartialEq, Eq)]
+pub struct Way {
+    pub to: usize,
+    pub gives: u8,
+}
+
+/// One instruction, or a short-circuit and its jump.
+#[derive(Clone, Copy, Debug, PartialEq, Eq)]
+pub struct Step {
+    /// How many values it takes.
+    pub takes: u32,
+    /// The place behind it.
+    pub next: usize,
+    /// How many values it gives where it goes on behind it, if it does.
+    pub on: Option<u8>,
+    /// To the target of its jump.
+    pub jump: Option<Way>,
+    /// The place of the jump, or its own.
+    pub jump_at: usize,
+    /// Whether the jump leads to before the code; its way means nothing then.
+    pub strays: bool,
+}
+
+/// How many arguments a call hands over.
+fn arguments(unit: &Unit, operands: Operands, instr: Instr) -> u32
+    ensures { result ≡ arguments unit.now operands instr }
+{
+    match operands {
+        Operands::Plain => 0,
+        Operands::Variable => 0,
+        Operands::Constant => 0,
+        Operands::Function => match unit.functions.get(instr.a as usize) {
+            Some(function) => u32::from(function.args),
+            None => 0,
+        },
+        Operands::Library => match args_of(instr.b, instr.a) {
+            Some(args) => u32::from(args),
+            None => 0,
+        },
+        Operands::Address => instr.c,
+    }
+}
+
+/// How many values an instruction takes.
+fn values_taken(unit: &Unit, takes: Takes, operands: Operands, instr: Instr) -> u32
+    ensures { result ≡ values_taken unit.now takes operands instr }
+{
+    match takes {
+        Takes::Values(number) => u32::from(number),
+        Takes::Arguments => arguments(unit, operands, instr),
+    }
+}
+
+/// Why an operand of the instruction at this place names nothing.
+fn operand_fault(
+    unit: &Unit,
+    index: u8,
+    function: &Code,
+    at: usize,
+    operands: Operands,
+    instr: Instr,
+) -> Option<VerifyFault>
+    ensures { result ≡ operand_fault unit.now index function.now at operands instr }
+{
+    match operands {
+        Operands::Plain => None,
+        Operands::Variable => {
+            if instr.a < u32::from(function.args) + u32::from(function.locals) {
+                None
+            } else {
+                Some(VerifyFault::Variable {
+                    function: index,
+                    at,
+                })
+            }
+        }
+        Operands::Constant => {
+            if (instr.a as usize) < unit.constants.len() {
+                None
+            } else {
+                Some(VerifyFault::Constant {
+                    function: index,
+                    at,
+                })
+            }
+        }
+        Operands::Function => {
+            if (instr.a as usize) < unit.functions.len() {
+                None
+            } else {
+                Some(VerifyFault::Function {
+                    function: index,
+                    at,
+                })
+            }
+        }
+        Operands::Library => {
+            if args_of(instr.b, instr.a).is_some() {
+                None
+            } else {
+                Some(VerifyFault::Library {
+                    function: index,
+                    at,
+                })
+            }
+        }
+        Operands::Address => {
+            if is_string(unit, instr.a) && is_string(unit, instr.b) {
+                None
+            } else {
+                Some(VerifyFault::Constant {
+                    function: index,
+                    at,
+                })
+            }
+        }
+    }
+}
+
+fn way_to(to: usize, gives: u8) -> Option<Way>
+    ensures { result ≡ way_to to gives }
+{
+    Some(Way { to, gives })
+}
+
+/// Where it goes on after an instruction that takes and gives so many values.
+fn step_of(after: After, at: usize, instr: Instr, takes: u32, gives: u8) -> Step
+    requires { instr.next + instr.a < 2 ^ 64 }
+    ensures { result ≡ step_of after at instr takes gives }
+{
+    let stay = Step {
+        takes,
+        next: instr.next,
+        on: None,
+        jump: None,
+        jump_at: at,
+        strays: false,
+    };
+    let on = Some(gives);
+    let forward = way_to(instr.next + instr.a as usize, gives);
+    let backward = way_to(at.saturating_sub(instr.a as usize), gives);
+    let strays = at < instr.a as usize;
+    match after {
+        After::On => Step { on, ..stay },
+        After::Forward => Step {
+            jump: forward,
+            ..stay
+        },
+        After::Backward => Step {
+            jump: backward,
+            strays,
+            ..stay
+        },
+        After::ForwardOrOn => Step {
+            on,
+            jump: forward,
+            ..stay
+        },
+        After::BackwardOrOn => Step {
+            on,
+            jump: backward,
+            strays,
+            ..stay
+        },
+        After::Pair => stay,
+        After::Leave => stay,
+    }
+}
+
+/// The way to what stands behind it.
+pub fn way_on(step: Step) -> Option<Way>
+    ensures { result ≡ way_on step }
+{
+    match step.on {
+        None => None,
+        Some(gives) => way_to(step.next, gives),
+    }
+}
+
+/// A short-circuit and its jump, which is at this place.
+fn pair(takes: u32, at: usize, jump: Instr) -> Step
+    requires { jump.next + jump.a < 2 ^ 64 }
+    ensures { result ≡ pair takes at jump }
+{
+    Step {
+        takes,
+        next: jump.next,
+        on: Some(0),
+        jump: way_to(jump.next + jump.a as usize, 1),
+        jump_at: at,
+        strays: false,
+    }
+}
+
+fn is_conditional_forward(after: After) -> bool
+    ensures { result ≡ is_conditional_forward after }
+{
+    match after {
+        After::ForwardOrOn => true,
+        After::On => false,
+        After::Forward => false,
+        After::Backward => false,
+        After::BackwardOrOn => false,
+        After::Pair => false,
+        After::Leave => false,
+    }
+}
+
+fn is_pair(after: After) -> bool
+    ensures { result ≡ is_pair after }
+{
+    match after {
+        After::Pair => true,
+        After::On => false,
+        After::Forward => false,
+        After::Backward => false,
+        After::ForwardOrOn => false,
+        After::BackwardOrOn => false,
+        After::Leave => false,
+    }
+}
+
+/// The short-circuit at a place, with the jump that has to stand next.
+#[tactic(auto, unfolding(crate::specs::Steps::pair_at))]
+fn pair_at(index: u8, code: &[u8], at: usize, next: usize, takes: u32) -> Result<Step, VerifyFault>
+    requires { length code.now < 2 ^ 32 }
+    ensures step { result ≡ pair_at index code.now at next takes }
+    ensures onward { at < next → IfOk result (GoesOn at (length code.now)) }
+{
+    if next >= code.len() {
+        return Err(VerifyFault::LoneShort {
+            function: index,
+            at,
+        });
+    }
+    let Some(row) = row_of(code[next]) else {
+        return Err(VerifyFault::LoneShort {
+            function: index,
+            at,
+        });
+    };
+    if !is_conditional_forward(row.after) {
+        return Err(VerifyFault::LoneShort {
+            function: index,
+            at,
+        });
+    }
+    match read_row(row, code, next) {
+        Ok(jump) => Ok(pair(takes, next, jump)),
+        Err(_) => Err(VerifyFault::Operand {
+            function: index,
+            at: next,
+        }),
+    }
+}
+
+/// What stands at a place where there is this instruction, whose operands are in range.
+#[tactic(auto, unfolding(crate::specs::Steps::fine_at))]
+fn fine_at(
+    unit: &Unit,
+    index: u8,
+    function: &Code,
+    at: usize,
+    row: Row,
+    instr: Instr,
+) -> Result<Step, VerifyFault>
+    requires small { length function.now.code < 2 ^ 32 }
+    requires next { instr.next ≤ length function.now.code }
+    requires behind { at < instr.next }
+    requires gives { row.gives ≤ 1 }
+    ensures step { result ≡ fine_at unit.now index function.now at row instr }
+    ensures onward { IfOk result (GoesOn at (length function.now.code)) }
+{
+    let takes = values_taken(unit, row.takes, row.operands, instr);
+    if is_pair(row.after) {
+        return pair_at(index, function.code.as_slice(), at, instr.next, takes);
+    }
+    Ok(step_of(row.after, at, instr, takes, row.gives))
+}
+
+/// What stands at a place of the function with this index, or the first fault there.
+#[tactic(auto, unfolding(crate::specs::Steps::step_at))]
+pub fn step_at(unit: &Unit, index: u8, function: &Code, at: usize) -> Result<Step, VerifyFault>
+    requires small { length function.now.code < 2 ^ 32 }
+    requires within { at < length function.now.code }
+    ensures step { result ≡ step_at unit.now index function.now at }
+    ensures onward { IfOk result (GoesOn at (length function.now.code)) }
+{
+    let code = function.code.as_slice();
+    let Some(row) = row_of(code[at]) else {
+        return Err(VerifyFault::Opcode {
+            function: index,
+            at,
+        });
+    };
+    let Ok(instr) = read_row(row, code, at) else {
+        return Err(VerifyFault::Operand {
+            function: index,
+            at,
+        });
+    };
+    match operand_fault(unit, index, function, at, row.operands, instr) {
+        Some(fault) => Err(fault),
+        None => fine_at(unit, index, function, at, row, instr),
+    }
+}
