@@ -1,0 +1,6 @@
+-- What was read from the front of a text, and what follows it.
+use Rattle.std.specs.Prelude.{List, ℕ}
+use denote.Ref.{Bor}
+
+abbrev pub with_rest : {A : Type 0} → A × Bor (List ℕ) → A × List ℕ
+with_rest (read, rest) = (read, rest.now)

@@ -1,0 +1,73 @@
+//! The generator of random numbers.
+ghost use Rattle.std.specs.Prelude.{◌≡◌};
+
+use rand_core::SeedableRng;
+use rand_core::utils::NextWord;
+use rand_pcg::Pcg32;
+use std::marker::Model;
+
+/// A session's generator of random numbers. It keeps the session's seed, the seed from which it
+/// started last and how many words were drawn since, so that its place can be told and found again.
+#[derive(Debug, Drop)]
+pub struct Gen {
+    seed: u32,
+    start: u32,
+    drawn: u64,
+    words: Pcg32,
+}
+
+impl Model for Gen {
+    ghost use Rattle.wap_library.specs.Generator.{Generator, generator_of, KeepsCount};
+
+    ghost Value = { Generator };
+
+    ghost view = { λ it. generator_of it.seed it.start it.drawn it.words };
+
+    ghost invariant = { λ it. KeepsCount (generator_of it.seed it.start it.drawn it.words) };
+}
+
+impl Gen {
+    ghost use Rattle.wap_library.specs.Generator.{started_from, next_word, after_word};
+
+    /// The generator of a session with this seed, from which it starts.
+    pub fn new(seed: u32) -> Gen
+        ensures { result ≡ started_from seed seed }
+    {
+        Gen::started(seed, seed)
+    }
+
+    /// Starts anew, from the session's seed.
+    pub(crate) fn restart(&mut self)
+        ensures { self.new ≡ started_from self.old.seed self.old.seed }
+    {
+        *self = Gen::started(self.seed, self.seed);
+    }
+
+    /// Starts anew, from another seed.
+    pub(crate) fn restart_from(&mut self, start: u32)
+        ensures { self.new ≡ started_from self.old.seed start }
+    {
+        *self = Gen::started(self.seed, start);
+    }
+
+    /// Draws the next word.
+    pub(crate) fn next_word(&mut self) -> u32
+        ensures word { result ≡ next_word self.old }
+        ensures after { self.new ≡ after_word self.old }
+    {
+        let word = self.words.next_word();
+        self.drawn = self.drawn.saturating_add(1);
+        word
+    }
+
+    fn started(seed: u32, start: u32) -> Gen
+        ensures { result ≡ started_from seed start }
+    {
+        Gen {
+            seed,
+            start,
+            drawn: 0,
+            words: Pcg32::seed_from_u64(u64::from(start)),
+        }
+    }
+}
