@@ -1,0 +1,10 @@
+pub mod Loops
+pub mod Runs
+pub mod WordReach
+pub mod NumberReach
+pub mod StringReach
+pub mod CommentReach
+pub mod Apart
+pub mod Longest
+pub mod Fronts
+pub mod Sources

@@ -1,0 +1,18 @@
+-- Marks: operators, separators and brackets (WAP-193, section 6.1.4).
+use Rattle.std.specs.Prelude.{ℕ, Bool, List, [], ◌∷◌, codes}
+use Rattle.std.specs.List.{list_any}
+use Rattle.wap_base.specs.Texts.{is_same_text}
+
+-- the longer ones first
+unfoldable pub marks : List (List ℕ)
+marks =
+    codes ">>>=" ∷ codes "div=" ∷ codes ">>>" ∷ codes "<<=" ∷ codes ">>=" ∷ codes "++" ∷
+    codes "--" ∷ codes "<<" ∷ codes ">>" ∷ codes "<=" ∷ codes ">=" ∷ codes "==" ∷ codes "!=" ∷
+    codes "&&" ∷ codes "||" ∷ codes "+=" ∷ codes "-=" ∷ codes "*=" ∷ codes "/=" ∷ codes "%=" ∷
+    codes "&=" ∷ codes "^=" ∷ codes "|=" ∷ codes "+" ∷ codes "-" ∷ codes "~" ∷ codes "!" ∷
+    codes "*" ∷ codes "/" ∷ codes "%" ∷ codes "<" ∷ codes ">" ∷ codes "&" ∷ codes "^" ∷ codes "|" ∷
+    codes "?" ∷ codes ":" ∷ codes "=" ∷ codes "," ∷ codes ";" ∷ codes "." ∷ codes "#" ∷ codes "(" ∷
+    codes ")" ∷ codes "{" ∷ codes "}" ∷ []
+
+abbrev pub is_mark : List ℕ → Bool
+is_mark text = list_any (is_same_text text) marks

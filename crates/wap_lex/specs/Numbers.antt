@@ -1,0 +1,64 @@
+-- Numbers (WAP-193, sections 6.1.5.1 and 6.1.5.2).
+use Rattle.std.specs.Prelude.{◌≡◌, ℕ, ◌+◌, ◌-◌, ◌*◌, ◌<◌, nat_le, Bool, true, false, ◌==◌, ◌||◌, if◌then◌else◌, List, [], ◌∷◌, ◌++◌, length}
+use Rattle.std.specs.List.{fold, list_all}
+use Rattle.wap_lex.specs.Characters.{is_digit, is_octal_digit, is_hexadecimal_digit}
+
+-- digits alone, also none, and one at least
+abbrev pub AreDigits : List ℕ → Type 0
+AreDigits text = list_all is_digit text ≡ true
+
+-- x or X
+abbrev pub is_x : ℕ → Bool
+is_x c = (c == 120) || (c == 88)
+
+-- e or E
+abbrev pub is_e : ℕ → Bool
+is_e c = (c == 101) || (c == 69)
+
+-- + or -
+abbrev pub is_sign : ℕ → Bool
+is_sign c = (c == 43) || (c == 45)
+
+-- decimal, the first digit other than 0; octal, behind a 0; or hexadecimal, behind 0x
+pub data IsInteger : List ℕ → Type 0 where
+  decimal : (first : ℕ) (digits : List ℕ) → is_digit first ≡ true → (first == 48) ≡ false → AreDigits digits →
+      IsInteger (first ∷ digits)
+  octal : (digits : List ℕ) → list_all is_octal_digit digits ≡ true → IsInteger (48 ∷ digits)
+  hexadecimal : (x : ℕ) (digits : List ℕ) → is_x x ≡ true → 0 < length digits →
+      list_all is_hexadecimal_digit digits ≡ true → IsInteger (48 ∷ x ∷ digits)
+
+-- 0 to 9, then A to F and a to f from 10 on
+abbrev pub digit_value : ℕ → ℕ
+digit_value c = if nat_le c 57 then c - 48 else if nat_le c 70 then c - 55 else c - 87
+
+abbrev pub with_digit : ℕ → ℕ → ℕ → ℕ
+with_digit base value digit = value * base + digit_value digit
+
+-- the number of digits in a base
+abbrev pub numeral : ℕ → List ℕ → ℕ
+numeral base = fold (with_digit base) 0
+
+abbrev pub integer_value : List ℕ → ℕ
+integer_value [] = 0
+integer_value (a ∷ []) = numeral 10 (a ∷ [])
+integer_value (a ∷ b ∷ digits) =
+    if a == 48 then if is_x b then numeral 16 digits else numeral 8 (b ∷ digits) else numeral 10 (a ∷ b ∷ digits)
+
+-- the greatest integer of a source
+abbrev pub integer_limit : ℕ
+integer_limit = 2147483647
+
+-- e, maybe a sign, and digits
+pub data IsExponent : List ℕ → Type 0 where
+  plain : (e : ℕ) (digits : List ℕ) → is_e e ≡ true → 0 < length digits → AreDigits digits → IsExponent (e ∷ digits)
+  signed : (e sign : ℕ) (digits : List ℕ) → is_e e ≡ true → is_sign sign ≡ true → 0 < length digits → AreDigits digits →
+      IsExponent (e ∷ sign ∷ digits)
+
+-- digits with a point, on one side of it at least; with an exponent; or with both
+pub data IsFloat : List ℕ → Type 0 where
+  pointed : (whole fraction : List ℕ) → AreDigits whole → AreDigits fraction → 0 < length whole + length fraction →
+      IsFloat (whole ++ 46 ∷ fraction)
+  scaled : (whole exponent : List ℕ) → AreDigits whole → 0 < length whole → IsExponent exponent →
+      IsFloat (whole ++ exponent)
+  both : (whole fraction exponent : List ℕ) → AreDigits whole → AreDigits fraction →
+      0 < length whole + length fraction → IsExponent exponent → IsFloat (whole ++ 46 ∷ (fraction ++ exponent))

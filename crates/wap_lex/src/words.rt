@@ -1,0 +1,98 @@
+//! Words: names, and those that are reserved (WAP-193, sections 6.1.6 and 6.1.7).
+ghost use Rattle.std.specs.Prelude.{◌≡◌, ◌≤◌, length, map};
+ghost use Rattle.std.specs.List.{list_any};
+ghost use Rattle.wap_base.specs.Texts.{is_same_text};
+ghost use Rattle.wap_lex.specs.Words.{is_reserved};
+ghost use Rattle.wap_lex.specs.Reading.{word_len};
+
+use crate::class::{Class, run_len};
+
+/// How many bytes the word at the front has, 0 where none begins.
+pub(crate) fn word_len(bytes: &[u8]) -> usize
+    ensures word { result ≡ word_len bytes.now }
+    ensures within { result ≤ length bytes.now }
+{
+    match bytes {
+        [b'A'..=b'Z' | b'a'..=b'z' | b'_', rest @ ..] => 1 + run_len(Class::InWord, rest),
+        _ => 0,
+    }
+}
+
+const RESERVED: [&[u8]; 56] = [
+    b"access",
+    b"agent",
+    b"break",
+    b"case",
+    b"catch",
+    b"class",
+    b"const",
+    b"continue",
+    b"debugger",
+    b"default",
+    b"delete",
+    b"div",
+    b"do",
+    b"domain",
+    b"else",
+    b"enum",
+    b"equiv",
+    b"export",
+    b"extends",
+    b"extern",
+    b"false",
+    b"finally",
+    b"for",
+    b"function",
+    b"header",
+    b"http",
+    b"if",
+    b"import",
+    b"in",
+    b"invalid",
+    b"isvalid",
+    b"lib",
+    b"meta",
+    b"name",
+    b"new",
+    b"null",
+    b"path",
+    b"private",
+    b"public",
+    b"return",
+    b"sizeof",
+    b"struct",
+    b"super",
+    b"switch",
+    b"this",
+    b"throw",
+    b"true",
+    b"try",
+    b"typeof",
+    b"url",
+    b"use",
+    b"user",
+    b"var",
+    b"void",
+    b"while",
+    b"with",
+];
+
+/// Whether a word is reserved.
+#[tactic(auto, unfolding(crate::specs::Words::reserved_words))]
+pub(crate) fn is_reserved(word: &[u8]) -> bool
+    ensures { result ≡ is_reserved word.now }
+{
+    is_among(word, &RESERVED)
+}
+
+/// Whether a word is one of some.
+fn is_among(word: &[u8], words: &[&[u8]]) -> bool
+    ensures { result ≡ list_any (is_same_text word.now) (map (λ other. other.now) words.now) }
+{
+    for other in words {
+        if word == *other {
+            return true;
+        }
+    }
+    false
+}

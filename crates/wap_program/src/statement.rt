@@ -1,0 +1,27 @@
+//! Statements (WAP-193, section 6.5).
+use crate::boxed::Boxed;
+use crate::expression::Expr;
+use crate::program::{Id, Span};
+use wap_base::Rows;
+
+/// A statement.
+#[derive(Debug, Drop, PartialEq, Eq)]
+pub enum Stmt {
+    /// `;`
+    Empty,
+    Expr(Expr),
+    Block(Rows<Stmt>),
+    /// `var`, with what each name begins with.
+    Vars(Rows<(Id, Option<Expr>)>),
+    /// The condition, what is done where it holds, and what else.
+    If(Expr, Boxed<Stmt>, Option<Boxed<Stmt>>),
+    While(Expr, Boxed<Stmt>),
+    /// What is done first (an expression, `var` or nothing), the condition, what is done after
+    /// each turn, and the body.
+    For(Boxed<Stmt>, Option<Expr>, Option<Expr>, Boxed<Stmt>),
+    /// `break`, by its word.
+    Break(Span),
+    /// `continue`, by its word.
+    Continue(Span),
+    Return(Option<Expr>),
+}
