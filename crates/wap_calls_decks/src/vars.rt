@@ -1,0 +1,183 @@
+//! Calls of variables.
+use std::alloc::Global;
+use wap_base::{Conv, Name, NameFault, Part, Text};
+use wap_casebook::{Answer, Args, CaseFault};
+use wap_vars::{VarFault, Vars};
+
+/// The variables that the names and texts which are left give.
+fn vars(alloc: Global, args: &mut Args<'_>) -> Result<Vars, CaseFault> {
+    let mut vars = Vars::new(alloc);
+    for _ in 0..u64::MAX {
+        if !args.has_more() {
+            break;
+        }
+        let name = args.text()?;
+        match vars.set(&name, args.text()?) {
+            Ok(()) => {}
+            Err(VarFault::NoMemory) => return Err(CaseFault::NoMemory),
+            Err(_) => return Err(CaseFault::Malformed("a variable is refused")),
+        }
+    }
+    Ok(vars)
+}
+
+/// The name that a text is.
+fn name_of(alloc: Global, text: &Text) -> Result<Name, CaseFault> {
+    match Name::of(alloc, text) {
+        Ok(name) => Ok(name),
+        Err(NameFault::BadName) => Err(CaseFault::Malformed("a variable's name is wanted")),
+        Err(NameFault::NoMemory) => Err(CaseFault::NoMemory),
+    }
+}
+
+/// Adds names and texts in order.
+fn add_entries(alloc: Global, vars: &Vars, answer: &mut Answer) -> Result<(), CaseFault> {
+    for (name, text) in vars.entries(alloc)? {
+        answer.text(name)?;
+        answer.text(text)?;
+    }
+    Ok(())
+}
+
+/// What is kept of variables when one is removed, twice.
+fn remove(alloc: Global, args: &mut Args<'_>, answer: &mut Answer) -> Result<(), CaseFault> {
+    let name = name_of(alloc, &args.text()?)?;
+    let mut vars = vars(alloc, args)?;
+    vars.remove(&name);
+    vars.remove(&name);
+    add_entries(alloc, &vars, answer)
+}
+
+/// What is kept of variables when they are cleared.
+fn clear(alloc: Global, args: &mut Args<'_>, answer: &mut Answer) -> Result<(), CaseFault> {
+    let mut vars = vars(alloc, args)?;
+    vars.clear();
+    add_entries(alloc, &vars, answer)
+}
+
+/// The text of a variable.
+fn get(alloc: Global, args: &mut Args<'_>, answer: &mut Answer) -> Result<(), CaseFault> {
+    let name = name_of(alloc, &args.text()?)?;
+    match vars(alloc, args)?.get(&name) {
+        Some(text) => answer.text(text.copy(alloc)?),
+        None => answer.word("none"),
+    }
+}
+
+/// So many variables, `v0` and so on, whose texts are `old`.
+fn kept(alloc: Global, count: usize) -> Result<Vars, CaseFault> {
+    let mut vars = Vars::new(alloc);
+    for number in 0..count {
+        let name = Text::from_string(format!(in alloc; "v{number}")?);
+        if vars.set(&name, Text::of(alloc, "old")?).is_err() {
+            return Err(CaseFault::Malformed("so many variables are refused"));
+        }
+    }
+    Ok(vars)
+}
+
+/// Adds a fault, and the length where there is one.
+fn add_fault(answer: &mut Answer, fault: VarFault) -> Result<(), CaseFault> {
+    match fault {
+        VarFault::BadName => answer.word("BadName"),
+        VarFault::TooLong { bytes } => {
+            answer.word("TooLong")?;
+            answer.count(bytes)
+        }
+        VarFault::Full => answer.word("Full"),
+        VarFault::NoMemory => Err(CaseFault::NoMemory),
+    }
+}
+
+/// How many variables there are when one is set beside so many others, or why it isn't.
+fn set(alloc: Global, args: &mut Args<'_>, answer: &mut Answer) -> Result<(), CaseFault> {
+    let mut vars = kept(alloc, args.count()?)?;
+    let name = args.text()?;
+    match vars.set(&name, args.text()?) {
+        Ok(()) => answer.word("set")?,
+        Err(fault) => add_fault(answer, fault)?,
+    }
+    answer.count(vars.entries(alloc)?.len())
+}
+
+/// The same, where another is removed before.
+fn set_again(alloc: Global, args: &mut Args<'_>, answer: &mut Answer) -> Result<(), CaseFault> {
+    let mut vars = kept(alloc, args.count()?)?;
+    vars.remove(&name_of(alloc, &args.text()?)?);
+    let name = args.text()?;
+    match vars.set(&name, args.text()?) {
+        Ok(()) => answer.word("set")?,
+        Err(fault) => add_fault(answer, fault)?,
+    }
+    answer.count(vars.entries(alloc)?.len())
+}
+
+/// What is told of a variable that isn't set.
+fn told(alloc: Global, args: &mut Args<'_>, answer: &mut Answer) -> Result<(), CaseFault> {
+    let fault = match args.value()? {
+        b"BadName" => VarFault::BadName,
+        b"Full" => VarFault::Full,
+        b"NoMemory" => VarFault::NoMemory,
+        b"TooLong" => VarFault::TooLong {
+            bytes: args.count()?,
+        },
+        _ => return Err(CaseFault::Malformed("no such fault")),
+    };
+    answer.text(Text::from_string(format!(in alloc; "{fault}")?))
+}
+
+/// A reference as WML spells it, without its parentheses: `x`, `x:e`, `x:u` or `x:n`.
+fn reference(alloc: Global, spelled: &str) -> Result<Part, CaseFault> {
+    let (name, conv) = match spelled.split_once(':') {
+        None => (spelled, Conv::Plain),
+        Some((name, "n")) => (name, Conv::Plain),
+        Some((name, "e")) => (name, Conv::Escape),
+        Some((name, "u")) => (name, Conv::Unescape),
+        Some(_) => return Err(CaseFault::Malformed("a reference ends with :e, :u or :n")),
+    };
+    Ok(Part::Var(name_of(alloc, &Text::of(alloc, name)?)?, conv))
+}
+
+/// The parts before the word `with`: texts, and references as words.
+fn parts(alloc: Global, args: &mut Args<'_>) -> Result<Vec<Part>, CaseFault> {
+    let mut parts = Vec::new(alloc);
+    for _ in 0..u64::MAX {
+        match args.peek() {
+            b"with" => {
+                let _with = args.value()?;
+                return Ok(parts);
+            }
+            [b'"', ..] => parts.push(Part::Lit(args.text()?))?,
+            _ => parts.push(reference(alloc, args.word()?.as_str())?)?,
+        }
+    }
+    Ok(parts)
+}
+
+/// The text of parts, with variables.
+fn fill(alloc: Global, args: &mut Args<'_>, answer: &mut Answer) -> Result<(), CaseFault> {
+    let parts = parts(alloc, args)?;
+    let vars = vars(alloc, args)?;
+    answer.text(vars.fill(alloc, parts.as_slice())?)
+}
+
+/// Makes the call of this name, if there is one.
+pub fn call(
+    alloc: Global,
+    name: &[u8],
+    args: &mut Args<'_>,
+    answer: &mut Answer,
+) -> Result<bool, CaseFault> {
+    match name {
+        b"entries" => add_entries(alloc, &vars(alloc, args)?, answer)?,
+        b"remove" => remove(alloc, args, answer)?,
+        b"clear" => clear(alloc, args, answer)?,
+        b"get" => get(alloc, args, answer)?,
+        b"set" => set(alloc, args, answer)?,
+        b"set_again" => set_again(alloc, args, answer)?,
+        b"set_told" => told(alloc, args, answer)?,
+        b"fill" => fill(alloc, args, answer)?,
+        _ => return Ok(false),
+    }
+    Ok(true)
+}

@@ -1,0 +1,38 @@
+//! Plays cases: pages, words, keys and devices in memory, and what a run of the program over them
+//! has to show. The cases are read from standard input.
+#![tactic(auto)]
+
+mod case;
+mod devices;
+mod lines;
+mod outcome;
+mod playing;
+mod telling;
+mod threads;
+mod wanted;
+
+use playing::play_all;
+use std::io;
+use std::io::Read;
+use std::process::ExitCode;
+use std::thread::Threads;
+
+/// Plays the cases of standard input, tells those that differ, and counts them.
+fn play<R: Input + Print + AllocGlobal + Threads + Sync>(rt: &R) -> io::Result<bool> {
+    let mut lines = Vec::new(rt.alloc());
+    rt.reader().read_to_end(&mut lines)?;
+    let tally = play_all(rt, lines.as_slice())?;
+    let cases = tally.played;
+    let differing = tally.differing;
+    println!(rt; "{cases} cases, {differing} differ")?;
+    Ok(differing == 0)
+}
+
+fn main(rt: HostRuntime) -> ExitCode {
+    threads::all_cross();
+    match play(&rt) {
+        Ok(true) => ExitCode::from(0),
+        Ok(false) => ExitCode::from(1),
+        Err(_) => ExitCode::from(2),
+    }
+}

@@ -1,0 +1,129 @@
+//! What comes of a run.
+use crate::case::Case;
+use std::alloc::Global;
+use std::thread::Threads;
+use wap_base::{
+    Bytes, MemSink, MemSource, MemStore, NoGate, Source, Store, StoreErr, Text, are_pages,
+};
+use wap_casebook::CaseFault;
+use wap_cli::{Status, run};
+
+/// What came of a run.
+#[derive(Drop)]
+pub struct Outcome {
+    /// What was written.
+    pub shown: Bytes,
+    /// The number of the status, and its line.
+    pub status: (i64, Bytes),
+    /// The line of the status couldn't be written.
+    pub is_unprinted: bool,
+    /// The store was called as often as is wanted.
+    pub is_asked: bool,
+    /// The source was called as often as is wanted.
+    pub is_read: bool,
+    /// How many bytes the source has left.
+    pub left: u64,
+}
+
+/// The calls of a device that fail: those that a case names, and the one behind those that are
+/// wanted.
+fn failing(alloc: Global, named: &[u64], wanted: Option<u64>) -> Result<Vec<u64>, CaseFault> {
+    let mut fails = Vec::from_slice(alloc, named)?;
+    if let Some(calls) = wanted {
+        fails.push(calls.saturating_add(1))?;
+    }
+    Ok(fails)
+}
+
+fn store(alloc: Global, case: &Case) -> Result<MemStore, CaseFault> {
+    let mut pages = Vec::new(alloc);
+    for (name, bytes) in &case.pages {
+        pages.push((name.copy(alloc)?, Bytes::of(alloc, bytes.as_slice())?))?;
+    }
+    if !are_pages(alloc, &pages)? {
+        return Err(CaseFault::Malformed("a page stands twice"));
+    }
+    let fails = failing(
+        alloc,
+        case.devices.store_fails.as_slice(),
+        case.wanted.asked,
+    )?;
+    Ok(MemStore::new(pages, fails))
+}
+
+fn source(alloc: Global, case: &Case, piece: u64) -> Result<MemSource, CaseFault> {
+    let piece = usize::try_from(piece).unwrap_or(1);
+    if piece == 0 {
+        return Err(CaseFault::Malformed("a source gives 1 byte at least"));
+    }
+    let fails = failing(
+        alloc,
+        case.devices.source_fails.as_slice(),
+        case.wanted.reads,
+    )?;
+    let keys = Bytes::of(alloc, case.keys.as_slice())?;
+    Ok(MemSource::new(keys, piece, fails))
+}
+
+fn sink(alloc: Global, case: &Case) -> Result<MemSink, CaseFault> {
+    if case.devices.sink_takes == 0 {
+        return Err(CaseFault::Malformed("a sink takes 1 byte at least"));
+    }
+    let fails = failing(alloc, case.devices.sink_fails.as_slice(), None)?;
+    let room = case.devices.sink_holds;
+    Ok(MemSink::new(alloc, room, case.devices.sink_takes, fails)?)
+}
+
+/// How many bytes a source has left. Calls of it that fail are passed over.
+fn count_left(source: &mut MemSource) -> u64 {
+    let mut count: u64 = 0;
+    let mut buffer = [0; 4096];
+    for _ in 0..u64::MAX {
+        match source.read(&mut buffer) {
+            Ok(0) => break,
+            Ok(read) => count = count.saturating_add(read as u64),
+            Err(_) => {}
+        }
+    }
+    count
+}
+
+/// The outcome of a run that ended so.
+fn ended(alloc: Global, case: &Case, status: Status, shown: &[u8]) -> Result<Outcome, CaseFault> {
+    let mut error = case.devices.error(alloc)?;
+    let is_unprinted = status.print(&mut error).is_err();
+    Ok(Outcome {
+        shown: Bytes::of(alloc, shown)?,
+        status: (i64::from(status.number()), Bytes::of(alloc, error.bytes())?),
+        is_unprinted,
+        is_asked: true,
+        is_read: true,
+        left: 0,
+    })
+}
+
+/// Runs the program over the devices of a case, whose source gives so many bytes at a time.
+pub fn run_case<R: Threads + Sync>(
+    rt: &R,
+    alloc: Global,
+    case: &Case,
+    piece: u64,
+) -> Result<Outcome, CaseFault> {
+    if case.is_without_memory {
+        return ended(alloc, case, Status::NoMemory, b"");
+    }
+    let words: &[Text] = case.words.as_slice();
+    let store = store(alloc, case)?;
+    let mut keys = source(alloc, case, piece)?;
+    let mut out = sink(alloc, case)?;
+    let (status, mut store) = run(rt, alloc, words, store, &mut keys, &mut out, &NoGate);
+    let mut outcome = ended(alloc, case, status, out.bytes())?;
+    if case.wanted.asked.is_some() {
+        outcome.is_asked = matches!(store.list(), Err(StoreErr::Failed));
+    }
+    if case.wanted.reads.is_some() {
+        outcome.is_read = keys.read(&mut [0; 1]).is_err();
+    }
+    outcome.left = count_left(&mut keys);
+    Ok(outcome)
+}

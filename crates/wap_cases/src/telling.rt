@@ -1,0 +1,113 @@
+//! In what a run differs from what is wanted.
+use crate::outcome::Outcome;
+use crate::wanted::Wanted;
+use std::alloc::{AllocError, Global};
+use wap_casebook::add_quoted;
+
+/// The most bytes that are told of what differs.
+const MOST: usize = 400;
+
+/// Where the line begins in which two texts differ first.
+fn fork(wanted: &[u8], came: &[u8]) -> usize {
+    let mut begin = 0;
+    for (at, (first, second)) in wanted.iter().zip(came.iter()).enumerate() {
+        if first != second {
+            break;
+        }
+        if *first == b'\n' {
+            begin = at.saturating_add(1);
+        }
+    }
+    begin
+}
+
+/// Appends bytes from a place on in quotes, as many as are told.
+fn add_bytes(out: &mut String, alloc: Global, bytes: &[u8], from: usize) -> Result<(), AllocError> {
+    let rest = bytes.get(from..).unwrap_or(b"");
+    let front = rest.get(..MOST).unwrap_or(rest);
+    let front = String::from_utf8_lossy(alloc, front)?;
+    add_quoted(out, front.as_str())
+}
+
+/// Appends in what two texts differ, if they do.
+fn add_shown(
+    out: &mut String,
+    alloc: Global,
+    wanted: &[u8],
+    came: &[u8],
+) -> Result<(), AllocError> {
+    if wanted == came {
+        return Ok(());
+    }
+    let from = fork(wanted, came);
+    write!(out, "    from byte {from}\n      wanted ")?;
+    add_bytes(out, alloc, wanted, from)?;
+    out.push_str("\n      came   ")?;
+    add_bytes(out, alloc, came, from)?;
+    out.push('\n')
+}
+
+/// Appends in what two statuses differ, if they do.
+fn add_status(
+    out: &mut String,
+    alloc: Global,
+    wanted: (i64, &[u8]),
+    came: (i64, &[u8]),
+) -> Result<(), AllocError> {
+    let (number, line) = wanted;
+    let (came_number, came_line) = came;
+    if number == came_number && line == came_line {
+        return Ok(());
+    }
+    write!(out, "    status\n      wanted {number} ")?;
+    add_bytes(out, alloc, line, 0)?;
+    write!(out, "\n      came   {came_number} ")?;
+    add_bytes(out, alloc, came_line, 0)?;
+    out.push('\n')
+}
+
+/// Appends in what the devices differ.
+fn add_devices(out: &mut String, wanted: &Wanted, came: &Outcome) -> Result<(), AllocError> {
+    if wanted.is_unprinted != came.is_unprinted {
+        out.push_str("    the line of the status is written, or isn't\n")?;
+    }
+    if !came.is_asked {
+        out.push_str("    the store was not called as often\n")?;
+    }
+    if !came.is_read {
+        out.push_str("    the source was not called as often\n")?;
+    }
+    let left = came.left;
+    match wanted.left {
+        Some(wanted) if wanted != left => {
+            write!(out, "    left: wanted {wanted}, came {left}\n")
+        }
+        _ => Ok(()),
+    }
+}
+
+/// In what a run differs from what is wanted, in whole lines; nothing where it doesn't.
+pub fn differences(alloc: Global, wanted: &Wanted, came: &Outcome) -> Result<String, AllocError> {
+    let mut out = String::new(alloc);
+    let (came_number, came_line) = &came.status;
+    match &wanted.status {
+        Some((number, line)) => {
+            let wanted = (*number, line.as_slice());
+            add_status(
+                &mut out,
+                alloc,
+                wanted,
+                (*came_number, came_line.as_slice()),
+            )?;
+        }
+        None => out.push_str("    no status is wanted\n")?,
+    }
+    add_shown(
+        &mut out,
+        alloc,
+        wanted.shown.as_slice(),
+        came.shown.as_slice(),
+    )?;
+    add_devices(&mut out, wanted, came)?;
+    Ok(out)
+}
