@@ -23,30 +23,6 @@ pub get_letters : chars (codes "> GET ") ≡ codes "> GET "
 unfolding chars
 get_letters = refl
 
-pub missing_letters : chars (codes "! missing") ≡ codes "! missing"
-unfolding chars
-missing_letters = refl
-
-pub refused_letters : chars (codes "! refused") ≡ codes "! refused"
-unfolding chars
-refused_letters = refl
-
-pub ignored_letters : chars (codes "! ignored") ≡ codes "! ignored"
-unfolding chars
-ignored_letters = refl
-
-pub first_letters : chars (codes "! first") ≡ codes "! first"
-unfolding chars
-first_letters = refl
-
-pub full_letters : chars (codes "! full") ≡ codes "! full"
-unfolding chars
-full_letters = refl
-
-pub long_letters : chars (codes "! long") ≡ codes "! long"
-unfolding chars
-long_letters = refl
-
 pub dollar_letters : chars (codes "$ ") ≡ codes "$ "
 unfolding chars
 dollar_letters = refl

@@ -24,7 +24,7 @@ fn enter_page(alloc: Global, out: &mut Bytes, page: Judged) -> Result<Session, N
             Ok(session)
         }
         Judged::Refused => {
-            add_refusal(alloc, out, Refusal::Refused)?;
+            add_refusal(out, Refusal::Refused)?;
             Ok(Session::new(alloc))
         }
     }
@@ -38,7 +38,7 @@ fn enter(alloc: Global, out: &mut Bytes, answer: &Fetched) -> Result<Session, No
     match answer {
         Fetched::Found(bytes) => enter_page(alloc, out, judge(alloc, bytes.as_slice())?),
         Fetched::Missing => {
-            add_refusal(alloc, out, Refusal::Missing)?;
+            add_refusal(out, Refusal::Missing)?;
             Ok(Session::new(alloc))
         }
     }

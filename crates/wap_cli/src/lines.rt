@@ -1,6 +1,5 @@
 //! Writing lines.
 ghost use Rattle.std.specs.Prelude.{◌≡◌, ◌++◌, map, codes, IfOk, OnOk};
-ghost use Rattle.std.specs.Str.{chars};
 ghost use Rattle.wap_world.specs.Lines.{shown_character, line_bytes, lines_bytes, get_line, refusal_line, variable_line};
 ghost use Rattle.wap_cli.specs.Refusals.{word_of};
 
@@ -26,17 +25,17 @@ pub(crate) enum Refusal {
 }
 
 impl Refusal {
-    /// Its line.
-    fn line(self) -> &'static str
-        ensures { chars result.now ≡ refusal_line (word_of self) }
+    /// Its line, as it is written.
+    fn line(self) -> &'static [u8]
+        ensures { result.now ≡ line_bytes (refusal_line (word_of self)) }
     {
         match self {
-            Refusal::Missing => "! missing",
-            Refusal::Refused => "! refused",
-            Refusal::Ignored => "! ignored",
-            Refusal::First => "! first",
-            Refusal::Full => "! full",
-            Refusal::Long => "! long",
+            Refusal::Missing => b"! missing\n",
+            Refusal::Refused => b"! refused\n",
+            Refusal::Ignored => b"! ignored\n",
+            Refusal::First => b"! first\n",
+            Refusal::Full => b"! full\n",
+            Refusal::Long => b"! long\n",
         }
     }
 }
@@ -81,10 +80,10 @@ pub(crate) fn add_get(alloc: Global, out: &mut Bytes, url: &Text) -> Result<(), 
 }
 
 /// Appends the line of a refusal.
-pub(crate) fn add_refusal(alloc: Global, out: &mut Bytes, refusal: Refusal) -> Result<(), NoMemory>
+pub(crate) fn add_refusal(out: &mut Bytes, refusal: Refusal) -> Result<(), NoMemory>
     ensures { OnOk result (out.new ≡ out.old ++ line_bytes (refusal_line (word_of refusal))) }
 {
-    add_line(alloc, out, &Text::of(alloc, refusal.line())?)
+    out.add(refusal.line())
 }
 
 /// Appends the line of a variable.

@@ -56,8 +56,8 @@ fn set_one(
 {
     match vars.set(name, text) {
         Ok(()) | Err(VarFault::BadName) => Ok(()),
-        Err(VarFault::TooLong { .. }) => add_refusal(alloc, out, Refusal::Long),
-        Err(VarFault::Full) => add_refusal(alloc, out, Refusal::Full),
+        Err(VarFault::TooLong { .. }) => add_refusal(out, Refusal::Long),
+        Err(VarFault::Full) => add_refusal(out, Refusal::Full),
         Err(VarFault::NoMemory) => Err(NoMemory),
     }
 }
@@ -162,7 +162,7 @@ impl Session {
             set_all(alloc, out, &mut self.vars, texts)?;
             let _here = self.history.pop();
         } else {
-            add_refusal(alloc, out, Refusal::First)?;
+            add_refusal(out, Refusal::First)?;
         }
         self.show(alloc, out)
     }
@@ -192,7 +192,7 @@ impl Session {
         match key {
             Key::Do(kind) => match self.do_plan(alloc, kind)? {
                 Some(plan) => self.take(alloc, out, plan),
-                None => add_refusal(alloc, out, Refusal::Ignored),
+                None => add_refusal(out, Refusal::Ignored),
             },
             Key::Back if self.current().is_some() => self.back(alloc, out, Vec::new(alloc)),
             Key::Vars => add_variables(alloc, out, &self.vars),
@@ -205,7 +205,7 @@ impl Session {
             | Key::Ok
             | Key::Cancel
             | Key::Answer(_)
-            | Key::Stop => add_refusal(alloc, out, Refusal::Ignored),
+            | Key::Stop => add_refusal(out, Refusal::Ignored),
         }
     }
 
