@@ -6,7 +6,6 @@ mod build;
 mod cards;
 mod fault;
 mod good;
-mod names;
 mod pieces;
 mod runs;
 mod shown;

@@ -7,9 +7,8 @@ ghost use Rattle.wap_markup.specs.Shown.{is_variable, is_fragment, passes, has_o
 ghost use Rattle.wap_markup.specs.Shown.{way_from, is_one_task, is_do, is_one_line, is_paragraph};
 ghost use Rattle.wap_markup.specs.Shown.{is_card_part, is_card, is_shown};
 
-use crate::names::is_name;
 use crate::trees::value_of;
-use wap_base::{Conv, Part};
+use wap_base::{Conv, Part, is_name};
 use wap_markup::{AttrName, Deck, Item, Node, Tag};
 
 fn is_plain(conv: Conv) -> bool

@@ -1,0 +1,24 @@
+//! The document of a deck that a document means is one that bytes spell.
+#![tactic(auto)]
+
+ghost use Rattle.std.specs.Prelude.{◌≢◌};
+ghost use Rattle.wap_markup.specs.declared.document.Document.{Document};
+ghost use Rattle.wap_markup.specs.declared.name.Tag.{Tag};
+ghost use Rattle.wap_markup.specs.Documents.{IsDocument};
+ghost use Rattle.wap_markup.specs.Decks.{deck_of};
+ghost use Rattle.wap_markup.specs.Writing.{document_of};
+ghost use Rattle.wap_spelling.specs.Spelling.{spelling};
+
+use wap_spelling::{decks_are_spellable, documents_are_spellable, spelling_is_read};
+
+/// The document of a deck that a document means is one that bytes spell, unless the deck's root is
+/// unknown. The function does nothing.
+pub fn rewritten_is_read(_bytes: &[u8])
+    ensures { (document : Document) → IsDocument _bytes.now document
+        → (deck_of document).root.tag ≢ Tag.Other
+        → let written = document_of (deck_of document) in IsDocument (spelling written) written }
+{
+    spelling_is_read();
+    documents_are_spellable(_bytes);
+    decks_are_spellable();
+}

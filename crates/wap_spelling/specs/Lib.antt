@@ -1,0 +1,5 @@
+pub mod Writings
+pub mod Names
+pub mod Spelling
+pub mod Spellable
+pub mod inside

@@ -1,0 +1,11 @@
+//! How documents are written as WBXML (WAP-192, section 5).
+#![tactic(auto)]
+
+mod attributes;
+mod documents;
+mod elements;
+mod names;
+mod output;
+mod table;
+
+pub use documents::{decks_are_spellable, documents_are_spellable, encode, spelling_is_read};
