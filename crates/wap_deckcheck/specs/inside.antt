@@ -1,0 +1,5 @@
+-- What the contracts of this crate's own functions say.
+pub mod Kinds
+pub mod Rows
+pub mod Reached
+pub mod Walks

@@ -1,0 +1,170 @@
+//! The values that attributes may have.
+ghost use Rattle.std.specs.Prelude.{◌≡◌, ◌||◌, [], true, not, map};
+ghost use Rattle.std.specs.List.{list_any, list_all};
+ghost use Rattle.std.specs.Str.{bytes_eq};
+ghost use Rattle.wap_base.specs.Texts.{is_same_text};
+ghost use Rattle.wap_markup.specs.Trees.{plain_text};
+ghost use Rattle.wap_markup.specs.Tables.{is_same_tag, is_same_attr};
+ghost use Rattle.wap_markup.specs.Good.{text_has, value_has, all_have, names_of, has_forms};
+ghost use Rattle.wap_deckcheck.specs.inside.Rows.{words_of, has_plain_words, form_of, form_row};
+ghost use Rattle.wap_deckcheck.specs.Faults.{has_twice};
+
+use wap_base::{Part, Rows, Text, is_name};
+use wap_markup::{AttrName, Node, Tag};
+
+/// What a value has to be.
+#[derive(Clone, Copy)]
+pub enum LentForm {
+    /// One of these words.
+    Words(&'static [&'static str]),
+    /// The name of a variable.
+    Variable,
+    /// The name of a variable, or nothing.
+    OptionalVariable,
+    /// Free of references.
+    Plain,
+}
+
+const BOOLEANS: LentForm = LentForm::Words(&["true", "false"]);
+
+/// The attributes of elements that have a form.
+static FORMS: [(Tag, AttrName, LentForm); 15] = [
+    (Tag::Go, AttrName::Method, LentForm::Words(&["get", "post"])),
+    (Tag::Go, AttrName::Sendreferer, BOOLEANS),
+    (Tag::P, AttrName::Mode, LentForm::Words(&["wrap", "nowrap"])),
+    (Tag::Card, AttrName::Newcontext, BOOLEANS),
+    (Tag::Card, AttrName::Id, LentForm::Plain),
+    (Tag::Do, AttrName::Optional, BOOLEANS),
+    (Tag::Do, AttrName::Name, LentForm::Plain),
+    (Tag::Do, AttrName::Type, LentForm::Plain),
+    (Tag::Onevent, AttrName::Type, LentForm::Plain),
+    (Tag::Input, AttrName::Emptyok, BOOLEANS),
+    (Tag::Input, AttrName::Name, LentForm::Variable),
+    (Tag::Timer, AttrName::Name, LentForm::OptionalVariable),
+    (Tag::Select, AttrName::Multiple, BOOLEANS),
+    (Tag::Select, AttrName::Name, LentForm::OptionalVariable),
+    (Tag::Select, AttrName::Iname, LentForm::OptionalVariable),
+];
+
+/// Whether an attribute stands twice.
+pub fn has_twice(attrs: &[(AttrName, Rows<Part>)]) -> bool
+    ensures { result ≡ has_twice (map (λ a. a.0) attrs.now) }
+{
+    let mut left = attrs;
+    while let Some((first, rest)) = left.split_first() {
+        if has_name(rest, first.0) {
+            return true;
+        }
+        left = rest;
+    }
+    false
+}
+
+/// Whether there is an attribute of this name.
+pub fn has_name(attrs: &[(AttrName, Rows<Part>)], name: AttrName) -> bool
+    ensures { result ≡ list_any (is_same_attr name) (map (λ a. a.0) attrs.now) }
+{
+    for attr in attrs {
+        if name == attr.0 {
+            return true;
+        }
+    }
+    false
+}
+
+/// Whether a text is one of some words.
+fn is_word(words: &[&str], text: &str) -> bool
+    ensures { result ≡ list_any (bytes_eq text.now) (words_of words.now) }
+{
+    for word in words {
+        if text == *word {
+            return true;
+        }
+    }
+    false
+}
+
+/// Whether one of some words is empty.
+fn has_empty(words: &[&str]) -> bool
+    ensures { result ≡ list_any (is_same_text []) (words_of words.now) }
+{
+    for word in words {
+        if word.is_empty() {
+            return true;
+        }
+    }
+    false
+}
+
+/// Whether a text is of a form.
+fn text_has(form: &LentForm, text: &Text) -> bool
+    requires { has_plain_words form.now ≡ true }
+    ensures { result ≡ text_has (form_of form.now) text.now }
+{
+    let bytes = text.as_str();
+    match form {
+        LentForm::Words(words) => is_word(words, bytes),
+        LentForm::Variable => is_name(bytes.as_bytes()),
+        LentForm::OptionalVariable => is_name(bytes.as_bytes()) || text.is_empty(),
+        LentForm::Plain => true,
+    }
+}
+
+/// Whether the empty text is of a form.
+fn nothing_has(form: &LentForm) -> bool
+    requires { has_plain_words form.now ≡ true }
+    ensures { result ≡ text_has (form_of form.now) [] }
+{
+    match form {
+        LentForm::Words(words) => has_empty(words),
+        LentForm::Variable => false,
+        LentForm::OptionalVariable | LentForm::Plain => true,
+    }
+}
+
+/// Whether a value is of a form.
+fn value_has(form: &LentForm, parts: &[Part]) -> bool
+    requires { has_plain_words form.now ≡ true }
+    ensures { result ≡ value_has (form_of form.now) (plain_text parts.now) }
+{
+    match parts {
+        [] => nothing_has(form),
+        [Part::Lit(text)] => text_has(form, text),
+        _ => false,
+    }
+}
+
+/// Whether each value of this name is of a form.
+fn all_have(name: AttrName, form: &LentForm, attrs: &[(AttrName, Rows<Part>)]) -> bool
+    requires { has_plain_words form.now ≡ true }
+    ensures { result ≡ list_all (λ a. not (is_same_attr a.0 name)
+        || value_has (form_of form.now) (plain_text a.1)) attrs.now }
+{
+    for attr in attrs {
+        if attr.0 == name && !value_has(form, attr.1.as_slice()) {
+            return false;
+        }
+    }
+    true
+}
+
+/// Whether each attribute of a node that has a form in some rows is of that form.
+fn has_rows(rows: &[(Tag, AttrName, LentForm)], node: &Node) -> bool
+    requires { list_all (λ row. has_plain_words row.2) rows.now ≡ true }
+    ensures { result ≡ list_all (λ form. not (is_same_tag node.now.tag form.0)
+        || all_have form.1 form.2 node.now) (map form_row rows.now) }
+{
+    for row in rows {
+        if node.tag == row.0 && !all_have(row.1, &row.2, node.attrs.as_slice()) {
+            return false;
+        }
+    }
+    true
+}
+
+/// Whether each attribute of a node that has a form is of that form.
+pub fn has_forms(node: &Node) -> bool
+    ensures { result ≡ has_forms node.now }
+{
+    has_rows(&FORMS, node)
+}

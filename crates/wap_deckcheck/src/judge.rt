@@ -1,0 +1,47 @@
+//! Whether a deck is good, and what is wrong with it if not.
+ghost use Rattle.std.specs.Prelude.{◌≡◌, ◌≢◌, [], Some, IfOk, OnOk, IfErr};
+ghost use Rattle.wap_markup.specs.Good.{IsGood};
+ghost use Rattle.wap_markup.specs.Normal.{IsNormal};
+ghost use Rattle.wap_deckcheck.specs.Faults.{faults, first_fault};
+
+use crate::DeckFault;
+use crate::walk::judge_deck;
+use std::alloc::Global;
+use wap_base::NoMemory;
+use wap_good::GoodDeck;
+use wap_markup::Deck;
+
+/// The deck as a good one, or the first of its faults (WAP-191, section 11). Nodes and texts come
+/// in the order of the document, a node before what is in it; at one the kinds of faults come in
+/// the order Child, Attr, Missing, Value, DuplicateId, and NoCard comes last. A deck that is
+/// refused comes back.
+pub fn check(alloc: Global, deck: Deck) -> Result<GoodDeck, (Deck, DeckFault)>
+    requires { IsNormal deck }
+    ensures same { IfOk result (λ good. good ≡ deck) }
+    ensures good { OnOk result (IsGood deck) }
+    ensures faultless { OnOk result (faults deck ≡ []) }
+    ensures back { IfErr result (λ refused. refused.0 ≡ deck) }
+    ensures first { IfErr result (λ refused. refused.1 ≢ DeckFault.NoMemory
+        → first_fault (faults deck) ≡ Some refused.1) }
+    ensures bad { IfErr result (λ refused. refused.1 ≢ DeckFault.NoMemory → ¬ IsGood deck) }
+{
+    match judge_deck(alloc, &deck) {
+        Ok(()) => as_good(alloc, deck),
+        Err(fault) => Err((deck, fault)),
+    }
+}
+
+/// A deck without faults, as a good one.
+fn as_good(alloc: Global, deck: Deck) -> Result<GoodDeck, (Deck, DeckFault)>
+    requires normal { IsNormal deck }
+    requires faultless { faults deck ≡ [] }
+    ensures same { IfOk result (λ good. good ≡ deck) }
+    ensures good { OnOk result (IsGood deck) }
+    ensures back { IfErr result (λ refused. refused.0 ≡ deck) }
+    ensures memory { IfErr result (λ refused. refused.1 ≡ DeckFault.NoMemory) }
+{
+    match GoodDeck::new(alloc, deck) {
+        Ok(good) => Ok(good),
+        Err((deck, NoMemory)) => Err((deck, DeckFault::NoMemory)),
+    }
+}

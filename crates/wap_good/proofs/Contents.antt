@@ -1,0 +1,180 @@
+-- The content of a normal node has normal items.
+use Rattle.std.proofs.Common.{◌≡◌, ◌≢◌, ℕ, zero, suc, ◌-◌, ◌+◌, ◌<◌, ◌≤◌, List, [], ◌∷◌, ◌++◌, length, get_or, map, Option, Some, None, refl, sym, ap, subst, ◌∙◌, arith}
+use Rattle.std.specs.List.{AllByRecursion}
+use Rattle.wap_base.specs.declared.name.Part.{Part}
+use Rattle.wap_base.specs.declared.name.Part.TheVariants.{Lit, Var}
+use Rattle.wap_markup.specs.declared.deck.Node.{Node}
+use Rattle.wap_markup.specs.declared.deck.Item.{Item, out-Item}
+use Rattle.wap_markup.specs.declared.deck.Item.TheOpen.{Item-F}
+use Rattle.wap_markup.specs.declared.deck.Item.TheVariants.{outs-Text, outs-Node}
+use Rattle.wap_markup.specs.declared.deck.Item.TheVariants as item
+use Rattle.wap_markup.specs.declared.deck.Deck.{Deck}
+use Rattle.wap_markup.specs.declared.name.Tag.TheVariants as tags
+use Rattle.wap_markup.specs.declared.document.TheConstants.{LEVEL_LIMIT}
+use Rattle.wap_markup.specs.declared.name.AttrName.{AttrName}
+use Rattle.wap_markup.specs.Trees.{ItemLevel, words_of, words_from}
+use Rattle.wap_markup.specs.Decks.{before, joined, Mark, part, text_before, part_before, items_of}
+use Rattle.wap_markup.specs.Normal.{IsValue, IsAttribute, marks_in, marks_of, IsItem, IsContent, IsNode, IsNormal}
+use Rattle.wap_markup.specs.Good.{IsGood}
+use Rattle.wap_good.specs.Levels.{IsNormalNode, IsNormalLevel, AreNormalItems}
+
+-- ---- a part in front of items joins the text that they begin with
+
+abbrev words_by : Option (List Part) → List Part
+words_by None = []
+words_by (Some parts) = parts
+
+abbrev behind_by : Option (List Part) → Item → List Item → List Item
+behind_by None first items = first ∷ items
+behind_by (Some parts) first items = items
+
+-- the text that items begin with, and what follows it
+abbrev words : List Item → List Part
+words [] = []
+words (first ∷ items) = words_by (words_of first)
+
+abbrev behind : List Item → List Item
+behind [] = []
+behind (first ∷ items) = behind_by (words_of first) first items
+
+before-none : (one : Part) → before one [] ≡ one ∷ []
+before-none (Lit text) = refl
+before-none (Var name conv) = refl
+
+text_before-joins : (one : Part) (found : Option (List Part)) (first : Item) (items : List Item) → text_before one first found items ≡ item.Text (before one (words_by found)) ∷ behind_by found first items
+text_before-joins one None first items = ap (λ parts. item.Text parts ∷ first ∷ items) (sym (before-none one))
+text_before-joins one (Some parts) first items = refl
+
+part_before-joins : (one : Part) (items : List Item) → part_before one items ≡ item.Text (before one (words items)) ∷ behind items
+part_before-joins one [] = ap (λ parts. item.Text parts ∷ []) (sym (before-none one))
+part_before-joins one (first ∷ items) = text_before-joins one (words_of first) first items
+
+-- ---- so do several
+
+abbrev onto : List Part → List Part → List Part
+onto [] last = last
+onto (one ∷ parts) last = before one (onto parts last)
+
+abbrev put : List Part → List Item → List Item
+put [] items = items
+put (one ∷ parts) items = part_before one (put parts items)
+
+items_of-put : (parts : List Part) (marks : List Mark) → items_of (map part parts ++ marks) ≡ put parts (items_of marks)
+items_of-put [] marks = refl
+items_of-put (one ∷ parts) marks = ap (part_before one) (items_of-put parts marks)
+
+put-joins : (one : Part) (parts : List Part) (items : List Item) → put (one ∷ parts) items ≡ item.Text (onto (one ∷ parts) (words items)) ∷ behind items
+put-joins one [] items = part_before-joins one items
+put-joins one (next ∷ parts) items =
+    let text : List Part = onto (next ∷ parts) (words items) in
+    let opened : words_of (item.Text text) ≡ Some text = ap words_from (outs-Text text) in
+    ap (part_before one) (put-joins next parts items) ∙ ap (λ found. text_before one (item.Text text) found (behind items)) opened
+
+onto-none : (parts : List Part) → onto parts [] ≡ joined parts
+onto-none [] = refl
+onto-none (one ∷ parts) = ap (before one) (onto-none parts)
+
+-- ---- no items come of it
+
+behind_few : (found : Option (List Part)) (first : Item) (items : List Item) → length (behind_by found first items) ≤ length (first ∷ items)
+behind_few None first items = omega arith
+behind_few (Some parts) first items = omega arith
+
+length-behind : (items : List Item) → length (behind items) ≤ length items
+length-behind [] = omega arith
+length-behind (first ∷ items) = behind_few (words_of first) first items
+
+length-put : (parts : List Part) (items : List Item) → length (put parts items) ≤ 1 + length items
+length-put [] items = omega arith
+length-put (one ∷ parts) items = omega (arith, ap length (put-joins one parts items), length-behind items)
+
+level_few : (level : ItemLevel) (marks : List Mark) → length (items_of (marks_in level ++ marks)) ≤ 1 + length (items_of marks)
+level_few (Item-F.Text parts) marks = omega (arith, ap length (items_of-put parts marks), length-put parts (items_of marks))
+level_few (Item-F.Node one) marks = omega arith
+
+length-items_of : (items : List Item) → length (items_of (marks_of items)) ≤ length items
+length-items_of [] = omega arith
+length-items_of (first ∷ items) = omega (arith, level_few (out-Item first) (marks_of items), length-items_of items)
+
+-- ---- so a text that stays as it is stands before none, and its parts are joined
+
+stays_by : (found : Option (List Part)) (first : Item) (items : List Item) → length (first ∷ items) ≤ length (behind_by found first items) → (words_by found ≡ []) × (behind_by found first items ≡ first ∷ items)
+stays_by None first items many = (refl, refl)
+stays_by (Some parts) first items many = absurd (omega arith)
+
+stays : (items : List Item) → length items ≤ length (behind items) → (words items ≡ []) × (behind items ≡ items)
+stays [] many = (refl, refl)
+stays (first ∷ items) many = stays_by (words_of first) first items many
+
+abbrev IsJoined : ItemLevel → Type 0
+IsJoined (Item-F.Text parts) = joined parts ≡ parts
+IsJoined (Item-F.Node one) = Unit {0}
+
+-- the first item stays, and so do the others
+pub record Stays (level : ItemLevel) (others items : List Item) : Type 0 where
+  pub first : IsJoined level
+  pub rest : others ≡ items
+
+text_stays : (parts : List Part) (others : List Item) (first : Item) (items : List Item) → out-Item first ≡ Item-F.Text parts → length others ≤ length items → put parts others ≡ first ∷ items → Stays (Item-F.Text parts) others items
+text_stays [] others first items opened few same = absurd (omega (arith, ap length same))
+text_stays (one ∷ parts) others first items opened few same =
+    let made : item.Text (onto (one ∷ parts) (words others)) ∷ behind others ≡ first ∷ items = sym (put-joins one parts others) ∙ same in
+    let rest : behind others ≡ items = cc in
+    let head : item.Text (onto (one ∷ parts) (words others)) ≡ first = cc in
+    let still = stays others (omega (arith, ap length rest)) in
+    let opened_text : Item-F.Text (onto (one ∷ parts) (words others)) ≡ Item-F.Text (one ∷ parts) = sym (outs-Text (onto (one ∷ parts) (words others))) ∙ ap out-Item head ∙ opened in
+    let same_parts : onto (one ∷ parts) (words others) ≡ one ∷ parts = cc in
+    record {
+      first = sym (onto-none (one ∷ parts)) ∙ ap (onto (one ∷ parts)) (sym still.0) ∙ same_parts;
+      rest = sym still.1 ∙ rest;
+    }
+
+item_stays : (level : ItemLevel) (marks : List Mark) (first : Item) (items : List Item) → out-Item first ≡ level → length (items_of marks) ≤ length items → items_of (marks_in level ++ marks) ≡ first ∷ items → Stays level (items_of marks) items
+item_stays (Item-F.Text parts) marks first items opened few same = text_stays parts (items_of marks) first items opened few (sym (items_of-put parts marks) ∙ same)
+item_stays (Item-F.Node one) marks first items opened few same = record { first = tt; rest = cc }
+
+-- ---- the content of a normal node
+
+item_normal : (levels : ℕ) (level : ItemLevel) → IsItem (IsNode levels) level → IsJoined level → IsNormalLevel level
+item_normal levels (Item-F.Text parts) each together = record { each = each; together = together }
+item_normal levels (Item-F.Node one) is together = record { levels = levels; normal = is }
+
+items_normal : (levels : ℕ) (items : List Item) → AllByRecursion (λ one. IsItem (IsNode levels) (out-Item one)) items → items_of (marks_of items) ≡ items → AreNormalItems items
+items_normal levels [] each together = tt
+items_normal levels (first ∷ items) each together =
+    let still = item_stays (out-Item first) (marks_of items) first items refl (length-items_of items) together in
+    (item_normal levels (out-Item first) each.0 still.first, items_normal levels items each.1 still.rest)
+
+kids_by : (levels : ℕ) (one : Node) → IsNode levels one → AreNormalItems one.kids
+kids_by zero one is = absurd is
+kids_by (suc levels) one is = items_normal levels one.kids is.content.each is.content.together
+
+pub kids_normal : (one : Node) → IsNormalNode one → AreNormalItems one.kids
+kids_normal one is = kids_by is.levels one is.normal
+
+attributes_by : (levels : ℕ) (one : Node) → IsNode levels one → AllByRecursion IsAttribute one.attrs
+attributes_by zero one is = absurd is
+attributes_by (suc levels) one is = is.attributes
+
+pub attributes_normal : (one : Node) → IsNormalNode one → AllByRecursion IsAttribute one.attrs
+attributes_normal one is = attributes_by is.levels one is.normal
+
+-- what holds of each attribute holds of the one at a place
+attribute_at : (attrs : List (AttrName × List Part)) → AllByRecursion IsAttribute attrs → (i : ℕ) → i < length attrs → (attr : AttrName × List Part) → attr ≡ get_or attrs i attr → IsAttribute attr
+attribute_at [] each i within attr is = absurd (omega arith)
+attribute_at (first ∷ attrs) each zero within attr is = subst IsAttribute (sym is) each.0
+attribute_at (first ∷ attrs) each (suc i) within attr is = attribute_at attrs each.1 i (omega arith) attr is
+
+pub value_at : (one : Node) → IsNormalNode one → (attrs : List (AttrName × List Part)) → attrs ≡ one.attrs → (i : ℕ) → i < length attrs → (attr : AttrName × List Part) → attr ≡ get_or attrs i attr → IsValue attr.1
+value_at one is attrs are i within attr at = attribute_at attrs (subst (AllByRecursion IsAttribute) (sym are) (attributes_normal one is)) i within attr at
+
+-- ---- the root
+
+root_by : (levels : ℕ) (one : Node) → one.tag ≢ tags.Other → AllByRecursion IsAttribute one.attrs → IsContent (IsNode levels) one.kids → IsNormalNode one
+root_by levels one known attributes content = record {
+  levels = suc levels;
+  normal = record { known = known; attributes = attributes; content = content };
+}
+
+pub root_normal : (deck : Deck) → IsGood deck → IsNormal deck → IsNormalNode deck.root
+root_normal deck good is = root_by (LEVEL_LIMIT - 1) deck.root (λ other. let root = good.root in cc) is.attributes is.content

@@ -1,0 +1,4 @@
+pub mod Values
+pub mod Contents
+pub mod Layers
+pub mod Cards
