@@ -1,0 +1,51 @@
+-- What a call answers that meets the reading of programs.
+use Rattle.std.proofs.Common.{◌≡◌, ◌≢◌, ℕ, List, Result, Ok, Err, IfOk, IfErr, subst}
+use Rattle.wap_base.specs.Outcome.{Meets}
+use Rattle.wap_program.specs.declared.program.Program.{Program}
+use Rattle.wap_grammar.specs.declared.fault.ParseFault.{ParseFault}
+use Rattle.wap_grammar.specs.declared.fault.ParseFault.TheVariants as fault
+use Rattle.wap_grammar.specs.declared.lexeme.Lexeme.{Lexeme}
+use Rattle.wap_grammar.specs.Programs.{IsProgram, Spells}
+use Rattle.wap_grammar.specs.Refusal.{IsPast}
+use Rattle.wap_grammar.specs.inside.Programs.{program_at}
+use Rattle.wap_grammar.proofs.Whole.{program_ok, program_again}
+use Rattle.wap_grammar.proofs.Refusals.{program_none, program_past}
+
+abbrev pub IsRead : List ℕ → List Lexeme → Result Program ParseFault → Type 0
+IsRead src a r = Meets fault.NoMemory (λ (p : Program). p) r (program_at src 64 a)
+
+no_memory : (at : ℕ) → fault.Syntax at ≢ fault.NoMemory
+no_memory at e = absurd cc
+
+no_memory_nested : (at : ℕ) → fault.Nested at ≢ fault.NoMemory
+no_memory_nested at e = absurd cc
+
+pub found_by : (src : List ℕ) (a : List Lexeme) (r : Result Program ParseFault) → IsRead src a r
+    → IfOk r (λ p. IsProgram src 64 a p)
+found_by src a (Ok p) met = program_ok src 64 a p met
+found_by src a (Err f) met = tt
+
+pub only_by : (src : List ℕ) (a : List Lexeme) (r : Result Program ParseFault) → IsRead src a r
+    → (p : Program) → IsProgram src 64 a p → Meets fault.NoMemory (λ (p : Program). p) r (Ok p)
+only_by src a r met p is =
+    subst (Meets fault.NoMemory (λ (p : Program). p) r) (program_again src 64 a p is) met
+
+pub syntax_by : (src : List ℕ) (a : List Lexeme) (r : Result Program ParseFault) → IsRead src a r
+    → IfErr r (λ f. (at : ℕ) → f ≡ fault.Syntax at → (p : Program) → Spells src p a → ⊥)
+syntax_by src a (Ok p) met = tt
+syntax_by src a (Err f) met =
+    λ at is p spells. program_none src a at (read_at at is) p spells where
+      read_at : (at : ℕ) → f ≡ fault.Syntax at → program_at src 64 a ≡ Err (fault.Syntax at)
+      read_at at is =
+          subst (λ (g : ParseFault). g ≢ fault.NoMemory → program_at src 64 a ≡ Err g) is met
+          (no_memory at)
+
+pub nested_by : (src : List ℕ) (a : List Lexeme) (r : Result Program ParseFault) → IsRead src a r
+    → IfErr r (λ f. (at : ℕ) → f ≡ fault.Nested at → IsPast src 64 a at)
+nested_by src a (Ok p) met = tt
+nested_by src a (Err f) met =
+    λ at is. program_past src a at (read_at at is) where
+      read_at : (at : ℕ) → f ≡ fault.Nested at → program_at src 64 a ≡ Err (fault.Nested at)
+      read_at at is =
+          subst (λ (g : ParseFault). g ≢ fault.NoMemory → program_at src 64 a ≡ Err g) is met
+          (no_memory_nested at)

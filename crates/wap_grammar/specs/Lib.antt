@@ -1,0 +1,9 @@
+pub mod Words
+pub mod Strings
+pub mod Values
+pub mod Spellings
+pub mod Expressions
+pub mod Statements
+pub mod Refusal
+pub mod Programs
+pub mod inside

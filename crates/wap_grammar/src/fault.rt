@@ -1,0 +1,23 @@
+//! Why no program is answered for tokens.
+use wap_base::NoMemory;
+
+/// Why no program is answered, with a place in the source.
+#[derive(Clone, Copy, Debug, PartialEq, Eq)]
+pub enum ParseFault {
+    /// No program spells the tokens.
+    Syntax { at: usize },
+    /// The first byte of the first part at level 65.
+    Nested { at: usize },
+    NoMemory,
+}
+
+impl From<NoMemory> for ParseFault {
+    ghost use Rattle.std.specs.Prelude.{◌≡◌};
+    ghost use Rattle.wap_grammar.specs.declared.fault.ParseFault.TheVariants.{NoMemory};
+
+    ghost from_gives = { λ _ fault. fault ≡ NoMemory };
+
+    fn from(_want: NoMemory) -> ParseFault {
+        ParseFault::NoMemory
+    }
+}
