@@ -1,8 +1,8 @@
 -- Words that are cut at the width.
-use Rattle.std.proofs.Common.{◌≡◌, ℕ, zero, suc, ◌≤◌, ◌<◌, List, [], ◌∷◌, ◌++◌, length, take, drop, true, false, cond, refl, sym, ap, ◌∙◌, append_assoc, subst, arith}
+use Rattle.std.proofs.Common.{◌≡◌, ℕ, zero, suc, ◌≤◌, ◌<◌, List, [], ◌∷◌, ◌++◌, length, take, drop, true, false, cond, refl, sym, ap, ◌∙◌, subst, arith}
 use Rattle.std.specs.Prelude.{nat_le}
 use Rattle.std.proofs.lemmas.Bool.Decides.{nat_tests}
-use Rattle.std.proofs.lemmas.List.{append-nil, length-append, length-drop}
+use Rattle.std.proofs.lemmas.List.{length-append, length-drop}
 use Rattle.std.proofs.Math.Seq.{take-append_seam, drop-append_seam}
 use Rattle.wap_layout.specs.Calculation.{cut_at, cut_word}
 
@@ -44,30 +44,7 @@ cut_word-full part c rest one =
     ∙ ap (λ front. front ∷ cut_word (length part) (drop (length part) (part ++ c ∷ rest))) (take-append_seam part (c ∷ rest))
     ∙ ap (λ back. part ∷ cut_word (length part) back) (drop-append_seam part (c ∷ rest))
 
-cut_word-at_width : (width : ℕ) (part : List ℕ) (c : ℕ) (rest : List ℕ) → length part ≡ width → 1 ≤ width → cut_word width (part ++ c ∷ rest) ≡ part ∷ cut_word width (c ∷ rest)
+pub cut_word-at_width : (width : ℕ) (part : List ℕ) (c : ℕ) (rest : List ℕ) → length part ≡ width → 1 ≤ width → cut_word width (part ++ c ∷ rest) ≡ part ∷ cut_word width (c ∷ rest)
 cut_word-at_width width part c rest full =
     let P : ℕ → Type 0 = λ w. 1 ≤ w → cut_word w (part ++ c ∷ rest) ≡ part ∷ cut_word w (c ∷ rest) in
     subst P full (cut_word-full part c rest)
-
--- the steps of a loop over a word's characters
-pub cut-full : (parts new : List (List ℕ)) (part next left rest : List ℕ) (c width : ℕ) (whole : List (List ℕ)) → 1 ≤ width → length part ≡ width → new ≡ parts ++ part ∷ [] → next ≡ c ∷ [] → left ≡ c ∷ rest
-    → parts ++ cut_word width (part ++ left) ≡ whole → new ++ cut_word width (next ++ rest) ≡ whole
-cut-full parts new part next left rest c width whole one full ends starts turn was =
-    ap (λ p. new ++ cut_word width (p ++ rest)) starts
-    ∙ ap (λ ps. ps ++ cut_word width (c ∷ rest)) ends
-    ∙ append_assoc parts (part ∷ []) (cut_word width (c ∷ rest))
-    ∙ ap (λ ps. parts ++ ps) (sym (cut_word-at_width width part c rest full one) ∙ ap (λ l. cut_word width (part ++ l)) (sym turn))
-    ∙ was
-
-pub cut-more : (parts new : List (List ℕ)) (part next left rest : List ℕ) (c width : ℕ) (whole : List (List ℕ)) → new ≡ parts → next ≡ part ++ c ∷ [] → left ≡ c ∷ rest
-    → parts ++ cut_word width (part ++ left) ≡ whole → new ++ cut_word width (next ++ rest) ≡ whole
-cut-more parts new part next left rest c width whole same goes_on turn was =
-    ap (λ ps. ps ++ cut_word width (next ++ rest)) same
-    ∙ ap (λ p. parts ++ cut_word width (p ++ rest)) goes_on
-    ∙ ap (λ w. parts ++ cut_word width w) (append_assoc part (c ∷ []) rest ∙ ap (λ l. part ++ l) (sym turn))
-    ∙ was
-
-pub cut-end : (parts new : List (List ℕ)) (part left : List ℕ) (width : ℕ) (whole : List (List ℕ)) → length part ≤ width → new ≡ parts ++ part ∷ [] → left ≡ []
-    → parts ++ cut_word width (part ++ left) ≡ whole → new ≡ whole
-cut-end parts new part left width whole short ends turn was =
-    ends ∙ ap (λ ps. parts ++ ps) (sym (cut_word-short width part short) ∙ ap (cut_word width) (sym (append-nil part) ∙ ap (λ l. part ++ l) (sym turn))) ∙ was

@@ -16,7 +16,7 @@ abbrev pub AreWords : List (List ℕ) → Type 0
 AreWords [] = Unit {0}
 AreWords (word ∷ words) = (1 ≤ length word) × AreWords words
 
-room_true : (width columns needed : ℕ) → 1 ≤ columns → columns + 1 + needed ≤ width → has_room width columns needed ≡ true
+pub room_true : (width columns needed : ℕ) → 1 ≤ columns → columns + 1 + needed ≤ width → has_room width columns needed ≡ true
 room_true width columns needed some fits = grind (arith, nat_tests)
 
 room_false : (width columns needed : ℕ) → width < columns + 1 + needed → has_room width columns needed ≡ false
@@ -31,10 +31,10 @@ fill-room width begun word words some fits =
     ap (λ room. cond room [] (unless_empty begun) ++ fill width (cond room (begun ++ 32 ∷ word) word) words) (room_true width (length begun) (length word) some fits)
 
 -- before the first word there is no line
-fill-first : (width : ℕ) (word : List ℕ) (words : List (List ℕ)) → fill width [] (word ∷ words) ≡ fill width word words
+pub fill-first : (width : ℕ) (word : List ℕ) (words : List (List ℕ)) → fill width [] (word ∷ words) ≡ fill width word words
 fill-first width word words = ap (λ room. cond room [] [] ++ fill width (cond room (32 ∷ word) word) words) (room_none width (length word))
 
-some_alone : (text : List ℕ) → 1 ≤ length text → unless_empty text ≡ text ∷ []
+pub some_alone : (text : List ℕ) → 1 ≤ length text → unless_empty text ≡ text ∷ []
 some_alone [] some = absurd (omega arith)
 some_alone (c ∷ text) some = refl
 
@@ -66,24 +66,24 @@ GoesOn width more =
     (front : List (List ℕ)) → front ≢ [] → 1 ≤ length (joined front) → length (joined front) ≤ width → IsFilled width (front ++ more) (fill width (joined front) (parts_of width more))
 
 -- the line before a word that is behind it and doesn't fit, whatever it is cut into
-fill-before : (width : ℕ) (begun word : List ℕ) (more : List (List ℕ)) → 1 ≤ width → 1 ≤ length begun → width < length begun + 1 + length word
-    → fill width begun (cut_word width word ++ parts_of width more) ≡ begun ∷ fill width [] (cut_word width word ++ parts_of width more)
+pub fill-before : (width : ℕ) (begun word : List ℕ) (more : List (List ℕ)) → 1 ≤ width → 1 ≤ length begun → width < length begun + 1 + length word
+    → fill width begun (cut_word width word ++ more) ≡ begun ∷ fill width [] (cut_word width word ++ more)
 fill-before width begun word more one some over =
     let f = cut_word-first width word one (elim (cases_lt width (length word)) [ inl long ↦ inr long | inr short ↦ inl short ]) in
-    ap (λ parts. fill width begun (parts ++ parts_of width more)) f.parts
-    ∙ fill-over width begun f.part (f.others ++ parts_of width more) some (omega (arith, f.wide))
-    ∙ ap (λ parts. begun ∷ fill width [] (parts ++ parts_of width more)) (sym f.parts)
+    ap (λ parts. fill width begun (parts ++ more)) f.parts
+    ∙ fill-over width begun f.part (f.others ++ more) some (omega (arith, f.wide))
+    ∙ ap (λ parts. begun ∷ fill width [] (parts ++ more)) (sym f.parts)
 
 filled-short : (width : ℕ) (word : List ℕ) (more : List (List ℕ)) → 1 ≤ length word → length word ≤ width → GoesOn width more → IsFilled width (word ∷ more) (fill width [] (cut_word width word ++ parts_of width more))
 filled-short width word more some short goes_on =
     let e = ap (λ parts. fill width [] (parts ++ parts_of width more)) (cut_word-short width word short) ∙ fill-first width word (parts_of width more) in
     subst (λ lines. IsFilled width (word ∷ more) lines) (sym e) (goes_on (word ∷ []) (λ none. cc) some short)
 
-fill-long : (width : ℕ) (word : List ℕ) (more : List (List ℕ)) → 1 ≤ width → width < length word
-    → fill width [] (cut_word width word ++ parts_of width more) ≡ take width word ∷ fill width [] (cut_word width (drop width word) ++ parts_of width more)
+pub fill-long : (width : ℕ) (word : List ℕ) (more : List (List ℕ)) → 1 ≤ width → width < length word
+    → fill width [] (cut_word width word ++ more) ≡ take width word ∷ fill width [] (cut_word width (drop width word) ++ more)
 fill-long width word more one long =
-    ap (λ parts. fill width [] (parts ++ parts_of width more)) (cut_word-long width word one long)
-    ∙ fill-first width (take width word) (cut_word width (drop width word) ++ parts_of width more)
+    ap (λ parts. fill width [] (parts ++ more)) (cut_word-long width word one long)
+    ∙ fill-first width (take width word) (cut_word width (drop width word) ++ more)
     ∙ fill-before width (take width word) (drop width word) more one (simp length-take (omega arith)) (simp (length-take, length-drop) (omega arith))
 
 -- a word begins a line
@@ -93,7 +93,7 @@ filled-word width zero word more one few some goes_on = absurd (omega arith)
 filled-word width (suc fuel) word more one few some goes_on =
     elim (cases_lt width (length word)) [
       | inl long ↦
-          subst (λ lines. IsFilled width (word ∷ more) lines) (sym (fill-long width word more one long))
+          subst (λ lines. IsFilled width (word ∷ more) lines) (sym (fill-long width word (parts_of width more) one long))
           (cut long (filled-word width fuel (drop width word) more one (simp length-drop (omega arith)) (simp length-drop (omega arith)) goes_on))
       | inr short ↦ filled-short width word more some short goes_on
     ]
@@ -116,7 +116,7 @@ filled-on width [] one words front some begun fits =
 filled-on width (word ∷ more) one words front some begun fits =
     elim (cases_lt width (length (joined front) + 1 + length word)) [
       | inl over ↦
-          subst (λ lines. IsFilled width (front ++ word ∷ more) lines) (sym (fill-before width (joined front) word more one begun over))
+          subst (λ lines. IsFilled width (front ++ word ∷ more) lines) (sym (fill-before width (joined front) word (parts_of width more) one begun over))
           (line front (word ∷ more)
           (record {
             some = some;

@@ -1,6 +1,5 @@
 -- Words on one line, as far as they were joined.
-use Rattle.std.proofs.Common.{◌≡◌, ℕ, zero, suc, ◌+◌, ◌≤◌, ◌<◌, List, [], ◌∷◌, ◌++◌, length, take, get_or, refl, sym, ap, ◌∙◌, append_assoc, arith}
-use Rattle.std.proofs.lemmas.List.{take_more}
+use Rattle.std.proofs.Common.{◌≡◌, ℕ, ◌≤◌, List, [], ◌∷◌, ◌++◌, length, refl, sym, ap, ◌∙◌, append_assoc, arith}
 use Rattle.wap_layout.specs.Words.{joined}
 
 -- one more word behind others
@@ -11,17 +10,3 @@ joined-push word (next ∷ words) last = ap (λ line. word ++ 32 ∷ line) (join
 pub joined-more : (words : List (List ℕ)) (last : List ℕ) → 1 ≤ length words → joined (words ++ last ∷ []) ≡ joined words ++ 32 ∷ last
 joined-more [] last some = absurd (omega arith)
 joined-more (word ∷ words) last some = joined-push word words last
-
--- the step of a loop over the words
-pub joined-next : (words : List (List ℕ)) (place : ℕ) (word line before new : List ℕ) → place < length words → word ≡ get_or words place word → line ≡ joined (take place words)
-    → (0 < place → before ≡ line ++ 32 ∷ []) → (place ≤ 0 → before ≡ line) → new ≡ before ++ word → new ≡ joined (take (place + 1) words)
-joined-next [] place word line before new within at was behind first added = absurd (omega arith)
-joined-next (w ∷ words) zero word line before new within at was behind first added =
-    added ∙ ap (λ l. l ++ word) (first (omega arith) ∙ was) ∙ at
-joined-next (w ∷ words) (suc place) word line before new within at was behind first added =
-    added
-    ∙ ap (λ l. l ++ word) (behind (omega arith) ∙ ap (λ l. l ++ 32 ∷ []) was)
-    ∙ append_assoc (joined (take (suc place) (w ∷ words))) (32 ∷ []) word
-    ∙ sym (joined-more (take (suc place) (w ∷ words)) word (omega arith))
-    ∙ ap (λ l. joined (take (suc place) (w ∷ words) ++ l ∷ [])) at
-    ∙ ap joined (sym (take_more (w ∷ words) (suc place) word within))

@@ -1,10 +1,12 @@
 pub mod Splitting
 pub mod Cutting
 pub mod Joining
-pub mod Keeping
+pub mod Slices
 pub mod Filling
+pub mod Placing
 pub mod Unique
 pub mod Laying
+pub mod Unwrapped
 pub mod Visible
 pub mod Groups
 pub mod Merging

@@ -2,3 +2,4 @@ pub mod Words
 pub mod Pieces
 pub mod Layout
 pub mod Calculation
+pub mod inside

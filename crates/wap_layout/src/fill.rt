@@ -1,48 +1,39 @@
 //! Words on lines of a width.
-ghost use Rattle.std.specs.Prelude.{◌≡◌, ◌≤◌, ◌++◌, IfOk, OnOk, []};
+ghost use Rattle.std.specs.Prelude.{◌≡◌, ◌≤◌, ◌++◌, List, ℕ, IfOk, OnOk, [], length};
 ghost use Rattle.std.specs.List.{flat_map};
 ghost use Rattle.std.specs.Str.{chars};
-ghost use Rattle.wap_layout.specs.Calculation.{cut_word, fill, has_room};
+ghost use Rattle.wap_layout.specs.Words.{words_of, unless_empty};
+ghost use Rattle.wap_layout.specs.Calculation.{cut_word, fill, filled, has_room};
 
-use crate::words::{add_unless_empty, columns_of};
+use crate::words::{add_unless_empty, columns_of, cut_at_blank};
 use std::alloc::Global;
+use std::mem;
 use wap_base::{NoMemory, Rows, Text};
 
-/// Adds a word, cut where it is longer than the width.
-pub fn add_cut(
+/// Adds the parts of a word that are as long as the width, and gives what is left of it, which
+/// begins the next line.
+fn add_cut(
     alloc: Global,
-    parts: &mut Rows<Text>,
+    lines: &mut Rows<Text>,
     word: &str,
     width: usize,
-) -> Result<(), NoMemory>
+) -> Result<Text, NoMemory>
     requires { 1 ≤ width }
-    ensures { OnOk result (parts.new ≡ parts.old ++ cut_word width (chars word.now)) }
+    ensures { IfOk result (λ last. (more : List (List ℕ)) → lines.new ++ fill width last more
+        ≡ lines.old ++ fill width [] (cut_word width (chars word.now) ++ more)) }
 {
     let mut part = Text::new(alloc);
     let mut columns = 0;
     for character in word.chars() {
         if columns == width {
-            parts.add(part)?;
+            lines.add(part)?;
             part = Text::new(alloc);
             columns = 0;
         }
         part.push(character)?;
         columns += 1;
     }
-    parts.add(part)?;
-    Ok(())
-}
-
-/// The words, each cut where it is longer than the width.
-pub fn cut(alloc: Global, words: &[Text], width: usize) -> Result<Rows<Text>, NoMemory>
-    requires { 1 ≤ width }
-    ensures { IfOk result (λ parts. parts ≡ flat_map (cut_word width) words.now) }
-{
-    let mut parts = Rows::new(alloc);
-    for word in words {
-        add_cut(alloc, &mut parts, word.as_str(), width)?;
-    }
-    Ok(parts)
+    Ok(part)
 }
 
 /// Whether a line that takes so many columns has room for a word that needs so many.
@@ -52,28 +43,58 @@ fn has_room(width: usize, columns: usize, needed: usize) -> bool
     0 < columns && columns < width && needed < width - columns
 }
 
-/// Adds the lines of words that are no longer than the width.
+/// Adds a word to a line of so many columns, or begins another line, and gives the columns of the
+/// line that the word ends on. No word is added where there is none.
+fn add_word(
+    alloc: Global,
+    lines: &mut Rows<Text>,
+    line: &mut Text,
+    columns: usize,
+    word: &str,
+    width: usize,
+) -> Result<usize, NoMemory>
+    requires width { 1 ≤ width }
+    requires columns { columns ≡ length line.old }
+    ensures columns { IfOk result (λ columns. columns ≡ length line.new) }
+    ensures added { OnOk result ((more : List (List ℕ)) → lines.new ++ fill width line.new more
+        ≡ lines.old ++ fill width line.old
+        (flat_map (cut_word width) (unless_empty (chars word.now)) ++ more)) }
+{
+    let needed = columns_of(word);
+    if needed == 0 {
+        return Ok(columns);
+    }
+    if has_room(width, columns, needed) {
+        line.push(' ')?;
+        line.add(word)?;
+        return Ok(columns + 1 + needed);
+    }
+    add_unless_empty(lines, mem::replace(line, Text::new(alloc)))?;
+    if needed <= width {
+        line.add(word)?;
+        return Ok(needed);
+    }
+    *line = add_cut(alloc, lines, word, width)?;
+    Ok(columns_of(line.as_str()))
+}
+
+/// Adds the lines of a text's words, each cut where it is longer than the width.
 pub fn add_filled(
     alloc: Global,
     lines: &mut Rows<Text>,
-    words: &[Text],
+    text: &str,
     width: usize,
 ) -> Result<(), NoMemory>
-    ensures { OnOk result (lines.new ≡ lines.old ++ fill width [] words.now) }
+    requires { 1 ≤ width }
+    ensures { OnOk result (lines.new ≡ lines.old ++ filled width (words_of (chars text.now))) }
 {
     let mut line = Text::new(alloc);
     let mut columns = 0;
-    for word in words {
-        let needed = columns_of(word.as_str());
-        if has_room(width, columns, needed) {
-            line.push(' ')?;
-            line.add(word.as_str())?;
-            columns += 1 + needed;
-        } else {
-            add_unless_empty(lines, line)?;
-            line = word.copy(alloc)?;
-            columns = needed;
-        }
+    let mut rest = text;
+    while let Some((word, after)) = cut_at_blank(rest) {
+        columns = add_word(alloc, lines, &mut line, columns, word, width)?;
+        rest = after;
     }
+    add_word(alloc, lines, &mut line, columns, rest, width)?;
     add_unless_empty(lines, line)
 }

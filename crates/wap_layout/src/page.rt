@@ -7,13 +7,14 @@ ghost use Rattle.wap_layout.specs.Pieces.{kept, ended};
 ghost use Rattle.wap_layout.specs.Layout.{closed};
 ghost use Rattle.wap_layout.specs.Calculation.{laid, piece_lines};
 
-use crate::fill::{add_filled, cut};
-use crate::words::{add_unless_empty, joined, words_of};
+use crate::fill::add_filled;
+use crate::words::add_unless_empty;
 use crate::{Flow, Mode};
 use std::alloc::Global;
 use wap_base::{NoMemory, Rows, Text};
 
-/// Adds the lines of a text, or none where nothing is to be seen.
+/// Adds the lines of a text, or none where nothing is to be seen. What is not wrapped stands on a
+/// line that is wide enough for all of it.
 fn add_laid(
     alloc: Global,
     lines: &mut Rows<Text>,
@@ -25,18 +26,10 @@ fn add_laid(
     ensures { OnOk result (lines.new ≡ lines.old ++ laid width mode (chars text.now)) }
 {
     match mode {
-        Mode::Wrapped => {
-            let words = words_of(alloc, text)?;
-            let parts = cut(alloc, words.as_slice(), width)?;
-            add_filled(alloc, lines, parts.as_slice(), width)?;
-        }
-        Mode::Unwrapped => {
-            let words = words_of(alloc, text)?;
-            add_unless_empty(lines, joined(alloc, words.as_slice())?)?;
-        }
-        Mode::Preformatted => add_unless_empty(lines, Text::of(alloc, text)?)?,
+        Mode::Wrapped => add_filled(alloc, lines, text, width),
+        Mode::Unwrapped => add_filled(alloc, lines, text, text.len() + 1),
+        Mode::Preformatted => add_unless_empty(lines, Text::of(alloc, text)?),
     }
-    Ok(())
 }
 
 /// Adds the lines of a piece, which are one empty line where it has none and a hard break ends it.
@@ -72,24 +65,12 @@ fn add_kept(
     ensures { OnOk result (lines.new ≡ lines.old
         ++ flat_map (piece_lines width) (kept (slice_split is_line_feed (chars text.now)) is_hard)) }
 {
-    let mut line = Text::new(alloc);
-    for character in text.chars() {
-        if character == '\n' {
-            add_piece(alloc, lines, Mode::Preformatted, line.as_str(), true, width)?;
-            line = Text::new(alloc);
-        } else {
-            line.push(character)?;
-        }
+    let mut rest = text;
+    while let Some((line, after)) = rest.split_once('\n') {
+        add_piece(alloc, lines, Mode::Preformatted, line, true, width)?;
+        rest = after;
     }
-    add_piece(
-        alloc,
-        lines,
-        Mode::Preformatted,
-        line.as_str(),
-        is_hard,
-        width,
-    )?;
-    Ok(())
+    add_piece(alloc, lines, Mode::Preformatted, rest, is_hard, width)
 }
 
 /// Adds the lines of a text that ends.

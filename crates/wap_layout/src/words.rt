@@ -1,9 +1,9 @@
-//! Words, and lines that words are joined on.
-ghost use Rattle.std.specs.Prelude.{◌≡◌, ◌++◌, IfOk, OnOk, length};
+//! Words, as slices of a text.
+ghost use Rattle.std.specs.Prelude.{◌≡◌, ◌++◌, OnOk, MatchOption, length};
 ghost use Rattle.std.specs.Str.{chars};
-ghost use Rattle.wap_layout.specs.Words.{is_blank, words_of, joined, unless_empty};
+ghost use Rattle.wap_layout.specs.Words.{is_blank, words_of, unless_empty};
+ghost use Rattle.wap_layout.specs.inside.Slices.{IsCutAtBlank};
 
-use std::alloc::Global;
 use wap_base::{NoMemory, Rows, Text};
 
 /// Whether a character separates words.
@@ -30,34 +30,10 @@ pub fn add_unless_empty(texts: &mut Rows<Text>, text: Text) -> Result<(), NoMemo
     Ok(())
 }
 
-/// The words of a text.
-pub fn words_of(alloc: Global, text: &str) -> Result<Rows<Text>, NoMemory>
-    ensures { IfOk result (λ words. words ≡ words_of (chars text.now)) }
+/// What stands before the first blank of a text, and what follows that blank.
+pub fn cut_at_blank(text: &str) -> Option<(&str, &str)>
+    ensures { MatchOption result (words_of (chars text.now) ≡ unless_empty (chars text.now))
+        (λ cut. IsCutAtBlank text.now cut.0.now cut.1.now) }
 {
-    let mut words = Rows::new(alloc);
-    let mut word = Text::new(alloc);
-    for character in text.chars() {
-        if is_blank(character) {
-            add_unless_empty(&mut words, word)?;
-            word = Text::new(alloc);
-        } else {
-            word.push(character)?;
-        }
-    }
-    add_unless_empty(&mut words, word)?;
-    Ok(words)
-}
-
-/// The words on one line.
-pub fn joined(alloc: Global, words: &[Text]) -> Result<Text, NoMemory>
-    ensures { IfOk result (λ line. line ≡ joined words.now) }
-{
-    let mut line = Text::new(alloc);
-    for (place, word) in words.iter().enumerate() {
-        if place > 0 {
-            line.push(' ')?;
-        }
-        line.add(word.as_str())?;
-    }
-    Ok(line)
+    text.split_once(is_blank)
 }

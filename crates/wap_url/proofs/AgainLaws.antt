@@ -9,7 +9,7 @@ use Rattle.wap_url.specs.Refusal.{IsRefused}
 use Rattle.wap_url.specs.Characters.{is_hash, is_slash, is_colon, is_question, is_allowed, ends_scheme, ends_authority, is_scheme, is_host}
 use Rattle.wap_base.specs.Cuts.{until, onward, after_one, begins_with}
 use Rattle.wap_url.specs.Parts.{Parts, spelled, followed_by, led_by, authority, is_port, url_of, IsSplit, Fits, IsUrl, ends_word, may_be_scheme, may_be_host, may_be_port, may_be_path}
-use Rattle.wap_url.specs.Reading.{is_stop, front, has_bad_char, has_scheme, scheme_of, after_scheme, has_authority, authority_of, after_authority, host_in, port_in, host_of, port_of, tail_of, parts_of, fits, fault_of, unless, url_at}
+use Rattle.wap_url.specs.Reading.{is_stop, front, has_bad_char, has_scheme, scheme_of, after_scheme, begins_with_slashes, authority_of, after_authority, host_in, port_in, host_of, port_of, tail_of, parts_of, passes_if_there, fault_of, unless, url_at}
 use Rattle.wap_url.proofs.UntilLaws.{NonePasses, StopsAtOnce, all-weaker, all-append, until-past, onward-past, until-stop, onward-stop, led-stops, after-led}
 
 left : (p q : ℕ → Bool) (xs : List ℕ) → list_all (λ c. p c && q c) xs ≡ true → list_all p xs ≡ true
@@ -137,14 +137,14 @@ with_host h port t fine more stops =
       tail_is = onward-past ends_authority (h ++ led_by (58 ∷ []) port) t none ∙ onward-stop ends_authority t stops;
     }
 
-without_host : (t : List ℕ) → has_authority t ≡ false → AuthorityIs None None t t
+without_host : (t : List ℕ) → begins_with_slashes t ≡ false → AuthorityIs None None t t
 without_host t none = record {
-  host_is = ap (option_map host_in) (cond-false (has_authority t) (Some (until ends_authority (drop 2 t))) None none);
-  port_is = ap (option_and_then port_in) (cond-false (has_authority t) (Some (until ends_authority (drop 2 t))) None none);
-  tail_is = cond-false (has_authority t) (onward ends_authority (drop 2 t)) t none;
+  host_is = ap (option_map host_in) (cond-false (begins_with_slashes t) (Some (until ends_authority (drop 2 t))) None none);
+  port_is = ap (option_and_then port_in) (cond-false (begins_with_slashes t) (Some (until ends_authority (drop 2 t))) None none);
+  tail_is = cond-false (begins_with_slashes t) (onward ends_authority (drop 2 t)) t none;
 }
 
-no_authority : (path : List ℕ) (query : Option (List ℕ)) → ((rest : List ℕ) → path ≢ 47 ∷ 47 ∷ rest) → has_authority (path ++ led_by (63 ∷ []) query) ≡ false
+no_authority : (path : List ℕ) (query : Option (List ℕ)) → ((rest : List ℕ) → path ≢ 47 ∷ 47 ∷ rest) → begins_with_slashes (path ++ led_by (63 ∷ []) query) ≡ false
 no_authority [] None none = refl
 no_authority [] (Some []) none = refl
 no_authority [] (Some (c ∷ cs)) none = refl
@@ -191,12 +191,12 @@ parts_again t p fine =
     (ap (λ t. after_one (onward is_question t)) tail_is ∙ query_is p.path p.query fine.path)
     (ap after_one (onward_is t p fine) ∙ after-led 35 p.fragment)
 
-fits_from : (q : List ℕ → Bool) (part : Option (List ℕ)) → IfSome part (λ x. q x ≡ true) → fits q part ≡ true
+fits_from : (q : List ℕ → Bool) (part : Option (List ℕ)) → IfSome part (λ x. q x ≡ true) → passes_if_there q part ≡ true
 fits_from q None fine = refl
 fits_from q (Some x) fine = fine
 
 no_fault_from : (p : Parts) → Fits p → fault_of p ≡ None
-no_fault_from p fine = three (fits is_scheme p.scheme) (fits is_host p.host) (fits is_port p.port) (fits_from is_scheme p.scheme fine.scheme) (fits_from is_host p.host fine.host) (fits_from is_port p.port fine.port) where
+no_fault_from p fine = three (passes_if_there is_scheme p.scheme) (passes_if_there is_host p.host) (passes_if_there is_port p.port) (fits_from is_scheme p.scheme fine.scheme) (fits_from is_host p.host fine.host) (fits_from is_port p.port fine.port) where
   three : (a b c : Bool) → a ≡ true → b ≡ true → c ≡ true → cond (not a) (Some BadScheme) (cond (not b) (Some BadHost) (cond (not c) (Some BadPort) None)) ≡ None
   three true true true x y z = refl
   three true true false x y z = absurd (let e = z in cc)

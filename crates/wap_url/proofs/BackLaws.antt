@@ -8,8 +8,8 @@ use Rattle.wap_url.specs.declared.url.Url.{Url}
 use Rattle.wap_url.specs.Characters.{is_slash, is_colon, is_allowed}
 use Rattle.wap_base.specs.Cuts.{onward, begins_with}
 use Rattle.wap_url.specs.Parts.{Parts, led_by, IsUrl, may_be_path, ends_word}
-use Rattle.wap_url.specs.Reading.{has_authority}
-use Rattle.wap_url.specs.Printing.{page_text, without_fragment, IsNormal}
+use Rattle.wap_url.specs.Reading.{begins_with_slashes}
+use Rattle.wap_url.specs.Printing.{text_without_fragment, without_fragment, IsNormal}
 use Rattle.wap_url.specs.Segments.{segments, path_of, all_but_last, last_segment}
 use Rattle.wap_url.specs.Joining.{kept_with, without_dots, resolved_path, rooted, merged_path, lead_segments, joined, is_here, is_above, is_dot_segment}
 use Rattle.wap_url.specs.Relative.{same_text, same_port, same_site, same_folder, stands_alone, local_path, relative_form, IsPage, LeadsBack}
@@ -114,12 +114,12 @@ whole_joins base u page =
     ap with_root (cond-true (is_some u.scheme) (without_fragment u) (cond (is_some u.host) (record (without_fragment u) { scheme = base.scheme }) (cond (length u.path == 0 && is_none u.query) (record base { fragment = None }) (record (without_fragment u) { scheme = base.scheme; host = base.host; port = base.port; path = merged_path base (without_fragment u) }))) page.scheme)
     ∙ ap (λ p. record (without_fragment u) { path = p }) (path_stays (is_some u.host) u page)
 
-pub whole_back : (base u : Url) → IsPage u → LeadsBack base (page_text u) u
+pub whole_back : (base u : Url) → IsPage u → LeadsBack base (text_without_fragment u) u
 whole_back base u page =
     let is = normal_again (without_fragment u) (without_normal u page.normal) in
     record {
       is_read = (without_fragment u, is);
-      joins = λ r has. ap (joined base) (one_url (page_text u) r (without_fragment u) has is) ∙ whole_joins base u page;
+      joins = λ r has. ap (joined base) (one_url (text_without_fragment u) r (without_fragment u) has is) ∙ whole_joins base u page;
     }
 
 -- ---- a local path leads back to its site
@@ -186,7 +186,7 @@ local_back base u path page same some merged fine plain single =
     }
 
 -- the path itself
-path_back : (base u : Url) → IsPage u → same_site base u ≡ true → has_authority u.path ≡ false → LeadsBack base (u.path ++ led_by (63 ∷ []) u.query) u
+path_back : (base u : Url) → IsPage u → same_site base u ≡ true → begins_with_slashes u.path ≡ false → LeadsBack base (u.path ++ led_by (63 ∷ []) u.query) u
 path_back base u page same single =
     let root = slash_first u.path page.from_root in
     local_back base u u.path page same (not_empty u.path page.from_root)
@@ -195,7 +195,7 @@ path_back base u page same single =
     (ap (λ p. begins_with is_colon (onward ends_word p)) root.1)
     (λ rest e. two rest e) where
       two : (rest : List ℕ) → u.path ≡ 47 ∷ 47 ∷ rest → ⊥
-      two rest e = let wrong : true ≡ false = sym (ap has_authority e) ∙ single in cc
+      two rest e = let wrong : true ≡ false = sym (ap begins_with_slashes e) ∙ single in cc
 
 -- its last segment, in the same folder
 no_colon_first : (xs : List ℕ) → list_any is_colon xs ≡ false → list_any is_slash xs ≡ false → begins_with is_colon (onward ends_word xs) ≡ false
@@ -239,7 +239,7 @@ segment_back base u page same folder alone =
       two rest e = let wrong : true ≡ false = sym (ap (list_any is_slash) e) ∙ last_whole u.path in cc
 
 -- ---- the relative form leads back
-local_case : (base u : Url) → IsPage u → same_site base u ≡ true → has_authority u.path ≡ false → LeadsBack base (local_path base.path u.path ++ led_by (63 ∷ []) u.query) u
+local_case : (base u : Url) → IsPage u → same_site base u ≡ true → begins_with_slashes u.path ≡ false → LeadsBack base (local_path base.path u.path ++ led_by (63 ∷ []) u.query) u
 local_case base u page same single =
     elim (cases_Bool (same_folder base.path u.path && stands_alone (last_segment (segments u.path)))) [
       | inl short ↦ let tests = and_parts (same_folder base.path u.path) (stands_alone (last_segment (segments u.path))) short in
@@ -249,9 +249,9 @@ local_case base u page same single =
 
 pub leads_back : (base u : Url) → IsPage u → LeadsBack base (relative_form base u) u
 leads_back base u page =
-    let whole = page_text u in let local = local_path base.path u.path ++ led_by (63 ∷ []) u.query in
-    elim (cases_Bool (not (same_site base u) || has_authority u.path)) [
-      | inl far ↦ subst (λ text. LeadsBack base text u) (sym (cond-true (not (same_site base u) || has_authority u.path) (page_text u) (local_path base.path u.path ++ led_by (63 ∷ []) u.query) far)) (whole_back base u page)
-      | inr near ↦ let tests = or_parts (not (same_site base u)) (has_authority u.path) near in
-          subst (λ text. LeadsBack base text u) (sym (cond-false (not (same_site base u) || has_authority u.path) (page_text u) (local_path base.path u.path ++ led_by (63 ∷ []) u.query) near)) (local_case base u page (not-false (same_site base u) tests.0) tests.1)
+    let whole = text_without_fragment u in let local = local_path base.path u.path ++ led_by (63 ∷ []) u.query in
+    elim (cases_Bool (not (same_site base u) || begins_with_slashes u.path)) [
+      | inl far ↦ subst (λ text. LeadsBack base text u) (sym (cond-true (not (same_site base u) || begins_with_slashes u.path) (text_without_fragment u) (local_path base.path u.path ++ led_by (63 ∷ []) u.query) far)) (whole_back base u page)
+      | inr near ↦ let tests = or_parts (not (same_site base u)) (begins_with_slashes u.path) near in
+          subst (λ text. LeadsBack base text u) (sym (cond-false (not (same_site base u) || begins_with_slashes u.path) (text_without_fragment u) (local_path base.path u.path ++ led_by (63 ∷ []) u.query) near)) (local_case base u page (not-false (same_site base u) tests.0) tests.1)
     ]

@@ -9,7 +9,7 @@ use Rattle.wap_url.specs.Refusal.{HasBadChar, IsRefused}
 use Rattle.wap_url.specs.Characters.{is_hash, is_slash, is_colon, is_question, is_allowed, ends_scheme, ends_authority, is_scheme, is_host}
 use Rattle.wap_base.specs.Cuts.{until, onward, after_one, begins_with}
 use Rattle.wap_url.specs.Parts.{Parts, spelled, followed_by, led_by, authority, is_port, url_of, IsSplit, Fits, IsUrl, ends_word, may_be_scheme, may_be_host, may_be_port, may_be_path}
-use Rattle.wap_url.specs.Reading.{is_stop, front, fragment_of, has_bad_char, has_scheme, scheme_of, after_scheme, has_authority, authority_of, after_authority, host_in, port_in, tail_of, path_part, query_part, parts_with, parts_of, fits, fault_of, unless, url_at}
+use Rattle.wap_url.specs.Reading.{is_stop, front, fragment_of, has_bad_char, has_scheme, scheme_of, after_scheme, begins_with_slashes, authority_of, after_authority, host_in, port_in, tail_of, path_part, query_part, parts_with, parts_of, passes_if_there, fault_of, unless, url_at}
 use Rattle.wap_url.proofs.FrontLaws.{until-onward}
 use Rattle.wap_url.proofs.UntilLaws.{StopsAtOnce, all-weaker, all-front, all-back, all-both, until-none, onward-stops, led-onward}
 
@@ -28,7 +28,7 @@ front_spelled f = elim (cases_Bool (has_scheme f)) [
   | inr fails ↦ ap₂ (λ s rest. followed_by 58 s ++ rest) (cond-false (has_scheme f) (Some (until ends_scheme f)) None fails) (cond-false (has_scheme f) (drop 1 (onward ends_scheme f)) f fails)
 ]
 
-two_slashes : (r : List ℕ) → has_authority r ≡ true → 47 ∷ 47 ∷ drop 2 r ≡ r
+two_slashes : (r : List ℕ) → begins_with_slashes r ≡ true → 47 ∷ 47 ∷ drop 2 r ≡ r
 two_slashes [] holds = absurd (let e = holds in cc)
 two_slashes (c ∷ []) holds = absurd (let e = holds in cc)
 two_slashes (c ∷ d ∷ r) holds = let both = and_parts (is_slash c) (is_slash d) holds in ap₂ (λ a b. a ∷ b ∷ r) (sym (eqb-true c 47 both.0)) (sym (eqb-true d 47 both.1))
@@ -40,13 +40,13 @@ abbrev authority_part : Option (List ℕ) → List ℕ
 authority_part a = authority (option_map host_in a) (option_and_then port_in a)
 
 authority_spelled : (r : List ℕ) → authority_part (authority_of r) ++ after_authority r ≡ r
-authority_spelled r = elim (cases_Bool (has_authority r)) [
+authority_spelled r = elim (cases_Bool (begins_with_slashes r)) [
   | inl holds ↦
-      ap₂ (λ a rest. authority_part a ++ rest) (cond-true (has_authority r) (Some (until ends_authority (drop 2 r))) None holds) (cond-true (has_authority r) (onward ends_authority (drop 2 r)) r holds)
+      ap₂ (λ a rest. authority_part a ++ rest) (cond-true (begins_with_slashes r) (Some (until ends_authority (drop 2 r))) None holds) (cond-true (begins_with_slashes r) (onward ends_authority (drop 2 r)) r holds)
       ∙ ap (λ a. (47 ∷ 47 ∷ a) ++ onward ends_authority (drop 2 r)) (host_port (until ends_authority (drop 2 r)))
       ∙ ap (λ rest. 47 ∷ 47 ∷ rest) (until-onward ends_authority (drop 2 r))
       ∙ two_slashes r holds
-  | inr fails ↦ ap₂ (λ a rest. authority_part a ++ rest) (cond-false (has_authority r) (Some (until ends_authority (drop 2 r))) None fails) (cond-false (has_authority r) (onward ends_authority (drop 2 r)) r fails)
+  | inr fails ↦ ap₂ (λ a rest. authority_part a ++ rest) (cond-false (begins_with_slashes r) (Some (until ends_authority (drop 2 r))) None fails) (cond-false (begins_with_slashes r) (onward ends_authority (drop 2 r)) r fails)
 ]
 
 tail_spelled : (f : List ℕ) → path_part f ++ led_by (63 ∷ []) (query_part f) ≡ tail_of f
@@ -74,13 +74,13 @@ three true true false e = absurd (let f = e in cc)
 three true false c e = absurd (let f = e in cc)
 three false b c e = absurd (let f = e in cc)
 
-fits_some : (q : List ℕ → Bool) (part : Option (List ℕ)) → fits q part ≡ true → IfSome part (λ x. q x ≡ true)
+fits_some : (q : List ℕ → Bool) (part : Option (List ℕ)) → passes_if_there q part ≡ true → IfSome part (λ x. q x ≡ true)
 fits_some q None holds = tt
 fits_some q (Some x) holds = holds
 
 pub no_fault : (p : Parts) → fault_of p ≡ None → Fits p
 no_fault p none =
-    let all = three (fits is_scheme p.scheme) (fits is_host p.host) (fits is_port p.port) none in
+    let all = three (passes_if_there is_scheme p.scheme) (passes_if_there is_host p.host) (passes_if_there is_port p.port) none in
     record { scheme = fits_some is_scheme p.scheme all.0; host = fits_some is_host p.host all.1; port = fits_some is_port p.port all.2 }
 
 pub front_allowed : (t : List ℕ) → list_all is_allowed (front t) ≡ true
@@ -111,9 +111,9 @@ no_scheme_is f none = elim (cases_Bool (has_scheme f)) [
   | inr fails ↦ fails
 ]
 
-no_host_is : (r : List ℕ) → option_map host_in (authority_of r) ≡ None → has_authority r ≡ false
-no_host_is r none = elim (cases_Bool (has_authority r)) [
-  | inl holds ↦ absurd (let e : Some (host_in (until ends_authority (drop 2 r))) ≡ None = sym (ap (option_map host_in) (cond-true (has_authority r) (Some (until ends_authority (drop 2 r))) None holds)) ∙ none in cc)
+no_host_is : (r : List ℕ) → option_map host_in (authority_of r) ≡ None → begins_with_slashes r ≡ false
+no_host_is r none = elim (cases_Bool (begins_with_slashes r)) [
+  | inl holds ↦ absurd (let e : Some (host_in (until ends_authority (drop 2 r))) ≡ None = sym (ap (option_map host_in) (cond-true (begins_with_slashes r) (Some (until ends_authority (drop 2 r))) None holds)) ∙ none in cc)
   | inr fails ↦ fails
 ]
 
@@ -143,9 +143,9 @@ rooted_tail (c ∷ cs) stops = elim (cases_Bool (is_question c)) [
     | inr question ↦ absurd (let e : true ≡ false = sym question ∙ other in cc)
   ]
 
-no_two : (r : List ℕ) → has_authority r ≡ false → (rest : List ℕ) → until is_question r ≢ 47 ∷ 47 ∷ rest
+no_two : (r : List ℕ) → begins_with_slashes r ≡ false → (rest : List ℕ) → until is_question r ≢ 47 ∷ 47 ∷ rest
 no_two r none rest e =
-    let both : true ≡ false = ap has_authority (ap (λ xs. xs ++ onward is_question r) (sym e) ∙ until-onward is_question r) ∙ none in
+    let both : true ≡ false = ap begins_with_slashes (ap (λ xs. xs ++ onward is_question r) (sym e) ∙ until-onward is_question r) ∙ none in
     absurd cc
 
 -- the characters of scheme, host and port
@@ -161,13 +161,13 @@ abbrev OfAuthority : Option (List ℕ) → Type 0
 OfAuthority a = IfSome a (λ x. list_all may_be_port x ≡ true)
 
 authority_characters : (r : List ℕ) → list_all is_allowed r ≡ true → OfAuthority (authority_of r)
-authority_characters r all = elim (cases_Bool (has_authority r)) [
+authority_characters r all = elim (cases_Bool (begins_with_slashes r)) [
   | inl holds ↦
       let x = drop 2 r in
       let fine = all-back is_allowed (47 ∷ 47 ∷ []) (drop 2 r) (ap (list_all is_allowed) (two_slashes r holds) ∙ all) in
-      subst OfAuthority (sym (cond-true (has_authority r) (Some (until ends_authority (drop 2 r))) None holds))
+      subst OfAuthority (sym (cond-true (begins_with_slashes r) (Some (until ends_authority (drop 2 r))) None holds))
       (all-both is_allowed (λ c. not (ends_authority c)) (until ends_authority (drop 2 r)) (all-front is_allowed (until ends_authority (drop 2 r)) (onward ends_authority (drop 2 r)) (ap (list_all is_allowed) (until-onward ends_authority (drop 2 r)) ∙ fine)) (until-none ends_authority (drop 2 r)))
-  | inr fails ↦ subst OfAuthority (sym (cond-false (has_authority r) (Some (until ends_authority (drop 2 r))) None fails)) tt
+  | inr fails ↦ subst OfAuthority (sym (cond-false (begins_with_slashes r) (Some (until ends_authority (drop 2 r))) None fails)) tt
 ]
 
 host_characters : (a : Option (List ℕ)) → OfAuthority a → IfSome (option_map host_in a) (λ h. list_all may_be_host h ≡ true)
@@ -197,17 +197,17 @@ is_split t good =
       scheme = scheme_characters (front t) (front_allowed t);
       host = host_characters (authority_of (after_scheme (front t))) authority_fine;
       port = port_characters (authority_of (after_scheme (front t))) authority_fine;
-      port_has_host = λ e. ap (option_and_then port_in) (cond-false (has_authority (after_scheme (front t))) (Some (until ends_authority (drop 2 (after_scheme (front t))))) None (no_host_is (after_scheme (front t)) e));
+      port_has_host = λ e. ap (option_and_then port_in) (cond-false (begins_with_slashes (after_scheme (front t))) (Some (until ends_authority (drop 2 (after_scheme (front t))))) None (no_host_is (after_scheme (front t)) e));
       path = path_allowed (front t) (front_allowed t);
       query = query_allowed (front t) (front_allowed t);
       no_scheme = λ s h. let r : after_scheme (front t) ≡ front t = cond-false (has_scheme (front t)) (drop 1 (onward ends_scheme (front t))) (front t) (no_scheme_is (front t) s) in
-          ap (λ x. begins_with is_colon (onward ends_word (until is_question x))) (cond-false (has_authority (after_scheme (front t))) (onward ends_authority (drop 2 (after_scheme (front t)))) (after_scheme (front t)) (no_host_is (after_scheme (front t)) h) ∙ r)
+          ap (λ x. begins_with is_colon (onward ends_word (until is_question x))) (cond-false (begins_with_slashes (after_scheme (front t))) (onward ends_authority (drop 2 (after_scheme (front t)))) (after_scheme (front t)) (no_host_is (after_scheme (front t)) h) ∙ r)
           ∙ no_colon (front t) (no_scheme_is (front t) s);
-      rooted = λ some. elim (cases_Bool (has_authority (after_scheme (front t)))) [
-        | inl holds ↦ rooted_tail (tail_of (front t)) (subst (StopsAtOnce ends_authority) (sym (cond-true (has_authority (after_scheme (front t))) (onward ends_authority (drop 2 (after_scheme (front t)))) (after_scheme (front t)) holds)) (onward-stops ends_authority (drop 2 (after_scheme (front t)))))
-        | inr fails ↦ absurd (nothing (subst IsSome (ap (option_map host_in) (cond-false (has_authority (after_scheme (front t))) (Some (until ends_authority (drop 2 (after_scheme (front t))))) None fails)) some))
+      rooted = λ some. elim (cases_Bool (begins_with_slashes (after_scheme (front t)))) [
+        | inl holds ↦ rooted_tail (tail_of (front t)) (subst (StopsAtOnce ends_authority) (sym (cond-true (begins_with_slashes (after_scheme (front t))) (onward ends_authority (drop 2 (after_scheme (front t)))) (after_scheme (front t)) holds)) (onward-stops ends_authority (drop 2 (after_scheme (front t)))))
+        | inr fails ↦ absurd (nothing (subst IsSome (ap (option_map host_in) (cond-false (begins_with_slashes (after_scheme (front t))) (Some (until ends_authority (drop 2 (after_scheme (front t))))) None fails)) some))
       ];
-      no_host = λ h. subst (λ x. (rest : List ℕ) → until is_question x ≢ 47 ∷ 47 ∷ rest) (sym (cond-false (has_authority (after_scheme (front t))) (onward ends_authority (drop 2 (after_scheme (front t)))) (after_scheme (front t)) (no_host_is (after_scheme (front t)) h))) (no_two (after_scheme (front t)) (no_host_is (after_scheme (front t)) h));
+      no_host = λ h. subst (λ x. (rest : List ℕ) → until is_question x ≢ 47 ∷ 47 ∷ rest) (sym (cond-false (begins_with_slashes (after_scheme (front t))) (onward ends_authority (drop 2 (after_scheme (front t)))) (after_scheme (front t)) (no_host_is (after_scheme (front t)) h))) (no_two (after_scheme (front t)) (no_host_is (after_scheme (front t)) h));
     } where
       nothing : IsSome {T = List ℕ} None → ⊥
       nothing some = let e = some in cc
@@ -245,7 +245,7 @@ bad_char t bad =
     }
 
 refused_by : (t : List ℕ) (p : Parts) (fault : UrlFault) → IsSplit t p → fault_of p ≡ Some fault → IsRefused t fault
-refused_by t p (BadChar at) split is = absurd (never (fits is_scheme p.scheme) (fits is_host p.host) (fits is_port p.port) is) where
+refused_by t p (BadChar at) split is = absurd (never (passes_if_there is_scheme p.scheme) (passes_if_there is_host p.host) (passes_if_there is_port p.port) is) where
   never : (a b c : Bool) → cond (not a) (Some BadScheme) (cond (not b) (Some BadHost) (cond (not c) (Some BadPort) None)) ≡ Some (BadChar at) → ⊥
   never true true true e = let f = e in cc
   never true true false e = let f = e in cc
@@ -254,7 +254,7 @@ refused_by t p (BadChar at) split is = absurd (never (fits is_scheme p.scheme) (
 refused_by t p BadScheme split is = (p, split, is)
 refused_by t p BadHost split is = (p, split, is)
 refused_by t p BadPort split is = (p, split, is)
-refused_by t p NoMemory split is = absurd (never (fits is_scheme p.scheme) (fits is_host p.host) (fits is_port p.port) is) where
+refused_by t p NoMemory split is = absurd (never (passes_if_there is_scheme p.scheme) (passes_if_there is_host p.host) (passes_if_there is_port p.port) is) where
   never : (a b c : Bool) → cond (not a) (Some BadScheme) (cond (not b) (Some BadHost) (cond (not c) (Some BadPort) None)) ≡ Some NoMemory → ⊥
   never true true true e = let f = e in cc
   never true true false e = let f = e in cc

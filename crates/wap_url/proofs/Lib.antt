@@ -10,6 +10,7 @@ pub mod UntilLaws
 pub mod FoundLaws
 pub mod AgainLaws
 pub mod NormalLaws
+pub mod SliceLaws
 pub mod ReadLaws
 pub mod BackLaws
 pub mod PortLaws

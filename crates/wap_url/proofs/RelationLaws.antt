@@ -10,7 +10,7 @@ use Rattle.std.proofs.lemmas.Slice.Eq.{bytes_eq-Decides}
 use Rattle.std.proofs.lemmas.Str.{encode_ascii, encodes_same, encodes-chars}
 use Rattle.std.proofs.lemmas.Str.Pattern.{NoCharPasses-char, drop_at_char}
 use Rattle.wap_url.specs.Characters.{is_slash, is_colon}
-use Rattle.wap_url.specs.Reading.{has_authority}
+use Rattle.wap_url.specs.Reading.{begins_with_slashes}
 use Rattle.wap_url.specs.Segments.{segments, last_segment, all_but_last}
 use Rattle.wap_url.specs.Relative.{same_text, same_segments, same_folder, stands_alone}
 use Rattle.wap_base.proofs.Splits.{HasFirst, HasFirst-split, split-none}
@@ -128,29 +128,29 @@ alone_of_bytes bytes text =
     ∙ ap₂ (λ a b. not a && not b) (no_bytes (chars bytes)) (any-encodes 58 (lit< tt) (chars bytes))
 
 -- two slashes at the beginning, by bytes
-pub authority-encodes : (cs : List ℕ) → has_authority (encode_utf8_all cs) ≡ has_authority cs
+pub authority-encodes : (cs : List ℕ) → begins_with_slashes (encode_utf8_all cs) ≡ begins_with_slashes cs
 authority-encodes [] = refl
 authority-encodes (c ∷ cs) = elim (cases_Bool (is_slash c)) [
-  | inl slash ↦ ap (λ bs. has_authority (bs ++ encode_utf8_all cs)) (encode_ascii c (small (eqb-true c 47 slash))) ∙ second cs
+  | inl slash ↦ ap (λ bs. begins_with_slashes (bs ++ encode_utf8_all cs)) (encode_ascii c (small (eqb-true c 47 slash))) ∙ second cs
   | inr other ↦ not_slash (encode_utf8 c) (encode_utf8_all cs) (encode_some c) (none_inside 47 c (lit< tt) other) ∙ sym (not_first c cs other)
 ] where
   small : {b : ℕ} → b ≡ 47 → b < 128
   small e = omega arith
 
-  not_first : (b : ℕ) (bs : List ℕ) → is_slash b ≡ false → has_authority (b ∷ bs) ≡ false
+  not_first : (b : ℕ) (bs : List ℕ) → is_slash b ≡ false → begins_with_slashes (b ∷ bs) ≡ false
   not_first b [] none = refl
   not_first b (d ∷ bs) none = and_left (is_slash b) (is_slash d) none
 
-  not_slash : (bs more : List ℕ) → 0 < length bs → list_any is_slash bs ≡ false → has_authority (bs ++ more) ≡ false
+  not_slash : (bs more : List ℕ) → 0 < length bs → list_any is_slash bs ≡ false → begins_with_slashes (bs ++ more) ≡ false
   not_slash [] more some none = absurd (omega arith)
   not_slash (b ∷ bs) more some none = not_first b (bs ++ more) (Rattle.std.proofs.lemmas.Bool.or_parts (is_slash b) (list_any is_slash bs) none).0
 
-  second : (cs : List ℕ) → has_authority (c ∷ encode_utf8_all cs) ≡ has_authority (c ∷ cs)
+  second : (cs : List ℕ) → begins_with_slashes (c ∷ encode_utf8_all cs) ≡ begins_with_slashes (c ∷ cs)
   second [] = refl
   second (d ∷ cs) = elim (cases_Bool (is_slash d)) [
-    | inl slash ↦ ap (λ bs. has_authority (c ∷ (bs ++ encode_utf8_all cs))) (encode_ascii d (small (eqb-true d 47 slash)))
+    | inl slash ↦ ap (λ bs. begins_with_slashes (c ∷ (bs ++ encode_utf8_all cs))) (encode_ascii d (small (eqb-true d 47 slash)))
     | inr other ↦ after (encode_utf8 d) (encode_some d) (none_inside 47 d (lit< tt) other) ∙ sym (Rattle.std.proofs.lemmas.Bool.and_right (is_slash c) (is_slash d) other)
   ] where
-    after : (bs : List ℕ) → 0 < length bs → list_any is_slash bs ≡ false → has_authority (c ∷ (bs ++ encode_utf8_all cs)) ≡ false
+    after : (bs : List ℕ) → 0 < length bs → list_any is_slash bs ≡ false → begins_with_slashes (c ∷ (bs ++ encode_utf8_all cs)) ≡ false
     after [] some none = absurd (omega arith)
     after (b ∷ bs) some none = Rattle.std.proofs.lemmas.Bool.and_right (is_slash c) (is_slash b) (Rattle.std.proofs.lemmas.Bool.or_parts (is_slash b) (list_any is_slash bs) none).0

@@ -9,3 +9,4 @@ pub mod Joining
 pub mod Relative
 pub mod Escapes
 pub mod Access
+pub mod inside

@@ -27,8 +27,8 @@ abbrev pub printed : Url → List ℕ
 printed u = spelled (parts_for u)
 
 -- the same without the fragment
-abbrev pub page_text : Url → List ℕ
-page_text u = printed (without_fragment u)
+abbrev pub text_without_fragment : Url → List ℕ
+text_without_fragment u = printed (without_fragment u)
 
 -- a URL that can be read back from its text: the text is that of its parts, which fit, with scheme and host in lower case
 pub record IsNormal (u : Url) : Type 0 where

@@ -30,16 +30,16 @@ abbrev pub after_scheme : List ℕ → List ℕ
 after_scheme front = if has_scheme front then drop 1 (onward ends_scheme front) else front
 
 -- the rest begins with `//`
-abbrev pub has_authority : List ℕ → Bool
-has_authority [] = false
-has_authority (c ∷ []) = false
-has_authority (c ∷ d ∷ rest) = is_slash c && is_slash d
+abbrev pub begins_with_slashes : List ℕ → Bool
+begins_with_slashes [] = false
+begins_with_slashes (c ∷ []) = false
+begins_with_slashes (c ∷ d ∷ rest) = is_slash c && is_slash d
 
 abbrev pub authority_of : List ℕ → Option (List ℕ)
-authority_of rest = if has_authority rest then Some (until ends_authority (drop 2 rest)) else None
+authority_of rest = if begins_with_slashes rest then Some (until ends_authority (drop 2 rest)) else None
 
 abbrev pub after_authority : List ℕ → List ℕ
-after_authority rest = if has_authority rest then onward ends_authority (drop 2 rest) else rest
+after_authority rest = if begins_with_slashes rest then onward ends_authority (drop 2 rest) else rest
 
 -- the port is what follows the authority's first `:`
 abbrev pub host_in : List ℕ → List ℕ
@@ -83,15 +83,15 @@ abbrev pub has_bad_char : List ℕ → Bool
 has_bad_char text = begins_with (λ c. not (is_hash c)) (onward is_stop text)
 
 -- what is there passes
-abbrev pub fits : (List ℕ → Bool) → Option (List ℕ) → Bool
-fits p part = option_map_or p part true
+abbrev pub passes_if_there : (List ℕ → Bool) → Option (List ℕ) → Bool
+passes_if_there p part = option_map_or p part true
 
 -- the first fault of the parts
 abbrev pub fault_of : Parts → Option UrlFault
 fault_of p =
-    if not (fits is_scheme p.scheme) then Some BadScheme
-    else if not (fits is_host p.host) then Some BadHost
-    else if not (fits is_port p.port) then Some BadPort
+    if not (passes_if_there is_scheme p.scheme) then Some BadScheme
+    else if not (passes_if_there is_host p.host) then Some BadHost
+    else if not (passes_if_there is_port p.port) then Some BadPort
     else None
 
 abbrev pub unless : Option UrlFault → Url → Result Url UrlFault

@@ -6,8 +6,8 @@ use Rattle.wap_url.specs.declared.url.Url.{Url}
 use Rattle.wap_url.specs.Characters.{is_slash, is_colon}
 use Rattle.wap_base.specs.Cuts.{begins_with}
 use Rattle.wap_url.specs.Parts.{led_by, IsUrl}
-use Rattle.wap_url.specs.Reading.{has_authority}
-use Rattle.wap_url.specs.Printing.{page_text, without_fragment, IsNormal}
+use Rattle.wap_url.specs.Reading.{begins_with_slashes}
+use Rattle.wap_url.specs.Printing.{text_without_fragment, without_fragment, IsNormal}
 use Rattle.wap_url.specs.Segments.{segments, all_but_last, last_segment}
 use Rattle.wap_url.specs.Joining.{joined, is_dot_segment}
 use Rattle.wap_base.specs.Ascii.{question_mark}
@@ -50,7 +50,7 @@ local_path base path =
 
 abbrev pub relative_form : Url → Url → List ℕ
 relative_form base u =
-    if not (same_site base u) || has_authority u.path then page_text u
+    if not (same_site base u) || begins_with_slashes u.path then text_without_fragment u
     else local_path base.path u.path ++ led_by (question_mark ∷ []) u.query
 
 -- a URL as it is read, of a page: with scheme and host (as an http URL has), its path from the root and without dot segments

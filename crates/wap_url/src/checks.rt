@@ -6,19 +6,21 @@ ghost use Rattle.wap_base.specs.Cuts.{begins_with};
 ghost use Rattle.std.specs.Str.Parse.{digits_value};
 ghost use Rattle.wap_url.specs.Characters.{is_scheme, is_scheme_character, is_host, is_host_character};
 ghost use Rattle.wap_url.specs.Parts.{is_port};
-ghost use Rattle.wap_url.specs.Reading.{fault_of, parts_with};
+ghost use Rattle.wap_url.specs.Reading.{fault_of};
+ghost use Rattle.wap_url.specs.inside.Slices.{parts_in};
 
-use crate::{UrlFault, parts};
+use crate::UrlFault;
+use crate::parts::Slices;
 
 /// The first fault of what stands before the fragment, in the order of scheme, host and port.
-pub fn fault_in(front: &[u8]) -> Option<UrlFault>
-    ensures { result ≡ fault_of (parts_with front.now None) }
+pub fn fault_in(slices: &Slices<'_>) -> Option<UrlFault>
+    ensures { result ≡ fault_of (parts_in slices.now None) }
 {
-    if parts::scheme(front).is_some_and(|scheme| !is_scheme(scheme)) {
+    if slices.scheme.is_some_and(|scheme| !is_scheme(scheme)) {
         Some(UrlFault::BadScheme)
-    } else if parts::host(front).is_some_and(|host| !is_host(host)) {
+    } else if slices.host.is_some_and(|host| !is_host(host)) {
         Some(UrlFault::BadHost)
-    } else if parts::port(front).is_some_and(|port| !is_port(port)) {
+    } else if slices.port.is_some_and(|port| !is_port(port)) {
         Some(UrlFault::BadPort)
     } else {
         None

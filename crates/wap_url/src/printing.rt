@@ -2,7 +2,7 @@
 ghost use Rattle.std.specs.Prelude.{◌≡◌, ◌++◌, ◌∷◌, [], IfOk, OnOk, IsSome};
 ghost use Rattle.std.specs.Fmt.{decimal};
 ghost use Rattle.wap_url.specs.Parts.{followed_by, led_by, authority, IsUrl};
-ghost use Rattle.wap_url.specs.Printing.{printed, page_text, parts_for, named_port, named_page, ends_in_slash, name_for, IsNormal};
+ghost use Rattle.wap_url.specs.Printing.{printed, text_without_fragment, parts_for, named_port, named_page, ends_in_slash, name_for, IsNormal};
 ghost use Rattle.std.specs.Option.{option_map, unwrap_or};
 ghost use Rattle.wap_base.specs.Ascii.{colon};
 
@@ -17,14 +17,14 @@ pub fn print(alloc: Global, url: &Url) -> Result<Text, NoMemory>
     // What `Url::read` gives is read again from its text.
     ensures again { IsNormal url.now → IfOk result (λ text. IsUrl text url.now) }
 {
-    let mut text = page(alloc, url)?;
+    let mut text = text_without_fragment(alloc, url)?;
     add_led(&mut text, '#', &url.fragment)?;
     Ok(text)
 }
 
 /// The URL as text, without its fragment.
-pub fn page(alloc: Global, url: &Url) -> Result<Text, NoMemory>
-    ensures { IfOk result (λ text. text ≡ page_text url.now) }
+pub fn text_without_fragment(alloc: Global, url: &Url) -> Result<Text, NoMemory>
+    ensures { IfOk result (λ text. text ≡ text_without_fragment url.now) }
 {
     let mut text = Text::new(alloc);
     add_scheme(&mut text, &url.scheme)?;

@@ -1,16 +1,18 @@
 //! Reading a text as a URL.
-ghost use Rattle.std.specs.Prelude.{◌≡◌, ◌≢◌, not, false, true, None, IfOk, IfErr, Ok, Err};
-ghost use Rattle.std.specs.Option.{option_and_then};
+ghost use Rattle.std.specs.Prelude.{◌≡◌, ◌≢◌, not, false, true, None, IfOk, IfErr, Ok, Err, encode_utf8_all};
+ghost use Rattle.std.specs.Option.{option_and_then, option_copied};
 ghost use Rattle.wap_base.specs.Outcome.{Meets};
-ghost use Rattle.wap_base.specs.Cuts.{begins_with};
+ghost use Rattle.wap_base.specs.Cuts.{begins_with, until, onward};
 ghost use Rattle.wap_url.specs.Characters.{is_hash};
 ghost use Rattle.wap_url.specs.Parts.{url_of, port_number, is_port};
-ghost use Rattle.wap_url.specs.Reading.{url_at, has_bad_char, fragment_of, fault_of, fits, parts_with, port_of};
+ghost use Rattle.wap_url.specs.Reading.{url_at, is_stop, has_bad_char, fragment_of, fault_of, passes_if_there};
+ghost use Rattle.wap_url.specs.inside.Slices.{parts_in};
 
 use crate::checks::{fault_in, number};
 use crate::cut::{Cut, cut_at};
-use crate::texts::{lowered_part, text_of_part};
-use crate::{Url, UrlFault, parts};
+use crate::parts::{Slices, cut_parts};
+use crate::texts::{lowered_part, text_of, text_of_part};
+use crate::{Url, UrlFault};
 use std::alloc::Global;
 use wap_base::{NoMemory, Text};
 
@@ -40,11 +42,12 @@ impl Url {
         if is_bad(onward) {
             return Err(UrlFault::BadChar { at: front.len() });
         }
-        if let Some(fault) = fault_in(front) {
+        let slices = cut_parts(front);
+        if let Some(fault) = fault_in(&slices) {
             return Err(fault);
         }
-        let fragment = fragment(alloc, text)?;
-        Ok(url_of(alloc, front, fragment)?)
+        let fragment = fragment(alloc, text, front, onward)?;
+        Ok(url_of(alloc, &slices, fragment)?)
     }
 }
 
@@ -58,38 +61,40 @@ fn is_bad(onward: &[u8]) -> bool
     }
 }
 
-fn fragment(alloc: Global, text: &Text) -> Result<Option<Text>, NoMemory>
-    requires { has_bad_char text.now ≡ false }
+/// The fragment of a text whose front and what follows it are known.
+fn fragment(alloc: Global, text: &Text, front: &[u8], rest: &[u8]) -> Result<Option<Text>, NoMemory>
+    requires good { has_bad_char text.now ≡ false }
+    requires before { front.now ≡ until is_stop (encode_utf8_all text.now) }
+    requires after { rest.now ≡ onward is_stop (encode_utf8_all text.now) }
     ensures { IfOk result (λ fragment. fragment ≡ fragment_of text.now) }
 {
-    let whole = text.as_str();
-    let (front, onward) = cut_at(whole.as_bytes(), Cut::Fragment);
-    if onward.is_empty() {
+    if rest.is_empty() {
         return Ok(None);
     }
+    let whole = text.as_str();
     Ok(Some(Text::of(alloc, &whole[front.len() + 1..])?))
 }
 
 /// The URL of what stands before a fragment.
-fn url_of(alloc: Global, front: &[u8], fragment: Option<Text>) -> Result<Url, NoMemory>
-    requires { fault_of (parts_with front.now None) ≡ None }
-    ensures { IfOk result (λ url. url ≡ url_of (parts_with front.now fragment)) }
+fn url_of(alloc: Global, slices: &Slices<'_>, fragment: Option<Text>) -> Result<Url, NoMemory>
+    requires { fault_of (parts_in slices.now None) ≡ None }
+    ensures { IfOk result (λ url. url ≡ url_of (parts_in slices.now fragment)) }
 {
     Ok(Url {
-        scheme: lowered_part(alloc, parts::scheme(front))?,
-        host: lowered_part(alloc, parts::host(front))?,
-        port: port(front),
-        path: Text::from_latin1(alloc, parts::path(front))?,
-        query: text_of_part(alloc, parts::query(front))?,
+        scheme: lowered_part(alloc, slices.scheme)?,
+        host: lowered_part(alloc, slices.host)?,
+        port: port(slices),
+        path: text_of(alloc, slices.path)?,
+        query: text_of_part(alloc, slices.query)?,
         fragment,
     })
 }
 
-fn port(front: &[u8]) -> Option<u16>
-    requires { fault_of (parts_with front.now None) ≡ None }
-    ensures { result ≡ option_and_then port_number (port_of front.now) }
+fn port(slices: &Slices<'_>) -> Option<u16>
+    requires { fault_of (parts_in slices.now None) ≡ None }
+    ensures { result ≡ option_and_then port_number (option_copied slices.now.port) }
 {
-    port_of(parts::port(front)?)
+    port_of(slices.port?)
 }
 
 fn port_of(digits: &[u8]) -> Option<u16>

@@ -1,14 +1,14 @@
 //! A URL as seen from another.
 ghost use Rattle.std.specs.Prelude.{◌≡◌, IfOk, MatchOption, [], IsTrue, ◌↔◌};
 ghost use Rattle.std.specs.Str.{chars};
-ghost use Rattle.wap_url.specs.Reading.{has_authority};
+ghost use Rattle.wap_url.specs.Reading.{begins_with_slashes};
 ghost use Rattle.wap_url.specs.Segments.{segments, all_but_last, last_segment};
 ghost use Rattle.wap_url.specs.Relative.{relative_form, local_path, same_folder, same_site, stands_alone, same_text, IsPage, LeadsBack};
 ghost use Rattle.std.specs.Option.{option_copied};
 
 use crate::Url;
-use crate::parts::has_authority;
-use crate::printing::{add_led, page};
+use crate::parts::begins_with_slashes;
+use crate::printing::{add_led, text_without_fragment};
 use std::alloc::Global;
 use wap_base::{NoMemory, Text};
 
@@ -21,7 +21,7 @@ pub fn relative(alloc: Global, base: &Url, url: &Url) -> Result<Text, NoMemory>
     ensures back { IsPage url.now → IfOk result (λ text. LeadsBack base.now text url.now) }
 {
     if !is_same_site(base, url) || begins_with_two_slashes(&url.path) {
-        return page(alloc, url);
+        return text_without_fragment(alloc, url);
     }
     let mut text = local_path(alloc, &base.path, &url.path)?;
     add_led(&mut text, '?', &url.query)?;
@@ -35,9 +35,9 @@ fn is_same_site(base: &Url, url: &Url) -> bool
 }
 
 fn begins_with_two_slashes(path: &Text) -> bool
-    ensures { result ≡ has_authority path.now }
+    ensures { result ≡ begins_with_slashes path.now }
 {
-    has_authority(path.as_str().as_bytes())
+    begins_with_slashes(path.as_str().as_bytes())
 }
 
 fn local_path(alloc: Global, base: &Text, path: &Text) -> Result<Text, NoMemory>

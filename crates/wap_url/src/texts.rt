@@ -1,4 +1,4 @@
-//! Texts of bytes of US-ASCII.
+//! Texts of bytes.
 ghost use Rattle.std.specs.Prelude.{◌≡◌, IfOk, map};
 ghost use Rattle.std.specs.Char.{to_ascii_lowercase};
 ghost use Rattle.std.specs.Option.{option_copied, option_map};
@@ -17,11 +17,21 @@ pub fn lowered_text(alloc: Global, bytes: &[u8]) -> Result<Text, NoMemory>
     Ok(text)
 }
 
+/// The text whose characters have the numbers of these bytes. US-ASCII is copied as it is.
+pub fn text_of(alloc: Global, bytes: &[u8]) -> Result<Text, NoMemory>
+    ensures { IfOk result (λ text. text ≡ bytes.now) }
+{
+    if bytes.is_ascii() {
+        return Ok(Text::from_string(String::from_utf8_lossy(alloc, bytes)?));
+    }
+    Text::from_latin1(alloc, bytes)
+}
+
 pub fn text_of_part(alloc: Global, part: Option<&[u8]>) -> Result<Option<Text>, NoMemory>
     ensures { IfOk result (λ text. text ≡ option_copied part.entry) }
 {
     match part {
-        Some(bytes) => Ok(Some(Text::from_latin1(alloc, bytes)?)),
+        Some(bytes) => Ok(Some(text_of(alloc, bytes)?)),
         None => Ok(None),
     }
 }

@@ -20,7 +20,16 @@ pub fn integer_result(op: BinOp, left: i32, right: i32) -> Option<i32>
         BinOp::BitAnd => Some(left & right),
         BinOp::BitXor => Some(left ^ right),
         BinOp::BitOr => Some(left | right),
-        _ => None,
+        BinOp::Div
+        | BinOp::Lt
+        | BinOp::Le
+        | BinOp::Gt
+        | BinOp::Ge
+        | BinOp::Eq
+        | BinOp::Ne
+        | BinOp::And
+        | BinOp::Or
+        | BinOp::Comma => None,
     }
 }
 

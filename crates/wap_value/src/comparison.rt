@@ -1,8 +1,7 @@
 //! How two values are ordered.
 ghost use Rattle.std.specs.Prelude.{◌≡◌, IfOk};
 ghost use Rattle.std.specs.Ordering.{int_cmp};
-ghost use Rattle.wap_base.specs.Texts.{text_cmp};
-ghost use Rattle.wap_value.specs.Conversion.{integer_of, text_of};
+ghost use Rattle.wap_value.specs.Conversion.{integer_of};
 ghost use Rattle.wap_value.specs.Order.{order_of, of_both};
 ghost use Rattle.wap_value.specs.Binary.{test_of};
 
@@ -17,23 +16,19 @@ pub fn order(alloc: Global, left: &Value, right: &Value) -> Result<Option<Orderi
 {
     match (left, right) {
         (Value::Str(left), Value::Str(right)) => Ok(Some(left.cmp(right))),
-        (Value::Str(_), _) | (_, Value::Str(_)) => order_as_texts(alloc, left, right),
-        _ => Ok(order_as_integers(left, right)),
+        (Value::Str(left), _) => Ok(match to_str(alloc, right)? {
+            Some(right) => Some(left.cmp(&right)),
+            None => None,
+        }),
+        (_, Value::Str(right)) => Ok(match to_str(alloc, left)? {
+            Some(left) => Some(left.cmp(right)),
+            None => None,
+        }),
+        _ => Ok(order_of_integers(left, right)),
     }
 }
 
-fn order_as_texts(alloc: Global, left: &Value, right: &Value) -> Result<Option<Ordering>, NoMemory>
-    ensures { IfOk result (λ order. order ≡ of_both text_cmp (text_of left.now) (text_of right.now)) }
-{
-    let left = to_str(alloc, left)?;
-    let right = to_str(alloc, right)?;
-    Ok(match (left, right) {
-        (Some(left), Some(right)) => Some(left.cmp(&right)),
-        _ => None,
-    })
-}
-
-fn order_as_integers(left: &Value, right: &Value) -> Option<Ordering>
+fn order_of_integers(left: &Value, right: &Value) -> Option<Ordering>
     ensures { result ≡ of_both int_cmp (integer_of left.now) (integer_of right.now) }
 {
     match (to_int(left), to_int(right)) {
@@ -53,6 +48,20 @@ pub fn passes(op: BinOp, order: Ordering) -> bool
         BinOp::Ge => order.is_ge(),
         BinOp::Eq => order.is_eq(),
         BinOp::Ne => order.is_ne(),
-        _ => false,
+        BinOp::Mul
+        | BinOp::Div
+        | BinOp::IDiv
+        | BinOp::Rem
+        | BinOp::Add
+        | BinOp::Sub
+        | BinOp::Shl
+        | BinOp::Shr
+        | BinOp::UShr
+        | BinOp::BitAnd
+        | BinOp::BitXor
+        | BinOp::BitOr
+        | BinOp::And
+        | BinOp::Or
+        | BinOp::Comma => false,
     }
 }

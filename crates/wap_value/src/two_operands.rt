@@ -10,7 +10,7 @@ use crate::arithmetic::integer_result;
 use crate::comparison::{order, passes};
 use crate::concatenation::concatenation;
 use crate::one_operand::{of_boolean, of_integer};
-use crate::{BinOp, Value, ValueFault, to_int};
+use crate::{BinOp, Value, ValueFault, to_int, to_str};
 use std::alloc::Global;
 
 /// What an operator makes of two values, where a String has at most `string` bytes of UTF-8. `&&`,
@@ -53,7 +53,15 @@ fn sum(alloc: Global, left: &Value, right: &Value, string: u32) -> Result<Value,
     ensures { Meets ValueFault.NoMemory (λ value. value) result (kept_within string (sum_of left.now right.now)) }
 {
     match (left, right) {
-        (Value::Str(_), _) | (_, Value::Str(_)) => concatenation(alloc, left, right, string),
+        (Value::Str(left), Value::Str(right)) => concatenation(alloc, left, right, string),
+        (Value::Str(left), _) => match to_str(alloc, right)? {
+            Some(right) => concatenation(alloc, left, &right, string),
+            None => Ok(Value::Invalid),
+        },
+        (_, Value::Str(right)) => match to_str(alloc, left)? {
+            Some(left) => concatenation(alloc, &left, right, string),
+            None => Ok(Value::Invalid),
+        },
         _ => Ok(of_integers(BinOp::Add, left, right)),
     }
 }

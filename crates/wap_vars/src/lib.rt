@@ -1,11 +1,10 @@
-//! The variables of the browser: a map from names to texts with its limits, and the filling of values that
-//! refer to them.
+//! The variables of the browser: a map from names to texts with its limits, and the filling of
+//! values that refer to them. What both mean stands in `wap_filling`.
 #![tactic(auto)]
 
-mod fault;
 mod filling;
 pub mod laws;
 mod vars;
 
-pub use fault::VarFault;
-pub use vars::{TEXT_LIMIT, VAR_LIMIT, Vars};
+pub use vars::Vars;
+pub use wap_filling::{TEXT_LIMIT, VAR_LIMIT, VarFault};

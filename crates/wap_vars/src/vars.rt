@@ -4,20 +4,14 @@ ghost use Rattle.std.specs.Option.{option_copied};
 ghost use Rattle.wap_base.specs.Names.{is_name};
 ghost use Rattle.wap_base.specs.Outcome.{Meets};
 ghost use Rattle.wap_base.specs.Utf8.{utf8_len};
-ghost use Rattle.wap_vars.specs.Vars.{text_of, updated, removed, AreVars};
-ghost use Rattle.wap_vars.specs.Setting.{set_in};
+ghost use Rattle.wap_filling.specs.Variables.{text_of, updated, removed, AreVars};
+ghost use Rattle.wap_filling.specs.Setting.{set_in};
 
-use crate::VarFault;
 use std::alloc::Global;
 use std::collections::BTreeMap;
 use std::marker::Model;
 use wap_base::{Name, NoMemory, Text};
-
-/// How many variables are kept at most.
-pub const VAR_LIMIT: usize = 1024;
-
-/// How many bytes of UTF-8 a variable's text has at most.
-pub const TEXT_LIMIT: usize = 65_535;
+use wap_filling::{TEXT_LIMIT, VAR_LIMIT, VarFault};
 
 /// The variables of the browser (WAP-191, section 10.3). A contract sees the pairs of a name and its text, in
 /// ascending order of names.
@@ -32,7 +26,7 @@ impl Model for Vars {
 
     ghost Value = { List (List ℕ × List ℕ) };
 
-    ghost use Rattle.wap_vars.specs.Vars.{AreVars};
+    ghost use Rattle.wap_filling.specs.Variables.{AreVars};
 
     ghost view = { λ vars. vars.texts.entries };
 
@@ -99,6 +93,13 @@ impl Vars {
         ensures { self.new ≡ [] }
     {
         self.texts.clear();
+    }
+
+    /// The rules that all variables keep, for those who rest a proof on them. It does nothing.
+    pub fn keep_rules(&self)
+        ensures { AreVars self.now }
+    {
+        let _few = self.texts.len();
     }
 
     /// A copy of the variables, in ascending order of names.

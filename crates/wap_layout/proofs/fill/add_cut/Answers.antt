@@ -4,7 +4,7 @@ use Rattle.std.proofs.lemmas.Iterator.{YieldsList-from_chars}
 use Rattle.std.proofs.lemmas.Iterator.Consumers.{YieldsList-turn, YieldsList-end}
 use Rattle.std.proofs.lemmas.List.{length_push}
 use Rattle.wap_layout.proofs.Splitting.{drop-turn, drop-end}
-use Rattle.wap_layout.proofs.Cutting.{cut-full, cut-more, cut-end}
+use Rattle.wap_layout.proofs.Placing.{cut-full, cut-more, cut-end}
 use Rattle.wap_layout.proofs.fill.add_cut.Goals as goal
 use Rattle.wap_layout.proofs.fill.add_cut.Goals.{then-columns-width+in_ok-add, else-columns-width}
 
@@ -16,21 +16,21 @@ loop-character-preserved c =
     elim c.if-columns-width.branch [
       | then-columns-width+in_ok-add w ↦
           let starts = w.part-is ∙ w.new-part-then-columns-width.ensures in (
-            cut-full c.loop-character.parts c.if-columns-width.parts c.loop-character.part c.push.new.self _ _ c.in-Some.character c.args.width _ c.requires
-                (sym c.loop-character.invariant.1 ∙ w.if-columns-width.true) (w.parts-is ∙ w.in_ok-add.ensures.ok) (c.in_ok-push.ensures.ok ∙ ap (λ p. p ++ c.in-Some.character ∷ []) starts) turn c.loop-character.invariant.0,
+            λ more. cut-full c.loop-character.lines c.if-columns-width.lines c.loop-character.part c.push.new.self _ _ c.in-Some.character c.args.width more _ c.requires
+                (sym c.loop-character.invariant.1 ∙ w.if-columns-width.true) (w.lines-is ∙ w.in_ok-add.ensures.ok) (c.in_ok-push.ensures.ok ∙ ap (λ p. p ++ c.in-Some.character ∷ []) starts) turn (c.loop-character.invariant.0 more),
             omega (arith, w.columns-is, ap length starts),
             omega (arith, w.columns-is),
           )
       | else-columns-width w ↦ (
-        cut-more c.loop-character.parts c.if-columns-width.parts c.loop-character.part c.push.new.self _ _ c.in-Some.character c.args.width _
-            w.parts-is (c.in_ok-push.ensures.ok ∙ ap (λ p. p ++ c.in-Some.character ∷ []) w.part-is) turn c.loop-character.invariant.0,
+        λ more. cut-more c.loop-character.lines c.if-columns-width.lines c.loop-character.part c.push.new.self _ _ c.in-Some.character c.args.width more _
+            w.lines-is (c.in_ok-push.ensures.ok ∙ ap (λ p. p ++ c.in-Some.character ∷ []) w.part-is) turn (c.loop-character.invariant.0 more),
         omega (arith, w.columns-is, ap length w.part-is, c.loop-character.invariant.1),
         omega (arith, w.columns-is, c.loop-character.invariant.2, w.if-columns-width.false),
       )
     ]
 
 pub returns : goal.returns
-returns c =
+returns c = λ more.
     let t = YieldsList-end (YieldsList-from_chars c.args.word.now c.utf8.word cc) c.loop-character.yielded _ c.loop-character.yielded_by _ _ c.in-None.is c.next.ensures.steps in
-    cut-end c.loop-character.parts c.add-2.new.self c.loop-character.part _ c.args.width _ (omega (arith, c.loop-character.invariant.1, c.loop-character.invariant.2))
-    c.in_ok-add-2.ensures.ok (drop-end (chars c.args.word.now) c.loop-character.yielded (sym t.1)) c.loop-character.invariant.0
+    cut-end c.loop-character.lines c.loop-character.part _ c.args.width more _ (omega (arith, c.loop-character.invariant.1, c.loop-character.invariant.2))
+    (drop-end (chars c.args.word.now) c.loop-character.yielded (sym t.1)) (c.loop-character.invariant.0 more)

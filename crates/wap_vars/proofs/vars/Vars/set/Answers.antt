@@ -2,8 +2,8 @@ use Rattle.std.proofs.Common.{◌≡◌, ◌≤◌, ◌∙◌, ap, sym, subst, t
 use Rattle.std.specs.Option.{is_some}
 use Rattle.wap_base.specs.Names.{is_name}
 use Rattle.wap_base.specs.Utf8.{utf8_len}
-use Rattle.wap_vars.specs.declared.vars.TheConstants.{VAR_LIMIT, TEXT_LIMIT}
-use Rattle.wap_vars.specs.Vars.{text_of}
+use Rattle.wap_filling.specs.declared.limits.TheConstants.{VAR_LIMIT, TEXT_LIMIT}
+use Rattle.wap_filling.specs.Variables.{text_of}
 use Rattle.wap_vars.proofs.TextLaws.{lookup_by_order, other_place, none_found}
 use Rattle.wap_vars.proofs.SetLaws.{set_ok, set_full, set_seen, vars_updated}
 use Rattle.wap_vars.proofs.vars.Vars.set.Goals as goal

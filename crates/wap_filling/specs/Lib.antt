@@ -1,3 +1,3 @@
-pub mod Vars
+pub mod Variables
 pub mod Setting
 pub mod Filling
