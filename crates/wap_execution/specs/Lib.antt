@@ -1,0 +1,5 @@
+pub mod Actions
+pub mod Frames
+pub mod Effects
+pub mod Outcomes
+pub mod Running
