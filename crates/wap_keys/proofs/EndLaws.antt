@@ -1,6 +1,6 @@
 -- How often a source has told its end, call by call.
-use Rattle.std.proofs.Common.{◌≡◌, ◌≢◌, ℕ, Bool, true, false, cond, Option, [], Result, Ok, Err, refl, sym, ap, ◌∙◌, inl, inr}
-use Rattle.std.specs.Prelude.{IfOk, OnOk, OnErr}
+use Rattle.std.proofs.Common.{◌≡◌, ◌≢◌, ℕ, Bool, true, false, cond, [], Result, Ok, Err, sym, ap, ◌∙◌, inl, inr}
+use Rattle.std.specs.Prelude.{IfOk, OnOk}
 use Rattle.wap_base.specs.declared.fault.NoMemory.{NoMemory}
 use Rattle.wap_base.specs.Count.{raised}
 use Rattle.wap_input.specs.declared.key.Key.{Key}
@@ -8,7 +8,6 @@ use Rattle.wap_keys.specs.declared.ending.Ending.{Ending}
 use Rattle.wap_keys.specs.declared.ending.Ending.TheVariants.{ReadFault}
 use Rattle.wap_keys.specs.declared.ending.Next.{Next}
 use Rattle.wap_keys.specs.declared.ending.Next.TheVariants as next
-use Rattle.wap_keys.specs.declared.reader.More.{More}
 use Rattle.wap_keys.specs.declared.reader.More.TheVariants as more
 use Rattle.wap_keys.specs.Read.{AtMostOnce}
 use Rattle.wap_keys.specs.Reading.{Reading, ends_told, KeepsEnds, GivesUpEnds}

@@ -4,11 +4,12 @@ use Rattle.std.specs.Prelude.{nat_lt}
 use Rattle.std.specs.Str.{is_utf8}
 use Rattle.wap_base.specs.Outcome.{◌>>=◌}
 use Rattle.wap_input.specs.declared.key.Key.{Key}
+use Rattle.wap_keys.specs.declared.limits.TheConstants.{LINE_LIMIT}
 use Rattle.wap_keys.specs.declared.fault.KeyFault.{KeyFault}
 use Rattle.wap_keys.specs.declared.fault.KeyFault.TheVariants.{TooLong, NotText, NoMemory}
 use Rattle.wap_keys.specs.declared.word.Word.{Word}
 use Rattle.wap_keys.specs.Decimal.{decimal_of}
-use Rattle.wap_keys.specs.Forms.{Form, nothing, text, text_or_none, number, form_of, number_of, number_in, key_by, key_of_word, word_named, front_of, rest_of, line_limit, key_at}
+use Rattle.wap_keys.specs.Forms.{Form, nothing, text, text_or_none, number, form_of, number_of, number_in, key_by, key_of_word, word_named, front_of, rest_of, key_at}
 
 number_wants_none : (n : Option ℕ) → number_of n ≡ Err NoMemory → ⊥
 number_wants_none None e = cc
@@ -48,4 +49,4 @@ line_wants_none line false false e = cc
 
 pub key_wants_none : (line : List ℕ) → key_at line ≡ Err NoMemory → ⊥
 unfolding key_at
-key_wants_none line e = line_wants_none line (nat_lt line_limit (length line)) (is_utf8 line) e
+key_wants_none line e = line_wants_none line (nat_lt LINE_LIMIT (length line)) (is_utf8 line) e

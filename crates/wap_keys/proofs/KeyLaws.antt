@@ -1,35 +1,36 @@
 -- What a line says, by its length and its text.
-use Rattle.std.proofs.Common.{◌≡◌, ℕ, ◌<◌, ◌≤◌, Bool, true, false, cond, List, length, Result, Ok, Err, refl, sym, ap, subst, ◌∙◌}
+use Rattle.std.proofs.Common.{◌≡◌, ℕ, ◌<◌, ◌≤◌, Bool, true, false, cond, List, length, Result, Err, refl, sym, ap, subst, ◌∙◌}
 use Rattle.std.specs.Str.{IsUtf8, is_utf8}
 use Rattle.std.proofs.lemmas.Bool.{lt-ltb, le-ltb}
 use Rattle.std.proofs.lemmas.Str.{is_utf8-from_IsUtf8, IsUtf8-from_is_utf8}
 use Rattle.wap_base.specs.Outcome.{Meets}
 use Rattle.wap_input.specs.declared.key.Key.{Key}
+use Rattle.wap_keys.specs.declared.limits.TheConstants.{LINE_LIMIT}
 use Rattle.wap_keys.specs.declared.fault.KeyFault.{KeyFault}
 use Rattle.wap_keys.specs.declared.fault.KeyFault.TheVariants.{TooLong, NotText, NoMemory}
-use Rattle.wap_keys.specs.Forms.{line_limit, front_of, rest_of, word_named, key_of_word, key_at}
+use Rattle.wap_keys.specs.Forms.{front_of, rest_of, word_named, key_of_word, key_at}
 
 abbrev said : List ℕ → Result Key KeyFault
 said line = key_of_word (word_named (front_of line)) (rest_of line)
 
-pub long_key : (line : List ℕ) → line_limit < length line → key_at line ≡ Err TooLong
+pub long_key : (line : List ℕ) → LINE_LIMIT < length line → key_at line ≡ Err TooLong
 unfolding key_at
-long_key line long = ap (λ (b : Bool). cond b (Err TooLong) (cond (is_utf8 line) (said line) (Err NotText))) (lt-ltb line_limit (length line) long)
+long_key line long = ap (λ (b : Bool). cond b (Err TooLong) (cond (is_utf8 line) (said line) (Err NotText))) (lt-ltb LINE_LIMIT (length line) long)
 
-short_key : (line : List ℕ) → length line ≤ line_limit → key_at line ≡ cond (is_utf8 line) (said line) (Err NotText)
+short_key : (line : List ℕ) → length line ≤ LINE_LIMIT → key_at line ≡ cond (is_utf8 line) (said line) (Err NotText)
 unfolding key_at
-short_key line short = ap (λ (b : Bool). cond b (Err TooLong) (cond (is_utf8 line) (said line) (Err NotText))) (le-ltb line_limit (length line) short)
+short_key line short = ap (λ (b : Bool). cond b (Err TooLong) (cond (is_utf8 line) (said line) (Err NotText))) (le-ltb LINE_LIMIT (length line) short)
 
 no_text : (line : List ℕ) (b : Bool) → is_utf8 line ≡ b → ¬ (IsUtf8 line) → b ≡ false
 no_text line true is none = absurd (none (IsUtf8-from_is_utf8 line is))
 no_text line false is none = refl
 
-pub bad_text : (line : List ℕ) → length line ≤ line_limit → ¬ (IsUtf8 line) → key_at line ≡ Err NotText
+pub bad_text : (line : List ℕ) → length line ≤ LINE_LIMIT → ¬ (IsUtf8 line) → key_at line ≡ Err NotText
 bad_text line short none = short_key line short ∙ ap (λ (b : Bool). cond b (said line) (Err NotText)) (no_text line (is_utf8 line) refl none)
 
-pub good_text : (line : List ℕ) → length line ≤ line_limit → IsUtf8 line → key_at line ≡ said line
+pub good_text : (line : List ℕ) → length line ≤ LINE_LIMIT → IsUtf8 line → key_at line ≡ said line
 good_text line short text = short_key line short ∙ ap (λ (b : Bool). cond b (said line) (Err NotText)) (is_utf8-from_IsUtf8 line text)
 
-pub text_key : (result : Result Key KeyFault) (line text : List ℕ) → length line ≤ line_limit → text ≡ line → IsUtf8 line → Meets NoMemory (λ (key : Key). key) result (said text) → Meets NoMemory (λ (key : Key). key) result (key_at line)
+pub text_key : (result : Result Key KeyFault) (line text : List ℕ) → length line ≤ LINE_LIMIT → text ≡ line → IsUtf8 line → Meets NoMemory (λ (key : Key). key) result (said text) → Meets NoMemory (λ (key : Key). key) result (key_at line)
 text_key result line text short same utf8 meets =
     subst (λ (reading : Result Key KeyFault). Meets NoMemory (λ (key : Key). key) result reading) (ap said same ∙ sym (good_text line short utf8)) meets

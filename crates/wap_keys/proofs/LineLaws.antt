@@ -1,14 +1,14 @@
 -- Lines at their ends, and what they say.
-use Rattle.std.proofs.Common.{◌≡◌, ◌≢◌, ℕ, ◌+◌, ◌<◌, ◌≤◌, suc, Bool, true, false, cond, List, [], ◌∷◌, ◌++◌, length, Option, Some, None, Result, Ok, Err, refl, sym, ap, ◌∙◌, append_assoc, arith}
+use Rattle.std.proofs.Common.{◌≡◌, ℕ, ◌+◌, ◌<◌, ◌≤◌, suc, Bool, true, false, cond, List, [], ◌∷◌, ◌++◌, length, Option, None, Result, Ok, Err, refl, ap, ◌∙◌, arith}
 use Rattle.std.specs.Prelude.{◌==◌, not, ◌&&◌, ◌||◌}
-use Rattle.std.specs.List.{list_all}
 use Rattle.std.proofs.lemmas.Bool.{lt-ltb, le-ltb}
 use Rattle.wap_input.specs.declared.key.Key.{Key}
+use Rattle.wap_keys.specs.declared.limits.TheConstants.{LINE_LIMIT}
 use Rattle.wap_keys.specs.declared.fault.KeyFault.{KeyFault}
 use Rattle.wap_keys.specs.declared.fault.KeyFault.TheVariants.{TooLong, NoMemory}
 use Rattle.wap_keys.specs.declared.ending.Ending.{Ending}
 use Rattle.wap_keys.specs.declared.ending.Ending.TheVariants.{End, BadKey}
-use Rattle.wap_keys.specs.Forms.{line_limit, key_at}
+use Rattle.wap_keys.specs.Forms.{key_at}
 use Rattle.wap_keys.specs.Lines.{Line, Keys, led, lines_of, without_return, content, some_key, content_key, line_key, is_end, key_before, keys_from}
 use Rattle.wap_keys.specs.inside.Taking.{is_unended}
 use Rattle.wap_keys.proofs.FormLaws.{key_wants_none}
@@ -71,46 +71,46 @@ first_line c (d ∷ ds) rest all =
 abbrev refused : ℕ → Keys
 refused number = record { keys = []; ending = BadKey number TooLong }
 
-long_line : (ending : Ending) (number count : ℕ) (lines : List Line) → line_limit < count → Begins count lines → keys_from ending number lines ≡ refused number
+long_line : (ending : Ending) (number count : ℕ) (lines : List Line) → LINE_LIMIT < count → Begins count lines → keys_from ending number lines ≡ refused number
 long_line ending number count lines many (line, more, is, long) =
     ap (keys_from ending number) is
     ∙ ap (λ (b : Bool). key_before number (cond b (Err TooLong) (cond (line.ended || is_end ending) (content_key (content line)) (Ok None))) (keys_from ending (number + 1) more))
-    (lt-ltb line_limit (length line.bytes) (omega (arith, many, long)))
+    (lt-ltb LINE_LIMIT (length line.bytes) (omega (arith, many, long)))
 
-pub too_long : (ending : Ending) (number : ℕ) (begun rest : List ℕ) → is_unended begun ≡ true → line_limit < length begun → keys_from ending number (lines_of (begun ++ rest)) ≡ refused number
+pub too_long : (ending : Ending) (number : ℕ) (begun rest : List ℕ) → is_unended begun ≡ true → LINE_LIMIT < length begun → keys_from ending number (lines_of (begun ++ rest)) ≡ refused number
 too_long ending number [] rest all many = absurd (omega (arith, many))
 too_long ending number (c ∷ cs) rest all many = long_line ending number (length (c ∷ cs)) (lines_of ((c ∷ cs) ++ rest)) many (first_line c cs rest all)
 
 -- ---- lines that aren't too long
 
-short_key : (ending : Ending) (bytes : List ℕ) (ended : Bool) → length bytes ≤ line_limit
+short_key : (ending : Ending) (bytes : List ℕ) (ended : Bool) → length bytes ≤ LINE_LIMIT
     → line_key ending (record { bytes = bytes; ended = ended }) ≡ cond (ended || is_end ending) (content_key (content (record { bytes = bytes; ended = ended }))) (Ok None)
 short_key ending bytes ended few =
-    ap (λ (b : Bool). cond b (Err TooLong) (cond (ended || is_end ending) (content_key (content (record { bytes = bytes; ended = ended }))) (Ok None))) (le-ltb line_limit (length bytes) few)
+    ap (λ (b : Bool). cond b (Err TooLong) (cond (ended || is_end ending) (content_key (content (record { bytes = bytes; ended = ended }))) (Ok None))) (le-ltb LINE_LIMIT (length bytes) few)
 
 -- what a whole line says, before what follows it
-pub line_before : (ending : Ending) (number : ℕ) (line rest : List ℕ) → is_unended line ≡ true → length line ≤ line_limit
+pub line_before : (ending : Ending) (number : ℕ) (line rest : List ℕ) → is_unended line ≡ true → length line ≤ LINE_LIMIT
     → keys_from ending number (lines_of (line ++ 10 ∷ rest)) ≡ key_before number (content_key (without_return line)) (keys_from ending (number + 1) (lines_of rest))
 line_before ending number line rest all few =
     ap (keys_from ending number) (ended_line line rest all)
     ∙ ap (λ (key : Result (Option Key) KeyFault). key_before number key (keys_from ending (number + 1) (lines_of rest))) (short_key ending line true few)
 
 -- a line that is cut off says nothing
-cut_by : (ending : Ending) (number : ℕ) (line : List ℕ) → is_end ending ≡ false → length line ≤ line_limit → keys_from ending number (last_line line) ≡ record { keys = []; ending = ending }
+cut_by : (ending : Ending) (number : ℕ) (line : List ℕ) → is_end ending ≡ false → length line ≤ LINE_LIMIT → keys_from ending number (last_line line) ≡ record { keys = []; ending = ending }
 cut_by ending number [] cut few = refl
 cut_by ending number (c ∷ cs) cut few =
     ap (λ (key : Result (Option Key) KeyFault). key_before number key (record { keys = []; ending = ending })) (short_key ending (c ∷ cs) false few)
     ∙ ap (λ (b : Bool). key_before number (cond b (content_key (c ∷ cs)) (Ok None)) (record { keys = []; ending = ending })) cut
 
-pub cut_line : (ending : Ending) (number : ℕ) (line : List ℕ) → is_end ending ≡ false → is_unended line ≡ true → length line ≤ line_limit → keys_from ending number (lines_of line) ≡ record { keys = []; ending = ending }
+pub cut_line : (ending : Ending) (number : ℕ) (line : List ℕ) → is_end ending ≡ false → is_unended line ≡ true → length line ≤ LINE_LIMIT → keys_from ending number (lines_of line) ≡ record { keys = []; ending = ending }
 cut_line ending number line cut all few = ap (keys_from ending number) (unended_line line all) ∙ cut_by ending number line cut few
 
 -- the last line says its key at the end
-last_by : (number : ℕ) (line : List ℕ) → length line ≤ line_limit → keys_from End number (last_line line) ≡ key_before number (content_key line) (record { keys = []; ending = End })
+last_by : (number : ℕ) (line : List ℕ) → length line ≤ LINE_LIMIT → keys_from End number (last_line line) ≡ key_before number (content_key line) (record { keys = []; ending = End })
 last_by number [] few = refl
 last_by number (c ∷ cs) few = ap (λ (key : Result (Option Key) KeyFault). key_before number key (record { keys = []; ending = End })) (short_key End (c ∷ cs) false few)
 
-pub last_line_says : (number : ℕ) (line : List ℕ) → is_unended line ≡ true → length line ≤ line_limit → keys_from End number (lines_of line) ≡ key_before number (content_key line) (record { keys = []; ending = End })
+pub last_line_says : (number : ℕ) (line : List ℕ) → is_unended line ≡ true → length line ≤ LINE_LIMIT → keys_from End number (lines_of line) ≡ key_before number (content_key line) (record { keys = []; ending = End })
 last_line_says number line all few = ap (keys_from End number) (unended_line line all) ∙ last_by number line few
 
 -- ---- no fault of a line is want of memory

@@ -1,5 +1,5 @@
 -- A line is taken from a reader.
-use Rattle.std.proofs.Common.{◌≡◌, ℕ, ◌+◌, ◌<◌, ◌≤◌, Bool, true, List, [], ◌∷◌, ◌++◌, length, take, drop, Option, Some, None, Result, Ok, Err, refl, sym, ap, subst, ◌∙◌, append_assoc, arith}
+use Rattle.std.proofs.Common.{◌≡◌, ℕ, ◌+◌, ◌<◌, Bool, true, List, [], ◌∷◌, ◌++◌, length, take, drop, Option, Some, None, Result, Ok, Err, refl, sym, ap, subst, ◌∙◌, append_assoc, arith}
 use Rattle.std.specs.Prelude.{◌==◌, not, ◌&&◌}
 use Rattle.std.proofs.lemmas.List.{length-append, drop-drop}
 use Rattle.std.proofs.lemmas.List.Folds.{list_all-append}
@@ -10,8 +10,7 @@ use Rattle.wap_keys.specs.declared.front.Front.TheVariants as front
 use Rattle.wap_keys.specs.declared.line.Said.{Said}
 use Rattle.wap_keys.specs.declared.ending.Ending.{Ending}
 use Rattle.wap_keys.specs.declared.ending.Ending.TheVariants.{BadKey}
-use Rattle.wap_keys.specs.Forms.{line_limit}
-use Rattle.wap_keys.specs.Lines.{Keys, lines_of, keys_from, key_before, without_return, content_key}
+use Rattle.wap_keys.specs.Lines.{lines_of, keys_from, key_before, without_return, content_key}
 use Rattle.wap_keys.specs.Reading.{Reading, said_yet}
 use Rattle.wap_keys.specs.inside.Taking.{is_unended, said_of, TakesFront, Advances, TakesSaid}
 use Rattle.wap_keys.proofs.LineLaws.{line_before, too_long, content_wants_none}

@@ -8,11 +8,11 @@ use Rattle.wap_base.proofs.Choices.{some_same}
 use Rattle.std.proofs.lemmas.List.{append-nil, length-append}
 use Rattle.wap_base.specs.Transfer.{TakesFrom}
 use Rattle.wap_input.specs.declared.key.Key.{Key}
+use Rattle.wap_keys.specs.declared.limits.TheConstants.{KEYS_LIMIT, LINE_LIMIT, PIECE_LIMIT}
 use Rattle.wap_keys.specs.declared.ending.Ending.{Ending}
 use Rattle.wap_keys.specs.declared.ending.Ending.TheVariants.{End, TooManyKeys, ReadFault}
-use Rattle.wap_keys.specs.Forms.{line_limit}
-use Rattle.wap_keys.specs.Lines.{Keys, is_end, lines_of, keys_from, keys_at, keys_of, limit}
-use Rattle.wap_keys.specs.Read.{AreFirst, IsPrompt, HasGiven, keys_among, ending_before, piece_limit}
+use Rattle.wap_keys.specs.Lines.{Keys, is_end, lines_of, keys_from, keys_at, keys_of}
+use Rattle.wap_keys.specs.Read.{AreFirst, IsPrompt, HasGiven, keys_among, ending_before}
 use Rattle.wap_keys.specs.Reading.{Reading, behind_keys, said_yet, said_then, HasRead, GivesUp}
 use Rattle.wap_keys.specs.inside.Taking.{is_unended}
 use Rattle.wap_keys.proofs.LineLaws.{cut_line}
@@ -66,7 +66,7 @@ said_open start left taken keys reader read goes_on ending rest =
     no_both over = absurd cc
 
 -- a line that is only begun says nothing
-pub cut_open : (start left : Option (List ℕ)) (taken : List ℕ) (keys : List Key) (reader : Reading) → HasRead start left taken keys reader → reader.over ≡ false → is_unended reader.unread ≡ true → length reader.unread ≤ line_limit
+pub cut_open : (start left : Option (List ℕ)) (taken : List ℕ) (keys : List Key) (reader : Reading) → HasRead start left taken keys reader → reader.over ≡ false → is_unended reader.unread ≡ true → length reader.unread ≤ LINE_LIMIT
     → (ending : Ending) → is_end ending ≡ false → keys_at ending (taken ++ []) ≡ record { keys = keys; ending = ending }
 cut_open start left taken keys reader read goes_on all short ending cut =
     said_open start left taken keys reader read goes_on ending []
@@ -77,16 +77,16 @@ cut_open start left taken keys reader read goes_on all short ending cut =
 -- ---- what was given
 
 abbrev pub ending_past : List ℕ → Ending
-ending_past bytes = cond (nat_lt limit (length bytes)) TooManyKeys End
+ending_past bytes = cond (nat_lt KEYS_LIMIT (length bytes)) TooManyKeys End
 
 pub take_none : (n : ℕ) → take {A = ℕ} n [] ≡ []
 take_none zero = refl
 take_none (suc n) = refl
 
-pub take_past : (front rest : List ℕ) → length front ≤ limit → take limit (front ++ rest) ≡ front ++ take (limit - length front) rest
+pub take_past : (front rest : List ℕ) → length front ≤ KEYS_LIMIT → take KEYS_LIMIT (front ++ rest) ≡ front ++ take (KEYS_LIMIT - length front) rest
 take_past front rest few =
-    let n = limit - length front in
-    let all : limit ≡ length front + n = omega (arith, few) in
+    let n = KEYS_LIMIT - length front in
+    let all : KEYS_LIMIT ≡ length front + n = omega (arith, few) in
     ap (λ (count : ℕ). take count (front ++ rest)) all ∙ take-append-add front rest n
 
 pub no_bytes : (bytes : List ℕ) → Some bytes ≡ None → ⊥
@@ -101,23 +101,23 @@ first_by start (Some rest) taken keys reader read = (
 )
 
 -- of all bytes those up to the limit count
-pub all_by : (taken rest : List ℕ) → length taken ≤ limit → keys_of (taken ++ rest) ≡ keys_at (ending_past (taken ++ rest)) (taken ++ take (limit - length taken) rest)
+pub all_by : (taken rest : List ℕ) → length taken ≤ KEYS_LIMIT → keys_of (taken ++ rest) ≡ keys_at (ending_past (taken ++ rest)) (taken ++ take (KEYS_LIMIT - length taken) rest)
 unfolding keys_of
 all_by taken rest few = ap (keys_at (ending_past (taken ++ rest))) (take_past taken rest few)
 
-pub none_follows : (taken rest : List ℕ) → length taken ≤ limit → rest ≡ [] → (ending_past (taken ++ rest) ≡ End) × (take (limit - length taken) rest ≡ [])
+pub none_follows : (taken rest : List ℕ) → length taken ≤ KEYS_LIMIT → rest ≡ [] → (ending_past (taken ++ rest) ≡ End) × (take (KEYS_LIMIT - length taken) rest ≡ [])
 none_follows taken rest few none = (
-  ap (λ (l : List ℕ). ending_past (taken ++ l)) none ∙ ap (λ (b : Bool). cond b TooManyKeys End) (le-ltb limit (length (taken ++ [])) (omega (arith, few, length-append taken []))),
-  ap (take (limit - length taken)) none ∙ take_none (limit - length taken),
+  ap (λ (l : List ℕ). ending_past (taken ++ l)) none ∙ ap (λ (b : Bool). cond b TooManyKeys End) (le-ltb KEYS_LIMIT (length (taken ++ [])) (omega (arith, few, length-append taken []))),
+  ap (take (KEYS_LIMIT - length taken)) none ∙ take_none (KEYS_LIMIT - length taken),
 )
 
 of_all_by : (start left : Option (List ℕ)) (taken : List ℕ) (keys : List Key) (reader : Reading) → HasRead start left taken keys reader → IfSome start (λ bytes. AreFirst keys (keys_of bytes).keys)
 of_all_by None left taken keys reader read = tt
 of_all_by (Some bytes) None taken keys reader read = absurd (no_bytes bytes read.takes)
 of_all_by (Some bytes) (Some rest) taken keys reader read =
-    let few : length taken ≤ limit = omega (arith, read.counted, read.few) in
+    let few : length taken ≤ KEYS_LIMIT = omega (arith, read.counted, read.few) in
     let ending = ending_past (taken ++ rest) in
-    let more = take (limit - length taken) rest in (
+    let more = take (KEYS_LIMIT - length taken) rest in (
       (said_then reader ending more).keys,
       ap (λ (l : List ℕ). (keys_of l).keys) (some_same bytes (taken ++ rest) read.takes)
           ∙ ap (λ (all : Keys). all.keys) (all_by taken rest few)
@@ -140,7 +140,7 @@ given_first start left (Some rest) taken piece keys reader read goes_on =
     let ending = ending_before rest in
     ((said_yet reader ending piece).keys, ap (λ (all : Keys). all.keys) (said_open start left taken keys reader read goes_on ending piece))
 
-pub next_prompt : (start left : Option (List ℕ)) (taken piece : List ℕ) (keys : List Key) (reader : Reading) → HasRead start left taken keys reader → reader.over ≡ false → is_unended reader.unread ≡ true → length reader.unread ≤ line_limit → length piece ≤ piece_limit
+pub next_prompt : (start left : Option (List ℕ)) (taken piece : List ℕ) (keys : List Key) (reader : Reading) → HasRead start left taken keys reader → reader.over ≡ false → is_unended reader.unread ≡ true → length reader.unread ≤ LINE_LIMIT → length piece ≤ PIECE_LIMIT
     → IsPrompt (taken ++ piece) keys
 next_prompt start left taken piece keys reader read goes_on all short small = record {
   earlier = taken;
@@ -152,8 +152,8 @@ next_prompt start left taken piece keys reader read goes_on all short small = re
   first = ([], sym (append-nil keys));
 }
 
-pub given_more : (start left last : Option (List ℕ)) (taken piece : List ℕ) (keys : List Key) (reader : Reading) → HasRead start left taken keys reader → reader.over ≡ false → is_unended reader.unread ≡ true → length reader.unread ≤ line_limit
-    → TakesFrom left last piece → length piece ≤ piece_limit → reader.count + length piece ≤ limit + 1 → HasGiven start last (taken ++ piece) keys
+pub given_more : (start left last : Option (List ℕ)) (taken piece : List ℕ) (keys : List Key) (reader : Reading) → HasRead start left taken keys reader → reader.over ≡ false → is_unended reader.unread ≡ true → length reader.unread ≤ LINE_LIMIT
+    → TakesFrom left last piece → length piece ≤ PIECE_LIMIT → reader.count + length piece ≤ KEYS_LIMIT + 1 → HasGiven start last (taken ++ piece) keys
 given_more start left last taken piece keys reader read goes_on all short takes small few = record {
   takes = takes_both start left last taken piece read.takes takes;
   few = omega (arith, length-append taken piece, read.counted, few);

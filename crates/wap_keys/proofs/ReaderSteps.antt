@@ -1,5 +1,5 @@
 -- A reader's calls, one after the other.
-use Rattle.std.proofs.Common.{◌≡◌, ◌≢◌, ℕ, ◌+◌, ◌-◌, ◌<◌, ◌≤◌, Bool, true, false, cond, List, [], ◌∷◌, ◌++◌, length, take, Option, Some, None, Result, Ok, Err, refl, sym, ap, subst, ◌∙◌, append_assoc, inl, inr, arith}
+use Rattle.std.proofs.Common.{◌≡◌, ℕ, ◌+◌, ◌-◌, ◌<◌, ◌≤◌, Bool, true, false, cond, List, [], ◌∷◌, ◌++◌, length, take, Option, Some, None, Result, Ok, Err, refl, sym, ap, subst, ◌∙◌, append_assoc, inl, inr, arith}
 use Rattle.std.proofs.Math.Seq.{take-length}
 use Rattle.std.specs.Result.{IfOk, OnOk, OnErr}
 use Rattle.wap_base.specs.declared.fault.NoMemory.{NoMemory}
@@ -7,21 +7,18 @@ use Rattle.std.proofs.lemmas.List.{append-nil, length-append, take-append-le}
 use Rattle.wap_base.specs.Transfer.{TakesFrom, IsAtEnd}
 use Rattle.wap_base.proofs.Choices.{some_same}
 use Rattle.wap_input.specs.declared.key.Key.{Key}
+use Rattle.wap_keys.specs.declared.limits.TheConstants.{KEYS_LIMIT, LINE_LIMIT}
 use Rattle.wap_keys.specs.declared.fault.KeyFault.{KeyFault}
-use Rattle.wap_keys.specs.declared.fault.KeyFault.TheVariants.{NoMemory as WantsMemory}
 use Rattle.wap_keys.specs.declared.ending.Ending.{Ending}
 use Rattle.wap_keys.specs.declared.ending.Ending.TheVariants.{End, BadKey, TooManyKeys, ReadFault}
 use Rattle.wap_keys.specs.declared.ending.Next.{Next}
 use Rattle.wap_keys.specs.declared.ending.Next.TheVariants as next
-use Rattle.wap_keys.specs.declared.line.Said.{Said}
 use Rattle.wap_keys.specs.declared.line.Said.TheVariants as said
-use Rattle.wap_keys.specs.declared.reader.Taken.TheVariants as taken
 use Rattle.wap_keys.specs.declared.reader.More.TheVariants as more
-use Rattle.wap_keys.specs.Forms.{line_limit}
-use Rattle.wap_keys.specs.Lines.{Keys, lines_of, content_key, key_before, keys_from, keys_at, limit}
-use Rattle.wap_keys.specs.Read.{AreFirst, IsPrompt, HasGiven, EndsBy, IsRead, piece_limit}
-use Rattle.wap_keys.specs.Reading.{Reading, behind_keys, said_yet, said_then, HasRead, AnswersAt, Answers, GivesUp, Falls, room}
-use Rattle.wap_keys.specs.inside.Taking.{is_unended, said_of, TakesSaid, TakesLine, ReadsMore, TakesSome, last_next}
+use Rattle.wap_keys.specs.Lines.{lines_of, content_key, key_before, keys_from, keys_at}
+use Rattle.wap_keys.specs.Read.{HasGiven, IsRead}
+use Rattle.wap_keys.specs.Reading.{Reading, behind_keys, said_yet, HasRead, AnswersAt, Answers, GivesUp, Falls, room}
+use Rattle.wap_keys.specs.inside.Taking.{is_unended, said_of, TakesSaid, ReadsMore, TakesSome, last_next}
 use Rattle.wap_keys.proofs.LineLaws.{last_line_says, content_wants_none}
 use Rattle.wap_keys.proofs.ReaderLaws.{takes_both, no_more, then_yet, said_open, cut_open, given_of, given_more, next_prompt, more_prompt}
 
@@ -88,7 +85,7 @@ line_bad now old new fault goes_on (no_want, over, says) start taken keys read =
 
 -- ---- a line is only begun, and more is read
 
-pub piece_goes : (now last : Option (List ℕ)) (old new : Reading) → old.over ≡ false → is_unended old.unread ≡ true → length old.unread ≤ line_limit → ReadsMore now last old new more.Piece → Keeps now last old new
+pub piece_goes : (now last : Option (List ℕ)) (old new : Reading) → old.over ≡ false → is_unended old.unread ≡ true → length old.unread ≤ LINE_LIMIT → ReadsMore now last old new more.Piece → Keeps now last old new
 piece_goes now last old new goes_on all short (piece, takes, some, small, few, is) start taken keys read =
     let after : Reading = record old { unread = old.unread ++ piece; count = old.count + length piece } in
     let goes : HasRead start last (taken ++ piece) keys after = record {
@@ -105,11 +102,11 @@ piece_goes now last old new goes_on all short (piece, takes, some, small, few, i
     } in
     (piece, subst (HasRead start last (taken ++ piece) keys) (sym is) goes)
 
-front_of_all : (taken piece : List ℕ) → length taken ≡ limit → take limit (taken ++ piece) ≡ taken ++ []
+front_of_all : (taken piece : List ℕ) → length taken ≡ KEYS_LIMIT → take KEYS_LIMIT (taken ++ piece) ≡ taken ++ []
 front_of_all taken piece full =
     ap (λ (n : ℕ). take n (taken ++ piece)) (sym full) ∙ take-append-le (length taken) taken piece (omega arith) ∙ take-length taken ∙ sym (append-nil taken)
 
-pub past_answers : (now last : Option (List ℕ)) (old new : Reading) → old.over ≡ false → is_unended old.unread ≡ true → length old.unread ≤ line_limit → ReadsMore now last old new more.Past → Answers now last old new (next.Ended TooManyKeys)
+pub past_answers : (now last : Option (List ℕ)) (old new : Reading) → old.over ≡ false → is_unended old.unread ≡ true → length old.unread ≤ LINE_LIMIT → ReadsMore now last old new more.Past → Answers now last old new (next.Ended TooManyKeys)
 past_answers now last old new goes_on all short (piece, takes, one, full, is) start taken keys read = (
   piece,
   record {
@@ -121,7 +118,7 @@ past_answers now last old new goes_on all short (piece, takes, one, full, is) st
   },
 )
 
-pub fault_answers : (now last : Option (List ℕ)) (old new : Reading) → old.over ≡ false → is_unended old.unread ≡ true → length old.unread ≤ line_limit → ReadsMore now last old new more.Failed → Answers now last old new (next.Ended ReadFault)
+pub fault_answers : (now last : Option (List ℕ)) (old new : Reading) → old.over ≡ false → is_unended old.unread ≡ true → length old.unread ≤ LINE_LIMIT → ReadsMore now last old new more.Failed → Answers now last old new (next.Ended ReadFault)
 fault_answers now last old new goes_on all short (same, is) start taken keys read =
     let read_so : IsRead start now taken keys ReadFault = record {
       given = given_of start now taken keys old read;
@@ -149,7 +146,7 @@ over_answers now old over start taken keys read =
 
 -- ---- the last line
 
-last_ends : (now : Option (List ℕ)) (old : Reading) (start : Option (List ℕ)) (taken : List ℕ) (keys : List Key) → old.over ≡ false → is_unended old.unread ≡ true → length old.unread ≤ line_limit → HasRead start now taken keys old
+last_ends : (now : Option (List ℕ)) (old : Reading) (start : Option (List ℕ)) (taken : List ℕ) (keys : List Key) → old.over ≡ false → is_unended old.unread ≡ true → length old.unread ≤ LINE_LIMIT → HasRead start now taken keys old
     → keys_at End (taken ++ []) ≡ behind_keys keys (key_before old.number (content_key old.unread) (record { keys = []; ending = End }))
 last_ends now old start taken keys goes_on all short read =
     said_open start now taken keys old read goes_on End []
@@ -165,10 +162,10 @@ end_of (Some bytes) (Some rest) none takes = sym (some_same bytes rest takes) �
 abbrev closed : Reading → Reading
 closed old = record old { over = true; unread = [] }
 
-last_given : (now last : Option (List ℕ)) (old : Reading) → old.over ≡ false → is_unended old.unread ≡ true → length old.unread ≤ line_limit → TakesFrom now last [] → (start : Option (List ℕ)) (taken : List ℕ) (keys : List Key) → HasRead start now taken keys old → HasGiven start last (taken ++ []) keys
+last_given : (now last : Option (List ℕ)) (old : Reading) → old.over ≡ false → is_unended old.unread ≡ true → length old.unread ≤ LINE_LIMIT → TakesFrom now last [] → (start : Option (List ℕ)) (taken : List ℕ) (keys : List Key) → HasRead start now taken keys old → HasGiven start last (taken ++ []) keys
 last_given now last old goes_on all short takes start taken keys read = given_more start now last taken [] keys old read goes_on all short takes (omega arith) (omega (arith, read.few))
 
-last_by : (now last : Option (List ℕ)) (old : Reading) (key : Result (Option Key) KeyFault) → content_key old.unread ≡ key → old.over ≡ false → is_unended old.unread ≡ true → length old.unread ≤ line_limit → IsAtEnd now → TakesFrom now last []
+last_by : (now last : Option (List ℕ)) (old : Reading) (key : Result (Option Key) KeyFault) → content_key old.unread ≡ key → old.over ≡ false → is_unended old.unread ≡ true → length old.unread ≤ LINE_LIMIT → IsAtEnd now → TakesFrom now last []
     → Answers now last old (closed old) (last_next old.number (said_of key))
 last_by now last old (Ok None) says goes_on all short none takes start taken keys read = (
   [],
@@ -219,14 +216,14 @@ last_by now last old (Ok (Some key)) says goes_on all short none takes start tak
   },
 )
 
-pub end_answers : (now last : Option (List ℕ)) (old ended new : Reading) (answer : Next) → old.over ≡ false → is_unended old.unread ≡ true → length old.unread ≤ line_limit → ReadsMore now last old ended more.AtEnd
+pub end_answers : (now last : Option (List ℕ)) (old ended new : Reading) (answer : Next) → old.over ≡ false → is_unended old.unread ≡ true → length old.unread ≤ LINE_LIMIT → ReadsMore now last old ended more.AtEnd
     → answer ≡ last_next ended.number (said_of (content_key ended.unread)) → new ≡ record ended { unread = [] } → Answers now last old new answer
 end_answers now last old ended new answer goes_on all short (none, takes, is) said rest =
     subst (Answers now last old new) (sym (said ∙ ap (λ (r : Reading). last_next r.number (said_of (content_key r.unread))) is))
     (subst (λ (r : Reading). Answers now last old r (last_next old.number (said_of (content_key old.unread)))) (sym (rest ∙ ap (λ (r : Reading). record r { unread = [] }) is))
     (last_by now last old (content_key old.unread) refl goes_on all short none takes))
 
-pub lost : (now last : Option (List ℕ)) (old : Reading) → old.over ≡ false → is_unended old.unread ≡ true → length old.unread ≤ line_limit → TakesSome now last old → GivesUp now last old
+pub lost : (now last : Option (List ℕ)) (old : Reading) → old.over ≡ false → is_unended old.unread ≡ true → length old.unread ≤ LINE_LIMIT → TakesSome now last old → GivesUp now last old
 lost now last old goes_on all short (piece, takes, small, few) start taken keys read = (piece, given_more start now last taken piece keys old read goes_on all short takes small few)
 
 -- ---- call after call
@@ -255,7 +252,7 @@ pub line_falls : (old new : Reading) (key : Option Key) → TakesSaid old new (s
 line_falls old new None ((count, over, fewer), says) = (omega (arith, count, fewer), fewer, count)
 line_falls old new (Some key) ((count, over, fewer), says) = (omega (arith, count, fewer), fewer, count)
 
-pub piece_falls : (now last : Option (List ℕ)) (old new : Reading) → ReadsMore now last old new more.Piece → (room new ≤ room old) × (room new + (limit - new.count) < room old + (limit - old.count))
+pub piece_falls : (now last : Option (List ℕ)) (old new : Reading) → ReadsMore now last old new more.Piece → (room new ≤ room old) × (room new + (KEYS_LIMIT - new.count) < room old + (KEYS_LIMIT - old.count))
 piece_falls now last old new (piece, takes, some, small, few, is) =
     let unread = ap (λ (r : Reading). length r.unread) is in
     let count = ap (λ (r : Reading). r.count) is in
@@ -273,10 +270,10 @@ on_err (Err e) P p = p
 pub same_keeps : (before now : Option (List ℕ)) (old reader new : Reading) → new ≡ reader → Keeps before now old reader → Keeps before now old new
 same_keeps before now old reader new is keeps = subst (Keeps before now old) (sym is) keeps
 
-pub end_gives_up : (now last : Option (List ℕ)) (old new : Reading) → old.over ≡ false → is_unended old.unread ≡ true → length old.unread ≤ line_limit → ReadsMore now last old new more.AtEnd → GivesUp now last old
+pub end_gives_up : (now last : Option (List ℕ)) (old new : Reading) → old.over ≡ false → is_unended old.unread ≡ true → length old.unread ≤ LINE_LIMIT → ReadsMore now last old new more.AtEnd → GivesUp now last old
 end_gives_up now last old new goes_on all short (none, takes, is) start taken keys read = ([], last_given now last old goes_on all short takes start taken keys read)
 
-pub finish_answers : (result : Result Next NoMemory) (before now last : Option (List ℕ)) (begun old ended new : Reading) → Keeps before now begun old → old.over ≡ false → is_unended old.unread ≡ true → length old.unread ≤ line_limit
+pub finish_answers : (result : Result Next NoMemory) (before now last : Option (List ℕ)) (begun old ended new : Reading) → Keeps before now begun old → old.over ≡ false → is_unended old.unread ≡ true → length old.unread ≤ LINE_LIMIT
     → ReadsMore now last old ended more.AtEnd → IfOk result (λ answer. answer ≡ last_next ended.number (said_of (content_key ended.unread))) → OnOk result (new ≡ record ended { unread = [] }) → IfOk result (Answers before last begun new)
 finish_answers (Err want) before now last begun old ended new keeps goes_on all short at_end said rest = tt
 finish_answers (Ok answer) before now last begun old ended new keeps goes_on all short at_end said rest =

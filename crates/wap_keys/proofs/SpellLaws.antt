@@ -1,12 +1,11 @@
 -- What a line says is what it spells.
-use Rattle.std.proofs.Common.{◌≡◌, ◌≢◌, ◌⊎◌, ℕ, ◌+◌, ◌<◌, ◌≤◌, Bool, true, false, cond, List, [], ◌∷◌, ◌++◌, length, take, drop, get_or, Option, Some, None, Result, Ok, Err, refl, sym, ap, ap₂, subst, ◌∙◌, inl, inr, eqb-true, arith}
-use Rattle.std.specs.Prelude.{◌==◌, not, nat_lt, nat_le, find, codes, slice_get}
-use Rattle.std.specs.List.{list_all, position_or_len, before_first, after_first, AllPass}
-use Rattle.std.specs.Str.{chars, IsUtf8, is_utf8}
+use Rattle.std.proofs.Common.{◌≡◌, ◌≢◌, ◌⊎◌, ℕ, ◌+◌, ◌<◌, ◌≤◌, Bool, true, false, cond, List, [], ◌∷◌, ◌++◌, length, take, drop, get_or, Option, Some, None, Result, Ok, Err, refl, sym, ap, subst, ◌∙◌, inl, inr, eqb-true, arith}
+use Rattle.std.specs.Prelude.{not, find}
+use Rattle.std.specs.List.{position_or_len, after_first}
+use Rattle.std.specs.Str.{IsUtf8, is_utf8}
 use Rattle.std.proofs.lemmas.Bool.{lt-ltb, le-ltb, cases_lt}
 use Rattle.std.proofs.lemmas.List.{length-append, length-take, get_or-take, take_all, get_or_append_left, take-append-le}
 use Rattle.std.proofs.lemmas.List.Sums.{split_at_first, position_or_len_is, passes_at_first, fails_before_first, AllPass-from_list_all, list_all-from_AllPass}
-use Rattle.std.proofs.lemmas.Str.{chars-nil}
 use Rattle.std.proofs.Math.Seq.{take-length, drop-append-add, get_or-append_seam}
 use Rattle.std.specs.Cmp.Lexicographic.{bytes_decides}
 use Rattle.std.specs.Prelude.{IfOk, IfErr}
@@ -14,12 +13,13 @@ use Rattle.std.proofs.lemmas.Str.{IsUtf8-from_is_utf8, is_utf8-from_IsUtf8}
 use Rattle.wap_base.specs.Outcome.{◌>>=◌, Meets}
 use Rattle.wap_base.specs.Texts.{is_same_text}
 use Rattle.wap_input.specs.declared.key.Key.{Key}
+use Rattle.wap_keys.specs.declared.limits.TheConstants.{LINE_LIMIT}
 use Rattle.wap_keys.specs.declared.fault.KeyFault.{KeyFault}
 use Rattle.wap_keys.specs.declared.fault.KeyFault.TheVariants.{TooLong, NotText, UnknownWord, Missing, BadNumber, Surplus, NoMemory}
 use Rattle.wap_keys.specs.declared.word.Word.{Word}
 use Rattle.wap_keys.specs.declared.word.Word.TheVariants as word
 use Rattle.wap_keys.specs.Decimal.{decimal_of}
-use Rattle.wap_keys.specs.Forms.{Form, nothing, text, text_or_none, number, form_of, name_of, words, word_named, is_space, front_of, rest_of, number_of, number_in, nothing_at, key_by, key_of_word, line_limit, key_at}
+use Rattle.wap_keys.specs.Forms.{Form, nothing, text, text_or_none, number, form_of, name_of, words, word_named, is_space, front_of, rest_of, number_of, number_in, nothing_at, key_by, key_of_word, key_at}
 use Rattle.wap_keys.specs.Spelling.{spaced, HasNoSpace, Spells, Misspells, IsTextLine, IsKeyLine, IsUnknown, MisspellsLine, IsNoKeyLine}
 use Rattle.wap_keys.proofs.KeyLaws.{long_key, bad_text, good_text}
 
@@ -284,7 +284,7 @@ judged_word line None found is_text = (
 judged_word line (Some w) found is_text =
     judged_form line w (key_by (form_of w) (rest_of line)) is_text (split_is line (name_of w) (name_is (front_of line) w found)) (form_said (form_of w) (rest_of line))
 
-judged_text : (line : List ℕ) (b : Bool) → is_utf8 line ≡ b → length line ≤ line_limit → Judged line (key_at line)
+judged_text : (line : List ℕ) (b : Bool) → is_utf8 line ≡ b → length line ≤ LINE_LIMIT → Judged line (key_at line)
 judged_text line true good short =
     let is_text : IsTextLine line = (short, IsUtf8-from_is_utf8 line good) in
     subst (Judged line) (sym (good_text line short is_text.1)) (judged_word line (word_named (front_of line)) refl is_text)
@@ -295,12 +295,12 @@ judged_text line false none_is short =
     not_both : (b : Bool) → b ≡ true → b ≡ false → ⊥
     not_both b is other = cc
 
-judged_by : (line : List ℕ) → (line_limit < length line) ⊎ (length line ≤ line_limit) → Judged line (key_at line)
+judged_by : (line : List ℕ) → (LINE_LIMIT < length line) ⊎ (length line ≤ LINE_LIMIT) → Judged line (key_at line)
 judged_by line (inl long) = subst (Judged line) (sym (long_key line long)) long
 judged_by line (inr short) = judged_text line (is_utf8 line) refl short
 
 pub judged : (line : List ℕ) → Judged line (key_at line)
-judged line = judged_by line (cases_lt line_limit (length line))
+judged line = judged_by line (cases_lt LINE_LIMIT (length line))
 
 pub found_of : (result : Result Key KeyFault) (line : List ℕ) → Meets NoMemory (λ (key : Key). key) result (key_at line) → IfOk result (IsKeyLine line)
 found_of (Ok key) line meets = subst (Judged line) meets (judged line)

@@ -9,6 +9,7 @@ use Rattle.wap_base.specs.Ascii.{space}
 use Rattle.wap_base.specs.Texts.{is_same_text}
 use Rattle.wap_input.specs.declared.key.Key.{Key}
 use Rattle.wap_input.specs.declared.key.Key.TheVariants as key
+use Rattle.wap_keys.specs.declared.limits.TheConstants.{LINE_LIMIT}
 use Rattle.wap_keys.specs.declared.fault.KeyFault.{KeyFault}
 use Rattle.wap_keys.specs.declared.fault.KeyFault.TheVariants.{TooLong, NotText, UnknownWord, Missing, BadNumber, Surplus}
 use Rattle.wap_keys.specs.declared.word.Word.{Word}
@@ -125,12 +126,8 @@ abbrev pub key_of_word : Option Word → Option (List ℕ) → Result Key KeyFau
 key_of_word None rest = Err UnknownWord
 key_of_word (Some word) rest = key_by (form_of word) rest
 
--- the most bytes of a line
-abbrev pub line_limit : ℕ
-line_limit = 4096
-
 -- what a line says that is neither empty nor a comment
 unfoldable pub key_at : List ℕ → Result Key KeyFault
 key_at line =
-    if nat_lt line_limit (length line) then Err TooLong else
+    if nat_lt LINE_LIMIT (length line) then Err TooLong else
     if is_utf8 line then key_of_word (word_named (front_of line)) (rest_of line) else Err NotText

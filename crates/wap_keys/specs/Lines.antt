@@ -3,11 +3,12 @@ use Rattle.std.specs.Prelude.{ℕ, ◌+◌, ◌-◌, nat_eq, Bool, true, false, 
 use Rattle.std.specs.List.{ends_with}
 use Rattle.wap_base.specs.Ascii.{line_feed, carriage_return, number_sign}
 use Rattle.wap_input.specs.declared.key.Key.{Key}
+use Rattle.wap_keys.specs.declared.limits.TheConstants.{KEYS_LIMIT, LINE_LIMIT}
 use Rattle.wap_keys.specs.declared.fault.KeyFault.{KeyFault}
 use Rattle.wap_keys.specs.declared.fault.KeyFault.TheVariants.{TooLong}
 use Rattle.wap_keys.specs.declared.ending.Ending.{Ending}
 use Rattle.wap_keys.specs.declared.ending.Ending.TheVariants.{End, BadKey, TooManyKeys, ReadFault}
-use Rattle.wap_keys.specs.Forms.{line_limit, key_at}
+use Rattle.wap_keys.specs.Forms.{key_at}
 
 -- ---- lines
 
@@ -52,7 +53,7 @@ is_end ReadFault = false
 
 -- a line is refused where it is too long already; else one that is cut off says no key
 abbrev pub line_key : Ending → Line → Result (Option Key) KeyFault
-line_key ending line = if nat_lt line_limit (length line.bytes) then Err TooLong else if line.ended || is_end ending then content_key (content line) else Ok None
+line_key ending line = if nat_lt LINE_LIMIT (length line.bytes) then Err TooLong else if line.ended || is_end ending then content_key (content line) else Ok None
 
 -- ---- keys
 
@@ -75,10 +76,6 @@ keys_from ending number (line ∷ lines) = key_before number (line_key ending li
 unfoldable pub keys_at : Ending → List ℕ → Keys
 keys_at ending bytes = keys_from ending 1 (lines_of bytes)
 
--- the most bytes of all
-abbrev pub limit : ℕ
-limit = 1048576
-
 -- the keys of bytes; of too many bytes the first ones count
 unfoldable pub keys_of : List ℕ → Keys
-keys_of bytes = keys_at (if nat_lt limit (length bytes) then TooManyKeys else End) (take limit bytes)
+keys_of bytes = keys_at (if nat_lt KEYS_LIMIT (length bytes) then TooManyKeys else End) (take KEYS_LIMIT bytes)

@@ -3,10 +3,11 @@ use Rattle.std.specs.Prelude.{◌≡◌, ◌≢◌, ◌⊎◌, ℕ, ◌+◌, ◌
 use Rattle.wap_base.specs.Count.{raised}
 use Rattle.wap_base.specs.Transfer.{TakesFrom, IsAtEnd}
 use Rattle.wap_input.specs.declared.key.Key.{Key}
+use Rattle.wap_keys.specs.declared.limits.TheConstants.{KEYS_LIMIT, PIECE_LIMIT}
 use Rattle.wap_keys.specs.declared.fault.KeyFault.TheVariants.{NoMemory}
 use Rattle.wap_keys.specs.declared.ending.Ending.{Ending}
 use Rattle.wap_keys.specs.declared.ending.Ending.TheVariants.{End, BadKey, TooManyKeys, ReadFault}
-use Rattle.wap_keys.specs.Lines.{Keys, limit, keys_at, keys_of}
+use Rattle.wap_keys.specs.Lines.{Keys, keys_at, keys_of}
 
 -- the keys are the first of these
 abbrev pub AreFirst : List Key → List Key → Type 0
@@ -36,24 +37,20 @@ ending_before (byte ∷ bytes) = ReadFault
 abbrev pub keys_among : List ℕ → List ℕ → List Key
 keys_among taken rest = (keys_at (ending_before rest) taken).keys
 
--- the most bytes that one read takes
-abbrev pub piece_limit : ℕ
-piece_limit = 4096
-
 -- before the last piece was taken, the whole lines were key lines, and said no more than a front of these keys
 pub record IsPrompt (taken : List ℕ) (keys : List Key) : Type 0 where
   pub earlier : List ℕ
   pub piece : List ℕ
   pub said : List Key
   pub split : taken ≡ earlier ++ piece
-  pub short : length piece ≤ piece_limit
+  pub short : length piece ≤ PIECE_LIMIT
   pub before : keys_at ReadFault earlier ≡ record { keys = said; ending = ReadFault }
   pub first : AreFirst said keys
 
 -- the bytes were taken, and the keys are the first that their whole lines say, and the first of all
 pub record HasGiven (start left : Option (List ℕ)) (taken : List ℕ) (keys : List Key) : Type 0 where
   pub takes : TakesFrom start left taken
-  pub few : length taken ≤ limit + 1
+  pub few : length taken ≤ KEYS_LIMIT + 1
   pub prompt : IsPrompt taken keys
   pub first : IfSome left (λ rest. AreFirst keys (keys_among taken rest))
   pub of_all : IfSome start (λ bytes. AreFirst keys (keys_of bytes).keys)
@@ -65,10 +62,10 @@ IsBad left taken bad = ((ending : Ending) (rest : List ℕ) → keys_at ending (
 -- how the keys of bytes that were taken came to an end: with the source, by a bad line, by one byte past the limit, or
 -- as the source failed
 abbrev pub EndsBy : Option (List ℕ) → List ℕ → List Key → Ending → Type 0
-EndsBy left taken keys End = IsAtEnd left × (length taken ≤ limit) × (keys_at End taken ≡ record { keys = keys; ending = End })
-EndsBy left taken keys (BadKey line fault) = (fault ≢ NoMemory) × (length taken ≤ limit) × IsBad left taken (record { keys = keys; ending = BadKey line fault })
-EndsBy left taken keys TooManyKeys = (length taken ≡ limit + 1) × (keys_at TooManyKeys (take limit taken) ≡ record { keys = keys; ending = TooManyKeys })
-EndsBy left taken keys ReadFault = (length taken ≤ limit) × (keys_at ReadFault taken ≡ record { keys = keys; ending = ReadFault })
+EndsBy left taken keys End = IsAtEnd left × (length taken ≤ KEYS_LIMIT) × (keys_at End taken ≡ record { keys = keys; ending = End })
+EndsBy left taken keys (BadKey line fault) = (fault ≢ NoMemory) × (length taken ≤ KEYS_LIMIT) × IsBad left taken (record { keys = keys; ending = BadKey line fault })
+EndsBy left taken keys TooManyKeys = (length taken ≡ KEYS_LIMIT + 1) × (keys_at TooManyKeys (take KEYS_LIMIT taken) ≡ record { keys = keys; ending = TooManyKeys })
+EndsBy left taken keys ReadFault = (length taken ≤ KEYS_LIMIT) × (keys_at ReadFault taken ≡ record { keys = keys; ending = ReadFault })
 
 -- the keys were read to their end
 pub record IsRead (start left : Option (List ℕ)) (taken : List ℕ) (keys : List Key) (ending : Ending) : Type 0 where

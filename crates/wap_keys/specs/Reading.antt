@@ -3,11 +3,12 @@ use Rattle.std.specs.Prelude.{◌≡◌, ℕ, ◌+◌, ◌-◌, ◌≤◌, ◌<�
 use Rattle.wap_base.specs.Count.{raised}
 use Rattle.wap_base.specs.Transfer.{TakesFrom, IsAtEnd}
 use Rattle.wap_input.specs.declared.key.Key.{Key}
+use Rattle.wap_keys.specs.declared.limits.TheConstants.{KEYS_LIMIT}
 use Rattle.wap_keys.specs.declared.ending.Ending.{Ending}
 use Rattle.wap_keys.specs.declared.ending.Ending.TheVariants.{End}
 use Rattle.wap_keys.specs.declared.ending.Next.{Next}
 use Rattle.wap_keys.specs.declared.ending.Next.TheVariants as next
-use Rattle.wap_keys.specs.Lines.{Keys, lines_of, keys_from, keys_at, limit}
+use Rattle.wap_keys.specs.Lines.{Keys, lines_of, keys_from, keys_at}
 use Rattle.wap_keys.specs.Read.{AtMostOnce, IsPrompt, HasGiven, IsRead}
 
 -- a reader: bytes that were taken and whose lines aren't read yet, the number of the first of these lines, how many
@@ -33,7 +34,7 @@ said_then reader ending rest = if reader.over then record { keys = []; ending = 
 pub record HasRead (start left : Option (List ℕ)) (taken : List ℕ) (keys : List Key) (reader : Reading) : Type 0 where
   pub takes : TakesFrom start left taken
   pub counted : length taken ≡ reader.count
-  pub few : reader.count ≤ limit
+  pub few : reader.count ≤ KEYS_LIMIT
   pub prompt : IsPrompt taken keys
   pub says : (ending : Ending) (rest : List ℕ) → (reader.over ≡ true → (ending ≡ End) × (rest ≡ [])) → keys_at ending (taken ++ rest) ≡ behind_keys keys (said_then reader ending rest)
   pub ended : reader.over ≡ true → IsAtEnd left
@@ -68,7 +69,7 @@ GivesUpEnds old before after = (ends : ℕ) → before ≡ ends_told old ends �
 
 -- how many bytes may be read yet
 abbrev pub room : Reading → ℕ
-room reader = limit - reader.count + length reader.unread
+room reader = KEYS_LIMIT - reader.count + length reader.unread
 
 -- each key takes some bytes
 abbrev pub Falls : Reading → Reading → Next → Type 0

@@ -4,11 +4,12 @@ use Rattle.std.specs.List.{list_all}
 use Rattle.std.specs.Str.{chars, IsUtf8}
 use Rattle.wap_base.specs.Ascii.{space}
 use Rattle.wap_input.specs.declared.key.Key.{Key}
+use Rattle.wap_keys.specs.declared.limits.TheConstants.{LINE_LIMIT}
 use Rattle.wap_keys.specs.declared.fault.KeyFault.{KeyFault}
 use Rattle.wap_keys.specs.declared.fault.KeyFault.TheVariants.{TooLong, NotText, UnknownWord, Missing, BadNumber, Surplus, NoMemory}
 use Rattle.wap_keys.specs.declared.word.Word.{Word}
 use Rattle.wap_keys.specs.Decimal.{decimal_of}
-use Rattle.wap_keys.specs.Forms.{Form, nothing, text, text_or_none, number, form_of, name_of, is_space, line_limit}
+use Rattle.wap_keys.specs.Forms.{Form, nothing, text, text_or_none, number, form_of, name_of, is_space}
 
 -- a word or an argument that has no space, and one space before what follows it, if something does
 abbrev pub spaced : List ℕ → Option (List ℕ) → List ℕ
@@ -42,7 +43,7 @@ Misspells (number greatest form) rest fault =
 
 -- a line that isn't too long, and is UTF-8
 abbrev pub IsTextLine : List ℕ → Type 0
-IsTextLine line = (length line ≤ line_limit) × IsUtf8 line
+IsTextLine line = (length line ≤ LINE_LIMIT) × IsUtf8 line
 
 -- it spells a key
 abbrev pub IsKeyLine : List ℕ → Key → Type 0
@@ -58,8 +59,8 @@ MisspellsLine line fault = (word : Word) × (rest : Option (List ℕ)) × (line 
 
 -- it is no key line, for a fault
 abbrev pub IsNoKeyLine : List ℕ → KeyFault → Type 0
-IsNoKeyLine line TooLong = line_limit < length line
-IsNoKeyLine line NotText = (length line ≤ line_limit) × ¬ (IsUtf8 line)
+IsNoKeyLine line TooLong = LINE_LIMIT < length line
+IsNoKeyLine line NotText = (length line ≤ LINE_LIMIT) × ¬ (IsUtf8 line)
 IsNoKeyLine line UnknownWord = IsTextLine line × IsUnknown line
 IsNoKeyLine line Missing = IsTextLine line × MisspellsLine line Missing
 IsNoKeyLine line BadNumber = IsTextLine line × MisspellsLine line BadNumber

@@ -1,6 +1,7 @@
 //! Why a line is no key line.
 ghost use Rattle.std.specs.Prelude.{◌≡◌};
 
+use crate::LINE_LIMIT;
 use thiserror::Error;
 use wap_base::NoMemory;
 
@@ -8,7 +9,7 @@ use wap_base::NoMemory;
 /// that each argument from the left is looked at for `Missing` and then for `BadNumber`.
 #[derive(Clone, Copy, Debug, PartialEq, Eq, Error)]
 pub enum KeyFault {
-    #[error("the line has more than 4096 bytes")]
+    #[error("the line has more than {LINE_LIMIT} bytes")]
     TooLong,
     #[error("the line isn't UTF-8")]
     NotText,

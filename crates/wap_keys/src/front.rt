@@ -2,10 +2,9 @@
 ghost use Rattle.std.specs.Prelude.{◌≡◌, ◌<◌, ◌≤◌, ◌+◌, ◌++◌, ◌∷◌, true, length, take, drop, IfOk};
 ghost use Rattle.std.specs.Prelude.{OnErr, IfNone, IfSome};
 ghost use Rattle.wap_base.specs.Ascii.{line_feed};
-ghost use Rattle.wap_keys.specs.Forms.{line_limit};
 ghost use Rattle.wap_keys.specs.inside.Taking.{is_unended, TakesFront};
 
-use crate::key::LINE_LIMIT;
+use crate::LINE_LIMIT;
 use wap_base::NoMemory;
 
 /// What follows a line that is begun.
@@ -37,7 +36,7 @@ fn feed_at(bytes: &[u8]) -> Option<usize>
 
 /// Appends to a line what follows it up to the first line feed, unless that is too long.
 pub(crate) fn take_front(line: &mut Vec<u8>, unread: &[u8]) -> Result<Front, NoMemory>
-    requires { length line.old.items ≤ line_limit }
+    requires { length line.old.items ≤ LINE_LIMIT }
     ensures takes { IfOk result (TakesFront line.old.items line.new.items unread.now) }
     ensures err { OnErr result (line.new.items ≡ line.old.items) }
 {

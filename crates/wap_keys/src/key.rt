@@ -13,13 +13,10 @@ ghost use Rattle.wap_keys.specs.Spelling.{IsKeyLine, IsNoKeyLine};
 
 use crate::decimal::decimal_of;
 use crate::word::Word;
-use crate::{Key, KeyFault};
+use crate::{Key, KeyFault, LINE_LIMIT};
 use std::alloc::Global;
 use std::str;
 use wap_base::{NoMemory as WantOfMemory, Text};
-
-/// The most bytes of a line.
-pub(crate) const LINE_LIMIT: usize = 4096;
 
 /// What stands before the first space, and what stands behind it.
 fn split(text: &str) -> (&str, Option<&str>)

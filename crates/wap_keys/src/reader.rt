@@ -7,7 +7,7 @@ ghost use Rattle.wap_base.specs.Transfer.{TakesFrom, IsAtEnd, ends_after};
 ghost use Rattle.wap_keys.specs.declared.ending.Next.TheVariants.{Ended};
 ghost use Rattle.wap_keys.specs.declared.ending.Ending.TheVariants.{ReadFault};
 ghost use Rattle.wap_keys.specs.declared.reader.More.TheVariants.{Failed as fails};
-ghost use Rattle.wap_keys.specs.Forms.{line_limit};
+ghost use Rattle.wap_keys.specs.declared.limits.TheConstants.{LINE_LIMIT};
 ghost use Rattle.wap_keys.specs.Lines.{content_key};
 ghost use Rattle.wap_keys.specs.Reading.{HasRead, Answers, GivesUp, Falls, KeepsEnds, GivesUpEnds};
 ghost use Rattle.wap_keys.specs.inside.Taking.{is_unended, said_of, TakesLine, ReadsMore, ends_by};
@@ -15,16 +15,10 @@ ghost use Rattle.wap_keys.specs.inside.Taking.{TakesSome, last_next};
 
 use crate::front::{Front, take_front};
 use crate::line::{Said, line_said, without_return};
-use crate::{Ending, KeyFault, Next};
+use crate::{Ending, KEYS_LIMIT, KeyFault, Next, PIECE_LIMIT};
 use std::alloc::Global;
 use std::marker::Model;
 use wap_base::{Failed, NoMemory, Source};
-
-/// The most bytes of all key lines.
-const LIMIT: usize = 1 << 20;
-
-/// The most bytes that one read takes.
-const PIECE: usize = 4096;
 
 /// What a line comes to.
 #[derive(Debug, Drop)]
@@ -63,8 +57,7 @@ pub struct Reader {
 
 impl Model for Reader {
     ghost use Rattle.std.specs.Prelude.{drop, length, true, ◌≡◌, ◌≤◌, ◌+◌, ◌-◌, ◌++◌};
-    ghost use Rattle.wap_keys.specs.Forms.{line_limit};
-    ghost use Rattle.wap_keys.specs.Lines.{limit};
+    ghost use Rattle.wap_keys.specs.declared.limits.TheConstants.{KEYS_LIMIT, LINE_LIMIT};
     ghost use Rattle.wap_keys.specs.Reading.{Reading};
     ghost use Rattle.wap_keys.specs.inside.Taking.{is_unended};
 
@@ -79,9 +72,9 @@ impl Model for Reader {
     } };
 
     ghost invariant = { λ reader. (reader.at ≤ length reader.piece.items)
-        × (is_unended reader.line.items ≡ true) × (length reader.line.items ≤ line_limit)
+        × (is_unended reader.line.items ≡ true) × (length reader.line.items ≤ LINE_LIMIT)
         × (reader.number + (length reader.line.items + (length reader.piece.items - reader.at)) ≤
-        reader.count + 1) × (reader.count ≤ limit) };
+        reader.count + 1) × (reader.count ≤ KEYS_LIMIT) };
 }
 
 /// Reads the next bytes into a front of the buffer that is so long, and answers their number.
@@ -153,9 +146,9 @@ impl Reader {
         ensures ends { IfOk result (λ more. I.ends source.new ≡ ends_by (I.ends source.old) more) }
         ensures lost_ends { OnErr result (I.ends source.new ≡ I.ends source.old) }
     {
-        let mut buffer = [0; PIECE];
-        let left = LIMIT - self.count;
-        let room = if left == 0 { 1 } else { PIECE.min(left) };
+        let mut buffer = [0; PIECE_LIMIT];
+        let left = KEYS_LIMIT - self.count;
+        let room = if left == 0 { 1 } else { PIECE_LIMIT.min(left) };
         let Ok(count) = read_front(source, &mut buffer, room) else {
             return Ok(More::Failed);
         };
@@ -174,7 +167,7 @@ impl Reader {
     /// What the last line comes to, which no line feed ends.
     fn finish(&mut self, alloc: Global) -> Result<Next, NoMemory>
         requires unended { is_unended self.old.unread ≡ true }
-        requires short { length self.old.unread ≤ line_limit }
+        requires short { length self.old.unread ≤ LINE_LIMIT }
         ensures said { IfOk result (λ next. next ≡ last_next self.old.number
             (said_of (content_key self.old.unread))) }
         ensures rest { OnOk result (self.new ≡ record self.old { unread = [] }) }

@@ -2,7 +2,8 @@
 ghost use Rattle.std.specs.Prelude.{◌≡◌, ◌≢◌, ◌+◌, ◌≤◌, IfOk, IfSome};
 ghost use Rattle.wap_base.specs.Count.{Rose};
 ghost use Rattle.wap_keys.specs.declared.ending.Ending.TheVariants.{ReadFault};
-ghost use Rattle.wap_keys.specs.Lines.{keys_of, limit};
+ghost use Rattle.wap_keys.specs.declared.limits.TheConstants.{KEYS_LIMIT};
+ghost use Rattle.wap_keys.specs.Lines.{keys_of};
 ghost use Rattle.wap_keys.specs.Read.{AtMostOnce, IsReadBefore, AreFirst, TakesAtMost, ReadsTo};
 
 use crate::{Ending, Key, Next, Reader};
@@ -21,7 +22,7 @@ pub fn read_keys<I: Source>(alloc: Global, source: &mut I) -> Result<(Vec<Key>, 
         → IfSome (I.left source.old) (IsReadBefore read.0.items (I.left source.new))) }
     ensures first { IfOk result (λ read. IfSome (I.left source.old)
         (λ bytes. AreFirst read.0.items (keys_of bytes).keys)) }
-    ensures few { TakesAtMost (limit + 1) (I.left source.old) (I.left source.new) }
+    ensures few { TakesAtMost (KEYS_LIMIT + 1) (I.left source.old) (I.left source.new) }
     ensures failed { IfOk result (λ read. read.1 ≡ ReadFault
         → Rose (I.faults source.old) (I.faults source.new)) }
     ensures steady { IfOk result (λ read. read.1 ≢ ReadFault → I.faults source.new

@@ -3,28 +3,14 @@ use Rattle.std.proofs.Common.{◌≡◌, ℕ, List, [], ◌∷◌, ◌++◌, ◌
 use Rattle.std.specs.Borrow.{Bor}
 use Rattle.std.proofs.lemmas.List.{take_more, map-append}
 use Rattle.clap.specs.declared.parser.matches.ArgMatches.{ArgMatches}
-use Rattle.wap_words.specs.Words.{browse_by, browse_of}
-use Rattle.std.specs.Prelude.{encode_utf8_all, nat_eq, option_map, find, slice_get, option_and_then, Option, Bool, true, false, Some, None, map, cond}
-use Rattle.std.specs.Ordering.{is_eq}
-use Rattle.std.specs.Char.{encode_utf8}
+use Rattle.wap_words.specs.declared.words.PageCommand.{PageCommand}
+use Rattle.wap_words.specs.Words.{browse_by, browse_of, page_by, page_of}
+use Rattle.std.specs.Prelude.{encode_utf8_all, option_map, find, slice_get, option_and_then, Option, Bool, true, false, Some, map, cond}
 use Rattle.std.specs.Str.{IsUtf8, bytes_eq}
-use Rattle.std.specs.Cmp.Lexicographic.{pointwise, texts_ties}
 use Rattle.wap_base.specs.Texts.{is_same_text}
-use Rattle.wap_base.proofs.Utf8Order.{cmp-encode_utf8_all}
 use Rattle.clap.specs.Walk.{Text, Row, first_of}
 use Rattle.wap_words.specs.Reading.{Use, text_of}
 use Rattle.wap_words.specs.inside.Matching.{row_of_use, AreTexts, HasUses, AreMatched, text_in}
-
--- two texts are the same where their bytes are
-same-encode_utf8_all : (a b : List ℕ) → pointwise nat_eq (encode_utf8_all a) (encode_utf8_all b) ≡ is_same_text a b
-same-encode_utf8_all a b = texts_ties (encode_utf8_all a) (encode_utf8_all b) ∙ ap is_eq (cmp-encode_utf8_all a b) ∙ sym (texts_ties a b)
-
-browse_ascii : encode_utf8_all (codes "browse") ≡ codes "browse"
-unfolding encode_utf8
-browse_ascii = refl
-
-pub browse_bytes : (name : List ℕ) → pointwise nat_eq (encode_utf8_all name) (codes "browse") ≡ is_same_text name (codes "browse")
-browse_bytes name = ap (pointwise nat_eq (encode_utf8_all name)) (sym browse_ascii) ∙ same-encode_utf8_all name (codes "browse")
 
 -- one text more
 pub more_texts : (words : List Text) (word : Text) → AreTexts words → IsUtf8 word → AreTexts (words ++ word ∷ [])
@@ -72,3 +58,6 @@ browse_given m uses (given, is, has) =
     ∙ ap (λ (budget : Option Text). browse_by (text_of (codes "url") given) (text_of (codes "seed") given) budget (text_in m (codes "cache"))) (text_given m given (codes "budget") has)
     ∙ ap (browse_by (text_of (codes "url") given) (text_of (codes "seed") given) (text_of (codes "budget") given)) (text_given m given (codes "cache") has)
     ∙ sym (ap (option_and_then browse_of) is)
+
+pub page_given : (on : PageCommand) (m : ArgMatches) (uses : Option (List Use)) → AreMatched (Some m) uses → page_by on (text_in m (codes "name")) ≡ option_and_then (page_of on) uses
+page_given on m uses (given, is, has) = ap (page_by on) (text_given m given (codes "name") has) ∙ sym (ap (option_and_then (page_of on)) is)

@@ -1,11 +1,14 @@
 -- The words of commands. This project's own.
-use Rattle.std.specs.Prelude.{ℕ, nat_lt, ◌==◌, if◌then◌else◌, List, [], ◌∷◌, map, Option, Some, None, option_and_then, encode_utf8_all, codes}
-use Rattle.std.specs.Str.{chars}
-use Rattle.wap_base.specs.Texts.{is_same_text}
+use Rattle.std.specs.Prelude.{ℕ, nat_lt, if◌then◌else◌, List, [], ◌∷◌, map, Option, Some, None, option_and_then, encode_utf8_all, codes}
+use Rattle.std.specs.Map.{lookup}
+use Rattle.std.specs.Str.{bytes_eq, chars}
 use Rattle.wap_keys.specs.Decimal.{decimal_of}
 use Rattle.wap_words.specs.declared.words.Command.{Command}
 use Rattle.wap_words.specs.declared.words.Command.TheVariants as command_is
-use Rattle.wap_words.specs.declared.words.Browse.{Browse}
+use Rattle.wap_words.specs.declared.words.PageCommand.{PageCommand}
+use Rattle.wap_words.specs.declared.word.Word.{Word}
+use Rattle.wap_words.specs.declared.word.Word.TheVariants as word
+use Rattle.wap_words.specs.declared.word.TheConstants.{WORDS}
 use Rattle.wap_words.specs.Reading.{Form, Use, uses_of, text_of}
 
 -- what is none stays none
@@ -43,10 +46,33 @@ browse_by url seed budget cache = do
 abbrev pub browse_of : List Use → Option Command
 browse_of uses = browse_by (text_of (codes "url") uses) (text_of (codes "seed") uses) (text_of (codes "budget") uses) (text_of (codes "cache") uses)
 
+-- ---- commands on one page
+
+abbrev pub page_form : Form
+page_form = record { positional = codes "name"; options = [] }
+
+abbrev pub page_by : PageCommand → Option (List ℕ) → Option Command
+page_by on name = do
+  name ← name
+  Some (command_is.Page on (chars name))
+
+abbrev pub page_of : PageCommand → List Use → Option Command
+page_of on uses = page_by on (text_of (codes "name") uses)
+
 -- ---- commands
+
+-- what a word says that begins a command
+abbrev pub word_named : List ℕ → Option Word
+word_named name = lookup (bytes_eq name) (map (λ row. (row.0.now, row.1)) WORDS)
+
+-- what follows the word, by the form of its command
+abbrev pub command_by : Word → List (List ℕ) → Option Command
+command_by word.Browse words = uses_of browse_form words >>= browse_of
+command_by (word.Page on) words = uses_of page_form words >>= page_of on
 
 -- the command that words are, with its values
 abbrev pub command : List (List ℕ) → Option Command
 command [] = None
-command (name ∷ words) =
-    if is_same_text name (codes "browse") then option_and_then browse_of (uses_of browse_form (map encode_utf8_all words)) else None
+command (name ∷ words) = do
+  word ← word_named (encode_utf8_all name)
+  command_by word (map encode_utf8_all words)

@@ -2,6 +2,7 @@
 #![tactic(auto)]
 
 mod matching;
+mod word;
 mod words;
 
-pub use words::{Browse, Command, read_words};
+pub use words::{Browse, Command, PageCommand, read_words};

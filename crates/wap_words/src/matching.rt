@@ -2,19 +2,20 @@
 ghost use Rattle.std.specs.Prelude.{◌≡◌, IfOk, map, drop, option_map};
 ghost use Rattle.clap.specs.Simple.{app_of};
 ghost use Rattle.wap_words.specs.Reading.{uses_of};
-ghost use Rattle.wap_words.specs.Words.{browse_form};
-ghost use Rattle.wap_words.specs.inside.Matching.{browse_app, AreMatched, AreTexts, text_in};
+ghost use Rattle.wap_words.specs.Words.{browse_form, page_form};
+ghost use Rattle.wap_words.specs.inside.Matching.{app_by, AreMatched, IsMatchedBy};
+ghost use Rattle.wap_words.specs.inside.Matching.{AreTexts, text_in};
 
 use clap::error::ErrorKind;
 use clap::{Arg, ArgMatches};
 use std::alloc::{AllocError, Global};
 use wap_base::NoMemory;
 
-/// The parser of what follows `browse`.
-fn browse_parser<'a>(alloc: Global) -> Result<clap::Command<'a>, AllocError>
-    ensures { IfOk result (λ parser. app_of parser ≡ browse_app) }
+/// The parser of what follows the word of `browse`.
+fn browse_parser<'a>(alloc: Global, word: &'a str) -> Result<clap::Command<'a>, AllocError>
+    ensures { IfOk result (λ parser. app_of parser ≡ app_by word.entry.now browse_form) }
 {
-    clap::Command::new(alloc, "browse")
+    clap::Command::new(alloc, word)
         .disable_help_flag(true)
         .arg(Arg::new(alloc, "url"))?
         .arg(Arg::new(alloc, "seed").long("seed"))?
@@ -22,22 +23,58 @@ fn browse_parser<'a>(alloc: Global) -> Result<clap::Command<'a>, AllocError>
         .arg(Arg::new(alloc, "cache").long("cache"))
 }
 
-/// What the words behind the first give for `browse`, or none where they aren't of its form.
-pub(crate) fn browse_matches<'a>(
-    alloc: Global,
+/// The parser of what follows the word of a command on one page.
+fn page_parser<'a>(alloc: Global, word: &'a str) -> Result<clap::Command<'a>, AllocError>
+    ensures { IfOk result (λ parser. app_of parser ≡ app_by word.entry.now page_form) }
+{
+    clap::Command::new(alloc, word)
+        .disable_help_flag(true)
+        .arg(Arg::new(alloc, "name"))
+}
+
+/// What a parser makes of the words behind the first, or none where they aren't of its form.
+fn matches_by<'a>(
+    parser: clap::Command<'a>,
     words: &'a [&'a str],
 ) -> Result<Option<ArgMatches<'a>>, NoMemory>
     requires { AreTexts (map (λ word. word.now) words.now) }
-    ensures { IfOk result (λ matches. AreMatched matches
-        (uses_of browse_form (drop 1 (map (λ word. word.now) words.entry.now)))) }
+    ensures { IfOk result (λ matches. IsMatchedBy (app_of parser.entry)
+        (drop 1 (map (λ word. word.now) words.entry.now)) matches) }
 {
-    match browse_parser(alloc)?.try_get_matches_from(words) {
+    match parser.try_get_matches_from(words) {
         Ok(matches) => Ok(Some(matches)),
         Err(error) => match error.kind() {
             ErrorKind::OutOfMemory => Err(NoMemory),
             _ => Ok(None),
         },
     }
+}
+
+/// What the words behind the first give for `browse`, or none where they aren't of its form.
+pub(crate) fn browse_matches<'a>(
+    alloc: Global,
+    word: &'a str,
+    words: &'a [&'a str],
+) -> Result<Option<ArgMatches<'a>>, NoMemory>
+    requires { AreTexts (map (λ word. word.now) words.now) }
+    ensures { IfOk result (λ matches. AreMatched matches
+        (uses_of browse_form (drop 1 (map (λ word. word.now) words.entry.now)))) }
+{
+    matches_by(browse_parser(alloc, word)?, words)
+}
+
+/// What the words behind the first give for a command on one page, or none where they aren't of its
+/// form.
+pub(crate) fn page_matches<'a>(
+    alloc: Global,
+    word: &'a str,
+    words: &'a [&'a str],
+) -> Result<Option<ArgMatches<'a>>, NoMemory>
+    requires { AreTexts (map (λ word. word.now) words.now) }
+    ensures { IfOk result (λ matches. AreMatched matches
+        (uses_of page_form (drop 1 (map (λ word. word.now) words.entry.now)))) }
+{
+    matches_by(page_parser(alloc, word)?, words)
 }
 
 /// The text that was given for a name.

@@ -1,12 +1,13 @@
 //! Commands, and the words that say them.
 ghost use Rattle.std.specs.Prelude.{◌≡◌, IfOk, map, drop, option_map, option_and_then};
 ghost use Rattle.std.specs.Prelude.{encode_utf8_all, codes};
-ghost use Rattle.wap_base.specs.Texts.{is_same_text};
 ghost use Rattle.wap_words.specs.Reading.{uses_of};
-ghost use Rattle.wap_words.specs.Words.{number_of, browse_form, browse_by, browse_of, command};
+ghost use Rattle.wap_words.specs.Words.{number_of, browse_form, browse_by, browse_of};
+ghost use Rattle.wap_words.specs.Words.{page_form, page_by, page_of, command};
 ghost use Rattle.wap_words.specs.inside.Matching.{AreTexts, text_in};
 
-use crate::matching::{browse_matches, text_in};
+use crate::matching::{browse_matches, page_matches, text_in};
+use crate::word::{Word, word_named};
 use clap::ArgMatches;
 use std::alloc::Global;
 use wap_base::{NoMemory, Text};
@@ -24,10 +25,25 @@ pub struct Browse {
     pub cache: u32,
 }
 
+/// What is done with one page.
+#[derive(Clone, Copy, Debug, PartialEq, Eq)]
+pub enum PageCommand {
+    /// It is read as a compiled unit, and verified.
+    Verify,
+    /// It is read as a compiled unit, and listed.
+    List,
+    /// It is read as a document, and its deck is checked.
+    Check,
+    /// It is read as a document, and written again.
+    Canon,
+}
+
 /// A command, with its values.
 #[derive(Debug, Drop, PartialEq, Eq)]
 pub enum Command {
     Browse(Browse),
+    /// What is done with the page of a name.
+    Page(PageCommand, Text),
 }
 
 /// A number in its range, or what it is where none is given.
@@ -104,30 +120,60 @@ fn texts_of<'a>(alloc: Global, words: &'a [Text]) -> Result<Vec<&'a str>, NoMemo
     Ok(texts)
 }
 
-/// The command of words that begin with `browse`.
-fn read_browse(alloc: Global, words: &[Text]) -> Result<Option<Command>, NoMemory>
+/// The command of words that begin with that of `browse`.
+fn read_browse(alloc: Global, word: &str, words: &[Text]) -> Result<Option<Command>, NoMemory>
     ensures { IfOk result (λ said. said ≡ option_and_then browse_of
         (uses_of browse_form (drop 1 (map encode_utf8_all words.now)))) }
 {
     let texts = texts_of(alloc, words)?;
-    match browse_matches(alloc, &texts)? {
+    match browse_matches(alloc, word, &texts)? {
         Some(matches) => browse_in(alloc, &matches),
         None => Ok(None),
     }
 }
 
-fn is_browse(name: &Text) -> bool
-    ensures { result ≡ is_same_text name.now (codes "browse") }
+/// The command of matches.
+fn page_in(
+    alloc: Global,
+    command: PageCommand,
+    matches: &ArgMatches,
+) -> Result<Option<Command>, NoMemory>
+    ensures { IfOk result (λ said. said ≡ page_by command (text_in matches.now (codes "name"))) }
 {
-    name.as_str() == "browse"
+    match text_in(matches, "name") {
+        Some(name) => Ok(Some(Command::Page(command, Text::of(alloc, name)?))),
+        None => Ok(None),
+    }
+}
+
+/// The command of words that begin with that of a command on one page.
+fn read_page(
+    alloc: Global,
+    command: PageCommand,
+    word: &str,
+    words: &[Text],
+) -> Result<Option<Command>, NoMemory>
+    ensures { IfOk result (λ said. said ≡ option_and_then (page_of command)
+        (uses_of page_form (drop 1 (map encode_utf8_all words.now)))) }
+{
+    let texts = texts_of(alloc, words)?;
+    match page_matches(alloc, word, &texts)? {
+        Some(matches) => page_in(alloc, command, &matches),
+        None => Ok(None),
+    }
 }
 
 /// The command that words are, or none.
 pub fn read_words(alloc: Global, words: &[Text]) -> Result<Option<Command>, NoMemory>
     ensures { IfOk result (λ said. said ≡ command words.now) }
 {
-    match words {
-        [name, ..] if is_browse(name) => read_browse(alloc, words),
-        _ => Ok(None),
+    let [first, ..] = words else {
+        return Ok(None);
+    };
+    let first = first.as_str();
+    match word_named(first) {
+        Some(Word::Browse) => read_browse(alloc, first, words),
+        Some(Word::Page(command)) => read_page(alloc, command, first, words),
+        None => Ok(None),
     }
 }

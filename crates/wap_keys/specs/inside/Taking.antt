@@ -5,6 +5,7 @@ use Rattle.wap_base.specs.Ascii.{line_feed}
 use Rattle.wap_base.specs.Count.{raised}
 use Rattle.wap_base.specs.Transfer.{TakesFrom, IsAtEnd}
 use Rattle.wap_input.specs.declared.key.Key.{Key}
+use Rattle.wap_keys.specs.declared.limits.TheConstants.{KEYS_LIMIT, LINE_LIMIT, PIECE_LIMIT}
 use Rattle.wap_keys.specs.declared.fault.KeyFault.{KeyFault}
 use Rattle.wap_keys.specs.declared.fault.KeyFault.TheVariants.{NoMemory}
 use Rattle.wap_keys.specs.declared.ending.Ending.{Ending}
@@ -19,9 +20,7 @@ use Rattle.wap_keys.specs.declared.reader.Taken.{Taken}
 use Rattle.wap_keys.specs.declared.reader.Taken.TheVariants as taken
 use Rattle.wap_keys.specs.declared.reader.More.{More}
 use Rattle.wap_keys.specs.declared.reader.More.TheVariants as more
-use Rattle.wap_keys.specs.Forms.{line_limit}
-use Rattle.wap_keys.specs.Lines.{Keys, key_before, limit}
-use Rattle.wap_keys.specs.Read.{piece_limit}
+use Rattle.wap_keys.specs.Lines.{key_before}
 use Rattle.wap_keys.specs.Reading.{Reading, said_yet}
 
 -- no line feed is among the bytes
@@ -30,12 +29,12 @@ is_unended bytes = list_all (λ c. not (c == line_feed)) bytes
 
 -- a line is gone on with by what follows it up to a line feed
 abbrev pub TakesFront : List ℕ → List ℕ → List ℕ → Front → Type 0
-TakesFront old new unread front.Begun = (is_unended unread ≡ true) × (new ≡ old ++ unread) × (length new ≤ line_limit)
+TakesFront old new unread front.Begun = (is_unended unread ≡ true) × (new ≡ old ++ unread) × (length new ≤ LINE_LIMIT)
 TakesFront old new unread (front.Whole place) =
     (place < length unread) × (unread ≡ take place unread ++ line_feed ∷ drop (place + 1) unread) × (is_unended (take place unread) ≡ true)
-    × (new ≡ old ++ take place unread) × (length new ≤ line_limit)
+    × (new ≡ old ++ take place unread) × (length new ≤ LINE_LIMIT)
 TakesFront old new unread front.TooLong =
-    (begun : List ℕ) × (rest : List ℕ) × (unread ≡ begun ++ rest) × (is_unended begun ≡ true) × (line_limit < length old + length begun) × (new ≡ old)
+    (begun : List ℕ) × (rest : List ℕ) × (unread ≡ begun ++ rest) × (is_unended begun ≡ true) × (LINE_LIMIT < length old + length begun) × (new ≡ old)
 
 abbrev pub said_of : Result (Option Key) KeyFault → Said
 said_of (Ok None) = said.Nothing
@@ -54,16 +53,16 @@ TakesSaid old new (said.Bad fault) = (fault ≢ NoMemory) × (new.over ≡ old.o
 
 -- or the line is only begun
 abbrev pub TakesLine : Reading → Reading → Taken → Type 0
-TakesLine old new taken.Begun = (is_unended old.unread ≡ true) × (length old.unread ≤ line_limit) × (new ≡ old)
+TakesLine old new taken.Begun = (is_unended old.unread ≡ true) × (length old.unread ≤ LINE_LIMIT) × (new ≡ old)
 TakesLine old new (taken.Line said) = TakesSaid old new said
 
 -- more bytes are read; or the source is at its end, has more than may be read, or failed
 abbrev pub ReadsMore : Option (List ℕ) → Option (List ℕ) → Reading → Reading → More → Type 0
 ReadsMore before after old new more.Piece =
-    (piece : List ℕ) × TakesFrom before after piece × (0 < length piece) × (length piece ≤ piece_limit) × (old.count + length piece ≤ limit)
+    (piece : List ℕ) × TakesFrom before after piece × (0 < length piece) × (length piece ≤ PIECE_LIMIT) × (old.count + length piece ≤ KEYS_LIMIT)
     × (new ≡ record old { unread = old.unread ++ piece; count = old.count + length piece })
 ReadsMore before after old new more.AtEnd = IsAtEnd before × TakesFrom before after [] × (new ≡ record old { over = true })
-ReadsMore before after old new more.Past = (piece : List ℕ) × TakesFrom before after piece × (length piece ≡ 1) × (old.count ≡ limit) × (new ≡ old)
+ReadsMore before after old new more.Past = (piece : List ℕ) × TakesFrom before after piece × (length piece ≡ 1) × (old.count ≡ KEYS_LIMIT) × (new ≡ old)
 ReadsMore before after old new more.Failed = (after ≡ before) × (new ≡ old)
 
 -- how often a source has told its end, behind a read that comes to this
@@ -75,7 +74,7 @@ ends_by ends more.Failed = ends
 
 -- some bytes were taken, and are lost
 abbrev pub TakesSome : Option (List ℕ) → Option (List ℕ) → Reading → Type 0
-TakesSome before after old = (piece : List ℕ) × TakesFrom before after piece × (length piece ≤ piece_limit) × (old.count + length piece ≤ limit + 1)
+TakesSome before after old = (piece : List ℕ) × TakesFrom before after piece × (length piece ≤ PIECE_LIMIT) × (old.count + length piece ≤ KEYS_LIMIT + 1)
 
 -- what the last line comes to
 abbrev pub last_next : ℕ → Said → Next

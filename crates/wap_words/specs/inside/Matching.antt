@@ -1,21 +1,28 @@
 -- What the kit's parser of command lines is asked for, and what its matches say.
-use Rattle.std.specs.Prelude.{◌≡◌, ◌≢◌, true, false, List, [], ◌∷◌, map, Option, Some, None, codes, ⊤}
+use Rattle.std.specs.Prelude.{◌≡◌, true, false, List, [], ◌∷◌, map, Option, Some, None, ⊤}
+use Rattle.std.specs.Borrow.{Bor}
 use Rattle.std.specs.Str.{IsUtf8}
 use Rattle.clap.specs.Walk.{Row, Rule, Text, rows_of, first_of}
 use Rattle.clap.specs.Matches.{found_of}
-use Rattle.clap.specs.Simple.{App, new_app, new_rule, with_rule, on_top}
+use Rattle.clap.specs.Simple.{App, new_rule, new_shape}
 use Rattle.clap.specs.declared.parser.matches.ArgMatches.{ArgMatches}
 use Rattle.clap.specs.declared.parser.matches.ValueSource.TheVariants.{CommandLine}
 use Rattle.clap.specs.declared.builder.value_parser.Reading.TheVariants as reading
-use Rattle.wap_words.specs.Reading.{Use}
+use Rattle.wap_words.specs.Reading.{Form, Use, is_option, uses_of}
+use Rattle.wap_words.specs.declared.word.Word.{Word}
 
 abbrev pub option_named : Text → Rule
 option_named name = record (new_rule name) { long = Some name }
 
-abbrev pub browse_app : App
-browse_app =
-    with_rule (with_rule (with_rule (with_rule (on_top (λ s. record s { disable_help_flag = true }) (new_app (codes "browse")))
-    (new_rule (codes "url"))) (option_named (codes "seed"))) (option_named (codes "budget"))) (option_named (codes "cache"))
+-- a parser of what follows a command's name, by its form
+abbrev pub app_by : Text → Form → App
+app_by name form = record {
+  top = record (new_shape name) {
+    rules = new_rule form.positional ∷ map option_named form.options;
+    disable_help_flag = true;
+  };
+  subs = [];
+}
 
 -- a use as a row of the matches
 abbrev pub row_of_use : Use → Row
@@ -30,6 +37,12 @@ abbrev pub AreMatched : Option ArgMatches → Option (List Use) → Type 0
 AreMatched None uses = uses ≡ None
 AreMatched (Some matches) uses = (given : List Use) × (uses ≡ Some given) × HasUses matches given
 
+-- a parser of any form, of which no option is called as the positional is, matches the words that are of that form
+abbrev pub IsMatchedBy : App → List Text → Option ArgMatches → Type 0
+IsMatchedBy app words matches =
+    (name : Text) (form : Form) → app ≡ app_by name form → is_option form form.positional ≡ false
+    → AreMatched matches (uses_of form words)
+
 -- each word is UTF-8
 abbrev pub AreTexts : List Text → Type 0
 AreTexts [] = ⊤
@@ -38,3 +51,7 @@ AreTexts (word ∷ words) = IsUtf8 word × AreTexts words
 -- the text that matches have for a name
 abbrev pub text_in : ArgMatches → Text → Option Text
 text_in matches name = first_of name (rows_of (found_of matches))
+
+-- the rows of a table of words, by their names
+abbrev pub by_name : List (Bor Text × Word) → List (Text × Word)
+by_name = map (λ row. (row.0.now, row.1))

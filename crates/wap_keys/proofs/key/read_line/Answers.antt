@@ -1,8 +1,3 @@
-use Rattle.std.proofs.Common.{◌≡◌, ℕ, ◌∙◌, ap, sym, subst, Bool, true, false, cond, length, rules, Result, Ok, Err, nat_lt}
-use Rattle.std.proofs.lemmas.Bool.{lt-ltb, le-ltb}
-use Rattle.std.specs.Str.{is_utf8}
-use Rattle.std.proofs.lemmas.Str.{is_utf8-from_IsUtf8}
-use Rattle.wap_keys.specs.Forms.{key_at}
 use Rattle.wap_keys.proofs.KeyLaws.{long_key, bad_text, text_key}
 use Rattle.wap_keys.proofs.key.read_line.Goals as goal
 

@@ -1,4 +1,4 @@
-use Rattle.std.proofs.Common.{◌≡◌, ℕ, List, map, drop, Option, Some, ap, subst, ◌∙◌, sym}
+use Rattle.std.proofs.Common.{◌≡◌, ℕ, List, map, drop, Option, ap, subst, ◌∙◌}
 use Rattle.std.specs.Prelude.{encode_utf8_all, option_and_then}
 use Rattle.std.specs.Borrow.{Bor}
 use Rattle.std.proofs.lemmas.Result.{IfOk-weaker}
@@ -6,7 +6,6 @@ use Rattle.clap.specs.declared.parser.matches.ArgMatches.{ArgMatches}
 use Rattle.wap_words.specs.Reading.{uses_of}
 use Rattle.wap_words.specs.Words.{browse_form, browse_of}
 use Rattle.wap_words.specs.inside.Matching.{AreMatched}
-use Rattle.wap_words.specs.declared.words.Command.{Command}
 use Rattle.wap_words.proofs.TextLaws.{browse_given}
 use Rattle.wap_words.proofs.words.read_browse.Goals as goal
 

@@ -1,4 +1,3 @@
-use Rattle.std.proofs.Common.{ℕ, List}
 use Rattle.wap_words.proofs.TextLaws.{same_next, texts_next}
 use Rattle.wap_words.proofs.words.texts_of.Goals as goal
 

@@ -1,4 +1,4 @@
-use Rattle.std.proofs.Common.{◌≡◌, [], ◌++◌, drop, refl}
+use Rattle.std.proofs.Common.{◌++◌, drop, refl}
 use Rattle.wap_keys.proofs.ReaderLaws.{begun}
 use Rattle.wap_keys.proofs.reader.Reader.new.Goals as goal
 

@@ -1,12 +1,11 @@
-use Rattle.std.proofs.Common.{◌≡◌, ℕ, ◌≤◌, true, false, length, Some, None, ◌∙◌, sym, ap, subst, arith}
+use Rattle.std.proofs.Common.{◌≡◌, ◌≤◌, true, false, length, None, ◌∙◌, sym, ap, subst, arith}
 use Rattle.wap_base.specs.Count.{raised}
-use Rattle.wap_keys.specs.declared.ending.Ending.{Ending}
+use Rattle.wap_keys.specs.declared.limits.TheConstants.{LINE_LIMIT}
 use Rattle.wap_keys.specs.declared.ending.Ending.TheVariants.{BadKey, TooManyKeys, ReadFault, End}
 use Rattle.wap_keys.specs.declared.ending.Next.TheVariants as next
 use Rattle.wap_keys.specs.declared.reader.Taken.TheVariants as taken
-use Rattle.wap_keys.specs.Forms.{line_limit}
 use Rattle.wap_keys.specs.Reading.{Reading, Answers, GivesUp, GivesUpEnds, room}
-use Rattle.wap_keys.specs.inside.Taking.{is_unended, TakesLine, ReadsMore, TakesSome, ends_by}
+use Rattle.wap_keys.specs.inside.Taking.{is_unended, TakesLine, ReadsMore, ends_by}
 use Rattle.wap_keys.proofs.ReaderLaws.{gives_up_at_once}
 use Rattle.wap_keys.proofs.ReaderSteps.{Keeps, on_err, same_keeps, keeps_then, then_answers, then_gives_up, line_goes, line_answers, line_bad, piece_goes, past_answers, fault_answers, over_answers, end_gives_up, lost, finish_answers, finish_falls, line_falls, piece_falls, piece_over}
 use Rattle.wap_keys.proofs.EndLaws.{same_ends, lost_same, lost_raised, finish_ends, steady_ok, piece_no_fault, end_no_fault, past_no_fault}
@@ -45,7 +44,7 @@ returns-in_err-read_more-in-Begun-clause-gives_up g c =
     let keeps : Keeps (g.I.Source.left c.args.source.now) (g.I.Source.left c.loop-self.source) c.args.self.now c.take_line.new.self = same_keeps (g.I.Source.left c.args.source.now) (g.I.Source.left c.loop-self.source) c.args.self.now c.loop-self.self c.take_line.new.self begun.2 c.loop-self.invariant.keeps in
     let goes_on : c.take_line.new.self.over ≡ false = ap (λ (r : Reading). r.over) begun.2 ∙ (ap (λ (r : Reading). r.over) (sym c.self.view_is) ∙ c.loop-self-test.true) in
     let all : is_unended c.take_line.new.self.unread ≡ true = ap (λ (r : Reading). is_unended r.unread) begun.2 ∙ begun.0 in
-    let short : length c.take_line.new.self.unread ≤ line_limit = rw begun.2 begun.1 in
+    let short : length c.take_line.new.self.unread ≤ LINE_LIMIT = rw begun.2 begun.1 in
     on_err c.from_residual-in_err-read_more-in-Begun.result (GivesUp (g.I.Source.left c.args.source.now) (g.I.Source.left c.read_more.new.source) c.args.self.now)
     (then_gives_up (g.I.Source.left c.args.source.now) (g.I.Source.left c.loop-self.source) (g.I.Source.left c.read_more.new.source) c.args.self.now c.take_line.new.self keeps (lost (g.I.Source.left c.loop-self.source) (g.I.Source.left c.read_more.new.source) c.take_line.new.self goes_on all short c.in_err-read_more-in-Begun.ensures.lost))
 
@@ -55,7 +54,7 @@ loop-self-preserved g c =
     let keeps : Keeps (g.I.Source.left c.args.source.now) (g.I.Source.left c.loop-self.source) c.args.self.now c.take_line.new.self = same_keeps (g.I.Source.left c.args.source.now) (g.I.Source.left c.loop-self.source) c.args.self.now c.loop-self.self c.take_line.new.self begun.2 c.loop-self.invariant.keeps in
     let goes_on : c.take_line.new.self.over ≡ false = ap (λ (r : Reading). r.over) begun.2 ∙ (ap (λ (r : Reading). r.over) (sym c.self.view_is) ∙ c.loop-self-test.true) in
     let all : is_unended c.take_line.new.self.unread ≡ true = ap (λ (r : Reading). is_unended r.unread) begun.2 ∙ begun.0 in
-    let short : length c.take_line.new.self.unread ≤ line_limit = rw begun.2 begun.1 in
+    let short : length c.take_line.new.self.unread ≤ LINE_LIMIT = rw begun.2 begun.1 in
     let more = subst (ReadsMore (g.I.Source.left c.loop-self.source) (g.I.Source.left c.read_more.new.source) c.take_line.new.self c.read_more.new.self) c.in-Piece.is c.in_ok-read_more-in-Begun.ensures.more in
     record {
       keeps = keeps_then (g.I.Source.left c.args.source.now) (g.I.Source.left c.loop-self.source) (g.I.Source.left c.read_more.new.source) c.args.self.now c.take_line.new.self c.read_more.new.self keeps (piece_goes (g.I.Source.left c.loop-self.source) (g.I.Source.left c.read_more.new.source) c.take_line.new.self c.read_more.new.self goes_on all short more);
@@ -71,7 +70,7 @@ returns-in-AtEnd-clause-answers g c =
     let keeps : Keeps (g.I.Source.left c.args.source.now) (g.I.Source.left c.loop-self.source) c.args.self.now c.take_line.new.self = same_keeps (g.I.Source.left c.args.source.now) (g.I.Source.left c.loop-self.source) c.args.self.now c.loop-self.self c.take_line.new.self begun.2 c.loop-self.invariant.keeps in
     let goes_on : c.take_line.new.self.over ≡ false = ap (λ (r : Reading). r.over) begun.2 ∙ (ap (λ (r : Reading). r.over) (sym c.self.view_is) ∙ c.loop-self-test.true) in
     let all : is_unended c.take_line.new.self.unread ≡ true = ap (λ (r : Reading). is_unended r.unread) begun.2 ∙ begun.0 in
-    let short : length c.take_line.new.self.unread ≤ line_limit = rw begun.2 begun.1 in
+    let short : length c.take_line.new.self.unread ≤ LINE_LIMIT = rw begun.2 begun.1 in
     finish_answers c.finish.result (g.I.Source.left c.args.source.now) (g.I.Source.left c.loop-self.source) (g.I.Source.left c.read_more.new.source) c.args.self.now c.take_line.new.self c.read_more.new.self c.finish.new.self keeps goes_on all short (subst (ReadsMore (g.I.Source.left c.loop-self.source) (g.I.Source.left c.read_more.new.source) c.take_line.new.self c.read_more.new.self) c.in-AtEnd.is c.in_ok-read_more-in-Begun.ensures.more) c.finish.ensures.said c.finish.ensures.rest
 
 pub returns-in-AtEnd-clause-gives_up : goal.returns-in-AtEnd-clause-gives_up
@@ -80,7 +79,7 @@ returns-in-AtEnd-clause-gives_up g c =
     let keeps : Keeps (g.I.Source.left c.args.source.now) (g.I.Source.left c.loop-self.source) c.args.self.now c.take_line.new.self = same_keeps (g.I.Source.left c.args.source.now) (g.I.Source.left c.loop-self.source) c.args.self.now c.loop-self.self c.take_line.new.self begun.2 c.loop-self.invariant.keeps in
     let goes_on : c.take_line.new.self.over ≡ false = ap (λ (r : Reading). r.over) begun.2 ∙ (ap (λ (r : Reading). r.over) (sym c.self.view_is) ∙ c.loop-self-test.true) in
     let all : is_unended c.take_line.new.self.unread ≡ true = ap (λ (r : Reading). is_unended r.unread) begun.2 ∙ begun.0 in
-    let short : length c.take_line.new.self.unread ≤ line_limit = rw begun.2 begun.1 in
+    let short : length c.take_line.new.self.unread ≤ LINE_LIMIT = rw begun.2 begun.1 in
     on_err c.finish.result (GivesUp (g.I.Source.left c.args.source.now) (g.I.Source.left c.read_more.new.source) c.args.self.now)
     (then_gives_up (g.I.Source.left c.args.source.now) (g.I.Source.left c.loop-self.source) (g.I.Source.left c.read_more.new.source) c.args.self.now c.take_line.new.self keeps (end_gives_up (g.I.Source.left c.loop-self.source) (g.I.Source.left c.read_more.new.source) c.take_line.new.self c.read_more.new.self goes_on all short (subst (ReadsMore (g.I.Source.left c.loop-self.source) (g.I.Source.left c.read_more.new.source) c.take_line.new.self c.read_more.new.self) c.in-AtEnd.is c.in_ok-read_more-in-Begun.ensures.more)))
 
@@ -95,7 +94,7 @@ returns-in-Past-clause-answers g c =
     let keeps : Keeps (g.I.Source.left c.args.source.now) (g.I.Source.left c.loop-self.source) c.args.self.now c.take_line.new.self = same_keeps (g.I.Source.left c.args.source.now) (g.I.Source.left c.loop-self.source) c.args.self.now c.loop-self.self c.take_line.new.self begun.2 c.loop-self.invariant.keeps in
     let goes_on : c.take_line.new.self.over ≡ false = ap (λ (r : Reading). r.over) begun.2 ∙ (ap (λ (r : Reading). r.over) (sym c.self.view_is) ∙ c.loop-self-test.true) in
     let all : is_unended c.take_line.new.self.unread ≡ true = ap (λ (r : Reading). is_unended r.unread) begun.2 ∙ begun.0 in
-    let short : length c.take_line.new.self.unread ≤ line_limit = rw begun.2 begun.1 in
+    let short : length c.take_line.new.self.unread ≤ LINE_LIMIT = rw begun.2 begun.1 in
     then_answers (g.I.Source.left c.args.source.now) (g.I.Source.left c.loop-self.source) (g.I.Source.left c.read_more.new.source) c.args.self.now c.take_line.new.self c.read_more.new.self (next.Ended TooManyKeys) keeps (past_answers (g.I.Source.left c.loop-self.source) (g.I.Source.left c.read_more.new.source) c.take_line.new.self c.read_more.new.self goes_on all short (subst (ReadsMore (g.I.Source.left c.loop-self.source) (g.I.Source.left c.read_more.new.source) c.take_line.new.self c.read_more.new.self) c.in-Past.is c.in_ok-read_more-in-Begun.ensures.more))
 
 pub returns-in-Failed-clause-answers : goal.returns-in-Failed-clause-answers
@@ -104,7 +103,7 @@ returns-in-Failed-clause-answers g c =
     let keeps : Keeps (g.I.Source.left c.args.source.now) (g.I.Source.left c.loop-self.source) c.args.self.now c.take_line.new.self = same_keeps (g.I.Source.left c.args.source.now) (g.I.Source.left c.loop-self.source) c.args.self.now c.loop-self.self c.take_line.new.self begun.2 c.loop-self.invariant.keeps in
     let goes_on : c.take_line.new.self.over ≡ false = ap (λ (r : Reading). r.over) begun.2 ∙ (ap (λ (r : Reading). r.over) (sym c.self.view_is) ∙ c.loop-self-test.true) in
     let all : is_unended c.take_line.new.self.unread ≡ true = ap (λ (r : Reading). is_unended r.unread) begun.2 ∙ begun.0 in
-    let short : length c.take_line.new.self.unread ≤ line_limit = rw begun.2 begun.1 in
+    let short : length c.take_line.new.self.unread ≤ LINE_LIMIT = rw begun.2 begun.1 in
     then_answers (g.I.Source.left c.args.source.now) (g.I.Source.left c.loop-self.source) (g.I.Source.left c.read_more.new.source) c.args.self.now c.take_line.new.self c.read_more.new.self (next.Ended ReadFault) keeps (fault_answers (g.I.Source.left c.loop-self.source) (g.I.Source.left c.read_more.new.source) c.take_line.new.self c.read_more.new.self goes_on all short (subst (ReadsMore (g.I.Source.left c.loop-self.source) (g.I.Source.left c.read_more.new.source) c.take_line.new.self c.read_more.new.self) c.in-Failed.is c.in_ok-read_more-in-Begun.ensures.more))
 
 pub returns-clause-answers : goal.returns-clause-answers

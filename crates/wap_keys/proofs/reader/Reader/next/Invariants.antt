@@ -1,5 +1,5 @@
 use Rattle.std.proofs.Common.{◌≡◌, ◌≤◌, ◌+◌, ◌-◌}
-use Rattle.wap_keys.specs.Lines.{limit}
+use Rattle.wap_keys.specs.declared.limits.TheConstants.{KEYS_LIMIT}
 use Rattle.wap_keys.specs.Reading.{room}
 use Rattle.wap_keys.proofs.ReaderSteps.{Keeps}
 use Rattle.wap_keys.proofs.reader.Reader.next.Given as goal
@@ -14,4 +14,4 @@ invariant-loop-self g l = record {
 }
 
 abbrev pub decreases-loop-self : goal.decreases-loop-self
-decreases-loop-self g l = room l.self + (limit - l.self.count)
+decreases-loop-self g l = room l.self + (KEYS_LIMIT - l.self.count)
