@@ -1,26 +1,55 @@
 -- Lines that are shown. This project's own.
 use Rattle.std.specs.Prelude.{ℕ, ◌||◌, ◌==◌, nat_lt, if◌then◌else◌, List, [], ◌∷◌, ◌++◌, map, encode_utf8_all, codes}
 use Rattle.std.specs.List.{flat_map}
+use Rattle.wap_base.specs.Ascii.{space, full_stop, delete, line_feed, equals_sign}
+use Rattle.wap_world.specs.declared.refusal.Refusal.{Refusal}
+use Rattle.wap_world.specs.declared.refusal.Refusal.TheVariants.{Budget, Url, Scheme, Missing, Refused, Denied, First, Ignored, Mask, Full, Long}
+
+-- ---- bytes
 
 -- a control character is shown as a dot
 abbrev pub shown_character : ℕ → ℕ
-shown_character c = if nat_lt c 32 || (c == 127) then 46 else c
+shown_character c = if nat_lt c space || c == delete then full_stop else c
 
 -- a line as it is written: its characters in UTF-8, and a line feed
 abbrev pub line_bytes : List ℕ → List ℕ
-line_bytes line = encode_utf8_all (map shown_character line) ++ 10 ∷ []
+line_bytes line = encode_utf8_all (map shown_character line) ++ line_feed ∷ []
 
 abbrev pub lines_bytes : List (List ℕ) → List ℕ
 lines_bytes lines = flat_map line_bytes lines
 
--- a request for a page, without a body
-abbrev pub get_line : List ℕ → List ℕ
-get_line url = codes "> GET " ++ url
+-- ---- refusals
 
--- a refusal
-abbrev pub refusal_line : List ℕ → List ℕ
-refusal_line word = codes "! " ++ word
+abbrev pub word_of : Refusal → List ℕ
+word_of Budget = codes "budget"
+word_of Url = codes "url"
+word_of Scheme = codes "scheme"
+word_of Missing = codes "missing"
+word_of Refused = codes "refused"
+word_of Denied = codes "denied"
+word_of First = codes "first"
+word_of Ignored = codes "ignored"
+word_of Mask = codes "mask"
+word_of Full = codes "full"
+word_of Long = codes "long"
+
+abbrev pub refusal_line : Refusal → List ℕ
+refusal_line refusal = codes "! " ++ word_of refusal
+
+-- ---- parts of a screen, and variables
+
+-- a mark, and a text after a space, if there is one
+abbrev pub marked : List ℕ → List ℕ → List ℕ
+marked mark [] = mark
+marked mark (c ∷ cs) = mark ++ space ∷ c ∷ cs
+
+abbrev pub title_line : List ℕ → List ℕ
+title_line title = marked (codes "=") title
+
+-- a do, by its name and its label
+abbrev pub do_line : List ℕ × List ℕ → List ℕ
+do_line one = marked (codes "* " ++ one.0) one.1
 
 -- a variable, by its name and its text
 abbrev pub variable_line : List ℕ × List ℕ → List ℕ
-variable_line variable = codes "$ " ++ (variable.0 ++ (61 ∷ variable.1))
+variable_line variable = codes "$ " ++ variable.0 ++ equals_sign ∷ variable.1

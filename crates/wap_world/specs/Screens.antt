@@ -1,61 +1,58 @@
--- The screen of a card: its title, its paragraphs, each on a line of its own, and its dos. Values are filled from the
--- variables. This project's own.
-use Rattle.std.specs.Prelude.{ℕ, List, [], ◌∷◌, ◌++◌, map, Option, Some, None, if◌then◌else◌, codes}
-use Rattle.std.specs.List.{flat_map}
-use Rattle.wap_base.specs.declared.name.Part.{Part}
-use Rattle.wap_markup.specs.declared.deck.Node.{Node}
-use Rattle.wap_markup.specs.declared.deck.Item.{Item, out-Item}
-use Rattle.wap_markup.specs.declared.deck.Item.TheOpen.{Item-F}
-use Rattle.wap_markup.specs.declared.name.Tag.TheVariants as tags
-use Rattle.wap_markup.specs.declared.name.AttrName.TheVariants as attrs
-use Rattle.wap_markup.specs.Tables.{is_same_tag}
-use Rattle.wap_markup.specs.Trees.{ItemLevel, value_of}
-use Rattle.wap_markup.specs.Cards.{dos_of}
-use Rattle.wap_vars.specs.Filling.{filled}
+-- The screen of a card (WAP-191, section 11.5), and when it is shown. Its form is this project's
+-- own.
+use Rattle.std.specs.Prelude.{ℕ, List, [], ◌∷◌, ◌++◌, map, Option, Some, None}
+use Rattle.wap_filling.specs.Variables.{Variables}
+use Rattle.wap_layout.specs.Calculation.{lines_of}
+use Rattle.wap_cardrules.specs.Setting.{defaults}
+use Rattle.wap_cardrules.specs.Dos.{do_labels}
+use Rattle.wap_cardrules.specs.Flow.{flow_of, title_of}
+use Rattle.wap_world.specs.declared.refusal.Refusal.{Refusal}
+use Rattle.wap_world.specs.declared.screen.TheConstants.{COLUMNS}
+use Rattle.wap_world.specs.Pages.{Pages}
+use Rattle.wap_world.specs.World.{World, Place, place_now}
+use Rattle.wap_world.specs.Lines.{title_line, do_line, refusal_line}
+use Rattle.wap_world.specs.Steps.{Scene, still, behind, and_then}
+use Rattle.wap_world.specs.Setting.{with_set}
+use Rattle.wap_world.specs.Timers.{started}
 
--- texts under names, in ascending order of names
-abbrev pub Variables : Type 0
-Variables = List (List ℕ × List ℕ)
+-- its title, its content and its active dos
+abbrev pub screen : Variables → Place → List (List ℕ)
+screen vars place =
+    title_line (title_of vars place.card)
+    ∷ lines_of COLUMNS (flow_of vars place.card)
+    ++ map do_line (do_labels vars place.deck place.card)
 
--- the value of an attribute, filled; without the attribute nothing
-abbrev pub value_text : Variables → Option (List Part) → List ℕ
-value_text vars None = []
-value_text vars (Some parts) = filled vars parts
+-- a rule for the current card; without one nothing happens
+abbrev pub at_place : (Place → World → Scene) → Option Place → World → Scene
+at_place rule None world = still world
+at_place rule (Some place) world = rule place world
 
--- a mark, and a text behind a space, if there is one
-abbrev pub marked : List ℕ → List ℕ → List ℕ
-marked mark [] = mark
-marked mark (c ∷ cs) = mark ++ (32 ∷ c ∷ cs)
+abbrev pub here : Pages → (Place → World → Scene) → World → Scene
+here pages rule world = at_place rule (place_now pages world) world
 
-abbrev pub title_line : Variables → Node → List ℕ
-title_line vars card = marked (codes "=") (value_text vars (value_of attrs.Title card))
+-- ---- the screen is shown
 
-abbrev pub text_from : Variables → ItemLevel → List ℕ
-text_from vars (Item-F.Text parts) = filled vars parts
-text_from vars (Item-F.Node node) = []
+abbrev pub screen_lines : Place → World → Scene
+screen_lines place world = record { world = world; lines = screen world.vars place }
 
-abbrev pub item_text : Variables → Item → List ℕ
-item_text vars item = text_from vars (out-Item item)
+-- the screen alone
+abbrev pub show_screen : Pages → World → Scene
+show_screen pages world = here pages screen_lines world
 
--- the text of a paragraph
-abbrev pub paragraph_line : Variables → Node → List ℕ
-paragraph_line vars paragraph = flat_map (item_text vars) paragraph.kids
+-- ---- show
 
--- an empty text is on no line
-abbrev pub line_if_some : List ℕ → List (List ℕ)
-line_if_some [] = []
-line_if_some (c ∷ cs) = (c ∷ cs) ∷ []
+-- the fields get their defaults
+abbrev pub apply_defaults : Place → World → Scene
+apply_defaults place world = with_set world (defaults world.vars place.card)
 
-abbrev pub lines_from : Variables → ItemLevel → List (List ℕ)
-lines_from vars (Item-F.Node node) = if is_same_tag node.tag tags.P then line_if_some (paragraph_line vars node) else []
-lines_from vars (Item-F.Text parts) = []
+abbrev pub show_place : Place → World → Scene
+show_place place world =
+    and_then (apply_defaults place world) (λ w. screen_lines place (started w.timer place.card w))
 
-abbrev pub item_lines : Variables → Item → List (List ℕ)
-item_lines vars item = lines_from vars (out-Item item)
+-- defaults, timer and screen
+abbrev pub show : Pages → World → Scene
+show pages world = here pages show_place world
 
--- a do: its type, and its label
-abbrev pub do_line : Variables → Node → List ℕ
-do_line vars node = marked (codes "* " ++ value_text vars (value_of attrs.Type node)) (value_text vars (value_of attrs.Label node))
-
-abbrev pub screen : Variables → Node → List (List ℕ)
-screen vars card = title_line vars card ∷ (flat_map (item_lines vars) card.kids ++ map (do_line vars) (dos_of card))
+-- a refusal that ends a navigation is followed by show
+abbrev pub refuse : Pages → Refusal → World → Scene
+refuse pages refusal world = behind (refusal_line refusal ∷ []) (show pages world)

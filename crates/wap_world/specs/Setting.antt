@@ -1,44 +1,30 @@
--- The setvars of a task (WAP-191, section 9.9): variables are set in the order of the document. The lines of refusals
--- are this project's own.
-use Rattle.std.specs.Prelude.{ℕ, List, [], ◌∷◌, ◌++◌, map, Result, Ok, Err, codes}
-use Rattle.wap_markup.specs.declared.deck.Node.{Node}
-use Rattle.wap_markup.specs.declared.name.AttrName.TheVariants as attrs
-use Rattle.wap_markup.specs.Trees.{value_of}
-use Rattle.wap_markup.specs.Tasks.{setvars_of}
-use Rattle.wap_vars.specs.Setting.{set_in}
-use Rattle.wap_vars.specs.declared.fault.VarFault.{VarFault}
-use Rattle.wap_vars.specs.declared.fault.VarFault.TheVariants.{BadName, TooLong, Full, NoMemory}
+-- Setting the variables of a world (WAP-191, sections 9.9 and 10.3.4). The lines of refusals are
+-- this project's own.
+use Rattle.std.specs.Prelude.{ℕ, List, [], ◌∷◌}
+use Rattle.std.specs.List.{flat_map}
+use Rattle.wap_filling.specs.declared.fault.VarFault.{VarFault}
+use Rattle.wap_filling.specs.declared.fault.VarFault.TheVariants.{BadName, TooLong, Full, NoMemory}
+use Rattle.wap_cardrules.specs.Values.{Pairs}
+use Rattle.wap_cardrules.specs.Setting.{Set, set_all}
+use Rattle.wap_world.specs.declared.refusal.Refusal.TheVariants as refusals
+use Rattle.wap_world.specs.World.{World}
 use Rattle.wap_world.specs.Lines.{refusal_line}
-use Rattle.wap_world.specs.Screens.{Variables, value_text}
-
--- the variables behind some that were set, and the lines of those that were refused
-pub record Set : Type 0 where
-  pub vars : Variables
-  pub lines : List (List ℕ)
+use Rattle.wap_world.specs.Steps.{Scene}
 
 -- a name that is none of a variable is passed over
-abbrev pub refusal_lines : VarFault → List (List ℕ)
-refusal_lines BadName = []
-refusal_lines (TooLong bytes) = refusal_line (codes "long") ∷ []
-refusal_lines Full = refusal_line (codes "full") ∷ []
-refusal_lines NoMemory = []
+abbrev pub fault_lines : VarFault → List (List ℕ)
+fault_lines BadName = []
+fault_lines (TooLong bytes) = refusal_line refusals.Long ∷ []
+fault_lines Full = refusal_line refusals.Full ∷ []
+fault_lines NoMemory = []
 
-abbrev pub outcome : Variables → Result Variables VarFault → Set
-outcome vars (Ok more) = record { vars = more; lines = [] }
-outcome vars (Err fault) = record { vars = vars; lines = refusal_lines fault }
+-- the variables after some sets, and a line for each that was refused
+abbrev pub with_set : World → Set → Scene
+with_set world set = record {
+  world = record world { vars = set.vars };
+  lines = flat_map fault_lines set.refused;
+}
 
--- texts that are set under names, one after the other
-abbrev pub set_all : Variables → List (List ℕ × List ℕ) → Set
-set_all vars [] = record { vars = vars; lines = [] }
-set_all vars (text ∷ texts) =
-    let one = outcome vars (set_in vars text.0 text.1) in
-    let others = set_all one.vars texts in
-    record { vars = others.vars; lines = one.lines ++ others.lines }
-
--- a name and a text, both filled
-abbrev pub setvar_text : Variables → Node → List ℕ × List ℕ
-setvar_text vars setvar = (value_text vars (value_of attrs.Name setvar), value_text vars (value_of attrs.Value setvar))
-
--- a task's setvars are all filled, and then set
-abbrev pub set_by : Variables → Node → Set
-set_by vars task = set_all vars (map (setvar_text vars) (setvars_of task))
+-- a task's setvars, which are filled already, one after the other
+abbrev pub set_variables : Pairs → World → Scene
+set_variables pairs world = with_set world (set_all world.vars pairs)

@@ -1,4 +1,14 @@
-//! What a browser of decks does, as definitions in `specs/`: the lines of screens and requests, the
-//! world with its current card, steps, and transcripts. There is no code here: the crates above are
-//! proved against these definitions.
+//! What a browser of decks does, as definitions in `specs/`: the world and its history, what is
+//! shown, requests, tasks, events, timers, keys, and transcripts. There is no code here but the
+//! types that those and the crates above share.
 #![tactic(auto)]
+
+mod history;
+mod refusal;
+mod screen;
+mod timer;
+
+pub use history::Entry;
+pub use refusal::Refusal;
+pub use screen::COLUMNS;
+pub use timer::Timer;

@@ -1,9 +1,9 @@
 -- The transcript of a session: what its URL shows, and then its keys, one after the other. This project's own.
 use Rattle.std.specs.Prelude.{ℕ, List, [], ◌∷◌, ◌++◌}
 use Rattle.wap_input.specs.declared.key.Key.{Key}
-use Rattle.wap_world.specs.Lines.{lines_bytes}
-use Rattle.wap_world.specs.Pages.{Pages}
-use Rattle.wap_world.specs.World.{World, Step, opened, react}
+use Rattle.wap_world.specs.first.Lines.{lines_bytes}
+use Rattle.wap_world.specs.first.Pages.{Pages}
+use Rattle.wap_world.specs.first.World.{World, Step, opened, react}
 
 -- one step, and what follows from its world on
 abbrev pub followed : Step → (World → Step) → Step

@@ -1,0 +1,54 @@
+-- The dos of a card (WAP-191, sections 9.4 and 9.6).
+use Rattle.std.specs.Prelude.{ℕ, Bool, not, map, filter, find, is_some, unwrap_or, List, [], ◌++◌, Option}
+use Rattle.std.specs.List.{list_any}
+use Rattle.std.specs.Option.{option_map_or, option_and_then}
+use Rattle.wap_base.specs.Texts.{is_same_text}
+use Rattle.wap_markup.specs.declared.deck.Deck.{Deck}
+use Rattle.wap_markup.specs.declared.deck.Node.{Node}
+use Rattle.wap_markup.specs.declared.name.Tag.TheVariants as tags
+use Rattle.wap_markup.specs.declared.name.AttrName.TheVariants as attrs
+use Rattle.wap_markup.specs.Tables.{is_same_tag}
+use Rattle.wap_markup.specs.Trees.{value_of}
+use Rattle.wap_markup.specs.Tasks.{task_of}
+use Rattle.wap_markup.specs.Good.{name_of_do}
+use Rattle.wap_filling.specs.Variables.{Variables}
+use Rattle.wap_filling.specs.Filling.{value_text}
+use Rattle.wap_cardrules.specs.declared.task.Task.{Task}
+use Rattle.wap_cardrules.specs.Values.{Pairs}
+use Rattle.wap_cardrules.specs.Content.{elements_of}
+use Rattle.wap_cardrules.specs.Tasks.{task_in}
+use Rattle.wap_cardrules.specs.Events.{template_of}
+
+-- the dos of a card or a template, those in paragraphs too
+abbrev pub dos_in : Node → List Node
+dos_in node = filter (λ one. is_same_tag one.tag tags.Do) (elements_of node)
+
+-- the name of a do, or else its type
+abbrev pub do_name : Node → List ℕ
+do_name node = unwrap_or (name_of_do node) []
+
+abbrev pub has_do : List ℕ → Node → Bool
+has_do name card = list_any (λ one. is_same_text name (do_name one)) (dos_in card)
+
+-- the card's dos, and then those of the template whose name no do of the card has
+abbrev pub dos_for : Deck → Node → List Node
+dos_for deck card =
+    dos_in card
+    ++ filter (λ one. not (has_do (do_name one) card)) (option_map_or dos_in (template_of deck) [])
+
+-- those that are no noop
+abbrev pub active_dos : Deck → Node → List Node
+active_dos deck card = filter (λ one. is_some (task_of one)) (dos_for deck card)
+
+abbrev pub label_of : Variables → Node → List ℕ
+label_of vars node = value_text vars (value_of attrs.Label node)
+
+-- their names and labels
+abbrev pub do_labels : Variables → Deck → Node → Pairs
+do_labels vars deck card = map (λ one. (do_name one, label_of vars one)) (active_dos deck card)
+
+-- the task of the active do of this name
+abbrev pub do_task : Variables → Deck → Node → List ℕ → Option Task
+do_task vars deck card name =
+    option_and_then (task_in vars)
+    (find (λ one. is_same_text name (do_name one)) (active_dos deck card))

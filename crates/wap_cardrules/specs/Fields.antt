@@ -1,0 +1,41 @@
+-- The fields of a card (WAP-191, sections 11.6 and 9.7): links, inputs and selects, which are
+-- numbered together from 1 in the order of the document. The numbers are this project's own.
+use Rattle.std.specs.Prelude.{ℕ, zero, suc, Bool, filter, slice_get, if◌then◌else◌, List, [], ◌∷◌, Option, Some, None}
+use Rattle.std.specs.Option.{option_and_then}
+use Rattle.wap_markup.specs.declared.deck.Node.{Node}
+use Rattle.wap_markup.specs.declared.name.Tag.{Tag}
+use Rattle.wap_markup.specs.declared.name.Tag.TheVariants as tags
+use Rattle.wap_markup.specs.declared.name.AttrName.TheVariants as attrs
+use Rattle.wap_markup.specs.Tables.{is_same_tag}
+use Rattle.wap_markup.specs.Trees.{value_of, if_tagged}
+use Rattle.wap_markup.specs.Good.{is_among}
+use Rattle.wap_filling.specs.Variables.{Variables}
+use Rattle.wap_filling.specs.Filling.{value_text}
+use Rattle.wap_cardrules.specs.declared.task.Task.{Task}
+use Rattle.wap_cardrules.specs.Content.{elements_of}
+use Rattle.wap_cardrules.specs.Tasks.{go_to, task_in}
+
+abbrev pub is_field : Tag → Bool
+is_field tag = is_among (tags.A ∷ tags.Anchor ∷ tags.Input ∷ tags.Select ∷ []) tag
+
+abbrev pub fields_of : Node → List Node
+fields_of card = filter (λ node. is_field node.tag) (elements_of card)
+
+-- the item of this number, from 1
+abbrev pub numbered : {X : Type 0} → List X → ℕ → Option X
+numbered xs zero = None
+numbered xs (suc n) = slice_get xs n
+
+-- the field of this number, if it has this tag
+abbrev pub field_with : Tag → Node → ℕ → Option Node
+field_with tag card n = if_tagged tag (numbered (fields_of card) n)
+
+-- the task of a link
+abbrev pub task_of_link : Variables → Node → Option Task
+task_of_link vars field =
+    if is_same_tag field.tag tags.A then Some (go_to (value_text vars (value_of attrs.Href field)))
+    else if is_same_tag field.tag tags.Anchor then task_in vars field
+    else None
+
+abbrev pub link_task : Variables → Node → ℕ → Option Task
+link_task vars card n = option_and_then (task_of_link vars) (numbered (fields_of card) n)

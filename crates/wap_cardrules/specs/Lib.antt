@@ -1,0 +1,12 @@
+pub mod Values
+pub mod Content
+pub mod Tasks
+pub mod Events
+pub mod Dos
+pub mod Timers
+pub mod Fields
+pub mod Inputs
+pub mod Selects
+pub mod Setting
+pub mod Entering
+pub mod Flow

@@ -1,0 +1,9 @@
+pub mod Parts
+pub mod Marks
+pub mod Words
+pub mod Kids
+pub mod Onevents
+pub mod Digits
+pub mod Sets
+pub mod Names
+pub mod Goes

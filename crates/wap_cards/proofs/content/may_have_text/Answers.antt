@@ -1,0 +1,7 @@
+use Rattle.std.proofs.Common.{rules}
+use Rattle.wap_markup.specs.Good.{rule_of, rules as the_rules}
+use Rattle.wap_cards.proofs.content.may_have_text.Goals as goal
+
+pub returns : goal.returns
+unfolding rule_of the_rules
+returns c = c.text_beside.ensures

@@ -1,0 +1,13 @@
+use Rattle.std.proofs.Common.{List, ℕ, Option, ap, ◌∙◌}
+use Rattle.std.specs.Option.{option_flatten}
+use Rattle.wap_markup.specs.declared.name.AttrName.TheVariants as attrs
+use Rattle.wap_cardrules.specs.declared.task.Task.{Task}
+use Rattle.wap_cardrules.specs.Events.{bound_in}
+use Rattle.wap_cards.proofs.Words.{word_onpick}
+use Rattle.wap_cards.proofs.events.onpick.Goals as goal
+
+pub returns : goal.returns
+returns c =
+    c.flatten.ensures
+    ∙ ap (λ (bound : Option (Option Task)). option_flatten bound) c.in_ok-bound.ensures
+    ∙ ap (λ (word : List ℕ). option_flatten (bound_in c.args.vars.now (record { type = word; attribute = attrs.Onpick }) c.args.option.now)) word_onpick

@@ -1,0 +1,206 @@
+//! The dos of a card (WAP-191, sections 9.4 and 9.6).
+ghost use Rattle.std.specs.Prelude.{◌≡◌, ◌++◌, [], not, filter, find, is_some, IfOk, OnOk, ℕ, List};
+ghost use Rattle.std.specs.List.{list_any};
+ghost use Rattle.std.specs.Option.{option_map_or};
+ghost use Rattle.wap_base.specs.Texts.{is_same_text};
+ghost use Rattle.wap_markup.specs.Trees.{value_of};
+ghost use Rattle.wap_markup.specs.Tasks.{task_of};
+ghost use Rattle.wap_markup.specs.Good.{first_of, name_of_do};
+ghost use Rattle.wap_cardrules.specs.Events.{template_of};
+ghost use Rattle.wap_cardrules.specs.Dos.{dos_in, do_name, active_dos, label_of, do_labels, do_task};
+
+use crate::content::elements_of;
+use crate::events::template_of;
+use crate::filling::fill_value;
+use crate::tasks::{task_in, task_of};
+use crate::texts::Texts;
+use crate::values::plain_text;
+use std::alloc::Global;
+use wap_base::{NoMemory, Rows, Text};
+use wap_cardrules::Task;
+use wap_good::{AttrName, GoodDeck, Run, Tag, View};
+use wap_vars::Vars;
+
+/// The value of a do's name, or else of its type.
+fn named_value<'a>(view: &View<'a>) -> Option<Run<'a>>
+    ensures { result ≡ first_of (value_of AttrName.Name view.now) (value_of AttrName.Type view.now) }
+{
+    match view.attr(AttrName::Name) {
+        Some(value) => Some(value),
+        None => view.attr(AttrName::Type),
+    }
+}
+
+/// The name of a do, or else its type.
+fn name_of_do(alloc: Global, view: &View<'_>) -> Result<Option<Text>, NoMemory>
+    ensures { IfOk result (λ name. name ≡ name_of_do view.now) }
+{
+    match named_value(view) {
+        Some(value) => plain_text(alloc, value),
+        None => Ok(None),
+    }
+}
+
+/// The name of a do, or else its type, and without these the empty text.
+fn do_name(alloc: Global, view: &View<'_>) -> Result<Text, NoMemory>
+    ensures { IfOk result (λ name. name ≡ do_name view.now) }
+{
+    match name_of_do(alloc, view)? {
+        Some(name) => Ok(name),
+        None => Ok(Text::new(alloc)),
+    }
+}
+
+/// The dos of a card or a template.
+fn dos_in<'a>(alloc: Global, view: &View<'a>) -> Result<Rows<View<'a>>, NoMemory>
+    ensures { IfOk result (λ dos. dos ≡ dos_in view.now) }
+{
+    let elements = elements_of(alloc, view)?;
+    let mut dos = Rows::new(alloc);
+    for element in elements.as_slice() {
+        if element.tag() == Tag::Do {
+            dos.add(element.again())?;
+        }
+    }
+    Ok(dos)
+}
+
+/// The names of dos.
+fn names_of(alloc: Global, dos: &[View<'_>]) -> Result<Texts, NoMemory>
+    ensures { IfOk result (λ names. (name : List ℕ) → list_any (is_same_text name) names
+        ≡ list_any (λ one. is_same_text name (do_name one)) dos.now) }
+{
+    let mut names = Texts::new(alloc);
+    for one in dos {
+        names.add(do_name(alloc, one)?)?;
+    }
+    Ok(names)
+}
+
+/// Whether the name of a do is none of some.
+fn is_other(alloc: Global, one: &View<'_>, names: &Texts) -> Result<bool, NoMemory>
+    ensures { IfOk result (λ is_so. is_so
+        ≡ not (list_any (is_same_text (do_name one.now)) names.now)) }
+{
+    let name = do_name(alloc, one)?;
+    Ok(!names.has(&name))
+}
+
+/// The dos whose name is none of some.
+fn others<'a>(alloc: Global, dos: &[View<'a>], names: &Texts) -> Result<Rows<View<'a>>, NoMemory>
+    ensures { IfOk result (λ others. others
+        ≡ filter (λ one. not (list_any (is_same_text (do_name one)) names.now)) dos.now) }
+{
+    let mut others = Rows::new(alloc);
+    for one in dos {
+        if is_other(alloc, one, names)? {
+            others.add(one.again())?;
+        }
+    }
+    Ok(others)
+}
+
+/// The dos of the template whose name is none of some.
+fn template_dos<'a>(
+    alloc: Global,
+    deck: &'a GoodDeck,
+    names: &Texts,
+) -> Result<Rows<View<'a>>, NoMemory>
+    ensures { IfOk result (λ others. others
+        ≡ filter (λ one. not (list_any (is_same_text (do_name one)) names.now))
+        (option_map_or dos_in (template_of deck.now) [])) }
+{
+    match template_of(deck) {
+        Some(template) => {
+            let dos = dos_in(alloc, &template)?;
+            others(alloc, dos.as_slice(), names)
+        }
+        None => Ok(Rows::new(alloc)),
+    }
+}
+
+/// Appends the dos that are no noop.
+fn add_active<'a>(dos: &[View<'a>], active: &mut Rows<View<'a>>) -> Result<(), NoMemory>
+    ensures { OnOk result
+        (active.new ≡ active.old ++ filter (λ one. is_some (task_of one)) dos.now) }
+{
+    for one in dos {
+        if task_of(one).is_some() {
+            active.add(one.again())?;
+        }
+    }
+    Ok(())
+}
+
+/// The dos of a card that are no noop: its own, and those of the template whose name none of its
+/// own has.
+fn active<'a>(
+    alloc: Global,
+    deck: &'a GoodDeck,
+    card: &View<'a>,
+) -> Result<Rows<View<'a>>, NoMemory>
+    ensures { IfOk result (λ dos. dos ≡ active_dos deck.now card.now) }
+{
+    let own = dos_in(alloc, card)?;
+    let names = names_of(alloc, own.as_slice())?;
+    let others = template_dos(alloc, deck, &names)?;
+    let mut active = Rows::new(alloc);
+    add_active(own.as_slice(), &mut active)?;
+    add_active(others.as_slice(), &mut active)?;
+    Ok(active)
+}
+
+/// The name and the label of a do.
+fn label_in(alloc: Global, vars: &Vars, view: &View<'_>) -> Result<(Text, Text), NoMemory>
+    ensures { IfOk result (λ pair. pair ≡ (do_name view.now, label_of vars.now view.now)) }
+{
+    let name = do_name(alloc, view)?;
+    Ok((name, fill_value(alloc, vars, view, AttrName::Label)?))
+}
+
+/// The names and labels of the active dos of a card, which is one of the deck.
+pub fn active_dos(
+    alloc: Global,
+    deck: &GoodDeck,
+    card: &View<'_>,
+    vars: &Vars,
+) -> Result<Rows<(Text, Text)>, NoMemory>
+    ensures { IfOk result (λ dos. dos ≡ do_labels vars.now deck.now card.now) }
+{
+    let dos = active(alloc, deck, card)?;
+    let mut labels = Rows::new(alloc);
+    for one in dos.as_slice() {
+        labels.add(label_in(alloc, vars, one)?)?;
+    }
+    Ok(labels)
+}
+
+/// The first do of a name.
+fn find_do<'a>(alloc: Global, dos: &[View<'a>], name: &Text) -> Result<Option<View<'a>>, NoMemory>
+    ensures { IfOk result (λ found. found
+        ≡ find (λ one. is_same_text name.now (do_name one)) dos.now) }
+{
+    for one in dos {
+        if *name == do_name(alloc, one)? {
+            return Ok(Some(one.again()));
+        }
+    }
+    Ok(None)
+}
+
+/// The task of the active do of a name, filled. There is none where no active do has the name.
+pub fn do_task(
+    alloc: Global,
+    deck: &GoodDeck,
+    card: &View<'_>,
+    name: &Text,
+    vars: &Vars,
+) -> Result<Option<Task>, NoMemory>
+    ensures { IfOk result (λ task. task ≡ do_task vars.now deck.now card.now name.now) }
+{
+    let dos = active(alloc, deck, card)?;
+    match find_do(alloc, dos.as_slice(), name)? {
+        Some(found) => task_in(alloc, vars, &found),
+        None => Ok(None),
+    }
+}

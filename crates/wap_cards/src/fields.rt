@@ -1,0 +1,79 @@
+//! The fields of a card (WAP-191, sections 9.7 and 11.6).
+ghost use Rattle.std.specs.Prelude.{◌≡◌, filter, IfOk};
+ghost use Rattle.wap_cardrules.specs.Fields.{is_field, fields_of, numbered, task_of_link, link_task};
+
+use crate::content::{elements_of, is_among};
+use crate::filling::fill_value;
+use crate::tasks::{go_to, task_in};
+use std::alloc::Global;
+use wap_base::{NoMemory, Rows};
+use wap_cardrules::Task;
+use wap_good::{AttrName, Tag, View};
+use wap_vars::Vars;
+
+const FIELDS: &[Tag] = &[Tag::A, Tag::Anchor, Tag::Input, Tag::Select];
+
+/// Whether an element is a link, an input or a select.
+pub fn is_field(tag: Tag) -> bool
+    ensures { result ≡ is_field tag }
+{
+    is_among(FIELDS, tag)
+}
+
+/// The fields of a card, in the order of the document.
+pub fn fields_of<'a>(alloc: Global, card: &View<'a>) -> Result<Rows<View<'a>>, NoMemory>
+    ensures { IfOk result (λ fields. fields ≡ fields_of card.now) }
+{
+    let elements = elements_of(alloc, card)?;
+    let mut fields = Rows::new(alloc);
+    for element in elements.as_slice() {
+        if is_field(element.tag()) {
+            fields.add(element.again())?;
+        }
+    }
+    Ok(fields)
+}
+
+/// The view of a number, from 1.
+pub fn numbered<'a>(views: &[View<'a>], number: u16) -> Option<View<'a>>
+    ensures { result ≡ numbered views.now number }
+{
+    if number == 0 {
+        return None;
+    }
+    match views.get(usize::from(number) - 1) {
+        Some(view) => Some(view.again()),
+        None => None,
+    }
+}
+
+/// The task of a link, filled.
+fn task_of_link(alloc: Global, vars: &Vars, field: &View<'_>) -> Result<Option<Task>, NoMemory>
+    ensures { IfOk result (λ task. task ≡ task_of_link vars.now field.now) }
+{
+    if field.tag() == Tag::A {
+        let href = fill_value(alloc, vars, field, AttrName::Href)?;
+        return Ok(Some(go_to(alloc, href)));
+    }
+    if field.tag() == Tag::Anchor {
+        return task_in(alloc, vars, field);
+    }
+    Ok(None)
+}
+
+/// The task of the link of this number, filled. There is none where no field has the number, and
+/// where that field is no link.
+pub fn link_task(
+    alloc: Global,
+    card: &View<'_>,
+    number: u16,
+    vars: &Vars,
+) -> Result<Option<Task>, NoMemory>
+    ensures { IfOk result (λ task. task ≡ link_task vars.now card.now number) }
+{
+    let fields = fields_of(alloc, card)?;
+    match numbered(fields.as_slice(), number) {
+        Some(field) => task_of_link(alloc, vars, &field),
+        None => Ok(None),
+    }
+}

@@ -1,0 +1,27 @@
+//! The cards of a good deck, read through views: what they hold, their tasks, dos, events and
+//! timers. What these mean stands in `wap_cardrules`.
+#![tactic(auto)]
+
+mod content;
+mod dos;
+mod events;
+mod fields;
+mod filling;
+mod numbers;
+mod tasks;
+mod texts;
+mod timers;
+mod titles;
+mod values;
+
+pub use content::{Mark, content_of, elements_of, is_among};
+pub use dos::{active_dos, do_task};
+pub use events::{binding, onpick, template_of};
+pub use fields::{fields_of, is_field, link_task, numbered};
+pub use filling::{fill, fill_value, value_if};
+pub use numbers::number_in;
+pub use tasks::{first_with, go_to, is_filled, task_in, task_of};
+pub use texts::Texts;
+pub use timers::{text_under, timer_of};
+pub use titles::title;
+pub use values::{is_true, is_word, plain_text, plain_value, variable_in};

@@ -1,0 +1,9 @@
+pub mod Limits
+pub mod Walks
+pub mod Splitting
+pub mod Joining
+pub mod Marking
+pub mod Search
+pub mod Saying
+pub mod Orders
+pub mod Giving

@@ -1,0 +1,37 @@
+-- Entering and leaving a card (WAP-191, sections 9.5, 9.10 and 11.7).
+use Rattle.std.specs.Prelude.{List, Option, Some, None}
+use Rattle.std.specs.Option.{option_and_then}
+use Rattle.wap_input.specs.declared.key.Key.{Key}
+use Rattle.wap_cardrules.specs.declared.event.Event.{Event}
+use Rattle.wap_cardrules.specs.declared.task.Task.{Task}
+use Rattle.wap_cardrules.specs.Events.{binding}
+use Rattle.wap_world.specs.declared.timer.Timer.TheVariants.{NotStarted}
+use Rattle.wap_world.specs.Pages.{Pages}
+use Rattle.wap_world.specs.World.{World, Place, place_now}
+use Rattle.wap_world.specs.Steps.{Scene, Once, still, quiet, settled}
+use Rattle.wap_world.specs.Timers.{store_left}
+use Rattle.wap_world.specs.Screens.{here, show}
+
+-- a timer that runs stores what remains
+abbrev pub leave_place : Place → World → Scene
+leave_place place world = store_left world.timer place.card world
+
+abbrev pub leave : Pages → World → Scene
+leave pages world = here pages leave_place world
+
+-- the task of an event of the current card
+abbrev pub event_task : Pages → Event → World → Option Task
+event_task pages event world =
+    option_and_then (λ place. binding world.vars place.deck place.card event)
+    (place_now pages world)
+
+abbrev pub entered : Pages → List Key → World → Option Task → Once
+entered pages keys world None = settled (quiet keys (show pages world))
+entered pages keys world (Some task) = record { step = quiet keys (still world); next = Some task }
+
+-- the current card is entered: its timer is not started, and its event's task is next, or it is
+-- shown
+abbrev pub enter : Pages → List Key → Event → World → Once
+enter pages keys event world =
+    let inside = record world { timer = NotStarted } in
+    entered pages keys inside (event_task pages event inside)

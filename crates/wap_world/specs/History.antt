@@ -1,0 +1,37 @@
+-- The history (WAP-191, section 9.2): the cards that were entered, the current one last. How many
+-- it keeps is this project's own.
+use Rattle.std.specs.Prelude.{ℕ, ◌-◌, nat_lt, if◌then◌else◌, List, [], ◌∷◌, ◌++◌, length, take, drop, Option, None}
+use Rattle.std.specs.List.{last_or}
+use Rattle.wap_url.specs.declared.url.Url.{Url}
+use Rattle.wap_url.specs.Printing.{without_fragment}
+use Rattle.wap_markup.specs.declared.deck.Deck.{Deck}
+use Rattle.wap_markup.specs.Cards.{cards_of}
+use Rattle.wap_world.specs.declared.history.Entry.{Entry}
+use Rattle.wap_world.specs.World.{World}
+
+abbrev pub entry_of : Url → ℕ → Entry
+entry_of url card = record { url = without_fragment url; card = card }
+
+-- one entry more; a full history loses its oldest
+abbrev pub pushed : World → Entry → World
+pushed world entry =
+    let history = world.history in
+    let kept = if nat_lt (length history) world.limits.history then history else drop 1 history in
+    record world { history = kept ++ entry ∷ [] }
+
+abbrev pub all_but_last : List Entry → List Entry
+all_but_last history = take (length history - 1) history
+
+-- the entry before the current one, if there is one
+abbrev pub earlier_entry : World → Option Entry
+earlier_entry world = last_or None (all_but_last world.history)
+
+-- a card's number past the end of its deck becomes that of the first card
+abbrev pub in_deck : Deck → Entry → Entry
+in_deck deck entry =
+    if nat_lt entry.card (length (cards_of deck)) then entry else record entry { card = 0 }
+
+-- the last entry is gone, and this is the earlier one
+abbrev pub popped : World → Entry → World
+popped world earlier =
+    record world { history = all_but_last (all_but_last world.history) ++ earlier ∷ [] }

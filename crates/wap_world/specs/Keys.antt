@@ -1,0 +1,127 @@
+-- Keys: what each comes to outside a dialog (WAP-191, sections 9.4, 9.6, 9.7, 11.6 and 11.7). That
+-- the keys are these is this project's own.
+use Rattle.std.specs.Prelude.{ℕ, ◌-◌, nat_lt, if◌then◌else◌, List, [], ◌∷◌, map, Option, Some, None}
+use Rattle.std.specs.List.{flat_map}
+use Rattle.wap_input.specs.declared.key.Key.{Key}
+use Rattle.wap_input.specs.declared.key.Key.TheVariants as key
+use Rattle.wap_cardrules.specs.declared.answers.Entered.{Entered}
+use Rattle.wap_cardrules.specs.declared.answers.Entered.TheVariants as entered
+use Rattle.wap_cardrules.specs.declared.answers.Chosen.{Chosen}
+use Rattle.wap_cardrules.specs.declared.answers.Chosen.TheVariants as chosen
+use Rattle.wap_cardrules.specs.declared.event.Event.TheVariants as event
+use Rattle.wap_cardrules.specs.declared.task.Task.{Task}
+use Rattle.wap_cardrules.specs.declared.task.Task.TheVariants.{Prev}
+use Rattle.wap_cardrules.specs.Dos.{do_task}
+use Rattle.wap_cardrules.specs.Fields.{link_task}
+use Rattle.wap_cardrules.specs.Entering.{enter_text, choose}
+use Rattle.wap_world.specs.declared.refusal.Refusal.TheVariants as refusals
+use Rattle.wap_world.specs.declared.timer.Timer.{Timer}
+use Rattle.wap_world.specs.declared.timer.Timer.TheVariants.{NotStarted, Running, Off}
+use Rattle.wap_world.specs.Pages.{Pages}
+use Rattle.wap_world.specs.World.{World, Place, place_now}
+use Rattle.wap_world.specs.Lines.{refusal_line, variable_line}
+use Rattle.wap_world.specs.Steps.{Scene, Step, still, behind, quiet, followed}
+use Rattle.wap_world.specs.Setting.{fault_lines}
+use Rattle.wap_world.specs.Timers.{end_timer}
+use Rattle.wap_world.specs.Screens.{show, show_screen, refuse}
+use Rattle.wap_world.specs.Entering.{event_task}
+use Rattle.wap_world.specs.Tasks.{act, visit}
+
+-- a key that fits nothing changes nothing else
+abbrev pub ignored : World → Scene
+ignored world = record { world = world; lines = refusal_line refusals.Ignored ∷ [] }
+
+-- a key's task, if it fits
+abbrev pub act_if : Pages → List Key → World → Option Task → Step
+act_if pages keys world None = quiet keys (ignored world)
+act_if pages keys world (Some task) = act pages keys world task
+
+-- ---- fields
+
+-- a text that a field takes is set and shown; one that it doesn't take leaves the screen as it was
+abbrev pub after_text : Pages → World → Entered → Scene
+after_text pages world entered.NoInput = ignored world
+after_text pages world entered.Refused =
+    behind (refusal_line refusals.Mask ∷ []) (show_screen pages world)
+after_text pages world entered.Full = refuse pages refusals.Full world
+after_text pages world entered.Set = show pages world
+
+abbrev pub type_text : Pages → ℕ → List ℕ → Place → World → Scene
+type_text pages n text place world =
+    let typed = enter_text world.vars place.card n text in
+    after_text pages (record world { vars = typed.vars }) typed.answer
+
+-- the task of onpick, if there is one, else show
+abbrev pub act_or_show : Pages → List Key → World → Option Task → Step
+act_or_show pages keys world None = quiet keys (show pages world)
+act_or_show pages keys world (Some task) = act pages keys world task
+
+abbrev pub after_choice : Pages → List Key → World → Chosen → Step
+after_choice pages keys world chosen.NoOption = quiet keys (ignored world)
+after_choice pages keys world (chosen.Set refused task) = followed
+    (quiet keys (record { world = world; lines = flat_map fault_lines refused }))
+    (λ left w. act_or_show pages left w task)
+
+abbrev pub choose_option : Pages → List Key → ℕ → ℕ → Place → World → Step
+choose_option pages keys n m place world =
+    let made = choose world.vars place.card n m in
+    after_choice pages keys (record world { vars = made.vars }) made.answer
+
+-- ---- the timer
+
+-- the task of an event, if there is one
+abbrev pub act_on_event : Pages → List Key → World → Option Task → Step
+act_on_event pages keys world None = quiet keys (still world)
+act_on_event pages keys world (Some task) = act pages keys world task
+
+-- the timer has run out: its variable is 0, and its task runs
+abbrev pub expire : Pages → List Key → Place → World → Step
+expire pages keys place world = followed (quiet keys (end_timer place.card world))
+    (λ left w. act_on_event pages left w (event_task pages event.Timer w))
+
+-- some time passes: less than remains, or all
+abbrev pub pass_time : Pages → List Key → ℕ → Timer → Place → World → Step
+pass_time pages keys n NotStarted place world = quiet keys (ignored world)
+pass_time pages keys n (Running time) place world =
+    if nat_lt n time then quiet keys (still (record world { timer = Running (time - n) }))
+    else expire pages keys place world
+pass_time pages keys n Off place world = quiet keys (ignored world)
+
+-- ---- each key
+
+-- a rule for the current card; without one a key fits nothing
+abbrev pub at_card : List Key → World → (Place → Step) → Option Place → Step
+at_card keys world rule None = quiet keys (ignored world)
+at_card keys world rule (Some place) = rule place
+
+abbrev pub on_card : Pages → List Key → World → (Place → Step) → Step
+on_card pages keys world rule = at_card keys world rule (place_now pages world)
+
+-- each key has its turns
+abbrev pub renewed : World → World
+renewed world = record world { turns = world.budget }
+
+abbrev pub apply : Pages → List Key → World → Key → Step
+apply pages keys world (key.Open url) = visit pages keys world url
+apply pages keys world (key.Do name) = on_card pages keys world
+    (λ place. act_if pages keys world (do_task world.vars place.deck place.card name))
+apply pages keys world (key.Pick n) = on_card pages keys world
+    (λ place. act_if pages keys world (link_task world.vars place.card n))
+apply pages keys world (key.Enter n text) = on_card pages keys world
+    (λ place. quiet keys (type_text pages n text place world))
+apply pages keys world (key.Choose n m) = on_card pages keys world
+    (λ place. choose_option pages keys n m place world)
+apply pages keys world key.Back = on_card pages keys world
+    (λ place. act pages keys world (Prev []))
+apply pages keys world (key.Tick n) = on_card pages keys world
+    (λ place. pass_time pages keys n world.timer place world)
+apply pages keys world key.Ok = quiet keys (ignored world)
+apply pages keys world key.Cancel = quiet keys (ignored world)
+apply pages keys world (key.Answer text) = quiet keys (ignored world)
+apply pages keys world key.Stop = quiet keys (ignored world)
+apply pages keys world key.Vars =
+    quiet keys (record { world = world; lines = map variable_line world.vars })
+
+-- a key, before keys that are left
+unfoldable pub react : Pages → Key → List Key → World → Step
+react pages one keys world = apply pages keys (renewed world) one

@@ -1,0 +1,53 @@
+-- Sessions and their transcripts. This project's own.
+use Rattle.std.specs.Prelude.{ℕ, zero, suc, List, [], ◌∷◌, length, take}
+use Rattle.wap_base.specs.declared.limits.Limits.{Limits}
+use Rattle.wap_input.specs.declared.key.Key.{Key}
+use Rattle.wap_input.specs.declared.key.Key.TheVariants.{Open}
+use Rattle.wap_world.specs.Pages.{Pages}
+use Rattle.wap_world.specs.World.{World, first_world}
+use Rattle.wap_world.specs.Lines.{lines_bytes}
+use Rattle.wap_world.specs.Steps.{Step, still, quiet, followed}
+use Rattle.wap_world.specs.Keys.{react}
+
+-- ---- keys, one after the other
+
+-- so many keys at most
+abbrev pub played_in : ℕ → Pages → List Key → World → Step
+played_in count pages [] world = quiet [] (still world)
+played_in zero pages (key ∷ keys) world = quiet (key ∷ keys) (still world)
+played_in (suc count) pages (key ∷ keys) world =
+    followed (react pages key keys world) (played_in count pages)
+
+-- what keys come to from a world on: the first is played, and then those that it left
+unfoldable pub played : Pages → List Key → World → Step
+played pages keys world = played_in (length keys) pages keys world
+
+-- what they show, as it is written
+abbrev pub shown : Pages → List Key → World → List ℕ
+shown pages keys world = lines_bytes (played pages keys world).lines
+
+-- ---- sessions
+
+-- what a session is begun with
+pub record Begun : Type 0 where
+  pub url : List ℕ
+  pub seed : ℕ
+  pub budget : ℕ
+  pub limits : Limits
+
+-- the world in which it begins
+abbrev pub world_of : Begun → World
+world_of begun = first_world begun.seed begun.budget begun.limits
+
+-- it opens its URL, and then plays its keys
+abbrev pub session : Pages → Begun → List Key → Step
+session pages begun keys = played pages (Open begun.url ∷ keys) (world_of begun)
+
+-- its lines, as they are written
+abbrev pub transcript : Pages → Begun → List Key → List ℕ
+transcript pages begun keys = lines_bytes (session pages begun keys).lines
+
+-- the step of its first keys: of none, then with the URL that is opened, then with a key more each
+abbrev pub first_steps : Pages → Begun → List Key → ℕ → Step
+first_steps pages begun keys count =
+    played pages (take count (Open begun.url ∷ keys)) (world_of begun)

@@ -1,0 +1,69 @@
+-- What one step comes to. This project's own.
+use Rattle.std.specs.Prelude.{ℕ, Bool, List, [], ◌++◌, Option, None}
+use Rattle.wap_input.specs.declared.key.Key.{Key}
+use Rattle.wap_url.specs.declared.url.Url.{Url}
+use Rattle.wap_cardrules.specs.declared.task.Task.{Task}
+use Rattle.wap_world.specs.World.{World}
+
+-- ---- lines
+
+-- a world, and the lines that led there
+pub record Scene : Type 0 where
+  pub world : World
+  pub lines : List (List ℕ)
+
+abbrev pub still : World → Scene
+still world = record { world = world; lines = [] }
+
+-- some lines, and then a scene
+abbrev pub behind : List (List ℕ) → Scene → Scene
+behind lines scene = record scene { lines = lines ++ scene.lines }
+
+-- one rule, and then another in the world that it leaves
+abbrev pub and_then : Scene → (World → Scene) → Scene
+and_then first next = behind first.lines (next first.world)
+
+-- ---- steps
+
+-- a decision whether a page may be entered: its name, the URL from which, if from one, and the
+-- answer
+pub record AccessTest : Type 0 where
+  pub page : List ℕ
+  pub caller : Option Url
+  pub allowed : Bool
+
+-- a world, the keys that are left, and what the step adds: lines, the names of pages that were
+-- asked for with whether they were to be fetched anew, and access tests
+pub record Step : Type 0 where
+  pub world : World
+  pub keys : List Key
+  pub lines : List (List ℕ)
+  pub asked : List (List ℕ × Bool)
+  pub tests : List AccessTest
+
+-- a scene in which nothing was asked, and no key was used
+abbrev pub quiet : List Key → Scene → Step
+quiet keys scene =
+    record { world = scene.world; keys = keys; lines = scene.lines; asked = []; tests = [] }
+
+-- one step, and then what follows in its world with the keys that it left
+abbrev pub followed : Step → (List Key → World → Step) → Step
+followed one next =
+    let others = next one.keys one.world in
+    record {
+      world = others.world;
+      keys = others.keys;
+      lines = one.lines ++ others.lines;
+      asked = one.asked ++ others.asked;
+      tests = one.tests ++ others.tests;
+    }
+
+-- ---- navigation
+
+-- what one navigation comes to: it is settled, or an event's task is next
+pub record Once : Type 0 where
+  pub step : Step
+  pub next : Option Task
+
+abbrev pub settled : Step → Once
+settled step = record { step = step; next = None }

@@ -1,0 +1,194 @@
+-- Navigation (WAP-191, sections 9.2, 9.3, 9.5 and 9.10): go, open, prev and refresh. One of them is
+-- settled, or leads to the task of an event, which is the next. Turns are this project's own.
+use Rattle.std.specs.Prelude.{ℕ, zero, suc, Bool, true, false, ◌&&◌, not, is_none, if◌then◌else◌, unwrap_or, slice_get, List, [], Option, Some, None, Result, Ok, Err}
+use Rattle.std.specs.Option.{option_map, option_map_or, option_and_then}
+use Rattle.wap_input.specs.declared.key.Key.{Key}
+use Rattle.wap_url.specs.declared.url.Url.{Url}
+use Rattle.wap_markup.specs.declared.deck.Deck.{Deck}
+use Rattle.wap_markup.specs.declared.name.AttrName.TheVariants as attrs
+use Rattle.wap_markup.specs.Cards.{cards_of, card_numbered}
+use Rattle.wap_cardrules.specs.declared.task.Task.{Task}
+use Rattle.wap_cardrules.specs.declared.task.Task.TheVariants as task
+use Rattle.wap_cardrules.specs.declared.task.Go.{Go}
+use Rattle.wap_cardrules.specs.declared.event.Event.TheVariants.{Forward, Backward}
+use Rattle.wap_cardrules.specs.Values.{is_true, Pairs}
+use Rattle.wap_world.specs.declared.history.Entry.{Entry}
+use Rattle.wap_world.specs.declared.refusal.Refusal.{Refusal}
+use Rattle.wap_world.specs.declared.refusal.Refusal.TheVariants as refusals
+use Rattle.wap_world.specs.Pages.{Pages}
+use Rattle.wap_world.specs.World.{World, Place, place_now}
+use Rattle.wap_world.specs.Steps.{Scene, Step, Once, and_then, quiet, followed, settled}
+use Rattle.wap_world.specs.History.{entry_of, pushed, earlier_entry, in_deck, popped}
+use Rattle.wap_world.specs.Setting.{set_variables}
+use Rattle.wap_world.specs.Timers.{start_timer}
+use Rattle.wap_world.specs.Screens.{here, screen_lines, refuse}
+use Rattle.wap_world.specs.Entering.{leave, enter}
+use Rattle.wap_world.specs.Urls.{target_of, is_same_page}
+use Rattle.wap_world.specs.Requests.{Request, plain_get, request_of, ask, answer_to, test_of, test}
+
+-- ---- what navigations share
+
+-- a step, and then a navigation
+abbrev pub once_behind : Step → Once → Once
+once_behind step once = record once { step = followed step (λ keys world. once.step) }
+
+abbrev pub refused : Pages → List Key → Refusal → World → Once
+refused pages keys refusal world = settled (quiet keys (refuse pages refusal world))
+
+-- the current card is left, and variables are set
+abbrev pub leave_and_set : Pages → Pairs → World → Scene
+leave_and_set pages sets world = and_then (leave pages world) (set_variables sets)
+
+abbrev pub url_now : Pages → World → Option Url
+url_now pages world = option_map (λ place. place.url) (place_now pages world)
+
+-- on with the deck that answers, or the refusal
+abbrev pub with_deck : Pages → List Key → World → (Deck → Once) → Result Deck Refusal → Once
+with_deck pages keys world next (Ok deck) = next deck
+with_deck pages keys world next (Err refusal) = refused pages keys refusal world
+
+abbrev pub with_url : Pages → List Key → World → (Url → Once) → Result Url Refusal → Once
+with_url pages keys world next (Ok url) = next url
+with_url pages keys world next (Err refusal) = refused pages keys refusal world
+
+-- a turn is taken, if one is left
+abbrev pub with_turn : Pages → List Key → World → ℕ → (World → Once) → Once
+with_turn pages keys world zero next = refused pages keys refusals.Budget world
+with_turn pages keys world (suc turns) next = next (record world { turns = turns })
+
+-- ---- go, by the steps of its rule
+
+-- 8: the card whose id is the fragment, else the first
+abbrev pub card_for : Deck → Url → ℕ
+card_for deck url = unwrap_or (option_and_then (λ id. card_numbered id deck) url.fragment) 0
+
+-- 11: a new context clears variables and history
+abbrev pub is_new_context : Deck → ℕ → Bool
+is_new_context deck number =
+    option_map_or (is_true attrs.Newcontext) (slice_get (cards_of deck) number) false
+
+abbrev pub in_context : Deck → ℕ → World → World
+in_context deck number world =
+    if is_new_context deck number then record world { vars = []; history = [] } else world
+
+-- 9 to 13: the old card is left, variables are set, the new card is pushed and entered
+abbrev pub arrive : Pages → List Key → Pairs → Url → World → Deck → Once
+arrive pages keys sets url world deck =
+    let number = card_for deck url in
+    let left = leave_and_set pages sets world in
+    let inside = pushed (in_context deck number left.world) (entry_of url number) in
+    once_behind (quiet keys left) (enter pages keys Forward inside)
+
+-- 7: whether the deck may be entered
+abbrev pub arrive_if : Pages → List Key → Pairs → Url → World → Deck → Bool → Once
+arrive_if pages keys sets url world deck true = arrive pages keys sets url world deck
+arrive_if pages keys sets url world deck false = refused pages keys refusals.Denied world
+
+abbrev pub try_deck : Pages → List Key → Pairs → Option Url → Url → World → Deck → Once
+try_deck pages keys sets caller url world deck =
+    let one = test_of url caller deck in
+    once_behind (test keys one world) (arrive_if pages keys sets url world deck one.allowed)
+
+-- 6: the page is asked for
+abbrev pub request : Pages → List Key → Pairs → Option Url → Request → World → Once
+request pages keys sets caller one world =
+    once_behind (ask keys one world)
+    (with_deck pages keys world
+    (try_deck pages keys sets caller one.url world) (answer_to pages one))
+
+-- 5: no request is made for the current deck, but for a post and for a page that is wanted anew
+abbrev pub is_here : Request → Place → Bool
+is_here one place = is_same_page one.url place.url && is_none one.body && not one.fresh
+
+abbrev pub stay_or_ask
+    : Pages → List Key → Pairs → Option Url → Request → World → Option Place → Once
+stay_or_ask pages keys sets caller one world None = request pages keys sets caller one world
+stay_or_ask pages keys sets caller one world (Some place) =
+    if is_here one place then arrive pages keys sets one.url world place.deck
+    else request pages keys sets caller one world
+
+-- 3 and 4: the URL, as a reference to that of the deck, with what the postfields make of it
+abbrev pub go : Pages → List Key → Option Url → Go → World → Once
+go pages keys base one world = with_url pages keys world
+    (λ url. stay_or_ask pages keys one.sets base (request_of base one url) world
+    (place_now pages world))
+    (target_of base one.href)
+
+-- ---- open: a go of a user, from no URL; a request is always made
+
+abbrev pub open_url : Pages → List Key → List ℕ → World → Once
+open_url pages keys text world = with_url pages keys world
+    (λ url. request pages keys [] None (plain_get url) world)
+    (target_of (url_now pages world) text)
+
+-- ---- prev
+
+-- the old card is left, variables are set, and the earlier card is entered
+abbrev pub return : Pages → List Key → Pairs → Entry → World → Deck → Once
+return pages keys sets earlier world deck =
+    let left = leave_and_set pages sets world in
+    once_behind (quiet keys left)
+    (enter pages keys Backward (popped left.world (in_deck deck earlier)))
+
+-- the earlier card's deck, where it is not the current one, is asked for; access is not tested
+abbrev pub ask_back : Pages → List Key → Pairs → Entry → World → Once
+ask_back pages keys sets earlier world =
+    let one = plain_get earlier.url in
+    once_behind (ask keys one world)
+    (with_deck pages keys world (return pages keys sets earlier world) (answer_to pages one))
+
+abbrev pub back_from : Pages → List Key → Pairs → Entry → World → Option Place → Once
+back_from pages keys sets earlier world None = ask_back pages keys sets earlier world
+back_from pages keys sets earlier world (Some place) =
+    if is_same_page earlier.url place.url then return pages keys sets earlier world place.deck
+    else ask_back pages keys sets earlier world
+
+abbrev pub back_to : Pages → List Key → Pairs → World → Option Entry → Once
+back_to pages keys sets world None = refused pages keys refusals.First world
+back_to pages keys sets world (Some earlier) =
+    back_from pages keys sets earlier world (place_now pages world)
+
+-- back to the card that was entered before
+abbrev pub prev : Pages → List Key → Pairs → World → Once
+prev pages keys sets world = back_to pages keys sets world (earlier_entry world)
+
+-- ---- refresh
+
+-- the card is left, variables are set, the timer starts, and the screen is shown; it takes no turn
+abbrev pub refresh_place : Pages → Pairs → Place → World → Scene
+refresh_place pages sets place world =
+    and_then (leave_and_set pages sets world) (λ w. screen_lines place (start_timer place.card w))
+
+abbrev pub refresh : Pages → Pairs → World → Scene
+refresh pages sets world = here pages (refresh_place pages sets) world
+
+-- ---- one navigation, repeated
+
+-- what a task comes to
+abbrev pub task_once : Pages → List Key → World → Task → Once
+task_once pages keys world (task.Go one) =
+    with_turn pages keys world world.turns (λ w. go pages keys (url_now pages w) one w)
+task_once pages keys world (task.Prev sets) =
+    with_turn pages keys world world.turns (prev pages keys sets)
+task_once pages keys world (task.Refresh sets) = settled (quiet keys (refresh pages sets world))
+
+abbrev pub go_on : (List Key → World → Task → Step) → Step → Option Task → Step
+go_on act step None = step
+go_on act step (Some next) = followed step (λ keys world. act keys world next)
+
+abbrev pub onward : (List Key → World → Task → Step) → Once → Step
+onward act once = go_on act once.step once.next
+
+-- a task and all that it leads to; with no turn left it leads no further
+abbrev pub act_in : ℕ → Pages → List Key → World → Task → Step
+act_in zero pages keys world one = (task_once pages keys world one).step
+act_in (suc turns) pages keys world one =
+    onward (act_in turns pages) (task_once pages keys world one)
+
+unfoldable pub act : Pages → List Key → World → Task → Step
+act pages keys world one = act_in world.turns pages keys world one
+
+-- a URL that a user opens, and all that it leads to
+unfoldable pub visit : Pages → List Key → World → List ℕ → Step
+visit pages keys world text =
+    onward (act pages) (with_turn pages keys world world.turns (open_url pages keys text))

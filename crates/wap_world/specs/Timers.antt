@@ -1,0 +1,53 @@
+-- The timer of the current card (WAP-191, section 11.7).
+use Rattle.std.specs.Prelude.{ℕ, zero, suc, List, [], ◌∷◌, Option, Some, None}
+use Rattle.std.specs.Fmt.{decimal}
+use Rattle.std.specs.Option.{option_and_then}
+use Rattle.wap_markup.specs.declared.deck.Node.{Node}
+use Rattle.wap_cardrules.specs.Timers.{timer_in, timer_variable, timer_of}
+use Rattle.wap_world.specs.declared.timer.Timer.{Timer}
+use Rattle.wap_world.specs.declared.timer.Timer.TheVariants.{NotStarted, Running, Off}
+use Rattle.wap_world.specs.World.{World}
+use Rattle.wap_world.specs.Steps.{Scene, still}
+use Rattle.wap_world.specs.Setting.{set_variables}
+
+-- ---- starting
+
+-- 0 is no time
+abbrev pub timer_from : Option (Option (List ℕ) × ℕ) → Timer
+timer_from None = Off
+timer_from (Some (name, zero)) = Off
+timer_from (Some (name, suc time)) = Running (suc time)
+
+-- the timer starts, whatever its state
+abbrev pub start_timer : Node → World → World
+start_timer card world = record world { timer = timer_from (timer_of world.vars card) }
+
+-- the timer starts, unless it has since the card was entered
+abbrev pub started : Timer → Node → World → World
+started NotStarted card world = start_timer card world
+started (Running time) card world = world
+started Off card world = world
+
+-- ---- the variable
+
+abbrev pub store_under : Option (List ℕ) → ℕ → World → Scene
+store_under None time world = still world
+store_under (Some name) time world = set_variables ((name, decimal time) ∷ []) world
+
+-- a timer with a name stores a time
+abbrev pub store_time : Node → ℕ → World → Scene
+store_time card time world = store_under (option_and_then timer_variable (timer_in card)) time world
+
+-- ---- leaving
+
+-- what remains of a timer that runs
+abbrev pub store_left : Timer → Node → World → Scene
+store_left NotStarted card world = still world
+store_left (Running time) card world = store_time card time world
+store_left Off card world = still world
+
+-- ---- the end
+
+-- the timer has run out
+abbrev pub end_timer : Node → World → Scene
+end_timer card world = store_time card 0 (record world { timer = Off })

@@ -1,0 +1,12 @@
+//! The timer of the current card (WAP-191, section 11.7).
+
+/// A card's timer.
+#[derive(Clone, Copy, Debug, PartialEq, Eq)]
+pub enum Timer {
+    /// It hasn't started since the card was entered.
+    NotStarted,
+    /// So many tenths of a second remain.
+    Running(u32),
+    /// It has run out, or there is none.
+    Off,
+}

@@ -1,0 +1,69 @@
+//! What follows from the definitions of sessions over decks. These functions do nothing when they are called.
+#![tactic(auto)]
+
+ghost use Rattle.std.specs.Prelude.{◌≡◌, ◌≤◌, ◌++◌, ◌∷◌, [], ℕ, List, length, Option, Some, None, Ok, false};
+ghost use Rattle.wap_url.specs.declared.url.Url.{Url};
+ghost use Rattle.wap_url.specs.Printing.{name_for};
+ghost use Rattle.wap_markup.specs.declared.deck.Deck.{Deck};
+ghost use Rattle.wap_input.specs.declared.key.Key.{Key};
+ghost use Rattle.wap_input.specs.declared.key.Key.TheVariants as key;
+ghost use Rattle.wap_cardrules.specs.Values.{Pairs};
+ghost use Rattle.wap_cardrules.specs.Dos.{do_task};
+ghost use Rattle.wap_cardrules.specs.Fields.{link_task};
+ghost use Rattle.wap_world.specs.declared.refusal.Refusal.TheVariants as refusals;
+ghost use Rattle.wap_world.specs.Pages.{Pages};
+ghost use Rattle.wap_world.specs.World.{World, Place, place_now};
+ghost use Rattle.wap_world.specs.Steps.{quiet, followed, settled};
+ghost use Rattle.wap_world.specs.Screens.{refuse};
+ghost use Rattle.wap_world.specs.Access.{may_enter};
+ghost use Rattle.wap_world.specs.Requests.{Request, request_line, answer_to};
+ghost use Rattle.wap_world.specs.Tasks.{request};
+ghost use Rattle.wap_world.specs.Keys.{react, renewed, ignored};
+ghost use Rattle.wap_world.specs.Sessions.{played};
+
+/// Within a key turns never grow, and the history keeps to its limit.
+pub fn keys_keep_bounds()
+    ensures turns { (pages : Pages) (one : Key) (keys : List Key) (world : World)
+        → (react pages one keys world).world.turns ≤ world.budget }
+    ensures history { (pages : Pages) (one : Key) (keys : List Key) (world : World)
+        → 1 ≤ world.limits.history → length world.history ≤ world.limits.history
+        → let after = (react pages one keys world).world in
+        length after.history ≤ after.limits.history }
+{}
+
+/// Keys in two parts show what they show as one list.
+pub fn keys_play_in_parts()
+    ensures { (pages : Pages) (first others : List Key) (world : World)
+        → played pages (first ++ others) world
+        ≡ followed (played pages first world) (λ left w. played pages others w) }
+{}
+
+/// A do and a link that the current card doesn't have change nothing but the turns.
+pub fn keys_that_fit_nothing_are_ignored()
+    ensures of_do { (pages : Pages) (keys : List Key) (world : World) (place : Place)
+        (name : List ℕ) → place_now pages (renewed world) ≡ Some place
+        → do_task world.vars place.deck place.card name ≡ None
+        → react pages (key.Do name) keys world ≡ quiet keys (ignored (renewed world)) }
+    ensures of_link { (pages : Pages) (keys : List Key) (world : World) (place : Place) (n : ℕ)
+        → place_now pages (renewed world) ≡ Some place
+        → link_task world.vars place.card n ≡ None
+        → react pages (key.Pick n) keys world ≡ quiet keys (ignored (renewed world)) }
+    ensures unchanged { (keys : List Key) (world : World)
+        → (quiet keys (ignored world)).world ≡ world }
+{}
+
+/// A deck that may not be entered adds its request's line, its name and its test, and the current card
+/// is shown again behind the refusal; nothing is left, set or entered.
+pub fn denied_decks_change_nothing()
+    ensures { (pages : Pages) (keys : List Key) (sets : Pairs) (caller : Option Url)
+        (one : Request) (world : World) (deck : Deck)
+        → answer_to pages one ≡ Ok deck → may_enter one.url deck caller ≡ false
+        → let again = refuse pages refusals.Denied world in
+        request pages keys sets caller one world ≡ settled (record {
+          world = again.world;
+          keys = keys;
+          lines = request_line one ∷ again.lines;
+          asked = (name_for one.url, one.fresh) ∷ [];
+          tests = record { page = name_for one.url; caller = caller; allowed = false } ∷ [];
+        }) }
+{}
