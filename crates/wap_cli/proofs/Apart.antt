@@ -7,7 +7,7 @@ use Rattle.wap_markup.specs.declared.deck.Deck.{Deck}
 use Rattle.wap_markup.specs.declared.deck.Node.{Node}
 use Rattle.wap_markup.specs.Cards.{cards_of, ids_of, types_of, IsApart}
 use Rattle.wap_markup.specs.Shown.{is_shown, IsAccepted}
-use Rattle.wap_world.specs.Pages.{is_deck, is_refused}
+use Rattle.wap_world.specs.first.Pages.{is_deck, is_refused}
 use Rattle.wap_markup.specs.declared.document.Document.{Document}
 use Rattle.wap_markup.specs.Decks.{deck_of}
 use Rattle.wap_wbxml.specs.declared.fault.DocFault.{DocFault}

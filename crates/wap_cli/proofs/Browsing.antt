@@ -10,10 +10,10 @@ use Rattle.wap_keys.specs.declared.ending.Ending.{Ending}
 use Rattle.wap_keys.specs.declared.ending.Ending.TheVariants as ending
 use Rattle.wap_keys.specs.Lines.{Keys, keys_of}
 use Rattle.wap_keys.specs.Read.{IsReadBefore, AreFirst}
-use Rattle.wap_world.specs.Lines.{lines_bytes}
-use Rattle.wap_world.specs.Pages.{Pages}
-use Rattle.wap_world.specs.World.{World, opened}
-use Rattle.wap_world.specs.Transcript.{played, transcript}
+use Rattle.wap_world.specs.first.Lines.{lines_bytes}
+use Rattle.wap_world.specs.first.Pages.{Pages}
+use Rattle.wap_world.specs.first.World.{World, opened}
+use Rattle.wap_world.specs.first.Transcript.{played, transcript}
 use Rattle.wap_cli.specs.Judged.{judged}
 use Rattle.wap_cli.specs.Sessions.{IfTold, Writes, WritesFront, WritesBefore}
 use Rattle.wap_cli.specs.Statuses.{ended, IsPlayed, IsOrStops}

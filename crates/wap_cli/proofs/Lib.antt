@@ -7,3 +7,4 @@ pub mod Screens
 pub mod Plans
 pub mod Steps
 pub mod Browsing
+pub mod Answering

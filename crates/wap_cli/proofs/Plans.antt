@@ -11,12 +11,13 @@ use Rattle.wap_markup.specs.declared.name.Tag.TheVariants as tag
 use Rattle.wap_markup.specs.declared.name.AttrName.TheVariants as attrs
 use Rattle.wap_markup.specs.Trees.{node_with, value_of}
 use Rattle.wap_markup.specs.Cards.{card_numbered}
-use Rattle.wap_vars.specs.Setting.{set_in}
-use Rattle.wap_vars.specs.declared.fault.VarFault.{VarFault}
-use Rattle.wap_world.specs.Lines.{line_bytes, lines_bytes}
-use Rattle.wap_world.specs.Screens.{Variables, value_text}
-use Rattle.wap_world.specs.Setting.{Set, outcome, set_all, setvar_text, set_by}
-use Rattle.wap_world.specs.World.{World, Step, number_or_first, destination, go, task_of_tag}
+use Rattle.wap_filling.specs.Setting.{set_in}
+use Rattle.wap_filling.specs.declared.fault.VarFault.{VarFault}
+use Rattle.wap_world.specs.first.Lines.{line_bytes, lines_bytes}
+use Rattle.wap_filling.specs.Variables.{Variables}
+use Rattle.wap_filling.specs.Filling.{value_text}
+use Rattle.wap_world.specs.first.Setting.{Set, outcome, set_all, setvar_text, set_by}
+use Rattle.wap_world.specs.first.World.{World, Step, number_or_first, destination, go, task_of_tag}
 use Rattle.wap_cli.specs.declared.tasks.Way.{Way}
 use Rattle.wap_cli.specs.declared.tasks.Way.TheVariants.{To, Back, Again}
 use Rattle.wap_cli.specs.Tasks.{way_of, gone}

@@ -7,8 +7,9 @@ use Rattle.wap_markup.specs.declared.deck.Item.{Item}
 use Rattle.wap_markup.specs.declared.name.Tag.TheVariants as tags
 use Rattle.wap_markup.specs.Trees.{node_with}
 use Rattle.wap_markup.specs.Cards.{dos_of}
-use Rattle.wap_world.specs.Lines.{line_bytes, lines_bytes}
-use Rattle.wap_world.specs.Screens.{Variables, title_line, item_lines, do_line, screen}
+use Rattle.wap_world.specs.first.Lines.{line_bytes, lines_bytes}
+use Rattle.wap_filling.specs.Variables.{Variables}
+use Rattle.wap_world.specs.first.Screens.{title_line, item_lines, do_line, screen}
 
 abbrev pub paragraph_bytes : Variables → List Item → List ℕ
 paragraph_bytes vars items = lines_bytes (flat_map (item_lines vars) items)

@@ -4,9 +4,9 @@ use Rattle.std.specs.Option.{option_map, IfSome}
 use Rattle.wap_base.specs.declared.store.Fetched.{Fetched}
 use Rattle.wap_base.specs.Texts.{is_same_text}
 use Rattle.wap_base.specs.Contents.{Contents, page_named, answer_of, answer_for}
-use Rattle.wap_world.specs.Lines.{lines_bytes}
-use Rattle.wap_world.specs.Pages.{Page, page_of}
-use Rattle.wap_world.specs.World.{World, Step, entered, opened, name_of}
+use Rattle.wap_world.specs.first.Lines.{lines_bytes}
+use Rattle.wap_world.specs.first.Pages.{Page, page_of}
+use Rattle.wap_world.specs.first.World.{World, Step, entered, opened, name_of}
 use Rattle.wap_cli.specs.Judged.{judge, judged}
 use Rattle.wap_cli.specs.Opening.{answer_page}
 

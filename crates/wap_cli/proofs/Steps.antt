@@ -4,10 +4,10 @@ use Rattle.std.proofs.Math.Seq.{drop-cons}
 use Rattle.std.proofs.lemmas.List.{drop_all}
 use Rattle.std.proofs.lemmas.Grind.{flat_map-append}
 use Rattle.wap_input.specs.declared.key.Key.{Key}
-use Rattle.wap_world.specs.Lines.{line_bytes, lines_bytes}
-use Rattle.wap_world.specs.Pages.{Pages}
-use Rattle.wap_world.specs.World.{World, Step, react}
-use Rattle.wap_world.specs.Transcript.{followed, played}
+use Rattle.wap_world.specs.first.Lines.{line_bytes, lines_bytes}
+use Rattle.wap_world.specs.first.Pages.{Pages}
+use Rattle.wap_world.specs.first.World.{World, Step, react}
+use Rattle.wap_world.specs.first.Transcript.{followed, played}
 use Rattle.wap_cli.specs.Playing.{Shows, Plays, PlaysAll}
 
 -- the bytes of a step and of what follows it

@@ -11,7 +11,7 @@ use Rattle.std.proofs.lemmas.Str.{encodes-append, encode_ascii, chars_past_char,
 use Rattle.std.specs.Cmp.Lexicographic.{pointwise, texts_ties}
 use Rattle.wap_base.specs.Texts.{is_same_text}
 use Rattle.wap_base.proofs.Utf8Order.{cmp-encode_utf8_all}
-use Rattle.wap_world.specs.Lines.{shown_character, line_bytes}
+use Rattle.wap_world.specs.first.Lines.{shown_character, line_bytes}
 
 -- two texts are the same where their bytes are
 pub same-encode_utf8_all : (a b : List ℕ) → pointwise nat_eq (encode_utf8_all a) (encode_utf8_all b) ≡ is_same_text a b

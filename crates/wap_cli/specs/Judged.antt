@@ -12,7 +12,7 @@ use Rattle.wap_markup.specs.Shown.{is_shown}
 use Rattle.wap_wbxml.specs.declared.fault.DocFault.{DocFault}
 use Rattle.wap_wbxml.specs.declared.fault.DocFault.TheVariants as fault
 use Rattle.wap_wbxml.specs.reading.Whole.{document_at}
-use Rattle.wap_world.specs.Pages.{Page, Pages, is_deck, is_refused}
+use Rattle.wap_world.specs.first.Pages.{Page, Pages, is_deck, is_refused}
 
 -- whether no text stands twice
 abbrev pub are_distinct : List (List ℕ) → Bool

@@ -8,3 +8,4 @@ pub mod Tasks
 pub mod Playing
 pub mod Sessions
 pub mod Statuses
+pub mod Answers

@@ -2,7 +2,7 @@
 use Rattle.std.specs.Prelude.{Option, Some, None}
 use Rattle.wap_base.specs.declared.store.Fetched.{Fetched}
 use Rattle.wap_base.specs.declared.store.Fetched.TheVariants.{Found, Missing}
-use Rattle.wap_world.specs.Pages.{Page, is_deck, is_refused}
+use Rattle.wap_world.specs.first.Pages.{Page, is_deck, is_refused}
 use Rattle.wap_cli.specs.Judged.{judge}
 use Rattle.wap_cli.specs.declared.judging.Judged.{Judged}
 use Rattle.wap_cli.specs.declared.judging.Judged.TheVariants as judged

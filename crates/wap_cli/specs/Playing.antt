@@ -1,10 +1,10 @@
 -- What a session does is a step of its world, with the lines that it adds.
 use Rattle.std.specs.Prelude.{◌≡◌, ℕ, List, ◌++◌}
 use Rattle.wap_input.specs.declared.key.Key.{Key}
-use Rattle.wap_world.specs.Lines.{lines_bytes}
-use Rattle.wap_world.specs.Pages.{Pages}
-use Rattle.wap_world.specs.World.{World, Step, react}
-use Rattle.wap_world.specs.Transcript.{played}
+use Rattle.wap_world.specs.first.Lines.{lines_bytes}
+use Rattle.wap_world.specs.first.Pages.{Pages}
+use Rattle.wap_world.specs.first.World.{World, Step, react}
+use Rattle.wap_world.specs.first.Transcript.{played}
 
 pub record Shows (before after : World) (out shown : List ℕ) (step : Step) : Type 0 where
   pub world : after ≡ step.world

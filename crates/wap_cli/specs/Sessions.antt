@@ -5,7 +5,7 @@ use Rattle.wap_base.specs.Transfer.{Appends, AppendsFront}
 use Rattle.wap_input.specs.declared.key.Key.{Key}
 use Rattle.wap_keys.specs.Lines.{keys_of}
 use Rattle.wap_keys.specs.Read.{IsReadBefore}
-use Rattle.wap_world.specs.Transcript.{transcript}
+use Rattle.wap_world.specs.first.Transcript.{transcript}
 use Rattle.wap_cli.specs.Judged.{judged}
 
 -- a fact of the contents and the bytes, where both are told

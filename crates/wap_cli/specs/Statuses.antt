@@ -4,12 +4,15 @@ use Rattle.wap_keys.specs.declared.fault.KeyFault.{KeyFault}
 use Rattle.wap_keys.specs.declared.fault.KeyFault.TheVariants as key
 use Rattle.wap_keys.specs.declared.ending.Ending.{Ending}
 use Rattle.wap_keys.specs.declared.ending.Ending.TheVariants as ending
+use Rattle.wap_inspect.specs.declared.fault.PageFault.{PageFault}
+use Rattle.wap_inspect.specs.Printing.{page_text}
 use Rattle.wap_cli.specs.declared.status.Status.{Status}
-use Rattle.wap_cli.specs.declared.status.Status.TheVariants.{Done, Usage, StoreFault, KeyReadFault, WriteFault, NoMemory, BadKey, TooManyKeys}
+use Rattle.wap_cli.specs.declared.status.Status.TheVariants.{Done, Usage, Refused, StoreFault, KeyReadFault, WriteFault, NoMemory, BadKey, TooManyKeys}
 
 abbrev pub number_of : Status → ℕ
 number_of Done = 0
 number_of Usage = 1
+number_of (Refused fault) = 2
 number_of StoreFault = 3
 number_of KeyReadFault = 4
 number_of WriteFault = 5
@@ -35,11 +38,13 @@ fixed_line KeyReadFault = codes "wap: key read fault\n"
 fixed_line WriteFault = codes "wap: write fault\n"
 fixed_line NoMemory = codes "wap: no memory\n"
 fixed_line TooManyKeys = codes "wap: too many keys\n"
+fixed_line (Refused fault) = []
 fixed_line (BadKey line fault) = []
 
 -- a line of standard error, and none where all went well
 abbrev pub status_line : Status → List ℕ
 status_line (BadKey line fault) = codes "wap: line " ++ (decimal line ++ (codes " " ++ (fault_name fault ++ codes "\n")))
+status_line (Refused fault) = codes "wap: refused " ++ (page_text fault ++ codes "\n")
 status_line status = fixed_line status
 
 -- how a run ends whose keys came to this end, if nothing else ended it before
@@ -60,6 +65,7 @@ IsPlayed _ = ⊥
 abbrev pub HasAsked : Status → Type 0
 HasAsked Done = Unit {0}
 HasAsked Usage = ⊥
+HasAsked (Refused fault) = Unit {0}
 HasAsked StoreFault = Unit {0}
 HasAsked KeyReadFault = Unit {0}
 HasAsked WriteFault = Unit {0}
@@ -74,3 +80,15 @@ IsOrStops status result = (result ≡ status) ⊎ ((result ≡ WriteFault) ⊎ (
 -- the run ended so, or wanted memory
 abbrev pub IsOrWants : Status → Status → Type 0
 IsOrWants status result = (result ≡ status) ⊎ (result ≡ NoMemory)
+
+-- a command on one page ends so
+abbrev pub IsOfPage : Status → Type 0
+IsOfPage Done = Unit {0}
+IsOfPage Usage = ⊥
+IsOfPage (Refused fault) = Unit {0}
+IsOfPage StoreFault = Unit {0}
+IsOfPage KeyReadFault = ⊥
+IsOfPage WriteFault = Unit {0}
+IsOfPage NoMemory = Unit {0}
+IsOfPage (BadKey line fault) = ⊥
+IsOfPage TooManyKeys = ⊥

@@ -6,9 +6,10 @@ use Rattle.wap_markup.specs.declared.name.Tag.{Tag}
 use Rattle.wap_markup.specs.declared.name.Tag.TheVariants as tag
 use Rattle.wap_markup.specs.declared.name.AttrName.TheVariants as attrs
 use Rattle.wap_markup.specs.Trees.{value_of}
-use Rattle.wap_world.specs.Screens.{Variables, value_text}
-use Rattle.wap_world.specs.Setting.{Set, set_all}
-use Rattle.wap_world.specs.World.{World, Step, shows, pushed, back, refresh, ignored, destination}
+use Rattle.wap_filling.specs.Variables.{Variables}
+use Rattle.wap_filling.specs.Filling.{value_text}
+use Rattle.wap_world.specs.first.Setting.{Set, set_all}
+use Rattle.wap_world.specs.first.World.{World, Step, shows, pushed, back, refresh, ignored, destination}
 use Rattle.wap_cli.specs.declared.tasks.Way.{Way}
 use Rattle.wap_cli.specs.declared.tasks.Way.TheVariants.{To, Back, Again}
 use Rattle.wap_cli.specs.declared.tasks.Plan.{Plan}

@@ -1,8 +1,8 @@
 //! Opening a session's URL.
 ghost use Rattle.std.specs.Prelude.{◌≡◌, ◌++◌, ◌≤◌, ℕ, List, Some, IfOk, OnOk, IsErrOf, IfSome};
 ghost use Rattle.wap_base.specs.Count.{raised, Rose};
-ghost use Rattle.wap_world.specs.Lines.{lines_bytes};
-ghost use Rattle.wap_world.specs.World.{world_at, lines_at, entered, name_of, opened};
+ghost use Rattle.wap_world.specs.first.Lines.{lines_bytes};
+ghost use Rattle.wap_world.specs.first.World.{world_at, lines_at, entered, name_of, opened};
 ghost use Rattle.wap_cli.specs.Judged.{judged};
 ghost use Rattle.wap_cli.specs.Opening.{page_judged, answer_page};
 

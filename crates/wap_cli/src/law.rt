@@ -4,7 +4,7 @@ ghost use Rattle.wap_markup.specs.declared.document.Document.{Document};
 ghost use Rattle.wap_markup.specs.Documents.{IsDocument};
 ghost use Rattle.wap_markup.specs.Decks.{deck_of};
 ghost use Rattle.wap_markup.specs.Shown.{IsAccepted};
-ghost use Rattle.wap_world.specs.Pages.{is_deck, is_refused};
+ghost use Rattle.wap_world.specs.first.Pages.{is_deck, is_refused};
 ghost use Rattle.wap_cli.specs.Judged.{judge};
 
 /// A law of `judge`, which the transcript's definition names: it does nothing when it is called.

@@ -6,6 +6,7 @@ mod commands;
 mod judging;
 mod law;
 mod lines;
+mod pages;
 mod screen;
 mod session;
 mod status;

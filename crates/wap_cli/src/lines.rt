@@ -1,6 +1,6 @@
 //! Writing lines.
 ghost use Rattle.std.specs.Prelude.{◌≡◌, ◌++◌, map, codes, IfOk, OnOk};
-ghost use Rattle.wap_world.specs.Lines.{shown_character, line_bytes, lines_bytes, get_line, refusal_line, variable_line};
+ghost use Rattle.wap_world.specs.first.Lines.{shown_character, line_bytes, lines_bytes, get_line, refusal_line, variable_line};
 ghost use Rattle.wap_cli.specs.Refusals.{word_of};
 
 use std::alloc::Global;

@@ -3,8 +3,9 @@ ghost use Rattle.std.specs.Prelude.{◌≡◌, ◌++◌, map, IfOk, OnOk};
 ghost use Rattle.std.specs.List.{flat_map, filter_map};
 ghost use Rattle.std.specs.Option.{option_copied};
 ghost use Rattle.wap_markup.specs.Trees.{node_with};
-ghost use Rattle.wap_world.specs.Lines.{lines_bytes};
-ghost use Rattle.wap_world.specs.Screens.{value_text, marked, title_line, item_text, paragraph_line, item_lines, line_if_some, do_line, screen};
+ghost use Rattle.wap_world.specs.first.Lines.{lines_bytes};
+ghost use Rattle.wap_filling.specs.Filling.{value_text};
+ghost use Rattle.wap_world.specs.first.Screens.{marked, title_line, item_text, paragraph_line, item_lines, line_if_some, do_line, screen};
 
 use crate::lines::add_line;
 use std::alloc::Global;

@@ -1,10 +1,10 @@
 //! Sessions: the world of a browser, and its steps.
 ghost use Rattle.std.specs.Prelude.{◌≡◌, ◌++◌, [], ◌∷◌, Some, None, IfOk, OnOk};
 ghost use Rattle.std.specs.Option.{option_copied};
-ghost use Rattle.wap_world.specs.Lines.{lines_bytes};
-ghost use Rattle.wap_vars.specs.Setting.{set_in};
-ghost use Rattle.wap_world.specs.Setting.{outcome, set_all};
-ghost use Rattle.wap_world.specs.World.{start, current, shown, pushed, back, do_task, take_task};
+ghost use Rattle.wap_world.specs.first.Lines.{lines_bytes};
+ghost use Rattle.wap_filling.specs.Setting.{set_in};
+ghost use Rattle.wap_world.specs.first.Setting.{outcome, set_all};
+ghost use Rattle.wap_world.specs.first.World.{start, current, shown, pushed, back, do_task, take_task};
 ghost use Rattle.wap_cli.specs.Tasks.{planned};
 ghost use Rattle.wap_cli.specs.Playing.{Shows, Plays, PlaysAll};
 
@@ -32,7 +32,7 @@ pub(crate) struct Session {
 }
 
 impl Model for Session {
-    ghost use Rattle.wap_world.specs.World.{World};
+    ghost use Rattle.wap_world.specs.first.World.{World};
     ghost use Rattle.wap_markup.specs.contracts.deck.Item as item;
     ghost use Rattle.std.specs.Coded.{codes};
 

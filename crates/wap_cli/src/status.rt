@@ -6,14 +6,17 @@ ghost use Rattle.wap_cli.specs.Statuses.{number_of, fault_name, fixed_line, stat
 
 use itoa::Buffer;
 use wap_base::{Failed, Sink, write_all};
+use wap_inspect::PageFault;
 use wap_keys::{Ending, KeyFault};
 
 /// How a run ended.
-#[derive(Clone, Copy, Debug, PartialEq, Eq)]
+#[derive(Debug, Drop, PartialEq, Eq)]
 pub enum Status {
     Done,
     /// The words aren't those of a command.
     Usage,
+    /// The one page of a command is missing or refused.
+    Refused(PageFault),
     /// The store failed.
     StoreFault,
     /// The source of the keys failed.
@@ -68,6 +71,21 @@ fn print_bad_key<O: Sink>(out: &mut O, line: u32, fault: KeyFault) -> Result<(),
     write_all(out, fault_end(fault))
 }
 
+/// Writes the line of a page that is refused.
+fn print_refused<O: Sink>(out: &mut O, fault: &PageFault) -> Result<(), Failed>
+    ensures whole { OnOk result (Appends (O.written out.old) (O.written out.new)
+        (status_line (Status.Refused fault.now))) }
+    ensures front { OnErr result (AppendsFront (O.written out.old) (O.written out.new)
+        (status_line (Status.Refused fault.now))) }
+    ensures steady { OnOk result (O.faults out.new ≡ O.faults out.old) }
+    ensures faults { O.faults out.old ≤ O.faults out.new }
+    ensures failed { OnErr result (Rose (O.faults out.old) (O.faults out.new)) }
+{
+    write_all(out, b"wap: refused ")?;
+    fault.print(out)?;
+    write_all(out, b"\n")
+}
+
 impl Status {
     /// The number with which the program ends.
     pub fn number(&self) -> u8
@@ -76,6 +94,7 @@ impl Status {
         match self {
             Status::Done => 0,
             Status::Usage => 1,
+            Status::Refused(_) => 2,
             Status::StoreFault => 3,
             Status::KeyReadFault => 4,
             Status::WriteFault => 5,
@@ -90,7 +109,7 @@ impl Status {
         ensures { result.now ≡ fixed_line self.now }
     {
         match self {
-            Status::Done | Status::BadKey { .. } => b"",
+            Status::Done | Status::Refused(_) | Status::BadKey { .. } => b"",
             Status::Usage => b"wap: usage\n",
             Status::StoreFault => b"wap: store fault\n",
             Status::KeyReadFault => b"wap: key read fault\n",
@@ -109,8 +128,15 @@ impl Status {
         ensures failed { OnErr result (Rose (O.faults out.old) (O.faults out.new)) }
     {
         match self {
+            Status::Refused(fault) => print_refused(out, fault),
             Status::BadKey { line, fault } => print_bad_key(out, *line, *fault),
-            _ => write_all(out, self.line()),
+            Status::Done
+            | Status::Usage
+            | Status::StoreFault
+            | Status::KeyReadFault
+            | Status::WriteFault
+            | Status::NoMemory
+            | Status::TooManyKeys => write_all(out, self.line()),
         }
     }
 }

@@ -1,8 +1,8 @@
 //! The tasks of a card's dos, filled before they are taken.
 ghost use Rattle.std.specs.Prelude.{◌≡◌, ℕ, List, map, Some, IfOk};
 ghost use Rattle.std.specs.List.{filter_map};
-ghost use Rattle.wap_world.specs.World.{World, destination, task_of_tag};
-ghost use Rattle.wap_world.specs.Setting.{setvar_text};
+ghost use Rattle.wap_world.specs.first.World.{World, destination, task_of_tag};
+ghost use Rattle.wap_world.specs.first.Setting.{setvar_text};
 ghost use Rattle.wap_markup.specs.Trees.{node_with};
 ghost use Rattle.wap_cli.specs.Tasks.{way_of, planned};
 

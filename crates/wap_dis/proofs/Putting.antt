@@ -64,6 +64,7 @@ module _ (a b c : Written) (m n o : ℕ) (p q r : State) (x y : List ℕ) (first
       let counts_two = second.counts in
       record {
         counts = omega arith;
+        steady = λ good. second.steady good ∙ first.steady (second.whole good).0;
         whole = both_whole;
         broken = both_broken;
         stays = λ bad. let one = first.stays bad in let two = second.stays one.0 in (two.0, two.1 ∙ one.1);
@@ -73,15 +74,17 @@ module _ (a b c : Written) (m n o : ℕ) (p q r : State) (x y : List ℕ) (first
 pub Puts-nil : (a : Written) (m : ℕ) (p : State) → Puts a a m m p p []
 Puts-nil a m p = record {
   counts = omega arith;
+  steady = λ good. refl;
   whole = λ good. (good, record { moved = []; written = Appends-nil a; same = append-nil p.bytes });
   broken = λ bad good. absurd (unlike p.failed bad good);
   stays = λ bad. (bad, refl);
 }
 
 -- what is held goes out, and a piece behind it
-pub writes_both : (a b c : Written) (m n o : ℕ) (p r : State) (piece : List ℕ) → p.failed ≡ false → r.failed ≡ false → r.bytes ≡ [] → Appends a b p.bytes → Appends b c piece → m ≤ n → n ≤ o → Puts a c m o p r piece
+pub writes_both : (a b c : Written) (m n o : ℕ) (p r : State) (piece : List ℕ) → p.failed ≡ false → r.failed ≡ false → r.bytes ≡ [] → Appends a b p.bytes → Appends b c piece → n ≡ m → o ≡ n → Puts a c m o p r piece
 writes_both a b c m n o p r piece fine good empty first second one two = record {
   counts = omega arith;
+  steady = λ same. two ∙ one;
   whole = λ same. (fine, record { moved = p.bytes ++ piece; written = Appends-then a b c p.bytes piece first second; same = sym (append-nil (p.bytes ++ piece)) ∙ ap (λ (l : List ℕ). (p.bytes ++ piece) ++ l) (sym empty) });
   broken = λ bad same. absurd (unlike r.failed bad good);
   stays = λ bad. absurd (unlike p.failed bad fine);
@@ -90,6 +93,7 @@ writes_both a b c m n o p r piece fine good empty first second one two = record 
 pub fails_first : (a b : Written) (m n : ℕ) (p r : State) (piece : List ℕ) → p.failed ≡ false → r.failed ≡ true → AppendsFront a b p.bytes → m ≤ n → Rose m n → Puts a b m n p r piece
 fails_first a b m n p r piece fine bad front counts rose = record {
   counts = counts;
+  steady = λ good. absurd (unlike r.failed bad good);
   whole = λ good. absurd (unlike r.failed bad good);
   broken = λ also good. (front_longer a b p.bytes piece front, rose);
   stays = λ broke. absurd (unlike p.failed broke fine);
@@ -98,6 +102,7 @@ fails_first a b m n p r piece fine bad front counts rose = record {
 pub fails_second : (a b c : Written) (m n o : ℕ) (p r : State) (piece : List ℕ) → p.failed ≡ false → r.failed ≡ true → Appends a b p.bytes → AppendsFront b c piece → m ≤ n → n ≤ o → Rose n o → Puts a c m o p r piece
 fails_second a b c m n o p r piece fine bad first front one two rose = record {
   counts = omega arith;
+  steady = λ good. absurd (unlike r.failed bad good);
   whole = λ good. absurd (unlike r.failed bad good);
   broken = λ also good. (front_then a b c p.bytes piece first front, omega arith);
   stays = λ broke. absurd (unlike p.failed broke fine);
@@ -107,6 +112,7 @@ fails_second a b c m n o p r piece fine bad first front one two rose = record {
 pub holds_more : (a : Written) (m : ℕ) (p r : State) (piece : List ℕ) → p.failed ≡ false → r.failed ≡ false → r.bytes ≡ p.bytes ++ piece → Puts a a m m p r piece
 holds_more a m p r piece fine good more = record {
   counts = omega arith;
+  steady = λ same. refl;
   whole = λ same. (fine, record { moved = []; written = Appends-nil a; same = sym more });
   broken = λ bad same. absurd (unlike r.failed bad good);
   stays = λ bad. absurd (unlike p.failed bad fine);
@@ -116,6 +122,7 @@ holds_more a m p r piece fine good more = record {
 pub puts_nothing : (a : Written) (m : ℕ) (p : State) (piece : List ℕ) → p.failed ≡ true → Puts a a m m p p piece
 puts_nothing a m p piece broke = record {
   counts = omega arith;
+  steady = λ good. absurd (unlike p.failed broke good);
   whole = λ good. absurd (unlike p.failed broke good);
   broken = λ bad good. absurd (unlike p.failed broke good);
   stays = λ bad. (bad, refl);

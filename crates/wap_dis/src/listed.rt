@@ -19,6 +19,7 @@ use wap_code::{Code, Constant, Instr, Pragma, Row, Unit};
 pub fn listing<O: Sink>(unit: &Unit, out: &mut O) -> Result<(), Failed>
     ensures whole { OnOk result (Appends (O.written out.old) (O.written out.new) (listing unit.now)) }
     ensures front { OnErr result (AppendsFront (O.written out.old) (O.written out.new) (listing unit.now)) }
+    ensures steady { OnOk result (O.faults out.new ≡ O.faults out.old) }
     ensures faults { O.faults out.old ≤ O.faults out.new }
     ensures failed { OnErr result (Rose (O.faults out.old) (O.faults out.new)) }
 {

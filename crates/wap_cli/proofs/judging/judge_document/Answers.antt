@@ -3,7 +3,7 @@ use Rattle.wap_markup.specs.declared.deck.Deck.{Deck}
 use Rattle.wap_markup.specs.Decks.{deck_of}
 use Rattle.wap_markup.specs.Cards.{IsApart}
 use Rattle.wap_markup.specs.Shown.{is_shown}
-use Rattle.wap_world.specs.Pages.{is_deck}
+use Rattle.wap_world.specs.first.Pages.{is_deck}
 use Rattle.wap_cli.proofs.Apart.{good_page, repeated_page, unshown_page}
 use Rattle.wap_cli.proofs.judging.judge_document.Goals as goal
 

@@ -1,5 +1,5 @@
 use Rattle.std.proofs.Common.{◌≡◌, ◌++◌, take, map}
-use Rattle.wap_world.specs.Lines.{lines_bytes, variable_line}
+use Rattle.wap_world.specs.first.Lines.{lines_bytes, variable_line}
 use Rattle.wap_cli.proofs.lines.add_pairs.Given as goal
 
 abbrev pub invariant-loop-pair : goal.invariant-loop-pair

@@ -2,7 +2,7 @@ use Rattle.std.proofs.Common.{ap, ◌∙◌, ◌++◌, ◌∷◌, [], List, ℕ,
 use Rattle.std.specs.Prelude.{codes}
 use Rattle.std.specs.Str.{chars}
 use Rattle.std.proofs.lemmas.Result.{on_ok_weaker}
-use Rattle.wap_world.specs.Lines.{line_bytes}
+use Rattle.wap_world.specs.first.Lines.{line_bytes}
 use Rattle.wap_cli.proofs.TextLaws.{dollar_letters}
 use Rattle.wap_cli.proofs.lines.add_variable.Goals as goal
 

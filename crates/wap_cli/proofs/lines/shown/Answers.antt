@@ -2,7 +2,7 @@ use Rattle.std.proofs.lemmas.Str.{IsUtf8-past_char}
 use Rattle.std.proofs.Common.{ap, ◌∙◌, ◌++◌, ◌∷◌, [], map, List, ℕ}
 use Rattle.std.specs.Str.{chars}
 use Rattle.std.specs.Str.Iter.{chars_rest}
-use Rattle.wap_world.specs.Lines.{shown_character}
+use Rattle.wap_world.specs.first.Lines.{shown_character}
 use Rattle.wap_cli.proofs.TextLaws.{shows_more, shows_all}
 use Rattle.wap_cli.proofs.lines.shown.Goals as goal
 

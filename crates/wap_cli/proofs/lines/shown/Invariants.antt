@@ -1,7 +1,7 @@
 use Rattle.std.proofs.Common.{◌≡◌, ◌++◌, map}
 use Rattle.std.specs.Str.{IsUtf8, chars}
 use Rattle.std.specs.Str.Iter.{chars_rest}
-use Rattle.wap_world.specs.Lines.{shown_character}
+use Rattle.wap_world.specs.first.Lines.{shown_character}
 use Rattle.wap_cli.proofs.lines.shown.Given as goal
 
 -- what is shown so far, and what is still to be

@@ -1,7 +1,7 @@
 use Rattle.std.proofs.Common.{◌≡◌, ◌++◌, take}
 use Rattle.std.specs.List.{flat_map}
-use Rattle.wap_world.specs.Lines.{lines_bytes}
-use Rattle.wap_world.specs.Screens.{item_lines}
+use Rattle.wap_world.specs.first.Lines.{lines_bytes}
+use Rattle.wap_world.specs.first.Screens.{item_lines}
 use Rattle.wap_cli.proofs.screen.add_paragraphs.Given as goal
 
 abbrev pub invariant-loop-item : goal.invariant-loop-item

@@ -5,7 +5,8 @@ use Rattle.std.proofs.lemmas.Result.{IfOk-weaker}
 use Rattle.wap_base.specs.declared.name.Part.{Part}
 use Rattle.wap_markup.specs.declared.name.AttrName.TheVariants as attrs
 use Rattle.wap_markup.specs.Trees.{value_of}
-use Rattle.wap_world.specs.Screens.{marked, value_text, do_line}
+use Rattle.wap_filling.specs.Filling.{value_text}
+use Rattle.wap_world.specs.first.Screens.{marked, do_line}
 use Rattle.wap_cli.proofs.TextLaws.{star_letters}
 use Rattle.wap_cli.proofs.screen.do_line.Goals as goal
 

@@ -1,6 +1,6 @@
 use Rattle.std.proofs.Common.{◌≡◌, take}
 use Rattle.std.specs.List.{flat_map}
-use Rattle.wap_world.specs.Screens.{item_text}
+use Rattle.wap_world.specs.first.Screens.{item_text}
 use Rattle.wap_cli.proofs.screen.paragraph_line.Given as goal
 
 abbrev pub invariant-loop-item : goal.invariant-loop-item

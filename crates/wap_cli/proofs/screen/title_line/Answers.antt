@@ -2,7 +2,8 @@ use Rattle.std.proofs.Common.{ap, ◌∙◌, List, ℕ, Option}
 use Rattle.std.specs.Prelude.{◌≡◌, codes}
 use Rattle.std.proofs.lemmas.Result.{IfOk-weaker}
 use Rattle.wap_base.specs.declared.name.Part.{Part}
-use Rattle.wap_world.specs.Screens.{marked, value_text, title_line}
+use Rattle.wap_filling.specs.Filling.{value_text}
+use Rattle.wap_world.specs.first.Screens.{marked, title_line}
 use Rattle.wap_cli.proofs.TextLaws.{equals_letters}
 use Rattle.wap_cli.proofs.screen.title_line.Goals as goal
 

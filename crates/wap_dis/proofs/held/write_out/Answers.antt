@@ -19,7 +19,7 @@ returns-in-Ok-write_all-clause-puts g c =
     let new = state (record { bytes = c.clear.new.self; failed = c.args.held.now.failed }) in
     writes_both before between (g.O.Sink.written c.write_all-in-Ok.new.out) (g.O.Sink.faults c.args.out.now) (g.O.Sink.faults c.write_all.new.out) (g.O.Sink.faults c.write_all-in-Ok.new.out)
     (state c.args.held.now) new c.args.piece.now c.requires c.requires c.clear.ensures
-    (subst (λ (l : List ℕ). Appends before between l) c.as_slice.ensures.value c.in-Ok.ensures.whole) c.in-Ok-write_all.ensures.whole c.write_all.ensures.faults c.write_all-in-Ok.ensures.faults
+    (subst (λ (l : List ℕ). Appends before between l) c.as_slice.ensures.value c.in-Ok.ensures.whole) c.in-Ok-write_all.ensures.whole c.in-Ok.ensures.steady c.in-Ok-write_all.ensures.steady
 
 pub returns-in-Err-write_all-clause-puts : goal.returns-in-Err-write_all-clause-puts
 returns-in-Err-write_all-clause-puts g c =

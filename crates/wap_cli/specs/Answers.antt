@@ -1,0 +1,74 @@
+-- What a command on one page comes to: verify, list, check and canon. This project's own.
+use Rattle.std.specs.Prelude.{◌≡◌, ◌≢◌, ◌≤◌, ℕ, List, Option, Some, None, Result, Ok, Err}
+use Rattle.wap_base.specs.declared.store.Fetched.{Fetched}
+use Rattle.wap_base.specs.declared.store.Fetched.TheVariants as fetched
+use Rattle.wap_base.specs.Count.{Rose}
+use Rattle.wap_base.specs.Transfer.{Appends, AppendsFront}
+use Rattle.wap_words.specs.declared.words.PageCommand.{PageCommand}
+use Rattle.wap_words.specs.declared.words.PageCommand.TheVariants as command
+use Rattle.wap_inspect.specs.declared.fault.PageErr.{PageErr}
+use Rattle.wap_inspect.specs.declared.fault.PageErr.TheVariants as error
+use Rattle.wap_inspect.specs.declared.fault.PageFault.{PageFault}
+use Rattle.wap_inspect.specs.declared.fault.PageFault.TheVariants.{Missing}
+use Rattle.wap_inspect.specs.Units.{IsVerifyLine, IsListing}
+use Rattle.wap_inspect.specs.Documents.{IsCanonical, IsCheckLine}
+use Rattle.wap_inspect.specs.Refusals.{RefusesUnit, RefusesVerify, RefusesDocument, RefusesCheck}
+use Rattle.wap_cli.specs.declared.status.Status.{Status}
+use Rattle.wap_cli.specs.declared.status.Status.TheVariants.{Done, Refused, StoreFault, WriteFault, NoMemory}
+use Rattle.wap_cli.specs.Statuses.{IsOfPage}
+
+-- the text that a command writes for a page with these bytes
+abbrev pub IsText : PageCommand → List ℕ → List ℕ → Type 0
+IsText command.Verify bytes text = IsVerifyLine bytes text
+IsText command.List bytes text = IsListing bytes text
+IsText command.Check bytes text = IsCheckLine bytes text
+IsText command.Canon bytes text = IsCanonical bytes text
+
+-- why it refuses such a page
+abbrev pub IsReason : PageCommand → List ℕ → PageFault → Type 0
+IsReason command.Verify bytes fault = RefusesVerify bytes fault
+IsReason command.List bytes fault = RefusesUnit bytes fault
+IsReason command.Check bytes fault = RefusesCheck bytes fault
+IsReason command.Canon bytes fault = RefusesDocument bytes fault
+
+-- the same, where the page may be missing
+abbrev pub IsTextOf : PageCommand → Option (List ℕ) → List ℕ → Type 0
+IsTextOf command None text = ⊥
+IsTextOf command (Some bytes) text = IsText command bytes text
+
+abbrev pub IsReasonOf : PageCommand → Option (List ℕ) → PageFault → Type 0
+IsReasonOf command None fault = fault ≡ Missing
+IsReasonOf command (Some bytes) fault = IsReason command bytes fault
+
+-- what the store answered
+abbrev pub page_of : Fetched → Option (List ℕ)
+page_of fetched.Missing = None
+page_of (fetched.Found bytes) = Some bytes
+
+-- what a command comes to on a page that the store told: the sink and its faults before and after, and how it ended
+pub record Answers (command : PageCommand) (page : Option (List ℕ)) (before after : Option (List ℕ)) (faults rest : ℕ)
+    (status : Status) : Type 0 where
+  -- on Done its text was written
+  pub done : status ≡ Done → (text : List ℕ) × IsTextOf command page text × Appends before after text
+  -- on Refused there is no text, for this reason
+  pub refused : (fault : PageFault) → status ≡ Refused fault → IsReasonOf command page fault
+  pub accepted : (text : List ℕ) (fault : PageFault) → IsTextOf command page text → status ≢ Refused fault
+  -- where the sink failed, a prefix of its text was written
+  pub prefix : status ≡ WriteFault → (text : List ℕ) × IsTextOf command page text × AppendsFront before after text
+  pub failed : status ≡ WriteFault → Rose faults rest
+  -- and else nothing
+  pub quiet : status ≢ Done → status ≢ WriteFault → after ≡ before
+  pub steady : status ≢ WriteFault → rest ≡ faults
+  pub counts : faults ≤ rest
+  pub ends : IsOfPage status
+  pub told : status ≢ StoreFault
+
+-- how a command ends that has no text
+abbrev pub refused_by : PageErr → Status
+refused_by (error.Refused fault) = Refused fault
+refused_by error.NoMemory = NoMemory
+
+-- how it ends by how its text was written
+abbrev pub written_so : {A E : Type 0} → Result A E → Status
+written_so (Ok done) = Done
+written_so (Err failed) = WriteFault

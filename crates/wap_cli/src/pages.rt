@@ -1,0 +1,138 @@
+//! Commands on one page.
+ghost use Rattle.std.specs.Prelude.{◌≡◌, ◌≢◌, ◌≤◌, ◌<◌, ◌^◌, Some, IfSome, length};
+ghost use Rattle.wap_base.specs.Contents.{page_named};
+ghost use Rattle.wap_base.specs.Count.{raised, Rose};
+ghost use Rattle.wap_base.specs.Pages.{IsSmall};
+ghost use Rattle.wap_cli.specs.Answers.{Answers, page_of, refused_by, written_so};
+ghost use Rattle.wap_cli.specs.Statuses.{HasAsked, IsOfPage, IsPlayed};
+
+use crate::Status;
+use std::alloc::Global;
+use wap_base::{Bytes, Failed, Fetched, Sink, Store, StoreErr, Text, write_all};
+use wap_dis::listing;
+use wap_inspect::{PageErr, PageFault, canonical, check_line, unit_in, verify_line};
+use wap_words::PageCommand;
+
+/// How a command ends that writes nothing.
+fn refused_by(error: PageErr) -> Status
+    ensures { result ≡ refused_by error }
+{
+    match error {
+        PageErr::Refused(fault) => Status::Refused(fault),
+        PageErr::NoMemory => Status::NoMemory,
+    }
+}
+
+/// How a command ends that wrote its text, or failed to.
+fn written_so(wrote: Result<(), Failed>) -> Status
+    ensures { result ≡ written_so wrote }
+{
+    match wrote {
+        Ok(()) => Status::Done,
+        Err(Failed) => Status::WriteFault,
+    }
+}
+
+/// Writes the line of a unit that may be run.
+fn verify<O: Sink>(alloc: Global, bytes: &[u8], out: &mut O) -> Status
+    requires { length bytes.now < 2 ^ 31 }
+    ensures { Answers PageCommand.Verify (Some bytes.now) (O.written out.old) (O.written out.new)
+        (O.faults out.old) (O.faults out.new) result }
+{
+    match verify_line(alloc, bytes) {
+        Ok(line) => written_so(write_all(out, line.as_slice())),
+        Err(error) => refused_by(error),
+    }
+}
+
+/// Writes the listing of a unit.
+fn list<O: Sink>(alloc: Global, bytes: &[u8], out: &mut O) -> Status
+    requires { length bytes.now < 2 ^ 31 }
+    ensures { Answers PageCommand.List (Some bytes.now) (O.written out.old) (O.written out.new)
+        (O.faults out.old) (O.faults out.new) result }
+{
+    match unit_in(alloc, bytes) {
+        Ok(unit) => written_so(listing(&unit, out)),
+        Err(error) => refused_by(error),
+    }
+}
+
+/// Writes the one spelling of a document.
+fn canon<O: Sink>(alloc: Global, bytes: &[u8], out: &mut O) -> Status
+    requires { length bytes.now < 2 ^ 31 }
+    ensures { Answers PageCommand.Canon (Some bytes.now) (O.written out.old) (O.written out.new)
+        (O.faults out.old) (O.faults out.new) result }
+{
+    match canonical(alloc, bytes) {
+        Ok(text) => written_so(write_all(out, text.as_slice())),
+        Err(error) => refused_by(error),
+    }
+}
+
+/// Writes the line of a good deck.
+fn check<O: Sink>(alloc: Global, bytes: &[u8], out: &mut O) -> Status
+    requires { length bytes.now < 2 ^ 31 }
+    ensures { Answers PageCommand.Check (Some bytes.now) (O.written out.old) (O.written out.new)
+        (O.faults out.old) (O.faults out.new) result }
+{
+    match check_line(alloc, bytes) {
+        Ok(line) => written_so(write_all(out, line.as_slice())),
+        Err(error) => refused_by(error),
+    }
+}
+
+/// Does a command on a page with these bytes.
+fn answer_bytes<O: Sink>(alloc: Global, command: PageCommand, bytes: &[u8], out: &mut O) -> Status
+    requires { length bytes.now < 2 ^ 31 }
+    ensures { Answers command (Some bytes.now) (O.written out.old) (O.written out.new)
+        (O.faults out.old) (O.faults out.new) result }
+{
+    match command {
+        PageCommand::Verify => verify(alloc, bytes, out),
+        PageCommand::List => list(alloc, bytes, out),
+        PageCommand::Check => check(alloc, bytes, out),
+        PageCommand::Canon => canon(alloc, bytes, out),
+    }
+}
+
+/// Does a command on what the store answered.
+fn answer_page<O: Sink>(alloc: Global, command: PageCommand, page: &Fetched, out: &mut O) -> Status
+    requires { IsSmall page.now }
+    ensures { Answers command (page_of page.now) (O.written out.old) (O.written out.new)
+        (O.faults out.old) (O.faults out.new) result }
+{
+    match page {
+        Fetched::Missing => Status::Refused(PageFault::Missing),
+        Fetched::Found(bytes) => answer_bytes(alloc, command, bytes.as_slice(), out),
+    }
+}
+
+/// Does a command on the page of a name.
+pub(crate) fn answer<S: Store, O: Sink>(
+    alloc: Global,
+    command: PageCommand,
+    name: &Text,
+    store: &mut S,
+    out: &mut O,
+) -> Status
+    ensures told { result ≢ Status.StoreFault → IfSome (S.contents store.old) (λ pages. Answers command
+        (page_named name.now pages) (O.written out.old) (O.written out.new)
+        (O.faults out.old) (O.faults out.new) result) }
+    ensures ends { IsOfPage result }
+    ensures asked { HasAsked result → S.fetches store.new ≡ raised (S.fetches store.old) }
+    ensures listings { S.listings store.new ≡ S.listings store.old }
+    ensures store_fault { result ≡ Status.StoreFault → Rose (S.faults store.old) (S.faults store.new) }
+    ensures unwritten { result ≡ Status.StoreFault → O.written out.new ≡ O.written out.old }
+    ensures write_fault { result ≡ Status.WriteFault → Rose (O.faults out.old) (O.faults out.new) }
+    ensures store_steady { IsPlayed result → S.faults store.new ≡ S.faults store.old }
+    ensures write_steady { IsPlayed result → O.faults out.new ≡ O.faults out.old }
+    ensures kept { S.contents store.new ≡ S.contents store.old }
+    ensures store_faults { S.faults store.old ≤ S.faults store.new }
+    ensures sink_faults { O.faults out.old ≤ O.faults out.new }
+{
+    match store.fetch(name) {
+        Ok(page) => answer_page(alloc, command, &page, out),
+        Err(StoreErr::Failed) => Status::StoreFault,
+        Err(StoreErr::NoMemory) => Status::NoMemory,
+    }
+}

@@ -1,0 +1,181 @@
+-- What an error says of the fault that it was made of.
+use Rattle.std.proofs.Common.{◌≡◌, ◌≢◌, ℕ, List, Result, Ok, Err, refl, sym, ap, subst, ◌∙◌}
+use Rattle.wap_base.specs.Outcome.{Meets}
+use Rattle.wap_markup.specs.declared.document.Document.{Document}
+use Rattle.wap_markup.specs.Documents.{IsDocument}
+use Rattle.wap_wbxml.specs.Refusal as documents
+use Rattle.wap_wbxml.specs.declared.fault.DocFault.{DocFault}
+use Rattle.wap_wbxml.specs.declared.fault.DocFault.TheVariants as document
+use Rattle.std.specs.Prelude.{Some}
+use Rattle.wap_markup.specs.declared.deck.Deck.{Deck}
+use Rattle.wap_markup.specs.Decks.{deck_of}
+use Rattle.wap_deckcheck.specs.Faults.{faults, first_fault}
+use Rattle.wap_deckcheck.specs.declared.fault.DeckFault.{DeckFault}
+use Rattle.wap_deckcheck.specs.declared.fault.DeckFault.TheVariants as deck
+use Rattle.wap_code.specs.declared.unit.Unit.{Unit}
+use Rattle.wap_unit.specs.Units.{IsUnit}
+use Rattle.wap_unit.specs.Refusal as units
+use Rattle.wap_unit.specs.declared.fault.UnitFault.{UnitFault}
+use Rattle.wap_unit.specs.declared.fault.UnitFault.TheVariants as unit
+use Rattle.wap_verify.specs.Sound.{IsVerified}
+use Rattle.wap_verify.specs.Faults.{IsFault}
+use Rattle.wap_verify.specs.declared.fault.VerifyFault.{VerifyFault}
+use Rattle.wap_verify.specs.declared.fault.VerifyFault.TheVariants as verify
+use Rattle.wap_inspect.specs.declared.fault.PageErr.{PageErr}
+use Rattle.wap_inspect.specs.declared.fault.PageErr.TheVariants.{Refused, NoMemory}
+use Rattle.wap_inspect.specs.declared.fault.PageFault.{PageFault}
+use Rattle.wap_inspect.specs.declared.fault.PageFault.TheVariants as page
+use Rattle.wap_inspect.specs.Faults.{document_error, deck_error, unit_error, verify_error}
+use Rattle.wap_inspect.specs.Refusals.{RefusesUnit, RefusesVerify, RefusesDocument, IsDeckRefused, RefusesCheck}
+use Rattle.wap_inspect.specs.Units.{unit_line, IsVerifyLine}
+
+-- ---- one fault is that memory ran out, and each other one refuses the page
+
+unit_cases : (P : PageErr → Type 0) (fault : UnitFault) → (fault ≡ unit.NoMemory → P NoMemory) → (fault ≢ unit.NoMemory → P (Refused (page.Unit fault))) → P (unit_error fault)
+unit_cases P (unit.Version at) none some = some (λ e. absurd cc)
+unit_cases P (unit.Short at) none some = some (λ e. absurd cc)
+unit_cases P (unit.Number at) none some = some (λ e. absurd cc)
+unit_cases P (unit.Size at) none some = some (λ e. absurd cc)
+unit_cases P (unit.ConstantKind at) none some = some (λ e. absurd cc)
+unit_cases P (unit.PragmaKind at) none some = some (λ e. absurd cc)
+unit_cases P (unit.Text at) none some = some (λ e. absurd cc)
+unit_cases P (unit.Charset at) none some = some (λ e. absurd cc)
+unit_cases P (unit.NoFunction at) none some = some (λ e. absurd cc)
+unit_cases P (unit.NameIndex at) none some = some (λ e. absurd cc)
+unit_cases P unit.NoMemory none some = none refl
+
+verify_cases : (P : PageErr → Type 0) (fault : VerifyFault) → (fault ≡ verify.NoMemory → P NoMemory) → (fault ≢ verify.NoMemory → P (Refused (page.Verify fault))) → P (verify_error fault)
+verify_cases P (verify.Pragma index) none some = some (λ e. absurd cc)
+verify_cases P (verify.Opcode function at) none some = some (λ e. absurd cc)
+verify_cases P (verify.Operand function at) none some = some (λ e. absurd cc)
+verify_cases P (verify.Variable function at) none some = some (λ e. absurd cc)
+verify_cases P (verify.Constant function at) none some = some (λ e. absurd cc)
+verify_cases P (verify.Function function at) none some = some (λ e. absurd cc)
+verify_cases P (verify.Library function at) none some = some (λ e. absurd cc)
+verify_cases P (verify.LoneShort function at) none some = some (λ e. absurd cc)
+verify_cases P (verify.Target function at) none some = some (λ e. absurd cc)
+verify_cases P (verify.Underflow function at) none some = some (λ e. absurd cc)
+verify_cases P (verify.Depths function at found other) none some = some (λ e. absurd cc)
+verify_cases P verify.NoMemory none some = none refl
+
+document_cases : (P : PageErr → Type 0) (fault : DocFault) → (fault ≡ document.NoMemory → P NoMemory) → (fault ≢ document.NoMemory → P (Refused (page.Document fault))) → P (document_error fault)
+document_cases P document.Version none some = some (λ e. absurd cc)
+document_cases P document.PublicId none some = some (λ e. absurd cc)
+document_cases P document.Charset none some = some (λ e. absurd cc)
+document_cases P (document.Short at) none some = some (λ e. absurd cc)
+document_cases P (document.Number at) none some = some (λ e. absurd cc)
+document_cases P (document.Token at) none some = some (λ e. absurd cc)
+document_cases P (document.Index at) none some = some (λ e. absurd cc)
+document_cases P (document.Text at) none some = some (λ e. absurd cc)
+document_cases P (document.Depth at) none some = some (λ e. absurd cc)
+document_cases P (document.Table at) none some = some (λ e. absurd cc)
+document_cases P (document.Rest at) none some = some (λ e. absurd cc)
+document_cases P document.NoMemory none some = none refl
+
+deck_cases : (P : PageErr → Type 0) (fault : DeckFault) → (fault ≡ deck.NoMemory → P NoMemory) → (fault ≢ deck.NoMemory → P (Refused (page.Deck fault))) → P (deck_error fault)
+deck_cases P (deck.Child path) none some = some (λ e. absurd cc)
+deck_cases P (deck.Attr path) none some = some (λ e. absurd cc)
+deck_cases P (deck.Missing path) none some = some (λ e. absurd cc)
+deck_cases P (deck.Value path) none some = some (λ e. absurd cc)
+deck_cases P (deck.DuplicateId path) none some = some (λ e. absurd cc)
+deck_cases P deck.NoCard none some = some (λ e. absurd cc)
+deck_cases P deck.NoMemory none some = none refl
+
+-- ---- the bytes are no unit
+
+-- the error of a call that should have given a value
+abbrev pub Only : {X : Type 0} → X → PageErr → Type 0
+Only {X} x error = error ≢ NoMemory → ◌≡◌ {A = Result X PageErr} (Ok x) (Err error)
+
+module _ (bytes : List ℕ) (fault : UnitFault) where
+  pub unit_only : (one : Unit) → (fault ≢ unit.NoMemory → ◌≡◌ {A = Result Unit UnitFault} (Ok one) (Err fault)) → Only one (unit_error fault)
+  unit_only one is = unit_cases (Only one) fault (λ none e. absurd (e refl)) (λ some e. absurd (no_both (is some)))
+    where
+      no_both : ◌≡◌ {A = Result Unit UnitFault} (Ok one) (Err fault) → ⊥
+      no_both e = cc
+
+  pub unit_refused : (why : PageFault) → (fault ≢ unit.NoMemory → units.IsRefused bytes fault) → unit_error fault ≡ Refused why → RefusesUnit bytes why
+  unit_refused why is = unit_cases (λ error. error ≡ Refused why → RefusesUnit bytes why) fault
+      (λ none e. absurd cc)
+      (λ some e. subst (RefusesUnit bytes) (inner (page.Unit fault) e) (RefusesUnit.unit fault (is some)))
+    where
+      inner : (one : PageFault) → Refused one ≡ Refused why → one ≡ why
+      inner one e = cc
+
+  -- nor one that may be run
+  pub unit_refused_so : (why : PageFault) → (fault ≢ unit.NoMemory → units.IsRefused bytes fault) → unit_error fault ≡ Refused why → RefusesVerify bytes why
+  unit_refused_so why is = unit_cases (λ error. error ≡ Refused why → RefusesVerify bytes why) fault
+      (λ none e. absurd cc)
+      (λ some e. subst (RefusesVerify bytes) (inner (page.Unit fault) e) (RefusesVerify.unit fault (is some)))
+    where
+      inner : (one : PageFault) → Refused one ≡ Refused why → one ≡ why
+      inner one e = cc
+
+-- ---- the bytes are no document
+
+module _ (bytes : List ℕ) (fault : DocFault) where
+  pub document_only : (one : Document) → (fault ≢ document.NoMemory → ◌≡◌ {A = Result Document DocFault} (Ok one) (Err fault)) → Only one (document_error fault)
+  document_only one is = document_cases (Only one) fault (λ none e. absurd (e refl)) (λ some e. absurd (no_both (is some)))
+    where
+      no_both : ◌≡◌ {A = Result Document DocFault} (Ok one) (Err fault) → ⊥
+      no_both e = cc
+
+  pub document_refused : (why : PageFault) → (fault ≢ document.NoMemory → documents.IsRefused bytes fault) → document_error fault ≡ Refused why → RefusesDocument bytes why
+  document_refused why is = document_cases (λ error. error ≡ Refused why → RefusesDocument bytes why) fault
+      (λ none e. absurd cc)
+      (λ some e. subst (RefusesDocument bytes) (inner (page.Document fault) e) (RefusesDocument.document fault (is some)))
+    where
+      inner : (one : PageFault) → Refused one ≡ Refused why → one ≡ why
+      inner one e = cc
+
+-- ---- the deck isn't good
+
+module _ (one : Document) (fault : DeckFault) where
+  pub deck_only : {X : Type 0} (x : X) → (fault ≢ deck.NoMemory → ⊥) → Only x (deck_error fault)
+  deck_only x is = deck_cases (Only x) fault (λ none e. absurd (e refl)) (λ some e. absurd (is some))
+
+  pub deck_refused : (why : PageFault) → (fault ≢ deck.NoMemory → first_fault (faults (deck_of one)) ≡ Some fault) → deck_error fault ≡ Refused why → IsDeckRefused one why
+  deck_refused why is = deck_cases (λ error. error ≡ Refused why → IsDeckRefused one why) fault
+      (λ none e. absurd cc)
+      (λ some e. subst (IsDeckRefused one) (inner (page.Deck fault) e) (IsDeckRefused.deck fault (is some)))
+    where
+      inner : (one : PageFault) → Refused one ≡ Refused why → one ≡ why
+      inner one e = cc
+
+pub by_document : (bytes : List ℕ) (why : PageFault) → RefusesDocument bytes why → RefusesCheck bytes why
+by_document bytes why (RefusesDocument.document fault is) = RefusesCheck.document fault is
+
+pub by_deck : (bytes : List ℕ) (one : Document) (why : PageFault) → IsDocument bytes one → IsDeckRefused one why → RefusesCheck bytes why
+by_deck bytes one why spells (IsDeckRefused.deck fault is) = RefusesCheck.deck one fault spells is
+
+-- ---- the unit may not be run
+
+pub by_unit : (bytes : List ℕ) (why : PageFault) → RefusesUnit bytes why → RefusesVerify bytes why
+by_unit bytes why (RefusesUnit.unit fault is) = RefusesVerify.unit fault is
+
+module _ (bytes : List ℕ) (one : Unit) (spells : IsUnit bytes one) (fault : VerifyFault) where
+  pub verify_only : {X : Type 0} (x : X) → (fault ≢ verify.NoMemory → ⊥) → Only x (verify_error fault)
+  verify_only x is = verify_cases (Only x) fault (λ none e. absurd (e refl)) (λ some e. absurd (is some))
+
+  pub verify_refused : (why : PageFault) → (fault ≢ verify.NoMemory → IsFault one fault) → verify_error fault ≡ Refused why → RefusesVerify bytes why
+  verify_refused why is = verify_cases (λ error. error ≡ Refused why → RefusesVerify bytes why) fault
+      (λ none e. absurd cc)
+      (λ some e. subst (RefusesVerify bytes) (inner (page.Verify fault) e) (RefusesVerify.verify one fault spells (is some)))
+    where
+      inner : (one : PageFault) → Refused one ≡ Refused why → one ≡ why
+      inner one e = cc
+
+-- ---- values and errors
+
+pub ok_is : {X E : Type 0} (x y : X) → ◌≡◌ {A = Result X E} (Ok x) (Ok y) → x ≡ y
+ok_is x y is = cc
+
+pub err_is : {X E : Type 0} (e f : E) → ◌≡◌ {A = Result X E} (Err e) (Err f) → e ≡ f
+err_is e f is = cc
+
+-- an error that isn't that memory ran out, where a value had to come
+pub other_value : {X Y : Type 0} (x : X) (y : Y) (error : PageErr) → Only x error → Only y error
+other_value x y error is ne = absurd (no_both (is ne))
+  where
+    no_both : ◌≡◌ {A = Result _ PageErr} (Ok x) (Err error) → ⊥
+    no_both e = cc

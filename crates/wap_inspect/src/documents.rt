@@ -1,0 +1,115 @@
+//! Commands on a document.
+ghost use Rattle.std.specs.Prelude.{◌≡◌, ℕ, List, length, IfOk, Ok, Err};
+ghost use Rattle.wap_base.specs.Outcome.{Meets};
+ghost use Rattle.wap_markup.specs.declared.document.Document.{Document};
+ghost use Rattle.wap_markup.specs.Documents.{IsDocument};
+ghost use Rattle.wap_markup.specs.Decks.{deck_of};
+ghost use Rattle.wap_markup.specs.Good.{IsGood};
+ghost use Rattle.wap_markup.specs.Cards.{cards_of};
+ghost use Rattle.wap_inspect.specs.Documents.{IsCanonical, deck_line, IsDeckOf, IsCheckLine};
+ghost use Rattle.wap_inspect.specs.Refusals.{RefusesDocument, IsDeckRefused, RefusesCheck};
+ghost use Rattle.wap_inspect.specs.declared.fault.PageErr.TheVariants as error;
+ghost use Rattle.wap_inspect.specs.declared.fault.PageFault.{PageFault};
+
+use crate::PageErr;
+use itoa::Buffer;
+use std::alloc::Global;
+use wap_base::{Bytes, NoMemory};
+use wap_deck::deck_of;
+use wap_deckcheck::check;
+use wap_good::GoodDeck;
+use wap_markup::Document;
+use wap_spelling::{documents_are_spellable, encode};
+use wap_wbxml::decode;
+
+/// The document that a page is.
+fn document_in(alloc: Global, bytes: &[u8]) -> Result<Document, PageErr>
+    ensures found { IfOk result (λ document. IsDocument bytes.now document) }
+    ensures only { (document : Document) → IsDocument bytes.now document
+        → Meets error.NoMemory (λ document. document) result (Ok document) }
+    ensures refused { (fault : PageFault) → result ≡ Err (error.Refused fault)
+        → RefusesDocument bytes.now fault }
+{
+    match decode(alloc, bytes) {
+        Ok(document) => Ok(document),
+        Err(fault) => Err(PageErr::from(fault)),
+    }
+}
+
+/// The one spelling of a page that is a document.
+pub fn canonical(alloc: Global, bytes: &[u8]) -> Result<Bytes, PageErr>
+    ensures found { IfOk result (λ text. IsCanonical bytes.now text) }
+    ensures only { (text : List ℕ) → IsCanonical bytes.now text
+        → Meets error.NoMemory (λ text. text) result (Ok text) }
+    ensures refused { (fault : PageFault) → result ≡ Err (error.Refused fault)
+        → RefusesDocument bytes.now fault }
+{
+    documents_are_spellable(bytes);
+    match document_in(alloc, bytes) {
+        Ok(document) => match encode(alloc, &document) {
+            Ok(text) => Ok(text),
+            Err(NoMemory) => Err(PageErr::NoMemory),
+        },
+        Err(error) => Err(error),
+    }
+}
+
+/// The good deck that a document means.
+fn good_deck_of(alloc: Global, document: &Document) -> Result<GoodDeck, PageErr>
+    ensures found { IfOk result (λ deck. deck ≡ deck_of document.now × IsGood deck) }
+    ensures only { IsGood (deck_of document.now)
+        → Meets error.NoMemory (λ deck. deck) result (Ok (deck_of document.now)) }
+    ensures refused { (fault : PageFault) → result ≡ Err (error.Refused fault)
+        → IsDeckRefused document.now fault }
+{
+    match deck_of(alloc, document) {
+        Ok(deck) => match check(alloc, deck) {
+            Ok(deck) => Ok(deck),
+            Err((_, fault)) => Err(PageErr::from(fault)),
+        },
+        Err(NoMemory) => Err(PageErr::NoMemory),
+    }
+}
+
+/// The good deck that a page is.
+fn deck_in(alloc: Global, bytes: &[u8]) -> Result<GoodDeck, PageErr>
+    ensures found { IfOk result (λ deck. IsDeckOf bytes.now deck) }
+    ensures only { (document : Document) → IsDocument bytes.now document
+        → IsGood (deck_of document)
+        → Meets error.NoMemory (λ deck. deck) result (Ok (deck_of document)) }
+    ensures refused { (fault : PageFault) → result ≡ Err (error.Refused fault)
+        → RefusesCheck bytes.now fault }
+{
+    match document_in(alloc, bytes) {
+        Ok(document) => good_deck_of(alloc, &document),
+        Err(error) => Err(error),
+    }
+}
+
+/// The line of a page that is a document with a good deck.
+pub fn check_line(alloc: Global, bytes: &[u8]) -> Result<Bytes, PageErr>
+    ensures found { IfOk result (λ line. IsCheckLine bytes.now line) }
+    ensures only { (line : List ℕ) → IsCheckLine bytes.now line
+        → Meets error.NoMemory (λ line. line) result (Ok line) }
+    ensures refused { (fault : PageFault) → result ≡ Err (error.Refused fault)
+        → RefusesCheck bytes.now fault }
+{
+    match deck_in(alloc, bytes) {
+        Ok(deck) => match line_of(alloc, &deck) {
+            Ok(line) => Ok(line),
+            Err(NoMemory) => Err(PageErr::NoMemory),
+        },
+        Err(error) => Err(error),
+    }
+}
+
+fn line_of(alloc: Global, deck: &GoodDeck) -> Result<Bytes, NoMemory>
+    ensures { IfOk result (λ line. line ≡ deck_line deck.now) }
+{
+    let mut buffer = Buffer::new();
+    let count = buffer.format(deck.card_count());
+    let mut line = Bytes::of(alloc, b"ok deck cards=")?;
+    line.add(count.as_bytes())?;
+    line.add(b"\n")?;
+    Ok(line)
+}
