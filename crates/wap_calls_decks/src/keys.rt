@@ -1,6 +1,6 @@
 //! Calls of key lines.
 use std::alloc::Global;
-use wap_base::{Bytes, MemSource};
+use wap_base::{Bytes, MemSource, Text};
 use wap_casebook::{Answer, Args, CaseFault};
 use wap_keys::{Ending, Key, KeyFault, read_key, read_keys};
 
@@ -80,6 +80,18 @@ fn key(alloc: Global, args: &mut Args<'_>, answer: &mut Answer) -> Result<(), Ca
     }
 }
 
+/// What is told of a line that is no key line.
+fn told(alloc: Global, args: &mut Args<'_>, answer: &mut Answer) -> Result<(), CaseFault> {
+    let fault = match args.value()? {
+        b"NoMemory" => KeyFault::NoMemory,
+        _ => match read_key(alloc, args.bytes()?.as_slice()) {
+            Ok(_) => return answer.word("none"),
+            Err(fault) => fault,
+        },
+    };
+    answer.text(Text::from_string(format!(in alloc; "{fault}")?))
+}
+
 /// What the keys of bytes come to, which a source gives in pieces, and of whose calls one fails.
 fn read(
     alloc: Global,
@@ -138,6 +150,7 @@ pub fn call(
 ) -> Result<bool, CaseFault> {
     match name {
         b"read_key" => key(alloc, args, answer)?,
+        b"read_key_told" => told(alloc, args, answer)?,
         b"read_keys" => keys(alloc, args, answer)?,
         b"read_keys_failing" => keys_by(alloc, 1, args, answer)?,
         b"read_keys_by" => {
