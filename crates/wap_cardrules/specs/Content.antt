@@ -1,4 +1,4 @@
--- What a card or a template has, in the order of the document (WAP-191, sections 11.5 to 11.11):
+-- What a card or a template has, in the order of the document (WAP-191, sections 11.4 to 11.9):
 -- texts, and elements that begin and end. A text counts where one may stand. What stands in a do,
 -- an event, a task or a select is no part of it.
 use Rattle.std.specs.Prelude.{ℕ, zero, suc, Bool, if◌then◌else◌, List, [], ◌∷◌, ◌++◌, Option, Some, None}
@@ -19,8 +19,8 @@ pub data Mark : Type 0 where
   ends : Node → Mark
 
 -- the content of these shows; each may stand in a card or a template
-abbrev pub open_tags : List Tag
-open_tags =
+abbrev pub shown_tags : List Tag
+shown_tags =
     tags.P ∷ tags.Pre ∷ tags.Fieldset ∷ tags.Table ∷ tags.Tr ∷ tags.Td ∷ tags.A ∷ tags.Anchor ∷
     tags.Em ∷ tags.Strong ∷ tags.B ∷ tags.I ∷ tags.U ∷ tags.Big ∷ tags.Small ∷ []
 
@@ -36,7 +36,7 @@ kids_marks inner node =
 abbrev pub marks_in : ℕ → Node → List Mark
 marks_in zero node = []
 marks_in (suc levels) node =
-    if is_among open_tags node.tag then kids_marks (marks_in levels) node else []
+    if is_among shown_tags node.tag then kids_marks (marks_in levels) node else []
 
 unfoldable pub content_of : Node → List Mark
 content_of node = kids_marks (marks_in LEVEL_LIMIT) node

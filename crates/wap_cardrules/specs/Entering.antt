@@ -54,14 +54,14 @@ abbrev pub none_chosen : Variables → OptionChosen
 none_chosen vars = record { vars = vars; answer = chosen.NoOption }
 
 -- the sets, and then the task of onpick, filled from the variables behind them
-abbrev pub picked : Set → Node → OptionChosen
-picked set option =
+abbrev pub after_sets : Set → Node → OptionChosen
+after_sets set option =
     record { vars = set.vars; answer = chosen.Set set.refused (onpick set.vars option) }
 
 abbrev pub choose_option : Variables → Node → ℕ → Option Node → OptionChosen
 choose_option vars select m None = none_chosen vars
 choose_option vars select m (Some option) =
-    picked (set_choice vars select (choice_with select (choice_of vars select) m)) option
+    after_sets (set_choice vars select (choice_with select (choice_of vars select) m)) option
 
 abbrev pub choose_in : Variables → ℕ → Option Node → OptionChosen
 choose_in vars m None = none_chosen vars

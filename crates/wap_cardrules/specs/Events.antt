@@ -1,7 +1,7 @@
 -- Which task an event sets off (WAP-191, section 9.10): in an element its first onevent of the type
 -- comes before the attribute, and a card's binding before its template's. A noop hides them, and is
 -- none.
-use Rattle.std.specs.Prelude.{ℕ, true, find, List, Option, Some, codes}
+use Rattle.std.specs.Prelude.{ℕ, find, List, Option, Some, codes}
 use Rattle.std.specs.List.{filter_map}
 use Rattle.std.specs.Option.{option_map, option_and_then, option_or, option_flatten}
 use Rattle.wap_markup.specs.declared.deck.Deck.{Deck}
@@ -9,7 +9,7 @@ use Rattle.wap_markup.specs.declared.deck.Node.{Node}
 use Rattle.wap_markup.specs.declared.name.Tag.TheVariants as tags
 use Rattle.wap_markup.specs.declared.name.AttrName.{AttrName}
 use Rattle.wap_markup.specs.declared.name.AttrName.TheVariants as attrs
-use Rattle.wap_markup.specs.Trees.{node_with, is_text}
+use Rattle.wap_markup.specs.Trees.{node_with, first_with, is_text}
 use Rattle.wap_markup.specs.Cards.{type_of}
 use Rattle.wap_filling.specs.Variables.{Variables}
 use Rattle.wap_cardrules.specs.declared.event.Event.{Event}
@@ -29,8 +29,8 @@ named Backward = record { type = codes "onenterbackward"; attribute = attrs.Onen
 named Timer = record { type = codes "ontimer"; attribute = attrs.Ontimer }
 
 -- the event of an option
-abbrev pub picked : Named
-picked = record { type = codes "onpick"; attribute = attrs.Onpick }
+abbrev pub pick_event : Named
+pick_event = record { type = codes "onpick"; attribute = attrs.Onpick }
 
 -- the binding of an event in one element, if there is one, and its task, if that is no noop
 abbrev pub onevent_for : Named → Node → Option Node
@@ -44,7 +44,7 @@ bound_in vars event node = option_or
 
 -- the template of a deck
 abbrev pub template_of : Deck → Option Node
-template_of deck = find (λ node. true) (filter_map (node_with tags.Template) deck.root.kids)
+template_of deck = first_with tags.Template deck.root.kids
 
 -- the task that the event of a card sets off
 abbrev pub binding : Variables → Deck → Node → Event → Option Task
@@ -54,4 +54,4 @@ binding vars deck card event = option_flatten (option_or
 
 -- the task that an option sets off when it is chosen
 abbrev pub onpick : Variables → Node → Option Task
-onpick vars option = option_flatten (bound_in vars picked option)
+onpick vars option = option_flatten (bound_in vars pick_event option)

@@ -21,12 +21,13 @@ pub record Set : Type 0 where
   pub vars : Variables
   pub refused : List VarFault
 
-abbrev pub unset : Variables → Set
-unset vars = record { vars = vars; refused = [] }
+-- nothing refused
+abbrev pub accepted : Variables → Set
+accepted vars = record { vars = vars; refused = [] }
 
 -- a set that is refused leaves the variables
 abbrev pub set_from : Variables → Result Variables VarFault → Set
-set_from vars (Ok more) = unset more
+set_from vars (Ok more) = accepted more
 set_from vars (Err fault) = record { vars = vars; refused = fault ∷ [] }
 
 abbrev pub set_one : Variables → List ℕ × List ℕ → Set
@@ -34,7 +35,7 @@ set_one vars pair = set_from vars (set_in vars pair.0 pair.1)
 
 -- one set after the other
 abbrev pub set_each : {X : Type 0} → (Variables → X → Set) → Variables → List X → Set
-set_each one vars [] = unset vars
+set_each one vars [] = accepted vars
 set_each one vars (x ∷ xs) =
     let first = one vars x in
     let others = set_each one first.vars xs in
@@ -48,14 +49,14 @@ set_all vars pairs = set_each set_one vars pairs
 
 -- an input that has no text that it takes gets its value, if it takes that, and else loses its text
 abbrev pub default_text : Variables → Node → Option (List ℕ) → Set
-default_text vars input None = unset (removed vars (input_variable input))
+default_text vars input None = accepted (removed vars (input_variable input))
 default_text vars input (Some value) =
     if takes vars input value then set_one vars (input_variable input, value)
-    else unset (removed vars (input_variable input))
+    else accepted (removed vars (input_variable input))
 
 abbrev pub default_input : Variables → Node → Set
 default_input vars input =
-    if option_map_or (takes vars input) (text_of vars (input_variable input)) false then unset vars
+    if option_map_or (takes vars input) (text_of vars (input_variable input)) false then accepted vars
     else default_text vars input (value_if vars attrs.Value input)
 
 abbrev pub under : List ℕ → List ℕ → List ℕ × List ℕ
@@ -74,7 +75,7 @@ abbrev pub default : Variables → Node → Set
 default vars field =
     if is_same_tag field.tag tags.Input then default_input vars field
     else if is_same_tag field.tag tags.Select then set_choice vars field (choice_of vars field)
-    else unset vars
+    else accepted vars
 
 -- every field in turn
 abbrev pub defaults : Variables → Node → Set

@@ -1,4 +1,4 @@
--- Tasks (WAP-191, sections 9.3, 9.5 and 9.7 to 9.9), filled from the variables of the moment.
+-- Tasks (WAP-191, sections 9.3 to 9.5 and 9.7 to 9.9), filled from the variables of the moment.
 use Rattle.std.specs.Prelude.{ℕ, false, if◌then◌else◌, map, List, [], Option, Some, None, codes}
 use Rattle.std.specs.List.{filter_map}
 use Rattle.std.specs.Option.{option_and_then}

@@ -1,18 +1,17 @@
 -- The timer of a card (WAP-191, section 11.7): it counts tenths of a second down.
-use Rattle.std.specs.Prelude.{ℕ, true, min, find, unwrap_or, List, Option, ◌-◌, ◌^◌}
-use Rattle.std.specs.List.{filter_map}
+use Rattle.std.specs.Prelude.{ℕ, min, unwrap_or, List, Option, ◌-◌, ◌^◌}
 use Rattle.std.specs.Option.{option_map, option_map_or, option_and_then}
 use Rattle.wap_markup.specs.declared.deck.Node.{Node}
 use Rattle.wap_markup.specs.declared.name.Tag.TheVariants as tags
 use Rattle.wap_markup.specs.declared.name.AttrName.TheVariants as attrs
-use Rattle.wap_markup.specs.Trees.{node_with, value_of}
+use Rattle.wap_markup.specs.Trees.{first_with, value_of}
 use Rattle.wap_filling.specs.Variables.{Variables, text_of}
 use Rattle.wap_filling.specs.Filling.{value_text}
 use Rattle.wap_cardrules.specs.Values.{variable_in, number_in}
 
 -- the element
 abbrev pub timer_in : Node → Option Node
-timer_in card = find (λ node. true) (filter_map (node_with tags.Timer) card.kids)
+timer_in card = first_with tags.Timer card.kids
 
 -- its variable, if it has one
 abbrev pub timer_variable : Node → Option (List ℕ)
@@ -21,7 +20,7 @@ timer_variable timer = variable_in attrs.Name timer
 abbrev pub most_time : ℕ
 most_time = 2 ^ 32 - 1
 
--- the time that a text says: decimal digits, as far as times go, and else none
+-- the time that decimal digits say, and at most the longest; another text says no time
 abbrev pub time_in : List ℕ → ℕ
 time_in text = option_map_or (min most_time) (number_in text) 0
 

@@ -8,7 +8,7 @@ use Rattle.wap_markup.specs.declared.deck.Node.{Node}
 use Rattle.wap_markup.specs.declared.deck.Item.{Item, out-Item}
 use Rattle.wap_markup.specs.declared.deck.Item.TheVariants as item
 use Rattle.wap_markup.specs.Good.{is_among}
-use Rattle.wap_cardrules.specs.Content.{Mark, words, begins, ends, open_tags, marks_from, marks_in, kids_marks, begun_by}
+use Rattle.wap_cardrules.specs.Content.{Mark, words, begins, ends, shown_tags, marks_from, marks_in, kids_marks, begun_by}
 use Rattle.wap_good.proofs.Layers.{out_node, out_text}
 use Rattle.wap_cards.specs.declared.content.Mark.{Mark as LentMark}
 use Rattle.wap_cards.specs.declared.content.Mark.TheVariants as lent
@@ -33,14 +33,14 @@ module _ (inner : Node → List Mark) (items : List Item) where
 -- ---- levels
 
 module _ (levels : ℕ) (node : Node) where
-  pub marks_closed : is_among open_tags node.tag ≡ false → marks_in levels node ≡ []
+  pub marks_closed : is_among shown_tags node.tag ≡ false → marks_in levels node ≡ []
   marks_closed is = by levels
     where
       by : (levels : ℕ) → marks_in levels node ≡ []
       by zero = refl
       by (suc levels) = ap (λ b. cond b (kids_marks (marks_in levels) node) []) is
 
-  pub marks_open : 0 < levels → is_among open_tags node.tag ≡ true → marks_in levels node ≡ kids_marks (marks_in (levels - 1)) node
+  pub marks_open : 0 < levels → is_among shown_tags node.tag ≡ true → marks_in levels node ≡ kids_marks (marks_in (levels - 1)) node
   marks_open some is =
       let deep : suc (levels - 1) ≡ levels = omega arith in
       subst (λ all. marks_in all node ≡ kids_marks (marks_in (levels - 1)) node) deep (ap (λ b. cond b (kids_marks (marks_in (levels - 1)) node) []) is)
@@ -53,7 +53,7 @@ module _ (levels : ℕ) (node : Node) where
   none_below is = ap (λ all. marks_in all node) is
 
   -- one whose content shows adds that
-  pub adds_content : {X E : Type 0} (result : Result X E) (before after : List LentMark) → 0 < levels → is_among open_tags node.tag ≡ true → OnOk result (map mark_of after ≡ map mark_of before ++ kids_marks (marks_in (levels - 1)) node) → OnOk result (map mark_of after ≡ map mark_of before ++ marks_in levels node)
+  pub adds_content : {X E : Type 0} (result : Result X E) (before after : List LentMark) → 0 < levels → is_among shown_tags node.tag ≡ true → OnOk result (map mark_of after ≡ map mark_of before ++ kids_marks (marks_in (levels - 1)) node) → OnOk result (map mark_of after ≡ map mark_of before ++ marks_in levels node)
   adds_content result before after some is so = let P : List Mark → Type 0 = λ more. OnOk result (map mark_of after ≡ map mark_of before ++ more) in subst P (sym (marks_open some is)) so
 
 pub ruleset marks_steps = (marks_text, marks_no_text, marks_node, append_assoc)

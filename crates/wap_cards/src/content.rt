@@ -3,7 +3,7 @@ ghost use Rattle.std.specs.Prelude.{◌≡◌, ◌++◌, map, IfOk, OnOk};
 ghost use Rattle.std.specs.Map.{lookup};
 ghost use Rattle.wap_markup.specs.Good.{is_among, rule_of};
 ghost use Rattle.wap_markup.specs.Tables.{is_same_tag};
-ghost use Rattle.wap_cardrules.specs.Content.{open_tags, kids_marks, marks_in, begun_by, content_of, elements_of};
+ghost use Rattle.wap_cardrules.specs.Content.{shown_tags, kids_marks, marks_in, begun_by, content_of, elements_of};
 ghost use Rattle.wap_cards.specs.Lent.{mark_of};
 ghost use Rattle.wap_cards.specs.inside.Rows.{has_text, rule_rows};
 
@@ -48,7 +48,7 @@ pub fn is_among(group: &[Tag], tag: Tag) -> bool
 
 /// Whether the content of an element shows.
 fn is_open(tag: Tag) -> bool
-    ensures { result ≡ is_among open_tags tag }
+    ensures { result ≡ is_among shown_tags tag }
 {
     is_among(OPEN_TAGS, tag)
 }

@@ -11,10 +11,10 @@ use Rattle.wap_markup.specs.declared.name.AttrName.TheVariants as attrs
 use Rattle.wap_filling.specs.Variables.{Variables, removed}
 use Rattle.wap_cardrules.specs.Values.{value_if}
 use Rattle.wap_cardrules.specs.Inputs.{input_variable, takes}
-use Rattle.wap_cardrules.specs.Setting.{Set, set_one, unset, default_text, set_each, default}
+use Rattle.wap_cardrules.specs.Setting.{Set, set_one, accepted, default_text, set_each, default}
 use Rattle.wap_fields.specs.inside.Defaults.{if_taken, taken_value, set_or_unset}
 
-by_taken : (vars : Variables) (input : Node) (value : List ℕ) (is_taken : Bool) → cond is_taken (set_one vars (input_variable input, value)) (unset (removed vars (input_variable input))) ≡ set_or_unset vars (input_variable input) (cond is_taken (Some value) None)
+by_taken : (vars : Variables) (input : Node) (value : List ℕ) (is_taken : Bool) → cond is_taken (set_one vars (input_variable input, value)) (accepted (removed vars (input_variable input))) ≡ set_or_unset vars (input_variable input) (cond is_taken (Some value) None)
 by_taken vars input value true = refl
 by_taken vars input value false = refl
 

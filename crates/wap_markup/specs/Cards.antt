@@ -1,4 +1,4 @@
--- The cards of a deck, and the dos of a card (WAP-191, sections 11.5 and 9.5).
+-- The cards of a deck, and the dos of a card (WAP-191, sections 11.5 and 9.7).
 use Rattle.std.specs.Prelude.{ℕ, List, position, Option}
 use Rattle.std.specs.List.{filter_map, AllByRecursion}
 use Rattle.wap_base.specs.Texts.{AreDistinct}

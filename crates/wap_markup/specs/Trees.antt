@@ -1,7 +1,8 @@
 -- What a deck has: its nodes, their texts, and the values of their attributes (WAP-191, section 11). This project's own
 -- words.
-use Rattle.std.specs.Prelude.{ℕ, Bool, false, if◌then◌else◌, List, [], ◌∷◌, find, Option, Some, None}
+use Rattle.std.specs.Prelude.{ℕ, Bool, true, false, if◌then◌else◌, List, [], ◌∷◌, find, Option, Some, None}
 use Rattle.std.specs.Option.{option_map, option_and_then}
+use Rattle.std.specs.List.{filter_map}
 use Rattle.wap_base.specs.declared.name.Part.{Part}
 use Rattle.wap_base.specs.declared.name.Part.TheVariants.{Lit}
 use Rattle.wap_base.specs.Texts.{is_same_text}
@@ -41,6 +42,10 @@ if_tagged tag (Some node) = if is_same_tag node.tag tag then Some node else None
 -- the item as a node of this tag, if it is one
 abbrev pub node_with : Tag → Item → Option Node
 node_with tag item = if_tagged tag (node_of item)
+
+-- the first of some items that is a node of this tag
+abbrev pub first_with : Tag → List Item → Option Node
+first_with tag items = find (λ node. true) (filter_map (node_with tag) items)
 
 -- ---- attributes
 

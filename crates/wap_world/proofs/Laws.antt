@@ -5,7 +5,7 @@ use Rattle.std.specs.Prelude.{Ok, length, drop, nat_lt, if◌then◌else◌}
 use Rattle.wap_input.specs.declared.key.Key.{Key}
 use Rattle.wap_input.specs.declared.key.Key.TheVariants as key
 use Rattle.wap_world.specs.declared.history.Entry.{Entry}
-use Rattle.wap_world.specs.Pages.{Pages}
+use Rattle.wap_site.specs.Pages.{Pages}
 use Rattle.wap_world.specs.World.{World, Place, place_now}
 use Rattle.wap_world.specs.Steps.{Step, quiet, followed, settled}
 use Rattle.wap_world.specs.History.{all_but_last}
@@ -22,8 +22,8 @@ use Rattle.wap_world.specs.declared.refusal.Refusal.TheVariants as refusals
 use Rattle.wap_world.specs.Screens.{refuse}
 use Rattle.wap_world.specs.Access.{may_enter}
 use Rattle.wap_world.specs.Requests.{Request, request_line, answer_to, ask, test}
-use Rattle.wap_world.specs.Tasks.{request, once_behind, with_deck, try_deck, arrive_if}
-use Rattle.wap_world.specs.Keys.{ignored, act_if, at_card, renewed, react, type_text, after_text, choose_option, after_choice, pass_time}
+use Rattle.wap_world.specs.Tasks.{request, after_step, with_deck, try_deck, arrive_if}
+use Rattle.wap_world.specs.Keys.{ignored, act_or, at_card, renewed, react, type_text, after_text, choose_option, after_choice, pass_time}
 use Rattle.wap_world.specs.Sessions.{played_in, played}
 use Rattle.wap_world.proofs.Walk.{before, apply_fine}
 
@@ -126,14 +126,14 @@ ignores_dialog_keys pages keys world = record { ok = refl; cancel = refl; answer
 pub ignores_do : (pages : Pages) (keys : List Key) (world : World) (place : Place) (name : List ℕ) → place_now pages (renewed world) ≡ Some place → do_task world.vars place.deck place.card name ≡ None → IsIgnored pages (key.Do name) keys world
 unfolding react
 ignores_do pages keys world place name here none =
-    ap (λ (o : Option Place). at_card keys (renewed world) (λ p. act_if pages keys (renewed world) (do_task world.vars p.deck p.card name)) o) here
-    ∙ ap (act_if pages keys (renewed world)) none
+    ap (λ (o : Option Place). at_card keys (renewed world) (λ p. act_or (ignored (renewed world)) pages keys (renewed world) (do_task world.vars p.deck p.card name)) o) here
+    ∙ ap (act_or (ignored (renewed world)) pages keys (renewed world)) none
 
 pub ignores_pick : (pages : Pages) (keys : List Key) (world : World) (place : Place) (n : ℕ) → place_now pages (renewed world) ≡ Some place → link_task world.vars place.card n ≡ None → IsIgnored pages (key.Pick n) keys world
 unfolding react
 ignores_pick pages keys world place n here none =
-    ap (λ (o : Option Place). at_card keys (renewed world) (λ p. act_if pages keys (renewed world) (link_task world.vars p.card n)) o) here
-    ∙ ap (act_if pages keys (renewed world)) none
+    ap (λ (o : Option Place). at_card keys (renewed world) (λ p. act_or (ignored (renewed world)) pages keys (renewed world) (link_task world.vars p.card n)) o) here
+    ∙ ap (act_or (ignored (renewed world)) pages keys (renewed world)) none
 
 pub ignores_type : (pages : Pages) (keys : List Key) (world : World) (place : Place) (n : ℕ) (text : List ℕ) → place_now pages (renewed world) ≡ Some place → field_with tags.Input place.card n ≡ None → IsIgnored pages (key.Enter n text) keys world
 unfolding react
@@ -203,5 +203,5 @@ pub denies : (pages : Pages) (keys : List Key) (sets : Pairs) (caller : Option U
       tests = record { page = name_for one.url; caller = caller; allowed = false } ∷ [];
     })
 denies pages keys sets caller one world deck found no_entry =
-    ap (λ r. once_behind (ask keys one world) (with_deck pages keys world (try_deck pages keys sets caller one.url world) r)) found
-    ∙ ap (λ (b : Bool). once_behind (ask keys one world) (once_behind (test keys (record { page = name_for one.url; caller = caller; allowed = b }) world) (arrive_if pages keys sets one.url world deck b))) no_entry
+    ap (λ r. after_step (ask keys one world) (with_deck pages keys world (try_deck pages keys sets caller one.url world) r)) found
+    ∙ ap (λ (b : Bool). after_step (ask keys one world) (after_step (test keys (record { page = name_for one.url; caller = caller; allowed = b }) world) (arrive_if pages keys sets one.url world deck b))) no_entry

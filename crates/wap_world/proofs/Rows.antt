@@ -14,7 +14,7 @@ use Rattle.wap_cardrules.specs.Values.{is_true}
 use Rattle.wap_cardrules.specs.Content.{begun_by}
 use Rattle.wap_cardrules.specs.Dos.{dos_in, do_name, label_of, do_labels}
 use Rattle.wap_cardrules.specs.Fields.{is_field}
-use Rattle.wap_cardrules.specs.Setting.{set_each, default, defaults, unset}
+use Rattle.wap_cardrules.specs.Setting.{set_each, default, defaults, accepted}
 use Rattle.wap_cardrules.specs.Flow.{nothing_shown, shown_with}
 use Rattle.wap_world.specs.declared.timer.Timer.TheVariants.{NotStarted}
 use Rattle.wap_world.specs.World.{World, Place, place_now, first_world}
@@ -40,9 +40,10 @@ use Rattle.wap_cardrules.specs.Events.{template_of, binding}
 use Rattle.wap_cardrules.specs.Timers.{timer_in}
 use Rattle.wap_cardrules.specs.Flow.{flow_of}
 use Rattle.wap_cardrules.proofs.Opening.{out_text, out_node}
-use Rattle.wap_world.specs.Pages.{Pages, is_deck}
+use Rattle.wap_site.specs.Pages.{Pages}
+use Rattle.wap_site.specs.declared.page.Page.TheVariants as page_is
 use Rattle.wap_world.specs.Access.{access_of}
-use Rattle.wap_world.specs.Tasks.{is_new_context, arrive, once_behind, request}
+use Rattle.wap_world.specs.Tasks.{is_new_context, arrive, after_step, request}
 use Rattle.wap_world.specs.Requests.{plain_get, ask, test, test_of}
 
 abbrev hi : List Part
@@ -77,7 +78,7 @@ unfolding content_of rule_of rules
 content = simp (out_text, out_node) refl
 
 abbrev site : Pages
-site = (codes "h/a.wmlc", is_deck deck1) ∷ []
+site = (codes "h/a.wmlc", page_is.Deck deck1) ∷ []
 
 -- the world after the URL was opened, before the card is shown
 abbrev page : Url
@@ -115,7 +116,7 @@ the_screen =
     ap (λ f. codes "=" ∷ lines_of 20 f ++ map do_line (do_labels [] deck1 card1)) flows
     ∙ ap (λ dos. codes "=" ∷ codes "Hi" ∷ map do_line dos) no_dos
 
-nothing_set : defaults [] card1 ≡ unset []
+nothing_set : defaults [] card1 ≡ accepted []
 nothing_set = ap (λ ms. set_each default [] (filter (λ node. is_field node.tag) (filter_map begun_by ms))) content
 
 shown_here : (show site inside).lines ≡ codes "=" ∷ codes "Hi" ∷ []
@@ -126,10 +127,10 @@ shown_here =
 
 arrived : arrive site [] [] page turned deck1 ≡ settled (quiet [] (show site inside))
 arrived =
-    ap (λ (b : Bool). once_behind (quiet [] (still turned)) (enter site [] Forward (pushed (if b then record turned { vars = []; history = [] } else turned) (record { url = page; card = 0 })))) same_context
-    ∙ ap (λ o. once_behind (quiet [] (still turned)) (entered site [] inside o)) no_task
+    ap (λ (b : Bool). after_step (quiet [] (still turned)) (enter site [] Forward (pushed (if b then record turned { vars = []; history = [] } else turned) (record { url = page; card = 0 })))) same_context
+    ∙ ap (λ o. after_step (quiet [] (still turned)) (entered site [] inside o)) no_task
 
 requested : (request site [] [] None (plain_get page) turned).step.lines ≡ codes "> GET http://h/a.wmlc" ∷ codes "=" ∷ codes "Hi" ∷ []
 requested =
-    ap (λ once. (once_behind (ask [] (plain_get page) turned) (once_behind (test [] (test_of page None deck1) turned) once)).step.lines) arrived
+    ap (λ once. (after_step (ask [] (plain_get page) turned) (after_step (test [] (test_of page None deck1) turned) once)).step.lines) arrived
     ∙ ap (λ ls. codes "> GET http://h/a.wmlc" ∷ ls) shown_here

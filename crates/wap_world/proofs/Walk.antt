@@ -27,17 +27,17 @@ use Rattle.wap_world.specs.declared.refusal.Refusal.{Refusal}
 use Rattle.wap_world.specs.declared.refusal.Refusal.TheVariants as refusals
 use Rattle.wap_world.specs.declared.timer.Timer.{Timer}
 use Rattle.wap_world.specs.declared.timer.Timer.TheVariants.{NotStarted, Running, Off}
-use Rattle.wap_world.specs.Pages.{Pages}
+use Rattle.wap_site.specs.Pages.{Pages}
 use Rattle.wap_world.specs.World.{World, Place, place_now}
-use Rattle.wap_world.specs.Steps.{Scene, Step, Once, quiet, followed, settled}
-use Rattle.wap_world.specs.History.{pushed, earlier_entry, in_deck, popped, entry_of}
+use Rattle.wap_world.specs.Steps.{Scene, Step, Once, still, quiet, followed, settled}
+use Rattle.wap_world.specs.History.{pushed, earlier_entry, in_deck, back_at, entry_of}
 use Rattle.wap_world.specs.Timers.{start_timer, started, store_under, store_left, end_timer}
 use Rattle.wap_world.specs.Screens.{at_place, show_place, show, show_screen, screen_lines, apply_defaults}
 use Rattle.wap_world.specs.Entering.{leave, leave_place, entered as entered_by, enter, event_task}
 use Rattle.wap_world.specs.Urls.{target_of}
 use Rattle.wap_world.specs.Requests.{Request, ask, answer_to, test, test_of, request_of, plain_get}
-use Rattle.wap_world.specs.Tasks.{once_behind, refused, leave_and_set, with_deck, with_url, with_turn, in_context, is_new_context, card_for, arrive, arrive_if, try_deck, request, is_here, stay_or_ask, go, open_url, return, ask_back, back_from, back_to, prev, refresh_place, refresh, url_now, task_once, go_on, onward, act_in, act, visit}
-use Rattle.wap_world.specs.Keys.{act_if, after_text, type_text, act_or_show, after_choice, choose_option, act_on_event, expire, pass_time, at_card, apply}
+use Rattle.wap_world.specs.Tasks.{after_step, refused, leave_and_set, with_deck, with_url, with_turn, in_context, is_new_context, card_for, arrive, arrive_if, try_deck, request, is_here, stay_or_ask, go, open_url, return, ask_back, back_from, back_to, prev, refresh_place, refresh, url_now, task_once, go_on, onward, act_in, act, visit}
+use Rattle.wap_world.specs.Keys.{act_or, after_text, type_text, after_choice, choose_option, expire, pass_time, at_card, apply}
 
 -- ---- keys that are left
 
@@ -65,7 +65,7 @@ module _ (R : World → World → Type 0)
     (turn : (w : World) (n : ℕ) → w.turns ≡ suc n → R w (record w { turns = n }))
     (clear : (w : World) → R w (record w { vars = []; history = [] }))
     (push : (w : World) (e : Entry) → R w (pushed w e))
-    (pop : (w : World) (e : Entry) → R w (popped w e)) where
+    (pop : (w : World) (e : Entry) → R w (back_at w e)) where
   -- ---- scenes
 
   started_goes : (t : Timer) (card : Node) (w : World) → R w (started t card w)
@@ -122,10 +122,10 @@ module _ (R : World → World → Type 0)
   quiet_fine : (u : World) (scene : Scene) → R u scene.world → Fine u (λ keys. settled (quiet keys scene))
   quiet_fine u scene r = record { moves = λ keys. r; same = λ keys. refl }
 
-  behind_fine : (u : World) (s : List Key → Step) (f : List Key → Once) → ((keys : List Key) → s keys ≡ before keys (s [])) → Fine u f → Fine u (λ keys. once_behind (s keys) (f keys))
+  behind_fine : (u : World) (s : List Key → Step) (f : List Key → Once) → ((keys : List Key) → s keys ≡ before keys (s [])) → Fine u f → Fine u (λ keys. after_step (s keys) (f keys))
   behind_fine u s f same fine = record {
     moves = fine.moves;
-    same = λ keys. ap (λ one. once_behind one (f keys)) (same keys) ∙ ap (λ once. once_behind (before keys (s [])) once) (fine.same keys);
+    same = λ keys. ap (λ one. after_step one (f keys)) (same keys) ∙ ap (λ once. after_step (before keys (s [])) once) (fine.same keys);
   }
 
   if_fine : (u : World) (b : Bool) (f g : List Key → Once) → Fine u f → Fine u g → Fine u (λ keys. if b then f keys else g keys)
@@ -203,7 +203,7 @@ module _ (R : World → World → Type 0)
   return_fine : (pages : Pages) (sets : Pairs) (earlier : Entry) (w : World) (deck : Deck) → Fine w (λ keys. return pages keys sets earlier w deck)
   return_fine pages sets earlier w deck =
       let left = leave_and_set pages sets w in
-      let inside = popped left.world (in_deck deck earlier) in
+      let inside = back_at left.world (in_deck deck earlier) in
       behind_fine w (λ keys. quiet keys left) (λ keys. enter pages keys event.Backward inside) (λ keys. refl)
       (later w left.world _ (leave_and_set_goes pages sets w)
       (later left.world inside _ (pop left.world _) (enter_fine pages event.Backward inside)))
@@ -296,17 +296,9 @@ module _ (R : World → World → Type 0)
 
   -- ---- keys
 
-  act_if_fine : (pages : Pages) (w : World) (one : Option Task) → StepFine w (λ keys. act_if pages keys w one)
-  act_if_fine pages w None = quiet_step w _ (stays w)
-  act_if_fine pages w (Some one) = act_fine pages w one
-
-  act_or_show_fine : (pages : Pages) (w : World) (one : Option Task) → StepFine w (λ keys. act_or_show pages keys w one)
-  act_or_show_fine pages w None = quiet_step w _ (show_goes pages w)
-  act_or_show_fine pages w (Some one) = act_fine pages w one
-
-  act_on_event_fine : (pages : Pages) (w : World) (one : Option Task) → StepFine w (λ keys. act_on_event pages keys w one)
-  act_on_event_fine pages w None = quiet_step w _ (stays w)
-  act_on_event_fine pages w (Some one) = act_fine pages w one
+  act_or_fine : (otherwise : Scene) (pages : Pages) (w : World) (one : Option Task) → R w otherwise.world → StepFine w (λ keys. act_or otherwise pages keys w one)
+  act_or_fine otherwise pages w None goes = quiet_step w _ goes
+  act_or_fine otherwise pages w (Some one) goes = act_fine pages w one
 
   after_text_goes : (pages : Pages) (w : World) (answer : Entered) → R w (after_text pages w answer).world
   after_text_goes pages w entered.NoInput = stays w
@@ -323,7 +315,7 @@ module _ (R : World → World → Type 0)
   after_choice_fine : (pages : Pages) (w : World) (answer : Chosen) → StepFine w (λ keys. after_choice pages keys w answer)
   after_choice_fine pages w chosen.NoOption = quiet_step w _ (stays w)
   after_choice_fine pages w (chosen.Set faults one) =
-      after_scene w _ (λ left v. act_or_show pages left v one) (stays w) (act_or_show_fine pages w one)
+      after_scene w _ (λ left v. act_or (show pages v) pages left v one) (stays w) (act_or_fine _ pages w one (show_goes pages w))
 
   choose_fine : (pages : Pages) (n m : ℕ) (place : Place) (w : World) → StepFine w (λ keys. choose_option pages keys n m place w)
   choose_fine pages n m place w =
@@ -333,8 +325,8 @@ module _ (R : World → World → Type 0)
   expire_fine : (pages : Pages) (place : Place) (w : World) → StepFine w (λ keys. expire pages keys place w)
   expire_fine pages place w =
       let ended = end_timer place.card w in
-      after_scene w ended (λ left v. act_on_event pages left v (event_task pages event.Timer v)) (end_timer_goes place.card w)
-      (act_on_event_fine pages ended.world (event_task pages event.Timer ended.world))
+      after_scene w ended (λ left v. act_or (still v) pages left v (event_task pages event.Timer v)) (end_timer_goes place.card w)
+      (act_or_fine _ pages ended.world (event_task pages event.Timer ended.world) (stays ended.world))
 
   if_step : (u : World) (b : Bool) (f g : List Key → Step) → StepFine u f → StepFine u g → StepFine u (λ keys. if b then f keys else g keys)
   if_step u true f g one other = one
@@ -351,8 +343,8 @@ module _ (R : World → World → Type 0)
 
   pub apply_fine : (pages : Pages) (w : World) (one : Key) → StepFine w (λ keys. apply pages keys w one)
   apply_fine pages w (key.Open url) = visit_fine pages w url
-  apply_fine pages w (key.Do name) = at_card_fine w _ (λ place. act_if_fine pages w _) (place_now pages w)
-  apply_fine pages w (key.Pick n) = at_card_fine w _ (λ place. act_if_fine pages w _) (place_now pages w)
+  apply_fine pages w (key.Do name) = at_card_fine w _ (λ place. act_or_fine _ pages w _ (stays w)) (place_now pages w)
+  apply_fine pages w (key.Pick n) = at_card_fine w _ (λ place. act_or_fine _ pages w _ (stays w)) (place_now pages w)
   apply_fine pages w (key.Enter n text) = at_card_fine w _ (λ place. quiet_step w _ (type_text_goes pages n text place w)) (place_now pages w)
   apply_fine pages w (key.Choose n m) = at_card_fine w _ (λ place. choose_fine pages n m place w) (place_now pages w)
   apply_fine pages w key.Back = at_card_fine w _ (λ place. act_fine pages w (task.Prev [])) (place_now pages w)

@@ -1,7 +1,7 @@
 -- Who may enter a deck (WAP-191, section 11.3.1).
-use Rattle.std.specs.Prelude.{ℕ, Bool, true, false, ◌&&◌, if◌then◌else◌, find, map, unwrap_or, List, [], ◌∷◌, Option, Some, None}
+use Rattle.std.specs.Prelude.{ℕ, Bool, true, false, ◌&&◌, if◌then◌else◌, map, unwrap_or, List, [], ◌∷◌, Option, Some, None}
 use Rattle.std.specs.Option.{option_map_or, option_and_then}
-use Rattle.std.specs.List.{filter_map, starts_with, ends_with}
+use Rattle.std.specs.List.{starts_with, ends_with}
 use Rattle.std.specs.Char.{to_ascii_lowercase}
 use Rattle.wap_base.specs.Texts.{is_same_text}
 use Rattle.wap_base.specs.Cuts.{begins_with}
@@ -17,7 +17,7 @@ use Rattle.wap_markup.specs.declared.deck.Node.{Node}
 use Rattle.wap_markup.specs.declared.name.Tag.TheVariants as tags
 use Rattle.wap_markup.specs.declared.name.AttrName.{AttrName}
 use Rattle.wap_markup.specs.declared.name.AttrName.TheVariants as attrs
-use Rattle.wap_markup.specs.Trees.{node_with}
+use Rattle.wap_markup.specs.Trees.{first_with}
 use Rattle.wap_cardrules.specs.Values.{value_if}
 
 -- ---- the test, by calculation
@@ -64,11 +64,10 @@ access_in page node = record {
   path = rooted_path page (unwrap_or (access_text attrs.Path node) (slash ∷ []));
 }
 
--- the first access element of the deck
+-- the first access element of the first head
 abbrev pub access_of : Deck → Option Node
 access_of deck =
-    option_and_then (λ head. find (λ node. true) (filter_map (node_with tags.Access) head.kids))
-    (find (λ node. true) (filter_map (node_with tags.Head) deck.root.kids))
+    option_and_then (λ head. first_with tags.Access head.kids) (first_with tags.Head deck.root.kids)
 
 -- without one anybody may enter, and a user who opens a URL always may
 abbrev pub may_enter : Url → Deck → Option Url → Bool

@@ -6,7 +6,7 @@ use Rattle.wap_cardrules.specs.declared.event.Event.{Event}
 use Rattle.wap_cardrules.specs.declared.task.Task.{Task}
 use Rattle.wap_cardrules.specs.Events.{binding}
 use Rattle.wap_world.specs.declared.timer.Timer.TheVariants.{NotStarted}
-use Rattle.wap_world.specs.Pages.{Pages}
+use Rattle.wap_site.specs.Pages.{Pages}
 use Rattle.wap_world.specs.World.{World, Place, place_now}
 use Rattle.wap_world.specs.Steps.{Scene, Once, still, quiet, settled}
 use Rattle.wap_world.specs.Timers.{store_left}

@@ -32,6 +32,6 @@ in_deck deck entry =
     if nat_lt entry.card (length (cards_of deck)) then entry else record entry { card = 0 }
 
 -- the last entry is gone, and this is the earlier one
-abbrev pub popped : World → Entry → World
-popped world earlier =
+abbrev pub back_at : World → Entry → World
+back_at world earlier =
     record world { history = all_but_last (all_but_last world.history) ++ earlier ∷ [] }

@@ -1,4 +1,4 @@
--- Keys: what each comes to outside a dialog (WAP-191, sections 9.4, 9.6, 9.7, 11.6 and 11.7). That
+-- Keys: what each comes to outside a dialog (WAP-191, sections 9.7 to 9.9, 11.6 and 11.7). That
 -- the keys are these is this project's own.
 use Rattle.std.specs.Prelude.{ℕ, ◌-◌, nat_lt, if◌then◌else◌, List, [], ◌∷◌, map, Option, Some, None}
 use Rattle.std.specs.List.{flat_map}
@@ -17,7 +17,7 @@ use Rattle.wap_cardrules.specs.Entering.{enter_text, choose}
 use Rattle.wap_world.specs.declared.refusal.Refusal.TheVariants as refusals
 use Rattle.wap_world.specs.declared.timer.Timer.{Timer}
 use Rattle.wap_world.specs.declared.timer.Timer.TheVariants.{NotStarted, Running, Off}
-use Rattle.wap_world.specs.Pages.{Pages}
+use Rattle.wap_site.specs.Pages.{Pages}
 use Rattle.wap_world.specs.World.{World, Place, place_now}
 use Rattle.wap_world.specs.Lines.{refusal_line, variable_line}
 use Rattle.wap_world.specs.Steps.{Scene, Step, still, behind, quiet, followed}
@@ -31,10 +31,10 @@ use Rattle.wap_world.specs.Tasks.{act, visit}
 abbrev pub ignored : World → Scene
 ignored world = record { world = world; lines = refusal_line refusals.Ignored ∷ [] }
 
--- a key's task, if it fits
-abbrev pub act_if : Pages → List Key → World → Option Task → Step
-act_if pages keys world None = quiet keys (ignored world)
-act_if pages keys world (Some task) = act pages keys world task
+-- a task, or what happens without one
+abbrev pub act_or : Scene → Pages → List Key → World → Option Task → Step
+act_or otherwise pages keys world None = quiet keys otherwise
+act_or otherwise pages keys world (Some task) = act pages keys world task
 
 -- ---- fields
 
@@ -51,16 +51,12 @@ type_text pages n text place world =
     let typed = enter_text world.vars place.card n text in
     after_text pages (record world { vars = typed.vars }) typed.answer
 
--- the task of onpick, if there is one, else show
-abbrev pub act_or_show : Pages → List Key → World → Option Task → Step
-act_or_show pages keys world None = quiet keys (show pages world)
-act_or_show pages keys world (Some task) = act pages keys world task
-
+-- the sets that were refused, and then the task of onpick, or show
 abbrev pub after_choice : Pages → List Key → World → Chosen → Step
 after_choice pages keys world chosen.NoOption = quiet keys (ignored world)
 after_choice pages keys world (chosen.Set refused task) = followed
     (quiet keys (record { world = world; lines = flat_map fault_lines refused }))
-    (λ left w. act_or_show pages left w task)
+    (λ left w. act_or (show pages w) pages left w task)
 
 abbrev pub choose_option : Pages → List Key → ℕ → ℕ → Place → World → Step
 choose_option pages keys n m place world =
@@ -69,15 +65,10 @@ choose_option pages keys n m place world =
 
 -- ---- the timer
 
--- the task of an event, if there is one
-abbrev pub act_on_event : Pages → List Key → World → Option Task → Step
-act_on_event pages keys world None = quiet keys (still world)
-act_on_event pages keys world (Some task) = act pages keys world task
-
 -- the timer has run out: its variable is 0, and its task runs
 abbrev pub expire : Pages → List Key → Place → World → Step
 expire pages keys place world = followed (quiet keys (end_timer place.card world))
-    (λ left w. act_on_event pages left w (event_task pages event.Timer w))
+    (λ left w. act_or (still w) pages left w (event_task pages event.Timer w))
 
 -- some time passes: less than remains, or all
 abbrev pub pass_time : Pages → List Key → ℕ → Timer → Place → World → Step
@@ -104,9 +95,9 @@ renewed world = record world { turns = world.budget }
 abbrev pub apply : Pages → List Key → World → Key → Step
 apply pages keys world (key.Open url) = visit pages keys world url
 apply pages keys world (key.Do name) = on_card pages keys world
-    (λ place. act_if pages keys world (do_task world.vars place.deck place.card name))
+    (λ place. act_or (ignored world) pages keys world (do_task world.vars place.deck place.card name))
 apply pages keys world (key.Pick n) = on_card pages keys world
-    (λ place. act_if pages keys world (link_task world.vars place.card n))
+    (λ place. act_or (ignored world) pages keys world (link_task world.vars place.card n))
 apply pages keys world (key.Enter n text) = on_card pages keys world
     (λ place. quiet keys (type_text pages n text place world))
 apply pages keys world (key.Choose n m) = on_card pages keys world

@@ -1,4 +1,3 @@
-pub mod Pages
 pub mod World
 pub mod Lines
 pub mod Steps

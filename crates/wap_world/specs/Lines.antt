@@ -11,9 +11,13 @@ use Rattle.wap_world.specs.declared.refusal.Refusal.TheVariants.{Budget, Url, Sc
 abbrev pub shown_character : ℕ → ℕ
 shown_character c = if nat_lt c space || c == delete then full_stop else c
 
--- a line as it is written: its characters in UTF-8, and a line feed
+-- a line as it is shown
+abbrev pub shown_line : List ℕ → List ℕ
+shown_line line = map shown_character line
+
+-- a line that is shown as it is written: its characters in UTF-8, and a line feed
 abbrev pub line_bytes : List ℕ → List ℕ
-line_bytes line = encode_utf8_all (map shown_character line) ++ line_feed ∷ []
+line_bytes line = encode_utf8_all line ++ line_feed ∷ []
 
 abbrev pub lines_bytes : List (List ℕ) → List ℕ
 lines_bytes lines = flat_map line_bytes lines

@@ -14,7 +14,9 @@ use Rattle.wap_cardrules.specs.declared.task.Go.{Go}
 use Rattle.wap_cardrules.specs.Values.{Pairs}
 use Rattle.wap_world.specs.declared.refusal.Refusal.{Refusal}
 use Rattle.wap_world.specs.declared.refusal.Refusal.TheVariants as refusals
-use Rattle.wap_world.specs.Pages.{Page, Pages, page_of, is_deck, is_refused}
+use Rattle.wap_site.specs.declared.page.Page.{Page}
+use Rattle.wap_site.specs.declared.page.Page.TheVariants as page
+use Rattle.wap_site.specs.Pages.{Pages, page_of}
 use Rattle.wap_world.specs.Access.{may_enter}
 use Rattle.wap_world.specs.World.{World}
 use Rattle.wap_world.specs.Steps.{AccessTest, Step}
@@ -35,16 +37,16 @@ field_text post = escaped post.0 ++ equals_sign ∷ escaped post.1
 abbrev pub form_text : Pairs → List ℕ
 form_text posts = join_with_byte ampersand (map field_text posts)
 
-abbrev pub query_behind : Option (List ℕ) → List ℕ → List ℕ
-query_behind None form = form
-query_behind (Some []) form = form
-query_behind (Some (c ∷ query)) form = (c ∷ query) ++ ampersand ∷ form
+abbrev pub query_before : Option (List ℕ) → List ℕ → List ℕ
+query_before None form = form
+query_before (Some []) form = form
+query_before (Some (c ∷ query)) form = (c ∷ query) ++ ampersand ∷ form
 
 -- with get the postfields, if there are some, go behind the query
 abbrev pub url_with : Url → Pairs → Url
 url_with url [] = url
 url_with url (post ∷ posts) =
-    record url { query = Some (query_behind url.query (form_text (post ∷ posts))) }
+    record url { query = Some (query_before url.query (form_text (post ∷ posts))) }
 
 abbrev pub plain_get : Url → Request
 plain_get url = record { url = url; body = None; referer = None; fresh = false }
@@ -74,10 +76,11 @@ request_line request =
 -- ---- its answer
 
 -- the deck that a page is, or why there is none
-abbrev pub deck_answer : Option Page → Result Deck Refusal
-deck_answer None = Err refusals.Missing
-deck_answer (Some is_refused) = Err refusals.Refused
-deck_answer (Some (is_deck deck)) = Ok deck
+abbrev pub deck_answer : Page → Result Deck Refusal
+deck_answer (page.Deck deck) = Ok deck
+deck_answer (page.Words text) = Err refusals.Refused
+deck_answer page.Refused = Err refusals.Refused
+deck_answer page.Missing = Err refusals.Missing
 
 -- the request is shown, and the page is asked for
 abbrev pub ask : List Key → Request → World → Step

@@ -8,7 +8,7 @@ use Rattle.wap_cardrules.specs.Dos.{do_labels}
 use Rattle.wap_cardrules.specs.Flow.{flow_of, title_of}
 use Rattle.wap_world.specs.declared.refusal.Refusal.{Refusal}
 use Rattle.wap_world.specs.declared.screen.TheConstants.{COLUMNS}
-use Rattle.wap_world.specs.Pages.{Pages}
+use Rattle.wap_site.specs.Pages.{Pages}
 use Rattle.wap_world.specs.World.{World, Place, place_now}
 use Rattle.wap_world.specs.Lines.{title_line, do_line, refusal_line}
 use Rattle.wap_world.specs.Steps.{Scene, still, behind, and_then}

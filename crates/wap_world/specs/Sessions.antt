@@ -1,11 +1,11 @@
 -- Sessions and their transcripts. This project's own.
-use Rattle.std.specs.Prelude.{ℕ, zero, suc, List, [], ◌∷◌, length, take}
+use Rattle.std.specs.Prelude.{ℕ, zero, suc, List, [], ◌∷◌, length, take, map}
 use Rattle.wap_base.specs.declared.limits.Limits.{Limits}
 use Rattle.wap_input.specs.declared.key.Key.{Key}
 use Rattle.wap_input.specs.declared.key.Key.TheVariants.{Open}
-use Rattle.wap_world.specs.Pages.{Pages}
+use Rattle.wap_site.specs.Pages.{Pages}
 use Rattle.wap_world.specs.World.{World, first_world}
-use Rattle.wap_world.specs.Lines.{lines_bytes}
+use Rattle.wap_world.specs.Lines.{shown_line, lines_bytes}
 use Rattle.wap_world.specs.Steps.{Step, still, quiet, followed}
 use Rattle.wap_world.specs.Keys.{react}
 
@@ -22,9 +22,13 @@ played_in (suc count) pages (key ∷ keys) world =
 unfoldable pub played : Pages → List Key → World → Step
 played pages keys world = played_in (length keys) pages keys world
 
--- what they show, as it is written
-abbrev pub shown : Pages → List Key → World → List ℕ
-shown pages keys world = lines_bytes (played pages keys world).lines
+-- the lines that a step shows
+abbrev pub shown_by : Step → List (List ℕ)
+shown_by step = map shown_line step.lines
+
+-- the lines that keys show
+abbrev pub shown : Pages → List Key → World → List (List ℕ)
+shown pages keys world = shown_by (played pages keys world)
 
 -- ---- sessions
 
@@ -45,7 +49,7 @@ session pages begun keys = played pages (Open begun.url ∷ keys) (world_of begu
 
 -- its lines, as they are written
 abbrev pub transcript : Pages → Begun → List Key → List ℕ
-transcript pages begun keys = lines_bytes (session pages begun keys).lines
+transcript pages begun keys = lines_bytes (shown_by (session pages begun keys))
 
 -- the step of its first keys: of none, then with the URL that is opened, then with a key more each
 abbrev pub first_steps : Pages → Begun → List Key → ℕ → Step

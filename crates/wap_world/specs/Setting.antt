@@ -1,4 +1,4 @@
--- Setting the variables of a world (WAP-191, sections 9.9 and 10.3.4). The lines of refusals are
+-- Setting the variables of a world (WAP-191, sections 9.4 and 10.3.4). The lines of refusals are
 -- this project's own.
 use Rattle.std.specs.Prelude.{ℕ, List, [], ◌∷◌}
 use Rattle.std.specs.List.{flat_map}

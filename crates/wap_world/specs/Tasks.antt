@@ -1,5 +1,19 @@
--- Navigation (WAP-191, sections 9.2, 9.3, 9.5 and 9.10): go, open, prev and refresh. One of them is
--- settled, or leads to the task of an event, which is the next. Turns are this project's own.
+-- Navigation (WAP-191, sections 9.2, 9.3, 9.5, 9.10, 10.2 and 12.5): go, open, prev and refresh. One
+-- of them is settled, or leads to the task of an event, which is the next. Turns are this project's
+-- own. The steps of a go:
+--    1. A turn is taken, if one is left.
+--    2. Its href, setvars and postfields are filled: a task is, when it is taken.
+--    3. The href is a reference to the current deck's URL, and has to come to a page's.
+--    4. Postfields are the body of a post, and go behind the query of a get.
+--    5. With get the current deck isn't asked for again, unless it is wanted anew: on with step 8.
+--    6. The request is shown, and the page is asked for.
+--    7. The page's access element decides whether it may be entered from the current deck.
+--    8. The card whose id is the fragment is taken, else the first.
+--    9. The old card is left.
+--   10. Variables are set.
+--   11. A new context clears variables and history.
+--   12. The card is pushed onto the history.
+--   13. It is entered forward.
 use Rattle.std.specs.Prelude.{ℕ, zero, suc, Bool, true, false, ◌&&◌, not, is_none, if◌then◌else◌, unwrap_or, slice_get, List, [], Option, Some, None, Result, Ok, Err}
 use Rattle.std.specs.Option.{option_map, option_map_or, option_and_then}
 use Rattle.wap_input.specs.declared.key.Key.{Key}
@@ -15,10 +29,10 @@ use Rattle.wap_cardrules.specs.Values.{is_true, Pairs}
 use Rattle.wap_world.specs.declared.history.Entry.{Entry}
 use Rattle.wap_world.specs.declared.refusal.Refusal.{Refusal}
 use Rattle.wap_world.specs.declared.refusal.Refusal.TheVariants as refusals
-use Rattle.wap_world.specs.Pages.{Pages}
+use Rattle.wap_site.specs.Pages.{Pages}
 use Rattle.wap_world.specs.World.{World, Place, place_now}
 use Rattle.wap_world.specs.Steps.{Scene, Step, Once, and_then, quiet, followed, settled}
-use Rattle.wap_world.specs.History.{entry_of, pushed, earlier_entry, in_deck, popped}
+use Rattle.wap_world.specs.History.{entry_of, pushed, earlier_entry, in_deck, back_at}
 use Rattle.wap_world.specs.Setting.{set_variables}
 use Rattle.wap_world.specs.Timers.{start_timer}
 use Rattle.wap_world.specs.Screens.{here, screen_lines, refuse}
@@ -29,8 +43,8 @@ use Rattle.wap_world.specs.Requests.{Request, plain_get, request_of, ask, answer
 -- ---- what navigations share
 
 -- a step, and then a navigation
-abbrev pub once_behind : Step → Once → Once
-once_behind step once = record once { step = followed step (λ keys world. once.step) }
+abbrev pub after_step : Step → Once → Once
+after_step step once = record once { step = followed step (λ keys world. once.step) }
 
 abbrev pub refused : Pages → List Key → Refusal → World → Once
 refused pages keys refusal world = settled (quiet keys (refuse pages refusal world))
@@ -77,7 +91,7 @@ arrive pages keys sets url world deck =
     let number = card_for deck url in
     let left = leave_and_set pages sets world in
     let inside = pushed (in_context deck number left.world) (entry_of url number) in
-    once_behind (quiet keys left) (enter pages keys Forward inside)
+    after_step (quiet keys left) (enter pages keys Forward inside)
 
 -- 7: whether the deck may be entered
 abbrev pub arrive_if : Pages → List Key → Pairs → Url → World → Deck → Bool → Once
@@ -87,12 +101,12 @@ arrive_if pages keys sets url world deck false = refused pages keys refusals.Den
 abbrev pub try_deck : Pages → List Key → Pairs → Option Url → Url → World → Deck → Once
 try_deck pages keys sets caller url world deck =
     let one = test_of url caller deck in
-    once_behind (test keys one world) (arrive_if pages keys sets url world deck one.allowed)
+    after_step (test keys one world) (arrive_if pages keys sets url world deck one.allowed)
 
 -- 6: the page is asked for
 abbrev pub request : Pages → List Key → Pairs → Option Url → Request → World → Once
 request pages keys sets caller one world =
-    once_behind (ask keys one world)
+    after_step (ask keys one world)
     (with_deck pages keys world
     (try_deck pages keys sets caller one.url world) (answer_to pages one))
 
@@ -127,14 +141,14 @@ open_url pages keys text world = with_url pages keys world
 abbrev pub return : Pages → List Key → Pairs → Entry → World → Deck → Once
 return pages keys sets earlier world deck =
     let left = leave_and_set pages sets world in
-    once_behind (quiet keys left)
-    (enter pages keys Backward (popped left.world (in_deck deck earlier)))
+    after_step (quiet keys left)
+    (enter pages keys Backward (back_at left.world (in_deck deck earlier)))
 
 -- the earlier card's deck, where it is not the current one, is asked for; access is not tested
 abbrev pub ask_back : Pages → List Key → Pairs → Entry → World → Once
 ask_back pages keys sets earlier world =
     let one = plain_get earlier.url in
-    once_behind (ask keys one world)
+    after_step (ask keys one world)
     (with_deck pages keys world (return pages keys sets earlier world) (answer_to pages one))
 
 abbrev pub back_from : Pages → List Key → Pairs → Entry → World → Option Place → Once

@@ -14,7 +14,9 @@ use Rattle.wap_cardrules.specs.declared.task.Task.{Task}
 use Rattle.wap_world.specs.declared.history.Entry.{Entry}
 use Rattle.wap_world.specs.declared.timer.Timer.{Timer}
 use Rattle.wap_world.specs.declared.timer.Timer.TheVariants.{Off}
-use Rattle.wap_world.specs.Pages.{Page, Pages, page_of, is_deck, is_refused}
+use Rattle.wap_site.specs.declared.page.Page.{Page}
+use Rattle.wap_site.specs.declared.page.Page.TheVariants as page
+use Rattle.wap_site.specs.Pages.{Pages, page_of}
 
 pub record World : Type 0 where
   pub vars : Variables
@@ -51,10 +53,11 @@ pub record Place : Type 0 where
   pub deck : Deck
   pub card : Node
 
-abbrev pub deck_in : Option Page → Option Deck
-deck_in None = None
-deck_in (Some (is_deck deck)) = Some deck
-deck_in (Some is_refused) = None
+abbrev pub deck_in : Page → Option Deck
+deck_in (page.Deck deck) = Some deck
+deck_in (page.Words text) = None
+deck_in page.Refused = None
+deck_in page.Missing = None
 
 abbrev pub deck_at : Pages → Url → Option Deck
 deck_at pages url = deck_in (page_of (name_for url) pages)

@@ -11,7 +11,7 @@ ghost use Rattle.wap_cardrules.specs.Values.{Pairs};
 ghost use Rattle.wap_cardrules.specs.Dos.{do_task};
 ghost use Rattle.wap_cardrules.specs.Fields.{link_task};
 ghost use Rattle.wap_world.specs.declared.refusal.Refusal.TheVariants as refusals;
-ghost use Rattle.wap_world.specs.Pages.{Pages};
+ghost use Rattle.wap_site.specs.Pages.{Pages};
 ghost use Rattle.wap_world.specs.World.{World, Place, place_now};
 ghost use Rattle.wap_world.specs.Steps.{quiet, followed, settled};
 ghost use Rattle.wap_world.specs.Screens.{refuse};

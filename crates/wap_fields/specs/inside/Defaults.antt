@@ -6,7 +6,7 @@ use Rattle.wap_markup.specs.declared.name.AttrName.TheVariants as attrs
 use Rattle.wap_filling.specs.Variables.{Variables, removed}
 use Rattle.wap_cardrules.specs.Values.{value_if}
 use Rattle.wap_cardrules.specs.Inputs.{takes}
-use Rattle.wap_cardrules.specs.Setting.{Set, set_one, unset}
+use Rattle.wap_cardrules.specs.Setting.{Set, set_one, accepted}
 
 -- a text that an input takes
 abbrev pub if_taken : Variables → Node → List ℕ → Option (List ℕ)
@@ -18,5 +18,5 @@ taken_value vars input = option_and_then (if_taken vars input) (value_if vars at
 
 -- with a text under a name, or without the name
 abbrev pub set_or_unset : Variables → List ℕ → Option (List ℕ) → Set
-set_or_unset vars name None = unset (removed vars name)
+set_or_unset vars name None = accepted (removed vars name)
 set_or_unset vars name (Some text) = set_one vars (name, text)
