@@ -3,3 +3,4 @@ pub mod SlotLaws
 pub mod RowLaws
 pub mod Spelled
 pub mod Gifts
+pub mod Numbering

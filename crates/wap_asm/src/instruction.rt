@@ -1,7 +1,8 @@
 //! Reading an instruction.
-ghost use Rattle.std.specs.Prelude.{◌≡◌, ◌+◌, ◌<◌, ◌≤◌, length, slice_index, find, IfSome};
-ghost use Rattle.wap_code.specs.Instructions.{width, size, has_code, row_of, value, read_row, instr_at};
+ghost use Rattle.std.specs.Prelude.{◌≡◌, ◌+◌, ◌<◌, ◌≤◌, length, slice_index, slice_get, IfSome};
+ghost use Rattle.wap_code.specs.Instructions.{width, size, row_of, value, read_row, instr_at};
 
+use crate::codes::ROW_NUMBERS;
 use wap_code::{Instr, InstrFault, ROWS, Row, Slot};
 
 /// How many bytes an operand takes.
@@ -23,19 +24,6 @@ fn size(row: Row) -> usize
     1 + width(row.a) + width(row.b) + width(row.c)
 }
 
-/// The first row that a code is of.
-fn row_in(rows: &[Row], code: u8) -> Option<Row>
-    ensures row { result ≡ find (has_code code) rows.now }
-    ensures within { IfSome result (λ row. row.first ≤ code) }
-{
-    for row in rows {
-        if row.first <= code && code - row.first < row.count {
-            return Some(*row);
-        }
-    }
-    None
-}
-
 /// The operand at a place.
 fn operand(code: &[u8], at: usize, slot: Slot, low: u8) -> u32
     requires { at + width slot ≤ length code.now }
@@ -50,6 +38,7 @@ fn operand(code: &[u8], at: usize, slot: Slot, low: u8) -> u32
 }
 
 /// The instruction of a row at a place, where the byte is a code of the row.
+#[inline(always)]
 pub fn read_row(row: Row, code: &[u8], at: usize) -> Result<Instr, InstrFault>
     requires here { at < length code.now }
     requires within { row.first ≤ slice_index code.now at }
@@ -70,13 +59,23 @@ pub fn read_row(row: Row, code: &[u8], at: usize) -> Result<Instr, InstrFault>
     })
 }
 
+/// The row of a code, by the numbers of rows.
+fn row_in(rows: &[Row], numbers: &[u8], code: u8) -> Option<Row>
+    requires { code < length numbers.now }
+    ensures { result ≡ slice_get rows.now (slice_index numbers.now code) }
+{
+    let number = numbers[usize::from(code)];
+    rows.get(usize::from(number)).copied()
+}
+
 /// The row that a code is of.
+#[inline]
 pub fn row_of(code: u8) -> Option<Row>
     ensures row { result ≡ row_of code }
     ensures within { IfSome result (λ row. row.first ≤ code) }
     ensures gives { IfSome result (λ row. row.gives ≤ 1) }
 {
-    row_in(&ROWS, code)
+    row_in(&ROWS, &ROW_NUMBERS, code)
 }
 
 /// The instruction at a place.

@@ -1,6 +1,7 @@
 //! Instructions read from a function's code, and functions of the libraries, each by its table.
 #![tactic(auto)]
 
+mod codes;
 mod instruction;
 mod laws;
 mod library;

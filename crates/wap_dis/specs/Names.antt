@@ -1,6 +1,5 @@
 -- The names of instructions as they are shown (WAP-193, section 10).
 use Rattle.std.specs.Prelude.{ℕ, Bool, codes, unwrap_or, List, [], ◌∷◌}
-use Rattle.std.specs.Borrow.{Bor}
 use Rattle.std.specs.Map.{lookup}
 use Rattle.wap_code.specs.declared.row.OpName.{OpName}
 use Rattle.wap_code.specs.declared.row.OpName.TheVariants as op
@@ -85,7 +84,3 @@ is_op name other = sameb the_type other name
 
 unfoldable pub name_of : OpName → List ℕ
 name_of name = unwrap_or (lookup (is_op name) names) []
-
--- a row as the code keeps it
-abbrev pub lent_name : OpName × Bor (List ℕ) → OpName × List ℕ
-lent_name row = (row.0, row.1.now)

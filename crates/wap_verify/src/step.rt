@@ -292,6 +292,7 @@ fn fine_at(
 
 /// What stands at a place of the function with this index, or the first fault there.
 #[tactic(auto, unfolding(crate::specs::Steps::step_at))]
+#[inline(always)]
 pub fn step_at(unit: &Unit, index: u8, function: &Code, at: usize) -> Result<Step, VerifyFault>
     requires small { length function.now.code < 2 ^ 32 }
     requires within { at < length function.now.code }
