@@ -1,0 +1,7 @@
+-- The modes of paragraphs, as the code keeps them.
+use Rattle.std.specs.Prelude.{Bool, if◌then◌else◌}
+use Rattle.wap_layout.specs.declared.flow.Flow.{Flow}
+use Rattle.wap_layout.specs.declared.flow.Flow.TheVariants.{Wrap, NoWrap}
+
+abbrev pub paragraph_mode : Bool → Flow
+paragraph_mode is_nowrap = if is_nowrap then NoWrap else Wrap

@@ -1,0 +1,125 @@
+//! What shows so far.
+ghost use Rattle.std.specs.Prelude.{◌≡◌, ◌∷◌, [], ◌+◌, IfOk, OnOk};
+ghost use Rattle.wap_cardrules.specs.Flow.{followed_by, with_field, with_mode, mode_of, begun, shown_with, nothing_shown};
+ghost use Rattle.wap_cards.specs.Lent.{mark_of};
+ghost use Rattle.wap_flow.specs.inside.Modes.{paragraph_mode};
+
+use crate::elements::{add_before, add_edge};
+use crate::fields::add_field;
+use std::alloc::Global;
+use std::marker::Model;
+use wap_base::{NoMemory, Rows};
+use wap_cards::{Mark, fill, is_field, is_word, plain_value};
+use wap_good::{AttrName, Tag, View};
+use wap_layout::Flow;
+use wap_vars::Vars;
+
+/// How many fields began, whether the last paragraph is not wrapped, and the flow. A contract sees
+/// these as the definition has them.
+#[derive(Drop)]
+pub struct Shown {
+    fields: u64,
+    is_nowrap: bool,
+    flow: Rows<Flow>,
+}
+
+impl Model for Shown {
+    ghost use Rattle.wap_cardrules.specs.Flow.{Shown as Told};
+    ghost use Rattle.wap_flow.specs.inside.Modes.{paragraph_mode};
+
+    ghost Value = { Told };
+
+    ghost view = { λ shown. record {
+      fields = shown.fields;
+      mode = paragraph_mode shown.is_nowrap;
+      flow = shown.flow;
+    } };
+}
+
+/// The mode of a paragraph.
+fn paragraph_mode(is_nowrap: bool) -> Flow
+    ensures { result ≡ paragraph_mode is_nowrap }
+{
+    if is_nowrap { Flow::NoWrap } else { Flow::Wrap }
+}
+
+/// Whether a paragraph is not wrapped; without a mode it goes on as the one before it.
+fn is_nowrap(alloc: Global, before: bool, paragraph: &View<'_>) -> Result<bool, NoMemory>
+    ensures { IfOk result (λ is_so. paragraph_mode is_so
+        ≡ mode_of (paragraph_mode before) paragraph.now) }
+{
+    match plain_value(alloc, paragraph, AttrName::Mode)? {
+        Some(mode) => Ok(is_word(Some(&mode), "nowrap")),
+        None => Ok(before),
+    }
+}
+
+impl Shown {
+    /// Nothing; what comes is wrapped at first.
+    pub fn new(alloc: Global) -> Shown
+        ensures { result ≡ nothing_shown }
+    {
+        Shown {
+            fields: 0,
+            is_nowrap: false,
+            flow: Rows::new(alloc),
+        }
+    }
+
+    /// The flow, which takes no memory.
+    pub fn into_flow(self) -> Rows<Flow>
+        ensures { result ≡ self.flow }
+    {
+        let Shown { flow, .. } = self;
+        flow
+    }
+
+    /// Takes a field. There is no room for as many as numbers go.
+    fn take_field(&mut self, alloc: Global, vars: &Vars, field: &View<'_>) -> Result<(), NoMemory>
+        ensures { OnOk result (self.new ≡ with_field vars.now self.old field.now) }
+    {
+        match self.fields.checked_add(1) {
+            Some(number) => {
+                self.fields = number;
+                add_field(alloc, vars, number, field, &mut self.flow)
+            }
+            None => Err(NoMemory),
+        }
+    }
+
+    /// Takes the mode of a paragraph.
+    fn take_mode(&mut self, alloc: Global, paragraph: &View<'_>) -> Result<(), NoMemory>
+        ensures { OnOk result
+            (self.new ≡ with_mode self.old (mode_of self.old.mode paragraph.now)) }
+    {
+        self.is_nowrap = is_nowrap(alloc, self.is_nowrap, paragraph)?;
+        self.flow.add(paragraph_mode(self.is_nowrap))
+    }
+
+    /// Takes an element that begins.
+    fn begin(&mut self, alloc: Global, vars: &Vars, node: &View<'_>) -> Result<(), NoMemory>
+        ensures { OnOk result (self.new ≡ begun vars.now self.old node.now) }
+    {
+        if is_field(node.tag()) {
+            return self.take_field(alloc, vars, node);
+        }
+        if node.tag() == Tag::P {
+            return self.take_mode(alloc, node);
+        }
+        add_before(alloc, vars, node, &mut self.flow)
+    }
+
+    /// Takes what comes next in the document.
+    pub fn take(&mut self, alloc: Global, vars: &Vars, mark: &Mark<'_>) -> Result<(), NoMemory>
+        ensures { OnOk result (self.new ≡ shown_with vars.now self.old (mark_of mark.now)) }
+    {
+        match mark {
+            Mark::Words(words) => {
+                let text = fill(alloc, vars, words.again())?;
+                self.flow.add(Flow::Words(text))
+            }
+            Mark::Begins(node) => self.begin(alloc, vars, node),
+            Mark::Ends(node) => add_edge(alloc, node.tag(), &mut self.flow),
+        }
+    }
+}
