@@ -10,8 +10,8 @@ use Rattle.wap_unit.specs.Units.{IsUnit}
 use Rattle.wap_unit.specs.Refusal as units
 use Rattle.wap_wbxml.specs.Refusal as documents
 use Rattle.wap_verify.specs.Faults.{IsFault}
-use Rattle.wap_inspect.specs.declared.fault.PageFault.{PageFault}
-use Rattle.wap_inspect.specs.declared.fault.PageFault.TheVariants as page
+use Rattle.wap_pages.specs.declared.fault.PageFault.{PageFault}
+use Rattle.wap_pages.specs.declared.fault.PageFault.TheVariants as page
 
 -- the bytes are no unit
 pub data RefusesUnit (bytes : List ℕ) : PageFault → Type 0 where

@@ -8,10 +8,9 @@ ghost use Rattle.wap_markup.specs.Good.{IsGood};
 ghost use Rattle.wap_markup.specs.Cards.{cards_of};
 ghost use Rattle.wap_inspect.specs.Documents.{IsCanonical, deck_line, IsDeckOf, IsCheckLine};
 ghost use Rattle.wap_inspect.specs.Refusals.{RefusesDocument, IsDeckRefused, RefusesCheck};
-ghost use Rattle.wap_inspect.specs.declared.fault.PageErr.TheVariants as error;
-ghost use Rattle.wap_inspect.specs.declared.fault.PageFault.{PageFault};
+ghost use Rattle.wap_pages.specs.declared.fault.PageErr.TheVariants as error;
+ghost use Rattle.wap_pages.specs.declared.fault.PageFault.{PageFault};
 
-use crate::PageErr;
 use itoa::Buffer;
 use std::alloc::Global;
 use wap_base::{Bytes, NoMemory};
@@ -19,6 +18,7 @@ use wap_deck::deck_of;
 use wap_deckcheck::check;
 use wap_good::GoodDeck;
 use wap_markup::Document;
+use wap_pages::PageErr;
 use wap_spelling::{documents_are_spellable, encode};
 use wap_wbxml::decode;
 

@@ -6,14 +6,14 @@ ghost use Rattle.wap_unit.specs.Units.{IsUnit};
 ghost use Rattle.wap_verify.specs.Sound.{IsVerified};
 ghost use Rattle.wap_inspect.specs.Refusals.{RefusesUnit, RefusesVerify};
 ghost use Rattle.wap_inspect.specs.Units.{unit_line, IsVerifyLine};
-ghost use Rattle.wap_inspect.specs.declared.fault.PageErr.TheVariants as error;
-ghost use Rattle.wap_inspect.specs.declared.fault.PageFault.{PageFault};
-ghost use Rattle.wap_inspect.specs.declared.fault.PageErr.{PageErr};
+ghost use Rattle.wap_pages.specs.declared.fault.PageErr.TheVariants as error;
+ghost use Rattle.wap_pages.specs.declared.fault.PageFault.{PageFault};
+ghost use Rattle.wap_pages.specs.declared.fault.PageErr.{PageErr};
 
-use crate::PageErr;
 use itoa::Buffer;
 use std::alloc::Global;
 use wap_base::{Bytes, NoMemory};
+use wap_pages::PageErr;
 use wap_unit::{Unit, decode};
 use wap_verify::{Verified, verify};
 

@@ -1,6 +1,6 @@
 -- What is seen of pages that are asked for. This project's own.
-use Rattle.std.specs.Prelude.{◌≡◌, ℕ, ◌+◌, ◌≤◌, min, List, Option, IfSome, option_map}
-use Rattle.wap_base.specs.Count.{greatest_count, raised, Rose}
+use Rattle.std.specs.Prelude.{◌≡◌, ℕ, zero, suc, ◌≤◌, List, Option, IfSome, option_map}
+use Rattle.wap_base.specs.Count.{raised, Rose}
 use Rattle.wap_base.specs.Contents.{Contents}
 use Rattle.wap_site.specs.Pages.{Pages}
 use Rattle.wap_site.specs.Misses.{Cache, Asked, after_all, misses}
@@ -19,7 +19,15 @@ pub record Seen : Type 0 where
 
 -- a count after so many more
 abbrev pub raised_by : ℕ → ℕ → ℕ
-raised_by more count = min (count + more) greatest_count
+raised_by zero count = count
+raised_by (suc more) count = raised_by more (raised count)
+
+-- a count after one more at least, and this many at most
+pub record RaisedWithin (most before after : ℕ) : Type 0 where
+  pub more : ℕ
+  pub some : 1 ≤ more
+  pub few : more ≤ most
+  pub count : after ≡ raised_by more before
 
 -- what no call changes
 pub record Stays (before after : Seen) : Type 0 where
@@ -29,7 +37,7 @@ pub record Stays (before after : Seen) : Type 0 where
       ≡ option_map (λ cache. cache.capacity) before.cache
   pub listings : after.listings ≡ before.listings
   pub faults : before.faults ≤ after.faults
-  pub fetches : before.fetches ≤ after.fetches
+  pub fetches : (more : ℕ) × (after.fetches ≡ raised_by more before.fetches)
 
 -- these were asked for, and none failed
 pub record Asks (asked : List Asked) (before after : Seen) : Type 0 where
@@ -41,6 +49,5 @@ pub record Asks (asked : List Asked) (before after : Seen) : Type 0 where
 -- the store failed at one of these
 pub record Fails (asked : List Asked) (before after : Seen) : Type 0 where
   pub rose : Rose before.faults after.faults
-  pub some : IfSome before.cache (λ cache. raised before.fetches ≤ after.fetches)
-  pub few : IfSome before.cache
-      (λ cache. after.fetches ≤ raised_by (misses asked cache) before.fetches)
+  pub fetches : IfSome before.cache
+      (λ cache. RaisedWithin (misses asked cache) before.fetches after.fetches)

@@ -1,5 +1,5 @@
 use Rattle.std.proofs.Common.{◌≡◌, Err, ap}
-use Rattle.wap_inspect.specs.declared.fault.PageErr.TheVariants as error
+use Rattle.wap_pages.specs.declared.fault.PageErr.TheVariants as error
 use Rattle.wap_inspect.proofs.Errors.{by_document, by_deck, err_is}
 use Rattle.wap_inspect.proofs.documents.deck_in.Goals as goal
 

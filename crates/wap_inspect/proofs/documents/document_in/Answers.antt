@@ -1,5 +1,5 @@
 use Rattle.std.proofs.Common.{◌≡◌, Ok, sym, ap, ◌∙◌, subst}
-use Rattle.wap_inspect.specs.declared.fault.PageErr.TheVariants as error
+use Rattle.wap_pages.specs.declared.fault.PageErr.TheVariants as error
 use Rattle.wap_inspect.proofs.Errors.{Only, document_only, document_refused, ok_is, err_is}
 use Rattle.wap_inspect.proofs.documents.document_in.Goals as goal
 

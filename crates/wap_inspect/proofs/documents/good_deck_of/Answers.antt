@@ -1,7 +1,7 @@
 use Rattle.std.proofs.Common.{◌≡◌, Some, sym, ◌∙◌, subst}
 use Rattle.wap_markup.specs.declared.deck.Deck.{Deck}
 use Rattle.wap_deckcheck.specs.Faults.{faults, first_fault}
-use Rattle.wap_inspect.specs.declared.fault.PageErr.TheVariants as error
+use Rattle.wap_pages.specs.declared.fault.PageErr.TheVariants as error
 use Rattle.wap_inspect.proofs.Errors.{deck_refused, err_is}
 use Rattle.wap_inspect.proofs.documents.good_deck_of.Goals as goal
 

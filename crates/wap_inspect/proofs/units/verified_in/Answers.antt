@@ -1,6 +1,6 @@
 use Rattle.std.proofs.Common.{◌≡◌, Ok, Err, sym, ap, ◌∙◌, subst}
 use Rattle.wap_verify.specs.Sound.{IsVerified}
-use Rattle.wap_inspect.specs.declared.fault.PageErr.TheVariants as error
+use Rattle.wap_pages.specs.declared.fault.PageErr.TheVariants as error
 use Rattle.wap_inspect.proofs.Errors.{Only, verify_only, verify_refused, by_unit, other_value, ok_is, err_is}
 use Rattle.wap_inspect.proofs.units.verified_in.Goals as goal
 

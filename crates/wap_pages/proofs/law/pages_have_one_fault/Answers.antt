@@ -1,0 +1,8 @@
+use Rattle.wap_pages.proofs.Judgements.{refused_page, one_fault}
+use Rattle.wap_pages.proofs.law.pages_have_one_fault.Goals as goal
+
+pub returns-clause-some : goal.returns-clause-some
+returns-clause-some c = refused_page
+
+pub returns-clause-one : goal.returns-clause-one
+returns-clause-one c = one_fault

@@ -1,0 +1,33 @@
+-- Pages of a store, of which some are kept. This project's own.
+use Rattle.std.specs.Prelude.{◌≡◌, ℕ, true, List, Option, Some, option_map}
+use Rattle.std.specs.Map.{keys_of}
+use Rattle.wap_base.specs.Contents.{Contents}
+use Rattle.wap_site.specs.declared.page.Page.{Page}
+use Rattle.wap_site.specs.Misses.{Cache, is_kept}
+use Rattle.wap_site.specs.Asking.{Seen}
+use Rattle.wap_pages.specs.Judged.{judged}
+
+-- the store, the pages that are kept, the one that was asked for last first, and how many are at most
+pub record CachedPages (S : Type 0) : Type 0 where
+  pub store : S
+  pub kept : List (List ℕ × Page)
+  pub capacity : ℕ
+
+-- what is seen of what is kept
+abbrev pub cache_of : {S : Type 0} → CachedPages S → Cache
+cache_of cached = record { names = keys_of cached.kept; capacity = cached.capacity }
+
+-- what is seen of them: the store's contents, judged, and its counts
+abbrev pub seen_over : Option Contents → Cache → (faults fetches listings : ℕ) → Seen
+seen_over behind cache faults fetches listings = record {
+  contents = option_map judged behind;
+  behind = behind;
+  cache = Some cache;
+  faults = faults;
+  fetches = fetches;
+  listings = listings;
+}
+
+-- all names that are kept now were kept before
+abbrev pub KeepsNoMore : Cache → Cache → Type 0
+KeepsNoMore before after = (name : List ℕ) → is_kept name after ≡ true → is_kept name before ≡ true

@@ -1,0 +1,5 @@
+pub mod Faults
+pub mod Judged
+pub mod Printing
+pub mod Caches
+pub mod inside

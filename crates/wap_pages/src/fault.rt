@@ -1,0 +1,87 @@
+//! Why a page is refused.
+ghost use Rattle.std.specs.Prelude.{◌≡◌};
+ghost use Rattle.wap_pages.specs.Faults.{document_error, deck_error, unit_error, verify_error};
+ghost use Rattle.wap_pages.specs.declared.fault.PageErr.TheVariants.{NoMemory};
+
+use wap_deckcheck::DeckFault;
+use wap_unit::UnitFault;
+use wap_verify::VerifyFault;
+use wap_wbxml::DocFault;
+
+/// Why a page is refused. A fault in it is never the one that memory ran out.
+#[derive(Debug, Drop, PartialEq, Eq)]
+pub enum PageFault {
+    /// There is no such page.
+    Missing,
+    /// It is no document.
+    Document(DocFault),
+    /// It is a document whose deck isn't good.
+    Deck(DeckFault),
+    /// It is no compiled unit.
+    Unit(UnitFault),
+    /// It is a compiled unit that may not be run.
+    Verify(VerifyFault),
+    /// It is no text in UTF-8.
+    NotText,
+    /// It is a script, and scripts aren't read yet.
+    Unbuilt,
+}
+
+/// Why a call on a page gives nothing.
+#[derive(Debug, Drop, PartialEq, Eq)]
+pub enum PageErr {
+    Refused(PageFault),
+    NoMemory,
+}
+
+impl From<wap_base::NoMemory> for PageErr {
+    ghost from_gives = { λ _ error. error ≡ NoMemory };
+
+    fn from(_out: wap_base::NoMemory) -> PageErr {
+        PageErr::NoMemory
+    }
+}
+
+impl From<DocFault> for PageErr {
+    ghost from_gives = { λ fault error. error ≡ document_error fault };
+
+    fn from(fault: DocFault) -> PageErr {
+        if fault == DocFault::NoMemory {
+            return PageErr::NoMemory;
+        }
+        PageErr::Refused(PageFault::Document(fault))
+    }
+}
+
+impl From<DeckFault> for PageErr {
+    ghost from_gives = { λ fault error. error ≡ deck_error fault };
+
+    fn from(fault: DeckFault) -> PageErr {
+        if fault == DeckFault::NoMemory {
+            return PageErr::NoMemory;
+        }
+        PageErr::Refused(PageFault::Deck(fault))
+    }
+}
+
+impl From<UnitFault> for PageErr {
+    ghost from_gives = { λ fault error. error ≡ unit_error fault };
+
+    fn from(fault: UnitFault) -> PageErr {
+        if fault == UnitFault::NoMemory {
+            return PageErr::NoMemory;
+        }
+        PageErr::Refused(PageFault::Unit(fault))
+    }
+}
+
+impl From<VerifyFault> for PageErr {
+    ghost from_gives = { λ fault error. error ≡ verify_error fault };
+
+    fn from(fault: VerifyFault) -> PageErr {
+        if fault == VerifyFault::NoMemory {
+            return PageErr::NoMemory;
+        }
+        PageErr::Refused(PageFault::Verify(fault))
+    }
+}

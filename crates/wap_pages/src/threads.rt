@@ -1,0 +1,18 @@
+//! What may be sent to threads and shared by them.
+use crate::{Kind, PageErr, PageFault};
+use std::marker::{Send, Sync};
+use wap_base::Text;
+use wap_good::GoodDeck;
+use wap_site::{Page, Shared};
+
+fn crosses<T: Send + Sync>() {}
+
+/// Stands only where each type that is named here may be sent to threads and shared by them.
+pub fn all_cross() {
+    crosses::<Shared<GoodDeck>>();
+    crosses::<Shared<Text>>();
+    crosses::<Page>();
+    crosses::<Kind>();
+    crosses::<PageFault>();
+    crosses::<PageErr>();
+}
