@@ -1,6 +1,5 @@
 pub mod Items
 pub mod Kept
-pub mod Repetition
 pub mod Joining
 pub mod Content
 pub mod Strings
