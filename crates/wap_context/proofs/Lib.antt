@@ -1,0 +1,10 @@
+pub mod Places
+pub mod Plays
+pub mod Arrivals
+pub mod Rules
+pub mod Takings
+pub mod Names
+pub mod Navigations
+pub mod Pursuing
+pub mod Visiting
+pub mod Passing

@@ -1,0 +1,128 @@
+-- The last entry of a history, and the place that a browser has at hand.
+use Rattle.std.proofs.Common.{◌≡◌, ◌∙◌, ◌-◌, ◌<◌, ◌≤◌, List, [], ◌∷◌, ◌++◌, length, take, length-take, Option, Some, None, refl, sym, ap, arith}
+use Rattle.std.specs.List.{last_or, slice_get}
+use Rattle.std.specs.Option.{option_map, option_and_then}
+use Rattle.std.proofs.lemmas.Option.{slice_get-get_or}
+use Rattle.std.proofs.lemmas.List.{get_or-take}
+use Rattle.wap_markup.specs.declared.deck.Deck.{Deck}
+use Rattle.wap_markup.specs.declared.deck.Node.{Node}
+use Rattle.wap_markup.specs.Cards.{cards_of}
+use Rattle.wap_site.specs.Pages.{Pages}
+use Rattle.wap_world.specs.declared.history.Entry.{Entry}
+use Rattle.wap_world.specs.World.{Place, place_in, place_of, place_now, deck_at, last_entry}
+use Rattle.wap_context.specs.Browsers.{Browser, IsOver, place_held}
+use Rattle.wap_context.specs.inside.Held.{Held, held_in, held}
+
+-- ---- the last of a list
+
+last_behind : {X : Type 0} (o : Option X) (x : X) (xs : List X)
+    → last_or o (x ∷ xs) ≡ slice_get (x ∷ xs) (length xs)
+last_behind o x [] = refl
+last_behind o x (y ∷ ys) = last_behind (Some x) y ys
+
+-- it is the one at the length less one
+pub last_at : {X : Type 0} (xs : List X) → last_or None xs ≡ slice_get xs (length xs - 1)
+last_at [] = refl
+last_at (x ∷ xs) =
+    let before : length xs ≡ length (x ∷ xs) - 1 = omega arith in
+    last_behind None x xs ∙ ap (slice_get (x ∷ xs)) before
+
+-- the one before it
+pub earlier_at : {X : Type 0} (xs : List X) → 2 ≤ length xs
+    → last_or None (take (length xs - 1) xs) ≡ slice_get xs (length xs - 2)
+earlier_at [] some = absurd (omega arith)
+earlier_at (x ∷ []) some = absurd (omega arith)
+earlier_at (x ∷ y ∷ ys) some =
+    let xs = x ∷ y ∷ ys in
+    let front = take (length xs - 1) xs in
+    let count : length front ≡ length xs - 1 = omega (arith, length-take (length xs - 1) xs) in
+    let at : length front - 1 ≡ length xs - 2 = omega arith in
+    last_at front ∙ ap (slice_get front) at
+    ∙ slice_get-get_or front (length xs - 2) x (omega arith)
+    ∙ ap Some (get_or-take (length xs - 1) xs (length xs - 2) x (omega arith))
+    ∙ sym (slice_get-get_or xs (length xs - 2) x (omega arith))
+
+pub earlier_none : {X : Type 0} (xs : List X) → length xs < 2 → None ≡ last_or None (take (length xs - 1) xs)
+earlier_none [] few = refl
+earlier_none (x ∷ []) few = refl
+earlier_none (x ∷ y ∷ ys) few = absurd (omega arith)
+
+-- behind others
+pub last_pushed : {X : Type 0} (o : Option X) (xs : List X) (x : X) → last_or o (xs ++ x ∷ []) ≡ Some x
+last_pushed o [] x = refl
+last_pushed o (y ∷ ys) x = last_pushed (Some y) ys x
+
+-- ---- the place at hand is where the browser is
+
+now_by : (pages : Pages) (entry : Option Entry) (deck : Option Deck)
+    → option_and_then (λ (one : Entry). deck_at pages one.url) entry ≡ deck
+    → option_and_then (place_of pages) entry
+    ≡ option_and_then (λ (one : Entry). option_and_then (place_in one) deck) entry
+now_by pages None deck is = refl
+now_by pages (Some entry) deck is = ap (option_and_then (place_in entry)) is
+
+pub held_now : (pages : Pages) (browser : Browser) → IsOver pages browser
+    → place_now pages browser.world ≡ place_held browser
+held_now pages browser is = now_by pages (last_entry browser.world) browser.deck is
+
+-- ---- the card at hand
+
+abbrev pub place_by : Entry → Held → Place
+place_by entry one = record { url = entry.url; deck = one.deck; card = one.card }
+
+-- where a card is at hand
+pub record IsAt (browser : Browser) (one : Held) : Type 0 where
+  pub entry : Entry
+  pub last : last_entry browser.world ≡ Some entry
+  pub place : place_held browser ≡ Some (place_by entry one)
+  pub deck : browser.deck ≡ Some one.deck
+
+record AtBy (last : Option Entry) (deck : Option Deck) (one : Held) : Type 0 where
+  entry : Entry
+  last_is : last ≡ Some entry
+  place : option_and_then (λ (e : Entry). option_and_then (place_in e) deck) last ≡ Some (place_by entry one)
+  deck_is : deck ≡ Some one.deck
+
+abbrev cards_at : Deck → Option Node → Option Held
+cards_at deck card = option_map (λ found. record { deck = deck; card = found }) card
+
+by_card : (entry : Entry) (deck : Deck) (one : Held) (card : Option Node) → slice_get (cards_of deck) entry.card ≡ card
+    → cards_at deck card ≡ Some one → AtBy (Some entry) (Some deck) one
+by_card entry deck one None is at = absurd (cc)
+by_card entry deck one (Some card) is at =
+    let same : record { deck = deck; card = card } ≡ one = cc in
+    record {
+      entry = entry;
+      last_is = refl;
+      place = ap (option_map (λ found. record { url = entry.url; deck = deck; card = found })) is
+          ∙ ap (λ (o : Held). Some (place_by entry o)) same;
+      deck_is = ap (λ (o : Held). Some o.deck) same;
+    }
+
+by_entry : (last : Option Entry) (deck : Option Deck) (one : Held)
+    → held_in deck (option_map (λ (e : Entry). e.card) last) ≡ Some one → AtBy last deck one
+by_entry None None one at = absurd (cc)
+by_entry None (Some deck) one at = absurd (cc)
+by_entry (Some entry) None one at = absurd (cc)
+by_entry (Some entry) (Some deck) one at = by_card entry deck one (slice_get (cards_of deck) entry.card) refl at
+
+pub is_at : (browser : Browser) (one : Held) → held browser ≡ Some one → IsAt browser one
+is_at browser one at =
+    let found = by_entry (last_entry browser.world) browser.deck one at in
+    record { entry = found.entry; last = found.last_is; place = found.place; deck = found.deck_is }
+
+none_card : (entry : Entry) (deck : Deck) (card : Option Node) → cards_at deck card ≡ None
+    → option_map {U = Place} (λ found. record { url = entry.url; deck = deck; card = found }) card ≡ None
+none_card entry deck None at = refl
+none_card entry deck (Some card) at = absurd (cc)
+
+none_entry : (last : Option Entry) (deck : Option Deck)
+    → held_in deck (option_map (λ (e : Entry). e.card) last) ≡ None
+    → option_and_then (λ (e : Entry). option_and_then (place_in e) deck) last ≡ None
+none_entry None deck at = refl
+none_entry (Some entry) None at = refl
+none_entry (Some entry) (Some deck) at = none_card entry deck (slice_get (cards_of deck) entry.card) at
+
+-- where none is
+pub is_nowhere : (browser : Browser) → held browser ≡ None → place_held browser ≡ None
+is_nowhere browser at = none_entry (last_entry browser.world) browser.deck at

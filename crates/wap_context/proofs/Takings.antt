@@ -1,0 +1,225 @@
+-- One navigation over pages: from what its parts come to.
+use Rattle.std.proofs.Common.{◌≡◌, ◌∙◌, ℕ, ◌+◌, Bool, List, [], ◌∷◌, ◌++◌, Option, Some, None, Ok, Err, refl, sym, ap, subst, append_assoc}
+use Rattle.std.specs.Prelude.{Result, IfSome, IfOk, OnOk, IsErr, IsErrAnd}
+use Rattle.std.proofs.lemmas.Bool.{false≢true}
+use Rattle.wap_base.specs.declared.fault.RunErr.{RunErr}
+use Rattle.wap_base.specs.declared.fault.RunErr.TheVariants.{Store, NoMemory}
+use Rattle.wap_url.specs.Printing.{name_for}
+use Rattle.wap_markup.specs.declared.deck.Deck.{Deck}
+use Rattle.wap_cardrules.specs.declared.task.Task.{Task}
+use Rattle.wap_site.specs.Pages.{Pages}
+use Rattle.wap_site.specs.Asking.{Seen, Stays, Asks, Fails}
+use Rattle.wap_site.proofs.Asking.{Asks-nil, Fails-more, Stays-same}
+use Rattle.wap_world.specs.declared.refusal.Refusal.{Refusal}
+use Rattle.wap_world.specs.World.{World}
+use Rattle.wap_world.specs.Steps.{Once}
+use Rattle.wap_world.specs.Requests.{Request, request_line, ask, answer_to}
+use Rattle.wap_world.specs.Tasks.{after_step}
+use Rattle.wap_context.specs.Browsers.{Browser, IsOver, IfOver}
+use Rattle.wap_context.specs.inside.Moving.{Line, Moves, Answers, Asked, Leads, Takes, Spends, Onces}
+
+abbrev Rule : Type 0
+Rule = Pages → World → Once
+
+-- ---- what holds of all pages, and of told ones
+
+pub over_all : (contents : Option Pages) (browser : Browser) {Fact : Pages → Type 0}
+    → ((pages : Pages) → IsOver pages browser → Fact pages) → IfOver contents browser Fact
+over_all None browser f = tt
+over_all (Some pages) browser f = f pages
+
+pub over_map : (contents : Option Pages) (old mid : Browser) {Fact Goal : Pages → Type 0}
+    → ((pages : Pages) → IsOver pages old → IsOver pages mid) → ((pages : Pages) → IsOver pages old → Fact pages → Goal pages)
+    → IfOver contents mid Fact → IfOver contents old Goal
+over_map None old mid onto f so = tt
+over_map (Some pages) old mid onto f so = λ over. f pages over (so (onto pages over))
+
+pub told_map : (contents : Option Pages) (old : Browser) {Told Goal : Pages → Type 0}
+    → ((pages : Pages) → IsOver pages old → Told pages → Goal pages) → IfSome contents Told → IfOver contents old Goal
+told_map None old f so = tt
+told_map (Some pages) old f so = λ over. f pages over so
+
+if_ok_both : {X E : Type 0} {P Q : X → Type 0} (result : Result X E) → ((x : X) → P x → Q x) → IfOk result P → IfOk result Q
+if_ok_both (Ok x) f so = f x so
+if_ok_both (Err e) f so = tt
+
+on_ok_both : {X E P Q : Type 0} (result : Result X E) → (P → Q) → OnOk result P → OnOk result Q
+on_ok_both (Ok x) f so = f so
+on_ok_both (Err e) f so = tt
+
+-- ---- ends
+
+pub takes_err : (rule : Rule) (seen after : Seen) (old new : Browser) (before shown : List Line) (err : RunErr)
+    → Stays seen after → err ≡ NoMemory → Takes rule seen after old new before shown (Err err)
+takes_err rule seen after old new before shown err stays is = record {
+  follows = tt;
+  asks = tt;
+  steady = tt;
+  failed = λ failed. absurd (cc);
+  rose = λ failed. absurd (cc);
+  stays = stays;
+  turns = tt;
+}
+
+pub takes_moves : (rule : Rule) (seen : Seen) (old new : Browser) (before shown : List Line) (next : Option Task)
+    (once : Once) (AreThese : Pages → Type 0) → Moves once AreThese old new before shown next
+    → ((pages : Pages) → IsOver pages old → AreThese pages × (rule pages old.world ≡ once))
+    → Takes rule seen seen old new before shown (Ok next)
+takes_moves rule seen old new before shown next once AreThese moves is = record {
+  follows = over_all seen.contents old (λ pages over.
+      let same = sym (is pages over).1 in
+      record {
+        world = moves.world ∙ ap (λ (o : Once). o.step.world) same;
+        lines = moves.lines ∙ ap (λ (o : Once). before ++ o.step.lines) same;
+        leads = moves.leads ∙ ap (λ (o : Once). o.next) same;
+        keys = ap (λ (o : Once). o.step.keys) (is pages over).1 ∙ moves.keys;
+        over = moves.over pages (is pages over).0;
+      });
+  asks = over_all seen.contents old (λ pages over.
+      subst (λ asked. Asks asked seen seen)
+      (sym (ap (λ (o : Once). o.step.asked) (is pages over).1 ∙ moves.asked)) (Asks-nil seen));
+  steady = refl;
+  failed = λ failed. absurd (cc);
+  rose = λ failed. absurd (cc);
+  stays = Stays-same seen;
+  turns = moves.turns;
+}
+
+-- by another rule
+pub takes_from : (rule other : Rule) (seen after : Seen) (old new : Browser) (before shown : List Line)
+    (result : Result (Option Task) RunErr)
+    → ((pages : Pages) → IsOver pages old → other pages old.world ≡ rule pages old.world)
+    → Takes other seen after old new before shown result → Takes rule seen after old new before shown result
+takes_from rule other seen after old new before shown result is so = record {
+  follows = if_ok_both result
+      (λ next. over_map seen.contents old old (λ pages over. over) (λ pages over leads.
+      subst (λ (o : Once). Leads pages o new before shown next) (is pages over) leads)) so.follows;
+  asks = on_ok_both result
+      (over_map seen.contents old old (λ pages over. over) (λ pages over asks.
+      subst (λ (o : Once). Asks o.step.asked seen after) (is pages over) asks)) so.asks;
+  steady = so.steady;
+  failed = λ failed. over_map seen.contents old old (λ pages over. over) (λ pages over fails.
+      subst (λ (o : Once). Fails o.step.asked seen after) (is pages over) fails) (so.failed failed);
+  rose = so.rose;
+  stays = so.stays;
+  turns = so.turns;
+}
+
+-- a turn was taken, and the rest goes by another rule
+spends_by : (old mid new : Browser) (next : Option Task) → mid.world.turns + 1 ≡ old.world.turns
+    → new.world.turns ≡ mid.world.turns → Spends old new next
+spends_by old mid new None spent same = tt
+spends_by old mid new (Some task) spent same = ap (λ (n : ℕ). n + 1) same ∙ spent
+
+spends_in : (old mid new : Browser) (result : Result (Option Task) RunErr) → mid.world.turns + 1 ≡ old.world.turns
+    → OnOk result (new.world.turns ≡ mid.world.turns) → IfOk result (Spends old new)
+spends_in old mid new (Ok next) spent same = spends_by old mid new next spent same
+spends_in old mid new (Err err) spent same = tt
+
+pub onces_from : (rule other : Rule) (seen after : Seen) (old mid new : Browser) (before shown : List Line)
+    (result : Result (Option Task) RunErr)
+    → ((pages : Pages) → IsOver pages old → IsOver pages mid)
+    → ((pages : Pages) → IsOver pages old → other pages mid.world ≡ rule pages old.world)
+    → mid.world.turns + 1 ≡ old.world.turns
+    → Takes other seen after mid new before shown result → Onces rule seen after old new before shown result
+onces_from rule other seen after old mid new before shown result onto is spent so = record {
+  follows = if_ok_both result
+      (λ next. over_map seen.contents old mid onto (λ pages over leads.
+      subst (λ (o : Once). Leads pages o new before shown next) (is pages over) leads)) so.follows;
+  asks = on_ok_both result
+      (over_map seen.contents old mid onto (λ pages over asks.
+      subst (λ (o : Once). Asks o.step.asked seen after) (is pages over) asks)) so.asks;
+  steady = so.steady;
+  failed = λ failed. over_map seen.contents old mid onto (λ pages over fails.
+      subst (λ (o : Once). Fails o.step.asked seen after) (is pages over) fails) (so.failed failed);
+  rose = so.rose;
+  stays = so.stays;
+  spends = spends_in old mid new result spent so.turns;
+}
+
+-- it is settled
+pub onces_settled : (rule : Rule) (seen : Seen) (old new : Browser) (before shown : List Line) (next : Option Task)
+    → next ≡ None → Takes rule seen seen old new before shown (Ok next) → Onces rule seen seen old new before shown (Ok next)
+onces_settled rule seen old new before shown next is so = record {
+  follows = so.follows;
+  asks = so.asks;
+  steady = so.steady;
+  failed = so.failed;
+  rose = so.rose;
+  stays = so.stays;
+  spends = subst (Spends old new) (sym is) tt;
+}
+
+pub onces_rejected : (rule : Rule) (seen : Seen) (old new : Browser) (before shown : List Line) (result : Result (Option Task) RunErr)
+    → IsErr result → IsErrAnd result (λ err. err ≡ NoMemory) → Onces rule seen seen old new before shown result
+onces_rejected rule seen old new before shown (Ok next) is so = absurd (false≢true is)
+onces_rejected rule seen old new before shown (Err err) is so =
+    let takes = takes_err rule seen seen old new before shown err (Stays-same seen) so in
+    record { follows = tt; asks = tt; steady = tt; failed = takes.failed; rose = takes.rose; stays = takes.stays; spends = tt }
+
+-- ---- a page that was asked for
+
+module _ (one : Request) where
+  abbrev first : List (List ℕ × Bool)
+  first = (name_for one.url, one.fresh) ∷ []
+
+  pub takes_asked : (rule : Rule) (seen after : Seen) (old new : Browser) (before mid shown : List Line) (next : Option Task)
+      (answer : Result Deck Refusal) (once : Once)
+      → Asked one seen after before mid (Ok answer)
+      → Moves once (Answers one.url answer old) old new mid shown next
+      → ((pages : Pages) → IsOver pages old → answer ≡ answer_to pages one
+      → rule pages old.world ≡ after_step (ask [] one old.world) once)
+      → Takes rule seen after old new before shown (Ok next)
+  takes_asked rule seen after old new before mid shown next answer once asked moves is = record {
+    follows = told_map seen.contents old (λ pages over told.
+        let same = is pages over told in
+        record {
+          world = moves.world ∙ sym (ap (λ (o : Once). o.step.world) same);
+          lines = moves.lines
+              ∙ ap (λ l. l ++ once.step.lines) asked.lines
+              ∙ append_assoc before (request_line one ∷ []) once.step.lines
+              ∙ sym (ap (λ (o : Once). before ++ o.step.lines) same);
+          leads = moves.leads ∙ sym (ap (λ (o : Once). o.next) same);
+          keys = ap (λ (o : Once). o.step.keys) same ∙ moves.keys;
+          over = moves.over pages (over, told);
+        }) asked.answer;
+    asks = told_map seen.contents old (λ pages over told.
+        subst (λ (l : List (List ℕ × Bool)). Asks l seen after)
+        (sym (ap (λ (o : Once). o.step.asked) (is pages over told) ∙ ap (λ l. first ++ l) moves.asked)) asked.asks) asked.answer;
+    steady = asked.asks.steady;
+    failed = λ failed. absurd (cc);
+    rose = λ failed. absurd (cc);
+    stays = asked.stays;
+    turns = moves.turns;
+  }
+
+  -- the store failed
+  pub takes_failed : (rule : Rule) (seen after : Seen) (old new : Browser) (before shown : List Line) (err : RunErr)
+      → Asked one seen after before shown (Err err)
+      → ((pages : Pages) → IsOver pages old
+      → (rest : List (List ℕ × Bool)) × ((rule pages old.world).step.asked ≡ first ++ rest))
+      → Takes rule seen after old new before shown (Err err)
+  takes_failed rule seen after old new before shown err asked is = record {
+    follows = tt;
+    asks = tt;
+    steady = tt;
+    failed = λ failed. over_all seen.contents old (λ pages over.
+        let rest = is pages over in
+        subst (λ (l : List (List ℕ × Bool)). Fails l seen after) (sym rest.1)
+        (Fails-more first rest.0 seen after (asked.failed (failed_as err failed))));
+    rose = λ failed. (asked.failed (failed_as err failed)).rose;
+    stays = asked.stays;
+    turns = tt;
+  } where
+    failed_as : (err : RunErr) → ◌≡◌ {A = Result (Option Task) RunErr} (Err err) (Err Store)
+        → ◌≡◌ {A = Result (Result Deck Refusal) RunErr} (Err err) (Err Store)
+    failed_as err is = cc
+
+pub takes_no_memory : (rule : Rule) (seen : Seen) (old new : Browser) (before shown : List Line)
+    → Takes rule seen seen old new before shown (Err NoMemory)
+takes_no_memory rule seen old new before shown = takes_err rule seen seen old new before shown NoMemory (Stays-same seen) refl
+
+pub takes_rejected : (rule : Rule) (seen : Seen) (old new : Browser) (before shown : List Line) (result : Result (Option Task) RunErr)
+    → IsErr result → IsErrAnd result (λ err. err ≡ NoMemory) → Takes rule seen seen old new before shown result
+takes_rejected rule seen old new before shown (Ok next) is so = absurd (false≢true is)
+takes_rejected rule seen old new before shown (Err err) is so = takes_err rule seen seen old new before shown err (Stays-same seen) so

@@ -1,0 +1,31 @@
+use Rattle.std.proofs.Common.{Option, ap, subst}
+use Rattle.std.specs.Prelude.{IfSome}
+use Rattle.wap_markup.specs.declared.deck.Deck.{Deck}
+use Rattle.wap_site.specs.Pages.{Pages}
+use Rattle.wap_world.specs.Requests.{Request}
+use Rattle.wap_context.specs.Browsers.{IsOver}
+use Rattle.wap_context.specs.inside.Moving.{HasDeck}
+use Rattle.wap_context.proofs.Takings.{takes_rejected}
+use Rattle.wap_context.proofs.Navigations.{Stays_or_asks, stay_arrives, stay_asks}
+use Rattle.wap_context.proofs.context.Context.stay_or_ask.Goals as goal
+
+pub returns-in_ok-arrive-in-Some : goal.returns-in_ok-arrive-in-Some
+returns-in_ok-arrive-in-Some g c =
+    stay_arrives (g.P.Pages.seen c.args.pages.now) c.args.self.now c.arrive.new.self c.args.lines.now
+    c.args.sets c.args.caller.now c.args.one c.arrive.new.lines c.in_ok-arrive-in-Some.field-0 c.in_ok-deck.field-0 c.in-Some.deck
+    c.one.inside.url c.in_ok-deck.ensures.here c.in-Some.is (ap (λ (r : Request). r.url) c.one.view_is)
+    (subst (λ (o : Option Deck). IfSome o (λ found. (told : Pages) → IsOver told c.args.self.now → HasDeck c.args.one.url found told))
+    c.in-Some.is c.in_ok-deck.ensures.has)
+    c.in_ok-arrive-in-Some.ensures
+
+pub returns-in_err-arrive-in-Some : goal.returns-in_err-arrive-in-Some
+returns-in_err-arrive-in-Some g c =
+    takes_rejected (Stays_or_asks (g.P.Pages.seen c.args.pages.now) c.args.self.now c.arrive.new.self c.args.lines.now c.args.sets c.args.caller.now c.args.one)
+    (g.P.Pages.seen c.args.pages.now) c.args.self.now c.arrive.new.self c.args.lines.now c.arrive.new.lines
+    c.from_residual-in_err-arrive-in-Some.result c.from_residual-in_err-arrive-in-Some.ensures.0 c.from_residual-in_err-arrive-in-Some.ensures.1
+
+pub returns-in-None : goal.returns-in-None
+returns-in-None g c =
+    stay_asks (g.P.Pages.seen c.args.pages.now) c.args.self.now c.request.new.self c.args.lines.now
+    c.args.sets c.args.caller.now c.args.one (g.P.Pages.seen c.request.new.pages) c.request.new.lines c.in_ok-deck.field-0
+    c.request.result c.in_ok-deck.ensures.here c.in-None.is c.request.ensures

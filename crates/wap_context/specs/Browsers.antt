@@ -1,0 +1,53 @@
+-- What is seen of a browser that stands on a card: its world, and the deck that it has at hand. This
+-- project's own.
+use Rattle.std.specs.Prelude.{◌≡◌, ℕ, List, Option, IfSome}
+use Rattle.std.specs.Option.{option_and_then, option_map_or}
+use Rattle.wap_filling.specs.Variables.{Variables}
+use Rattle.wap_cardrules.specs.declared.answers.Entered.TheVariants as entered
+use Rattle.wap_cardrules.specs.Entering.{TextEntered, enter_text, OptionChosen, none_chosen, choose}
+use Rattle.wap_markup.specs.declared.deck.Deck.{Deck}
+use Rattle.wap_site.specs.Pages.{Pages}
+use Rattle.wap_world.specs.World.{World, Place, place_in, deck_at, last_entry}
+use Rattle.wap_world.specs.Steps.{Scene}
+
+pub record Browser : Type 0 where
+  pub world : World
+  -- the deck of the current card, once one was entered
+  pub deck : Option Deck
+
+-- the current card, once one was entered
+abbrev pub place_held : Browser → Option Place
+place_held browser = option_and_then (λ entry. option_and_then (place_in entry) browser.deck)
+    (last_entry browser.world)
+
+-- these pages have the deck under the URL of the current card
+abbrev pub IsOver : Pages → Browser → Type 0
+IsOver pages browser =
+    option_and_then (λ entry. deck_at pages entry.url) (last_entry browser.world) ≡ browser.deck
+
+-- a fact of the pages, where they are told and have the deck
+abbrev pub IfOver : Option Pages → Browser → (Pages → Type 0) → Type 0
+IfOver contents browser Fact = IfSome contents (λ pages. IsOver pages browser → Fact pages)
+
+-- a scene over any pages that have the deck: where it leads, and its lines
+pub record Shows (old new : Browser) (lines : List (List ℕ)) (rule : Pages → World → Scene) : Type 0
+  where
+    pub world : (pages : Pages) → IsOver pages old → new.world ≡ (rule pages old.world).world
+    pub tells : (pages : Pages) → IsOver pages old → lines ≡ (rule pages old.world).lines
+    pub over : (pages : Pages) → IsOver pages old → IsOver pages new
+
+-- ---- variables
+
+abbrev pub with_vars : Variables → Browser → Browser
+with_vars vars browser = record browser { world = record browser.world { vars = vars } }
+
+-- a text that is entered, or an option that is chosen; without a card there is no field
+abbrev pub typed_in : Browser → ℕ → List ℕ → TextEntered
+typed_in browser n text =
+    option_map_or (λ place. enter_text browser.world.vars place.card n text) (place_held browser)
+    (record { vars = browser.world.vars; answer = entered.NoInput })
+
+abbrev pub chosen_in : Browser → ℕ → ℕ → OptionChosen
+chosen_in browser n m =
+    option_map_or (λ place. choose browser.world.vars place.card n m) (place_held browser)
+    (none_chosen browser.world.vars)

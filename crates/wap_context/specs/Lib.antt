@@ -1,0 +1,3 @@
+pub mod Browsers
+pub mod Acting
+pub mod inside

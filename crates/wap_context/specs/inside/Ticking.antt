@@ -1,0 +1,29 @@
+-- The passing of time over the place that a browser has at hand. It only carries proofs.
+use Rattle.std.specs.Prelude.{ℕ, [], Option, Some, None, is_some, if◌then◌else◌}
+use Rattle.wap_cardrules.specs.declared.event.Event.TheVariants as event
+use Rattle.wap_site.specs.Pages.{Pages}
+use Rattle.wap_world.specs.declared.timer.Timer.{Timer}
+use Rattle.wap_world.specs.declared.timer.Timer.TheVariants.{NotStarted, Running, Off}
+use Rattle.wap_world.specs.World.{World, Place}
+use Rattle.wap_world.specs.Steps.{Scene, Step, still, quiet, followed}
+use Rattle.wap_world.specs.Timers.{end_timer}
+use Rattle.wap_world.specs.Screens.{here}
+use Rattle.wap_world.specs.Entering.{event_task}
+use Rattle.wap_world.specs.Keys.{act_or}
+
+-- what remains of a timer that runs, and of that of a card
+abbrev pub left_of : Timer → Option ℕ
+left_of NotStarted = None
+left_of (Running time) = Some time
+left_of Off = None
+
+abbrev pub left_at : Option Place → Timer → Option ℕ
+left_at place timer = if is_some place then left_of timer else None
+
+-- the timer has run out
+abbrev pub end_place : Place → World → Scene
+end_place place world = end_timer place.card world
+
+abbrev pub run_out : Pages → World → Step
+run_out pages world = followed (quiet [] (here pages end_place world))
+    (λ keys w. act_or (still w) pages keys w (event_task pages event.Timer w))

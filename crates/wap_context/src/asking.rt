@@ -1,0 +1,64 @@
+//! Asking for a page.
+ghost use Rattle.std.specs.Prelude.{◌≡◌, IfOk};
+ghost use Rattle.wap_url.specs.Printing.{name_for};
+ghost use Rattle.wap_world.specs.Requests.{plain_get, deck_answer};
+ghost use Rattle.wap_context.specs.inside.Moving.{Asked};
+
+use std::alloc::Global;
+use wap_base::{NoMemory, Rows, RunErr, Text};
+use wap_good::GoodDeck;
+use wap_requests::{Request, plain_get, request_line};
+use wap_site::{Page, Pages, Shared};
+use wap_url::{Url, name_of};
+use wap_world::Refusal;
+
+/// The deck that a page is, or why there is none.
+fn deck_answer(page: Page) -> Result<Shared<GoodDeck>, Refusal>
+    ensures { result ≡ deck_answer page }
+{
+    match page {
+        Page::Deck(deck) => Ok(deck),
+        Page::Words(_) | Page::Refused => Err(Refusal::Refused),
+        Page::Missing => Err(Refusal::Missing),
+    }
+}
+
+/// The store's name of a page; a URL without a host has that of an empty one.
+pub fn page_name(alloc: Global, url: &Url) -> Result<Text, NoMemory>
+    ensures { IfOk result (λ name. name ≡ name_for url.now) }
+{
+    if url.host.is_some() {
+        return name_of(alloc, url);
+    }
+    let mut page = url.copy(alloc)?;
+    page.host = Some(Text::new(alloc));
+    name_of(alloc, &page)
+}
+
+/// Adds the line of a request, and asks for the page.
+pub fn ask<P: Pages>(
+    alloc: Global,
+    pages: &mut P,
+    request: &Request,
+    lines: &mut Rows<Text>,
+) -> Result<Result<Shared<GoodDeck>, Refusal>, RunErr>
+    ensures { Asked request.now (P.seen pages.old) (P.seen pages.new) lines.old lines.new result }
+{
+    lines.add(request_line(alloc, request)?)?;
+    let name = page_name(alloc, &request.url)?;
+    let page = pages.page(alloc, &name, request.fresh)?;
+    Ok(deck_answer(page))
+}
+
+/// Adds the line of a plain request for a page, and asks for it.
+pub fn ask_for<P: Pages>(
+    alloc: Global,
+    pages: &mut P,
+    url: &Url,
+    lines: &mut Rows<Text>,
+) -> Result<Result<Shared<GoodDeck>, Refusal>, RunErr>
+    ensures { Asked (plain_get url.now) (P.seen pages.old) (P.seen pages.new) lines.old lines.new result }
+{
+    let request = plain_get(url.copy(alloc)?);
+    ask(alloc, pages, &request, lines)
+}

@@ -1,0 +1,200 @@
+//! The context of a browser.
+ghost use Rattle.std.specs.Prelude.{◌≡◌, [], None, is_some, IfOk, OnOk};
+ghost use Rattle.std.specs.Option.{option_map, option_copied};
+ghost use Rattle.wap_world.specs.World.{first_world};
+ghost use Rattle.wap_world.specs.Screens.{show, show_screen};
+ghost use Rattle.wap_world.specs.Tasks.{act, visit};
+ghost use Rattle.wap_context.specs.Browsers.{place_held, Shows, with_vars, typed_in, chosen_in};
+ghost use Rattle.wap_context.specs.Acting.{Acts, tick};
+
+use crate::here::here;
+use crate::state::State;
+use std::alloc::Global;
+use std::marker::Model;
+use wap_base::{Limits, NoMemory, Rows, RunErr, Text};
+use wap_cardrules::{Chosen, Entered, Task};
+use wap_good::{GoodDeck, View};
+use wap_site::{Pages, Shared};
+use wap_vars::Vars;
+use wap_world::Timer;
+
+/// A browser's variables, history, timer and turns, and the deck of its current card. A contract
+/// sees its world and that deck.
+#[derive(Drop)]
+pub struct Context {
+    pub(crate) state: State,
+    pub(crate) deck: Option<Shared<GoodDeck>>,
+}
+
+impl Model for Context {
+    ghost use Rattle.wap_context.specs.Browsers.{Browser};
+    ghost use Rattle.wap_markup.specs.contracts.deck.Item as item;
+    ghost use Rattle.std.specs.Coded.{codes};
+
+    ghost Value = { Browser };
+
+    ghost coded = { Prim.hlevel (codes, item.the_row.coded) };
+
+    ghost view = { λ context. record { world = context.state; deck = context.deck } };
+}
+
+impl Context {
+    /// A browser that did nothing yet. It has no turns until a key begins.
+    pub fn new(alloc: Global, seed: u32, limits: Limits) -> Context
+        ensures { result ≡ record { world = first_world seed 0 limits; deck = None } }
+    {
+        Context {
+            state: State::new(alloc, seed, limits),
+            deck: None,
+        }
+    }
+
+    /// A key begins, which has so many turns.
+    pub fn begin_key(&mut self, budget: u32)
+        ensures { self.new ≡ record self.old { world = record self.old.world { budget = budget; turns = budget } } }
+    {
+        self.state.budget = budget;
+        self.state.turns = budget;
+    }
+
+    /// Goes to a URL that a user opens, and on to all that it leads to.
+    pub fn open<P: Pages>(
+        &mut self,
+        alloc: Global,
+        pages: &mut P,
+        url: &Text,
+    ) -> Result<Rows<Text>, RunErr>
+        ensures { Acts (λ told world. visit told [] world url.now)
+            (P.seen pages.old) (P.seen pages.new) self.old self.new result }
+    {
+        let mut lines = Rows::new(alloc);
+        match self.visit_once(alloc, pages, url, &mut lines) {
+            Ok(next) => match self.follow(alloc, pages, next, &mut lines) {
+                Ok(()) => Ok(lines),
+                Err(fault) => Err(fault),
+            },
+            Err(fault) => Err(fault),
+        }
+    }
+
+    /// Takes a task, and all that it leads to.
+    pub fn act<P: Pages>(
+        &mut self,
+        alloc: Global,
+        pages: &mut P,
+        task: Task,
+    ) -> Result<Rows<Text>, RunErr>
+        ensures { Acts (λ told world. act told [] world task) (P.seen pages.old) (P.seen pages.new) self.old self.new result }
+    {
+        let mut lines = Rows::new(alloc);
+        match self.follow(alloc, pages, Some(task), &mut lines) {
+            Ok(()) => Ok(lines),
+            Err(fault) => Err(fault),
+        }
+    }
+
+    /// Lets so many tenths of a second pass.
+    pub fn tick<P: Pages>(
+        &mut self,
+        alloc: Global,
+        pages: &mut P,
+        time: u32,
+    ) -> Result<Rows<Text>, RunErr>
+        ensures { Acts (tick time) (P.seen pages.old) (P.seen pages.new) self.old self.new result }
+    {
+        let mut lines = Rows::new(alloc);
+        match self.pass_time(alloc, pages, time, &mut lines) {
+            Ok(()) => Ok(lines),
+            Err(fault) => Err(fault),
+        }
+    }
+
+    /// Shows the current card, if there is one: its fields get their defaults, its timer starts, and
+    /// its screen is drawn.
+    pub fn show(&mut self, alloc: Global) -> Result<Rows<Text>, NoMemory>
+        ensures { IfOk result (λ lines. Shows self.old self.new lines show) }
+    {
+        let mut lines = Rows::new(alloc);
+        self.add_show(alloc, &mut lines)?;
+        Ok(lines)
+    }
+
+    /// The screen of the current card alone, if there is one.
+    pub fn screen(&self, alloc: Global) -> Result<Rows<Text>, NoMemory>
+        ensures { IfOk result (λ lines. Shows self.now self.now lines show_screen) }
+    {
+        let mut lines = Rows::new(alloc);
+        self.add_screen(alloc, &mut lines)?;
+        Ok(lines)
+    }
+
+    /// Whether a card was entered.
+    pub fn has_card(&self) -> bool
+        ensures { result ≡ is_some (place_held self.now) }
+    {
+        self.card().is_some()
+    }
+
+    /// The timer of the current card.
+    pub fn timer(&self) -> Timer
+        ensures { result ≡ self.now.world.timer }
+    {
+        self.state.timer
+    }
+
+    /// The deck of the current card, once one was entered.
+    pub fn deck(&self) -> Option<&GoodDeck>
+        ensures { option_copied result ≡ self.now.deck }
+    {
+        match &self.deck {
+            Some(deck) => Some(deck),
+            None => None,
+        }
+    }
+
+    /// The current card, once one was entered.
+    pub fn card(&self) -> Option<View<'_>>
+        ensures { result ≡ option_map (λ place. place.card) (place_held self.now) }
+    {
+        match self.here() {
+            Some(here) => Some(here.card),
+            None => None,
+        }
+    }
+
+    /// The variables.
+    pub fn vars(&self) -> &Vars
+        ensures { result.now ≡ self.now.world.vars }
+    {
+        &self.state.vars
+    }
+
+    /// Enters a text into the field of a number, which shows nothing.
+    pub fn enter_text(
+        &mut self,
+        alloc: Global,
+        number: u16,
+        text: &Text,
+    ) -> Result<Entered, NoMemory>
+        ensures vars { OnOk result (self.new ≡ with_vars (typed_in self.old number text.now).vars self.old) }
+        ensures answer { IfOk result (λ answer. answer ≡ (typed_in self.old number text.now).answer) }
+    {
+        let current = self.state.card_number();
+        match here(&self.deck, current) {
+            Some(here) => self.state.enter_text(alloc, &here, number, text),
+            None => Ok(Entered::NoInput),
+        }
+    }
+
+    /// Chooses an option in the field of a number, which shows nothing.
+    pub fn choose(&mut self, alloc: Global, field: u16, option: u16) -> Result<Chosen, NoMemory>
+        ensures vars { OnOk result (self.new ≡ with_vars (chosen_in self.old field option).vars self.old) }
+        ensures answer { IfOk result (λ answer. answer ≡ (chosen_in self.old field option).answer) }
+    {
+        let current = self.state.card_number();
+        match here(&self.deck, current) {
+            Some(here) => self.state.choose(alloc, &here, field, option),
+            None => Ok(Chosen::NoOption),
+        }
+    }
+}

@@ -1,0 +1,247 @@
+//! Entering a card (WAP-191, sections 9.2, 9.5 and 9.10).
+ghost use Rattle.std.specs.Prelude.{◌≡◌, Some, Ok, IfOk, OnOk};
+ghost use Rattle.std.specs.Option.{option_map};
+ghost use Rattle.wap_url.specs.Printing.{without_fragment};
+ghost use Rattle.wap_world.specs.Tasks.{card_for, is_new_context, in_context};
+ghost use Rattle.wap_world.specs.History.{pushed, entry_of, in_deck, back_at};
+ghost use Rattle.wap_context.specs.Browsers.{IsOver, place_held};
+ghost use Rattle.wap_context.specs.inside.Held.{not_started, event_at, enter_at, arrive_at, arrive_if_at, try_deck_at, return_at, refused_at, answered_at, returned_at};
+ghost use Rattle.wap_context.specs.inside.Moving.{Moves, HasDeck, Answers};
+
+use crate::context::Context;
+use std::alloc::Global;
+use wap_base::{NoMemory, Rows, Text};
+use wap_cardrules::{Event, Task};
+use wap_cards::{binding, is_true};
+use wap_good::{AttrName, GoodDeck};
+use wap_requests::may_enter;
+use wap_site::Shared;
+use wap_url::Url;
+use wap_world::{Entry, Refusal, Timer};
+
+/// The number of the card that a URL's fragment names, else of the first.
+fn card_for(deck: &GoodDeck, url: &Url) -> usize
+    ensures { result ≡ card_for deck.now url.now }
+{
+    match &url.fragment {
+        Some(id) => match deck.find_card(id) {
+            Some(number) => number,
+            None => 0,
+        },
+        None => 0,
+    }
+}
+
+/// Whether a card begins a new context.
+fn is_new_context(alloc: Global, deck: &GoodDeck, number: usize) -> Result<bool, NoMemory>
+    ensures { IfOk result (λ is_so. is_so ≡ is_new_context deck.now number) }
+{
+    match deck.card(number) {
+        Some(card) => is_true(alloc, &card, AttrName::Newcontext),
+        None => Ok(false),
+    }
+}
+
+/// The entry of a card that was reached by a URL.
+fn entry_of(url: Url, card: usize) -> Entry
+    ensures { result ≡ entry_of url card }
+{
+    let mut page = url;
+    page.fragment = None;
+    Entry { url: page, card }
+}
+
+/// An entry whose card is one of a deck.
+fn in_deck(deck: &GoodDeck, entry: Entry) -> Entry
+    ensures { result ≡ in_deck deck.now entry }
+{
+    if entry.card < deck.card_count() {
+        return entry;
+    }
+    Entry {
+        url: entry.url,
+        card: 0,
+    }
+}
+
+impl Context {
+    /// The task of an event of the current card.
+    pub(crate) fn event_task(&self, alloc: Global, event: Event) -> Result<Option<Task>, NoMemory>
+        ensures { IfOk result
+            (λ task. task ≡ event_at event (place_held self.now) self.now.world) }
+    {
+        match self.here() {
+            Some(here) => binding(alloc, here.deck, &here.card, event, self.vars()),
+            None => Ok(None),
+        }
+    }
+
+    /// The timer is not started.
+    fn reset_timer(&mut self)
+        ensures { self.new ≡ not_started self.old }
+    {
+        self.state.timer = Timer::NotStarted;
+    }
+
+    /// Enters the current card: its timer is not started, and its event's task is next, or it is
+    /// shown.
+    fn enter(
+        &mut self,
+        alloc: Global,
+        event: Event,
+        lines: &mut Rows<Text>,
+    ) -> Result<Option<Task>, NoMemory>
+        ensures { IfOk result (λ next. Moves (enter_at event (place_held self.old) self.old.world)
+            (λ pages. IsOver pages self.old) self.old self.new lines.old lines.new next) }
+    {
+        self.reset_timer();
+        match self.event_task(alloc, event)? {
+            Some(task) => Ok(Some(task)),
+            None => {
+                self.add_show(alloc, lines)?;
+                Ok(None)
+            }
+        }
+    }
+
+    /// Adds a refusal, which ends a navigation.
+    pub(crate) fn refused(
+        &mut self,
+        alloc: Global,
+        refusal: Refusal,
+        lines: &mut Rows<Text>,
+    ) -> Result<Option<Task>, NoMemory>
+        ensures { IfOk result (λ next. Moves (refused_at refusal (place_held self.old) self.old.world)
+            (λ pages. IsOver pages self.old) self.old self.new lines.old lines.new next) }
+    {
+        self.add_refusal(alloc, refusal, lines)?;
+        Ok(None)
+    }
+
+    /// Pushes a card of a deck onto the history, which is empty first in a new context.
+    fn push_card(&mut self, alloc: Global, url: Url, deck: Shared<GoodDeck>) -> Result<(), NoMemory>
+        ensures { OnOk result (self.new ≡ record {
+          world = pushed (in_context deck (card_for deck url) self.old.world)
+              (entry_of url (card_for deck url));
+          deck = Some deck;
+        }) }
+    {
+        let number = card_for(&deck, &url);
+        if is_new_context(alloc, &deck, number)? {
+            self.state.clear();
+        }
+        self.state.push(entry_of(url, number))?;
+        self.deck = Some(deck);
+        Ok(())
+    }
+
+    /// Leaves the current card, sets variables, and enters the card of a deck that a URL names.
+    pub(crate) fn arrive(
+        &mut self,
+        alloc: Global,
+        sets: Rows<(Text, Text)>,
+        url: Url,
+        deck: Shared<GoodDeck>,
+        lines: &mut Rows<Text>,
+    ) -> Result<Option<Task>, NoMemory>
+        ensures { IfOk result (λ next. Moves
+            (arrive_at sets url (place_held self.old) self.old.world deck)
+            (HasDeck url deck) self.old self.new lines.old lines.new next) }
+    {
+        self.leave_and_set(alloc, sets, lines)?;
+        self.push_card(alloc, url, deck)?;
+        self.enter(alloc, Event::Forward, lines)
+    }
+
+    /// Enters the deck of a URL, if it may be entered from the caller.
+    fn try_deck(
+        &mut self,
+        alloc: Global,
+        sets: Rows<(Text, Text)>,
+        caller: &Option<Url>,
+        url: Url,
+        deck: Shared<GoodDeck>,
+        lines: &mut Rows<Text>,
+    ) -> Result<Option<Task>, NoMemory>
+        ensures { IfOk result (λ next. Moves
+            (try_deck_at sets caller.now url (place_held self.old) self.old.world deck)
+            (λ pages. IsOver pages self.old × HasDeck url deck pages)
+            self.old self.new lines.old lines.new next) }
+    {
+        let is_allowed = may_enter(alloc, &url, &deck, caller)?;
+        if is_allowed {
+            self.arrive(alloc, sets, url, deck, lines)
+        } else {
+            self.refused(alloc, Refusal::Denied, lines)
+        }
+    }
+
+    /// Goes on with what answers a request for a URL.
+    pub(crate) fn answered(
+        &mut self,
+        alloc: Global,
+        sets: Rows<(Text, Text)>,
+        caller: &Option<Url>,
+        url: Url,
+        answer: Result<Shared<GoodDeck>, Refusal>,
+        lines: &mut Rows<Text>,
+    ) -> Result<Option<Task>, NoMemory>
+        ensures { IfOk result (λ next. Moves
+            (answered_at sets caller.now url (place_held self.old) self.old.world answer)
+            (Answers url answer self.old) self.old self.new lines.old lines.new next) }
+    {
+        match answer {
+            Ok(deck) => self.try_deck(alloc, sets, caller, url, deck, lines),
+            Err(refusal) => self.refused(alloc, refusal, lines),
+        }
+    }
+
+    /// Drops the current card, and puts an earlier one of a deck in place of the one before it.
+    fn pop_card(&mut self, earlier: Entry, deck: Shared<GoodDeck>) -> Result<(), NoMemory>
+        ensures { OnOk result (self.new ≡ record {
+          world = back_at self.old.world (in_deck deck earlier);
+          deck = Some deck;
+        }) }
+    {
+        self.state.go_back(in_deck(&deck, earlier))?;
+        self.deck = Some(deck);
+        Ok(())
+    }
+
+    /// Leaves the current card, sets variables, and enters an earlier card of a deck.
+    pub(crate) fn return_to(
+        &mut self,
+        alloc: Global,
+        sets: Rows<(Text, Text)>,
+        earlier: Entry,
+        deck: Shared<GoodDeck>,
+        lines: &mut Rows<Text>,
+    ) -> Result<Option<Task>, NoMemory>
+        ensures { IfOk result (λ next. Moves
+            (return_at sets earlier (place_held self.old) self.old.world deck)
+            (HasDeck earlier.url deck) self.old self.new lines.old lines.new next) }
+    {
+        self.leave_and_set(alloc, sets, lines)?;
+        self.pop_card(earlier, deck)?;
+        self.enter(alloc, Event::Backward, lines)
+    }
+
+    /// Goes on back with what answers the request for the earlier card's deck.
+    pub(crate) fn returned(
+        &mut self,
+        alloc: Global,
+        sets: Rows<(Text, Text)>,
+        earlier: Entry,
+        answer: Result<Shared<GoodDeck>, Refusal>,
+        lines: &mut Rows<Text>,
+    ) -> Result<Option<Task>, NoMemory>
+        ensures { IfOk result (λ next. Moves
+            (returned_at sets earlier (place_held self.old) self.old.world answer)
+            (Answers earlier.url answer self.old) self.old self.new lines.old lines.new next) }
+    {
+        match answer {
+            Ok(deck) => self.return_to(alloc, sets, earlier, deck, lines),
+            Err(refusal) => self.refused(alloc, refusal, lines),
+        }
+    }
+}

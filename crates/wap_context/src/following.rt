@@ -1,0 +1,32 @@
+//! Tasks, and all that they lead to.
+ghost use Rattle.std.specs.Prelude.{◌≡◌};
+ghost use Rattle.wap_context.specs.inside.Moving.{Pursues, pursued};
+
+use crate::context::Context;
+use std::alloc::Global;
+use wap_base::{Rows, RunErr, Text};
+use wap_cardrules::Task;
+use wap_site::Pages;
+
+impl Context {
+    /// Takes a task, if there is one, and all that it leads to.
+    pub(crate) fn follow<P: Pages>(
+        &mut self,
+        alloc: Global,
+        pages: &mut P,
+        first: Option<Task>,
+        lines: &mut Rows<Text>,
+    ) -> Result<(), RunErr>
+        ensures { Pursues (λ told world. pursued told first world)
+            (P.seen pages.old) (P.seen pages.new) self.old self.new lines.old lines.new result }
+    {
+        let mut next = first;
+        while let Some(task) = next {
+            match self.task_once(alloc, pages, task, lines) {
+                Ok(found) => next = found,
+                Err(fault) => return Err(fault),
+            }
+        }
+        Ok(())
+    }
+}

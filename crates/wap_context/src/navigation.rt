@@ -1,0 +1,269 @@
+//! Go, open and prev (WAP-191, sections 9.2, 9.5 and 9.10).
+ghost use Rattle.std.specs.Prelude.{◌≡◌, [], None, true, false, IfSome, IfOk};
+ghost use Rattle.wap_site.specs.Pages.{Pages as Told};
+ghost use Rattle.std.specs.Option.{option_map};
+ghost use Rattle.wap_world.specs.World.{place_now};
+ghost use Rattle.wap_world.specs.Tasks.{url_now, is_here, with_turn, go, open_url, prev, stay_or_ask, request, ask_back, back_from, task_once};
+ghost use Rattle.wap_context.specs.Browsers.{IsOver, place_held};
+ghost use Rattle.wap_context.specs.inside.Held.{is_page, deck_under, deck_here};
+ghost use Rattle.wap_context.specs.inside.Moving.{HasDeck, HasName, Takes, Onces, SpendsOne, HasNone};
+
+use crate::asking::{ask, ask_for, page_name};
+use crate::context::Context;
+use std::alloc::Global;
+use wap_base::{NoMemory, Rows, RunErr, Text};
+use wap_cardrules::{Go, Task};
+use wap_good::GoodDeck;
+use wap_requests::{Request, is_same_page, plain_get, request_of, target};
+use wap_site::{Pages, Shared};
+use wap_url::Url;
+use wap_world::{Entry, Refusal};
+
+impl Context {
+    /// A copy of the current deck's URL, if there is a current card.
+    fn url(&self, alloc: Global) -> Result<Option<Url>, NoMemory>
+        ensures { IfOk result (λ url. url ≡ option_map (λ place. place.url) (place_held self.now)) }
+    {
+        if self.here().is_none() {
+            return Ok(None);
+        }
+        self.state.deck_url(alloc)
+    }
+
+    /// Whether a URL is that of the current page. Where its name in the store differs, which the
+    /// URLs that are read rule out, memory is said to be wanting.
+    fn is_page(&self, alloc: Global, url: &Url) -> Result<bool, NoMemory>
+        ensures same { IfOk result (λ is_so. is_so ≡ is_page url.now (place_held self.now)) }
+        ensures named { IfOk result (λ is_so. is_so ≡ true → HasName url.now self.now) }
+    {
+        let Some(here) = self.url(alloc)? else {
+            return Ok(false);
+        };
+        if !is_same_page(alloc, url, &here)? {
+            return Ok(false);
+        }
+        if page_name(alloc, url)? == page_name(alloc, &here)? {
+            Ok(true)
+        } else {
+            Err(NoMemory)
+        }
+    }
+
+    /// The current deck, where a URL is that of its page.
+    fn deck_under(&self, alloc: Global, url: &Url) -> Result<Option<Shared<GoodDeck>>, NoMemory>
+        ensures under { IfOk result (λ deck. deck ≡ deck_under url.now (place_held self.now)) }
+        ensures has { IfOk result (λ deck. IfSome deck (λ one. (told : Told) → IsOver told self.now → HasDeck url.now one told)) }
+    {
+        let is_page = self.is_page(alloc, url)?;
+        match &self.deck {
+            Some(deck) if is_page => Ok(Some(deck.share()?)),
+            Some(_) | None => Ok(None),
+        }
+    }
+
+    /// The current deck, where that is what a request asks for.
+    fn deck_here(&self, alloc: Global, one: &Request) -> Result<Option<Shared<GoodDeck>>, NoMemory>
+        ensures here { IfOk result (λ deck. deck ≡ deck_here one.now (place_held self.now)) }
+        ensures has { IfOk result (λ deck. IfSome deck (λ found. (told : Told) → IsOver told self.now → HasDeck one.now.url found told)) }
+    {
+        if one.body.is_some() || one.fresh {
+            return Ok(None);
+        }
+        self.deck_under(alloc, &one.url)
+    }
+
+    /// Asks for a page, and enters the deck that it is.
+    fn request<P: Pages>(
+        &mut self,
+        alloc: Global,
+        pages: &mut P,
+        sets: Rows<(Text, Text)>,
+        caller: &Option<Url>,
+        one: Request,
+        lines: &mut Rows<Text>,
+    ) -> Result<Option<Task>, RunErr>
+        ensures { Takes (λ told world. request told [] sets caller.now one world)
+            (P.seen pages.old) (P.seen pages.new) self.old self.new lines.old lines.new result }
+    {
+        let answer = ask(alloc, pages, &one, lines)?;
+        Ok(self.answered(alloc, sets, caller, one.url, answer, lines)?)
+    }
+
+    /// Enters the current deck anew, where it is asked for, else the deck that answers.
+    fn stay_or_ask<P: Pages>(
+        &mut self,
+        alloc: Global,
+        pages: &mut P,
+        sets: Rows<(Text, Text)>,
+        caller: &Option<Url>,
+        one: Request,
+        lines: &mut Rows<Text>,
+    ) -> Result<Option<Task>, RunErr>
+        ensures { Takes
+            (λ told world. stay_or_ask told [] sets caller.now one world (place_now told world))
+            (P.seen pages.old) (P.seen pages.new) self.old self.new lines.old lines.new result }
+    {
+        match self.deck_here(alloc, &one)? {
+            Some(deck) => Ok(self.arrive(alloc, sets, one.url, deck, lines)?),
+            None => self.request(alloc, pages, sets, caller, one, lines),
+        }
+    }
+
+    /// Takes a go, whose turn is taken already.
+    fn go<P: Pages>(
+        &mut self,
+        alloc: Global,
+        pages: &mut P,
+        one: Go,
+        lines: &mut Rows<Text>,
+    ) -> Result<Option<Task>, RunErr>
+        ensures { Takes (λ told world. go told [] (url_now told world) one world)
+            (P.seen pages.old) (P.seen pages.new) self.old self.new lines.old lines.new result }
+    {
+        let base = self.url(alloc)?;
+        match target(alloc, &base, &one.href)? {
+            Ok(url) => {
+                let request = request_of(alloc, &base, &one, url)?;
+                self.stay_or_ask(alloc, pages, one.sets, &base, request, lines)
+            }
+            Err(refusal) => Ok(self.refused(alloc, refusal, lines)?),
+        }
+    }
+
+    /// Opens a URL for a user, whose turn is taken already.
+    fn open_url<P: Pages>(
+        &mut self,
+        alloc: Global,
+        pages: &mut P,
+        url: &Text,
+        lines: &mut Rows<Text>,
+    ) -> Result<Option<Task>, RunErr>
+        ensures { Takes (λ told world. open_url told [] url.now world)
+            (P.seen pages.old) (P.seen pages.new) self.old self.new lines.old lines.new result }
+    {
+        let base = self.url(alloc)?;
+        match target(alloc, &base, url)? {
+            Ok(url) => {
+                let sets = Rows::new(alloc);
+                self.request(alloc, pages, sets, &None, plain_get(url), lines)
+            }
+            Err(refusal) => Ok(self.refused(alloc, refusal, lines)?),
+        }
+    }
+
+    /// Asks for the deck of an earlier card, and enters that.
+    fn ask_back<P: Pages>(
+        &mut self,
+        alloc: Global,
+        pages: &mut P,
+        sets: Rows<(Text, Text)>,
+        earlier: Entry,
+        lines: &mut Rows<Text>,
+    ) -> Result<Option<Task>, RunErr>
+        ensures { Takes (λ told world. ask_back told [] sets earlier world)
+            (P.seen pages.old) (P.seen pages.new) self.old self.new lines.old lines.new result }
+    {
+        let answer = ask_for(alloc, pages, &earlier.url, lines)?;
+        Ok(self.returned(alloc, sets, earlier, answer, lines)?)
+    }
+
+    /// Goes back to an earlier card, whose deck may be the current one.
+    fn back_to<P: Pages>(
+        &mut self,
+        alloc: Global,
+        pages: &mut P,
+        sets: Rows<(Text, Text)>,
+        earlier: Entry,
+        lines: &mut Rows<Text>,
+    ) -> Result<Option<Task>, RunErr>
+        ensures { Takes
+            (λ told world. back_from told [] sets earlier world (place_now told world))
+            (P.seen pages.old) (P.seen pages.new) self.old self.new lines.old lines.new result }
+    {
+        match self.deck_under(alloc, &earlier.url)? {
+            Some(deck) => Ok(self.return_to(alloc, sets, earlier, deck, lines)?),
+            None => self.ask_back(alloc, pages, sets, earlier, lines),
+        }
+    }
+
+    /// Takes a prev, whose turn is taken already.
+    fn prev<P: Pages>(
+        &mut self,
+        alloc: Global,
+        pages: &mut P,
+        sets: Rows<(Text, Text)>,
+        lines: &mut Rows<Text>,
+    ) -> Result<Option<Task>, RunErr>
+        ensures { Takes (λ told world. prev told [] sets world)
+            (P.seen pages.old) (P.seen pages.new) self.old self.new lines.old lines.new result }
+    {
+        match self.state.earlier(alloc)? {
+            Some(earlier) => self.back_to(alloc, pages, sets, earlier, lines),
+            None => Ok(self.refused(alloc, Refusal::First, lines)?),
+        }
+    }
+
+    /// Takes a turn, if one is left.
+    pub(crate) fn take_turn(&mut self) -> bool
+        ensures taken { result ≡ true → SpendsOne self.old self.new }
+        ensures left { result ≡ false → HasNone self.old self.new }
+    {
+        if self.state.turns == 0 {
+            return false;
+        }
+        self.state.turns -= 1;
+        true
+    }
+
+    /// Opens a URL for a user, alone.
+    pub(crate) fn visit_once<P: Pages>(
+        &mut self,
+        alloc: Global,
+        pages: &mut P,
+        url: &Text,
+        lines: &mut Rows<Text>,
+    ) -> Result<Option<Task>, RunErr>
+        ensures { Onces
+            (λ told world. with_turn told [] world world.turns (open_url told [] url.now))
+            (P.seen pages.old) (P.seen pages.new) self.old self.new lines.old lines.new result }
+    {
+        if self.take_turn() {
+            self.open_url(alloc, pages, url, lines)
+        } else {
+            Ok(self.refused(alloc, Refusal::Budget, lines)?)
+        }
+    }
+
+    /// Takes a task, alone.
+    pub(crate) fn task_once<P: Pages>(
+        &mut self,
+        alloc: Global,
+        pages: &mut P,
+        task: Task,
+        lines: &mut Rows<Text>,
+    ) -> Result<Option<Task>, RunErr>
+        ensures { Onces (λ told world. task_once told [] world task)
+            (P.seen pages.old) (P.seen pages.new) self.old self.new lines.old lines.new result }
+    {
+        match task {
+            Task::Go(one) => {
+                if self.take_turn() {
+                    self.go(alloc, pages, one, lines)
+                } else {
+                    Ok(self.refused(alloc, Refusal::Budget, lines)?)
+                }
+            }
+            Task::Prev(sets) => {
+                if self.take_turn() {
+                    self.prev(alloc, pages, sets, lines)
+                } else {
+                    Ok(self.refused(alloc, Refusal::Budget, lines)?)
+                }
+            }
+            Task::Refresh(sets) => {
+                self.refresh(alloc, sets, lines)?;
+                Ok(None)
+            }
+        }
+    }
+}

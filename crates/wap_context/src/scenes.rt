@@ -1,0 +1,125 @@
+//! What a browser shows of its current card, and what it sets.
+ghost use Rattle.std.specs.Prelude.{◌≡◌, OnOk};
+ghost use Rattle.wap_world.specs.Screens.{at_place};
+ghost use Rattle.wap_world.specs.Entering.{leave_place};
+ghost use Rattle.wap_context.specs.inside.Held.{held, show_at, screen_at, refuse_at, leave_and_set_at, refresh_at, restart_place};
+ghost use Rattle.wap_context.specs.inside.Moving.{PlaysAt};
+ghost use Rattle.wap_world.specs.Setting.{set_variables};
+
+use crate::context::Context;
+use crate::here::{Current, here};
+use std::alloc::Global;
+use wap_base::{NoMemory, Rows, Text};
+use wap_screens::add_refusal;
+use wap_world::Refusal;
+
+impl Context {
+    /// The current card and its deck.
+    pub(crate) fn here(&self) -> Option<Current<'_>>
+        ensures { result ≡ held self.now }
+    {
+        here(&self.deck, self.state.card_number())
+    }
+
+    /// Shows the current card, if there is one.
+    pub(crate) fn add_show(&mut self, alloc: Global, lines: &mut Rows<Text>) -> Result<(), NoMemory>
+        ensures { OnOk result (PlaysAt show_at self.old self.new lines.old lines.new) }
+    {
+        let number = self.state.card_number();
+        match here(&self.deck, number) {
+            Some(here) => self.state.show(alloc, &here, lines),
+            None => Ok(()),
+        }
+    }
+
+    /// Adds the screen of the current card, if there is one.
+    pub(crate) fn add_screen(&self, alloc: Global, lines: &mut Rows<Text>) -> Result<(), NoMemory>
+        ensures { OnOk result (PlaysAt screen_at self.now self.now lines.old lines.new) }
+    {
+        match self.here() {
+            Some(here) => self.state.add_screen(alloc, &here, lines),
+            None => Ok(()),
+        }
+    }
+
+    /// Adds the line of a refusal, and shows the current card.
+    pub(crate) fn add_refusal(
+        &mut self,
+        alloc: Global,
+        refusal: Refusal,
+        lines: &mut Rows<Text>,
+    ) -> Result<(), NoMemory>
+        ensures { OnOk result (PlaysAt (refuse_at refusal) self.old self.new lines.old lines.new) }
+    {
+        add_refusal(alloc, refusal, lines)?;
+        self.add_show(alloc, lines)
+    }
+
+    /// Leaves the current card, if there is one: a timer that runs stores what remains.
+    fn leave(&mut self, alloc: Global, lines: &mut Rows<Text>) -> Result<(), NoMemory>
+        ensures { OnOk result
+            (PlaysAt (at_place leave_place) self.old self.new lines.old lines.new) }
+    {
+        let number = self.state.card_number();
+        match here(&self.deck, number) {
+            Some(here) => self.state.store_left(alloc, &here.card, lines),
+            None => Ok(()),
+        }
+    }
+
+    /// Sets variables.
+    fn set_variables(
+        &mut self,
+        alloc: Global,
+        sets: Rows<(Text, Text)>,
+        lines: &mut Rows<Text>,
+    ) -> Result<(), NoMemory>
+        ensures { OnOk result
+            (PlaysAt (λ place. set_variables sets) self.old self.new lines.old lines.new) }
+    {
+        self.state.set_variables(alloc, sets, lines)
+    }
+
+    /// Leaves the current card, and sets variables.
+    pub(crate) fn leave_and_set(
+        &mut self,
+        alloc: Global,
+        sets: Rows<(Text, Text)>,
+        lines: &mut Rows<Text>,
+    ) -> Result<(), NoMemory>
+        ensures { OnOk result
+            (PlaysAt (leave_and_set_at sets) self.old self.new lines.old lines.new) }
+    {
+        self.leave(alloc, lines)?;
+        self.set_variables(alloc, sets, lines)
+    }
+
+    /// Starts the timer of the current card anew, and draws its screen.
+    fn restart(&mut self, alloc: Global, lines: &mut Rows<Text>) -> Result<(), NoMemory>
+        ensures { OnOk result
+            (PlaysAt (at_place restart_place) self.old self.new lines.old lines.new) }
+    {
+        let number = self.state.card_number();
+        match here(&self.deck, number) {
+            Some(here) => self.state.restart(alloc, &here, lines),
+            None => Ok(()),
+        }
+    }
+
+    /// Shows the current card again, if there is one, with variables set: it is left and shown, and
+    /// its timer starts anew.
+    pub(crate) fn refresh(
+        &mut self,
+        alloc: Global,
+        sets: Rows<(Text, Text)>,
+        lines: &mut Rows<Text>,
+    ) -> Result<(), NoMemory>
+        ensures { OnOk result (PlaysAt (refresh_at sets) self.old self.new lines.old lines.new) }
+    {
+        if self.here().is_none() {
+            return Ok(());
+        }
+        self.leave_and_set(alloc, sets, lines)?;
+        self.restart(alloc, lines)
+    }
+}

@@ -1,0 +1,57 @@
+//! What a browser keeps between two keys, but for the deck at hand.
+ghost use Rattle.std.specs.Prelude.{◌≡◌};
+ghost use Rattle.wap_world.specs.World.{first_world};
+
+use std::alloc::Global;
+use std::marker::Model;
+use wap_base::Limits;
+use wap_libs::Gen;
+use wap_vars::Vars;
+use wap_world::{Entry, Timer};
+
+/// Variables, history, timer, turns and the generator. A contract sees the world.
+#[derive(Drop)]
+pub struct State {
+    pub vars: Vars,
+    pub history: Vec<Entry>,
+    pub timer: Timer,
+    pub budget: u32,
+    pub turns: u32,
+    pub generator: Gen,
+    pub limits: Limits,
+}
+
+impl Model for State {
+    ghost use Rattle.std.specs.Prelude.{None};
+    ghost use Rattle.wap_world.specs.World.{World};
+
+    ghost Value = { World };
+
+    ghost view = { λ state. record {
+      vars = state.vars;
+      history = state.history.items;
+      timer = state.timer;
+      pending = None;
+      budget = state.budget;
+      turns = state.turns;
+      generator = state.generator;
+      limits = state.limits;
+    } };
+}
+
+impl State {
+    /// A world in which nothing was done.
+    pub fn new(alloc: Global, seed: u32, limits: Limits) -> State
+        ensures { result ≡ first_world seed 0 limits }
+    {
+        State {
+            vars: Vars::new(alloc),
+            history: Vec::new(alloc),
+            timer: Timer::Off,
+            budget: 0,
+            turns: 0,
+            generator: Gen::new(seed),
+            limits,
+        }
+    }
+}

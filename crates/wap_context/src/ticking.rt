@@ -1,0 +1,80 @@
+//! Time that passes on a card (WAP-191, section 11.7).
+ghost use Rattle.std.specs.Prelude.{◌≡◌, OnOk};
+ghost use Rattle.wap_world.specs.Screens.{at_place};
+ghost use Rattle.wap_context.specs.Acting.{tick};
+ghost use Rattle.wap_context.specs.Browsers.{place_held};
+ghost use Rattle.wap_context.specs.inside.Moving.{PlaysAt, Pursues};
+ghost use Rattle.wap_context.specs.inside.Ticking.{left_at, end_place, run_out};
+
+use crate::context::Context;
+use crate::here::here;
+use std::alloc::Global;
+use wap_base::{NoMemory, Rows, RunErr, Text};
+use wap_cardrules::Event;
+use wap_screens::add_refusal;
+use wap_site::Pages;
+use wap_world::{Refusal, Timer};
+
+impl Context {
+    /// What remains of the timer of the current card, while it runs.
+    fn time_left(&self) -> Option<u32>
+        ensures { result ≡ left_at (place_held self.now) self.now.world.timer }
+    {
+        if !self.has_card() {
+            return None;
+        }
+        match self.timer() {
+            Timer::Running(left) => Some(left),
+            Timer::NotStarted | Timer::Off => None,
+        }
+    }
+
+    /// The timer of the current card, if there is one, has run out.
+    fn end_timer(&mut self, alloc: Global, lines: &mut Rows<Text>) -> Result<(), NoMemory>
+        ensures { OnOk result
+            (PlaysAt (at_place end_place) self.old self.new lines.old lines.new) }
+    {
+        let number = self.state.card_number();
+        match here(&self.deck, number) {
+            Some(here) => self.state.end_timer(alloc, &here.card, lines),
+            None => Ok(()),
+        }
+    }
+
+    /// The timer has run out, and the task of its event follows, if there is one.
+    fn run_out<P: Pages>(
+        &mut self,
+        alloc: Global,
+        pages: &mut P,
+        lines: &mut Rows<Text>,
+    ) -> Result<(), RunErr>
+        ensures { Pursues run_out
+            (P.seen pages.old) (P.seen pages.new) self.old self.new lines.old lines.new result }
+    {
+        self.end_timer(alloc, lines)?;
+        let task = self.event_task(alloc, Event::Timer)?;
+        self.follow(alloc, pages, task, lines)
+    }
+
+    /// Lets so many tenths of a second pass: less than remains of the timer, or all.
+    pub(crate) fn pass_time<P: Pages>(
+        &mut self,
+        alloc: Global,
+        pages: &mut P,
+        time: u32,
+        lines: &mut Rows<Text>,
+    ) -> Result<(), RunErr>
+        ensures { Pursues (tick time)
+            (P.seen pages.old) (P.seen pages.new) self.old self.new lines.old lines.new result }
+    {
+        let Some(left) = self.time_left() else {
+            add_refusal(alloc, Refusal::Ignored, lines)?;
+            return Ok(());
+        };
+        if time < left {
+            self.state.timer = Timer::Running(left - time);
+            return Ok(());
+        }
+        self.run_out(alloc, pages, lines)
+    }
+}

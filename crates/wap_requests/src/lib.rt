@@ -1,0 +1,14 @@
+//! Requests: the URL of a go or an open, what a go asks for and the line that it shows, and who may
+//! enter the page that answers. What these are stands in `wap_world`.
+#![tactic(auto)]
+
+mod access;
+mod forms;
+mod lines;
+mod requests;
+mod urls;
+
+pub use access::may_enter;
+pub use lines::request_line;
+pub use requests::{Request, plain_get, request_of};
+pub use urls::{is_same_page, target};

@@ -1,0 +1,9 @@
+//! The screen of a card, and the lines of refusals and variables. What these are stands in
+//! `wap_world`.
+#![tactic(auto)]
+
+mod lines;
+mod screen;
+
+pub use lines::{add_fault_lines, add_refusal};
+pub use screen::add_screen;

@@ -1,0 +1,107 @@
+//! Lines that are shown.
+ghost use Rattle.std.specs.Prelude.{◌≡◌, ◌++◌, ◌∷◌, [], codes, IfOk, OnOk};
+ghost use Rattle.std.specs.Str.{chars};
+ghost use Rattle.std.specs.List.{flat_map};
+ghost use Rattle.wap_world.specs.Lines.{word_of, refusal_line, marked, title_line, do_line};
+ghost use Rattle.wap_world.specs.Setting.{fault_lines};
+
+use std::alloc::Global;
+use wap_base::{NoMemory, Rows, Text};
+use wap_vars::VarFault;
+use wap_world::Refusal;
+
+/// The word of a refusal.
+#[tactic(auto, using(crate::proofs::Words::words))]
+fn word_of(refusal: Refusal) -> &'static str
+    ensures { chars result.now ≡ word_of refusal }
+{
+    match refusal {
+        Refusal::Budget => "budget",
+        Refusal::Url => "url",
+        Refusal::Scheme => "scheme",
+        Refusal::Missing => "missing",
+        Refusal::Refused => "refused",
+        Refusal::Denied => "denied",
+        Refusal::First => "first",
+        Refusal::Ignored => "ignored",
+        Refusal::Mask => "mask",
+        Refusal::Full => "full",
+        Refusal::Long => "long",
+    }
+}
+
+/// The line of a refusal.
+#[tactic(auto, using(crate::proofs::Words::words))]
+fn refusal_line(alloc: Global, refusal: Refusal) -> Result<Text, NoMemory>
+    ensures { IfOk result (λ line. line ≡ refusal_line refusal) }
+{
+    let mut line = Text::new(alloc);
+    line.add("! ")?;
+    line.add(word_of(refusal))?;
+    Ok(line)
+}
+
+/// Appends the line of a refusal.
+pub fn add_refusal(alloc: Global, refusal: Refusal, lines: &mut Rows<Text>) -> Result<(), NoMemory>
+    ensures { OnOk result (lines.new ≡ lines.old ++ refusal_line refusal ∷ []) }
+{
+    lines.add(refusal_line(alloc, refusal)?)
+}
+
+/// Appends the line of a set that was refused; a name that is none of a variable is passed over.
+fn add_fault_line(alloc: Global, fault: VarFault, lines: &mut Rows<Text>) -> Result<(), NoMemory>
+    ensures { OnOk result (lines.new ≡ lines.old ++ fault_lines fault) }
+{
+    match fault {
+        VarFault::TooLong { bytes: _ } => add_refusal(alloc, Refusal::Long, lines),
+        VarFault::Full => add_refusal(alloc, Refusal::Full, lines),
+        VarFault::BadName | VarFault::NoMemory => Ok(()),
+    }
+}
+
+/// Appends a line for each set that was refused.
+pub fn add_fault_lines(
+    alloc: Global,
+    faults: &[VarFault],
+    lines: &mut Rows<Text>,
+) -> Result<(), NoMemory>
+    ensures { OnOk result (lines.new ≡ lines.old ++ flat_map fault_lines faults.now) }
+{
+    for fault in faults {
+        add_fault_line(alloc, *fault, lines)?;
+    }
+    Ok(())
+}
+
+/// Appends a text behind a space to a line, if there is some.
+fn add_marked(line: &mut Text, text: &Text) -> Result<(), NoMemory>
+    ensures { OnOk result (line.new ≡ marked line.old text.now) }
+{
+    if text.is_empty() {
+        return Ok(());
+    }
+    line.push(' ')?;
+    line.add(text.as_str())
+}
+
+/// The line of a title.
+pub fn title_line(alloc: Global, title: &Text) -> Result<Text, NoMemory>
+    ensures { IfOk result (λ line. line ≡ title_line title.now) }
+{
+    let mut line = Text::new(alloc);
+    line.push('=')?;
+    add_marked(&mut line, title)?;
+    Ok(line)
+}
+
+/// The line of a do, by its name and its label.
+#[tactic(auto, using(crate::proofs::Words::words))]
+pub fn do_line(alloc: Global, one: &(Text, Text)) -> Result<Text, NoMemory>
+    ensures { IfOk result (λ line. line ≡ do_line one.now) }
+{
+    let mut line = Text::new(alloc);
+    line.add("* ")?;
+    line.add(one.0.as_str())?;
+    add_marked(&mut line, &one.1)?;
+    Ok(line)
+}
