@@ -1,0 +1,160 @@
+-- Calls of a context, and of what is built on one, by their rules.
+use Rattle.std.proofs.Common.{◌≡◌, ℕ, List, Option, Some, None, Result, Ok, Err, sym, ap, subst, ◌∙◌}
+use Rattle.std.specs.Prelude.{IsErrAnd}
+use Rattle.std.proofs.lemmas.Result.{err_from_is_err_and}
+use Rattle.wap_base.specs.declared.fault.RunErr.{RunErr}
+use Rattle.wap_base.specs.declared.fault.RunErr.TheVariants as run
+use Rattle.wap_site.specs.Pages.{Pages}
+use Rattle.wap_site.specs.Misses.{Asked}
+use Rattle.wap_site.specs.Asking.{Seen, Stays, Asks, Fails}
+use Rattle.wap_world.specs.World.{World}
+use Rattle.wap_world.specs.Steps.{Step}
+use Rattle.wap_context.specs.Browsers.{Browser, IsOver, IfOver}
+use Rattle.wap_context.specs.Acting.{Follows, Acts}
+use Rattle.wap_session.specs.inside.Turns.{with_budget}
+
+-- ---- steps that come to the same but for their lines
+
+pub record After (change : List (List ℕ) → List (List ℕ)) (one other : Step) : Type 0 where
+  pub world : other.world ≡ one.world
+  pub lines : other.lines ≡ change one.lines
+  pub asked : other.asked ≡ one.asked
+
+-- a rule from one browser, and another from a browser before
+abbrev pub LeadsTo : (List (List ℕ) → List (List ℕ)) → (one other : Pages → World → Step)
+    → (mid old : Browser) → Type 0
+LeadsTo change one other mid old = (pages : Pages) → IsOver pages old
+    → IsOver pages mid × After change (one pages mid.world) (other pages old.world)
+
+over_by : (contents : Option Pages) (mid old : Browser) (P Q : Pages → Type 0)
+    → ((pages : Pages) → IsOver pages old → IsOver pages mid × (P pages → Q pages))
+    → IfOver contents mid P → IfOver contents old Q
+over_by None mid old P Q by so = tt
+over_by (Some pages) mid old P Q by so = λ is. (by pages is).1 (so (by pages is).0)
+
+module _ (change : List (List ℕ) → List (List ℕ)) (one other : Pages → World → Step)
+    (before after : Seen) (mid old new : Browser) (leads : LeadsTo change one other mid old) where
+  follows_by : (lines : List (List ℕ)) → (contents : Option Pages)
+      → IfOver contents mid (λ pages. Follows pages (one pages mid.world) new lines)
+      → IfOver contents old (λ pages. Follows pages (other pages old.world) new (change lines))
+  follows_by lines contents so =
+      over_by contents mid old (λ pages. Follows pages (one pages mid.world) new lines)
+      (λ pages. Follows pages (other pages old.world) new (change lines))
+      (λ pages is. (
+        (leads pages is).0,
+        λ follows. record {
+          leads = follows.leads ∙ sym (leads pages is).1.world;
+          tells = ap change follows.tells ∙ sym (leads pages is).1.lines;
+          over = follows.over;
+        },
+      )) so
+
+  asks_by : (contents : Option Pages)
+      → IfOver contents mid (λ pages. Asks (one pages mid.world).asked before after)
+      → IfOver contents old (λ pages. Asks (other pages old.world).asked before after)
+  asks_by contents so =
+      over_by contents mid old (λ pages. Asks (one pages mid.world).asked before after)
+      (λ pages. Asks (other pages old.world).asked before after)
+      (λ pages is. (
+        (leads pages is).0,
+        subst (λ (asked : List Asked). Asks asked before after)
+            (sym (leads pages is).1.asked),
+      )) so
+
+  fails_by : (contents : Option Pages)
+      → IfOver contents mid (λ pages. Fails (one pages mid.world).asked before after)
+      → IfOver contents old (λ pages. Fails (other pages old.world).asked before after)
+  fails_by contents so =
+      over_by contents mid old (λ pages. Fails (one pages mid.world).asked before after)
+      (λ pages. Fails (other pages old.world).asked before after)
+      (λ pages is. (
+        (leads pages is).0,
+        subst (λ (asked : List Asked). Fails asked before after)
+            (sym (leads pages is).1.asked),
+      )) so
+
+  pub Acts-ok : (lines shown : List (List ℕ)) → shown ≡ change lines
+      → Acts one before after mid new (Ok lines) → Acts other before after old new (Ok shown)
+  Acts-ok lines shown changed so =
+      subst (λ (last : List (List ℕ)). Acts other before after old new (Ok last)) (sym changed)
+      (record {
+        follows = follows_by lines before.contents so.follows;
+        asks = asks_by before.contents so.asks;
+        steady = so.steady;
+        failed = λ is. absurd cc;
+        missed = λ is. absurd cc;
+        stays = so.stays;
+      })
+
+  pub Acts-err : (fault : RunErr) → Acts one before after mid new (Err fault)
+      → Acts other before after old new (Err fault)
+  Acts-err fault so = record {
+    follows = tt;
+    asks = tt;
+    steady = tt;
+    failed = so.failed;
+    missed = λ is. fails_by before.contents (so.missed is);
+    stays = so.stays;
+  }
+
+-- ---- want of memory
+
+pub Acts-wants : (rule : Pages → World → Step) (before after : Seen) (old new : Browser)
+    (result : Result (List (List ℕ)) RunErr)
+    → Stays before after → IsErrAnd result (λ (fault : RunErr). fault ≡ run.NoMemory)
+    → Acts rule before after old new result
+Acts-wants rule before after old new result stays wants =
+    let (fault, is, none) = err_from_is_err_and result wants in
+    subst (λ (last : Result (List (List ℕ)) RunErr). Acts rule before after old new last)
+    (sym (is ∙ ap Err none)) (record {
+      follows = tt;
+      asks = tt;
+      steady = tt;
+      failed = λ is. absurd cc;
+      missed = λ is. absurd cc;
+      stays = stays;
+    })
+
+-- ---- turns
+
+budget_follows : (rule : Pages → World → Step) (budget : ℕ) (old new : Browser)
+    (lines : List (List ℕ))
+    → ((pages : Pages) → (rule pages old.world).world.budget ≡ budget)
+    → (contents : Option Pages)
+    → IfOver contents old (λ pages. Follows pages (rule pages old.world) new lines)
+    → IfOver contents old
+    (λ pages. Follows pages (rule pages old.world) (with_budget budget new) lines)
+budget_follows rule budget old new lines same None so = tt
+budget_follows rule budget old new lines same (Some pages) so = λ is.
+    let follows = so is in
+    let world = (rule pages old.world).world in
+    record {
+      leads = ap (λ (one : World). record one { budget = budget }) follows.leads
+          ∙ ap (λ (count : ℕ). record world { budget = count }) (sym (same pages));
+      tells = follows.tells;
+      over = follows.over;
+    }
+
+-- a rule that keeps the turns that each key has
+pub Acts-budget : (rule : Pages → World → Step) (budget : ℕ) (before after : Seen)
+    (old new : Browser)
+    → ((pages : Pages) → (rule pages old.world).world.budget ≡ budget)
+    → (result : Result (List (List ℕ)) RunErr)
+    → Acts rule before after old new result
+    → Acts rule before after old (with_budget budget new) result
+Acts-budget rule budget before after old new same (Ok lines) so = record {
+  follows = budget_follows rule budget old new lines same before.contents so.follows;
+  asks = so.asks;
+  steady = so.steady;
+  failed = so.failed;
+  missed = so.missed;
+  stays = so.stays;
+}
+Acts-budget rule budget before after old new same (Err fault) so = record {
+  follows = tt;
+  asks = tt;
+  steady = tt;
+  failed = so.failed;
+  missed = so.missed;
+  stays = so.stays;
+}

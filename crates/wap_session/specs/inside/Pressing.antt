@@ -1,0 +1,13 @@
+-- A key that asks for no pages, as a scene.
+use Rattle.std.specs.Prelude.{ℕ, List}
+use Rattle.std.specs.Option.{option_map_or}
+use Rattle.wap_site.specs.Pages.{Pages}
+use Rattle.wap_world.specs.World.{World, place_now}
+use Rattle.wap_world.specs.Steps.{Scene}
+use Rattle.wap_world.specs.Keys.{ignored, type_text}
+
+-- a text that is entered
+abbrev pub typed : ℕ → List ℕ → Pages → World → Scene
+typed n text pages world =
+    option_map_or (λ place. type_text pages n text place world) (place_now pages world)
+    (ignored world)

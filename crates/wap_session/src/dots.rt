@@ -1,0 +1,65 @@
+//! Control characters are shown as dots.
+ghost use Rattle.std.specs.Prelude.{◌≡◌, map, IfOk};
+ghost use Rattle.std.specs.List.{list_any};
+ghost use Rattle.std.specs.Str.{chars};
+ghost use Rattle.wap_world.specs.Lines.{shown_character, shown_line};
+ghost use Rattle.wap_session.specs.inside.Dots.{is_control};
+
+use std::alloc::Global;
+use wap_base::{NoMemory, Rows, Text};
+
+/// Whether a character is a control character.
+fn is_control(character: char) -> bool
+    ensures { result ≡ is_control character }
+{
+    character < ' ' || character == '\x7f'
+}
+
+/// Whether a text has a control character.
+fn has_control(text: &str) -> bool
+    ensures { result ≡ list_any is_control (chars text.now) }
+{
+    text.chars().any(|character| is_control(character))
+}
+
+/// A character as it is shown.
+fn shown_character(character: char) -> char
+    ensures { result ≡ shown_character character }
+{
+    if is_control(character) {
+        return '.';
+    }
+    character
+}
+
+/// A copy of a line as it is shown.
+fn with_dots(alloc: Global, line: &Text) -> Result<Text, NoMemory>
+    ensures { IfOk result (λ shown. shown ≡ shown_line line.now) }
+{
+    let mut shown = Text::new(alloc);
+    for character in line.as_str().chars() {
+        shown.push(shown_character(character))?;
+    }
+    Ok(shown)
+}
+
+/// A line as it is shown; one without control characters is kept.
+fn shown_line(alloc: Global, line: Text) -> Result<Text, NoMemory>
+    ensures { IfOk result (λ shown. shown ≡ shown_line line) }
+{
+    if has_control(line.as_str()) {
+        return with_dots(alloc, &line);
+    }
+    Ok(line)
+}
+
+/// Lines as they are shown.
+pub(crate) fn shown_lines(alloc: Global, lines: Rows<Text>) -> Result<Rows<Text>, NoMemory>
+    ensures { IfOk result (λ shown. shown ≡ map shown_line lines) }
+{
+    let mut shown = Rows::new(alloc);
+    for line in lines.into_vec() {
+        shown.add(shown_line(alloc, line)?)?;
+    }
+    Ok(shown)
+}

@@ -1,0 +1,207 @@
+//! What each key does, one function for each that is more than one call.
+ghost use Rattle.std.specs.Prelude.{◌≡◌, ◌∷◌, [], IfOk};
+ghost use Rattle.std.specs.Option.{option_and_then};
+ghost use Rattle.wap_cardrules.specs.Dos.{do_task};
+ghost use Rattle.wap_cardrules.specs.Fields.{link_task};
+ghost use Rattle.wap_input.specs.declared.key.Key.TheVariants as the_keys;
+ghost use Rattle.wap_world.specs.Lines.{refusal_line};
+ghost use Rattle.wap_world.specs.Steps.{behind};
+ghost use Rattle.wap_world.specs.Screens.{show, show_screen, refuse};
+ghost use Rattle.wap_world.specs.Keys.{ignored, act_or, apply};
+ghost use Rattle.wap_context.specs.Browsers.{place_held, Shows};
+ghost use Rattle.wap_context.specs.Acting.{Acts};
+ghost use Rattle.wap_session.specs.inside.Pressing.{typed};
+
+use crate::lines::{add_lines, refused, variable_lines};
+use std::alloc::Global;
+use wap_base::{NoMemory, Rows, RunErr, Text};
+use wap_cardrules::{Chosen, Entered, Task};
+use wap_cards::{do_task, link_task};
+use wap_context::Context;
+use wap_input::Key;
+use wap_screens::add_fault_lines;
+use wap_site::Pages;
+use wap_world::Refusal;
+
+/// Plays a key, which has its turns already, and gives its lines as they are.
+///
+/// # Errors
+/// `Store` where a page couldn't be fetched, and `NoMemory`.
+pub(crate) fn press<P: Pages>(
+    context: &mut Context,
+    alloc: Global,
+    key: &Key,
+    pages: &mut P,
+) -> Result<Rows<Text>, RunErr>
+    ensures { Acts (λ told world. apply told [] world key.now)
+        (P.seen pages.old) (P.seen pages.new) context.old context.new result }
+{
+    match key {
+        Key::Open(url) => context.open(alloc, pages, url),
+        Key::Do(name) => run_do(context, alloc, name, pages),
+        Key::Pick(number) => follow_link(context, alloc, *number, pages),
+        Key::Enter(number, text) => Ok(enter_text(context, alloc, *number, text)?),
+        Key::Choose(field, option) => choose_option(context, alloc, *field, *option, pages),
+        Key::Back => go_back(context, alloc, pages),
+        Key::Tick(time) => context.tick(alloc, pages, *time),
+        Key::Ok | Key::Cancel | Key::Answer(_) | Key::Stop => Ok(refused(alloc, Refusal::Ignored)?),
+        Key::Vars => Ok(variable_lines(alloc, context.vars())?),
+    }
+}
+
+/// Takes a task; without one the key fits nothing.
+fn act_or_ignore<P: Pages>(
+    context: &mut Context,
+    alloc: Global,
+    task: Option<Task>,
+    pages: &mut P,
+) -> Result<Rows<Text>, RunErr>
+    ensures { Acts (λ told world. act_or (ignored world) told [] world task)
+        (P.seen pages.old) (P.seen pages.new) context.old context.new result }
+{
+    match task {
+        Some(task) => context.act(alloc, pages, task),
+        None => Ok(refused(alloc, Refusal::Ignored)?),
+    }
+}
+
+/// Takes a task; without one the card is shown.
+fn act_or_show<P: Pages>(
+    context: &mut Context,
+    alloc: Global,
+    task: Option<Task>,
+    pages: &mut P,
+) -> Result<Rows<Text>, RunErr>
+    ensures { Acts (λ told world. act_or (show told world) told [] world task)
+        (P.seen pages.old) (P.seen pages.new) context.old context.new result }
+{
+    match task {
+        Some(task) => context.act(alloc, pages, task),
+        None => Ok(context.show(alloc)?),
+    }
+}
+
+/// The task of the active do of a name, if there is one.
+fn task_of_do(context: &Context, alloc: Global, name: &Text) -> Result<Option<Task>, NoMemory>
+    ensures { IfOk result (λ task. task ≡ option_and_then
+        (λ place. do_task context.now.world.vars place.deck place.card name.now)
+        (place_held context.now)) }
+{
+    match (context.deck(), context.card()) {
+        (Some(deck), Some(card)) => do_task(alloc, deck, &card, name, context.vars()),
+        (Some(_), None) | (None, _) => Ok(None),
+    }
+}
+
+/// Runs the do of a name.
+fn run_do<P: Pages>(
+    context: &mut Context,
+    alloc: Global,
+    name: &Text,
+    pages: &mut P,
+) -> Result<Rows<Text>, RunErr>
+    ensures { Acts (λ told world. apply told [] world (the_keys.Do name.now))
+        (P.seen pages.old) (P.seen pages.new) context.old context.new result }
+{
+    let task = task_of_do(context, alloc, name)?;
+    act_or_ignore(context, alloc, task, pages)
+}
+
+/// The task of the link of a number, if there is one.
+fn task_of_link(context: &Context, alloc: Global, number: u16) -> Result<Option<Task>, NoMemory>
+    ensures { IfOk result (λ task. task ≡ option_and_then
+        (λ place. link_task context.now.world.vars place.card number) (place_held context.now)) }
+{
+    match context.card() {
+        Some(card) => link_task(alloc, &card, number, context.vars()),
+        None => Ok(None),
+    }
+}
+
+/// Follows the link of a number.
+fn follow_link<P: Pages>(
+    context: &mut Context,
+    alloc: Global,
+    number: u16,
+    pages: &mut P,
+) -> Result<Rows<Text>, RunErr>
+    ensures { Acts (λ told world. apply told [] world (the_keys.Pick number))
+        (P.seen pages.old) (P.seen pages.new) context.old context.new result }
+{
+    let task = task_of_link(context, alloc, number)?;
+    act_or_ignore(context, alloc, task, pages)
+}
+
+/// Goes back to the card before, once a card was entered.
+fn go_back<P: Pages>(
+    context: &mut Context,
+    alloc: Global,
+    pages: &mut P,
+) -> Result<Rows<Text>, RunErr>
+    ensures { Acts (λ told world. apply told [] world the_keys.Back)
+        (P.seen pages.old) (P.seen pages.new) context.old context.new result }
+{
+    if context.has_card() {
+        return context.act(alloc, pages, Task::Prev(Rows::new(alloc)));
+    }
+    Ok(refused(alloc, Refusal::Ignored)?)
+}
+
+/// Lines, and then the screen of the current card alone.
+fn then_screen(context: &Context, alloc: Global, refusal: Refusal) -> Result<Rows<Text>, NoMemory>
+    ensures { IfOk result (λ lines. Shows context.now context.now lines
+        (λ told world. behind (refusal_line refusal ∷ []) (show_screen told world))) }
+{
+    let mut lines = refused(alloc, refusal)?;
+    add_lines(&mut lines, context.screen(alloc)?)?;
+    Ok(lines)
+}
+
+/// A refusal, and then the current card.
+fn refuse(context: &mut Context, alloc: Global, refusal: Refusal) -> Result<Rows<Text>, NoMemory>
+    ensures { IfOk result (λ lines. Shows context.old context.new lines
+        (λ told world. refuse told refusal world)) }
+{
+    let mut lines = refused(alloc, refusal)?;
+    add_lines(&mut lines, context.show(alloc)?)?;
+    Ok(lines)
+}
+
+/// Enters a text into the field of a number.
+fn enter_text(
+    context: &mut Context,
+    alloc: Global,
+    number: u16,
+    text: &Text,
+) -> Result<Rows<Text>, NoMemory>
+    ensures { IfOk result (λ lines. Shows context.old context.new lines (typed number text.now)) }
+{
+    match context.enter_text(alloc, number, text)? {
+        Entered::NoInput => refused(alloc, Refusal::Ignored),
+        Entered::Refused => then_screen(context, alloc, Refusal::Mask),
+        Entered::Full => refuse(context, alloc, Refusal::Full),
+        Entered::Set => context.show(alloc),
+    }
+}
+
+/// Chooses in the field of a number the option of another.
+fn choose_option<P: Pages>(
+    context: &mut Context,
+    alloc: Global,
+    field: u16,
+    option: u16,
+    pages: &mut P,
+) -> Result<Rows<Text>, RunErr>
+    ensures { Acts (λ told world. apply told [] world (the_keys.Choose field option))
+        (P.seen pages.old) (P.seen pages.new) context.old context.new result }
+{
+    match context.choose(alloc, field, option)? {
+        Chosen::NoOption => Ok(refused(alloc, Refusal::Ignored)?),
+        Chosen::Set(faults, task) => {
+            let mut lines = Rows::new(alloc);
+            add_fault_lines(alloc, faults.as_slice(), &mut lines)?;
+            add_lines(&mut lines, act_or_show(context, alloc, task, pages)?)?;
+            Ok(lines)
+        }
+    }
+}
