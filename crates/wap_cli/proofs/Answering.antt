@@ -5,11 +5,11 @@ use Rattle.wap_base.specs.Contents.{answer_of}
 use Rattle.wap_base.specs.Count.{Rose}
 use Rattle.wap_base.specs.Transfer.{Appends, AppendsFront}
 use Rattle.wap_words.specs.declared.words.PageCommand.{PageCommand}
-use Rattle.wap_inspect.specs.declared.fault.PageFault.{PageFault}
-use Rattle.wap_inspect.specs.declared.fault.PageFault.TheVariants.{Missing}
-use Rattle.wap_inspect.specs.declared.fault.PageErr.{PageErr}
-use Rattle.wap_inspect.specs.declared.fault.PageErr.TheVariants as error
-use Rattle.wap_cli.specs.declared.status.Status.TheVariants.{Refused, NoMemory}
+use Rattle.wap_pages.specs.declared.fault.PageFault.{PageFault}
+use Rattle.wap_pages.specs.declared.fault.PageFault.TheVariants.{Missing}
+use Rattle.wap_pages.specs.declared.fault.PageErr.{PageErr}
+use Rattle.wap_pages.specs.declared.fault.PageErr.TheVariants as error
+use Rattle.wap_status.specs.declared.status.Status.TheVariants.{Refused, NoMemory}
 use Rattle.wap_cli.specs.Answers.{IsText, IsReason, Answers, page_of, refused_by, written_so}
 
 pub page_answered : (page : Option (List ℕ)) → page_of (answer_of page) ≡ page

@@ -1,10 +1,3 @@
-pub mod UrlLaws
-pub mod TextLaws
-pub mod Apart
-pub mod Sessions
-pub mod Printing
-pub mod Screens
-pub mod Plans
-pub mod Steps
-pub mod Browsing
 pub mod Answering
+pub mod Forgetting
+pub mod Serving

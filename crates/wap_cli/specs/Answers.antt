@@ -6,16 +6,15 @@ use Rattle.wap_base.specs.Count.{Rose}
 use Rattle.wap_base.specs.Transfer.{Appends, AppendsFront}
 use Rattle.wap_words.specs.declared.words.PageCommand.{PageCommand}
 use Rattle.wap_words.specs.declared.words.PageCommand.TheVariants as command
-use Rattle.wap_inspect.specs.declared.fault.PageErr.{PageErr}
-use Rattle.wap_inspect.specs.declared.fault.PageErr.TheVariants as error
-use Rattle.wap_inspect.specs.declared.fault.PageFault.{PageFault}
-use Rattle.wap_inspect.specs.declared.fault.PageFault.TheVariants.{Missing}
+use Rattle.wap_pages.specs.declared.fault.PageErr.{PageErr}
+use Rattle.wap_pages.specs.declared.fault.PageErr.TheVariants as error
+use Rattle.wap_pages.specs.declared.fault.PageFault.{PageFault}
+use Rattle.wap_pages.specs.declared.fault.PageFault.TheVariants.{Missing}
 use Rattle.wap_inspect.specs.Units.{IsVerifyLine, IsListing}
 use Rattle.wap_inspect.specs.Documents.{IsCanonical, IsCheckLine}
 use Rattle.wap_inspect.specs.Refusals.{RefusesUnit, RefusesVerify, RefusesDocument, RefusesCheck}
-use Rattle.wap_cli.specs.declared.status.Status.{Status}
-use Rattle.wap_cli.specs.declared.status.Status.TheVariants.{Done, Refused, StoreFault, WriteFault, NoMemory}
-use Rattle.wap_cli.specs.Statuses.{IsOfPage}
+use Rattle.wap_status.specs.declared.status.Status.{Status}
+use Rattle.wap_status.specs.declared.status.Status.TheVariants.{Done, Usage, Refused, StoreFault, KeyReadFault, WriteFault, NoMemory, BadKey, TooManyKeys}
 
 -- the text that a command writes for a page with these bytes
 abbrev pub IsText : PageCommand → List ℕ → List ℕ → Type 0
@@ -44,6 +43,18 @@ IsReasonOf command (Some bytes) fault = IsReason command bytes fault
 abbrev pub page_of : Fetched → Option (List ℕ)
 page_of fetched.Missing = None
 page_of (fetched.Found bytes) = Some bytes
+
+-- a command on one page ends so
+abbrev pub IsOfPage : Status → Type 0
+IsOfPage Done = Unit {0}
+IsOfPage Usage = ⊥
+IsOfPage (Refused fault) = Unit {0}
+IsOfPage StoreFault = Unit {0}
+IsOfPage KeyReadFault = ⊥
+IsOfPage WriteFault = Unit {0}
+IsOfPage NoMemory = Unit {0}
+IsOfPage (BadKey line fault) = ⊥
+IsOfPage TooManyKeys = ⊥
 
 -- what a command comes to on a page that the store told: the sink and its faults before and after, and how it ended
 pub record Answers (command : PageCommand) (page : Option (List ℕ)) (before after : Option (List ℕ)) (faults rest : ℕ)

@@ -1,11 +1,3 @@
-pub mod Urls
-pub mod Scanning
-pub mod Words
-pub mod Judged
-pub mod Opening
-pub mod Refusals
-pub mod Tasks
-pub mod Playing
-pub mod Sessions
-pub mod Statuses
+pub mod Headline
+pub mod Devices
 pub mod Answers

@@ -3,8 +3,7 @@ ghost use Rattle.std.specs.Prelude.{◌≡◌, ◌≢◌, ◌≤◌, ◌<◌, �
 ghost use Rattle.wap_base.specs.Contents.{page_named};
 ghost use Rattle.wap_base.specs.Count.{raised, Rose};
 ghost use Rattle.wap_base.specs.Pages.{IsSmall};
-ghost use Rattle.wap_cli.specs.Answers.{Answers, page_of, refused_by, written_so};
-ghost use Rattle.wap_cli.specs.Statuses.{HasAsked, IsOfPage, IsPlayed};
+ghost use Rattle.wap_cli.specs.Answers.{IsOfPage, Answers, page_of, refused_by, written_so};
 
 use crate::Status;
 use std::alloc::Global;
@@ -115,17 +114,19 @@ pub(crate) fn answer<S: Store, O: Sink>(
     store: &mut S,
     out: &mut O,
 ) -> Status
-    ensures told { result ≢ Status.StoreFault → IfSome (S.contents store.old) (λ pages. Answers command
-        (page_named name.now pages) (O.written out.old) (O.written out.new)
+    ensures told { result ≢ Status.StoreFault → IfSome (S.contents store.old) (λ pages.
+        Answers command (page_named name.now pages) (O.written out.old) (O.written out.new)
         (O.faults out.old) (O.faults out.new) result) }
     ensures ends { IsOfPage result }
-    ensures asked { HasAsked result → S.fetches store.new ≡ raised (S.fetches store.old) }
+    ensures asked { S.fetches store.new ≡ raised (S.fetches store.old) }
     ensures listings { S.listings store.new ≡ S.listings store.old }
-    ensures store_fault { result ≡ Status.StoreFault → Rose (S.faults store.old) (S.faults store.new) }
+    ensures store_fault { result ≡ Status.StoreFault
+        → Rose (S.faults store.old) (S.faults store.new) }
     ensures unwritten { result ≡ Status.StoreFault → O.written out.new ≡ O.written out.old }
-    ensures write_fault { result ≡ Status.WriteFault → Rose (O.faults out.old) (O.faults out.new) }
-    ensures store_steady { IsPlayed result → S.faults store.new ≡ S.faults store.old }
-    ensures write_steady { IsPlayed result → O.faults out.new ≡ O.faults out.old }
+    ensures write_fault { result ≡ Status.WriteFault
+        → Rose (O.faults out.old) (O.faults out.new) }
+    ensures store_steady { result ≡ Status.Done → S.faults store.new ≡ S.faults store.old }
+    ensures write_steady { result ≢ Status.WriteFault → O.faults out.new ≡ O.faults out.old }
     ensures kept { S.contents store.new ≡ S.contents store.old }
     ensures store_faults { S.faults store.old ≤ S.faults store.new }
     ensures sink_faults { O.faults out.old ≤ O.faults out.new }

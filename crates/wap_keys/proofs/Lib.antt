@@ -3,8 +3,8 @@ mod KeyLaws
 mod FormLaws
 mod LineLaws
 mod LineSteps
-mod ReaderLaws
+pub mod ReaderLaws
 mod ReaderSteps
-mod WholeLaws
-mod EndLaws
+pub mod WholeLaws
+pub mod EndLaws
 mod SpellLaws

@@ -5,3 +5,4 @@ mod Turns
 mod Simulation
 mod TextLaws
 mod Parsing
+pub mod Ranges

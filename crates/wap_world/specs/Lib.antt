@@ -12,4 +12,3 @@ pub mod Requests
 pub mod Tasks
 pub mod Keys
 pub mod Sessions
-pub mod first

@@ -1,20 +1,31 @@
-use Rattle.std.proofs.Common.{sym, subst}
-use Rattle.wap_cli.specs.Statuses.{IsPlayed}
-use Rattle.wap_cli.proofs.Browsing.{done_ends, bad_key_ends, too_many_ends, nothing_told}
+use Rattle.wap_words.specs.Words.{command}
+use Rattle.wap_words.proofs.Ranges.{cache_range}
+use Rattle.wap_cli.proofs.Serving.{nothing_runs}
 use Rattle.wap_cli.proofs.commands.run.Goals as goal
 
-pub returns-in-Ok-Some-Browse-clause-done : goal.returns-in-Ok-Some-Browse-clause-done
-returns-in-Ok-Some-Browse-clause-done g c = λ url said is.
-    done_ends (g.I.Source.left c.args.keys.now) c.browse.result is (c.browse.ensures.ends (subst IsPlayed (sym is) tt))
+pub browse-requires-clause-some : goal.browse-requires-clause-some
+browse-requires-clause-some g c =
+    let said = c.in-Ok-Some-Browse.ensures in
+    let outer = c.in-Ok-Some-Browse.field-0-is in
+    let inner = c.in-Ok-Some-Browse.field-0-0-is in
+    (cache_range c.args.words.now c.in-Ok-Some-Browse.begun cc).0
 
-pub returns-in-Ok-Some-Browse-clause-bad_key : goal.returns-in-Ok-Some-Browse-clause-bad_key
-returns-in-Ok-Some-Browse-clause-bad_key g c = λ line fault is.
-    bad_key_ends (g.I.Source.left c.args.keys.now) c.browse.result line fault is (c.browse.ensures.ends (subst IsPlayed (sym is) tt))
+pub browse-requires-clause-few : goal.browse-requires-clause-few
+browse-requires-clause-few g c =
+    let said = c.in-Ok-Some-Browse.ensures in
+    let outer = c.in-Ok-Some-Browse.field-0-is in
+    let inner = c.in-Ok-Some-Browse.field-0-0-is in
+    (cache_range c.args.words.now c.in-Ok-Some-Browse.begun cc).1
 
-pub returns-in-Ok-Some-Browse-clause-too_many_keys : goal.returns-in-Ok-Some-Browse-clause-too_many_keys
-returns-in-Ok-Some-Browse-clause-too_many_keys g c = λ is.
-    too_many_ends (g.I.Source.left c.args.keys.now) c.browse.result is (c.browse.ensures.ends (subst IsPlayed (sym is) tt))
-
-pub returns-in-Err-clause-front : goal.returns-in-Err-clause-front
-returns-in-Err-clause-front g c = λ url is.
-    nothing_told (g.S.Store.contents c.args.store) (g.I.Source.left c.args.keys.now) url (g.O.Sink.written c.args.out.now)
+pub returns-in-Err : goal.returns-in-Err
+returns-in-Err g c = nothing_runs (command c.args.words.now) (record {
+  contents = g.S.Store.contents c.args.store;
+  fetches = g.S.Store.fetches c.args.store;
+  listings = g.S.Store.listings c.args.store;
+  store_faults = g.S.Store.faults c.args.store;
+  left = g.I.Source.left c.args.keys.now;
+  ends = g.I.Source.ends c.args.keys.now;
+  read_faults = g.I.Source.faults c.args.keys.now;
+  written = g.O.Sink.written c.args.out.now;
+  write_faults = g.O.Sink.faults c.args.out.now;
+})

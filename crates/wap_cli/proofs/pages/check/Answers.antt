@@ -1,8 +1,8 @@
-use Rattle.std.proofs.Common.{◌≡◌, ℕ, List, Some, Err, ap, sym, subst}
+use Rattle.std.proofs.Common.{ℕ, List, Some, Err, ap, sym, subst}
 use Rattle.std.specs.Prelude.{OnOk, OnErr}
 use Rattle.wap_base.specs.Transfer.{Appends, AppendsFront}
 use Rattle.wap_words.specs.declared.words.PageCommand.TheVariants as command
-use Rattle.wap_cli.specs.declared.status.Status.{Status}
+use Rattle.wap_status.specs.declared.status.Status.{Status}
 use Rattle.wap_cli.specs.Answers.{Answers}
 use Rattle.wap_cli.proofs.Answering.{answers_text, answers_error, no_value}
 use Rattle.wap_cli.proofs.pages.check.Goals as goal

@@ -1,0 +1,7 @@
+-- What a session is begun with. This project's own.
+use Rattle.wap_world.specs.Sessions.{Begun}
+use Rattle.wap_browse.specs.declared.beginning.Beginning.{Beginning}
+
+abbrev pub begun_with : Beginning → Begun
+begun_with one =
+    record { url = one.url; seed = one.seed; budget = one.budget; limits = one.limits }

@@ -1,0 +1,82 @@
+-- A key that is played, and whose lines are written.
+use Rattle.std.specs.Prelude.{◌≡◌, ℕ, ◌≤◌, false, List, [], Option, Result, Ok, Err}
+use Rattle.wap_base.specs.Count.{Rose}
+use Rattle.wap_base.specs.Transfer.{Appends, AppendsFront}
+use Rattle.wap_input.specs.declared.key.Key.{Key}
+use Rattle.wap_site.specs.Pages.{Pages}
+use Rattle.wap_site.specs.Asking.{Seen, Stays, Asks, Fails}
+use Rattle.wap_world.specs.Lines.{lines_bytes}
+use Rattle.wap_world.specs.Steps.{Step}
+use Rattle.wap_world.specs.Keys.{react}
+use Rattle.wap_world.specs.Sessions.{shown_by}
+use Rattle.wap_context.specs.Browsers.{IsOver, IfOver}
+use Rattle.wap_session.specs.Feeding.{State}
+use Rattle.wap_status.specs.declared.status.Status.{Status}
+use Rattle.wap_status.specs.declared.status.Status.TheVariants.{Done, Usage, Refused, StoreFault, KeyReadFault, WriteFault, NoMemory, BadKey, TooManyKeys}
+
+-- what a key is seen to move: pages, the session, what was written and how often the sink failed
+pub record Moment : Type 0 where
+  pub pages : Seen
+  pub state : State
+  pub written : Option (List ℕ)
+  pub faults : ℕ
+
+-- a fact of a key's step, where the pages are told and have the deck
+abbrev pub IfTold : Key → Moment → (Pages → Step → Type 0) → Type 0
+IfTold key old Fact = IfOver old.pages.contents old.state.browser
+    (λ pages. Fact pages (react pages key [] old.state.browser.world))
+
+-- a step that was played, and its lines written
+pub record Leads (pages : Pages) (step : Step) (old new : Moment) : Type 0 where
+  pub world : new.state.browser.world ≡ step.world
+  pub over : IsOver pages new.state.browser
+  pub asks : Asks step.asked old.pages new.pages
+  pub wrote : Appends old.written new.written (lines_bytes (shown_by step))
+
+-- a step that was played, and a prefix of its lines written
+pub record LeadsPart (step : Step) (old new : Moment) : Type 0 where
+  pub asks : Asks step.asked old.pages new.pages
+  pub wrote : AppendsFront old.written new.written (lines_bytes (shown_by step))
+
+-- ---- what each answer says
+
+pub record GoesOn (key : Key) (old new : Moment) : Type 0 where
+  pub leads : IfTold key old (λ pages step. Leads pages step old new)
+  pub ready : new.state.is_over ≡ false
+  pub stays : Stays old.pages new.pages
+  pub steady : new.pages.faults ≡ old.pages.faults
+  pub write_steady : new.faults ≡ old.faults
+
+pub record FailsAtStore (key : Key) (old new : Moment) : Type 0 where
+  pub rose : Rose old.pages.faults new.pages.faults
+  pub missed : IfTold key old (λ pages step. Fails step.asked old.pages new.pages)
+  pub unwritten : new.written ≡ old.written
+  pub stays : Stays old.pages new.pages
+  pub write_steady : new.faults ≡ old.faults
+
+pub record FailsAtSink (key : Key) (old new : Moment) : Type 0 where
+  pub leads : IfTold key old (λ pages step. LeadsPart step old new)
+  pub rose : Rose old.faults new.faults
+  pub counts : old.faults ≤ new.faults
+  pub stays : Stays old.pages new.pages
+  pub steady : new.pages.faults ≡ old.pages.faults
+
+pub record WantsMemory (old new : Moment) : Type 0 where
+  pub unwritten : new.written ≡ old.written
+  pub stays : Stays old.pages new.pages
+  pub write_steady : new.faults ≡ old.faults
+
+abbrev pub Stops : Status → Key → Moment → Moment → Type 0
+Stops StoreFault key old new = FailsAtStore key old new
+Stops WriteFault key old new = FailsAtSink key old new
+Stops NoMemory key old new = WantsMemory old new
+Stops Done key old new = ⊥
+Stops Usage key old new = ⊥
+Stops (Refused fault) key old new = ⊥
+Stops KeyReadFault key old new = ⊥
+Stops (BadKey line fault) key old new = ⊥
+Stops TooManyKeys key old new = ⊥
+
+abbrev pub Plays : Key → Moment → Moment → {A : Type 0} → Result A Status → Type 0
+Plays key old new (Ok done) = GoesOn key old new
+Plays key old new (Err status) = Stops status key old new

@@ -1,0 +1,56 @@
+//! Browsing.
+ghost use Rattle.wap_browse.specs.Headline.{Browses};
+ghost use Rattle.wap_browse.specs.Beginning.{begun_with};
+
+use crate::Beginning;
+use crate::ending::ended;
+use crate::playing::play;
+use std::alloc::Global;
+use wap_base::{NoMemory, Sink, Source};
+use wap_keys::{Next, Reader};
+use wap_session::{Key, Session};
+use wap_site::Pages;
+use wap_status::Status;
+
+/// Opens the URL, and then plays key after key. The lines of each are written before the next is
+/// read.
+pub fn browse<P: Pages, I: Source, O: Sink>(
+    alloc: Global,
+    begun: Beginning,
+    pages: &mut P,
+    keys: &mut I,
+    out: &mut O,
+) -> Status
+    ensures { Browses (begun_with begun)
+        (record {
+          pages = P.seen pages.old;
+          left = I.left keys.old;
+          ends = I.ends keys.old;
+          read_faults = I.faults keys.old;
+          written = O.written out.old;
+          write_faults = O.faults out.old;
+        })
+        (record {
+          pages = P.seen pages.new;
+          left = I.left keys.new;
+          ends = I.ends keys.new;
+          read_faults = I.faults keys.new;
+          written = O.written out.new;
+          write_faults = O.faults out.new;
+        })
+        result }
+{
+    let mut session = Session::new(alloc, begun.seed, begun.budget, begun.limits);
+    let mut reader = Reader::new(alloc);
+    let mut key = Key::Open(begun.url);
+    loop {
+        if let Err(status) = play(alloc, &mut session, &key, pages, out) {
+            return status;
+        }
+        key = match reader.next(alloc, keys) {
+            Ok(Next::Key(key)) => key,
+            Ok(Next::Ended(ending)) => return ended(ending),
+            Err(NoMemory) => return Status::NoMemory,
+        };
+    }
+}

@@ -1,0 +1,11 @@
+//! Browsing: a session whose keys are read and played one after the other.
+#![tactic(auto)]
+
+mod beginning;
+mod browsing;
+mod ending;
+mod lines;
+mod playing;
+
+pub use beginning::Beginning;
+pub use browsing::browse;

@@ -1,0 +1,49 @@
+//! Playing a key.
+ghost use Rattle.std.specs.Prelude.{◌≡◌, false};
+ghost use Rattle.wap_browse.specs.inside.Played.{Plays};
+
+use crate::lines::lines_bytes;
+use std::alloc::Global;
+use wap_base::{Failed, NoMemory, Sink, write_all};
+use wap_session::{Key, Session, SessionFault};
+use wap_site::Pages;
+use wap_status::Status;
+
+/// Plays a key, and writes the lines that it shows; or answers how the session ends.
+pub(crate) fn play<P: Pages, O: Sink>(
+    alloc: Global,
+    session: &mut Session,
+    key: &Key,
+    pages: &mut P,
+    out: &mut O,
+) -> Result<(), Status>
+    requires { session.old.is_over ≡ false }
+    ensures { Plays key.now
+        (record {
+          pages = P.seen pages.old;
+          state = session.old;
+          written = O.written out.old;
+          faults = O.faults out.old;
+        })
+        (record {
+          pages = P.seen pages.new;
+          state = session.new;
+          written = O.written out.new;
+          faults = O.faults out.new;
+        })
+        result }
+{
+    let lines = match session.feed(alloc, key, pages) {
+        Ok(lines) => lines,
+        Err(SessionFault::Store) => return Err(Status::StoreFault),
+        Err(SessionFault::NoMemory) => return Err(Status::NoMemory),
+        Err(SessionFault::Ended) => unreachable!(),
+    };
+    let Ok(bytes) = lines_bytes(alloc, lines.as_slice()) else {
+        return Err(Status::NoMemory);
+    };
+    match write_all(out, bytes.as_slice()) {
+        Ok(()) => Ok(()),
+        Err(Failed) => Err(Status::WriteFault),
+    }
+}

@@ -1,0 +1,60 @@
+-- What a run comes to where memory is wanting before anything is done.
+use Rattle.std.proofs.Common.{ℕ, List, Option, Some, None, inl, inr, refl, arith}
+use Rattle.wap_base.specs.Contents.{page_named}
+use Rattle.wap_words.specs.declared.words.Command.{Command}
+use Rattle.wap_words.specs.declared.words.Command.TheVariants.{Browse, Page}
+use Rattle.wap_words.specs.declared.words.PageCommand.{PageCommand}
+use Rattle.wap_status.specs.declared.status.Status.TheVariants.{NoMemory}
+use Rattle.wap_browse.proofs.Optional.{if_some}
+use Rattle.wap_browse.proofs.Exits.{nothing_browses}
+use Rattle.wap_browse.proofs.Summary.{browses_by}
+use Rattle.wap_cli.specs.Answers.{Answers}
+use Rattle.wap_cli.specs.Devices.{Devices, browsed}
+use Rattle.wap_cli.specs.Headline.{begun_by, Serves, Runs}
+
+nothing_answered : (command : PageCommand) (page : Option (List ℕ)) (written : Option (List ℕ))
+    (faults : ℕ) → Answers command page written written faults faults NoMemory
+nothing_answered command page written faults = record {
+  done = λ e. absurd cc;
+  refused = λ fault e. absurd cc;
+  accepted = λ text fault has e. absurd cc;
+  prefix = λ e. absurd cc;
+  failed = λ e. absurd cc;
+  quiet = λ undone other. refl;
+  steady = λ e. refl;
+  counts = omega arith;
+  ends = tt;
+  told = λ e. absurd cc;
+}
+
+nothing_served : (command : PageCommand) (name : List ℕ) (old : Devices)
+    → Serves command name old old NoMemory
+nothing_served command name old = record {
+  told = λ other. if_some old.contents
+      (λ pages. Answers command (page_named name pages) old.written old.written
+      old.write_faults old.write_faults NoMemory)
+      (λ pages told. nothing_answered command (page_named name pages) old.written
+      old.write_faults);
+  ends = tt;
+  store_fault = λ e. absurd cc;
+  write_fault = λ e. absurd cc;
+  unwritten = λ e. refl;
+  store_steady = λ e. refl;
+  write_steady = λ e. refl;
+  asked = λ other. absurd (other refl);
+  once = inl refl;
+  listings = refl;
+  unread = refl;
+  unended = refl;
+  unfailed = refl;
+  kept = refl;
+  store_counts = omega arith;
+  write_counts = omega arith;
+}
+
+pub nothing_runs : (said : Option Command) (old : Devices) → Runs said old old NoMemory
+nothing_runs None old = record { ends = inr refl; untouched = refl }
+nothing_runs (Some (Browse one)) old =
+    browses_by (begun_by one) (browsed one.cache old) (browsed one.cache old) NoMemory
+    (nothing_browses (begun_by one) (browsed one.cache old))
+nothing_runs (Some (Page command name)) old = nothing_served command name old

@@ -1,0 +1,61 @@
+//! Browsing over a store.
+ghost use Rattle.std.specs.Prelude.{◌≤◌};
+ghost use Rattle.wap_browse.specs.Headline.{Browses};
+ghost use Rattle.wap_cli.specs.Devices.{browsed};
+ghost use Rattle.wap_cli.specs.Headline.{begun_by};
+
+use crate::Status;
+use std::alloc::Global;
+use wap_base::{Limits, NoMemory, Sink, Source, Store};
+use wap_browse::Beginning;
+use wap_pages::Cached;
+use wap_words::Browse;
+
+/// Browses as the words say, over the pages of the store, and gives the store back.
+pub(crate) fn browse<S: Store, I: Source, O: Sink>(
+    alloc: Global,
+    begun: Browse,
+    store: S,
+    keys: &mut I,
+    out: &mut O,
+) -> (Status, S)
+    requires some { 1 ≤ begun.cache }
+    requires few { begun.cache ≤ 256 }
+    ensures { Browses (begun_by begun)
+        (browsed begun.cache (record {
+          contents = S.contents store;
+          fetches = S.fetches store;
+          listings = S.listings store;
+          store_faults = S.faults store;
+          left = I.left keys.old;
+          ends = I.ends keys.old;
+          read_faults = I.faults keys.old;
+          written = O.written out.old;
+          write_faults = O.faults out.old;
+        }))
+        (browsed begun.cache (record {
+          contents = S.contents result.1;
+          fetches = S.fetches result.1;
+          listings = S.listings result.1;
+          store_faults = S.faults result.1;
+          left = I.left keys.new;
+          ends = I.ends keys.new;
+          read_faults = I.faults keys.new;
+          written = O.written out.new;
+          write_faults = O.faults out.new;
+        }))
+        result.0 }
+{
+    let mut pages = match Cached::new(alloc, store, begun.cache as usize) {
+        Ok(pages) => pages,
+        Err((store, NoMemory)) => return (Status::NoMemory, store),
+    };
+    let begun = Beginning {
+        url: begun.url,
+        seed: begun.seed,
+        budget: begun.budget,
+        limits: Limits::default(),
+    };
+    let status = wap_browse::browse(alloc, begun, &mut pages, keys, out);
+    (status, pages.into_store())
+}
