@@ -1,0 +1,338 @@
+//! Expressions (WAP-193, section 6.3).
+ghost use Rattle.std.specs.Prelude.{◌≡◌, ◌∷◌};
+ghost use Rattle.wap_base.specs.Outcome.{Meets};
+ghost use Rattle.wap_grammar.specs.declared.fault.ParseFault.TheVariants as faults;
+ghost use Rattle.wap_grammar.specs.inside.Steps.{told, items_at};
+ghost use Rattle.wap_grammar.specs.inside.Expressions.{next_argument, arguments_at, named_at, primary_at, unary_at, next_operand, chain_at, branches_at, conditional_at, assignment_at, part_at, expression_at};
+
+use crate::callees::{called, read_callee, read_prefixed, read_variable};
+use crate::literals::literal_of;
+use crate::making::{assignment, chained, choice_of, one, unary};
+use crate::steps::{expect, nested};
+use crate::words::{
+    after, assignment_of, is_comma, is_name, is_sign, operator_of, span_of, step_of, unary_of,
+    word_of,
+};
+use std::alloc::Global;
+use wap_base::Rows;
+use wap_grammar::{ASSIGNMENT, COMMA, CONDITIONAL, Lexeme, ParseFault, Sign, UNARY};
+use wap_program::Expr;
+use wap_value::BinOp;
+
+/// An expression of a level of precedence, with so many levels left for it and its parts, and the
+/// tokens after it. A string whose bytes stand for no text is answered as `NoMemory`.
+#[cycle(expressions)]
+#[tactic(auto, unfolding(wap_grammar::specs::inside::Expressions::expression_at))]
+pub fn read_expression<'a>(
+    alloc: Global,
+    src: &[u8],
+    levels: u32,
+    level: u8,
+    lexemes: &'a [Lexeme],
+) -> Result<(Expr, &'a [Lexeme]), ParseFault>
+    ensures { Meets faults.NoMemory (λ read. (read.0, read.1.now)) result
+        (expression_at src.now levels level lexemes.now) }
+{
+    if levels == 0 {
+        return Err(nested(src, lexemes));
+    }
+    read_part(alloc, src, levels - 1, level, lexemes)
+}
+
+/// An expression of a level of precedence, with so many levels left for its parts.
+#[cycle(expressions)]
+fn read_part<'a>(
+    alloc: Global,
+    src: &[u8],
+    levels: u32,
+    level: u8,
+    lexemes: &'a [Lexeme],
+) -> Result<(Expr, &'a [Lexeme]), ParseFault>
+    ensures { Meets faults.NoMemory (λ read. (read.0, read.1.now)) result
+        (part_at src.now (expression_at src.now levels) level lexemes.now) }
+{
+    if level == UNARY {
+        return read_unary(alloc, src, levels, lexemes);
+    }
+    let tighter = level - 1;
+    if level == CONDITIONAL {
+        return read_conditional(alloc, src, levels, tighter, lexemes);
+    }
+    if level == ASSIGNMENT {
+        return read_assignment(alloc, src, levels, tighter, lexemes);
+    }
+    read_chain(alloc, src, levels, level, tighter, lexemes)
+}
+
+/// Operands of the next tighter level, and operators of a level between them.
+#[cycle(expressions)]
+#[tactic(auto, unfolding(wap_grammar::specs::inside::Expressions::chain_at))]
+fn read_chain<'a>(
+    alloc: Global,
+    src: &[u8],
+    levels: u32,
+    level: u8,
+    tighter: u8,
+    lexemes: &'a [Lexeme],
+) -> Result<(Expr, &'a [Lexeme]), ParseFault>
+    ensures { Meets faults.NoMemory (λ read. (read.0, read.1.now)) result
+        (chain_at level (part_at src.now (expression_at src.now levels) tighter) lexemes.now) }
+{
+    let (first, rest) = read_part(alloc, src, levels, tighter, lexemes)?;
+    let (operands, rest) = read_operands(alloc, src, levels, level, tighter, rest)?;
+    let chain = chained(alloc, first, operands)?;
+    Ok((chain, rest))
+}
+
+/// The operands after the first, each with the operator before it.
+#[cycle(expressions)]
+fn read_operands<'a>(
+    alloc: Global,
+    src: &[u8],
+    levels: u32,
+    level: u8,
+    tighter: u8,
+    lexemes: &'a [Lexeme],
+) -> Result<(Rows<(BinOp, Expr)>, &'a [Lexeme]), ParseFault>
+    ensures { Meets faults.NoMemory (λ read. (read.0, read.1.now)) result
+        (items_at (next_operand level (part_at src.now (expression_at src.now levels) tighter))
+        lexemes.now) }
+{
+    let mut operands = Rows::new(alloc);
+    let mut rest = lexemes;
+    for _ in 0..lexemes.len() {
+        let (operand, behind) = next_operand(alloc, src, levels, level, tighter, rest)?;
+        rest = behind;
+        match operand {
+            Some(operand) => operands.add(operand)?,
+            None => return Ok((operands, rest)),
+        }
+    }
+    Ok((operands, rest))
+}
+
+/// The next operand and the operator before it, or none.
+#[cycle(expressions)]
+#[tactic(auto, unfolding(wap_grammar::specs::inside::Expressions::next_operand))]
+fn next_operand<'a>(
+    alloc: Global,
+    src: &[u8],
+    levels: u32,
+    level: u8,
+    tighter: u8,
+    lexemes: &'a [Lexeme],
+) -> Result<(Option<(BinOp, Expr)>, &'a [Lexeme]), ParseFault>
+    ensures { Meets faults.NoMemory (λ read. (read.0, read.1.now)) result
+        (next_operand level (part_at src.now (expression_at src.now levels) tighter) lexemes.now) }
+{
+    match operator_of(level, word_of(lexemes)) {
+        Some(op) => {
+            let (operand, rest) = read_part(alloc, src, levels, tighter, after(lexemes))?;
+            Ok((Some((op, operand)), rest))
+        }
+        None => Ok((None, lexemes)),
+    }
+}
+
+/// A condition with its branches, or an expression of the next tighter level.
+#[cycle(expressions)]
+#[tactic(auto, unfolding(wap_grammar::specs::inside::Expressions::conditional_at))]
+fn read_conditional<'a>(
+    alloc: Global,
+    src: &[u8],
+    levels: u32,
+    tighter: u8,
+    lexemes: &'a [Lexeme],
+) -> Result<(Expr, &'a [Lexeme]), ParseFault>
+    ensures { Meets faults.NoMemory (λ read. (read.0, read.1.now)) result
+        (conditional_at src.now (expression_at src.now levels)
+        (part_at src.now (expression_at src.now levels) tighter) lexemes.now) }
+{
+    let (condition, rest) = read_part(alloc, src, levels, tighter, lexemes)?;
+    if !is_sign(Sign::Question, rest) {
+        return Ok((condition, rest));
+    }
+    read_branches(alloc, src, levels, condition, after(rest))
+}
+
+/// The branches of a condition, after the `?`.
+#[cycle(expressions)]
+#[tactic(auto, unfolding(wap_grammar::specs::inside::Expressions::branches_at))]
+fn read_branches<'a>(
+    alloc: Global,
+    src: &[u8],
+    levels: u32,
+    condition: Expr,
+    lexemes: &'a [Lexeme],
+) -> Result<(Expr, &'a [Lexeme]), ParseFault>
+    ensures { Meets faults.NoMemory (λ read. (read.0, read.1.now)) result
+        (branches_at src.now (expression_at src.now levels) condition lexemes.now) }
+{
+    let (yes, rest) = read_expression(alloc, src, levels, ASSIGNMENT, lexemes)?;
+    let rest = expect(src, Sign::Colon, rest)?;
+    let (no, rest) = read_expression(alloc, src, levels, ASSIGNMENT, rest)?;
+    let choice = choice_of(alloc, condition, yes, no)?;
+    Ok((choice, rest))
+}
+
+/// An assignment to a variable, or an expression of the next tighter level.
+#[cycle(expressions)]
+#[tactic(auto, unfolding(wap_grammar::specs::inside::Expressions::assignment_at))]
+fn read_assignment<'a>(
+    alloc: Global,
+    src: &[u8],
+    levels: u32,
+    tighter: u8,
+    lexemes: &'a [Lexeme],
+) -> Result<(Expr, &'a [Lexeme]), ParseFault>
+    ensures { Meets faults.NoMemory (λ read. (read.0, read.1.now)) result
+        (assignment_at src.now (expression_at src.now levels)
+        (part_at src.now (expression_at src.now levels) tighter) lexemes.now) }
+{
+    if !is_name(lexemes) {
+        return read_part(alloc, src, levels, tighter, lexemes);
+    }
+    let rest = after(lexemes);
+    match assignment_of(word_of(rest)) {
+        Some(op) => {
+            let (value, rest) = read_expression(alloc, src, levels, ASSIGNMENT, after(rest))?;
+            let assignment = assignment(alloc, src, span_of(lexemes), op, value)?;
+            Ok((assignment, rest))
+        }
+        None => read_part(alloc, src, levels, tighter, lexemes),
+    }
+}
+
+/// A unary operator and its operand, `++` or `--` and a variable, or what has no operator in front.
+#[cycle(expressions)]
+#[tactic(auto, unfolding(wap_grammar::specs::inside::Expressions::unary_at))]
+fn read_unary<'a>(
+    alloc: Global,
+    src: &[u8],
+    levels: u32,
+    lexemes: &'a [Lexeme],
+) -> Result<(Expr, &'a [Lexeme]), ParseFault>
+    ensures { Meets faults.NoMemory (λ read. (read.0, read.1.now)) result
+        (unary_at src.now (expression_at src.now levels) lexemes.now) }
+{
+    let word = word_of(lexemes);
+    if let Some(op) = unary_of(word) {
+        let (operand, rest) = read_expression(alloc, src, levels, UNARY, after(lexemes))?;
+        let unary = unary(alloc, op, operand)?;
+        return Ok((unary, rest));
+    }
+    match step_of(word) {
+        Some(up) => read_prefixed(alloc, src, up, after(lexemes)),
+        None => read_primary(alloc, src, levels, lexemes),
+    }
+}
+
+/// A literal, an expression in parentheses, a call or a variable.
+#[cycle(expressions)]
+#[tactic(auto, unfolding(wap_grammar::specs::inside::Expressions::primary_at))]
+fn read_primary<'a>(
+    alloc: Global,
+    src: &[u8],
+    levels: u32,
+    lexemes: &'a [Lexeme],
+) -> Result<(Expr, &'a [Lexeme]), ParseFault>
+    ensures { Meets faults.NoMemory (λ read. (read.0, read.1.now)) result
+        (primary_at src.now (expression_at src.now levels) lexemes.now) }
+{
+    let literal = literal_of(alloc, src, span_of(lexemes), word_of(lexemes))?;
+    if let Some(literal) = literal {
+        return Ok((Expr::Lit(literal), after(lexemes)));
+    }
+    if !is_sign(Sign::Open, lexemes) {
+        return read_named(alloc, src, levels, lexemes);
+    }
+    let (inside, rest) = read_expression(alloc, src, levels, COMMA, after(lexemes))?;
+    let rest = expect(src, Sign::Close, rest)?;
+    Ok((inside, rest))
+}
+
+/// A call or a variable.
+#[cycle(expressions)]
+#[tactic(auto, unfolding(wap_grammar::specs::inside::Expressions::named_at))]
+fn read_named<'a>(
+    alloc: Global,
+    src: &[u8],
+    levels: u32,
+    lexemes: &'a [Lexeme],
+) -> Result<(Expr, &'a [Lexeme]), ParseFault>
+    ensures { Meets faults.NoMemory (λ read. (read.0, read.1.now)) result
+        (named_at src.now (expression_at src.now levels) lexemes.now) }
+{
+    let (callee, rest) = read_callee(alloc, src, lexemes)?;
+    if !is_sign(Sign::Open, rest) {
+        return read_variable(src, callee, rest);
+    }
+    let (arguments, rest) = read_arguments(alloc, src, levels, after(rest))?;
+    Ok((called(callee, arguments), rest))
+}
+
+/// Arguments, and the parenthesis after them.
+#[cycle(expressions)]
+#[tactic(auto, unfolding(wap_grammar::specs::inside::Expressions::arguments_at))]
+fn read_arguments<'a>(
+    alloc: Global,
+    src: &[u8],
+    levels: u32,
+    lexemes: &'a [Lexeme],
+) -> Result<(Rows<Expr>, &'a [Lexeme]), ParseFault>
+    ensures { Meets faults.NoMemory (λ read. (read.0, read.1.now)) result
+        (arguments_at src.now (expression_at src.now levels) lexemes.now) }
+{
+    if is_sign(Sign::Close, lexemes) {
+        return Ok((Rows::new(alloc), after(lexemes)));
+    }
+    let (first, rest) = read_expression(alloc, src, levels, ASSIGNMENT, lexemes)?;
+    let (arguments, rest) = read_other_arguments(alloc, src, levels, first, rest)?;
+    let rest = expect(src, Sign::Close, rest)?;
+    Ok((arguments, rest))
+}
+
+/// The first argument, and those after it.
+#[cycle(expressions)]
+fn read_other_arguments<'a>(
+    alloc: Global,
+    src: &[u8],
+    levels: u32,
+    first: Expr,
+    lexemes: &'a [Lexeme],
+) -> Result<(Rows<Expr>, &'a [Lexeme]), ParseFault>
+    ensures { Meets faults.NoMemory (λ read. (read.0, read.1.now)) result
+        (told (λ others. first ∷ others)
+        (items_at (next_argument (expression_at src.now levels)) lexemes.now)) }
+{
+    let mut arguments = one(alloc, first)?;
+    let mut rest = lexemes;
+    for _ in 0..lexemes.len() {
+        let (argument, behind) = next_argument(alloc, src, levels, rest)?;
+        rest = behind;
+        match argument {
+            Some(argument) => arguments.add(argument)?,
+            None => return Ok((arguments, rest)),
+        }
+    }
+    Ok((arguments, rest))
+}
+
+/// The next argument, or none.
+#[cycle(expressions)]
+#[tactic(auto, unfolding(wap_grammar::specs::inside::Expressions::next_argument))]
+fn next_argument<'a>(
+    alloc: Global,
+    src: &[u8],
+    levels: u32,
+    lexemes: &'a [Lexeme],
+) -> Result<(Option<Expr>, &'a [Lexeme]), ParseFault>
+    ensures { Meets faults.NoMemory (λ read. (read.0, read.1.now)) result
+        (next_argument (expression_at src.now levels) lexemes.now) }
+{
+    if !is_comma(lexemes) {
+        return Ok((None, lexemes));
+    }
+    let (argument, rest) = read_expression(alloc, src, levels, ASSIGNMENT, after(lexemes))?;
+    Ok((Some(argument), rest))
+}

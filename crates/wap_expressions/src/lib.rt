@@ -1,0 +1,28 @@
+//! Expressions of WMLScript (WAP-193), read from tokens.
+//!
+//! Contracts name the reading functions of `wap_grammar`, which its laws tie to the programs that
+//! tokens spell. Declarations and pragmas are read here too, for they hold no statements.
+//!
+//! A string whose bytes stand for no text, since they are not UTF-8 or escape a surrogate, is
+//! answered as `NoMemory`. `wap_lex` refuses sources with such strings, but that its tokens have
+//! none isn't proved: no contract here says that `NoMemory` comes of want of memory alone.
+#![tactic(auto)]
+
+mod callees;
+mod declarations;
+mod expressions;
+mod lexemes;
+mod literals;
+mod making;
+mod pragmas;
+mod steps;
+mod strings;
+mod texts;
+mod words;
+
+pub use declarations::read_variables;
+pub use expressions::read_expression;
+pub use lexemes::lexemes_of;
+pub use pragmas::read_uses;
+pub use steps::{expect, nested, read_id, syntax};
+pub use words::{after, is_comma, is_sign, span_of, word_of};
