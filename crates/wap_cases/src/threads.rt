@@ -1,8 +1,9 @@
 //! What of documents, decks and runs may be sent to threads and shared by them.
 use std::marker::{Send, Sync};
 use wap_cli::Status;
-use wap_deck::{Deck, DeckErr, GoodDeck};
-use wap_markup::{Attr, Document, Element, Kid, Piece, Token};
+use wap_good::GoodDeck;
+use wap_markup::{Attr, Deck, Document, Element, Kid, Piece, Token};
+use wap_site::Page;
 use wap_wbxml::DocFault;
 
 fn crosses<T: Send + Sync>() {}
@@ -18,6 +19,6 @@ pub fn all_cross() {
     crosses::<DocFault>();
     crosses::<Deck>();
     crosses::<GoodDeck>();
-    crosses::<DeckErr>();
+    crosses::<Page>();
     crosses::<Status>();
 }
