@@ -9,7 +9,6 @@ pub mod Decks
 pub mod Trees
 pub mod Cards
 pub mod Tasks
-pub mod Shown
 pub mod Normal
 pub mod Writing
 pub mod Good

@@ -1,16 +1,11 @@
--- Dos and their tasks (WAP-191, sections 9.3 to 9.7 and 9.9).
-use Rattle.std.specs.Prelude.{ℕ, Bool, ◌||◌, List, find, Option}
+-- Tasks (WAP-191, sections 9.3 to 9.6).
+use Rattle.std.specs.Prelude.{Bool, ◌||◌, List, find, Option}
 use Rattle.std.specs.List.{filter_map}
 use Rattle.wap_markup.specs.declared.deck.Node.{Node}
 use Rattle.wap_markup.specs.declared.name.Tag.{Tag}
 use Rattle.wap_markup.specs.declared.name.Tag.TheVariants as tags
 use Rattle.wap_markup.specs.Tables.{is_same_tag}
-use Rattle.wap_markup.specs.Trees.{node_of, node_with, is_text}
-use Rattle.wap_markup.specs.Cards.{dos_of, type_of}
-
--- the first do of a card with this type
-abbrev pub do_named : List ℕ → Node → Option Node
-do_named kind card = find (λ node. is_text kind (type_of node)) (dos_of card)
+use Rattle.wap_markup.specs.Trees.{node_of, node_with}
 
 -- a go, a prev or a refresh
 abbrev pub is_task : Tag → Bool
