@@ -3,7 +3,7 @@ pub mod Plays
 pub mod Arrivals
 pub mod Rules
 pub mod Takings
-pub mod Names
+pub mod HeldDecks
 pub mod Navigations
 pub mod Pursuing
 pub mod Visiting

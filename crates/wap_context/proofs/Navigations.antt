@@ -20,11 +20,12 @@ use Rattle.wap_world.specs.Requests.{Request, plain_get, request_of, ask}
 use Rattle.wap_world.specs.History.{earlier_entry}
 use Rattle.wap_world.specs.Screens.{at_place}
 use Rattle.wap_world.specs.Urls.{target_of, is_same_page}
-use Rattle.wap_world.specs.Tasks.{after_step, refused, with_deck, with_url, try_deck, return, arrive, request, ask_back, stay_or_ask, back_from, back_to, is_here, url_now, go, open_url, prev, with_turn, task_once, refresh_place}
+use Rattle.wap_world.specs.Tasks.{after_step, refused, with_deck, with_url, try_deck, return, arrive, request, ask_back, stay_or_ask, back_from, back_to, is_here, here_with, card_here, url_now, go, open_url, prev, with_turn, task_once, refresh_place}
 use Rattle.wap_context.specs.Browsers.{Browser, IsOver, place_held}
-use Rattle.wap_context.specs.inside.Held.{answered_at, returned_at, arrive_at, return_at, refused_at, deck_here, deck_under, leave_and_set_at, restart_place, refresh_at}
+use Rattle.wap_context.specs.inside.Held.{answered_at, returned_at, arrive_at, return_at, refused_at, page_under, page_here, leave_and_set_at, restart_place, refresh_at}
 use Rattle.wap_context.specs.inside.Moving.{Line, Moves, Answers, Asked, HasDeck, Takes}
 use Rattle.wap_context.proofs.Places.{held_now}
+use Rattle.wap_context.proofs.HeldDecks.{Page, page_of_place, under_has, here_has}
 use Rattle.wap_context.proofs.Rules.{refused_is, arrive_is, return_is, answered_is, returned_is}
 use Rattle.wap_context.proofs.Takings.{takes_asked, takes_moves, takes_from}
 
@@ -65,50 +66,53 @@ module _ (seen : Seen) (old new : Browser) (before : List Line) where
 
   -- ---- stay, or ask
 
-  abbrev stay_by : Pages → Pairs → Option Url → Request → Option Deck → Once
+  abbrev stay_by : Pages → Pairs → Option Url → Request → Option Page → Once
   stay_by pages sets caller one None = request pages [] sets caller one old.world
-  stay_by pages sets caller one (Some deck) = arrive pages [] sets one.url old.world deck
+  stay_by pages sets caller one (Some page) =
+      arrive pages [] sets (record page.0 { fragment = one.url.fragment }) old.world page.1
 
-  stay_if : (pages : Pages) (sets : Pairs) (caller : Option Url) (one : Request) (deck : Deck) (b : Bool)
-      → (if b then arrive pages [] sets one.url old.world deck else request pages [] sets caller one old.world)
-      ≡ stay_by pages sets caller one (if b then Some deck else None)
-  stay_if pages sets caller one deck true = refl
-  stay_if pages sets caller one deck false = refl
+  stay_if : (pages : Pages) (sets : Pairs) (caller : Option Url) (one : Request) (place : Place) (b : Bool)
+      → (if b then arrive pages [] sets (here_with place one.url) old.world place.deck else request pages [] sets caller one old.world)
+      ≡ stay_by pages sets caller one (if b then Some (page_of_place place) else None)
+  stay_if pages sets caller one place true = refl
+  stay_if pages sets caller one place false = refl
 
   stay_is : (pages : Pages) (sets : Pairs) (caller : Option Url) (one : Request) (place : Option Place)
-      → stay_or_ask pages [] sets caller one old.world place ≡ stay_by pages sets caller one (deck_here one place)
+      → stay_or_ask pages [] sets caller one old.world place ≡ stay_by pages sets caller one (page_here one place)
   stay_is pages sets caller one None = refl
-  stay_is pages sets caller one (Some place) = stay_if pages sets caller one place.deck (is_here one place)
+  stay_is pages sets caller one (Some place) = stay_if pages sets caller one place (is_here one place)
 
-  stay_found : (pages : Pages) → IsOver pages old → (sets : Pairs) (caller : Option Url) (one : Request) (found : Option Deck)
-      → found ≡ deck_here one (place_held old)
+  stay_found : (pages : Pages) → IsOver pages old → (sets : Pairs) (caller : Option Url) (one : Request) (found : Option Page)
+      → found ≡ page_here one (place_held old)
       → stay_or_ask pages [] sets caller one old.world (place_now pages old.world) ≡ stay_by pages sets caller one found
   stay_found pages over sets caller one found is =
       stay_is pages sets caller one (place_now pages old.world)
-      ∙ ap (λ (p : Option Place). stay_by pages sets caller one (deck_here one p)) (held_now pages old over)
+      ∙ ap (λ (p : Option Place). stay_by pages sets caller one (page_here one p)) (held_now pages old over)
       ∙ ap (stay_by pages sets caller one) (sym is)
 
   abbrev pub Stays_or_asks : Pairs → Option Url → Request → Pages → World → Once
   Stays_or_asks sets caller one told world = stay_or_ask told [] sets caller one world (place_now told world)
 
-  pub stay_arrives : (sets : Pairs) (caller : Option Url) (one : Request) (shown : List Line) (next : Option Task) (found : Option Deck) (deck : Deck) (url : Url)
-      → found ≡ deck_here one (place_held old) → found ≡ Some deck → url ≡ one.url
-      → ((pages : Pages) → IsOver pages old → HasDeck one.url deck pages)
-      → Moves (arrive_at sets url (place_held old) old.world deck) (HasDeck url deck) old new before shown next
+  pub stay_arrives : (sets : Pairs) (caller : Option Url) (one : Request) (shown : List Line) (next : Option Task)
+      (found : Option Page) (page : Page) (url : Url)
+      → found ≡ page_here one (place_held old) → found ≡ Some page → url ≡ record page.0 { fragment = one.url.fragment }
+      → Moves (arrive_at sets url (place_held old) old.world page.1) (HasDeck url page.1) old new before shown next
       → Takes (Stays_or_asks sets caller one) seen seen old new before shown (Ok next)
-  stay_arrives sets caller one shown next found deck url here is same has moves =
+  stay_arrives sets caller one shown next found page url here is same moves =
+      let at = record page.0 { fragment = one.url.fragment } in
+      let has : (pages : Pages) → IsOver pages old → HasDeck at page.1 pages = here_has old one page (sym is ∙ here) in
       takes_moves (Stays_or_asks sets caller one) seen old new before shown next
-      (arrive_at sets one.url (place_held old) old.world deck) (HasDeck one.url deck)
-      (subst (λ (u : Url). Moves (arrive_at sets u (place_held old) old.world deck) (HasDeck u deck) old new before shown next) same moves)
+      (arrive_at sets at (place_held old) old.world page.1) (HasDeck at page.1)
+      (subst (λ (u : Url). Moves (arrive_at sets u (place_held old) old.world page.1) (HasDeck u page.1) old new before shown next) same moves)
       (λ pages over. (
         has pages over,
         stay_found pages over sets caller one found here ∙ ap (stay_by pages sets caller one) is
-            ∙ arrive_is pages old over sets one.url deck (has pages over),
+            ∙ arrive_is pages old over sets at page.1 (has pages over),
       ))
 
-  pub stay_asks : (sets : Pairs) (caller : Option Url) (one : Request) (after : Seen) (shown : List Line) (found : Option Deck)
+  pub stay_asks : (sets : Pairs) (caller : Option Url) (one : Request) (after : Seen) (shown : List Line) (found : Option Page)
       (result : Result (Option Task) RunErr)
-      → found ≡ deck_here one (place_held old) → found ≡ None
+      → found ≡ page_here one (place_held old) → found ≡ None
       → Takes (λ told world. request told [] sets caller one world) seen after old new before shown result
       → Takes (Stays_or_asks sets caller one) seen after old new before shown result
   stay_asks sets caller one after shown found result here is takes =
@@ -117,49 +121,52 @@ module _ (seen : Seen) (old new : Browser) (before : List Line) where
 
   -- ---- back
 
-  abbrev back_by : Pages → Pairs → Entry → Option Deck → Once
+  abbrev back_by : Pages → Pairs → Entry → Option Page → Once
   back_by pages sets earlier None = ask_back pages [] sets earlier old.world
-  back_by pages sets earlier (Some deck) = return pages [] sets earlier old.world deck
+  back_by pages sets earlier (Some page) = return pages [] sets (record earlier { url = page.0 }) old.world page.1
 
-  back_if : (pages : Pages) (sets : Pairs) (earlier : Entry) (deck : Deck) (b : Bool)
-      → (if b then return pages [] sets earlier old.world deck else ask_back pages [] sets earlier old.world)
-      ≡ back_by pages sets earlier (if b then Some deck else None)
-  back_if pages sets earlier deck true = refl
-  back_if pages sets earlier deck false = refl
+  back_if : (pages : Pages) (sets : Pairs) (earlier : Entry) (place : Place) (b : Bool)
+      → (if b then return pages [] sets (card_here place earlier) old.world place.deck else ask_back pages [] sets earlier old.world)
+      ≡ back_by pages sets earlier (if b then Some (page_of_place place) else None)
+  back_if pages sets earlier place true = refl
+  back_if pages sets earlier place false = refl
 
   back_is : (pages : Pages) (sets : Pairs) (earlier : Entry) (place : Option Place)
-      → back_from pages [] sets earlier old.world place ≡ back_by pages sets earlier (deck_under earlier.url place)
+      → back_from pages [] sets earlier old.world place ≡ back_by pages sets earlier (page_under earlier.url place)
   back_is pages sets earlier None = refl
-  back_is pages sets earlier (Some place) = back_if pages sets earlier place.deck (is_same_page earlier.url place.url)
+  back_is pages sets earlier (Some place) = back_if pages sets earlier place (is_same_page earlier.url place.url)
 
-  back_found : (pages : Pages) → IsOver pages old → (sets : Pairs) (earlier : Entry) (found : Option Deck)
-      → found ≡ deck_under earlier.url (place_held old)
+  back_found : (pages : Pages) → IsOver pages old → (sets : Pairs) (earlier : Entry) (found : Option Page)
+      → found ≡ page_under earlier.url (place_held old)
       → back_from pages [] sets earlier old.world (place_now pages old.world) ≡ back_by pages sets earlier found
   back_found pages over sets earlier found is =
       back_is pages sets earlier (place_now pages old.world)
-      ∙ ap (λ (p : Option Place). back_by pages sets earlier (deck_under earlier.url p)) (held_now pages old over)
+      ∙ ap (λ (p : Option Place). back_by pages sets earlier (page_under earlier.url p)) (held_now pages old over)
       ∙ ap (back_by pages sets earlier) (sym is)
 
   abbrev pub Goes_back : Pairs → Entry → Pages → World → Once
   Goes_back sets earlier told world = back_from told [] sets earlier world (place_now told world)
 
-  pub back_returns : (sets : Pairs) (earlier : Entry) (shown : List Line) (next : Option Task) (found : Option Deck) (deck : Deck)
-      → found ≡ deck_under earlier.url (place_held old) → found ≡ Some deck
-      → ((pages : Pages) → IsOver pages old → HasDeck earlier.url deck pages)
-      → Moves (return_at sets earlier (place_held old) old.world deck) (HasDeck earlier.url deck) old new before shown next
+  pub back_returns : (sets : Pairs) (earlier : Entry) (shown : List Line) (next : Option Task) (found : Option Page) (page : Page)
+      (card : Entry)
+      → found ≡ page_under earlier.url (place_held old) → found ≡ Some page → card ≡ record earlier { url = page.0 }
+      → Moves (return_at sets card (place_held old) old.world page.1) (HasDeck card.url page.1) old new before shown next
       → Takes (Goes_back sets earlier) seen seen old new before shown (Ok next)
-  back_returns sets earlier shown next found deck here is has moves =
+  back_returns sets earlier shown next found page card here is same moves =
+      let at = record earlier { url = page.0 } in
+      let has : (pages : Pages) → IsOver pages old → HasDeck page.0 page.1 pages = under_has old earlier.url page (sym is ∙ here) in
       takes_moves (Goes_back sets earlier) seen old new before shown next
-      (return_at sets earlier (place_held old) old.world deck) (HasDeck earlier.url deck) moves
+      (return_at sets at (place_held old) old.world page.1) (HasDeck page.0 page.1)
+      (subst (λ (e : Entry). Moves (return_at sets e (place_held old) old.world page.1) (HasDeck e.url page.1) old new before shown next) same moves)
       (λ pages over. (
         has pages over,
         back_found pages over sets earlier found here ∙ ap (back_by pages sets earlier) is
-            ∙ return_is pages old over sets earlier deck (has pages over),
+            ∙ return_is pages old over sets at page.1 (has pages over),
       ))
 
-  pub back_asks : (sets : Pairs) (earlier : Entry) (after : Seen) (shown : List Line) (found : Option Deck)
+  pub back_asks : (sets : Pairs) (earlier : Entry) (after : Seen) (shown : List Line) (found : Option Page)
       (result : Result (Option Task) RunErr)
-      → found ≡ deck_under earlier.url (place_held old) → found ≡ None
+      → found ≡ page_under earlier.url (place_held old) → found ≡ None
       → Takes (λ told world. ask_back told [] sets earlier world) seen after old new before shown result
       → Takes (Goes_back sets earlier) seen after old new before shown result
   back_asks sets earlier after shown found result here is takes =

@@ -5,10 +5,10 @@ ghost use Rattle.std.specs.Option.{option_map};
 ghost use Rattle.wap_world.specs.World.{place_now};
 ghost use Rattle.wap_world.specs.Tasks.{url_now, is_here, with_turn, go, open_url, prev, stay_or_ask, request, ask_back, back_from, task_once};
 ghost use Rattle.wap_context.specs.Browsers.{IsOver, place_held};
-ghost use Rattle.wap_context.specs.inside.Held.{is_page, deck_under, deck_here};
-ghost use Rattle.wap_context.specs.inside.Moving.{HasDeck, HasName, Takes, Onces, SpendsOne, HasNone};
+ghost use Rattle.wap_context.specs.inside.Held.{page_under, page_here};
+ghost use Rattle.wap_context.specs.inside.Moving.{Takes, Onces, SpendsOne, HasNone};
 
-use crate::asking::{ask, ask_for, page_name};
+use crate::asking::{ask, ask_for};
 use crate::context::Context;
 use std::alloc::Global;
 use wap_base::{NoMemory, Rows, RunErr, Text};
@@ -18,6 +18,14 @@ use wap_requests::{Request, is_same_page, plain_get, request_of, target};
 use wap_site::{Pages, Shared};
 use wap_url::Url;
 use wap_world::{Entry, Refusal};
+
+/// A URL with the fragment of another.
+fn with_fragment_of(mut here: Url, url: Url) -> Url
+    ensures { result ≡ record here { fragment = url.fragment } }
+{
+    here.fragment = url.fragment;
+    here
+}
 
 impl Context {
     /// A copy of the current deck's URL, if there is a current card.
@@ -30,46 +38,35 @@ impl Context {
         self.state.deck_url(alloc)
     }
 
-    /// Whether a URL is that of the current page. Where its name in the store differs, which the
-    /// URLs that are read rule out, memory is said to be wanting.
-    fn is_page(&self, alloc: Global, url: &Url) -> Result<bool, NoMemory>
-        ensures same { IfOk result (λ is_so. is_so ≡ is_page url.now (place_held self.now)) }
-        ensures named { IfOk result (λ is_so. is_so ≡ true → HasName url.now self.now) }
+    /// The current deck and its URL, where another URL is that of its page.
+    fn page_under(
+        &self,
+        alloc: Global,
+        url: &Url,
+    ) -> Result<Option<(Url, Shared<GoodDeck>)>, NoMemory>
+        ensures { IfOk result (λ page. page ≡ page_under url.now (place_held self.now)) }
     {
-        let Some(here) = self.url(alloc)? else {
-            return Ok(false);
+        let (Some(here), Some(deck)) = (self.url(alloc)?, &self.deck) else {
+            return Ok(None);
         };
         if !is_same_page(alloc, url, &here)? {
-            return Ok(false);
+            return Ok(None);
         }
-        if page_name(alloc, url)? == page_name(alloc, &here)? {
-            Ok(true)
-        } else {
-            Err(NoMemory)
-        }
+        Ok(Some((here, deck.share()?)))
     }
 
-    /// The current deck, where a URL is that of its page.
-    fn deck_under(&self, alloc: Global, url: &Url) -> Result<Option<Shared<GoodDeck>>, NoMemory>
-        ensures under { IfOk result (λ deck. deck ≡ deck_under url.now (place_held self.now)) }
-        ensures has { IfOk result (λ deck. IfSome deck (λ one. (told : Told) → IsOver told self.now → HasDeck url.now one told)) }
-    {
-        let is_page = self.is_page(alloc, url)?;
-        match &self.deck {
-            Some(deck) if is_page => Ok(Some(deck.share()?)),
-            Some(_) | None => Ok(None),
-        }
-    }
-
-    /// The current deck, where that is what a request asks for.
-    fn deck_here(&self, alloc: Global, one: &Request) -> Result<Option<Shared<GoodDeck>>, NoMemory>
-        ensures here { IfOk result (λ deck. deck ≡ deck_here one.now (place_held self.now)) }
-        ensures has { IfOk result (λ deck. IfSome deck (λ found. (told : Told) → IsOver told self.now → HasDeck one.now.url found told)) }
+    /// The current deck and its URL, where that is what a request asks for.
+    fn page_here(
+        &self,
+        alloc: Global,
+        one: &Request,
+    ) -> Result<Option<(Url, Shared<GoodDeck>)>, NoMemory>
+        ensures { IfOk result (λ page. page ≡ page_here one.now (place_held self.now)) }
     {
         if one.body.is_some() || one.fresh {
             return Ok(None);
         }
-        self.deck_under(alloc, &one.url)
+        self.page_under(alloc, &one.url)
     }
 
     /// Asks for a page, and enters the deck that it is.
@@ -103,8 +100,11 @@ impl Context {
             (λ told world. stay_or_ask told [] sets caller.now one world (place_now told world))
             (P.seen pages.old) (P.seen pages.new) self.old self.new lines.old lines.new result }
     {
-        match self.deck_here(alloc, &one)? {
-            Some(deck) => Ok(self.arrive(alloc, sets, one.url, deck, lines)?),
+        match self.page_here(alloc, &one)? {
+            Some((here, deck)) => {
+                let url = with_fragment_of(here, one.url);
+                Ok(self.arrive(alloc, sets, url, deck, lines)?)
+            }
             None => self.request(alloc, pages, sets, caller, one, lines),
         }
     }
@@ -180,8 +180,14 @@ impl Context {
             (λ told world. back_from told [] sets earlier world (place_now told world))
             (P.seen pages.old) (P.seen pages.new) self.old self.new lines.old lines.new result }
     {
-        match self.deck_under(alloc, &earlier.url)? {
-            Some(deck) => Ok(self.return_to(alloc, sets, earlier, deck, lines)?),
+        match self.page_under(alloc, &earlier.url)? {
+            Some((here, deck)) => {
+                let card = Entry {
+                    url: here,
+                    card: earlier.card,
+                };
+                Ok(self.return_to(alloc, sets, card, deck, lines)?)
+            }
             None => self.ask_back(alloc, pages, sets, earlier, lines),
         }
     }

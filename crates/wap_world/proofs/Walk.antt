@@ -36,7 +36,7 @@ use Rattle.wap_world.specs.Screens.{at_place, show_place, show, show_screen, scr
 use Rattle.wap_world.specs.Entering.{leave, leave_place, entered as entered_by, enter, event_task}
 use Rattle.wap_world.specs.Urls.{target_of}
 use Rattle.wap_world.specs.Requests.{Request, ask, answer_to, test, test_of, request_of, plain_get}
-use Rattle.wap_world.specs.Tasks.{after_step, refused, leave_and_set, with_deck, with_url, with_turn, in_context, is_new_context, card_for, arrive, arrive_if, try_deck, request, is_here, stay_or_ask, go, open_url, return, ask_back, back_from, back_to, prev, refresh_place, refresh, url_now, task_once, go_on, onward, act_in, act, visit}
+use Rattle.wap_world.specs.Tasks.{after_step, refused, leave_and_set, with_deck, with_url, with_turn, in_context, is_new_context, card_for, arrive, arrive_if, try_deck, request, is_here, here_with, stay_or_ask, go, open_url, return, ask_back, card_here, back_from, back_to, prev, refresh_place, refresh, url_now, task_once, go_on, onward, act_in, act, visit}
 use Rattle.wap_world.specs.Keys.{act_or, after_text, type_text, after_choice, choose_option, expire, pass_time, at_card, apply}
 
 -- ---- keys that are left
@@ -188,7 +188,7 @@ module _ (R : World → World → Type 0)
   stay_or_ask_fine : (pages : Pages) (sets : Pairs) (caller : Option Url) (one : Request) (w : World) (place : Option Place) → Fine w (λ keys. stay_or_ask pages keys sets caller one w place)
   stay_or_ask_fine pages sets caller one w None = request_fine pages sets caller one w
   stay_or_ask_fine pages sets caller one w (Some place) =
-      if_fine w (is_here one place) _ _ (arrive_fine pages sets one.url w place.deck) (request_fine pages sets caller one w)
+      if_fine w (is_here one place) _ _ (arrive_fine pages sets (here_with place one.url) w place.deck) (request_fine pages sets caller one w)
 
   go_fine : (pages : Pages) (base : Option Url) (one : Go) (w : World) → Fine w (λ keys. go pages keys base one w)
   go_fine pages base one w =
@@ -216,7 +216,7 @@ module _ (R : World → World → Type 0)
   back_from_fine : (pages : Pages) (sets : Pairs) (earlier : Entry) (w : World) (place : Option Place) → Fine w (λ keys. back_from pages keys sets earlier w place)
   back_from_fine pages sets earlier w None = ask_back_fine pages sets earlier w
   back_from_fine pages sets earlier w (Some place) =
-      if_fine w _ _ _ (return_fine pages sets earlier w place.deck) (ask_back_fine pages sets earlier w)
+      if_fine w _ _ _ (return_fine pages sets (card_here place earlier) w place.deck) (ask_back_fine pages sets earlier w)
 
   back_to_fine : (pages : Pages) (sets : Pairs) (w : World) (earlier : Option Entry) → Fine w (λ keys. back_to pages keys sets w earlier)
   back_to_fine pages sets w None = refused_fine pages refusals.First w

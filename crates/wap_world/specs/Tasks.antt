@@ -114,11 +114,15 @@ request pages keys sets caller one world =
 abbrev pub is_here : Request → Place → Bool
 is_here one place = is_same_page one.url place.url && is_none one.body && not one.fresh
 
+-- the current deck's own URL, with the fragment of one that leads to it
+abbrev pub here_with : Place → Url → Url
+here_with place url = record place.url { fragment = url.fragment }
+
 abbrev pub stay_or_ask
     : Pages → List Key → Pairs → Option Url → Request → World → Option Place → Once
 stay_or_ask pages keys sets caller one world None = request pages keys sets caller one world
 stay_or_ask pages keys sets caller one world (Some place) =
-    if is_here one place then arrive pages keys sets one.url world place.deck
+    if is_here one place then arrive pages keys sets (here_with place one.url) world place.deck
     else request pages keys sets caller one world
 
 -- 3 and 4: the URL, as a reference to that of the deck, with what the postfields make of it
@@ -151,10 +155,15 @@ ask_back pages keys sets earlier world =
     after_step (ask keys one world)
     (with_deck pages keys world (return pages keys sets earlier world) (answer_to pages one))
 
+-- an earlier card of the current deck
+abbrev pub card_here : Place → Entry → Entry
+card_here place earlier = record earlier { url = place.url }
+
 abbrev pub back_from : Pages → List Key → Pairs → Entry → World → Option Place → Once
 back_from pages keys sets earlier world None = ask_back pages keys sets earlier world
 back_from pages keys sets earlier world (Some place) =
-    if is_same_page earlier.url place.url then return pages keys sets earlier world place.deck
+    if is_same_page earlier.url place.url
+    then return pages keys sets (card_here place earlier) world place.deck
     else ask_back pages keys sets earlier world
 
 abbrev pub back_to : Pages → List Key → Pairs → World → Option Entry → Once

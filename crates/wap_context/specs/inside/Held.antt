@@ -146,14 +146,12 @@ abbrev pub store_pairs : Option (List ℕ) → ℕ → Pairs
 store_pairs None time = []
 store_pairs (Some name) time = (name, decimal time) ∷ []
 
--- the deck of a place, where a URL is that of its page, and where a request asks for it
-abbrev pub is_page : Url → Option Place → Bool
-is_page url place = option_map_or (λ one. is_same_page url one.url) place false
+-- the URL and the deck of a place, where another URL is that of its page, and where a request asks
+-- for it
+abbrev pub page_under : Url → Option Place → Option (Url × Deck)
+page_under url place = option_and_then
+    (λ one. if is_same_page url one.url then Some (one.url, one.deck) else None) place
 
-abbrev pub deck_under : Url → Option Place → Option Deck
-deck_under url place = option_and_then
-    (λ one. if is_same_page url one.url then Some one.deck else None) place
-
-abbrev pub deck_here : Request → Option Place → Option Deck
-deck_here request place = option_and_then
-    (λ one. if is_here request one then Some one.deck else None) place
+abbrev pub page_here : Request → Option Place → Option (Url × Deck)
+page_here request place = option_and_then
+    (λ one. if is_here request one then Some (one.url, one.deck) else None) place

@@ -51,11 +51,6 @@ pub record Moves (once : Once) (AreThese : Pages → Type 0) (old new : Browser)
 abbrev pub HasDeck : Url → Deck → Pages → Type 0
 HasDeck url deck pages = deck_at pages url ≡ Some deck
 
--- the last entry's page has the name of a URL's
-abbrev pub HasName : Url → Browser → Type 0
-HasName url browser =
-    option_map (λ entry. name_for entry.url) (last_entry browser.world) ≡ Some (name_for url)
-
 -- the pages are the browser's, and answer this
 abbrev pub Answers : Url → Result Deck Refusal → Browser → Pages → Type 0
 Answers url answer browser pages =

@@ -1,10 +1,5 @@
-use Rattle.std.proofs.Common.{Option, ap, subst}
-use Rattle.std.specs.Prelude.{IfSome}
-use Rattle.wap_markup.specs.declared.deck.Deck.{Deck}
-use Rattle.wap_site.specs.Pages.{Pages}
+use Rattle.std.proofs.Common.{◌∙◌, ap}
 use Rattle.wap_world.specs.Requests.{Request}
-use Rattle.wap_context.specs.Browsers.{IsOver}
-use Rattle.wap_context.specs.inside.Moving.{HasDeck}
 use Rattle.wap_context.proofs.Takings.{takes_rejected}
 use Rattle.wap_context.proofs.Navigations.{Stays_or_asks, stay_arrives, stay_asks}
 use Rattle.wap_context.proofs.context.Context.stay_or_ask.Goals as goal
@@ -12,10 +7,10 @@ use Rattle.wap_context.proofs.context.Context.stay_or_ask.Goals as goal
 pub returns-in_ok-arrive-in-Some : goal.returns-in_ok-arrive-in-Some
 returns-in_ok-arrive-in-Some g c =
     stay_arrives (g.P.Pages.seen c.args.pages.now) c.args.self.now c.arrive.new.self c.args.lines.now
-    c.args.sets c.args.caller.now c.args.one c.arrive.new.lines c.in_ok-arrive-in-Some.field-0 c.in_ok-deck.field-0 c.in-Some.deck
-    c.one.inside.url c.in_ok-deck.ensures.here c.in-Some.is (ap (λ (r : Request). r.url) c.one.view_is)
-    (subst (λ (o : Option Deck). IfSome o (λ found. (told : Pages) → IsOver told c.args.self.now → HasDeck c.args.one.url found told))
-    c.in-Some.is c.in_ok-deck.ensures.has)
+    c.args.sets c.args.caller.now c.args.one c.arrive.new.lines c.in_ok-arrive-in-Some.field-0 c.in_ok-here.field-0
+    (c.in-Some.here, c.in-Some.deck) c.with_fragment_of-url.result
+    c.in_ok-here.ensures c.in-Some.is
+    (c.with_fragment_of-url.ensures ∙ ap (λ (one : Request). record c.in-Some.here { fragment = one.url.fragment }) c.one.view_is)
     c.in_ok-arrive-in-Some.ensures
 
 pub returns-in_err-arrive-in-Some : goal.returns-in_err-arrive-in-Some
@@ -27,5 +22,5 @@ returns-in_err-arrive-in-Some g c =
 pub returns-in-None : goal.returns-in-None
 returns-in-None g c =
     stay_asks (g.P.Pages.seen c.args.pages.now) c.args.self.now c.request.new.self c.args.lines.now
-    c.args.sets c.args.caller.now c.args.one (g.P.Pages.seen c.request.new.pages) c.request.new.lines c.in_ok-deck.field-0
-    c.request.result c.in_ok-deck.ensures.here c.in-None.is c.request.ensures
+    c.args.sets c.args.caller.now c.args.one (g.P.Pages.seen c.request.new.pages) c.request.new.lines c.in_ok-here.field-0
+    c.request.result c.in_ok-here.ensures c.in-None.is c.request.ensures
