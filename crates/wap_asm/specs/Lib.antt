@@ -1,3 +1,4 @@
 pub mod Spelling
 pub mod Exact
 pub mod Columns
+pub mod Operands

@@ -1,6 +1,8 @@
 //! Reading an instruction.
-ghost use Rattle.std.specs.Prelude.{◌≡◌, ◌+◌, ◌<◌, ◌≤◌, length, slice_index, slice_get, IfSome};
+ghost use Rattle.std.specs.Prelude.{◌≡◌, ◌+◌, ◌<◌, ◌≤◌, length, slice_index, slice_get, IfOk, IfSome};
 ghost use Rattle.wap_code.specs.Instructions.{width, size, row_of, value, read_row, instr_at};
+ghost use Rattle.wap_asm.specs.Spelling.{limit};
+ghost use Rattle.wap_asm.specs.Operands.{Holds};
 
 use crate::codes::ROW_NUMBERS;
 use wap_code::{Instr, InstrFault, ROWS, Row, Slot};
@@ -27,7 +29,8 @@ fn size(row: Row) -> usize
 /// The operand at a place.
 fn operand(code: &[u8], at: usize, slot: Slot, low: u8) -> u32
     requires { at + width slot ≤ length code.now }
-    ensures { result ≡ value code.now at slot low }
+    ensures value { result ≡ value code.now at slot low }
+    ensures within { result < limit 256 slot }
 {
     match slot {
         Slot::Absent => 0,
@@ -42,7 +45,9 @@ fn operand(code: &[u8], at: usize, slot: Slot, low: u8) -> u32
 pub fn read_row(row: Row, code: &[u8], at: usize) -> Result<Instr, InstrFault>
     requires here { at < length code.now }
     requires within { row.first ≤ slice_index code.now at }
-    ensures { result ≡ read_row row code.now at }
+    ensures instr { result ≡ read_row row code.now at }
+    // Each operand is as great as there is room for where it stands.
+    ensures operands { IfOk result (Holds row) }
 {
     if code.len() - at < size(row) {
         return Err(InstrFault::Operand);

@@ -9,6 +9,7 @@ use Rattle.wap_code.specs.declared.unit.Code.{Code}
 use Rattle.wap_code.specs.declared.unit.Constant.{Constant}
 use Rattle.wap_code.specs.declared.unit.Constant.TheVariants.{Int8, Int16, Int32, Float, Utf8, Empty, Coded}
 use Rattle.wap_base.specs.Charsets.{charset_of, is_text, characters_of}
+use Rattle.wap_unit.specs.Spelling.{HasSpelling}
 use Rattle.wap_verify.specs.Sound.{IsRoom, AreSound, IsVerified}
 
 -- the first entry with a name
@@ -52,6 +53,7 @@ pub record AreRooms (unit : Unit) (count : ℕ) (rooms : List ℕ) : Type 0 wher
   pub each : (index : ℕ) (function : Code) → index < count → slice_get unit.functions index ≡ Some function → IsRoom unit index function (slice_index rooms index)
 
 pub record IsKept (unit : Unit) (texts : List (Option (List ℕ))) (rooms : List ℕ) : Type 0 where
+  pub spelled : HasSpelling unit
   pub verified : IsVerified unit
   pub rooms_are : AreRooms unit (length unit.functions) rooms
   pub texts_are : texts ≡ map (coded_text (charset_of unit.charset)) unit.constants

@@ -78,6 +78,7 @@ fn examine(alloc: Global, unit: &Unit) -> Result<(Rows<Option<Text>>, Rows<u32>)
 impl Verified {
     pub fn unit(&self) -> &Unit
         ensures unit { result.now ≡ self.now }
+        ensures spelled { HasSpelling self.now }
         ensures verified { IsVerified self.now }
     {
         &self.unit

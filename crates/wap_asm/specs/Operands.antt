@@ -1,0 +1,10 @@
+-- How great the operands of an instruction are, by where they stand.
+use Rattle.std.specs.Prelude.{◌<◌}
+use Rattle.wap_code.specs.declared.row.Row.{Row}
+use Rattle.wap_code.specs.declared.instr.Instr.{Instr}
+use Rattle.wap_asm.specs.Spelling.{limit}
+
+pub record Holds (row : Row) (instr : Instr) : Type 0 where
+  pub a : instr.a < limit 256 row.a
+  pub b : instr.b < limit 256 row.b
+  pub c : instr.c < limit 256 row.c
