@@ -29,3 +29,12 @@ pub enum Mode {
     /// On one line, blanks kept.
     Preformatted,
 }
+
+/// How a piece ends.
+#[derive(Clone, Copy)]
+pub enum Ending {
+    /// With an empty line where the piece has no lines.
+    Hard,
+    /// With no empty line.
+    Soft,
+}

@@ -8,6 +8,7 @@ ghost use Rattle.wap_layout.specs.Layout.{AllFit, AreLaid};
 ghost use Rattle.wap_layout.specs.Calculation.{lines_of};
 
 use crate::Flow;
+use crate::flow::Ending;
 use crate::page::Page;
 use std::alloc::Global;
 use wap_base::{NoMemory, Rows, Text};
@@ -44,7 +45,7 @@ fn laid_out(alloc: Global, flow: &[Flow], width: usize) -> Result<Rows<Text>, No
         page.take(alloc, part, width)?;
     }
     let mode = page.mode;
-    page.end(alloc, false, mode, width)?;
+    page.end(alloc, Ending::Soft, mode, width)?;
     let Page { lines, .. } = page;
     Ok(lines)
 }

@@ -6,8 +6,10 @@ ghost use Rattle.wap_layout.specs.Words.{is_line_feed};
 ghost use Rattle.wap_layout.specs.Pieces.{kept, ended};
 ghost use Rattle.wap_layout.specs.Layout.{closed};
 ghost use Rattle.wap_layout.specs.Calculation.{laid, piece_lines};
+ghost use Rattle.wap_layout.specs.inside.Endings.{is_hard};
 
 use crate::fill::add_filled;
+use crate::flow::Ending;
 use crate::words::add_unless_empty;
 use crate::{Flow, Mode};
 use std::alloc::Global;
@@ -38,16 +40,16 @@ fn add_piece(
     lines: &mut Rows<Text>,
     mode: Mode,
     text: &str,
-    is_hard: bool,
+    ending: Ending,
     width: usize,
 ) -> Result<(), NoMemory>
     requires { 1 ≤ width }
     ensures { OnOk result
-        (lines.new ≡ lines.old ++ closed is_hard (laid width mode (chars text.now))) }
+        (lines.new ≡ lines.old ++ closed (is_hard ending) (laid width mode (chars text.now))) }
 {
     let before = lines.len();
     add_laid(alloc, lines, mode, text, width)?;
-    if is_hard && lines.len() == before {
+    if matches!(ending, Ending::Hard) && lines.len() == before {
         lines.add(Text::new(alloc))?;
     }
     Ok(())
@@ -58,19 +60,19 @@ fn add_kept(
     alloc: Global,
     lines: &mut Rows<Text>,
     text: &str,
-    is_hard: bool,
+    ending: Ending,
     width: usize,
 ) -> Result<(), NoMemory>
     requires { 1 ≤ width }
-    ensures { OnOk result (lines.new ≡ lines.old
-        ++ flat_map (piece_lines width) (kept (slice_split is_line_feed (chars text.now)) is_hard)) }
+    ensures { OnOk result (lines.new ≡ lines.old ++ flat_map (piece_lines width)
+        (kept (slice_split is_line_feed (chars text.now)) (is_hard ending))) }
 {
     let mut rest = text;
     while let Some((line, after)) = rest.split_once('\n') {
-        add_piece(alloc, lines, Mode::Preformatted, line, true, width)?;
+        add_piece(alloc, lines, Mode::Preformatted, line, Ending::Hard, width)?;
         rest = after;
     }
-    add_piece(alloc, lines, Mode::Preformatted, rest, is_hard, width)
+    add_piece(alloc, lines, Mode::Preformatted, rest, ending, width)
 }
 
 /// Adds the lines of a text that ends.
@@ -79,16 +81,16 @@ fn add_ended(
     lines: &mut Rows<Text>,
     mode: Mode,
     text: &str,
-    is_hard: bool,
+    ending: Ending,
     width: usize,
 ) -> Result<(), NoMemory>
     requires { 1 ≤ width }
-    ensures { OnOk result (lines.new
-        ≡ lines.old ++ flat_map (piece_lines width) (ended mode (chars text.now) is_hard)) }
+    ensures { OnOk result (lines.new ≡ lines.old ++ flat_map (piece_lines width)
+        (ended mode (chars text.now) (is_hard ending))) }
 {
     match mode {
-        Mode::Preformatted => add_kept(alloc, lines, text, is_hard, width),
-        Mode::Wrapped | Mode::Unwrapped => add_piece(alloc, lines, mode, text, is_hard, width),
+        Mode::Preformatted => add_kept(alloc, lines, text, ending, width),
+        Mode::Wrapped | Mode::Unwrapped => add_piece(alloc, lines, mode, text, ending, width),
     }
 }
 
@@ -107,6 +109,7 @@ impl Page {
     ghost use Rattle.wap_layout.specs.declared.flow.Mode.TheVariants.{Wrapped};
     ghost use Rattle.wap_layout.specs.Pieces.{ended};
     ghost use Rattle.wap_layout.specs.Calculation.{piece_lines, lines_behind};
+    ghost use Rattle.wap_layout.specs.inside.Endings.{is_hard};
 
     /// An empty page, whose text is wrapped at first.
     pub fn new(alloc: Global) -> Page
@@ -125,13 +128,13 @@ impl Page {
     pub fn end(
         &mut self,
         alloc: Global,
-        is_hard: bool,
+        ending: Ending,
         mode: Mode,
         width: usize,
     ) -> Result<(), NoMemory>
         requires { 1 ≤ width }
         ensures lines { OnOk result (self.new.lines ≡ self.old.lines
-            ++ flat_map (piece_lines width) (ended self.old.mode self.old.text is_hard)) }
+            ++ flat_map (piece_lines width) (ended self.old.mode self.old.text (is_hard ending))) }
         ensures mode { OnOk result (self.new.mode ≡ mode) }
         ensures text { OnOk result (self.new.text ≡ []) }
     {
@@ -140,7 +143,7 @@ impl Page {
             &mut self.lines,
             self.mode,
             self.text.as_str(),
-            is_hard,
+            ending,
             width,
         )?;
         self.text = Text::new(alloc);
@@ -158,11 +161,11 @@ impl Page {
         let mode = self.mode;
         match part {
             Flow::Words(text) => self.text.add(text.as_str()),
-            Flow::Hard => self.end(alloc, true, mode, width),
-            Flow::Soft => self.end(alloc, false, mode, width),
-            Flow::Wrap => self.end(alloc, false, Mode::Wrapped, width),
-            Flow::NoWrap => self.end(alloc, false, Mode::Unwrapped, width),
-            Flow::Pre => self.end(alloc, false, Mode::Preformatted, width),
+            Flow::Hard => self.end(alloc, Ending::Hard, mode, width),
+            Flow::Soft => self.end(alloc, Ending::Soft, mode, width),
+            Flow::Wrap => self.end(alloc, Ending::Soft, Mode::Wrapped, width),
+            Flow::NoWrap => self.end(alloc, Ending::Soft, Mode::Unwrapped, width),
+            Flow::Pre => self.end(alloc, Ending::Soft, Mode::Preformatted, width),
         }
     }
 }
