@@ -6,10 +6,16 @@ ghost use Rattle.std.specs.Option.{option_copied, option_map};
 use std::alloc::Global;
 use wap_base::{NoMemory, Text};
 
-/// The text whose characters are these bytes, in lower case.
+/// The text whose characters have the numbers of these bytes, in lower case. US-ASCII is copied
+/// before it is put in lower case.
 pub fn lowered_text(alloc: Global, bytes: &[u8]) -> Result<Text, NoMemory>
     ensures { IfOk result (λ text. text ≡ map to_ascii_lowercase bytes.now) }
 {
+    if bytes.is_ascii() {
+        let mut lowered = String::from_utf8_lossy(alloc, bytes)?;
+        lowered.make_ascii_lowercase();
+        return Ok(Text::from_string(lowered));
+    }
     let mut text = Text::new(alloc);
     for byte in bytes {
         text.push(char::from(byte.to_ascii_lowercase()))?;
