@@ -45,7 +45,11 @@ fn ends(at: Cut, byte: u8) -> bool
 fn may_stand(byte: u8) -> bool
     ensures { result ≡ is_allowed byte }
 {
-    byte.is_ascii_graphic() && !(byte == b'"' || byte == b'<' || byte == b'>' || byte == b'#')
+    if byte >= b'?' {
+        byte <= b'~'
+    } else {
+        matches!(byte, b'$'..=b';' | b'=' | b'!')
+    }
 }
 
 /// Whether the first byte is this one.
