@@ -3,7 +3,7 @@ use Rattle.std.proofs.Common.{◌≡◌, ◌≢◌, ℕ, Bool, true, false, cond
 use Rattle.std.specs.List.{AllByRecursion}
 use Rattle.std.specs.List.Sorted.{IsStrictlySortedBy}
 use Rattle.std.specs.BTreeMap.{is_at, insert_entry}
-use Rattle.std.specs.Map.{lookup, keys_of}
+use Rattle.std.specs.Map.{lookup, keys_of, set_value}
 use Rattle.std.specs.Ordering.{is_eq, match_ordering, ordering_reverse}
 use Rattle.std.specs.declared.cmp.Ordering.{Ordering}
 use Rattle.std.specs.declared.cmp.Ordering.TheVariants.{Less, Equal, Greater}
@@ -80,6 +80,30 @@ module _ (name text : List ℕ) where
   unfolding placed IsStrictlySortedBy
   ordered_updated [] ordered = (tt, tt)
   ordered_updated (e ∷ es) ordered = ordered_at e es (text_cmp name e.0) refl ordered (ordered_updated es ordered.1)
+
+  none_above : (es : List (List ℕ × List ℕ)) → AllByRecursion (λ key. text_cmp name key ≡ Less) (keys_of es) → lookup (is_at (text_cmp name)) es ≡ None
+  none_above [] all = refl
+  none_above (e ∷ es) all = ap (λ (b : Bool). cond b (Some e.1) (lookup (is_at (text_cmp name)) es)) (ap is_eq all.0) ∙ none_above es all.1
+
+  replaced_at : (e : List ℕ × List ℕ) (es : List (List ℕ × List ℕ)) (kept : List ℕ) (order : Ordering) → text_cmp name e.0 ≡ order → IsStrictlySortedBy text_cmp (keys_of (e ∷ es)) → lookup (is_at (text_cmp name)) (e ∷ es) ≡ Some kept
+      → (lookup (is_at (text_cmp name)) es ≡ Some kept → set_value (is_at (text_cmp name)) es text ≡ insert_entry text_cmp es name text) → set_value (is_at (text_cmp name)) (e ∷ es) text ≡ placed e es order
+  unfolding placed IsStrictlySortedBy
+  replaced_at e es kept Less place ordered there rest =
+      let none : lookup (is_at (text_cmp name)) (e ∷ es) ≡ None = none_above (e ∷ es) (place, above name e.0 (keys_of es) place ordered.0) in
+      absurd (cc (none, there))
+  replaced_at e es kept Equal place ordered there rest = ap (λ (b : Bool). cond b ((e.0, text) ∷ es) (e ∷ set_value (is_at (text_cmp name)) es text)) (ap is_eq place)
+  replaced_at e es kept Greater place ordered there rest =
+      ap (λ (b : Bool). cond b ((e.0, text) ∷ es) (e ∷ set_value (is_at (text_cmp name)) es text)) (ap is_eq place)
+      ∙ ap (λ (more : List (List ℕ × List ℕ)). e ∷ more) (rest (sym (ap (λ (b : Bool). cond b (Some e.1) (lookup (is_at (text_cmp name)) es)) (ap is_eq place)) ∙ there))
+
+  replaced : (vars : List (List ℕ × List ℕ)) (kept : List ℕ) → IsStrictlySortedBy text_cmp (keys_of vars) → lookup (is_at (text_cmp name)) vars ≡ Some kept → set_value (is_at (text_cmp name)) vars text ≡ insert_entry text_cmp vars name text
+  unfolding placed IsStrictlySortedBy
+  replaced [] kept ordered there = absurd (cc there)
+  replaced (e ∷ es) kept ordered there = replaced_at e es kept (text_cmp name e.0) refl ordered there (replaced es kept ordered.1)
+
+-- a text that is put in the place of a kept one updates it
+pub replaced_updated : (vars : List (List ℕ × List ℕ)) (name text kept : List ℕ) → IsStrictlySortedBy text_cmp (keys_of vars) → lookup (is_at (text_cmp name)) vars ≡ Some kept → set_value (is_at (text_cmp name)) vars text ≡ updated vars name text
+replaced_updated vars name text kept ordered there = replaced name text vars kept ordered there
 
 pub updated_here : (vars : List (List ℕ × List ℕ)) (name text : List ℕ) → text_of (updated vars name text) name ≡ Some text
 updated_here vars name text = sym (lookup_by_order name (updated vars name text)) ∙ here name text vars

@@ -10,7 +10,7 @@ ghost use Rattle.wap_filling.specs.Setting.{set_in};
 use std::alloc::Global;
 use std::collections::BTreeMap;
 use std::marker::Model;
-use wap_base::{Name, NoMemory, Text};
+use wap_base::{Name, NoMemory, Text, is_name};
 use wap_filling::{TEXT_LIMIT, VAR_LIMIT, VarFault};
 
 /// The variables of the browser (WAP-191, section 10.3). A contract sees the pairs of a name and its text, in
@@ -18,7 +18,7 @@ use wap_filling::{TEXT_LIMIT, VAR_LIMIT, VarFault};
 #[derive(Debug, Drop)]
 pub struct Vars {
     alloc: Global,
-    texts: BTreeMap<Name, Text>,
+    texts: BTreeMap<Text, Text>,
 }
 
 impl Model for Vars {
@@ -31,6 +31,13 @@ impl Model for Vars {
     ghost view = { λ vars. vars.texts.entries };
 
     ghost invariant = { λ vars. AreVars vars.texts.entries };
+}
+
+/// Whether a text is a name.
+fn names_variable(text: &Text) -> bool
+    ensures { result ≡ is_name text.now }
+{
+    is_name(text.as_str().as_bytes())
 }
 
 impl Vars {
@@ -49,7 +56,7 @@ impl Vars {
         ensures value { option_copied result ≡ text_of self.now name.now }
         ensures short { IfSome result (λ text. utf8_len text.now ≤ TEXT_LIMIT) }
     {
-        self.texts.get(name)
+        self.texts.get(name.text())
     }
 
     /// Sets a variable to a text. On a fault nothing changes.
@@ -67,15 +74,21 @@ impl Vars {
         ensures here { OnOk result (text_of self.new name.now ≡ Some value) }
         ensures elsewhere { OnOk result ((other : List ℕ) → other ≢ name.now → text_of self.new other ≡ text_of self.old other) }
     {
-        let name = Name::of(self.alloc, name)?;
+        if !names_variable(name) {
+            return Err(VarFault::BadName);
+        }
         let bytes = value.len();
         if bytes > TEXT_LIMIT {
             return Err(VarFault::TooLong { bytes });
         }
-        if self.texts.len() >= VAR_LIMIT && !self.texts.contains_key(&name) {
+        if let Some(text) = self.texts.get_mut(name) {
+            *text = value;
+            return Ok(());
+        }
+        if self.texts.len() >= VAR_LIMIT {
             return Err(VarFault::Full);
         }
-        self.texts.insert(name, value)?;
+        self.texts.insert(name.copy(self.alloc)?, value)?;
         Ok(())
     }
 
@@ -85,7 +98,7 @@ impl Vars {
         ensures here { text_of self.new name.now ≡ None }
         ensures elsewhere { (other : List ℕ) → other ≢ name.now → text_of self.new other ≡ text_of self.old other }
     {
-        let _ = self.texts.remove(name);
+        let _ = self.texts.remove(name.text());
     }
 
     /// Unsets all variables.
@@ -109,7 +122,7 @@ impl Vars {
     {
         let mut pairs = Vec::new(alloc);
         for (name, text) in &self.texts {
-            pairs.push((name.text().copy(alloc)?, text.copy(alloc)?))?;
+            pairs.push((name.copy(alloc)?, text.copy(alloc)?))?;
         }
         Ok(pairs)
     }

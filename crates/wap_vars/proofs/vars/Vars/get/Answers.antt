@@ -7,7 +7,7 @@ use Rattle.wap_vars.proofs.TextLaws.{lookup_by_order, found_text, if_copied}
 use Rattle.wap_vars.proofs.vars.Vars.get.Goals as goal
 
 pub returns-clause-value : goal.returns-clause-value
-returns-clause-value c = c.get.ensures.value ∙ lookup_by_order c.args.name.now c.self.inside.texts.entries ∙ ap (λ (vars : List (List ℕ × List ℕ)). text_of vars c.args.name.now) c.self.view_is
+returns-clause-value c = c.get.ensures.value ∙ lookup_by_order c.text.result.now c.self.inside.texts.entries ∙ ap (λ (name : List ℕ). text_of c.self.inside.texts.entries name) c.text.ensures.same ∙ ap (λ (vars : List (List ℕ × List ℕ)). text_of vars c.args.name.now) c.self.view_is
 
 pub returns-clause-short : goal.returns-clause-short
 returns-clause-short c =
