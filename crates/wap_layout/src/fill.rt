@@ -10,8 +10,15 @@ use std::alloc::Global;
 use std::mem;
 use wap_base::{NoMemory, Rows, Text};
 
+/// An empty line, with room for so many characters of US-ASCII.
+fn empty_line(alloc: Global, columns: usize) -> Result<Text, NoMemory>
+    ensures { IfOk result (λ line. line ≡ []) }
+{
+    Ok(Text::from_string(String::with_capacity(alloc, columns)?))
+}
+
 /// Adds the parts of a word that are as long as the width, and gives what is left of it, which
-/// begins the next line.
+/// begins the next line. A word that is longer than the width has room for a line.
 fn add_cut(
     alloc: Global,
     lines: &mut Rows<Text>,
@@ -22,12 +29,12 @@ fn add_cut(
     ensures { IfOk result (λ last. (more : List (List ℕ)) → lines.new ++ fill width last more
         ≡ lines.old ++ fill width [] (cut_word width (chars word.now) ++ more)) }
 {
-    let mut part = Text::new(alloc);
+    let mut part = empty_line(alloc, width)?;
     let mut columns = 0;
     for character in word.chars() {
         if columns == width {
             lines.add(part)?;
-            part = Text::new(alloc);
+            part = empty_line(alloc, width)?;
             columns = 0;
         }
         part.push(character)?;

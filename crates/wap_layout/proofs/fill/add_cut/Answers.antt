@@ -6,7 +6,7 @@ use Rattle.std.proofs.lemmas.List.{length_push}
 use Rattle.wap_layout.proofs.Splitting.{drop-turn, drop-end}
 use Rattle.wap_layout.proofs.Placing.{cut-full, cut-more, cut-end}
 use Rattle.wap_layout.proofs.fill.add_cut.Goals as goal
-use Rattle.wap_layout.proofs.fill.add_cut.Goals.{then-columns-width+in_ok-add, else-columns-width}
+use Rattle.wap_layout.proofs.fill.add_cut.Goals.{then-columns-width+in_ok-add+in_ok-part-2, else-columns-width}
 
 pub loop-character-preserved : goal.loop-character-preserved
 loop-character-preserved c =
@@ -14,8 +14,8 @@ loop-character-preserved c =
     let turn = drop-turn (chars c.args.word.now) c.loop-character.yielded c.in-Some.character t in
     let longer = ap length c.in_ok-push.ensures.ok ∙ length_push c.if-columns-width.part c.in-Some.character in
     elim c.if-columns-width.branch [
-      | then-columns-width+in_ok-add w ↦
-          let starts = w.part-is ∙ w.new-part-then-columns-width.ensures in (
+      | then-columns-width+in_ok-add+in_ok-part-2 w ↦
+          let starts = w.part-is ∙ w.in_ok-part-2.ensures in (
             λ more. cut-full c.loop-character.lines c.if-columns-width.lines c.loop-character.part c.push.new.self _ _ c.in-Some.character c.args.width more _ c.requires
                 (sym c.loop-character.invariant.1 ∙ w.if-columns-width.true) (w.lines-is ∙ w.in_ok-add.ensures.ok) (c.in_ok-push.ensures.ok ∙ ap (λ p. p ++ c.in-Some.character ∷ []) starts) turn (c.loop-character.invariant.0 more),
             omega (arith, w.columns-is, ap length starts),
