@@ -78,7 +78,7 @@ fn is_port(digits: &[u8]) -> bool
     if !all_digits(digits) || digits.len() > 5 {
         return false;
     }
-    number(digits) <= 65535
+    number_of(digits) <= 65535
 }
 
 fn all_digits(bytes: &[u8]) -> bool
@@ -88,7 +88,7 @@ fn all_digits(bytes: &[u8]) -> bool
 }
 
 /// The number that at most five digits write.
-pub fn number(digits: &[u8]) -> u32
+pub fn number_of(digits: &[u8]) -> u32
     requires digits { list_all is_ascii_digit digits.now ≡ true }
     requires short { length digits.now ≤ 5 }
     ensures { result ≡ digits_value 10 digits.now }

@@ -36,9 +36,9 @@ fn escape_bytes(alloc: Global, bytes: &[u8]) -> Result<Text, NoMemory>
     ensures exact { IfOk result (λ escape. escape ≡ flat_map escape_of bytes.now) }
     ensures back { IfOk result (λ escape. unescaped escape ≡ bytes.now) }
 {
-    let mut escape = String::new(alloc);
-    percent_encode(bytes, RESERVED).append_to(&mut escape)?;
-    Ok(Text::from_string(escape))
+    let mut text = String::new(alloc);
+    percent_encode(bytes, RESERVED).append_to(&mut text)?;
+    Ok(Text::from_string(text))
 }
 
 /// The bytes of the text's UTF-8, with each `%` and two hexadecimal digits read as a byte. They need not

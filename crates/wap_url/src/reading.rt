@@ -8,7 +8,7 @@ ghost use Rattle.wap_url.specs.Parts.{url_of, port_number, is_port};
 ghost use Rattle.wap_url.specs.Reading.{url_at, is_stop, has_bad_char, fragment_of, fault_of, passes_if_there};
 ghost use Rattle.wap_url.specs.inside.Slices.{parts_in};
 
-use crate::checks::{fault_in, number};
+use crate::checks::{fault_in, number_of};
 use crate::cut::{Cut, cut_at};
 use crate::parts::{Slices, cut_parts};
 use crate::texts::{lowered_part, text_of, text_of_part};
@@ -46,7 +46,7 @@ impl Url {
         if let Some(fault) = fault_in(&slices) {
             return Err(fault);
         }
-        let fragment = fragment(alloc, text, front, onward)?;
+        let fragment = copy_fragment(alloc, text, front, onward)?;
         Ok(url_of(alloc, &slices, fragment)?)
     }
 }
@@ -62,7 +62,12 @@ fn is_bad(onward: &[u8]) -> bool
 }
 
 /// The fragment of a text whose front and what follows it are known.
-fn fragment(alloc: Global, text: &Text, front: &[u8], rest: &[u8]) -> Result<Option<Text>, NoMemory>
+fn copy_fragment(
+    alloc: Global,
+    text: &Text,
+    front: &[u8],
+    rest: &[u8],
+) -> Result<Option<Text>, NoMemory>
     requires good { has_bad_char text.now ≡ false }
     requires before { front.now ≡ until is_stop (encode_utf8_all text.now) }
     requires after { rest.now ≡ onward is_stop (encode_utf8_all text.now) }
@@ -104,5 +109,5 @@ fn port_of(digits: &[u8]) -> Option<u16>
     if digits.is_empty() {
         return None;
     }
-    Some(number(digits) as u16)
+    Some(number_of(digits) as u16)
 }

@@ -53,7 +53,7 @@ fn local_path(alloc: Global, base: &Text, path: &Text) -> Result<Text, NoMemory>
 fn is_same_folder(base: &Text, path: &Text) -> bool
     ensures { result ≡ same_folder base.now path.now }
 {
-    is_same(folder(base.as_str()), folder(path.as_str()))
+    is_same(folder_of(base.as_str()), folder_of(path.as_str()))
 }
 
 fn is_same(folder: Option<&str>, other: Option<&str>) -> bool
@@ -67,7 +67,7 @@ fn is_same(folder: Option<&str>, other: Option<&str>) -> bool
 }
 
 /// The path before its last slash.
-fn folder(path: &str) -> Option<&str>
+fn folder_of(path: &str) -> Option<&str>
     ensures { MatchOption result (all_but_last (segments path.now) ≡ []) (λ folder. all_but_last (segments path.now) ≡ segments folder.now) }
 {
     let (folder, _) = path.rsplit_once('/')?;

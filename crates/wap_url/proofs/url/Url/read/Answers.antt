@@ -22,16 +22,16 @@ returns-in-Some c =
     let all = err_clauses c.args.text.now c.in-Some.fault is in
     record { exact = λ _. is; found = tt; only = λ u has _. all.only u has; refused = λ _. all.refused; first = λ f has _. all.first f has; normal = tt }
 
-pub fragment-requires-clause-good : goal.fragment-requires-clause-good
-fragment-requires-clause-good c =
+pub copy_fragment-requires-clause-good : goal.copy_fragment-requires-clause-good
+copy_fragment-requires-clause-good c =
     let cut = is_cut c.args.text.now c.as_str.result.now c.as_bytes.result.now c.cut_at.result.0.now c.cut_at.result.1.now c.is_bad.result c.as_bytes.ensures.value c.as_str.ensures.bytes c.cut_at.ensures.before c.cut_at.ensures.after c.is_bad.ensures in
     sym cut.bad_is ∙ c.if-is_bad.false
 
-pub fragment-requires-clause-before : goal.fragment-requires-clause-before
-fragment-requires-clause-before c = c.cut_at.ensures.before ∙ ap (until is_stop) (c.as_bytes.ensures.value ∙ c.as_str.ensures.bytes)
+pub copy_fragment-requires-clause-before : goal.copy_fragment-requires-clause-before
+copy_fragment-requires-clause-before c = c.cut_at.ensures.before ∙ ap (until is_stop) (c.as_bytes.ensures.value ∙ c.as_str.ensures.bytes)
 
-pub fragment-requires-clause-after : goal.fragment-requires-clause-after
-fragment-requires-clause-after c = c.cut_at.ensures.after ∙ ap (onward is_stop) (c.as_bytes.ensures.value ∙ c.as_str.ensures.bytes)
+pub copy_fragment-requires-clause-after : goal.copy_fragment-requires-clause-after
+copy_fragment-requires-clause-after c = c.cut_at.ensures.after ∙ ap (onward is_stop) (c.as_bytes.ensures.value ∙ c.as_str.ensures.bytes)
 
 pub returns : goal.returns
 returns c =

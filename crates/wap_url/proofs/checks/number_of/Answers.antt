@@ -4,7 +4,7 @@ use Rattle.std.proofs.lemmas.Int.Digits.{digits_value_more}
 use Rattle.std.proofs.lemmas.Str.{digit_value_digit}
 use Rattle.std.proofs.lemmas.Grind.{pow_more}
 use Rattle.wap_url.proofs.PortLaws.{digit_at}
-use Rattle.wap_url.proofs.checks.number.Goals as goal
+use Rattle.wap_url.proofs.checks.number_of.Goals as goal
 
 pub loop-digit-preserved : goal.loop-digit-preserved
 loop-digit-preserved c =
