@@ -5,7 +5,7 @@ use Rattle.wap_layout.specs.declared.flow.Flow.{Flow}
 use Rattle.wap_layout.specs.declared.flow.Mode.{Mode}
 use Rattle.wap_layout.specs.declared.flow.Mode.TheVariants.{Wrapped, Unwrapped, Preformatted}
 use Rattle.wap_layout.specs.Words.{words_of, joined, unless_empty}
-use Rattle.wap_layout.specs.Pieces.{Piece, pieces, pieces_of}
+use Rattle.wap_layout.specs.Pieces.{Piece, pieces_of}
 use Rattle.wap_layout.specs.Layout.{closed}
 
 -- a word cut at the width, so many times at most
@@ -43,10 +43,6 @@ laid width Preformatted text = unless_empty text
 -- the lines of a piece
 abbrev pub piece_lines : ℕ → Piece → List (List ℕ)
 piece_lines width piece = closed piece.is_hard (laid width piece.mode piece.text)
-
--- the lines so far, and those of a text that has not ended yet and of the flow behind it
-abbrev pub lines_behind : ℕ → List (List ℕ) → Mode → List ℕ → List Flow → List (List ℕ)
-lines_behind width lines mode text flow = lines ++ flat_map (piece_lines width) (pieces mode text flow)
 
 -- the lines of a flow
 abbrev pub lines_of : ℕ → List Flow → List (List ℕ)

@@ -108,7 +108,8 @@ impl Page {
     ghost use Rattle.wap_layout.specs.declared.flow.Flow.{Flow};
     ghost use Rattle.wap_layout.specs.declared.flow.Mode.TheVariants.{Wrapped};
     ghost use Rattle.wap_layout.specs.Pieces.{ended};
-    ghost use Rattle.wap_layout.specs.Calculation.{piece_lines, lines_behind};
+    ghost use Rattle.wap_layout.specs.Calculation.{piece_lines};
+    ghost use Rattle.wap_layout.specs.inside.Behind.{lines_behind};
     ghost use Rattle.wap_layout.specs.inside.Endings.{is_hard};
 
     /// An empty page, whose text is wrapped at first.

@@ -1,5 +1,6 @@
 use Rattle.std.proofs.Common.{◌≡◌, drop}
-use Rattle.wap_layout.specs.Calculation.{lines_behind, lines_of}
+use Rattle.wap_layout.specs.Calculation.{lines_of}
+use Rattle.wap_layout.specs.inside.Behind.{lines_behind}
 use Rattle.wap_layout.proofs.layout.laid_out.Given as goal
 
 abbrev pub invariant-loop-part : goal.invariant-loop-part
