@@ -3,7 +3,8 @@ use Rattle.std.proofs.Common.{◌≡◌, ◌≢◌, inl, inr, ℕ, ◌-◌, ◌<
 use Rattle.std.specs.List.{slice_split}
 use Rattle.std.proofs.lemmas.List.{take_at, nil_from_length, append_cancel_left}
 use Rattle.std.proofs.lemmas.List.Prefix.{end_rest}
-use Rattle.wap_url.specs.Segments.{IsPrefix, IsSuffix, EndsAt, BeginsAt}
+use Rattle.wap_url.specs.Segments.{IsPrefix, IsSuffix}
+use Rattle.wap_url.specs.inside.Segments.{EndsAt, BeginsAt}
 use Rattle.std.proofs.lemmas.Bool.{eqb-true, ne_eqb, cond-true, cond-false}
 use Rattle.wap_url.specs.Access.{without_empty_last}
 use Rattle.wap_url.specs.Segments.{segments, last_segment, all_but_last}

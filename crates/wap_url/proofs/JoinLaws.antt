@@ -13,7 +13,8 @@ use Rattle.std.proofs.lemmas.Str.Ascii.{IsAscii-cons, IsAscii-nil}
 use Rattle.std.proofs.lemmas.Str.Pattern.{IsSplitOnceResult, split_once_first, split_parts, NoCharPasses-char, drop_at_char}
 use Rattle.wap_url.specs.Characters.{is_slash}
 use Rattle.wap_base.specs.Cuts.{begins_with}
-use Rattle.wap_url.specs.Segments.{segments, path_of, folder_of, last_segment, all_but_last}
+use Rattle.wap_url.specs.Segments.{segments, path_of, last_segment, all_but_last}
+use Rattle.wap_url.specs.inside.Segments.{folder_of}
 use Rattle.wap_url.specs.Joining.{kept_with, end_of, without_dots, resolved, resolved_path, is_here, is_above, is_dot_segment}
 use Rattle.wap_base.proofs.Splits.{HasFirst, HasFirst-split, split-none, join-append}
 use Rattle.wap_url.proofs.SplitLaws.{split-cut, all_but_last-push}

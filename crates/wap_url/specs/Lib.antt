@@ -1,7 +1,6 @@
 pub mod Characters
 pub mod Parts
 pub mod Reading
-pub mod Cut
 pub mod Refusal
 pub mod Printing
 pub mod Segments

@@ -1,5 +1,5 @@
 -- A path as its segments and a host as its labels (RFC 2396, sections 3.3 and 3.2.2).
-use Rattle.std.specs.Prelude.{◌≡◌, ℕ, ◌-◌, ◌⊎◌, List, [], ◌∷◌, ◌++◌, length, take}
+use Rattle.std.specs.Prelude.{◌≡◌, ℕ, ◌-◌, List, [], ◌∷◌, ◌++◌, length, take}
 use Rattle.std.specs.List.{slice_split, join_with_byte}
 use Rattle.wap_url.specs.Characters.{is_slash, is_dot}
 use Rattle.wap_base.specs.Ascii.{slash}
@@ -11,11 +11,6 @@ segments path = slice_split is_slash path
 -- the path of these segments
 abbrev pub path_of : List (List ℕ) → List ℕ
 path_of segments = join_with_byte slash segments
-
--- these segments, each with the slash behind it
-abbrev pub folder_of : List (List ℕ) → List ℕ
-folder_of [] = []
-folder_of (s ∷ segments) = s ++ slash ∷ folder_of segments
 
 -- what stands between the dots of a host
 abbrev pub labels : List ℕ → List (List ℕ)
@@ -35,10 +30,3 @@ IsPrefix {X} part whole = (rest : List X) × (whole ≡ part ++ rest)
 
 abbrev pub IsSuffix : {X : Type 0} → List X → List X → Type 0
 IsSuffix {X} part whole = (lead : List X) × (whole ≡ lead ++ part)
-
--- a list may be cut after this part, and before it: it is empty, or the separator stands there
-abbrev pub EndsAt : ℕ → List ℕ → Type 0
-EndsAt c part = (part ≡ []) ⊎ ((front : List ℕ) × (part ≡ front ++ c ∷ []))
-
-abbrev pub BeginsAt : ℕ → List ℕ → Type 0
-BeginsAt c part = (part ≡ []) ⊎ ((rest : List ℕ) × (part ≡ c ∷ rest))

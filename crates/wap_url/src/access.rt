@@ -1,7 +1,8 @@
 //! `Access`, who may enter a page.
 ghost use Rattle.std.specs.Prelude.{◌≡◌, IsTrue, ◌↔◌, map, length, [], ◌∷◌, ◌++◌, drop};
 ghost use Rattle.std.specs.Char.{to_ascii_lowercase};
-ghost use Rattle.wap_url.specs.Segments.{labels, segments, IsPrefix, IsSuffix, EndsAt, BeginsAt};
+ghost use Rattle.wap_url.specs.Segments.{labels, segments, IsPrefix, IsSuffix};
+ghost use Rattle.wap_url.specs.inside.Segments.{EndsAt, BeginsAt};
 ghost use Rattle.wap_url.specs.Access.{below_root, access_segments, without_empty_last};
 ghost use Rattle.wap_base.specs.Ascii.{full_stop, slash};
 

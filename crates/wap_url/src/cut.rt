@@ -2,7 +2,7 @@
 ghost use Rattle.std.specs.Prelude.{◌≡◌, ◌==◌, length, ◌&&◌, not, false};
 ghost use Rattle.wap_base.specs.Cuts.{until, onward, begins_with};
 ghost use Rattle.wap_url.specs.Characters.{is_allowed};
-ghost use Rattle.wap_url.specs.Cut.{stops};
+ghost use Rattle.wap_url.specs.inside.Cut.{stops};
 
 /// What ends at a byte.
 #[derive(Clone, Copy)]

@@ -1,7 +1,8 @@
 //! Joining a reference to a base (RFC 2396, section 5.2).
 ghost use Rattle.std.specs.Prelude.{◌≡◌, ◌++◌, IfOk, OnOk};
 ghost use Rattle.wap_url.specs.Joining.{target, merged_path, lead_segments, rooted, joined};
-ghost use Rattle.wap_url.specs.Segments.{segments, all_but_last, folder_of};
+ghost use Rattle.wap_url.specs.Segments.{segments, all_but_last};
+ghost use Rattle.wap_url.specs.inside.Segments.{folder_of};
 ghost use Rattle.wap_base.specs.Cuts.{begins_with};
 ghost use Rattle.wap_url.specs.Characters.{is_slash};
 

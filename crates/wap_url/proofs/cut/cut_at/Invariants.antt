@@ -1,6 +1,6 @@
 use Rattle.std.proofs.Common.{◌≡◌, ◌++◌, take, drop}
 use Rattle.wap_base.specs.Cuts.{until, onward}
-use Rattle.wap_url.specs.Cut.{stops}
+use Rattle.wap_url.specs.inside.Cut.{stops}
 use Rattle.wap_url.proofs.cut.cut_at.Given as goal
 
 -- no byte so far ends the part

@@ -1,6 +1,7 @@
 use Rattle.std.proofs.Common.{◌++◌, ◌∷◌, [], ap, sym, ◌∙◌, append-nil, append_assoc}
 use Rattle.std.specs.Str.{chars}
-use Rattle.wap_url.specs.Segments.{segments, folder_of, all_but_last}
+use Rattle.wap_url.specs.Segments.{segments, all_but_last}
+use Rattle.wap_url.specs.inside.Segments.{folder_of}
 use Rattle.wap_url.proofs.JoinLaws.{folder_of_bytes, no_folder_of_bytes}
 use Rattle.wap_url.proofs.joining.add_folder.Goals as goal
 
