@@ -11,7 +11,7 @@ use std::cmp::Ordering;
 use wap_base::NoMemory;
 
 /// The order of two values, or `None` where one of them can't be converted.
-pub fn order(alloc: Global, left: &Value, right: &Value) -> Result<Option<Ordering>, NoMemory>
+pub fn compare(alloc: Global, left: &Value, right: &Value) -> Result<Option<Ordering>, NoMemory>
     ensures { IfOk result (λ order. order ≡ order_of left.now right.now) }
 {
     match (left, right) {

@@ -78,6 +78,26 @@ impl BinOp {
     pub fn takes_both(self) -> bool
         ensures { IsTrue result ↔ TakesBoth self }
     {
-        !matches!(self, BinOp::And | BinOp::Or | BinOp::Comma)
+        match self {
+            BinOp::Mul
+            | BinOp::Div
+            | BinOp::IDiv
+            | BinOp::Rem
+            | BinOp::Add
+            | BinOp::Sub
+            | BinOp::Shl
+            | BinOp::Shr
+            | BinOp::UShr
+            | BinOp::Lt
+            | BinOp::Le
+            | BinOp::Gt
+            | BinOp::Ge
+            | BinOp::Eq
+            | BinOp::Ne
+            | BinOp::BitAnd
+            | BinOp::BitXor
+            | BinOp::BitOr => true,
+            BinOp::And | BinOp::Or | BinOp::Comma => false,
+        }
     }
 }

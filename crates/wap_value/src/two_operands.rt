@@ -7,7 +7,7 @@ ghost use Rattle.wap_base.specs.Outcome.{Meets};
 ghost use Rattle.wap_value.specs.TooLong.{kept_within, IsTooLong};
 
 use crate::arithmetic::integer_result;
-use crate::comparison::{order, passes};
+use crate::comparison::{compare, passes};
 use crate::concatenation::concatenation;
 use crate::one_operand::{of_boolean, of_integer};
 use crate::{BinOp, Value, ValueFault, to_int, to_str};
@@ -31,7 +31,7 @@ pub fn binary(
     match op {
         BinOp::Add => sum(alloc, left, right, string),
         BinOp::Lt | BinOp::Le | BinOp::Gt | BinOp::Ge | BinOp::Eq | BinOp::Ne => {
-            let order = order(alloc, left, right)?;
+            let order = compare(alloc, left, right)?;
             Ok(of_boolean(order.map(|order| passes(op, order))))
         }
         BinOp::Mul
