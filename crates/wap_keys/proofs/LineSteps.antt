@@ -1,6 +1,7 @@
 -- A line is taken from a reader.
 use Rattle.std.proofs.Common.{◌≡◌, ℕ, ◌+◌, ◌<◌, Bool, true, List, [], ◌∷◌, ◌++◌, length, take, drop, Option, Some, None, Result, Ok, Err, refl, sym, ap, subst, ◌∙◌, append_assoc, arith}
 use Rattle.std.specs.Prelude.{◌==◌, not, ◌&&◌}
+use Rattle.std.proofs.lemmas.Bool.{eqb-true}
 use Rattle.std.proofs.lemmas.List.{length-append, drop-drop}
 use Rattle.std.proofs.lemmas.List.Folds.{list_all-append}
 use Rattle.wap_input.specs.declared.key.Key.{Key}
@@ -14,6 +15,13 @@ use Rattle.wap_keys.specs.Lines.{lines_of, keys_from, key_before, without_return
 use Rattle.wap_keys.specs.Reading.{Reading, said_yet}
 use Rattle.wap_keys.specs.inside.Taking.{is_unended, said_of, TakesFront, Advances, TakesSaid}
 use Rattle.wap_keys.proofs.LineLaws.{line_before, too_long, content_wants_none}
+
+nothing : (bytes : List ℕ) → length bytes ≡ 0 → bytes ≡ []
+nothing [] none = refl
+nothing (c ∷ cs) none = absurd (omega (arith, none))
+
+pub no_bytes : (bytes : List ℕ) → (length bytes == 0) ≡ true → bytes ≡ []
+no_bytes bytes none = nothing bytes (eqb-true (length bytes) 0 none)
 
 both_unended : (line more : List ℕ) → is_unended line ≡ true → is_unended more ≡ true → is_unended (line ++ more) ≡ true
 both_unended line more all others =

@@ -1,7 +1,8 @@
 //! Fronts of bytes, up to a line feed.
-ghost use Rattle.std.specs.Prelude.{◌≡◌, ◌<◌, ◌≤◌, ◌+◌, ◌++◌, ◌∷◌, true, length, take, drop, IfOk};
-ghost use Rattle.std.specs.Prelude.{OnErr, IfNone, IfSome};
+ghost use Rattle.std.specs.Prelude.{◌≡◌, ◌<◌, ◌≤◌, ◌+◌, ◌++◌, [], ◌∷◌, true, length, take, drop};
+ghost use Rattle.std.specs.Prelude.{IfOk, OnErr, IfNone, IfSome};
 ghost use Rattle.wap_base.specs.Ascii.{line_feed};
+ghost use Rattle.wap_keys.specs.declared.front.Front.TheVariants.{Whole};
 ghost use Rattle.wap_keys.specs.inside.Taking.{is_unended, TakesFront};
 
 use crate::LINE_LIMIT;
@@ -32,6 +33,19 @@ fn feed_at(bytes: &[u8]) -> Option<usize>
         }
     }
     None
+}
+
+/// The line that bytes begin with, where it is whole and not too long.
+pub(crate) fn whole_line(unread: &[u8]) -> Option<&[u8]>
+    ensures within { IfSome result (λ line. length line.now < length unread.now) }
+    ensures takes { IfSome result (λ line. TakesFront [] line.now unread.now
+        (Whole (length line.now))) }
+{
+    let place = feed_at(unread)?;
+    if place > LINE_LIMIT {
+        return None;
+    }
+    Some(unread.split_at(place).0)
 }
 
 /// Appends to a line what follows it up to the first line feed, unless that is too long.

@@ -13,7 +13,7 @@ ghost use Rattle.wap_keys.specs.Reading.{HasRead, Answers, GivesUp, Falls, Keeps
 ghost use Rattle.wap_keys.specs.inside.Taking.{is_unended, said_of, TakesLine, ReadsMore, ends_by};
 ghost use Rattle.wap_keys.specs.inside.Taking.{TakesSome, last_next};
 
-use crate::front::{Front, take_front};
+use crate::front::{Front, take_front, whole_line};
 use crate::line::{Said, line_said, without_return};
 use crate::{Ending, KEYS_LIMIT, KeyFault, Next, PIECE_LIMIT};
 use std::alloc::Global;
@@ -111,8 +111,26 @@ impl Reader {
         }
     }
 
-    /// Takes a whole line, or one that is too long already.
+    /// Takes a whole line, or one that is too long already. A line that lies in one piece isn't
+    /// copied.
     fn take_line(&mut self, alloc: Global) -> Result<Taken, NoMemory>
+        ensures { IfOk result (TakesLine self.old self.new) }
+    {
+        if !self.line.as_slice().is_empty() {
+            return self.go_on(alloc);
+        }
+        let (_, unread) = self.piece.as_slice().split_at(self.at);
+        let Some(line) = whole_line(unread) else {
+            return self.go_on(alloc);
+        };
+        let said = line_said(alloc, without_return(line))?;
+        self.at += line.len() + 1;
+        self.number += 1;
+        Ok(Taken::Line(said))
+    }
+
+    /// Goes on with the line that is begun, and takes it where it is whole or too long already.
+    fn go_on(&mut self, alloc: Global) -> Result<Taken, NoMemory>
         ensures { IfOk result (TakesLine self.old self.new) }
     {
         let (_, unread) = self.piece.as_slice().split_at(self.at);

@@ -1,36 +1,24 @@
-use Rattle.std.proofs.Common.{◌≡◌, ◌≢◌, ℕ, List, ◌++◌, drop, ap, subst, ◌∙◌}
-use Rattle.wap_keys.specs.Reading.{Reading}
+use Rattle.std.proofs.Common.{◌≡◌, ℕ, List, [], length, drop, true, ap, subst, sym, ◌∙◌}
+use Rattle.std.specs.Prelude.{◌==◌}
 use Rattle.wap_keys.specs.Lines.{without_return, content_key}
-use Rattle.wap_keys.specs.declared.fault.KeyFault.TheVariants.{TooLong, NoMemory}
-use Rattle.wap_keys.specs.declared.front.Front.{Front}
 use Rattle.wap_keys.specs.declared.front.Front.TheVariants as front
 use Rattle.wap_keys.specs.inside.Taking.{said_of, TakesFront}
-use Rattle.wap_keys.proofs.LineSteps.{takes_whole, takes_long}
+use Rattle.wap_keys.proofs.LineSteps.{takes_whole, no_bytes}
 use Rattle.wap_keys.proofs.reader.Reader.take_line.Goals as goal
 
-pub returns-in_ok-said-in-Whole : goal.returns-in_ok-said-in-Whole
-returns-in_ok-said-in-Whole c =
+pub returns : goal.returns
+returns c =
     let line = c.self.inside.line.items in
     let piece = c.self.inside.piece.items in
-    let whole = c.take_front.new.line.items in
+    let whole = c.in-Some.line.now in
+    let tested : c.is_empty.result ≡ (length line == 0) = cc in
+    let yes : c.is_empty.result ≡ true = cc in
+    let empty : line ≡ [] = no_bytes line (sym tested ∙ yes) in
     let unread : c.split_at.result.1.now ≡ drop c.self.inside.at piece = cc in
-    let takes : TakesFront line whole (drop c.self.inside.at piece) (front.Whole c.in-Whole.place) =
-    subst (λ (l : List ℕ). TakesFront line whole l (front.Whole c.in-Whole.place)) unread
-    (subst (λ (front : Front). TakesFront line whole c.split_at.result.1.now front) c.in-Whole.is c.in_ok-take_front.ensures.takes) in
-    let content : c.without_return.result.now ≡ without_return whole = c.without_return.ensures ∙ ap without_return (let same : c.deref.result.now ≡ whole = cc in same) in
-    let says : c.in_ok-said-in-Whole.said ≡ said_of (content_key (without_return whole)) = c.in_ok-said-in-Whole.ensures ∙ ap (λ (l : List ℕ). said_of (content_key l)) content in
-    takes_whole c.args.self.now line piece whole c.clear-in-Whole.new.self.items c.self.inside.at c.in-Whole.place c.self.inside.number c.self.inside.count c.self.inside.over c.in_ok-said-in-Whole.said
-    c.self.view_is c.self.invariant.1 takes says c.clear-in-Whole.ensures.items
-
-pub returns-in-TooLong : goal.returns-in-TooLong
-returns-in-TooLong c =
-    let line = c.self.inside.line.items in
-    let piece = c.self.inside.piece.items in
-    let whole = c.take_front.new.line.items in
-    let view : line ++ drop c.self.inside.at piece ≡ c.args.self.now.unread = ap (λ (r : Reading). r.unread) c.self.view_is in
-    let unread : c.split_at.result.1.now ≡ drop c.self.inside.at piece = cc in
-    let takes : TakesFront line whole (drop c.self.inside.at piece) front.TooLong =
-    subst (λ (l : List ℕ). TakesFront line whole l front.TooLong) unread
-    (subst (λ (front : Front). TakesFront line whole c.split_at.result.1.now front) c.in-TooLong.is c.in_ok-take_front.ensures.takes) in
-    let no_want : TooLong ≢ NoMemory = λ e. absurd (let none : ⊥ = cc in none) in
-    (no_want, ap (λ (r : Reading). r.over) c.self.view_is, takes_long c.args.self.now line (drop c.self.inside.at piece) whole view c.self.invariant.1 takes)
+    let takes : TakesFront line whole (drop c.self.inside.at piece) (front.Whole (length whole)) =
+    subst (λ (l : List ℕ). TakesFront line whole l (front.Whole (length whole))) unread
+    (subst (λ (l : List ℕ). TakesFront l whole c.split_at.result.1.now (front.Whole (length whole))) (sym empty) c.in-Some.ensures.takes) in
+    let says : c.in_ok-said.said ≡ said_of (content_key (without_return whole)) =
+    c.in_ok-said.ensures ∙ ap (λ (l : List ℕ). said_of (content_key l)) c.without_return.ensures in
+    takes_whole c.args.self.now line piece whole line c.self.inside.at (length whole) c.self.inside.number c.self.inside.count c.self.inside.over c.in_ok-said.said
+    c.self.view_is c.self.invariant.1 takes says empty
