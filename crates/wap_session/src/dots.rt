@@ -1,7 +1,6 @@
 //! Control characters are shown as dots.
 ghost use Rattle.std.specs.Prelude.{◌≡◌, map, IfOk};
 ghost use Rattle.std.specs.List.{list_any};
-ghost use Rattle.std.specs.Str.{chars};
 ghost use Rattle.wap_world.specs.Lines.{shown_character, shown_line};
 ghost use Rattle.wap_session.specs.inside.Dots.{is_control};
 
@@ -15,11 +14,26 @@ fn is_control(character: char) -> bool
     character < ' ' || character == '\x7f'
 }
 
-/// Whether a text has a control character.
-fn has_control(text: &str) -> bool
-    ensures { result ≡ list_any is_control (chars text.now) }
+/// Whether one of the bytes is that of a control character.
+fn have_control_byte(bytes: &[u8]) -> bool
+    ensures { result ≡ list_any is_control bytes.now }
 {
-    text.chars().any(|character| is_control(character))
+    bytes.iter().any(|byte| is_control(char::from(*byte)))
+}
+
+/// Whether a line has a control character. Its bytes tell, since those of other characters are
+/// none.
+fn has_control(line: &Text) -> bool
+    ensures { result ≡ list_any is_control line.now }
+{
+    have_control_byte(line.as_str().as_bytes())
+}
+
+/// Whether one of the lines has a control character.
+fn have_control(lines: &[Text]) -> bool
+    ensures { result ≡ list_any (list_any is_control) lines.now }
+{
+    lines.iter().any(|line| has_control(line))
 }
 
 /// A character as it is shown.
@@ -47,14 +61,14 @@ fn with_dots(alloc: Global, line: &Text) -> Result<Text, NoMemory>
 fn shown_line(alloc: Global, line: Text) -> Result<Text, NoMemory>
     ensures { IfOk result (λ shown. shown ≡ shown_line line) }
 {
-    if has_control(line.as_str()) {
+    if has_control(&line) {
         return with_dots(alloc, &line);
     }
     Ok(line)
 }
 
-/// Lines as they are shown.
-pub(crate) fn shown_lines(alloc: Global, lines: Rows<Text>) -> Result<Rows<Text>, NoMemory>
+/// Lines, each as it is shown.
+fn each_shown(alloc: Global, lines: Rows<Text>) -> Result<Rows<Text>, NoMemory>
     ensures { IfOk result (λ shown. shown ≡ map shown_line lines) }
 {
     let mut shown = Rows::new(alloc);
@@ -62,4 +76,14 @@ pub(crate) fn shown_lines(alloc: Global, lines: Rows<Text>) -> Result<Rows<Text>
         shown.add(shown_line(alloc, line)?)?;
     }
     Ok(shown)
+}
+
+/// Lines as they are shown; where none has control characters, they are kept.
+pub(crate) fn shown_lines(alloc: Global, lines: Rows<Text>) -> Result<Rows<Text>, NoMemory>
+    ensures { IfOk result (λ shown. shown ≡ map shown_line lines) }
+{
+    if have_control(lines.as_slice()) {
+        return each_shown(alloc, lines);
+    }
+    Ok(lines)
 }

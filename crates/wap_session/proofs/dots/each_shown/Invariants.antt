@@ -1,6 +1,6 @@
 use Rattle.std.proofs.Common.{◌≡◌, map}
 use Rattle.wap_world.specs.Lines.{shown_line}
-use Rattle.wap_session.proofs.dots.shown_lines.Given as goal
+use Rattle.wap_session.proofs.dots.each_shown.Given as goal
 
 abbrev pub invariant-loop-line : goal.invariant-loop-line
 invariant-loop-line l = l.shown ≡ map shown_line l.yielded
