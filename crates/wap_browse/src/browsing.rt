@@ -42,9 +42,10 @@ pub fn browse<P: Pages, I: Source, O: Sink>(
 {
     let mut session = Session::new(alloc, begun.seed, begun.budget, begun.limits);
     let mut reader = Reader::new(alloc);
+    let mut buffer = Vec::new(alloc);
     let mut key = Key::Open(begun.url);
     loop {
-        if let Err(status) = play(alloc, &mut session, &key, pages, out) {
+        if let Err(status) = play(alloc, &mut session, &key, pages, out, &mut buffer) {
             return status;
         }
         key = match reader.next(alloc, keys) {

@@ -1,18 +1,17 @@
 //! Lines as they are written.
-ghost use Rattle.std.specs.Prelude.{◌≡◌, IfOk};
+ghost use Rattle.std.specs.Prelude.{◌≡◌, OnOk};
 ghost use Rattle.wap_world.specs.Lines.{lines_bytes};
 
-use std::alloc::Global;
-use wap_base::{Bytes, NoMemory, Text};
+use wap_base::{NoMemory, Text};
 
-/// The bytes of lines: each line's UTF-8, and a line feed.
-pub(crate) fn lines_bytes(alloc: Global, lines: &[Text]) -> Result<Bytes, NoMemory>
-    ensures { IfOk result (λ bytes. bytes ≡ lines_bytes lines.now) }
+/// Puts into the buffer the bytes of lines: each line's UTF-8, and a line feed.
+pub(crate) fn put_lines(buffer: &mut Vec<u8>, lines: &[Text]) -> Result<(), NoMemory>
+    ensures { OnOk result (buffer.new.items ≡ lines_bytes lines.now) }
 {
-    let mut bytes = Bytes::new(alloc);
+    buffer.clear();
     for line in lines {
-        bytes.add(line.as_str().as_bytes())?;
-        bytes.push(b'\n')?;
+        buffer.extend_from_slice(line.as_str().as_bytes())?;
+        buffer.push(b'\n')?;
     }
-    Ok(bytes)
+    Ok(())
 }

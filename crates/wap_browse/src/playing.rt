@@ -2,20 +2,22 @@
 ghost use Rattle.std.specs.Prelude.{◌≡◌, false};
 ghost use Rattle.wap_browse.specs.inside.Played.{Plays};
 
-use crate::lines::lines_bytes;
+use crate::lines::put_lines;
 use std::alloc::Global;
-use wap_base::{Failed, NoMemory, Sink, write_all};
+use wap_base::{Failed, Sink, write_all};
 use wap_session::{Key, Session, SessionFault};
 use wap_site::Pages;
 use wap_status::Status;
 
-/// Plays a key, and writes the lines that it shows; or answers how the session ends.
+/// Plays a key, and writes the lines that it shows, by a buffer of their bytes; or answers how the
+/// session ends.
 pub(crate) fn play<P: Pages, O: Sink>(
     alloc: Global,
     session: &mut Session,
     key: &Key,
     pages: &mut P,
     out: &mut O,
+    buffer: &mut Vec<u8>,
 ) -> Result<(), Status>
     requires { session.old.is_over ≡ false }
     ensures { Plays key.now
@@ -39,10 +41,10 @@ pub(crate) fn play<P: Pages, O: Sink>(
         Err(SessionFault::NoMemory) => return Err(Status::NoMemory),
         Err(SessionFault::Ended) => unreachable!(),
     };
-    let Ok(bytes) = lines_bytes(alloc, lines.as_slice()) else {
+    let Ok(()) = put_lines(buffer, lines.as_slice()) else {
         return Err(Status::NoMemory);
     };
-    match write_all(out, bytes.as_slice()) {
+    match write_all(out, buffer.as_slice()) {
         Ok(()) => Ok(()),
         Err(Failed) => Err(Status::WriteFault),
     }
