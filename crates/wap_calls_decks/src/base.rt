@@ -73,6 +73,39 @@ fn texts(alloc: Global, args: &mut Args<'_>) -> Result<Vec<Text>, CaseFault> {
     Ok(texts)
 }
 
+/// Whether a text comes before another.
+fn is_less(args: &mut Args<'_>, answer: &mut Answer) -> Result<(), CaseFault> {
+    let first = args.text()?;
+    answer.truth(first < args.text()?)
+}
+
+/// Whether two texts are the same.
+fn is_same(args: &mut Args<'_>, answer: &mut Answer) -> Result<(), CaseFault> {
+    let first = args.text()?;
+    answer.truth(first == args.text()?)
+}
+
+/// Whether each text comes before those that follow it.
+fn ascending(alloc: Global, args: &mut Args<'_>, answer: &mut Answer) -> Result<(), CaseFault> {
+    answer.truth(are_ascending(&texts(alloc, args)?))
+}
+
+/// Whether no two texts are the same.
+fn distinct(alloc: Global, args: &mut Args<'_>, answer: &mut Answer) -> Result<(), CaseFault> {
+    answer.truth(are_distinct(texts(alloc, args)?))
+}
+
+/// The text of bytes in ISO-8859-1.
+fn latin1(alloc: Global, args: &mut Args<'_>, answer: &mut Answer) -> Result<(), CaseFault> {
+    let bytes = args.bytes()?;
+    answer.text(Text::from_latin1(alloc, bytes.as_slice())?)
+}
+
+/// Whether bytes are a name.
+fn names(args: &mut Args<'_>, answer: &mut Answer) -> Result<(), CaseFault> {
+    answer.truth(is_name(args.bytes()?.as_slice()))
+}
+
 /// A text with a number behind it.
 fn numbered(args: &mut Args<'_>, answer: &mut Answer) -> Result<(), CaseFault> {
     let mut text = args.text()?;
@@ -182,26 +215,40 @@ pub fn call(
     args: &mut Args<'_>,
     answer: &mut Answer,
 ) -> Result<bool, CaseFault> {
-    match name_of_call {
-        b"add" => added(alloc, args, answer)?,
-        b"add_bytes" => joined(alloc, args, answer)?,
-        b"rows" => rows(alloc, args, answer)?,
-        b"is_less" => answer.truth(args.text()? < args.text()?)?,
-        b"is_same" => answer.truth(args.text()? == args.text()?)?,
-        b"are_ascending" => answer.truth(are_ascending(&texts(alloc, args)?))?,
-        b"are_distinct" => answer.truth(are_distinct(texts(alloc, args)?))?,
-        b"from_latin1" => {
-            answer.text(Text::from_latin1(alloc, args.bytes()?.as_slice())?)?;
-        }
-        b"add_number" => numbered(args, answer)?,
-        b"limits" => limits(args, answer)?,
-        b"default_limits" => default_limits(answer)?,
-        b"is_name" => answer.truth(is_name(args.bytes()?.as_slice()))?,
-        b"name" => name(alloc, args, answer)?,
-        b"read_u8" => byte(args, answer)?,
-        b"read_mb" => number(args, answer)?,
-        b"write_mb" => spelling(alloc, args, answer)?,
-        _ => return Ok(false),
+    if name_of_call == b"add".as_slice() {
+        added(alloc, args, answer)?;
+    } else if name_of_call == b"add_bytes".as_slice() {
+        joined(alloc, args, answer)?;
+    } else if name_of_call == b"rows".as_slice() {
+        rows(alloc, args, answer)?;
+    } else if name_of_call == b"is_less".as_slice() {
+        is_less(args, answer)?;
+    } else if name_of_call == b"is_same".as_slice() {
+        is_same(args, answer)?;
+    } else if name_of_call == b"are_ascending".as_slice() {
+        ascending(alloc, args, answer)?;
+    } else if name_of_call == b"are_distinct".as_slice() {
+        distinct(alloc, args, answer)?;
+    } else if name_of_call == b"from_latin1".as_slice() {
+        latin1(alloc, args, answer)?;
+    } else if name_of_call == b"add_number".as_slice() {
+        numbered(args, answer)?;
+    } else if name_of_call == b"limits".as_slice() {
+        limits(args, answer)?;
+    } else if name_of_call == b"default_limits".as_slice() {
+        default_limits(answer)?;
+    } else if name_of_call == b"is_name".as_slice() {
+        names(args, answer)?;
+    } else if name_of_call == b"name".as_slice() {
+        name(alloc, args, answer)?;
+    } else if name_of_call == b"read_u8".as_slice() {
+        byte(args, answer)?;
+    } else if name_of_call == b"read_mb".as_slice() {
+        number(args, answer)?;
+    } else if name_of_call == b"write_mb".as_slice() {
+        spelling(alloc, args, answer)?;
+    } else {
+        return Ok(false);
     }
     Ok(true)
 }

@@ -33,6 +33,12 @@ fn store(alloc: Global, fails: Vec<u64>, pages: Vec<(Text, Bytes)>) -> Result<Me
     Ok(MemStore::new(pages, fails))
 }
 
+/// Whether the names of pages are all different.
+fn all_differ(alloc: Global, args: &mut Args<'_>, answer: &mut Answer) -> Result<(), CaseFault> {
+    let pages = pages(alloc, args)?;
+    answer.truth(are_pages(alloc, &pages)?)
+}
+
 /// A page of a store, and the same once more.
 fn fetch(alloc: Global, args: &mut Args<'_>, answer: &mut Answer) -> Result<(), CaseFault> {
     let fails = failing(alloc, args)?;
@@ -137,14 +143,20 @@ pub fn call(
     args: &mut Args<'_>,
     answer: &mut Answer,
 ) -> Result<bool, CaseFault> {
-    match name {
-        b"are_pages" => answer.truth(are_pages(alloc, &pages(alloc, args)?)?)?,
-        b"fetch" => fetch(alloc, args, answer)?,
-        b"list" => list(alloc, args, answer)?,
-        b"read" => read(alloc, args, answer)?,
-        b"write" => write(alloc, args, answer)?,
-        b"write_all" => whole(alloc, args, answer)?,
-        _ => return Ok(false),
+    if name == b"are_pages".as_slice() {
+        all_differ(alloc, args, answer)?;
+    } else if name == b"fetch".as_slice() {
+        fetch(alloc, args, answer)?;
+    } else if name == b"list".as_slice() {
+        list(alloc, args, answer)?;
+    } else if name == b"read".as_slice() {
+        read(alloc, args, answer)?;
+    } else if name == b"write".as_slice() {
+        write(alloc, args, answer)?;
+    } else if name == b"write_all".as_slice() {
+        whole(alloc, args, answer)?;
+    } else {
+        return Ok(false);
     }
     Ok(true)
 }

@@ -80,16 +80,23 @@ fn key(alloc: Global, args: &mut Args<'_>, answer: &mut Answer) -> Result<(), Ca
     }
 }
 
+/// Why a line is no key line, or the fault that is named.
+fn fault_of(alloc: Global, args: &mut Args<'_>) -> Result<Option<KeyFault>, CaseFault> {
+    if args.value()? == b"NoMemory".as_slice() {
+        return Ok(Some(KeyFault::NoMemory));
+    }
+    match read_key(alloc, args.bytes()?.as_slice()) {
+        Ok(_) => Ok(None),
+        Err(fault) => Ok(Some(fault)),
+    }
+}
+
 /// What is told of a line that is no key line.
 fn told(alloc: Global, args: &mut Args<'_>, answer: &mut Answer) -> Result<(), CaseFault> {
-    let fault = match args.value()? {
-        b"NoMemory" => KeyFault::NoMemory,
-        _ => match read_key(alloc, args.bytes()?.as_slice()) {
-            Ok(_) => return answer.word("none"),
-            Err(fault) => fault,
-        },
-    };
-    answer.text(Text::from_string(format!(in alloc; "{fault}")?))
+    match fault_of(alloc, args)? {
+        Some(fault) => answer.text(Text::from_string(format!(in alloc; "{fault}")?)),
+        None => answer.word("none"),
+    }
 }
 
 /// What the keys of bytes come to, which a source gives in pieces, and of whose calls one fails.
@@ -117,13 +124,23 @@ fn add_keys(answer: &mut Answer, read: (Vec<Key>, Ending)) -> Result<(), CaseFau
     add_ending(answer, ending)
 }
 
+/// Whether bytes come to these keys and this ending by pieces of another size.
+fn are_same(
+    alloc: Global,
+    bytes: &Bytes,
+    known: &(Vec<Key>, Ending),
+    piece: usize,
+) -> Result<bool, CaseFault> {
+    let other = read(alloc, bytes, piece, 0)?;
+    Ok(known.0 == other.0 && known.1 == other.1)
+}
+
 /// The keys of bytes, by sources of three sizes of pieces.
 fn keys(alloc: Global, args: &mut Args<'_>, answer: &mut Answer) -> Result<(), CaseFault> {
     let bytes = args.bytes()?;
     let first = read(alloc, &bytes, 1, 0)?;
-    let second = read(alloc, &bytes, 7, 0)?;
-    let third = read(alloc, &bytes, 4096, 0)?;
-    if first.0 != second.0 || first.1 != second.1 || first.0 != third.0 || first.1 != third.1 {
+    let is_same = are_same(alloc, &bytes, &first, 7)? && are_same(alloc, &bytes, &first, 4096)?;
+    if !is_same {
         answer.word("by_pieces")?;
     }
     add_keys(answer, first)
@@ -141,6 +158,21 @@ fn keys_by(
     add_keys(answer, read(alloc, &bytes, piece, fail)?)
 }
 
+/// The keys of bytes, byte by byte, where a call fails.
+fn keys_failing(alloc: Global, args: &mut Args<'_>, answer: &mut Answer) -> Result<(), CaseFault> {
+    keys_by(alloc, 1, args, answer)
+}
+
+/// The keys of bytes, by pieces of the size that is given first, where a call fails.
+fn keys_in_pieces(
+    alloc: Global,
+    args: &mut Args<'_>,
+    answer: &mut Answer,
+) -> Result<(), CaseFault> {
+    let piece = args.count()?;
+    keys_by(alloc, piece, args, answer)
+}
+
 /// Makes the call of this name, if there is one.
 pub fn call(
     alloc: Global,
@@ -148,16 +180,18 @@ pub fn call(
     args: &mut Args<'_>,
     answer: &mut Answer,
 ) -> Result<bool, CaseFault> {
-    match name {
-        b"read_key" => key(alloc, args, answer)?,
-        b"read_key_told" => told(alloc, args, answer)?,
-        b"read_keys" => keys(alloc, args, answer)?,
-        b"read_keys_failing" => keys_by(alloc, 1, args, answer)?,
-        b"read_keys_by" => {
-            let piece = args.count()?;
-            keys_by(alloc, piece, args, answer)?;
-        }
-        _ => return Ok(false),
+    if name == b"read_key".as_slice() {
+        key(alloc, args, answer)?;
+    } else if name == b"read_key_told".as_slice() {
+        told(alloc, args, answer)?;
+    } else if name == b"read_keys".as_slice() {
+        keys(alloc, args, answer)?;
+    } else if name == b"read_keys_failing".as_slice() {
+        keys_failing(alloc, args, answer)?;
+    } else if name == b"read_keys_by".as_slice() {
+        keys_in_pieces(alloc, args, answer)?;
+    } else {
+        return Ok(false);
     }
     Ok(true)
 }

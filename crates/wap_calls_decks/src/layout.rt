@@ -3,19 +3,30 @@ use std::alloc::Global;
 use wap_casebook::{Answer, Args, CaseFault};
 use wap_layout::{Flow, lines};
 
+/// The part of a flow that a word names.
+fn named_part(word: &[u8]) -> Result<Flow, CaseFault> {
+    if word == b"hard".as_slice() {
+        Ok(Flow::Hard)
+    } else if word == b"soft".as_slice() {
+        Ok(Flow::Soft)
+    } else if word == b"wrap".as_slice() {
+        Ok(Flow::Wrap)
+    } else if word == b"nowrap".as_slice() {
+        Ok(Flow::NoWrap)
+    } else if word == b"pre".as_slice() {
+        Ok(Flow::Pre)
+    } else {
+        Err(CaseFault::Malformed("no part of a flow"))
+    }
+}
+
 /// The next part of a flow: a text, or a word.
 fn part(args: &mut Args<'_>) -> Result<Flow, CaseFault> {
-    let part = match args.peek() {
-        [b'"', ..] | [b'(', ..] => return Ok(Flow::Words(args.text()?)),
-        b"hard" => Flow::Hard,
-        b"soft" => Flow::Soft,
-        b"wrap" => Flow::Wrap,
-        b"nowrap" => Flow::NoWrap,
-        b"pre" => Flow::Pre,
-        _ => return Err(CaseFault::Malformed("no part of a flow")),
-    };
-    let _word = args.value()?;
-    Ok(part)
+    let next = args.peek();
+    if next.starts_with(b"\"") || next.starts_with(b"(") {
+        return Ok(Flow::Words(args.text()?));
+    }
+    named_part(args.value()?)
 }
 
 /// The lines of a flow at a width.
@@ -44,9 +55,10 @@ pub fn call(
     args: &mut Args<'_>,
     answer: &mut Answer,
 ) -> Result<bool, CaseFault> {
-    match name {
-        b"lines" => laid(alloc, args, answer)?,
-        _ => return Ok(false),
+    if name == b"lines".as_slice() {
+        laid(alloc, args, answer)?;
+    } else {
+        return Ok(false);
     }
     Ok(true)
 }

@@ -16,9 +16,10 @@ pub fn call(
     args: &mut Args<'_>,
     answer: &mut Answer,
 ) -> Result<bool, CaseFault> {
-    match name {
-        b"takes" => takes(alloc, args, answer)?,
-        _ => return Ok(false),
+    if name == b"takes".as_slice() {
+        takes(alloc, args, answer)?;
+    } else {
+        return Ok(false);
     }
     Ok(true)
 }

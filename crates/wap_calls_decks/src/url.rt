@@ -35,16 +35,23 @@ fn read(alloc: Global, args: &mut Args<'_>, answer: &mut Answer) -> Result<(), C
     }
 }
 
+/// Why a text is no URL, or the fault that is named.
+fn fault_of(alloc: Global, args: &mut Args<'_>) -> Result<Option<UrlFault>, CaseFault> {
+    if args.value()? == b"NoMemory".as_slice() {
+        return Ok(Some(UrlFault::NoMemory));
+    }
+    match Url::read(alloc, &args.text()?) {
+        Ok(_) => Ok(None),
+        Err(fault) => Ok(Some(fault)),
+    }
+}
+
 /// What is told of a text that is no URL.
 fn told(alloc: Global, args: &mut Args<'_>, answer: &mut Answer) -> Result<(), CaseFault> {
-    let fault = match args.value()? {
-        b"NoMemory" => UrlFault::NoMemory,
-        _ => match Url::read(alloc, &args.text()?) {
-            Ok(_) => return answer.word("none"),
-            Err(fault) => fault,
-        },
-    };
-    answer.text(Text::from_string(format!(in alloc; "{fault}")?))
+    match fault_of(alloc, args)? {
+        Some(fault) => answer.text(Text::from_string(format!(in alloc; "{fault}")?)),
+        None => answer.word("none"),
+    }
 }
 
 /// The name of a URL's page in a store.
@@ -54,6 +61,29 @@ fn name(alloc: Global, args: &mut Args<'_>, answer: &mut Answer) -> Result<(), C
         return answer.word("none");
     }
     answer.text(name_of(alloc, &url)?)
+}
+
+/// What a reference is from a URL.
+fn joined(alloc: Global, args: &mut Args<'_>, answer: &mut Answer) -> Result<(), CaseFault> {
+    let base = url(alloc, args)?;
+    let joined = join(alloc, &base, &url(alloc, args)?)?;
+    answer.text(print(alloc, &joined)?)
+}
+
+/// What a URL is to another.
+fn related(alloc: Global, args: &mut Args<'_>, answer: &mut Answer) -> Result<(), CaseFault> {
+    let base = url(alloc, args)?;
+    answer.text(relative(alloc, &base, &url(alloc, args)?)?)
+}
+
+/// A text with escapes.
+fn escaped(alloc: Global, args: &mut Args<'_>, answer: &mut Answer) -> Result<(), CaseFault> {
+    answer.text(escape(alloc, &args.text()?)?)
+}
+
+/// The bytes of a text with escapes.
+fn unescaped(alloc: Global, args: &mut Args<'_>, answer: &mut Answer) -> Result<(), CaseFault> {
+    answer.bytes(unescape(alloc, &args.text()?)?)
 }
 
 /// Whether pages of a domain and a path may be gone to from a URL.
@@ -72,23 +102,24 @@ pub fn call(
     args: &mut Args<'_>,
     answer: &mut Answer,
 ) -> Result<bool, CaseFault> {
-    match name_of_call {
-        b"url" => read(alloc, args, answer)?,
-        b"url_told" => told(alloc, args, answer)?,
-        b"join" => {
-            let base = url(alloc, args)?;
-            let joined = join(alloc, &base, &url(alloc, args)?)?;
-            answer.text(print(alloc, &joined)?)?;
-        }
-        b"relative" => {
-            let base = url(alloc, args)?;
-            answer.text(relative(alloc, &base, &url(alloc, args)?)?)?;
-        }
-        b"name_of" => name(alloc, args, answer)?,
-        b"escape" => answer.text(escape(alloc, &args.text()?)?)?,
-        b"unescape" => answer.bytes(unescape(alloc, &args.text()?)?)?,
-        b"allows" => allows(alloc, args, answer)?,
-        _ => return Ok(false),
+    if name_of_call == b"url".as_slice() {
+        read(alloc, args, answer)?;
+    } else if name_of_call == b"url_told".as_slice() {
+        told(alloc, args, answer)?;
+    } else if name_of_call == b"join".as_slice() {
+        joined(alloc, args, answer)?;
+    } else if name_of_call == b"relative".as_slice() {
+        related(alloc, args, answer)?;
+    } else if name_of_call == b"name_of".as_slice() {
+        name(alloc, args, answer)?;
+    } else if name_of_call == b"escape".as_slice() {
+        escaped(alloc, args, answer)?;
+    } else if name_of_call == b"unescape".as_slice() {
+        unescaped(alloc, args, answer)?;
+    } else if name_of_call == b"allows".as_slice() {
+        allows(alloc, args, answer)?;
+    } else {
+        return Ok(false);
     }
     Ok(true)
 }

@@ -39,6 +39,11 @@ fn add_entries(alloc: Global, vars: &Vars, answer: &mut Answer) -> Result<(), Ca
     Ok(())
 }
 
+/// The variables, in order.
+fn entries(alloc: Global, args: &mut Args<'_>, answer: &mut Answer) -> Result<(), CaseFault> {
+    add_entries(alloc, &vars(alloc, args)?, answer)
+}
+
 /// What is kept of variables when one is removed, twice.
 fn remove(alloc: Global, args: &mut Args<'_>, answer: &mut Answer) -> Result<(), CaseFault> {
     let name = name_of(alloc, &args.text()?)?;
@@ -112,17 +117,26 @@ fn set_again(alloc: Global, args: &mut Args<'_>, answer: &mut Answer) -> Result<
     answer.count(vars.entries(alloc)?.len())
 }
 
+/// The fault that the next argument names.
+fn named_fault(args: &mut Args<'_>) -> Result<VarFault, CaseFault> {
+    let name = args.value()?;
+    if name == b"BadName".as_slice() {
+        Ok(VarFault::BadName)
+    } else if name == b"Full".as_slice() {
+        Ok(VarFault::Full)
+    } else if name == b"NoMemory".as_slice() {
+        Ok(VarFault::NoMemory)
+    } else if name == b"TooLong".as_slice() {
+        let bytes = args.count()?;
+        Ok(VarFault::TooLong { bytes })
+    } else {
+        Err(CaseFault::Malformed("no such fault"))
+    }
+}
+
 /// What is told of a variable that isn't set.
 fn told(alloc: Global, args: &mut Args<'_>, answer: &mut Answer) -> Result<(), CaseFault> {
-    let fault = match args.value()? {
-        b"BadName" => VarFault::BadName,
-        b"Full" => VarFault::Full,
-        b"NoMemory" => VarFault::NoMemory,
-        b"TooLong" => VarFault::TooLong {
-            bytes: args.count()?,
-        },
-        _ => return Err(CaseFault::Malformed("no such fault")),
-    };
+    let fault = named_fault(args)?;
     answer.text(Text::from_string(format!(in alloc; "{fault}")?))
 }
 
@@ -138,19 +152,24 @@ fn reference(alloc: Global, spelled: &str) -> Result<Part, CaseFault> {
     Ok(Part::Var(name_of(alloc, &Text::of(alloc, name)?)?, conv))
 }
 
-/// The parts before the word `with`: texts, and references as words.
+/// The next part: a text, or a reference as a word.
+fn next_part(alloc: Global, args: &mut Args<'_>) -> Result<Part, CaseFault> {
+    if args.peek().starts_with(b"\"") {
+        return Ok(Part::Lit(args.text()?));
+    }
+    reference(alloc, args.word()?.as_str())
+}
+
+/// The parts before the word `with`.
 fn parts(alloc: Global, args: &mut Args<'_>) -> Result<Vec<Part>, CaseFault> {
     let mut parts = Vec::new(alloc);
     for _ in 0..u64::MAX {
-        match args.peek() {
-            b"with" => {
-                let _with = args.value()?;
-                return Ok(parts);
-            }
-            [b'"', ..] => parts.push(Part::Lit(args.text()?))?,
-            _ => parts.push(reference(alloc, args.word()?.as_str())?)?,
+        if args.peek() == b"with".as_slice() {
+            break;
         }
+        parts.push(next_part(alloc, args)?)?;
     }
+    let _with = args.value()?;
     Ok(parts)
 }
 
@@ -168,16 +187,24 @@ pub fn call(
     args: &mut Args<'_>,
     answer: &mut Answer,
 ) -> Result<bool, CaseFault> {
-    match name {
-        b"entries" => add_entries(alloc, &vars(alloc, args)?, answer)?,
-        b"remove" => remove(alloc, args, answer)?,
-        b"clear" => clear(alloc, args, answer)?,
-        b"get" => get(alloc, args, answer)?,
-        b"set" => set(alloc, args, answer)?,
-        b"set_again" => set_again(alloc, args, answer)?,
-        b"set_told" => told(alloc, args, answer)?,
-        b"fill" => fill(alloc, args, answer)?,
-        _ => return Ok(false),
+    if name == b"entries".as_slice() {
+        entries(alloc, args, answer)?;
+    } else if name == b"remove".as_slice() {
+        remove(alloc, args, answer)?;
+    } else if name == b"clear".as_slice() {
+        clear(alloc, args, answer)?;
+    } else if name == b"get".as_slice() {
+        get(alloc, args, answer)?;
+    } else if name == b"set".as_slice() {
+        set(alloc, args, answer)?;
+    } else if name == b"set_again".as_slice() {
+        set_again(alloc, args, answer)?;
+    } else if name == b"set_told".as_slice() {
+        told(alloc, args, answer)?;
+    } else if name == b"fill".as_slice() {
+        fill(alloc, args, answer)?;
+    } else {
+        return Ok(false);
     }
     Ok(true)
 }
