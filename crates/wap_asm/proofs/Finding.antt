@@ -5,7 +5,7 @@ use Rattle.std.proofs.lemmas.Bool.{cases_Bool, and_parts, cond-true, cond-false,
 use Rattle.std.proofs.lemmas.Option.{same_Some}
 use Rattle.wap_asm.specs.Exact.{Among}
 
--- whether each has q to each that stands behind it
+-- whether q holds of each with each that comes after it
 abbrev pub each_pair : {X : Type 0} → (X → X → Bool) → List X → Bool
 each_pair q [] = true
 each_pair q (x ∷ xs) = list_all (q x) xs && each_pair q xs

@@ -33,7 +33,7 @@ low_part Low n = n
 low_part Byte n = 0
 low_part Word n = 0
 
--- the bytes that an operand takes behind the code
+-- the bytes that an operand takes after the code
 abbrev pub slot_bytes : Slot → ℕ → List ℕ
 slot_bytes Absent n = []
 slot_bytes Low n = []

@@ -36,7 +36,7 @@ carried-zero : (allowed : ℕ) → carried allowed 0 ≡ []
 carried-zero zero = refl
 carried-zero (suc allowed) = refl
 
--- what holds of no bytes, and of one more behind those of fewer groups
+-- what holds of no bytes, and of one more byte after those of fewer groups
 by_carried : (P : ℕ → List ℕ → Type 0) (allowed number : ℕ) → P 0 [] → (0 < number → P number (carried allowed (number / 128) ++ (128 + number % 128) ∷ [])) → P number (carried (suc allowed) number)
 by_carried P allowed number none some = elim (zero_or number) [
   | inl is ↦ subst (λ (n : ℕ). P n (carried (suc allowed) n)) (sym is) none

@@ -13,7 +13,7 @@ pub Appends-nil : (a : Option (List ℕ)) → Appends a a []
 Appends-nil None = refl
 Appends-nil (Some w) = ap Some (sym (append-nil w))
 
--- what was left is what a read took to the front of a buffer, and what is left now
+-- what was left is what a read took to the beginning of a buffer, and what is left now
 pub taken : (bytes rest : List ℕ) (at count : ℕ) → count ≤ length (drop at bytes)
     → drop at bytes ≡ take count (take count (drop at bytes) ++ rest) ++ drop (at + count) bytes
 taken bytes rest at count within =

@@ -30,7 +30,7 @@ high_bytes c high = all_high (encode_utf8 c) (λ k within. elim (cases_lt (get_o
   differ : {b : ℕ} → c ≡ b → b < 128 → ⊥
   differ e low = omega arith
 
--- bytes in front of a part
+-- bytes before a part
 onto : List ℕ → List (List ℕ) → List (List ℕ)
 onto [] parts = parts
 onto (b ∷ bs) parts = onto_first b (onto bs parts)

@@ -33,7 +33,7 @@ below_next {x} {y} {xs} {ys} upto rest = elim (cases_lt x y) [
       record { compared = subst (λ (n : ℕ). slice_cmp nat_cmp (x ∷ xs) (n ∷ ys) ≡ Less) same (cmp_rest x xs ys ∙ (rest same).compared) }
 ]
 
--- one front on both sides
+-- one prefix on both sides
 cmp_prefix : (front xs ys : List ℕ) → slice_cmp nat_cmp (front ++ xs) (front ++ ys) ≡ slice_cmp nat_cmp xs ys
 cmp_prefix [] xs ys = refl
 cmp_prefix (x ∷ front) xs ys = cmp_rest x (front ++ xs) (front ++ ys) ∙ cmp_prefix front xs ys

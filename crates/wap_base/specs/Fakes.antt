@@ -54,7 +54,8 @@ after_listing store = record {
   listings = raised store.listings;
 }
 
--- a source: the bytes that are left, how many one call moves at most, and how often it told its end
+-- a source: the bytes that are left, how many one call moves at most, and how often it reported its
+-- end
 pub record SourceState : Type 0 where
   pub left : List ℕ
   pub piece : ℕ

@@ -22,7 +22,7 @@ pub record IsMb (bytes : List ℕ) (number : ℕ) : Type 0 where
   pub value : groups_after 0 bytes ≡ number
   pub fits : number < 2 ^ 32
 
--- from this place on the input has a number, and behind it the next place
+-- from this place on the input has a number, and after it comes the next place
 pub record ReadsMb (input : List ℕ) (place number next : ℕ) : Type 0 where
   pub bytes : List ℕ
   pub rest : List ℕ
@@ -43,8 +43,8 @@ pub record IsTooLong (left : List ℕ) : Type 0 where
   pub five : length bytes ≡ 5
   pub over : AllByRecursion (λ byte. 128 ≤ byte) bytes ⊎ (IsChain bytes × (2 ^ 32 ≤ groups_after 0 bytes))
 
--- Reading from the left: from a place on, behind bytes of the number that began at start and has this value so far,
--- with so many bytes still allowed; end is the input's length.
+-- Reading from the left: from a place on, after bytes of the number that began at start and has
+-- this value so far, with so many bytes still allowed; end is the input's length.
 abbrev pub mb_after : (start end allowed before place : ℕ) → List ℕ → Result (ℕ × ℕ) ReadFault
 mb_after start end zero before place left = Err (TooLong start)
 mb_after start end (suc allowed) before place [] = Err (Short end)

@@ -1,4 +1,4 @@
--- What a read takes and a write gives, where the bytes are told. This project's own.
+-- What a read takes and a write gives, where the bytes are known. This project's own.
 use Rattle.std.specs.Prelude.{◌≡◌, ℕ, List, [], ◌++◌, Option, IfSome, Result, Ok, Err, ◌==◌, if◌then◌else◌}
 use Rattle.std.specs.Option.{option_map}
 use Rattle.wap_base.specs.Count.{raised}
@@ -8,19 +8,19 @@ use Rattle.wap_base.specs.declared.fault.Failed.{Failed}
 abbrev pub TakesFrom : Option (List ℕ) → Option (List ℕ) → List ℕ → Type 0
 TakesFrom before after bytes = before ≡ option_map (λ left. bytes ++ left) after
 
--- the sink has these bytes behind what it had
+-- the sink has these bytes after what it had
 abbrev pub Appends : Option (List ℕ) → Option (List ℕ) → List ℕ → Type 0
 Appends before after bytes = after ≡ option_map (λ written. written ++ bytes) before
 
--- the sink has some front of these bytes behind what it had
+-- the sink has some prefix of these bytes after what it had
 abbrev pub AppendsFront : Option (List ℕ) → Option (List ℕ) → List ℕ → Type 0
 AppendsFront before after bytes = (front : List ℕ) × (rest : List ℕ) × (bytes ≡ front ++ rest) × Appends before after front
 
--- no bytes are left, where they are told
+-- no bytes are left, where they are known
 abbrev pub IsAtEnd : Option (List ℕ) → Type 0
 IsAtEnd left = IfSome left (λ bytes. bytes ≡ [])
 
--- how often a source has told its end, after a read that answers so
+-- how often a source has reported its end, after a read that answers so
 abbrev pub ends_after : ℕ → Result ℕ Failed → ℕ
 ends_after ends (Ok count) = if count == 0 then raised ends else ends
 ends_after ends (Err fault) = ends

@@ -71,7 +71,7 @@ impl Bytes {
         self.inner.is_empty()
     }
 
-    /// Appends bytes. On want of memory nothing is added.
+    /// Appends bytes. When out of memory nothing is added.
     pub fn add(&mut self, bytes: &[u8]) -> Result<(), NoMemory>
         ensures ok { OnOk result (self.new ≡ self.old ++ bytes.now) }
         ensures err { OnErr result (self.new ≡ self.old) }
@@ -80,7 +80,7 @@ impl Bytes {
         Ok(())
     }
 
-    /// Appends a byte. On want of memory nothing is added.
+    /// Appends a byte. When out of memory nothing is added.
     pub fn push(&mut self, byte: u8) -> Result<(), NoMemory>
         ensures ok { OnOk result (self.new ≡ self.old ++ byte ∷ []) }
         ensures err { OnErr result (self.new ≡ self.old) }

@@ -3,7 +3,7 @@ ghost use Rattle.std.specs.Prelude.{⊤};
 
 use std::alloc::{AllocError, AllocFailed};
 
-/// Memory is wanting, the one fault that no clause ties to a cause.
+/// Out of memory, the one fault that no clause ties to a cause.
 #[derive(Clone, Copy, Debug, PartialEq, Eq)]
 pub struct NoMemory;
 
@@ -23,7 +23,7 @@ impl<T: Drop> From<AllocFailed<T>> for NoMemory {
 #[derive(Clone, Copy, Debug, PartialEq, Eq)]
 pub struct Failed;
 
-/// Why a call that asks for pages gave up: the store failed, or memory is wanting.
+/// Why a call that asks for pages gave up: the store failed, or memory ran out.
 #[derive(Clone, Copy, Debug, PartialEq, Eq)]
 pub enum RunErr {
     Store,

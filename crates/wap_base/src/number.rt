@@ -60,7 +60,7 @@ fn mb_from(bytes: &[u8], at: usize) -> Result<(u32, usize), ReadFault>
     Err(ReadFault::TooLong { at })
 }
 
-/// Appends the shortest spelling of a number. On want of memory nothing is added.
+/// Appends the shortest spelling of a number. When out of memory nothing is added.
 pub fn write_mb(out: &mut Bytes, number: u32) -> Result<(), NoMemory>
     ensures ok { OnOk result (out.new ≡ out.old ++ mb_spelling number) }
     ensures shortest { IsShortest (mb_spelling number) number }

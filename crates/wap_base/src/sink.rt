@@ -17,7 +17,7 @@ pub trait Sink {
     /// How often it has failed.
     ghost faults: { Self → ℕ };
 
-    /// Takes a front of the piece, and answers its length.
+    /// Takes a prefix of the piece, and answers its length.
     fn write(&mut self, piece: &[u8]) -> Result<usize, Failed>
         ensures within { IfOk result (λ count. count ≤ length piece.now) }
         ensures bytes { IfOk result (λ count. Appends (written self.old) (written self.new) (take count piece.now)) }
@@ -33,7 +33,8 @@ pub trait Sink {
         ensures nothing { piece.now ≡ [] → OnOk result (faults self.new ≡ faults self.old) };
 }
 
-/// Writes the whole piece, in as many calls as the sink needs. After a fault a front of it was written.
+/// Writes the whole piece, in as many calls as the sink needs. After a fault a prefix of it was
+/// written.
 pub fn write_all<O: Sink>(out: &mut O, piece: &[u8]) -> Result<(), Failed>
     ensures whole { OnOk result (Appends (O.written out.old) (O.written out.new) piece.now) }
     ensures front { OnErr result (AppendsFront (O.written out.old) (O.written out.new) piece.now) }

@@ -16,10 +16,11 @@ pub trait Source {
     /// How often it has failed.
     ghost faults: { Self → ℕ };
 
-    /// How often it has told its end.
+    /// How often it has reported its end.
     ghost ends: { Self → ℕ };
 
-    /// Fills a front of the buffer with the next bytes, and answers their number; 0 means the end.
+    /// Fills the beginning of the buffer with the next bytes, and answers their number; 0 means the
+    /// end.
     fn read(&mut self, buffer: &mut [u8]) -> Result<usize, Failed>
         requires { 0 < length buffer.old }
         ensures within { IfOk result (λ count. count ≤ length buffer.old) }
@@ -78,7 +79,7 @@ impl MemSource {
     }
 }
 
-/// How often the end was told, after a read that moves so many bytes.
+/// How often the end was reported, after a read that moves so many bytes.
 fn ends_after(ends: u64, count: usize) -> u64
     ensures { result ≡ ends_after ends (Ok count) }
 {

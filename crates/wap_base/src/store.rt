@@ -94,7 +94,7 @@ pub trait Store {
 
     /// The page of a name.
     fn fetch(&mut self, name: &Text) -> Result<Fetched, StoreErr>
-        // What is told is so.
+        // The answer is right, where the contents are known.
         ensures found { IfOk result (λ answer. IfSome (contents self.old) (λ pages. answer ≡ answer_for name.now pages)) }
         ensures small { IfOk result IsSmall }
         ensures distinct { IfSome (contents self.old) (λ pages. AreDistinct (names_of pages)) }

@@ -100,7 +100,7 @@ impl Text {
         Text::of(alloc, self.as_str())
     }
 
-    /// Appends a text. On want of memory nothing is added.
+    /// Appends a text. When out of memory nothing is added.
     pub fn add(&mut self, text: &str) -> Result<(), NoMemory>
         ensures ok { OnOk result (self.new ≡ self.old ++ chars text.now) }
         ensures err { OnErr result (self.new ≡ self.old) }
@@ -109,7 +109,7 @@ impl Text {
         Ok(())
     }
 
-    /// Appends a character. On want of memory nothing is added.
+    /// Appends a character. When out of memory nothing is added.
     pub fn push(&mut self, character: char) -> Result<(), NoMemory>
         ensures ok { OnOk result (self.new ≡ self.old ++ character ∷ []) }
         ensures err { OnErr result (self.new ≡ self.old) }
@@ -118,7 +118,7 @@ impl Text {
         Ok(())
     }
 
-    /// Appends a number in decimal digits. On want of memory nothing is added.
+    /// Appends a number in decimal digits. When out of memory nothing is added.
     pub fn add_number(&mut self, number: u64) -> Result<(), NoMemory>
         ensures ok { OnOk result (self.new ≡ self.old ++ decimal number) }
         ensures err { OnErr result (self.new ≡ self.old) }

@@ -41,7 +41,7 @@ rose_from before now after is rose = subst (λ (count : ℕ). Rose count after) 
 risen : (before now after : ℕ) → now ≡ before → now ≤ after → before ≤ after
 risen before now after is more = omega (arith, is, more)
 
--- ---- where bytes and pages are told
+-- ---- where bytes and pages are known
 
 told_by : (begun : Begun) (old new : Outside) (status : Status) (taken : List ℕ) (given : List Key)
     → HasGiven old.left new.left taken given
@@ -194,7 +194,7 @@ ended_browses begun old now reader after state key new left ends faults ending g
       end_once = once_told after old.ends ends (keeps old.ends keys.ends);
     }
 
--- ---- memory was wanting as keys were read
+-- ---- memory ran out as keys were read
 
 pub reader_wants : (begun : Begun) (old now : Outside) (reader : Reading) (state : State)
     (key : Key) (new : Moment) (left : Option (List ℕ)) (ends faults : ℕ)
@@ -359,7 +359,7 @@ stop_browses begun old now reader state key new KeyReadFault goes so = absurd so
 stop_browses begun old now reader state key new (BadKey line fault) goes so = absurd so
 stop_browses begun old now reader state key new TooManyKeys goes so = absurd so
 
--- ---- memory was wanting before anything was done
+-- ---- memory ran out before anything was done
 
 stands_nowhere : (pages : Pages) (begun : Begun) (written : Option (List ℕ))
     → Appends written written (lines_bytes (shown_by (played pages [] (world_of begun))))

@@ -81,7 +81,7 @@ pub front_whole : (before after : Option (List ℕ)) (bytes : List ℕ)
     → Appends before after bytes → AppendsFront before after bytes
 front_whole before after bytes wrote = (bytes, [], sym (append-nil bytes), wrote)
 
--- a front of the bytes of first keys is one of the transcript over all
+-- a prefix of the bytes of first keys is one of the transcript over all
 pub front_of : (pages : Pages) (begun : Begun) (pressed all : List Key)
     (before after : Option (List ℕ)) → AreFirst pressed (Open begun.url ∷ all)
     → AppendsFront before after (lines_bytes (shown_by (played pages pressed (world_of begun))))

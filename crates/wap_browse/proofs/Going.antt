@@ -44,7 +44,7 @@ played_to now moment =
 abbrev pub read_to : Outside → Option (List ℕ) → ℕ → ℕ → Outside
 read_to now left ends faults = record now { left = left; ends = ends; read_faults = faults }
 
--- ---- what holds behind keys that were pressed
+-- ---- what holds after keys that were pressed
 
 pub record Stands (pages : Pages) (begun : Begun) (pressed : List Key) (old now : Outside)
     (state : State) : Type 0 where

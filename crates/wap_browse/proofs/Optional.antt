@@ -1,4 +1,4 @@
--- What is told of something that may be told.
+-- What holds of something that may be known.
 use Rattle.std.proofs.Common.{◌≡◌, ℕ, List, ◌++◌, Option, Some, None, refl, sym, subst, ◌∙◌}
 use Rattle.std.specs.Option.{IfSome}
 use Rattle.wap_base.specs.Transfer.{TakesFrom}
@@ -16,7 +16,7 @@ some_fact o P x is fact = let Q : Option _ → Type 0 = λ o. IfSome o P in subs
 none_some : (bytes : List ℕ) → Some bytes ≡ None → ⊥
 none_some bytes e = cc
 
--- what was told is told still
+-- what was known is still known
 pub some_rest : (start left : Option (List ℕ)) (bytes taken : List ℕ)
     → start ≡ Some bytes → TakesFrom start left taken
     → (rest : List ℕ) × (left ≡ Some rest) × (bytes ≡ taken ++ rest)

@@ -25,7 +25,7 @@ use Rattle.wap_browse.proofs.Going.{moment_of, played_to, Stands}
 
 -- ---- the keys that were given, and those that were pressed
 
--- these keys were given; but for the last all of them were pressed, behind the URL's
+-- these keys were given; but for the last all of them were pressed, after the URL's
 pub record Pressing (begun : Begun) (pressed given all : List Key) (key : Key) : Type 0 where
   pub next : pressed ++ key ∷ [] ≡ Open begun.url ∷ given
   pub first : AreFirst given all
@@ -183,7 +183,7 @@ sink_stops pages begun pressed given all key taken old now state new so prompt s
       prompt = prompt_pressed begun pressed given all key taken so prompt;
     }
 
--- ---- memory was wanting
+-- ---- memory ran out
 
 -- where these keys were handled whole
 pub memory_stops : (pages : Pages) (begun : Begun) (pressed given all : List Key) (taken : List ℕ)

@@ -56,17 +56,17 @@ pub record Reads (begun : Begun) (bytes : List ℕ) (old new : Outside) (status 
     pub too_many_keys : status ≡ TooManyKeys → (keys_of bytes).ending ≡ ending.TooManyKeys
     pub read_fault : status ≡ KeyReadFault
         → (keys_at ending.ReadFault taken).ending ≡ ending.ReadFault
-    -- and where nothing failed, they have to come, or memory was wanting
+    -- and where nothing failed, they have to come, or memory ran out
     pub complete : ¬ Rose old.pages.faults new.pages.faults
         → ¬ Rose old.read_faults new.read_faults → ¬ Rose old.write_faults new.write_faults
         → IsOrWants (ended (keys_of bytes).ending) status
-    -- what was written, where the pages are told
+    -- what was written, where the pages are known
     pub shows : IfSome old.pages.contents
         (λ pages. Shows pages begun bytes taken rest old new status)
 
 -- a session that is begun so, from the outside before to the outside after, and its status
 pub record Browses (begun : Begun) (old new : Outside) (status : Status) : Type 0 where
-  -- what was read and written, where the bytes of keys are told
+  -- what was read and written, where the bytes of keys are known
   pub told : IfSome old.left (λ bytes. Reads begun bytes old new status)
   -- these statuses come only where a count of faults rose
   pub store_fault : status ≡ StoreFault → Rose old.pages.faults new.pages.faults
@@ -84,6 +84,6 @@ pub record Browses (begun : Begun) (old new : Outside) (status : Status) : Type 
   pub stays : Stays old.pages new.pages
   pub read_counts : old.read_faults ≤ new.read_faults
   pub write_counts : old.write_faults ≤ new.write_faults
-  -- no more bytes of keys are taken than one too many, and behind its end the source isn't read
+  -- no more bytes of keys are taken than one too many, and after its end the source isn't read
   pub few : TakesAtMost (KEYS_LIMIT + 1) old.left new.left
   pub end_once : AtMostOnce old.ends new.ends

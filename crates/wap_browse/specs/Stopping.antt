@@ -16,7 +16,7 @@ pub record RoseWithin (least most before after : ℕ) : Type 0 where
   pub few : more ≤ most
   pub count : after ≡ raised_by more before
 
--- all of the first bytes were written, and a prefix of what the others have behind them
+-- all of the first bytes were written, and a prefix of what the others have after them
 pub record WritesPart (before after : Option (List ℕ)) (first others : List ℕ) : Type 0 where
   pub part : List ℕ
   pub rest : List ℕ
@@ -51,7 +51,7 @@ pub record StopsAtSink (pages : Pages) (begun : Begun) (keys : List Key) (taken 
       ≡ raised_by (first_misses pages begun keys cache (count + 1)) old.pages.fetches)
   pub prompt : IsPrompt taken (take count keys)
 
--- memory was wanting
+-- memory ran out
 pub record StopsForMemory (pages : Pages) (begun : Begun) (keys : List Key) (taken : List ℕ)
     (old new : Outside) : Type 0 where
   -- so many first keys were handled whole

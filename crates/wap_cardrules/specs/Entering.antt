@@ -53,7 +53,7 @@ pub record OptionChosen : Type 0 where
 abbrev pub none_chosen : Variables → OptionChosen
 none_chosen vars = record { vars = vars; answer = chosen.NoOption }
 
--- the sets, and then the task of onpick, filled from the variables behind them
+-- the sets, and then the task of onpick, filled from the variables that the sets leave
 abbrev pub after_sets : Set → Node → OptionChosen
 after_sets set option =
     record { vars = set.vars; answer = chosen.Set set.refused (onpick set.vars option) }

@@ -1,4 +1,4 @@
--- What a run comes to where memory is wanting before anything is done.
+-- What a run comes to where memory runs out before anything is done.
 use Rattle.std.proofs.Common.{ℕ, List, Option, Some, None, inl, inr, refl, arith}
 use Rattle.wap_base.specs.Contents.{page_named}
 use Rattle.wap_words.specs.declared.words.Command.{Command}

@@ -56,7 +56,8 @@ IsOfPage NoMemory = Unit {0}
 IsOfPage (BadKey line fault) = ⊥
 IsOfPage TooManyKeys = ⊥
 
--- what a command comes to on a page that the store told: the sink and its faults before and after, and how it ended
+-- what a command comes to on a page of a store that tells its contents: the sink and its faults
+-- before and after, and how it ended
 pub record Answers (command : PageCommand) (page : Option (List ℕ)) (before after : Option (List ℕ)) (faults rest : ℕ)
     (status : Status) : Type 0 where
   -- on Done its text was written

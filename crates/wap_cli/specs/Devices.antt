@@ -10,7 +10,7 @@ pub record Devices : Type 0 where
   pub fetches : ℕ
   pub listings : ℕ
   pub store_faults : ℕ
-  -- the bytes of keys that are left, where the source tells them, and how often it told its end
+  -- the bytes of keys that are left, where the source tells them, and how often it reported its end
   -- and failed
   pub left : Option (List ℕ)
   pub ends : ℕ

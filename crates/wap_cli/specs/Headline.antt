@@ -34,7 +34,7 @@ pub record Serves (command : PageCommand) (name : List ℕ) (old new : Devices) 
   -- and no fault is passed over
   pub store_steady : status ≡ Done → new.store_faults ≡ old.store_faults
   pub write_steady : status ≢ WriteFault → new.write_faults ≡ old.write_faults
-  -- one page is asked for, or none where memory was wanting, and no names
+  -- one page is asked for, or none where memory ran out, and no names
   pub asked : status ≢ NoMemory → new.fetches ≡ raised old.fetches
   pub once : (new.fetches ≡ old.fetches) ⊎ (new.fetches ≡ raised old.fetches)
   pub listings : new.listings ≡ old.listings

@@ -116,17 +116,17 @@ pub enum Takes {
 /// Where it goes on after an instruction.
 #[derive(Clone, Copy, Debug, PartialEq, Eq)]
 pub enum After {
-    /// Behind it.
+    /// After it.
     On,
-    /// As far behind it as its operand says.
+    /// As far after it as its operand says.
     Forward,
     /// As far before it as its operand says.
     Backward,
     /// Either of the first two.
     ForwardOrOn,
-    /// Before it or behind it.
+    /// Before it or after it.
     BackwardOrOn,
-    /// In the jump that has to stand behind it; the two are one instruction.
+    /// In the jump that has to stand after it; the two are one instruction.
     Pair,
     /// Nowhere in this function.
     Leave,

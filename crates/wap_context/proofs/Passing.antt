@@ -49,7 +49,7 @@ pursues_quiet rule seen old new before shown scene is world lines over = record 
   stays = Stays-same seen;
 }
 
--- memory is wanting
+-- memory ran out
 pub pursues_rejected : (rule : Rule) (seen : Seen) (old new : Browser) (before shown : List Line)
     (result : Result (Unit {0}) RunErr)
     → IsErr result → IsErrAnd result (λ err. err ≡ NoMemory) → Pursues rule seen seen old new before shown result

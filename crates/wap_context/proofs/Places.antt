@@ -47,7 +47,7 @@ earlier_none [] few = refl
 earlier_none (x ∷ []) few = refl
 earlier_none (x ∷ y ∷ ys) few = absurd (omega arith)
 
--- behind others
+-- one that is pushed after others is the last
 pub last_pushed : {X : Type 0} (o : Option X) (xs : List X) (x : X) → last_or o (xs ++ x ∷ []) ≡ Some x
 last_pushed o [] x = refl
 last_pushed o (y ∷ ys) x = last_pushed (Some y) ys x

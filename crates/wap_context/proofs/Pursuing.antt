@@ -145,7 +145,7 @@ behind_next pages step seen now after b new before shown more one next so_far le
           ∙ ap (λ (l : List (List ℕ × Bool)). so_far.so_far ++ l) (sym law.asked) ∙ so_far.asked;
     }
 
--- facts of told pages, where both are of the same
+-- facts of known pages, where both are of the same pages
 pub both_told : (contents here : Option Pages) (old b : Browser) {P Q G : Pages → Type 0} → here ≡ contents
     → ((pages : Pages) → P pages → IsOver pages b)
     → ((pages : Pages) → P pages → Q pages → G pages)

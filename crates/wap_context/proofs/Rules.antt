@@ -37,7 +37,7 @@ enter_is pages event world place at =
     let inside = record world { timer = NotStarted } in
     entered_is pages inside (event_task pages event inside) ∙ ap (λ (p : Option Place). enter_at event p world) at
 
--- the place behind a push
+-- the place after a push
 place_behind : (pages : Pages) (world : World) (history : List Entry) (entry : Entry) (deck : Deck)
     → world.history ≡ history ++ entry ∷ [] → deck_at pages entry.url ≡ Some deck
     → place_now pages world ≡ place_in entry deck

@@ -21,7 +21,7 @@ use Rattle.wap_context.specs.inside.Moving.{Line, Moves, Answers, Asked, Leads, 
 abbrev Rule : Type 0
 Rule = Pages → World → Once
 
--- ---- what holds of all pages, and of told ones
+-- ---- what holds of all pages, and of known ones
 
 pub over_all : (contents : Option Pages) (browser : Browser) {Fact : Pages → Type 0}
     → ((pages : Pages) → IsOver pages browser → Fact pages) → IfOver contents browser Fact

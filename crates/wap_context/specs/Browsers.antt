@@ -25,7 +25,7 @@ abbrev pub IsOver : Pages → Browser → Type 0
 IsOver pages browser =
     option_and_then (λ entry. deck_at pages entry.url) (last_entry browser.world) ≡ browser.deck
 
--- a fact of the pages, where they are told and have the deck
+-- a fact of the pages, where they are known and have the deck
 abbrev pub IfOver : Option Pages → Browser → (Pages → Type 0) → Type 0
 IfOver contents browser Fact = IfSome contents (λ pages. IsOver pages browser → Fact pages)
 

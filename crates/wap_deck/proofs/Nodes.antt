@@ -26,7 +26,7 @@ use Rattle.wap_deck.proofs.Items.{words_of-Text}
 use Rattle.wap_deck.proofs.Strings.{run_part, put_by, Joins, put_runs, before-joins}
 use Rattle.wap_deck.proofs.Values.{attributes_read}
 
--- ---- marks that are put in front
+-- ---- marks that are put before items
 
 abbrev pub put_marks : List Mark → List Item → List Item
 put_marks [] rest = rest

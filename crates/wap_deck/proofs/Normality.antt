@@ -125,7 +125,7 @@ put_before (Lit a) (Lit b ∷ parts) rest = sym (part_before-joins a b (put_mark
 put_before (Lit a) (Var name conv ∷ parts) rest = refl
 put_before (Var name conv) parts rest = refl
 
--- a part in front of items is in front of their marks
+-- a part before items is before their marks
 marks_before : (first : Part) (level : ItemLevel) (next : Item) (items : List Item) → out-Item next ≡ level → (rest : List Item) →
     put_marks (marks_of (text_before first next (words_from level) items)) rest ≡ part_before first (put_marks (marks_of (next ∷ items)) rest)
 marks_before first (Item-F.Text parts) next items opened rest =

@@ -12,7 +12,7 @@ abbrev pub run_part : Option (List ℕ) → Option Part
 run_part None = character 0
 run_part (Some text) = literal text
 
--- parts that are put in front, by a way to put one there
+-- parts that are put before a thing, by a way to put one there
 abbrev pub put_by : {X : Type 0} → (Part → X → X) → List Part → X → X
 put_by put [] rest = rest
 put_by put (part ∷ parts) rest = put part (put_by put parts rest)

@@ -22,7 +22,7 @@ fn tag_in(page: u8, token: &Token) -> Option<Tag>
     }
 }
 
-/// A text that goes on, or a new one behind a node. What is said is what items with one part more
+/// A text that goes on, or a new one after a node. What is said is what items with one part more
 /// are.
 fn text_from(alloc: Global, last: Item, items: &mut Rows<Item>) -> Result<Rows<Part>, NoMemory>
     ensures { IfOk result (λ parts. (more : Part) → items.old ++ part_after (last ∷ []) more

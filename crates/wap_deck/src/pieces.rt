@@ -120,7 +120,7 @@ fn begun(alloc: Global, text: &str) -> Result<Rows<Part>, NoMemory>
     Ok(value)
 }
 
-/// The value of an attribute, behind the text of its start.
+/// The value of an attribute, after the text of its start.
 pub fn value(alloc: Global, text: &str, pieces: &[Piece]) -> Result<Rows<Part>, NoMemory>
     ensures { IfOk result (λ value. value ≡ value_after (chars text.now) pieces.now) }
 {

@@ -7,7 +7,7 @@ ghost use Rattle.wap_deck.specs.Adding.{string_after, character_after};
 use std::alloc::Global;
 use wap_base::{NoMemory, Rows, Text};
 
-/// A string that goes on, or a new one behind a U+0000. What is said is what strings with one
+/// A string that goes on, or a new one after a U+0000. What is said is what strings with one
 /// character more are.
 fn string_from(
     alloc: Global,

@@ -14,11 +14,11 @@ Written = Option (List ℕ)
 unlike : (b : Bool) → b ≡ true → b ≡ false → ⊥
 unlike b yes_is no_is = cc
 
--- a front of a text is a front of a longer one
+-- a prefix of a text is a prefix of a longer one
 front_longer : (before after : Written) (text more : List ℕ) → AppendsFront before after text → AppendsFront before after (text ++ more)
 front_longer before after text more is = (is.0, is.1 ++ more, ap (λ (l : List ℕ). l ++ more) is.2 ∙ append_assoc is.0 is.1 more, is.3)
 
--- a whole text, and a front of what follows
+-- a whole text, and a prefix of what follows
 front_then : (before between after : Written) (text more : List ℕ) → Appends before between text → AppendsFront between after more → AppendsFront before after (text ++ more)
 front_then before between after text more whole is =
     (text ++ is.0, is.1, ap (λ (l : List ℕ). text ++ l) is.2 ∙ sym (append_assoc text is.0 is.1), Appends-then before between after text is.0 whole is.3)
@@ -80,7 +80,7 @@ Puts-nil a m p = record {
   stays = λ bad. (bad, refl);
 }
 
--- what is held goes out, and a piece behind it
+-- what is held goes out, and a piece after it
 pub writes_both : (a b c : Written) (m n o : ℕ) (p r : State) (piece : List ℕ) → p.failed ≡ false → r.failed ≡ false → r.bytes ≡ [] → Appends a b p.bytes → Appends b c piece → n ≡ m → o ≡ n → Puts a c m o p r piece
 writes_both a b c m n o p r piece fine good empty first second one two = record {
   counts = omega arith;

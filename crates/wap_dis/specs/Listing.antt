@@ -118,7 +118,7 @@ whole_by code at (Some row) = read_whole row (read_row row code at)
 unfoldable pub whole_at : List ℕ → ℕ → Option (Row × Instr)
 whole_at code at = whole_by code at (row_of (slice_index code at))
 
--- the line of an instruction, and those from the place behind it on; or each byte
+-- the line of an instruction, and those from the place after it on; or each byte
 abbrev pub then_more : List ℕ → ℕ → (ℕ → List ℕ) → Option (Row × Instr) → List ℕ
 then_more code at more None = byte_lines code at
 then_more code at more (Some found) = instr_line at found.0 found.1 ++ more found.1.next

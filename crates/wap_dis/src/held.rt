@@ -24,7 +24,7 @@ pub fn nothing_held() -> Held
     }
 }
 
-/// Puts bytes behind what is held, and writes where there is no room.
+/// Puts bytes after what is held, and writes where there is no room.
 pub fn put<O: Sink>(out: &mut O, held: &mut Held, piece: &[u8])
     ensures { Puts (O.written out.old) (O.written out.new) (O.faults out.old) (O.faults out.new) (state held.old) (state held.new) piece.now }
 {
@@ -37,7 +37,7 @@ pub fn put<O: Sink>(out: &mut O, held: &mut Held, piece: &[u8])
     }
 }
 
-/// Writes what is held, and this behind it.
+/// Writes what is held, and this after it.
 fn write_out<O: Sink>(out: &mut O, held: &mut Held, piece: &[u8])
     requires { held.old.failed ≡ false }
     ensures puts { Puts (O.written out.old) (O.written out.new) (O.faults out.old) (O.faults out.new) (state held.old) (state held.new) piece.now }

@@ -15,7 +15,7 @@ use wap_asm::{read_row, row_of};
 use wap_base::{Failed, Sink};
 use wap_code::{Code, Constant, Instr, Pragma, Row, Unit};
 
-/// Writes the listing of a unit, some lines at a time. After a fault a front of it was written.
+/// Writes the listing of a unit, some lines at a time. After a fault a prefix of it was written.
 pub fn listing<O: Sink>(unit: &Unit, out: &mut O) -> Result<(), Failed>
     ensures whole { OnOk result (Appends (O.written out.old) (O.written out.new) (listing unit.now)) }
     ensures front { OnErr result (AppendsFront (O.written out.old) (O.written out.new) (listing unit.now)) }

@@ -130,8 +130,8 @@ abbrev pub is_decided : Bool → Bool → Bool
 is_decided true truth = truth
 is_decided false truth = not truth
 
--- a short-circuit and the jump behind it are one: where the value as Boolean decides, or is invalid, it is given and jumped
--- with, and else it is taken
+-- a short-circuit and the jump after it are one: where the value as Boolean decides, or is invalid,
+-- it is given and jumped with, and else it is taken
 abbrev pub decided : Option Bool → Bool → ℕ → ℕ → List Value → List Value → Effect
 decided None decides target next variables operands = onward target variables (Invalid ∷ operands)
 decided (Some truth) decides target next variables operands =
@@ -151,7 +151,7 @@ abbrev pub pair_by : Frame → Bool → List ℕ → ℕ → Option Row → Effe
 pair_by frame decides code at None = stuck
 pair_by frame decides code at (Some row) = pair_with frame decides (action_of row.operation) (read_row row code at)
 
--- of a short-circuit, with what stands behind it; of any other by its row
+-- of a short-circuit, with what stands after it; of any other by its row
 abbrev pub effect_read : ℕ → Frame → Action → Instr → Effect
 effect_read string frame (ShortCircuit decides) instr =
     pair_by frame decides (code_of frame.function) instr.next (row_of (slice_index (code_of frame.function) instr.next))

@@ -3,7 +3,7 @@ use Rattle.std.proofs.Common.{◌≡◌, ℕ, zero, suc, ◌+◌, ◌≤◌, ◌
 use Rattle.std.proofs.lemmas.List.{take_more}
 use Rattle.wap_cardrules.specs.Selects.{joined}
 
--- one more word behind others
+-- one more word after others
 pub joined-push : (word : List ℕ) (words : List (List ℕ)) (last : List ℕ) → joined ((word ∷ words) ++ last ∷ []) ≡ joined (word ∷ words) ++ 59 ∷ last
 joined-push word [] last = refl
 joined-push word (next ∷ words) last = ap (λ line. word ++ 59 ∷ line) (joined-push next words last) ∙ sym (append_assoc word (59 ∷ joined (next ∷ words)) (59 ∷ last))

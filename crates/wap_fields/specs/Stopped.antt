@@ -1,5 +1,5 @@
--- Sets that were stopped for want of memory: the first of them may stand, and nothing else changed.
--- This project's own.
+-- Sets that were stopped because memory ran out: the first of them may stand, and nothing else
+-- changed. This project's own.
 use Rattle.std.specs.Prelude.{◌≡◌, ℕ, take, if◌then◌else◌, slice_get, List, [], Option}
 use Rattle.std.specs.Option.{option_map_or}
 use Rattle.wap_markup.specs.declared.deck.Node.{Node}

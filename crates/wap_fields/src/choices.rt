@@ -324,7 +324,8 @@ fn given_choice(
 }
 
 /// The options of a select that are chosen: by the first of four texts that chooses, the variable
-/// of `iname`, that of `name`, `ivalue` and `value`. For each option it is told whether it is.
+/// of `iname`, that of `name`, `ivalue` and `value`. The answer says of each option whether it is
+/// chosen.
 #[tactic(auto, using(crate::proofs::Search::search_of))]
 pub fn choice_of(alloc: Global, vars: &Vars, select: &View<'_>) -> Result<Rows<bool>, NoMemory>
     ensures { IfOk result (λ choice. choice ≡ choice_of vars.now select.now) }

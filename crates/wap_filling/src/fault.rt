@@ -5,7 +5,7 @@ use std::alloc::AllocFailed;
 use thiserror::Error;
 use wap_base::{NameFault, NoMemory};
 
-/// Why a variable isn't set. Where several faults apply, the one that is listed first is told.
+/// Why a variable isn't set. Where several faults apply, the one that is listed first is reported.
 #[derive(Clone, Copy, Debug, PartialEq, Eq, Error)]
 pub enum VarFault {
     #[error("a variable's name is a letter or `_`, and then letters, digits and `_`")]

@@ -48,7 +48,7 @@ fn add_texts(
     Ok(())
 }
 
-/// Appends an option, behind a soft break and its mark.
+/// Appends an option, after a soft break and its mark.
 fn add_option(
     alloc: Global,
     vars: &Vars,

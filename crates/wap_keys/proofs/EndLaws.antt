@@ -1,4 +1,4 @@
--- How often a source has told its end, call by call.
+-- How often a source has reported its end, call by call.
 use Rattle.std.proofs.Common.{◌≡◌, ◌≢◌, ℕ, Bool, true, false, cond, [], Result, Ok, Err, sym, ap, ◌∙◌, inl, inr}
 use Rattle.std.specs.Prelude.{IfOk, OnOk}
 use Rattle.wap_base.specs.declared.fault.NoMemory.{NoMemory}

@@ -23,7 +23,7 @@ use Rattle.wap_keys.specs.Forms.{Form, nothing, text, text_or_none, number, form
 use Rattle.wap_keys.specs.Spelling.{spaced, HasNoSpace, Spells, Misspells, IsTextLine, IsKeyLine, IsUnknown, MisspellsLine, IsNoKeyLine}
 use Rattle.wap_keys.proofs.KeyLaws.{long_key, bad_text, good_text}
 
--- ---- fronts and rests
+-- ---- words and what follows them
 
 no_space_at : (front : List ℕ) (k : ℕ) → HasNoSpace front → k < length front → is_space (get_or front k 0) ≡ false
 no_space_at front k none within = not_true (is_space (get_or front k 0)) (AllPass-from_list_all (λ (c : ℕ). not (is_space c)) front none k 0 within)

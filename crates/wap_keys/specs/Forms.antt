@@ -25,7 +25,7 @@ is_space c = c == space
 abbrev pub front_of : List ℕ → List ℕ
 front_of = before_first is_space
 
--- and what stands behind it, if there is one
+-- and what stands after it, if there is one
 abbrev pub rest_of : List ℕ → Option (List ℕ)
 rest_of bytes = if nat_lt (position_or_len is_space bytes) (length bytes) then Some (after_first is_space bytes) else None
 

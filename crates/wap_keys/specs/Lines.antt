@@ -72,7 +72,7 @@ abbrev pub keys_from : Ending → ℕ → List Line → Keys
 keys_from ending number [] = record { keys = []; ending = ending }
 keys_from ending number (line ∷ lines) = key_before number (line_key ending line) (keys_from ending (number + 1) lines)
 
--- the keys of bytes behind which there is this ending
+-- the keys of bytes after which there is this ending
 unfoldable pub keys_at : Ending → List ℕ → Keys
 keys_at ending bytes = keys_from ending 1 (lines_of bytes)
 

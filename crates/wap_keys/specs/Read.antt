@@ -37,7 +37,8 @@ ending_before (byte ∷ bytes) = ReadFault
 abbrev pub keys_among : List ℕ → List ℕ → List Key
 keys_among taken rest = (keys_at (ending_before rest) taken).keys
 
--- before the last piece was taken, the whole lines were key lines, and said no more than a front of these keys
+-- before the last piece was taken, the whole lines were key lines, and said no more than a prefix
+-- of these keys
 pub record IsPrompt (taken : List ℕ) (keys : List Key) : Type 0 where
   pub earlier : List ℕ
   pub piece : List ℕ

@@ -19,7 +19,7 @@ pub record Reading : Type 0 where
   pub count : ℕ
   pub over : Bool
 
--- keys behind others
+-- keys after others
 abbrev pub behind_keys : List Key → Keys → Keys
 behind_keys keys others = record { keys = keys ++ others.keys; ending = others.ending }
 
@@ -55,15 +55,15 @@ GivesUp before after old =
     (start : Option (List ℕ)) (taken : List ℕ) (keys : List Key) → HasRead start before taken keys old
     → (more : List ℕ) × HasGiven start after (taken ++ more) keys
 
--- how often a source has told its end that had told it so often when it was begun
+-- how often a source has reported its end that had reported it so often when it was begun
 abbrev pub ends_told : Reading → ℕ → ℕ
 ends_told reader ends = if reader.over then raised ends else ends
 
--- behind its end it isn't read again
+-- after its end it isn't read again
 abbrev pub KeepsEnds : Reading → Reading → ℕ → ℕ → Type 0
 KeepsEnds old new before after = (ends : ℕ) → before ≡ ends_told old ends → after ≡ ends_told new ends
 
--- or gives up, and the end was told once at most
+-- or gives up, and the end was reported once at most
 abbrev pub GivesUpEnds : Reading → ℕ → ℕ → Type 0
 GivesUpEnds old before after = (ends : ℕ) → before ≡ ends_told old ends → AtMostOnce ends after
 

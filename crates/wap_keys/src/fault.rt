@@ -5,8 +5,8 @@ use crate::LINE_LIMIT;
 use thiserror::Error;
 use wap_base::NoMemory;
 
-/// Why a line is no key line. Where several faults apply, the one that is listed first is told, but
-/// that each argument from the left is looked at for `Missing` and then for `BadNumber`.
+/// Why a line is no key line. Where several faults apply, the one that is listed first is reported;
+/// but each argument, from the left, is looked at for `Missing` and then for `BadNumber`.
 #[derive(Clone, Copy, Debug, PartialEq, Eq, Error)]
 pub enum KeyFault {
     #[error("the line has more than {LINE_LIMIT} bytes")]

@@ -1,4 +1,4 @@
-//! Fronts of bytes, up to a line feed.
+//! Prefixes of bytes, up to a line feed.
 ghost use Rattle.std.specs.Prelude.{◌≡◌, ◌<◌, ◌≤◌, ◌+◌, ◌++◌, [], ◌∷◌, true, length, take, drop};
 ghost use Rattle.std.specs.Prelude.{IfOk, OnErr, IfNone, IfSome};
 ghost use Rattle.wap_base.specs.Ascii.{line_feed};

@@ -39,7 +39,7 @@ pub(crate) enum More {
 }
 
 /// Reads keys as their bytes come: a key is given before more bytes are asked for than it needs.
-/// Behind an end or a want of memory no more keys are to be asked for.
+/// After an end, or when out of memory, no more keys are to be asked for.
 #[derive(Drop)]
 pub struct Reader {
     /// The line that is begun, of pieces before.
@@ -77,7 +77,7 @@ impl Model for Reader {
         reader.count + 1) × (reader.count ≤ KEYS_LIMIT) };
 }
 
-/// Reads the next bytes into a front of the buffer that is so long, and answers their number.
+/// Reads the next bytes into so long a prefix of the buffer, and answers their number.
 fn read_front<I: Source>(source: &mut I, buffer: &mut [u8], room: usize) -> Result<usize, Failed>
     requires some { 0 < room }
     requires within { room ≤ length buffer.old }

@@ -30,7 +30,7 @@ cut_at-enough width (suc f) (suc g) word one few enough =
 pub cut_word-short : (width : ℕ) (word : List ℕ) → length word ≤ width → cut_word width word ≡ word ∷ []
 cut_word-short width word h = cut_at-short width (length word) word h
 
--- a longer word gives its front and is cut on
+-- a longer word gives its prefix and is cut on
 pub cut_word-long : (width : ℕ) (word : List ℕ) → 1 ≤ width → width < length word → cut_word width word ≡ take width word ∷ cut_word width (drop width word)
 cut_word-long width [] one h = absurd (omega arith)
 cut_word-long width (c ∷ word) one h =

@@ -60,12 +60,12 @@ cut_word-first width word one (inr long) = record { part = take width word; othe
 abbrev pub parts_of : ℕ → List (List ℕ) → List (List ℕ)
 parts_of width words = flat_map (cut_word width) words
 
--- Words that follow a front that fits on a line are filled from that line on.
+-- Words that follow a prefix that fits on a line are filled from that line on.
 abbrev GoesOn : ℕ → List (List ℕ) → Type 0
 GoesOn width more =
     (front : List (List ℕ)) → front ≢ [] → 1 ≤ length (joined front) → length (joined front) ≤ width → IsFilled width (front ++ more) (fill width (joined front) (parts_of width more))
 
--- the line before a word that is behind it and doesn't fit, whatever it is cut into
+-- the line before a word that comes after it and doesn't fit, whatever it is cut into
 pub fill-before : (width : ℕ) (begun word : List ℕ) (more : List (List ℕ)) → 1 ≤ width → 1 ≤ length begun → width < length begun + 1 + length word
     → fill width begun (cut_word width word ++ more) ≡ begun ∷ fill width [] (cut_word width word ++ more)
 fill-before width begun word more one some over =

@@ -2,7 +2,7 @@
 use Rattle.std.proofs.Common.{◌≡◌, ℕ, ◌≤◌, List, [], ◌∷◌, ◌++◌, length, refl, sym, ap, ◌∙◌, append_assoc, arith}
 use Rattle.wap_layout.specs.Words.{joined}
 
--- one more word behind others
+-- one more word after others
 pub joined-push : (word : List ℕ) (words : List (List ℕ)) (last : List ℕ) → joined ((word ∷ words) ++ last ∷ []) ≡ joined (word ∷ words) ++ 32 ∷ last
 joined-push word [] last = refl
 joined-push word (next ∷ words) last = ap (λ line. word ++ 32 ∷ line) (joined-push next words last) ∙ sym (append_assoc word (32 ∷ joined (next ∷ words)) (32 ∷ last))

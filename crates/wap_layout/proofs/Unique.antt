@@ -33,7 +33,7 @@ joined-grows [] next more = joined-first next more
 joined-grows (word ∷ []) next more = let h = joined-first next more in simp length-append (omega arith)
 joined-grows (word ∷ second ∷ front) next more = let h = joined-grows (second ∷ front) next more in simp length-append (omega arith)
 
--- of two fronts that fit, the longest is no shorter than the other
+-- of two prefixes that fit, the longest is no shorter than the other
 no_longer : (width : ℕ) (words front rest longer shorter : List (List ℕ)) → IsLongestFront width words front rest → length (joined longer) ≤ width → (b : Behind front rest longer shorter) → b.middle ≡ []
 no_longer width words front rest longer shorter l fits b = empty b.middle b.longer_is b.rest_is
   where
@@ -57,7 +57,7 @@ same_behind front rest longer shorter b none = record {
 same_swapped : (front rest other others : List (List ℕ)) → SameFront front rest other others → SameFront other others front rest
 same_swapped front rest other others s = record { fronts = sym s.fronts; rests = sym s.rests }
 
--- the longest front is one
+-- there is one longest prefix
 same_front : (width : ℕ) (words front rest other others : List (List ℕ)) → IsLongestFront width words front rest → IsLongestFront width words other others → SameFront front rest other others
 same_front width words front rest other others l m =
     elim (divided front rest other others (sym l.divides ∙ m.divides)) [

@@ -25,7 +25,7 @@ HoldsInOrder width words lines =
 abbrev pub has_room : ℕ → ℕ → ℕ → Bool
 has_room width columns needed = nat_lt 0 columns && nat_le (columns + 1 + needed) width
 
--- the lines of words that go on behind a line, as far as that is filled
+-- the lines of words that go on after a line, as far as that is filled
 abbrev pub fill : ℕ → List ℕ → List (List ℕ) → List (List ℕ)
 fill width line [] = unless_empty line
 fill width line (word ∷ words) =

@@ -5,15 +5,15 @@ use Rattle.wap_layout.specs.declared.flow.Mode.TheVariants.{Wrapped, Unwrapped, 
 use Rattle.wap_layout.specs.Words.{words_of, joined, unless_empty}
 use Rattle.wap_layout.specs.Pieces.{Piece}
 
--- The front is the longest of the words that fits on a line: with the next word it doesn't fit.
+-- The prefix is the longest of the words that fits on a line: with the next word it doesn't fit.
 pub record IsLongestFront (width : ℕ) (words front rest : List (List ℕ)) : Type 0 where
   pub some : front ≢ []
   pub divides : words ≡ front ++ rest
   pub fits : length (joined front) ≤ width
   pub longest : (next : List ℕ) (others : List (List ℕ)) → rest ≡ next ∷ others → width < length (joined (front ++ next ∷ []))
 
--- The words stand on these lines: on each the longest front of those that remain, but a word longer than the
--- width begins a line and is cut at the width, and its last part goes on as a word.
+-- The words stand on these lines: on each the longest prefix of those that remain, but a word
+-- longer than the width begins a line and is cut at the width, and its last part goes on as a word.
 pub data IsFilled (width : ℕ) : List (List ℕ) → List (List ℕ) → Type 0 where
   done : IsFilled width [] []
   line : {words lines : List (List ℕ)} (front rest : List (List ℕ)) → IsLongestFront width words front rest → IsFilled width rest lines → IsFilled width words (joined front ∷ lines)

@@ -25,7 +25,7 @@ ended Preformatted text hard = kept (slice_split is_line_feed text) hard
 ended Wrapped text hard = record { mode = Wrapped; text = text; is_hard = hard } ∷ []
 ended Unwrapped text hard = record { mode = Unwrapped; text = text; is_hard = hard } ∷ []
 
--- the pieces of a flow behind a text that has not ended yet
+-- the pieces of a flow after a text that has not ended yet
 abbrev pub pieces : Mode → List ℕ → List Flow → List Piece
 pieces mode text [] = ended mode text false
 pieces mode text (Words more ∷ flow) = pieces mode (text ++ more) flow

@@ -94,7 +94,7 @@ fn add_ended(
     }
 }
 
-/// The lines so far, and the text behind them, which has not ended yet.
+/// The lines so far, and the text after them, which has not ended yet.
 #[derive(Debug, Drop)]
 pub struct Page {
     pub lines: Rows<Text>,

@@ -1,4 +1,4 @@
--- What stands at the front of bytes: a piece, or the first thing that is wrong.
+-- What bytes begin with: a piece, or the first thing that is wrong.
 use Rattle.std.proofs.Common.{◌≡◌, ℕ, zero, suc, ◌+◌, ◌<◌, ◌≤◌, Bool, true, false, cond, eqb, ltb, leb, List, [], ◌∷◌, ◌++◌, length, take, drop, Result, Ok, Err, ◌⊎◌, inl, inr, refl, sym, ap, subst, ◌∙◌, arith, length-append}
 use Rattle.std.specs.Prelude.{◌&&◌, ◌||◌}
 use Rattle.std.proofs.lemmas.Bool.{and_parts, and_left, cond-true, cond-false, eqb-true, eqb-false, eq-eqb, ne_eqb, ltb-true, ltb-false, leb-true, leb-false, lt-leb, or_right, or_cases, both_ways, false_from_ne_true}
@@ -103,7 +103,7 @@ longest_piece bytes closed some =
       closed = λ open_one. closed_is bytes closed (subst IsOpenComment whole open_one);
     }
 
--- the three ways that reading the front goes
+-- the three ways that reading the next piece goes
 data Goes (at : ℕ) (bytes : List ℕ) : Type 0 where
   opens : is_open_comment bytes ≡ true → piece_at at bytes ≡ Err (fault.OpenComment at) → Goes at bytes
   nothing : is_open_comment bytes ≡ false → (longest bytes).1 ≡ 0 → piece_at at bytes ≡ Err (bad_front at bytes) → Goes at bytes
@@ -193,7 +193,7 @@ quote_not_open quote (b ∷ rest) is = and_left (eqb quote 47) ((eqb b 42) && (e
   no_slash : (c : ℕ) → is_quote c ≡ true → eqb c 47 ≡ false
   no_slash c e = grind (arith, nat_tests)
 
--- behind a quote nothing but a string may begin
+-- at a quote nothing but a string may begin
 quote_alone : (quote : ℕ) (rest : List ℕ) → is_quote quote ≡ true → string_len (quote ∷ rest) ≡ 0 → (longest (quote ∷ rest)).1 ≡ 0
 quote_alone quote rest is none = by_len (ltb 0 (longest (quote ∷ rest)).1) refl where
   at_len : (n : ℕ) (s : Shape) → 0 < n → IsShape s (take n (quote ∷ rest)) → s ≡ shape.Str
@@ -310,7 +310,7 @@ no_slash_mark : is_mark (47 ∷ []) ≡ true
 unfolding marks
 no_slash_mark = refl
 
--- what is wrong is told
+-- what is wrong is reported
 pub piece_stops : (at : ℕ) (bytes : List ℕ) (f : LexFault) → Stops at bytes f → (bytes ≡ [] → ⊥) × (piece_at at bytes ≡ Err f)
 piece_stops at bytes f (character c rest is nothing_is) =
     let closed = closed_again (c ∷ rest) (λ open_one. nothing_is shape.Mark (47 ∷ []) (42 ∷ open_one.inside) open_one.begins no_slash_mark) in

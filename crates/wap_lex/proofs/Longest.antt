@@ -1,4 +1,4 @@
--- The longest of the shapes at the front of bytes, and what stands there.
+-- The longest of the shapes that bytes begin with, and what stands there.
 use Rattle.std.proofs.Common.{◌≡◌, ℕ, ◌<◌, ◌≤◌, Bool, true, false, ltb, List, [], ◌∷◌, ◌++◌, length, take, drop, refl, sym, ap, subst, ◌∙◌, arith, length-take}
 use Rattle.std.specs.List.{AllByRecursion}
 use Rattle.std.proofs.lemmas.Bool.{cond-true, cond-false, ltb-true, ltb-false}
@@ -64,7 +64,7 @@ longest_fits bytes some =
     subst (λ (n : ℕ). IsShape (longest bytes).0 (take n bytes)) (sym best)
     ((reach (longest bytes).0).takes bytes (subst (λ (n : ℕ). 0 < n) best some))
 
--- a text of a shape at the front is no longer than the longest
+-- a text of a shape at the beginning is no longer than the longest
 pub within_longest : (s : Shape) (text more : List ℕ) → IsShape s text → length text ≤ (longest (text ++ more)).1
 within_longest s text more fits = omega (arith, (reach s).most text more fits, none_longer (text ++ more) s)
 

@@ -239,7 +239,7 @@ float_takes bytes some =
     (subst (λ (l : List ℕ). IsFloat (take (float_behind (length whole) (drop n bytes)) l)) (take-append-drop n bytes)
     (float_from whole (drop n bytes) (run_all is_digit bytes) (subst (λ (k : ℕ). 0 < k) (sym same) some)))
 
--- behind digits and something else
+-- after digits and something else
 float_len_at : (whole : List ℕ) (c : ℕ) (rest : List ℕ) → AreDigits whole → is_digit c ≡ false → float_len (whole ++ c ∷ rest) ≡ float_behind (length whole) (c ∷ rest)
 float_len_at whole c rest all other =
     let run = run_until is_digit whole c rest all other in

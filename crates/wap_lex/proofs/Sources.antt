@@ -40,7 +40,7 @@ read_ok (suc most) at (c ∷ bytes) tokens few e =
 piece_some : (s : Shape) (text more : List ℕ) → IsPiece s text more → text ++ more ≡ [] → ⊥
 piece_some s text more one none = omega (arith, ap length none, length-append text more, (reach s).some text one.fits)
 
--- behind a piece
+-- after a piece
 read_on : (most at : ℕ) (s : Shape) (text more : List ℕ) → IsPiece s text more → IsInRange s text → pieces_at (suc most) at (text ++ more) ≡ (pieces_at most (at + length text) more >>= λ others. Ok (token_before (kind_of s text) at (at + length text) others))
 read_on most at s text more one range =
     let bytes = text ++ more in

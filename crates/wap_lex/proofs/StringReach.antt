@@ -177,7 +177,7 @@ pub items_read : (most quote : ℕ) (bytes : List ℕ) → AreRead quote bytes m
 items_read zero quote bytes = record { items = none; over = λ few. ap (item_len quote) (nil_from_length bytes (omega arith)) }
 items_read (suc most) quote bytes = one_read most quote bytes (eqb (item_len quote bytes) 0) refl (items_read most quote (drop (item_len quote bytes) bytes))
 
--- items are read as what they are, where none begins behind them
+-- items are read as what they are, where none begins after them
 pub items_again : (quote most : ℕ) (items rest : List ℕ) → AreItems quote items → item_len quote rest ≡ 0 → length items ≤ most → items_len most quote (items ++ rest) ≡ length items
 items_again quote most items rest none over few = items_end most quote rest over
 items_again quote zero items rest (more item others fits left) over few = absurd (omega (arith, item_some quote item fits, length-append item others))

@@ -19,7 +19,7 @@ is_e c = (c == 101) || (c == 69)
 abbrev pub is_sign : ℕ → Bool
 is_sign c = (c == 43) || (c == 45)
 
--- decimal, the first digit other than 0; octal, behind a 0; or hexadecimal, behind 0x
+-- decimal, the first digit other than 0; octal, after a 0; or hexadecimal, after 0x
 pub data IsInteger : List ℕ → Type 0 where
   decimal : (first : ℕ) (digits : List ℕ) → is_digit first ≡ true → (first == 48) ≡ false → AreDigits digits →
       IsInteger (first ∷ digits)

@@ -1,4 +1,4 @@
--- The same by calculation: how far each shape reaches, and what stands at the front of bytes.
+-- The same by calculation: how far each shape reaches, and what bytes begin with.
 use Rattle.std.specs.Prelude.{ℕ, zero, suc, ◌+◌, nat_le, nat_lt, Bool, false, ◌==◌, ◌||◌, ◌&&◌, if◌then◌else◌, nat_eq, List, [], ◌∷◌, length, take, drop, Option, Some, None, Result, Ok, Err}
 use Rattle.std.specs.List.{prefix_len, starts_with}
 use Rattle.wap_base.specs.Names.{begins_name, continues_name}
@@ -15,7 +15,7 @@ use Rattle.wap_lex.specs.Strings.{is_simple, is_surrogate}
 use Rattle.wap_lex.specs.Marks.{marks}
 use Rattle.wap_lex.specs.Tokens.{kind_of, token_before}
 
--- ---- how many bytes a shape has at the front, 0 where it doesn't begin
+-- ---- how many bytes a shape has at the beginning, 0 where it doesn't begin
 
 abbrev pub word_len : List ℕ → ℕ
 word_len [] = 0
@@ -52,7 +52,7 @@ fraction_len whole rest =
 abbrev pub scaled_len : ℕ → ℕ → ℕ
 scaled_len whole exponent = if (whole == 0) || (exponent == 0) then 0 else whole + exponent
 
--- behind so many digits
+-- after so many digits
 abbrev pub float_behind : ℕ → List ℕ → ℕ
 float_behind whole [] = 0
 float_behind whole (c ∷ rest) = if c == 46 then fraction_len whole rest else scaled_len whole (exponent_len (c ∷ rest))
@@ -169,7 +169,7 @@ in_range at Float len bytes = Ok (Float, len)
 in_range at Str len bytes = Ok (Str, len)
 in_range at Mark len bytes = Ok (Mark, len)
 
--- what stands at the front of bytes, which begin at a place, and how many bytes it has
+-- what bytes at a place begin with, and how many bytes that has
 unfoldable pub piece_at : ℕ → List ℕ → Result (Shape × ℕ) LexFault
 piece_at at bytes =
     let best = longest bytes in

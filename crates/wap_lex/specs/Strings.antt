@@ -13,7 +13,8 @@ is_simple c =
 abbrev pub is_surrogate : ℕ → ℕ → Bool
 is_surrogate a b = ((a == 68) || (a == 100)) && (is_in_range 56 57 b || (is_in_range 65 70 b || is_in_range 97 102 b))
 
--- what stands behind a backslash. An octal escape may go on for two digits, which would stand there without it too.
+-- what stands after a backslash. An octal escape may go on for two digits, which would stand there
+-- without it too.
 pub data IsEscape : List ℕ → Type 0 where
   simple : (c : ℕ) → is_simple c ≡ true → IsEscape (c ∷ [])
   octal : (c : ℕ) → is_octal_digit c ≡ true → IsEscape (c ∷ [])

@@ -43,7 +43,7 @@ pub record IsOpenComment (bytes : List ℕ) : Type 0 where
   pub begins : bytes ≡ 47 ∷ 42 ∷ inside
   pub open_still : (text more : List ℕ) → bytes ≡ text ++ more → IsComment text → ⊥
 
--- a text at the front of the bytes has a shape, and no longer one has any
+-- a text at the beginning of the bytes has a shape, and none that is longer has any
 pub record IsPiece (shape : Shape) (text more : List ℕ) : Type 0 where
   pub fits : IsShape shape text
   pub longest : (other : Shape) (longer after : List ℕ) → text ++ more ≡ longer ++ after → IsShape other longer →
@@ -92,7 +92,7 @@ pub data Stops (at : ℕ) : List ℕ → LexFault → Type 0 where
   integer : (text more : List ℕ) → IsPiece Integer text more → integer_limit < integer_value text →
       Stops at (text ++ more) (IntRange at)
 
--- pieces, and behind them the first thing that is wrong
+-- pieces, and after them the first thing that is wrong
 pub data StopsIn : ℕ → List ℕ → LexFault → Type 0 where
   here : (at : ℕ) (bytes : List ℕ) (fault : LexFault) → Stops at bytes fault → StopsIn at bytes fault
   behind : (at : ℕ) (shape : Shape) (text more : List ℕ) (fault : LexFault) → IsPiece shape text more →

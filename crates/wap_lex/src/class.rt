@@ -6,7 +6,7 @@ ghost use Rattle.wap_lex.specs.Characters.{is_in};
 /// A class of bytes.
 #[derive(Clone, Copy)]
 pub(crate) enum Class {
-    /// What may stand in a word behind its first character.
+    /// What may stand in a word after its first character.
     InWord,
     Digit,
     OctalDigit,
@@ -31,7 +31,7 @@ pub(crate) fn is_in(class: Class, byte: u8) -> bool
     }
 }
 
-/// How many bytes of a class stand at the front.
+/// How many bytes of a class stand at the beginning.
 pub(crate) fn run_len(class: Class, bytes: &[u8]) -> usize
     ensures run { result ≡ prefix_len (is_in class) bytes.now }
     ensures within { result ≤ length bytes.now }

@@ -4,7 +4,7 @@ ghost use Rattle.wap_lex.specs.Reading.{comment_len, block_len, is_open_comment}
 
 use crate::class::{Class, run_len};
 
-/// How many bytes the comment at the front has, 0 where none begins that ends.
+/// How many bytes the comment at the beginning has, 0 where none begins that ends.
 pub(crate) fn comment_len(bytes: &[u8]) -> usize
     ensures comment { result ≡ comment_len bytes.now }
     ensures within { result ≤ length bytes.now }
@@ -34,7 +34,7 @@ fn block_len(bytes: &[u8]) -> usize
     0
 }
 
-/// Whether a comment begins at the front that the end of the source ends.
+/// Whether the bytes begin with a comment that the end of the source ends.
 pub(crate) fn is_open_comment(bytes: &[u8]) -> bool
     ensures { result ≡ is_open_comment bytes.now }
 {

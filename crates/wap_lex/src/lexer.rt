@@ -75,7 +75,7 @@ fn add_token(
     }
 }
 
-/// What stands at the front, which begins at a place, and how many bytes it has.
+/// What bytes at a place begin with, and how many bytes that has.
 #[tactic(auto, unfolding(crate::specs::Reading::piece_at))]
 fn piece(at: usize, bytes: &[u8]) -> Result<(Shape, usize), LexFault>
     requires { at + length bytes.now < 2 ^ 31 }
@@ -96,7 +96,7 @@ fn piece(at: usize, bytes: &[u8]) -> Result<(Shape, usize), LexFault>
     }
 }
 
-/// Why nothing begins at the front.
+/// Why no piece stands at the beginning.
 fn bad_front(at: usize, bytes: &[u8]) -> LexFault
     requires { at + length bytes.now < 2 ^ 31 }
     ensures { result ≡ bad_front at bytes.now }

@@ -10,7 +10,7 @@ const MARKS: [&[u8]; 46] = [
     b"(", b")", b"{", b"}",
 ];
 
-/// How many bytes the longest mark at the front has, 0 where none begins.
+/// How many bytes the longest mark at the beginning has, 0 where none begins.
 #[tactic(auto, unfolding(crate::specs::Marks::marks))]
 pub(crate) fn mark_len(bytes: &[u8]) -> usize
     ensures mark { result ≡ mark_len bytes.now }
@@ -19,7 +19,7 @@ pub(crate) fn mark_len(bytes: &[u8]) -> usize
     first_len(&MARKS, bytes)
 }
 
-/// How many bytes the first of some marks has that stands at the front, 0 where none does.
+/// How many bytes the first of some marks has that stands at the beginning, 0 where none does.
 fn first_len(marks: &[&[u8]], bytes: &[u8]) -> usize
     ensures first { result ≡ first_len (map (λ mark. mark.now) marks.now) bytes.now }
     ensures within { result ≤ length bytes.now }

@@ -5,7 +5,7 @@ ghost use Rattle.wap_lex.specs.Reading.{integer_len, hexadecimal_len, float_len,
 
 use crate::class::{Class, run_len};
 
-/// How many bytes the integer at the front has, 0 where none begins.
+/// How many bytes the integer at the beginning has, 0 where none begins.
 pub(crate) fn integer_len(bytes: &[u8]) -> usize
     ensures integer { result ≡ integer_len bytes.now }
     ensures within { result ≤ length bytes.now }
@@ -23,7 +23,7 @@ pub(crate) fn integer_len(bytes: &[u8]) -> usize
     }
 }
 
-/// The same of what makes a number hexadecimal behind its 0: `x`, and digits.
+/// The same of what makes a number hexadecimal after its 0: `x`, and digits.
 fn hexadecimal_len(bytes: &[u8]) -> usize
     ensures hexadecimal { result ≡ hexadecimal_len bytes.now }
     ensures within { result ≤ length bytes.now }
@@ -37,7 +37,7 @@ fn hexadecimal_len(bytes: &[u8]) -> usize
     }
 }
 
-/// How many bytes the float at the front has, 0 where none begins.
+/// How many bytes the float at the beginning has, 0 where none begins.
 pub(crate) fn float_len(bytes: &[u8]) -> usize
     ensures float { result ≡ float_len bytes.now }
     ensures within { result ≤ length bytes.now }

@@ -34,7 +34,7 @@ const SHAPES: [Shape; 7] = [
     Shape::Mark,
 ];
 
-/// How many bytes of a shape stand at the front, 0 where it doesn't begin.
+/// How many bytes of a shape stand at the beginning, 0 where it doesn't begin.
 fn shape_len(shape: Shape, bytes: &[u8]) -> usize
     ensures shape { result ≡ shape_len shape bytes.now }
     ensures within { result ≤ length bytes.now }

@@ -4,7 +4,7 @@ ghost use Rattle.wap_lex.specs.Reading.{item_len, escape_len, unicode_len, items
 
 use crate::class::{Class, run_len};
 
-/// How many bytes the string at the front has, 0 where none begins that ends.
+/// How many bytes the string at the beginning has, 0 where none begins that ends.
 pub(crate) fn string_len(bytes: &[u8]) -> usize
     ensures string { result ≡ string_len bytes.now }
     ensures within { result ≤ length bytes.now }
@@ -21,7 +21,7 @@ pub(crate) fn string_len(bytes: &[u8]) -> usize
     }
 }
 
-/// How many bytes the characters and escapes at the front have, before anything else.
+/// How many bytes the characters and escapes at the beginning have, before anything else.
 pub(crate) fn items_len(quote: u8, bytes: &[u8]) -> usize
     ensures items { result ≡ items_len (length bytes.now) quote bytes.now }
     ensures within { result ≤ length bytes.now }
@@ -38,7 +38,7 @@ pub(crate) fn items_len(quote: u8, bytes: &[u8]) -> usize
     bytes.len() - rest.len()
 }
 
-/// How many bytes the character or escape at the front has, 0 where none begins.
+/// How many bytes the character or escape at the beginning has, 0 where none begins.
 fn item_len(quote: u8, bytes: &[u8]) -> usize
     ensures item { result ≡ item_len quote bytes.now }
     ensures within { result ≤ length bytes.now }
@@ -59,7 +59,7 @@ fn item_len(quote: u8, bytes: &[u8]) -> usize
     }
 }
 
-/// How many bytes the escape at the front has behind its backslash, 0 where none begins.
+/// How many bytes the escape at the beginning has after its backslash, 0 where none begins.
 fn escape_len(bytes: &[u8]) -> usize
     ensures escape { result ≡ escape_len bytes.now }
     ensures within { result ≤ length bytes.now }
@@ -81,7 +81,7 @@ fn escape_len(bytes: &[u8]) -> usize
     }
 }
 
-/// The same of an escape by four digits, behind its `u`.
+/// The same of an escape by four digits, after its `u`.
 fn unicode_len(bytes: &[u8]) -> usize
     ensures unicode { result ≡ unicode_len bytes.now }
     ensures within { result ≤ length bytes.now + 1 }

@@ -7,7 +7,7 @@ ghost use Rattle.wap_lex.specs.Reading.{word_len};
 
 use crate::class::{Class, run_len};
 
-/// How many bytes the word at the front has, 0 where none begins.
+/// How many bytes the word at the beginning has, 0 where none begins.
 pub(crate) fn word_len(bytes: &[u8]) -> usize
     ensures word { result ≡ word_len bytes.now }
     ensures within { result ≤ length bytes.now }

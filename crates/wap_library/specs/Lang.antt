@@ -20,12 +20,12 @@ use Rattle.wap_library.specs.Row.{Row, gives, ends, draws, of_none, of_one, of_t
 abbrev pub is_sign : ℕ → Bool
 is_sign c = c == 43 || c == 45
 
--- the sign, if there is one, and the longest run of digits behind it
+-- the sign, if there is one, and the longest run of digits after it
 abbrev pub numeral : List ℕ → List ℕ
 numeral [] = []
 numeral (c ∷ s) = if is_sign c then c ∷ take_while is_ascii_digit s else take_while is_ascii_digit (c ∷ s)
 
--- the Integer that a text begins with, behind white space; what follows it doesn't matter
+-- the Integer that a text begins with, after white space; what follows it doesn't matter
 abbrev pub leading_integer : List ℕ → Option ℤ
 leading_integer s = integer_of_text (numeral (behind_blanks s))
 

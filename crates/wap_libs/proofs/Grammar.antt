@@ -50,7 +50,7 @@ record IsLetter (c : ℕ) : Type 0 where
 a_letter : (c : ℕ) (k : Conversion) → conversion_of c ≡ Some k → IsLetter c
 a_letter c k is = record { no_digit = grind (arith, nat_tests); no_percent = grind (arith, nat_tests); no_point = grind (arith, nat_tests) }
 
--- a precision and a letter behind it
+-- a precision and a letter after it
 precision_at-is : (ps : List ℕ) (p : Option ℕ) (c : ℕ) (s : List ℕ) (k : Conversion) → IsPrecision ps p → conversion_of c ≡ Some k → precision_at (ps ++ (c ∷ s)) ≡ Some (p, c ∷ s)
 unfolding begins_digit
 precision_at-is [] p c s k is letter =
@@ -197,7 +197,7 @@ letter-is (c ∷ s) r k was =
     let both = pair_same b.0 k s r (ap (λ q. Some q) b.2) in
     record { c = c; text = ap (λ u. c ∷ u) both.1; is = b.1 ∙ ap (λ q. Some q) both.0 }
 
--- a piece in front of a format is one more piece
+-- a piece before a format is one more piece
 specifier-is : (t r : List ℕ) (sp : Specifier) (pieces : List Piece) → specifier_at t ≡ Some (sp, r) → IsFormat r pieces → IsFormat (37 ∷ t) (Writes sp ∷ pieces)
 specifier-is t r sp pieces was is =
     let w = bound (number_at t) (to_precision (behind_digits t)) (sp, r) was in

@@ -17,12 +17,12 @@ use Rattle.wap_library.specs.Occurrences.{place_of, replaced, replaced_behind}
 pub record Lacks (p s : List ℕ) : Type 0 where
   pub nowhere : (front back : List ℕ) → s ≢ front ++ (p ++ back)
 
--- p occurs in s behind the front, and nowhere before
+-- p occurs in s after the prefix, and nowhere before
 pub record IsFirst (p s front back : List ℕ) : Type 0 where
   pub split : s ≡ front ++ (p ++ back)
   pub first : (before behind : List ℕ) → s ≡ before ++ (p ++ behind) → length front ≤ length before
 
--- of two fronts of a text, the one of fewer bytes has fewer characters
+-- of two prefixes of a text, the one of fewer bytes has fewer characters
 shorter : (a b x y : List ℕ) → a ++ x ≡ b ++ y → utf8_len a ≤ utf8_len b → length a ≤ length b
 shorter [] b x y same fewer = omega arith
 shorter (c ∷ a) [] x y same fewer = absurd (omega (arith, (Rattle.std.proofs.lemmas.Str.len_utf8_bounds c).0))

@@ -3,7 +3,7 @@ use Rattle.std.proofs.Common.{◌≡◌, ℕ, ◌<◌, Bool, true, false, List, 
 use Rattle.std.specs.List.{slice_split, onto_first, join_with_byte}
 use Rattle.std.proofs.lemmas.Bool.{cases_Bool}
 
--- a text in front of the first of some elements
+-- a text before the first of some elements
 abbrev pub onto : List ℕ → List (List ℕ) → List (List ℕ)
 onto e [] = e ∷ []
 onto e (part ∷ parts) = (e ++ part) ∷ parts

@@ -83,7 +83,7 @@ pub pieces_of-goes_on : (c : ℕ) (s : List ℕ) → pieces_of (c ∷ s) ≡ (pi
 pieces_of-goes_on c s =
     goes_on-same (pieces_at (length s)) pieces_of (length s) (piece_at c s) (piece_at-le c s) (λ rest fewer. pieces_at-enough (length s) (length rest) rest fewer (omega arith))
 
--- a piece that was read stands behind those that were, and before those to come
+-- a piece that was read stands after those that were, and before those to come
 pieces_of-push : (pieces : List Piece) (c : ℕ) (s rest : List ℕ) (piece : Piece) → piece_at c s ≡ Some (piece, rest)
     → option_map (λ more. (pieces ++ piece ∷ []) ++ more) (pieces_of rest) ≡ option_map (λ more. pieces ++ more) (pieces_of (c ∷ s))
 pieces_of-push pieces c s rest piece was =

@@ -10,7 +10,8 @@ ghost use Rattle.wap_library.specs.Url.{formula_of_url};
 use crate::call::function_at;
 use wap_library::{FloatFunction, Function, LangFunction, StringFunction, UrlFunction};
 
-/// How many arguments a function takes that needs no browser: what `call_pure` wants to be told.
+/// How many arguments a function takes that needs no browser: as many as `call_pure` has to be
+/// given.
 pub fn arguments_of(lib: u16, f: u8) -> Option<u8>
     ensures { result ≡ option_map (λ function. arguments (row_of function)) (function_at lib f) }
 {

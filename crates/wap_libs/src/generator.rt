@@ -7,7 +7,8 @@ use rand_pcg::Pcg32;
 use std::marker::Model;
 
 /// A session's generator of random numbers. It keeps the session's seed, the seed from which it
-/// started last and how many words were drawn since, so that its place can be told and found again.
+/// started last and how many words were drawn since, so that its place can be named and found
+/// again.
 #[derive(Debug, Drop)]
 pub struct Gen {
     seed: u32,

@@ -94,7 +94,7 @@ fn is_integer(alloc: Global, value: &Value) -> Result<Value, NoMemory>
     }
 }
 
-/// The Integer that a text begins with, behind white space.
+/// The Integer that a text begins with, after white space.
 fn leading_integer(alloc: Global, characters: &Rows<char>) -> Result<Option<i32>, NoMemory>
     ensures { IfOk result (λ number. number ≡ leading_integer characters.now) }
 {
@@ -102,7 +102,7 @@ fn leading_integer(alloc: Global, characters: &Rows<char>) -> Result<Option<i32>
     Ok(to_int(&Value::Str(text(alloc, numeral)?)))
 }
 
-/// The sign, if there is one, and the longest run of digits behind it.
+/// The sign, if there is one, and the longest run of digits after it.
 fn numeral(characters: &[char]) -> &[char]
     ensures { result.now ≡ numeral characters.now }
 {

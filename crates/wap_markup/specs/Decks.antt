@@ -45,7 +45,7 @@ character number = if scalar number then Some (Lit (number ∷ [])) else None
 abbrev pub reference : List ℕ → Conv → Option Part
 reference name conv = if is_name name then Some (Var name conv) else None
 
--- a part in front of others; two literals are one
+-- a part before others; two literals are one
 abbrev pub before : Part → List Part → List Part
 before (Lit text) (Lit more ∷ parts) = Lit (text ++ more) ∷ parts
 before part parts = part ∷ parts
@@ -92,7 +92,7 @@ abbrev pub text_before : Part → Item → Option (List Part) → List Item → 
 text_before first next None items = item.Text (first ∷ []) ∷ next ∷ items
 text_before first next (Some parts) items = item.Text (before first parts) ∷ items
 
--- a part in front of items; it joins the text that follows
+-- a part before items; it joins the text that follows
 abbrev pub part_before : Part → List Item → List Item
 part_before first [] = item.Text (first ∷ []) ∷ []
 part_before first (next ∷ items) = text_before first next (words_of next) items

@@ -76,7 +76,7 @@ may_precede rule first second =
     (not rule.in_order || is_not_behind (place_in rule.groups first) (place_in rule.groups second)) &&
     list_all (λ group. not (is_among group first && is_among group second)) rule.once
 
--- whether an element may stand behind these
+-- whether an element may stand after these
 abbrev pub may_follow : Rule → List Tag → Tag → Bool
 may_follow rule earlier tag =
     is_some (place_in rule.groups tag) && list_all (λ first. may_precede rule first tag) earlier
@@ -93,7 +93,7 @@ is_blank_text _ = false
 abbrev pub tags_of : List Item → List Tag
 tags_of items = map (λ node. node.tag) (filter_map node_of items)
 
--- whether a node or a text may stand behind these items
+-- whether a node or a text may stand after these items
 abbrev pub stands : Rule → List Item → Option Node → Option (List Part) → Bool
 stands rule earlier (Some node) words = may_follow rule (tags_of earlier) node.tag
 stands rule earlier None (Some parts) = rule.text || is_blank_text parts

@@ -29,7 +29,7 @@ use Rattle.wap_markup.specs.Codes.{content_mark, attribute_mark, is_named, has_a
 use Rattle.wap_markup.specs.Spellings.{Then, Told, Given, Never, When, ManyOf, Ended}
 use Rattle.wap_markup.specs.Strings.{Strings, IsInline, IsIndexed}
 
--- ---- what the bytes before settle for those behind them
+-- ---- what the bytes before settle for those after them
 
 pub record State : Type 0 where
   -- the pages of codes, of tags and of attributes
@@ -64,7 +64,8 @@ IsLead page (switch ∷ next ∷ byte ∷ []) lead =
     (switch ≡ SWITCH_PAGE) × (lead ≡ record { switched = true; page = next; byte = byte })
 IsLead page _ lead = ⊥
 
--- ---- strings, characters, references to variables, extensions and opaque data, behind the byte that says which it is
+-- ---- strings, characters, references to variables, extensions and opaque data, after the byte
+-- that says which it is
 
 abbrev pub leaf_of : Role → List ℕ → Leaf
 leaf_of Shown text = leaf.Str text
@@ -138,14 +139,14 @@ IsAttribute strings before = Then (IsLead before.attribute_page) (λ lead.
 abbrev pub IsAttributes : Strings → State → List ℕ → List Attr × State → Type 0
 IsAttributes strings = Ended END (IsAttribute strings)
 
--- a processing instruction behind its byte: one attribute, and an end
+-- a processing instruction after its byte: one attribute, and an end
 abbrev pub IsInstruction : Strings → State → List ℕ → Attr × State → Type 0
 IsInstruction strings before bytes x =
     (front : List ℕ) × (bytes ≡ front ++ (END ∷ [])) × IsAttribute strings before front x
 
 -- ---- elements
 
--- a tag behind its byte: a name of the string table, or nothing
+-- a tag after its byte: a name of the string table, or nothing
 abbrev pub IsTagBehind : Strings → State → ℕ → Bool → List ℕ → Token × State → Type 0
 IsTagBehind strings before byte true = Told literal (IsName strings before)
 IsTagBehind strings before byte false = Given (Code (byte % 64), before)
@@ -157,7 +158,7 @@ kid_of (leaf.Var name conv) = kid.Var name conv
 kid_of (leaf.Ext number) = kid.Ext number
 kid_of (leaf.Opaque bytes) = kid.Opaque bytes
 
--- elements behind the byte of their tags
+-- elements after the byte of their tags
 abbrev pub Elements : Type 1
 Elements = State → Lead → List ℕ → Element × State → Type 0
 
@@ -181,7 +182,8 @@ abbrev pub element_of : Lead → Token → List Attr → List Kid × State → E
 element_of lead tag attributes kids =
     (record { page = lead.page; tag = tag; attrs = attributes; kids = kids.0 }, kids.1)
 
--- an element behind its tag's byte, with such elements in it: a name if it has one, attributes and content, if it has them
+-- an element after its tag's byte, with such elements in it: a name if it has one, attributes and
+-- content, if it has them
 unfoldable pub IsElementOf : Strings → Elements → Elements
 IsElementOf strings Inner before lead =
     Then (IsTagBehind strings (on_tag_page lead.page before) lead.byte (is_named lead.byte)) (λ tag.

@@ -2,7 +2,7 @@
 -- This project's own.
 use Rattle.std.specs.Prelude.{◌≡◌, ℕ, Bool, true, false, List, [], ◌∷◌, ◌++◌}
 
--- one part, and behind it another one, which may depend on what the first one says
+-- one part, and after it another one, which may depend on what the first one says
 pub record Then {A B : Type 0} (First : List ℕ → A → Type 0) (Next : A → List ℕ → B → Type 0) (bytes : List ℕ)
     (b : B) : Type 0 where
   pub front : List ℕ
@@ -31,7 +31,8 @@ abbrev pub When : {A S : Type 0} → Bool → S → (S → List ℕ → List A �
 When true before Is = Is before
 When false before Is = Given ([], before)
 
--- any number of items one behind the other; each begins with the state in which the one before it ends
+-- any number of items one after the other; each begins with the state in which the one before it
+-- ends
 pub data Many {A S : Type 0} (Is : S → List ℕ → A × S → Type 0) : S → List ℕ → List A → S → Type 0 where
   none : (state : S) → Many Is state [] [] state
   more : (before : S) (front : List ℕ) (item : A) (between : S) (rest : List ℕ) (items : List A) (after : S)
@@ -41,7 +42,7 @@ pub data Many {A S : Type 0} (Is : S → List ℕ → A × S → Type 0) : S →
 abbrev pub ManyOf : {A S : Type 0} → (S → List ℕ → A × S → Type 0) → S → List ℕ → List A × S → Type 0
 ManyOf Is before bytes x = Many Is before bytes x.0 x.1
 
--- the same, and a byte behind them
+-- the same, and a byte after them
 pub record Ended {A S : Type 0} (byte : ℕ) (Is : S → List ℕ → A × S → Type 0) (before : S) (bytes : List ℕ)
     (x : List A × S) : Type 0 where
   pub front : List ℕ

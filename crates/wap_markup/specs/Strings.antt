@@ -17,7 +17,7 @@ is_not_zero byte = not (byte == 0)
 abbrev pub string_from : List ℕ → ℕ → List ℕ
 string_from table index = take_while is_not_zero (drop index table)
 
--- a string in place: its bytes, and a 0 behind them
+-- a string in place: its bytes, and a 0 after them
 pub record IsInline (strings : Strings) (bytes text : List ℕ) : Type 0 where
   pub string : List ℕ
   pub spelled : bytes ≡ string ++ (0 ∷ [])

@@ -23,7 +23,7 @@ use Rattle.wap_markup.specs.Trees.{ItemLevel, plain_text}
 
 -- ---- texts
 
--- a character in front of the strings of a text
+-- a character before the strings of a text
 abbrev pub run_before : ℕ → List (Option (List ℕ)) → List (Option (List ℕ))
 run_before c (Some text ∷ runs) = Some (c ∷ text) ∷ runs
 run_before c runs = Some (c ∷ []) ∷ runs

@@ -1,7 +1,7 @@
 //! The codes of global tokens (WAP-192, section 7.1). The low six bits of any other byte are a
 //! code of the page: a tag in content, an attribute's start or a part of its value in attributes.
 
-/// The byte behind it is the page from here on.
+/// The byte after it is the page from here on.
 pub const SWITCH_PAGE: u8 = 0x00;
 /// The end of attributes, of content or of a processing instruction; at 0 a string ends.
 pub const END: u8 = 0x01;

@@ -1,4 +1,4 @@
-//! What the bytes of a document's body say: what stands behind each of them.
+//! What the bytes of a document's body say: what stands after each of them.
 use wap_base::{Bytes, Conv, Text};
 
 /// The byte that says what an item is, and the page of codes on which it stands.
@@ -21,15 +21,15 @@ pub enum Role {
 /// What a byte says that means the same in content and in the value of an attribute.
 #[derive(Clone, Copy, Debug, PartialEq, Eq)]
 pub enum LeafMark {
-    /// A string stands behind it.
+    /// A string stands after it.
     Inline(Role),
-    /// The index of a string in the string table stands behind it.
+    /// The index of a string in the string table stands after it.
     Indexed(Role),
-    /// The number of a character stands behind it.
+    /// The number of a character stands after it.
     Entity,
-    /// So many bytes stand behind it.
+    /// So many bytes stand after it.
     Opaque,
-    /// Nothing stands behind it.
+    /// Nothing stands after it.
     Extension(u8),
 }
 

@@ -31,7 +31,7 @@ IsSymbol-same text rest left s t i e =
     let p = pair_same s t rest left e in
     subst (λ u. IsSymbol text u left) p.0 (subst (λ r. IsSymbol text s r) p.1 i)
 
--- a letter is behind the digits, and no backslash
+-- a letter comes after the digits, and is no backslash
 in_range : (c : ℕ) → is_in_range 49 57 c ≡ true → (49 ≤ c) × (c ≤ 57)
 in_range c e = grind (arith, nat_tests)
 

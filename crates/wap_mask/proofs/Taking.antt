@@ -14,7 +14,7 @@ use Rattle.wap_mask.specs.Grammar.{repeats, RepeatsLast}
 use Rattle.wap_mask.specs.Reading.{after_all, after_up_to, after, is_taken}
 use Rattle.wap_mask.proofs.Options.{given}
 
--- a front of a text, in a symbol's set, and what follows it
+-- a prefix of a text, in a symbol's set, and what follows it
 pub record Splits (symbol : Symbol) (text rest : List ℕ) : Type 0 where
   pub front : List ℕ
   pub joined : text ≡ front ++ rest
@@ -46,7 +46,7 @@ after_up_to-splits class zero text = record { front = []; joined = refl; takes =
 after_up_to-splits class (suc most) [] = record { front = []; joined = refl; takes = (All-nil (λ x. is_in class x ≡ true), omega arith) }
 after_up_to-splits class (suc most) (c ∷ text) = up_to-more class most c text _ (is_in class c) refl (after_up_to-splits class most text)
 
--- what a symbol leaves of a text, it leaves behind a front that is in its set
+-- what a symbol leaves of a text, it leaves after a prefix that is in its set
 pub after-splits : (symbol : Symbol) (text rest : List ℕ) → after symbol text ≡ Some rest → Splits symbol text rest
 after-splits (One class) [] rest e = cc
 after-splits (One class) (c ∷ text) rest e =

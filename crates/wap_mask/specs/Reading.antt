@@ -32,7 +32,7 @@ abbrev pub first_of : List ℕ → Option (ℕ × List ℕ)
 first_of [] = None
 first_of (c ∷ text) = Some (c, text)
 
--- what follows the most that a symbol takes of a text's front
+-- what follows the longest prefix that a symbol takes of a text
 abbrev pub after : Symbol → List ℕ → Option (List ℕ)
 after (One class) text = first_of text >>= λ first. if is_in class first.0 then Some first.1 else None
 after (Exactly c) text = first_of text >>= λ first. if first.0 == c then Some first.1 else None

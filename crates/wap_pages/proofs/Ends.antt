@@ -23,7 +23,7 @@ front_of list end ends =
     let same : end ≡ drop at list = (bytes_decides end (drop at list)).0 ends in
     (take at list, sym (take-append-drop at list) ∙ ap (λ (l : List ℕ). take at list ++ l) (sym same))
 
--- where two lists in a row are two others, one of the first is the front of the other
+-- where two lists in a row are two others, one of the first ones is a prefix of the other
 abbrev Cut : List ℕ → List ℕ → List ℕ → List ℕ → Type 0
 Cut a b c d = ((rest : List ℕ) × (c ≡ a ++ rest) × (b ≡ rest ++ d)) ⊎ ((rest : List ℕ) × (a ≡ c ++ rest) × (d ≡ rest ++ b))
 

@@ -49,7 +49,7 @@ impl<S: Store> Model for Cached<S> {
 }
 
 impl<S: Store> Cached<S> {
-    /// The pages of a store, of which as many are kept as the capacity says. For want of memory the
+    /// The pages of a store, of which as many are kept as the capacity says. When out of memory the
     /// store comes back.
     pub fn new(alloc: Global, store: S, capacity: usize) -> Result<Cached<S>, (S, NoMemory)>
         requires some { LEAST_CAPACITY ≤ capacity }
@@ -90,7 +90,8 @@ fn recall(kept: &mut LruCache<Text, Page>, name: &Text) -> Result<Option<Page>, 
     }
 }
 
-/// The page that is kept under a name, if one is, which goes first; none where it is wanted fresh.
+/// The page that is kept under a name, if one is, which goes first; none where it has to be fetched
+/// anew.
 fn look_up(
     kept: &mut LruCache<Text, Page>,
     name: &Text,
@@ -158,7 +159,7 @@ impl<S: Store> Pages for Cached<S> {
         ensures stays { Stays (⟦<Cached<S> as Pages>⟧.seen self.old)
             (⟦<Cached<S> as Pages>⟧.seen self.new) }
 
-        // After want of memory or a fault nothing is kept but what was kept.
+        // After running out of memory or a fault nothing is kept but what was kept.
         ensures no_more { OnErr result (KeepsNoMore (cache_of self.old) (cache_of self.new)) }
     {
         if let Some(page) = look_up(&mut self.kept, name, fresh)? {

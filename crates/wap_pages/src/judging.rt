@@ -15,8 +15,8 @@ use wap_markup::Document;
 use wap_site::{Page, Shared};
 use wap_wbxml::decode;
 
-/// The page of a name with these bytes. It is never `Missing` or `Refused`: a page that is refused
-/// is told by its fault.
+/// The page of a name with these bytes. It is never `Missing` or `Refused`: where a page is
+/// refused, the fault says why.
 pub fn judge(alloc: Global, name: &Text, bytes: &[u8]) -> Result<Page, PageErr>
     ensures page { IfOk result (λ page. page ≡ page_of_bytes name.now bytes.now) }
     ensures accepted { IfOk result (λ page. (fault : PageFault)

@@ -7,7 +7,7 @@ use Rattle.wap_world.specs.Requests.{field_text, form_text}
 abbrev Post : Type 0
 Post = List ℕ × List ℕ
 
--- one more field behind others
+-- one more field after others
 form-push : (post : Post) (posts : List Post) (last : Post)
     → form_text ((post ∷ posts) ++ last ∷ []) ≡ form_text (post ∷ posts) ++ ampersand ∷ field_text last
 form-push post [] last = refl

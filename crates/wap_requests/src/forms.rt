@@ -32,7 +32,7 @@ pub fn form_text(alloc: Global, posts: &[(Text, Text)]) -> Result<Text, NoMemory
     Ok(form)
 }
 
-/// A form behind a query; an empty one is none.
+/// A form after a query; an empty one is none.
 pub fn query_before(alloc: Global, query: &Option<Text>, form: Text) -> Result<Text, NoMemory>
     ensures { IfOk result (λ whole. whole ≡ query_before query.now form) }
 {

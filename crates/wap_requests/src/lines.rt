@@ -20,7 +20,7 @@ fn add_method(line: &mut Text, request: &Request) -> Result<(), NoMemory>
     }
 }
 
-/// Appends a body, behind a space.
+/// Appends a body, after a space.
 fn add_body(line: &mut Text, body: &Option<Text>) -> Result<(), NoMemory>
     ensures { OnOk result
         (line.new ≡ line.old ++ option_map_or (λ body. space ∷ body) body.now []) }

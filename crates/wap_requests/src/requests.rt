@@ -17,7 +17,7 @@ pub struct Request {
     pub url: Url,
     /// The body of a post; without one it is a get.
     pub body: Option<Text>,
-    /// The URL of the deck from which it is asked for, if that is told.
+    /// The URL of the deck from which it is asked for, if that is to be known.
     pub referer: Option<Text>,
     /// Whether the page is fetched anew.
     pub fresh: bool,
@@ -36,7 +36,7 @@ impl Model for Request {
     } };
 }
 
-/// A URL with postfields, if there are some, behind its query.
+/// A URL with postfields, if there are some, after its query.
 fn url_with(alloc: Global, url: Url, posts: &[(Text, Text)]) -> Result<Url, NoMemory>
     ensures { IfOk result (λ whole. whole ≡ url_with url posts.now) }
 {
@@ -61,7 +61,7 @@ pub fn plain_get(url: Url) -> Request
     }
 }
 
-/// The URL of the deck as seen from the page, if it is to be told.
+/// The URL of the deck as seen from the page, if it is to be known.
 fn referer_of(
     alloc: Global,
     told: bool,

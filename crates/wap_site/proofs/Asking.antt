@@ -20,7 +20,7 @@ cache-nil (Some cache) = refl
 
 -- ---- how often a store was asked
 
--- what holds of a cache that is told holds of one after some pages
+-- what holds of a known cache holds of one after some pages
 told : (P : Cache → Type 0) (asked : List Asked) (cache : Cache) (y : Option Cache)
     → y ≡ option_map (after_all asked) (Some cache) → IfSome y P → P (after_all asked cache)
 told P asked cache y is so = subst (λ (told : Option Cache). IfSome told P) is so

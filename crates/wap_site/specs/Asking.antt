@@ -6,13 +6,13 @@ use Rattle.wap_site.specs.Pages.{Pages}
 use Rattle.wap_site.specs.Misses.{Cache, Asked, after_all, misses}
 
 pub record Seen : Type 0 where
-  -- the pages, where they are told
+  -- the pages, where they are known
   pub contents : Option Pages
-  -- the bytes from which they were judged, where those are told
+  -- the bytes from which they were judged, where those are known
   pub behind : Option Contents
-  -- what a cache keeps, where it is told
+  -- what a cache keeps, where it is known
   pub cache : Option Cache
-  -- how often the store behind them failed, was asked for a page, and was asked for its names
+  -- how often the store below them failed, was asked for a page, and was asked for its names
   pub faults : ℕ
   pub fetches : ℕ
   pub listings : ℕ

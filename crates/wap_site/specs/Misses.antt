@@ -1,4 +1,4 @@
--- What a cache of pages keeps, and how often the store behind it is asked. This project's own.
+-- What a cache of pages keeps, and how often the store below it is asked. This project's own.
 use Rattle.std.specs.Prelude.{ℕ, ◌+◌, Bool, not, ◌||◌, if◌then◌else◌, List, [], ◌∷◌, filter, take}
 use Rattle.std.specs.List.{list_any}
 use Rattle.wap_base.specs.Texts.{is_same_text}
@@ -15,7 +15,7 @@ Asked = List ℕ × Bool
 abbrev pub is_kept : List ℕ → Cache → Bool
 is_kept name cache = list_any (is_same_text name) cache.names
 
--- the store is asked for what is not kept, and for what is wanted anew
+-- the store is asked for what is not kept, and for what is to be fetched anew
 abbrev pub is_miss : Asked → Cache → Bool
 is_miss asked cache = asked.1 || not (is_kept asked.0 cache)
 

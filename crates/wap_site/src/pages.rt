@@ -12,7 +12,7 @@ pub trait Pages {
     /// What a contract sees of them.
     ghost seen: { Self → Seen };
 
-    /// The page of a name. One that is wanted `fresh` is fetched anew.
+    /// The page of a name. One that has to be `fresh` is fetched anew.
     ///
     /// # Errors
     /// `Store` where a page couldn't be fetched, and `NoMemory`.

@@ -1,4 +1,4 @@
--- What is written one behind the other.
+-- What is written one after the other.
 use Rattle.std.proofs.Common.{◌≡◌, ℕ, zero, suc, ◌+◌, ◌<◌, ◌≤◌, true, false, length, take, get_or, List, [], ◌∷◌, ◌++◌, refl, sym, ap, ◌∙◌, append_assoc}
 use Rattle.std.specs.Prelude.{◌==◌}
 use Rattle.std.proofs.Math.Dec.{eqb-suc-zero}
@@ -9,7 +9,7 @@ use Rattle.wap_spelling.specs.declared.output.Pages.{Pages}
 use Rattle.wap_spelling.specs.Writings.{Writing, plain, ◌⨾◌, each, ended}
 use Rattle.wap_spelling.specs.inside.Written.{written}
 
--- what is written behind some bytes
+-- what is written after some bytes
 with_bytes : Pages → List ℕ → Output
 with_bytes pages bytes = record { bytes = bytes; pages = pages }
 
@@ -41,7 +41,7 @@ module _ {A : Type 0} (write : A → Writing) where
       ∙ each_one_more xs x (written (write y) output)
       ∙ written_then (write y) (each write (xs ++ x ∷ [])) output
 
--- what stands behind two steps
+-- what stands after two steps
 pub in_turn : (first next : Writing) (before between after : Output) → between ≡ written first before
     → after ≡ written next between → after ≡ written (first ⨾ next) before
 in_turn first next before between after one two = two ∙ ap (written next) one ∙ written_then first next before

@@ -126,7 +126,7 @@ module _ (all : List (List ℕ)) (size : table_size all < 2 ^ 32) where
         };
       }
 
-  -- an element that is written is read behind its tag
+  -- an element that is written is read after its tag
   pub record ElementRead (Is : Elements) (pages : Pages) (names : List (List ℕ)) (element : Element) (written : List ℕ × Pages)
       (named : List (List ℕ)) : Type 0 where
     pub front : List ℕ
@@ -214,7 +214,7 @@ module _ (all : List (List ℕ)) (size : table_size all < 2 ^ 32) where
 
   -- ---- elements
 
-  -- behind the tag: attributes and content
+  -- after the tag: attributes and content
   behind_tag : (levels : ℕ) → Reads levels → (pages : Pages) (names : List (List ℕ)) (element : Element) (lead : Lead)
       (code : ℕ) → TagByte code lead.byte (some_of element.attrs) (some_of element.kids)
       → lead.page ≡ element.page

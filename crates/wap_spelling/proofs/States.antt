@@ -1,4 +1,4 @@
--- What is written for items one behind the other is read as these items.
+-- What is written for items one after the other is read as these items.
 use Rattle.std.proofs.Common.{◌≡◌, ℕ, Bool, true, false, List, [], ◌∷◌, ◌++◌, refl, sym, subst}
 use Rattle.std.specs.List.{fold, AllByRecursion}
 use Rattle.wap_markup.specs.declared.codes.TheConstants.{END}
@@ -7,7 +7,7 @@ use Rattle.wap_markup.specs.Grammar.{State}
 use Rattle.wap_spelling.specs.declared.output.Pages.{Pages}
 use Rattle.wap_spelling.specs.Writings.{Writing, ◌⨾◌, each, ended}
 
--- the state in a root, on some pages and behind some names
+-- the state in a root, on some pages and after some names
 abbrev pub state_at : Pages → List (List ℕ) → State
 state_at pages names =
     record { tag_page = pages.tag; attribute_page = pages.attribute; in_root = true; names = names }

@@ -57,13 +57,13 @@ names_of document = with_element LEVEL_LIMIT [] document.root
 
 -- ---- their table
 
--- a string: its UTF-8, and a 0 behind it
+-- a string: its UTF-8, and a 0 after it
 abbrev pub string : List ℕ → List ℕ
 string text = encode_utf8_all text ++ 0 ∷ []
 
 unfoldable pub table_of : List (List ℕ) → List ℕ
 table_of names = flat_map string names
 
--- where a name stands in the table: behind the names before it
+-- where a name stands in the table: after the names before it
 unfoldable pub place_of : List (List ℕ) → List ℕ → ℕ
 place_of names name = length (table_of (before_first (is_same_text name) names))

@@ -11,7 +11,7 @@ Writing = Pages → List ℕ × Pages
 abbrev pub plain : List ℕ → Writing
 plain bytes pages = (bytes, pages)
 
--- one, and another one behind it
+-- one, and another one after it
 infixr 25 ◌⨾◌
 unfoldable pub ◌⨾◌ : Writing → Writing → Writing
 (first ⨾ next) pages =
@@ -19,7 +19,7 @@ unfoldable pub ◌⨾◌ : Writing → Writing → Writing
     let b = next a.1 in
     (a.0 ++ b.0, b.1)
 
--- one for each item, one behind the other
+-- one for each item, one after the other
 unfoldable pub each : {A : Type 0} → (A → Writing) → List A → Writing
 each write [] = plain []
 each write (x ∷ xs) = write x ⨾ each write xs

@@ -8,7 +8,7 @@ use std::alloc::Global;
 use wap_base::{NoMemory, Text};
 use wap_markup::{Attr, Document, Element, Kid, LEVEL_LIMIT, Token};
 
-/// Adds a name behind the others, if it isn't one of them.
+/// Adds a name after the others, if it isn't one of them.
 fn add_name(alloc: Global, names: &mut IndexSet<Text>, name: &Text) -> Result<(), NoMemory>
     ensures { OnOk result (names.new.keys ≡ with_name names.old.keys name.now) }
 {

@@ -58,7 +58,7 @@ impl Output {
         self.bytes.push(byte)
     }
 
-    /// Writes a byte and a number behind it.
+    /// Writes a byte and a number after it.
     pub fn write_number(&mut self, byte: u8, number: u32) -> Result<(), NoMemory>
         ensures { OnOk result (self.new ≡ written (plain (byte ∷ mb_spelling number)) self.old) }
     {
@@ -66,7 +66,7 @@ impl Output {
         write_mb(&mut self.bytes, number)
     }
 
-    /// Writes a byte and a string behind it.
+    /// Writes a byte and a string after it.
     fn write_string(&mut self, byte: u8, text: &Text) -> Result<(), NoMemory>
         ensures { OnOk result (self.new ≡ written (plain (byte ∷ string text.now)) self.old) }
     {

@@ -54,7 +54,7 @@ impl Table {
         self.bytes.as_slice()
     }
 
-    /// Where a name stands; one that isn't in the table would stand behind it.
+    /// Where a name stands; one that isn't in the table would stand after it.
     pub fn place_of(&self, name: &Text) -> u32
         ensures { result ≡ place_of self.now name.now }
     {

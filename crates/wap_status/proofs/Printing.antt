@@ -1,4 +1,4 @@
--- Pieces that are written one after the other, and the fronts that are written where one fails.
+-- Pieces that are written one after the other, and the prefixes that are written where one fails.
 use Rattle.std.proofs.Common.{◌≡◌, ℕ, List, ◌++◌, Option, Result, Ok, Err, sym, ap, subst, ◌∙◌, append_assoc}
 use Rattle.std.specs.Prelude.{OnOk, OnErr}
 use Rattle.wap_base.specs.Transfer.{Appends, AppendsFront}
@@ -8,11 +8,11 @@ pub on_err : {A E : Type 0} (r : Result A E) (P : Type 0) → P → OnErr r P
 on_err (Ok x) P p = tt
 on_err (Err e) P p = p
 
--- where a piece wasn't written whole, a front was written of it and what follows
+-- where a piece wasn't written whole, a prefix was written of it and what follows
 pub front_longer : (before after : Option (List ℕ)) (piece more : List ℕ) → AppendsFront before after piece → AppendsFront before after (piece ++ more)
 front_longer before after piece more front = (front.0, front.1 ++ more, ap (λ (l : List ℕ). l ++ more) front.2 ∙ append_assoc front.0 front.1 more, front.3)
 
--- a front of what follows a piece
+-- a whole piece, and a prefix of what follows it
 pub front_then : (before between after : Option (List ℕ)) (piece more : List ℕ) → Appends before between piece → AppendsFront between after more → AppendsFront before after (piece ++ more)
 front_then before between after piece more first front =
     (piece ++ front.0, front.1, ap (λ (l : List ℕ). piece ++ l) front.2 ∙ sym (append_assoc piece front.0 front.1), Appends-then before between after piece front.0 first front.3)

@@ -52,6 +52,6 @@ status_line WriteFault = fixed_line WriteFault
 status_line NoMemory = fixed_line NoMemory
 status_line TooManyKeys = fixed_line TooManyKeys
 
--- the run ended so, or wanted memory
+-- the run ended so, or ran out of memory
 abbrev pub IsOrWants : Status → Status → Type 0
 IsOrWants status result = (result ≡ status) ⊎ (result ≡ NoMemory)

@@ -14,7 +14,7 @@ use Rattle.wap_unit.specs.Sequences.{Then, IsByte, IsRow}
 use Rattle.wap_unit.specs.Refusal.{Refusal, Never, LacksByte, LacksBytes, RefusesNumber, RefusesInTurn, RefusesUnless, RefusesRow, IsTaken}
 use Rattle.wap_unit.specs.inside.Steps.{Reader, byte_at, taken_at, numbered, number_at, in_turn, given, failing, passing, told, many}
 
--- read reads a front that is such, and gives up exactly where it is refused
+-- read reads a prefix that is such, and gives up exactly where it is refused
 pub record Reads {A : Type 0} (read : Reader A) (Is : List ℕ → A → Type 0) (Refuses : Refusal) : Type 0 where
   pub takes : (end : ℕ) (bytes : List ℕ) (x : A) (rest : List ℕ) → read end bytes ≡ Ok (x, rest) → (front : List ℕ) × (bytes ≡ front ++ rest) × Is front x
   pub again : (end : ℕ) (front : List ℕ) (x : A) (rest : List ℕ) → Is front x → read end (front ++ rest) ≡ Ok (x, rest)
@@ -270,7 +270,7 @@ module _ {A : Type 0} {read : Reader A} {Is : List ℕ → A → Type 0} {Refuse
       ∙ ap (λ (r : Result (A × List ℕ) UnitFault). r >>= λ y. many read count end y.1 >>= λ ys. Ok (y.0 ∷ ys.0, ys.1)) (reads.again end row.front x (row.back ++ rest) row.first)
       ∙ ap (λ (r : Result (List A × List ℕ) UnitFault). r >>= λ ys. Ok (x ∷ ys.0, ys.1)) (many_again count end row.back xs rest row.second (omega arith))
 
-  -- one more whole thing in front
+  -- one more whole thing before the others
   one_further : (count end : ℕ) (bytes : List ℕ) (found : UnitFault) (x : A) (front left : List ℕ) → bytes ≡ front ++ left → Is front x → RefusesRow count Is Refuses end left found → RefusesRow (suc count) Is Refuses end bytes found
   one_further count end bytes found x front left split is refuses =
       let fewer = refuses.fewer in

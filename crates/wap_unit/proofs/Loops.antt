@@ -54,6 +54,6 @@ begins {A = A} read end turns front bytes none =
     let all : turns - 0 ≡ turns = omega arith in
     ap (λ (xs : List A). with_front xs (many read (turns - 0) end bytes)) none ∙ nothing_before (many read (turns - 0) end bytes) ∙ ap (λ (n : ℕ). many read n end bytes) all
 
--- a loop that is left at a fault, unless memory is wanting
+-- a loop that is left at a fault, unless memory ran out
 pub at_exit : {X Y : Type 0} (view : X → Y) (result : Result X UnitFault) (fault : UnitFault) (whole : Result Y UnitFault) → result ≡ Err fault → (fault ≢ NoMemory → whole ≡ Err fault) → Meets NoMemory view result whole
 at_exit {X = X} view result fault whole is fails = subst (λ (r : Result X UnitFault). Meets NoMemory view r whole) (sym is) fails

@@ -28,11 +28,11 @@ use Rattle.wap_unit.specs.inside.Reading.{sized_at, utf8_text, coded_text, coded
 use Rattle.wap_unit.specs.inside.Steps.{in_turn}
 use Rattle.wap_unit.proofs.Laws.{Reads, reads_byte, reads_taken, reads_number, reads_in_turn, reads_given, reads_failing, reads_passing, reads_told, reads_as, reads_here, reads_many}
 
--- a front behind which nothing stands is all
+-- a prefix after which nothing stands is all
 whole : (Is : List ℕ → Type 0) (bytes front back : List ℕ) → bytes ≡ front ++ back → back ≡ [] → Is front → Is bytes
 whole Is bytes front back split none is = subst Is (sym (split ∙ ap (λ (l : List ℕ). front ++ l) none ∙ append-nil front)) is
 
--- a front of one byte
+-- a prefix of one byte
 headed : (bytes front back : List ℕ) (byte : ℕ) → bytes ≡ front ++ back → front ≡ byte ∷ [] → bytes ≡ byte ∷ back
 headed bytes front back byte split one = split ∙ ap (λ (l : List ℕ). l ++ back) one
 
@@ -132,7 +132,7 @@ by_constant_kind charset bytes back byte None c known spelled is = absurd is
 by_constant_kind charset bytes back byte (Some kind) c known spelled is =
     valued charset bytes back kind c (spelled ∙ ap (λ (b : ℕ). b ∷ back) (code-constant_kind byte kind known)) is
 
--- a first byte and the value behind it
+-- a first byte and the value after it
 begun : (charset : ℕ) (bytes back : List ℕ) (byte : ℕ) (c : Constant) → bytes ≡ byte ∷ back → IsValueBy charset (constant_kind byte) back c → Then IsByte (λ byte l. IsValueBy charset (constant_kind byte) l c) bytes
 begun charset bytes back byte c spelled is = (byte, record { front = byte ∷ []; back = back; split = spelled; first = refl; second = is })
 
@@ -261,7 +261,7 @@ reads_pragmas = reads_as (reads_in_turn reads_number (λ count. reads_many reads
 
 -- ---- functions
 
--- a name behind the index of its function
+-- a name after the index of its function
 abbrev IsNameText : List ℕ → List ℕ → Type 0
 IsNameText bytes text = (content : List ℕ) × (bytes ≡ length content ∷ content) × IsUtf8Text content text
 
@@ -341,7 +341,7 @@ reads_function =
 abbrev NamedFunctions : Type 0
 NamedFunctions = List (ℕ × List ℕ) × List Code
 
--- the names and so many functions, behind the number of functions
+-- the names and so many functions, after the number of functions
 record AreNamed (count : ℕ) (bytes : List ℕ) (found : NamedFunctions) : Type 0 where
   rows : List ℕ
   spelled : bytes ≡ length found.0 ∷ rows

@@ -1,6 +1,7 @@
--- Why bytes are no unit: a front of whole items, and then an item that can't stand there. Each refusal speaks of the
--- length of the whole input, of the bytes that are left of it behind whole items, and of a fault; the place of the
--- first byte that is left is the difference of the lengths. This project's own.
+-- Why bytes are no unit: a prefix of whole items, and then an item that can't stand there. Each
+-- refusal speaks of the length of the whole input, of the bytes that are left of it after whole
+-- items, and of a fault; the place of the first byte that is left is the difference of the lengths.
+-- This project's own.
 use Rattle.std.specs.Prelude.{◌≡◌, ◌≢◌, ℕ, ◌-◌, ◌<◌, ◌≤◌, ◌⊎◌, Bool, true, false, nat_lt, List, [], ◌∷◌, ◌++◌, length, Option, Some, None}
 use Rattle.std.specs.Str.{is_utf8}
 use Rattle.wap_base.specs.Numbers.{IsMb, EndsInside, IsTooLong}
@@ -35,14 +36,14 @@ LacksByte end left found = (left ≡ []) × (found ≡ fault.Short end)
 abbrev pub LacksBytes : ℕ → Refusal
 LacksBytes size end left found = (length left < size) × (found ≡ fault.Short end)
 
--- no number is in front: the input ends inside it, or it is too long
+-- no number begins: the input ends inside it, or it is too long
 abbrev pub RefusesNumber : Refusal
 RefusesNumber end left found =
     (EndsInside left × (found ≡ fault.Short end)) ⊎ (IsTooLong left × (found ≡ fault.Number (end - length left)))
 
 -- ---- one item after the other
 
--- a whole item, behind which the next one is refused
+-- a whole item, after which the next one is refused
 pub record Behind {A : Type 0} (Is : List ℕ → A → Type 0) (Next : A → Refusal) (end : ℕ) (left : List ℕ) (found : UnitFault) : Type 0 where
   pub value : A
   pub front : List ℕ
@@ -51,7 +52,7 @@ pub record Behind {A : Type 0} (Is : List ℕ → A → Type 0) (Next : A → Re
   pub whole : Is front value
   pub refused : Next value end rest found
 
--- the first item is refused, or the next one behind it
+-- the first item is refused, or the next one after it
 abbrev pub RefusesInTurn : {A : Type 0} → Refusal → (List ℕ → A → Type 0) → (A → Refusal) → Refusal
 RefusesInTurn First Is Next end left found = First end left found ⊎ Behind Is Next end left found
 
@@ -76,7 +77,7 @@ RefusesCounted Is Refuses = RefusesInTurn RefusesNumber IsMb (λ count. RefusesR
 abbrev pub IsTaken : ℕ → List ℕ → List ℕ → Type 0
 IsTaken size bytes content = (bytes ≡ content) × (length content ≡ size)
 
--- bytes behind their number, and a text among such that has to pass a test
+-- bytes after their number, and a text among such that has to pass a test
 abbrev pub RefusesSized : Refusal
 RefusesSized = RefusesInTurn RefusesNumber IsMb (λ size. LacksBytes size)
 

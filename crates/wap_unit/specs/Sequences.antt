@@ -2,7 +2,7 @@
 use Rattle.std.specs.Prelude.{◌≡◌, ℕ, List, [], ◌∷◌, ◌++◌, length}
 use Rattle.wap_base.specs.Numbers.{IsMb}
 
--- a front of the bytes is such, and what follows it is such
+-- a prefix of the bytes is such, and what follows it is such
 pub record InTurn (First Second : List ℕ → Type 0) (bytes : List ℕ) : Type 0 where
   pub front : List ℕ
   pub back : List ℕ
@@ -10,7 +10,7 @@ pub record InTurn (First Second : List ℕ → Type 0) (bytes : List ℕ) : Type
   pub first : First front
   pub second : Second back
 
--- a value, and behind it what has to follow this value
+-- a value, and after it what has to follow this value
 abbrev pub Then : {A : Type 0} → (List ℕ → A → Type 0) → (A → List ℕ → Type 0) → List ℕ → Type 0
 Then {A = A} Is Next bytes = (x : A) × InTurn (λ front. Is front x) (Next x) bytes
 
@@ -22,11 +22,11 @@ IsByte bytes byte = bytes ≡ byte ∷ []
 abbrev pub After : ℕ → (List ℕ → Type 0) → List ℕ → Type 0
 After byte Is bytes = (rest : List ℕ) × (bytes ≡ byte ∷ rest) × Is rest
 
--- these bytes, behind their number
+-- these bytes, after their number
 abbrev pub IsSized : List ℕ → List ℕ → Type 0
 IsSized bytes content = InTurn (λ front. IsMb front (length content)) (λ back. back ≡ content) bytes
 
--- some bytes of this kind, behind their number
+-- some bytes of this kind, after their number
 abbrev pub Sized : (List ℕ → Type 0) → List ℕ → Type 0
 Sized Is bytes = (content : List ℕ) × IsSized bytes content × Is content
 

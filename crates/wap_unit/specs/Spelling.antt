@@ -49,7 +49,7 @@ functions_spelling names functions = length functions ∷ length names ∷ (flat
 unfoldable pub body_spelling : Unit → List ℕ
 body_spelling unit = constants_spelling unit.charset unit.constants ++ (counted pragma_spelling unit.pragmas ++ functions_spelling unit.names unit.functions)
 
--- the version byte, and the rest behind the number of its bytes
+-- the version byte, and the rest after the number of its bytes
 unfoldable pub spelling : Unit → List ℕ
 spelling unit = unit.version ∷ sized (body_spelling unit)
 

@@ -103,7 +103,7 @@ fn read_value(
     }
 }
 
-/// A string in UTF-8, behind the number of its bytes.
+/// A string in UTF-8, after the number of its bytes.
 #[tactic(auto, unfolding(crate::specs::inside::Reading::utf8_at))]
 fn read_utf8(
     alloc: Global,
@@ -118,7 +118,7 @@ fn read_utf8(
     Ok((Constant::Utf8(text), rest))
 }
 
-/// A string in the unit's character set, behind the number of its bytes.
+/// A string in the unit's character set, after the number of its bytes.
 #[tactic(auto, unfolding(crate::specs::inside::Reading::coded_at))]
 fn read_coded(
     alloc: Global,

@@ -11,7 +11,7 @@ pub enum UnitFault {
     Short { at: usize },
     /// A number of several bytes is past 2^32 - 1.
     Number { at: usize },
-    /// The size isn't the number of the bytes behind it, or bytes stand behind the last function.
+    /// The size isn't the number of the bytes after it, or bytes stand after the last function.
     Size { at: usize },
     /// A constant of no known kind.
     ConstantKind { at: usize },

@@ -1,4 +1,4 @@
-//! What stands in front of bytes: one byte, so many, a number, and bytes behind their number.
+//! What bytes begin with: one byte, so many, a number, and bytes after their number.
 ghost use Rattle.std.specs.Prelude.{◌≡◌, ◌-◌, length, IfOk};
 ghost use Rattle.wap_base.specs.Outcome.{Meets};
 ghost use Rattle.wap_unit.specs.declared.fault.UnitFault.TheVariants.{NoMemory};
@@ -50,7 +50,7 @@ pub fn number(end: usize, bytes: &[u8]) -> Result<(u32, &[u8]), UnitFault>
     }
 }
 
-/// Bytes behind their number.
+/// Bytes after their number.
 #[tactic(auto, unfolding(crate::specs::inside::Reading::sized_at))]
 pub fn sized(end: usize, bytes: &[u8]) -> Result<(&[u8], &[u8]), UnitFault>
     ensures { Meets NoMemory (λ read. (read.0.now, read.1.now)) result (sized_at end bytes.now) }

@@ -83,7 +83,7 @@ fn read_name(
     Ok(((index, text), rest))
 }
 
-/// The text of a name that is at this place, behind one byte for its length.
+/// The text of a name that is at this place, after one byte for its length.
 #[tactic(auto, unfolding(crate::specs::inside::Reading::name_text_at))]
 fn read_name_text(
     alloc: Global,

@@ -11,7 +11,7 @@ use std::alloc::Global;
 use wap_base::Rows;
 use wap_code::Pragma;
 
-/// The pragmas, behind their number.
+/// The pragmas, after their number.
 #[tactic(auto, unfolding(crate::specs::inside::Reading::pragmas_at))]
 pub fn read_pragmas(
     alloc: Global,

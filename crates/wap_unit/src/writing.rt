@@ -44,7 +44,7 @@ fn write_body(out: &mut Bytes, unit: &Unit) -> Result<(), NoMemory>
     Ok(())
 }
 
-/// Bytes behind their number.
+/// Bytes after their number.
 fn write_sized(out: &mut Bytes, content: &[u8]) -> Result<(), NoMemory>
     requires { length content.now < 2 ^ 32 }
     ensures { OnOk result (out.new ≡ out.old ++ sized content.now) }
@@ -89,7 +89,7 @@ fn write_constant(out: &mut Bytes, constant: &Constant) -> Result<(), NoMemory>
     }
 }
 
-/// The first byte of an item, and the bytes behind it.
+/// The first byte of an item, and the bytes after it.
 fn write_kind(out: &mut Bytes, kind: u8, rest: &[u8]) -> Result<(), NoMemory>
     ensures { OnOk result (out.new ≡ out.old ++ kind ∷ rest.now) }
 {
@@ -98,7 +98,7 @@ fn write_kind(out: &mut Bytes, kind: u8, rest: &[u8]) -> Result<(), NoMemory>
     Ok(())
 }
 
-/// The first byte of an item, and the bytes behind it, which stand behind their number.
+/// The first byte of an item, and the bytes after it, which stand after their number.
 fn write_text(out: &mut Bytes, kind: u8, content: &[u8]) -> Result<(), NoMemory>
     requires { length content.now < 2 ^ 32 }
     ensures { OnOk result (out.new ≡ out.old ++ kind ∷ sized content.now) }

@@ -18,7 +18,7 @@ left p q = all-weaker (λ c. p c && q c) p (λ c both. (and_parts (p c) (q c) bo
 right : (p q : ℕ → Bool) (xs : List ℕ) → list_all (λ c. p c && q c) xs ≡ true → list_all q xs ≡ true
 right p q = all-weaker (λ c. p c && q c) q (λ c both. (and_parts (p c) (q c) both).1)
 
--- ---- the text as a front and a fragment
+-- ---- the text as a prefix and a fragment
 abbrev tail : Parts → List ℕ
 tail p = p.path ++ led_by (63 ∷ []) p.query
 
@@ -57,7 +57,7 @@ before_allowed t p fine =
     (all-append is_allowed (authority p.host p.port) (tail p) (authority_allowed p.host p.port fine.host fine.port)
     (all-append is_allowed p.path (led_by (63 ∷ []) p.query) (left is_allowed (λ c. not (is_question c)) p.path fine.path) (query_allowed p.query fine.query)))
 
--- ---- the front and the fragment
+-- ---- the prefix and the fragment
 stops_not : (xs : List ℕ) → list_all is_allowed xs ≡ true → NonePasses is_stop xs
 stops_not = all-weaker is_allowed (λ c. not (is_stop c)) (λ c fine. not_from_false (is_stop c) (not_from_true (is_allowed c) fine))
 
@@ -220,7 +220,7 @@ one_url t u v first second = same (sym (url_again t u first) ∙ url_again t v s
   same : {x y : Url} → ◌≡◌ {A = Result Url UrlFault} (Ok x) (Ok y) → x ≡ y
   same e = cc
 
--- and a fault that is there is told
+-- and a fault that is there is reported
 pub url_fails : (t : List ℕ) (f : UrlFault) → IsRefused t f → url_at t ≡ Err f
 url_fails t (BadChar at) bad =
     let allowed = stops_not bad.before bad.allowed in

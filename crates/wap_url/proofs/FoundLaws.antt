@@ -265,7 +265,7 @@ err_parts : (fault : Option UrlFault) (url : Url) (f : UrlFault) → unless faul
 err_parts None url f e = absurd (let g = e in cc)
 err_parts (Some x) url f e = ap Some (let g = e in cc)
 
--- a fault that is told is there
+-- a fault that is reported is there
 pub url_stops : (t : List ℕ) (f : UrlFault) → url_at t ≡ Err f → IsRefused t f
 url_stops t f told = elim (cases_Bool (has_bad_char t)) [
   | inl bad ↦ subst (IsRefused t) (same (sym (cond-true (has_bad_char t) (Err (BadChar (length (front t)))) (unless (fault_of (parts_of t)) (url_of (parts_of t))) bad) ∙ told)) (bad_char t bad)

@@ -21,7 +21,7 @@ until-onward p (x ∷ xs) = elim (cases_Bool (p x)) [
 stops_high : (b : ℕ) → 128 ≤ b → is_stop b ≡ true
 stops_high b high = not_from_false (is_allowed b) (allowed_high b high)
 
--- the front and what follows it, by bytes
+-- the prefix and what follows it, by bytes
 pub stop-encodes : (cs : List ℕ) → SameCut is_stop cs
 stop-encodes cs = cut-encodes is_stop stops_high cs
 
@@ -53,7 +53,7 @@ scalars-onward p (c ∷ cs) text = elim (cases_Bool (p c)) [
   | inr fails ↦ ap all_scalars (cond-false (p c) (c ∷ cs) (onward p cs) fails) ∙ scalars-onward p cs (and_parts (scalar c) (all_scalars cs) text).1
 ]
 
--- what follows a front without a bad character is nothing, or a fragment
+-- what follows a prefix without a bad character is nothing, or a fragment
 pub record HasFragment (cs bytes : List ℕ) : Type 0 where
   pub rest : List ℕ
   pub onward_is : onward is_stop cs ≡ 35 ∷ rest
@@ -83,7 +83,7 @@ no_fragment cs bytes is none = empty (onward is_stop cs) (ap length (sym (ap (on
   empty [] e = refl
   empty (x ∷ xs) e = absurd (omega (arith, encode_some x, length-append (encode_utf8 x) (encode_utf8_all xs)))
 
--- the text may be cut behind the `#`
+-- the text may be cut after the `#`
 pub behind_hash : (cs bytes : List ℕ) → IsUtf8 bytes → HasFragment cs bytes → IsCharBoundary bytes (length (until is_stop bytes) + 1)
 behind_hash cs bytes utf8 there =
     let at : get_or bytes (length (until is_stop bytes)) 0 ≡ 35 = ap (λ bs. get_or bs (length (until is_stop bytes)) 0) there.bytes_is ∙ get_or_at (until is_stop bytes) 35 (encode_utf8_all there.rest) 0 (length (until is_stop bytes)) refl in

@@ -55,7 +55,7 @@ pub last-cons : (s : List ℕ) (ss : List (List ℕ)) → HasFirst ss → last_s
 last-cons s [] h = absurd (let e = h.is in cc)
 last-cons s (t ∷ ss) h = refl
 
--- one more segment behind those that are joined
+-- one more segment after those that are joined
 pub path-push : (xs : List (List ℕ)) (y : List ℕ) → path_of (xs ++ y ∷ []) ≡ cond (length xs == 0) y (path_of xs ++ 47 ∷ y)
 path-push [] y = refl
 path-push (x ∷ xs) y = join-append 47 (x ∷ xs) (y ∷ []) (record { first = x; rest = xs; is = refl }) (record { first = y; rest = []; is = refl }) ∙ sym (cond-false (length (x ∷ xs) == 0) y (path_of (x ∷ xs) ++ 47 ∷ y) (ne_eqb (length (x ∷ xs)) 0 (λ e. absurd (omega arith))))
@@ -277,7 +277,7 @@ folder_of_bytes bytes x text (i, j, finds, front_is, last_is, _, _, _) =
 pub no_folder_of_bytes : (bytes : List ℕ) → IsUtf8 bytes → IsRSplitOnceResult 47 bytes None → folder_of (all_but_last (segments (chars bytes))) ≡ []
 no_folder_of_bytes bytes text none = ap (λ ss. folder_of (all_but_last ss)) (split-none is_slash (chars bytes) (no_char bytes text none))
 
--- the reference's path behind the base's segments
+-- the reference's path after the base's segments
 pub path-lead : (ss : List (List ℕ)) (r : List ℕ) → path_of (ss ++ segments r) ≡ folder_of ss ++ r
 path-lead [] r = join_with_byte-slice_split 47 r
 path-lead (s ∷ ss) r = step (ss ++ segments r) (HasFirst-append ss (segments r) (HasFirst-split is_slash r)) ∙ ap (λ rest. s ++ 47 ∷ rest) (path-lead ss r) ∙ sym (append_assoc s (47 ∷ folder_of ss) r) where

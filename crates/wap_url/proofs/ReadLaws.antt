@@ -16,7 +16,7 @@ use Rattle.wap_url.proofs.AgainLaws.{url_again, url_fails}
 use Rattle.wap_url.proofs.NormalLaws.{url_normal}
 use Rattle.wap_url.proofs.FrontLaws.{bad-encodes, front-encodes}
 
--- a front and what follows it, cut from a text's bytes
+-- a prefix and what follows it, cut from a text's bytes
 pub record IsCut (cs before after : List ℕ) (bad : Bool) : Type 0 where
   pub front_is : before ≡ front cs
   pub bad_is : bad ≡ has_bad_char cs

@@ -51,7 +51,7 @@ suffix_same c part whole e = ([], ap (slice_split (λ b. b == c)) e)
 pub suffix_after : (c : ℕ) (part whole lead : List ℕ) → whole ≡ lead ++ c ∷ part → IsSuffix (slice_split (λ b. b == c) part) (slice_split (λ b. b == c) whole)
 suffix_after c part whole lead e = (slice_split (λ b. b == c) lead, ap (slice_split (λ b. b == c)) e ∙ split-append (λ b. b == c) lead c part (eq-eqb c c refl))
 
--- The same of a front.
+-- The same of a prefix.
 pub prefix_from_parts : (c : ℕ) (part whole : List ℕ) → IsPrefix (slice_split (λ b. b == c) part) (slice_split (λ b. b == c) whole) → (whole ≡ part) ⊎ ((rest : List ℕ) × (whole ≡ part ++ c ∷ rest))
 prefix_from_parts c part whole (rest, is) = from_rest rest (sym (join_with_byte-slice_split c whole) ∙ ap (join_with_byte c) is) where
   from_rest : (rest : List (List ℕ)) → whole ≡ join_with_byte c (slice_split (λ b. b == c) part ++ rest) → (whole ≡ part) ⊎ ((rest : List ℕ) × (whole ≡ part ++ c ∷ rest))

@@ -38,7 +38,7 @@ until-none p (x ∷ xs) = elim (cases_Bool (p x)) [
   | inr fails ↦ ap (list_all (λ c. not (p c))) (cond-false (p x) [] (x ∷ until p xs) fails) ∙ and_from (not (p x)) (list_all (λ c. not (p c)) (until p xs)) (not_from_false (p x) fails) (until-none p xs)
 ]
 
--- past a front of which no character passes
+-- past a prefix of which no character passes
 pub until-past : (p : ℕ → Bool) (xs ys : List ℕ) → NonePasses p xs → until p (xs ++ ys) ≡ xs ++ until p ys
 until-past p [] ys none = refl
 until-past p (x ∷ xs) ys none =

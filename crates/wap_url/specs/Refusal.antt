@@ -18,7 +18,7 @@ pub record HasBadChar (text : List ℕ) (at : ℕ) : Type 0 where
   pub no_fragment : is_hash bad ≡ false
   pub at_is : at ≡ length before
 
--- The text has this fault, and none that is told before it.
+-- The text has this fault, and none that is reported before it.
 abbrev pub IsRefused : List ℕ → UrlFault → Type 0
 IsRefused text (BadChar at) = HasBadChar text at
 IsRefused text BadScheme = (p : Parts) × IsSplit text p × (fault_of p ≡ Some BadScheme)

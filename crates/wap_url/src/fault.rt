@@ -4,7 +4,8 @@ ghost use Rattle.std.specs.Prelude.{◌≡◌};
 use thiserror::Error;
 use wap_base::NoMemory;
 
-/// Why a text is not read as a URL. Where several faults apply, the one that is listed first is told.
+/// Why a text is not read as a URL. Where several faults apply, the one that is listed first is
+/// reported.
 #[derive(Clone, Copy, Debug, PartialEq, Eq, Error)]
 pub enum UrlFault {
     /// The character at byte `at` may not stand before the fragment.

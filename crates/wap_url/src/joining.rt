@@ -51,7 +51,7 @@ fn target(alloc: Global, base: &Url, reference: &Url) -> Result<Url, NoMemory>
     })
 }
 
-/// The reference's path, behind the base's up to its last slash where it doesn't begin with one.
+/// The reference's path, after the base's up to its last slash where it doesn't begin with one.
 fn merged_path(alloc: Global, base: &Url, reference: &Url) -> Result<Text, NoMemory>
     ensures { IfOk result (λ path. path ≡ merged_path base.now reference.now) }
 {

@@ -66,7 +66,7 @@ fn add_port(text: &mut Text, port: Option<u16>) -> Result<(), NoMemory>
     Ok(())
 }
 
-/// Adds a part behind the character that leads it.
+/// Adds a part after the character that leads it.
 pub fn add_led(text: &mut Text, lead: char, part: &Option<Text>) -> Result<(), NoMemory>
     ensures { OnOk result (text.new ≡ text.old ++ led_by (lead ∷ []) part.now) }
 {

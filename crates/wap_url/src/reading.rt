@@ -51,7 +51,7 @@ impl Url {
     }
 }
 
-/// Whether what follows a front begins with a character that is no `#`.
+/// Whether what follows a prefix begins with a character that is no `#`.
 fn is_bad(onward: &[u8]) -> bool
     ensures { result ≡ begins_with (λ c. not (is_hash c)) onward.now }
 {
@@ -61,7 +61,7 @@ fn is_bad(onward: &[u8]) -> bool
     }
 }
 
-/// The fragment of a text whose front and what follows it are known.
+/// The fragment of a text whose prefix and what follows it are known.
 fn copy_fragment(
     alloc: Global,
     text: &Text,

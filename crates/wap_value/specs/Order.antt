@@ -1,5 +1,5 @@
--- How two values are ordered (WAP-193, "Comparison Operators"): as Strings, by the numbers of the characters, where one of
--- them is a String, and else as Integers. `None`: a conversion is wanting.
+-- How two values are ordered (WAP-193, "Comparison Operators"): as Strings, by the numbers of the
+-- characters, where one of them is a String, and else as Integers. `None`: there is no conversion.
 use Rattle.std.specs.Prelude.{Bool, true, false, ◌||◌, Option, Some, None, if◌then◌else◌}
 use Rattle.std.specs.Ordering.{int_cmp}
 use Rattle.std.specs.declared.cmp.Ordering.{Ordering}

@@ -1,5 +1,5 @@
--- The operators of one operand (WAP-193, "Operators and Expressions"), with invalid where a conversion is wanting or a
--- result is no Integer. `typeof` and `isvalid` take any value.
+-- The operators of one operand (WAP-193, "Operators and Expressions"), with invalid where there is
+-- no conversion or a result is no Integer. `typeof` and `isvalid` take any value.
 use Rattle.std.specs.Prelude.{Bool, true, false, not, ℤ, pos, neg_ℤ, ◌+ℤ◌, ◌-ℤ◌, option_and_then}
 use Rattle.std.specs.Option.{option_map}
 use Rattle.wap_value.specs.declared.value.Value.{Value}

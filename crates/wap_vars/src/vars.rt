@@ -65,7 +65,7 @@ impl Vars {
         ensures kept { OnErr result (self.new ≡ self.old) }
         ensures exact { Meets VarFault.NoMemory (λ _. self.new) result (set_in self.old name.now value) }
 
-        // What each fault says. A bad name is told even where memory is wanting.
+        // What each fault says. A bad name is reported even when out of memory.
         ensures bad_name { IsErrOf result VarFault.BadName ↔ (is_name name.now ≡ false) }
         ensures too_long { (bytes : ℕ) → IsErrOf result (VarFault.TooLong bytes) → (bytes ≡ utf8_len value) × (TEXT_LIMIT < bytes) }
         ensures full { IsErrOf result VarFault.Full → (length self.old ≡ VAR_LIMIT) × (text_of self.old name.now ≡ None) }

@@ -11,7 +11,7 @@ use Rattle.wap_verify.specs.Paths.{Reaches}
 use Rattle.wap_verify.specs.Sound.{Runs, is_aimed, IsSplit, stray_pragma, AreSound}
 
 pub data IsFunctionFault (unit : Unit) (index : ℕ) (function : Code) (found : VerifyFault) : Type 0 where
-  -- first: behind whole instructions an item that is none, or an operand that names nothing
+  -- first: after whole instructions an item that is none, or an operand that names nothing
   item : (places : List ℕ) (at : ℕ) → Runs unit index function 0 places at → at < length function.code → step_at unit index function at ≡ Err found
       → IsFunctionFault unit index function found
   -- then: the first jump with no target

@@ -10,7 +10,7 @@ use Rattle.wap_verify.specs.Steps.{way_on, step_at}
 abbrev pub Stand : Type 0
 Stand = ℕ × ℕ
 
--- it goes on this way: to what stands behind it, or to the target of its jump
+-- it goes on this way: to what stands after it, or to the target of its jump
 abbrev pub HasWay : Step → Way → Type 0
 HasWay step way = (way_on step ≡ Some way) ⊎ (step.jump ≡ Some way)
 
@@ -25,7 +25,7 @@ pub record Leads (unit : Unit) (index : ℕ) (function : Code) (here there : Sta
   pub to : there.0 ≡ way.to
   pub values : there.1 ≡ here.1 - step.takes + way.gives
 
--- from the beginning with no values, step by step, the last place in front
+-- from the beginning with no values, step by step, the last place first in the list
 abbrev pub IsPath : Unit → ℕ → Code → List Stand → Type 0
 IsPath unit index function [] = ⊥
 IsPath unit index function (stand ∷ []) = (stand.0 ≡ 0) × (stand.1 ≡ 0)

@@ -12,7 +12,8 @@ use Rattle.wap_verify.specs.declared.fault.VerifyFault.{VerifyFault}
 use Rattle.wap_verify.specs.Steps.{step_at}
 use Rattle.wap_verify.specs.Paths.{Reaches}
 
--- from one place to another the code is instructions at these places, one behind the other, each with its operands in range
+-- from one place to another the code is instructions at these places, one after the other, each
+-- with its operands in range
 abbrev pub Runs : Unit → ℕ → Code → ℕ → List ℕ → ℕ → Type 0
 Runs unit index function from [] to = from ≡ to
 Runs unit index function from (place ∷ places) to =

@@ -1,5 +1,6 @@
--- What stands at a place of a function's code: one instruction, or a short-circuit and the jump behind it, with every
--- operand in range; or the first fault there. This project's own rules over the table of instructions.
+-- What stands at a place of a function's code: one instruction, or a short-circuit and the jump
+-- after it, with every operand in range; or the first fault there. This project's own rules over
+-- the table of instructions.
 use Rattle.std.specs.Prelude.{ℕ, ◌+◌, ◌-◌, Bool, true, false, ◌&&◌, nat_lt, is_some, if◌then◌else◌, List, length, slice_get, slice_index, Option, Some, None, unwrap_or, Result, Ok, Err}
 use Rattle.std.specs.Option.{option_map_or}
 use Rattle.wap_code.specs.declared.unit.Unit.{Unit}
@@ -53,7 +54,7 @@ abbrev pub way_behind : ℕ → Option ℕ → Option Way
 way_behind next None = None
 way_behind next (Some gives) = way_to next gives
 
--- the way to what stands behind it
+-- the way to what stands after it
 abbrev pub way_on : Step → Option Way
 way_on step = way_behind step.next step.on
 
@@ -71,7 +72,7 @@ step_of BackwardOrOn at instr takes gives =
 step_of Pair at instr takes gives = record { takes = takes; next = instr.next; on = None; jump = None; jump_at = at; strays = false }
 step_of Leave at instr takes gives = record { takes = takes; next = instr.next; on = None; jump = None; jump_at = at; strays = false }
 
--- a short-circuit and its jump are one: it goes on behind the jump with none, or jumps with one
+-- a short-circuit and its jump are one: it goes on after the jump with none, or jumps with one
 abbrev pub pair : ℕ → ℕ → Instr → Step
 pair takes at jump = record { takes = takes; next = jump.next; on = Some 0; jump = way_to (jump.next + jump.a) 1; jump_at = at; strays = false }
 
@@ -84,7 +85,7 @@ is_conditional_forward BackwardOrOn = false
 is_conditional_forward Pair = false
 is_conditional_forward Leave = false
 
--- the jump of this row behind a short-circuit
+-- the jump of this row after a short-circuit
 abbrev pub jump_read : ℕ → List ℕ → ℕ → ℕ → Result Instr InstrFault → Result Step VerifyFault
 jump_read index code next takes (Ok jump) = Ok (pair takes next jump)
 jump_read index code next takes (Err short) = Err (fault.Operand index next)

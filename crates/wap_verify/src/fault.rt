@@ -39,7 +39,7 @@ pub enum VerifyFault {
         function: u8,
         at: usize,
     },
-    /// A short-circuit with no conditional jump forward behind it.
+    /// A short-circuit with no conditional jump forward after it.
     LoneShort {
         function: u8,
         at: usize,

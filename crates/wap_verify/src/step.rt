@@ -21,9 +21,9 @@ pub struct Way {
 pub struct Step {
     /// How many values it takes.
     pub takes: u32,
-    /// The place behind it.
+    /// The place after it.
     pub next: usize,
-    /// How many values it gives where it goes on behind it, if it does.
+    /// How many values it gives where it goes on after it, if it does.
     pub on: Option<u8>,
     /// To the target of its jump.
     pub jump: Option<Way>,
@@ -179,7 +179,7 @@ fn step_of(after: After, at: usize, instr: Instr, takes: u32, gives: u8) -> Step
     }
 }
 
-/// The way to what stands behind it.
+/// The way to what stands after it.
 pub fn way_on(step: Step) -> Option<Way>
     ensures { result ≡ way_on step }
 {

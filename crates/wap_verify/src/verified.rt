@@ -43,7 +43,7 @@ impl Model for Verified {
 /// The same unit as one that may be run, or handed back with a reason why it may not.
 pub fn verify(alloc: Global, unit: Unit) -> Result<Verified, (Unit, VerifyFault)>
     requires { HasSpelling unit }
-    // Exactly the units that may be run are accepted, unless memory is wanting, and the unit is kept.
+    // Exactly the units that may be run are accepted, unless memory runs out, and the unit is kept.
     ensures kept { IfOk result (λ verified. verified ≡ unit) }
     ensures verified { IfOk result (λ _. IsVerified unit) }
     ensures accepted { IsVerified unit → IfErr result (λ refused. refused.1 ≡ NoMemory) }

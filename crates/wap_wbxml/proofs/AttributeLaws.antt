@@ -179,7 +179,7 @@ module _ (input : Input) where
   piece_same s lead attribute.Named bytes rest = refl
   piece_same s lead attribute.Nothing bytes rest = refl
 
-  -- by what stands in front
+  -- by what the bytes begin with
   abbrev seen : State → List ℕ → Option (Lead × List ℕ) → Reading (Option Piece × State)
   seen s bytes o = piece_led input s bytes o
 
@@ -426,7 +426,7 @@ module _ (input : Input) where
 
   -- ---- processing instructions
 
-  -- an end, behind which this stands for what is before it
+  -- an end, after which this stands for what is before it
   abbrev EndFor : Attr × State → Bool → List ℕ → Attr × State → Type 0
   EndFor a true = Given a
   EndFor a false = Never

@@ -51,7 +51,7 @@ counted_over at before name inside new over =
     let test : ltb (table_size (counted name before).names) (2 ^ 32) ≡ false = grind (arith, nat_tests) in
     ap (λ (b : Bool). cond b (Ok (counted name before)) (Err (fault.Table at))) test
 
--- what a set has behind such a name
+-- a set has such a name after the others
 pub added : (after before : List (List ℕ)) (copy name : List ℕ) → after ≡ insert_key is_same_text before copy
     → copy ≡ name → list_any (is_same_text name) before ≡ false
     → after ≡ before ++ name ∷ []

@@ -7,8 +7,8 @@ use Rattle.wap_wbxml.specs.declared.fault.DocFault.{DocFault}
 use Rattle.wap_wbxml.specs.Refusals.{Refusal, NotRefused, EitherRefused, BehindWhole, RefusedThen, Anything}
 use Rattle.wap_wbxml.specs.reading.Steps.{Reading, told}
 
--- A value that was read is spelled by the bytes in front, and it ends there; what is so spelled is read; a fault is a
--- refusal; and what is refused is a fault.
+-- A value that was read is spelled by a prefix of the bytes, and it ends there; what is so spelled
+-- is read; a fault is a refusal; and what is refused is a fault.
 pub record Reads {A : Type 0} (Ends : A → List ℕ → Type 0) (read : List ℕ → Reading A) (Is : List ℕ → A → Type 0)
     (Refused : Refusal) : Type 0 where
   pub takes : (bytes : List ℕ) (x : A) (rest : List ℕ) → read bytes ≡ Ok (x, rest)
@@ -32,7 +32,7 @@ no_fault e = cc
 pub no_value : {A : Type 0} {x : A} {fault : DocFault} → ◌≡◌ {A = Result A DocFault} (Err fault) (Ok x) → ⊥
 no_value e = cc
 
--- ---- one part behind another
+-- ---- one part after another
 
 module _ {A B : Type 0} {Ends : A → List ℕ → Type 0} {End : B → List ℕ → Type 0} {read : List ℕ → Reading A}
     (more : A → List ℕ → Reading B)
@@ -167,7 +167,7 @@ module _ {A : Type 0} {Ends : A → List ℕ → Type 0} {read : List ℕ → Re
     fails = λ bytes fault refused. reads.fails bytes fault (back bytes fault refused);
   }
 
--- a reading that is told where it stands
+-- a reading that is given the place where it stands
 pub reads_placed : {A : Type 0} {Ends : A → List ℕ → Type 0} {read : ℕ → List ℕ → Reading A} {Is : List ℕ → A
     → Type 0} {Refused : ℕ → Refusal}
     → ((at : ℕ) → Reads Ends (read at) Is (Refused at)) → (place : List ℕ → ℕ)

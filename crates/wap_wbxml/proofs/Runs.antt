@@ -1,4 +1,4 @@
--- Items one behind the other.
+-- Items one after the other.
 use Rattle.std.proofs.Common.{◌≡◌, ℕ, zero, suc, ◌<◌, ◌≤◌, List, [], ◌∷◌, ◌++◌, length, Option, Some, None, Ok, Err, refl, sym, ap, subst, ◌∙◌, append_assoc, inl, inr, arith}
 use Rattle.std.proofs.lemmas.List.{length-append}
 use Rattle.wap_base.specs.Outcome.{◌>>=◌}
@@ -29,7 +29,7 @@ pub record Items {A S : Type 0} (next : Next A S) (spent : S → List ℕ → Re
       → Ends (y, s) (front ++ rest)
   pub ends_at_stop : (y : A) (s : S) (bytes rest : List ℕ) → Stop s bytes rest → Ends (y, s) bytes
 
--- whole items, and a stop behind them
+-- whole items, and a stop after them
 pub record Stopped {A S : Type 0} (Is : S → List ℕ → A × S → Type 0) (Stop : S → List ℕ → List ℕ → Type 0) (s : S)
     (bytes : List ℕ) (items : List A) (t : S) (rest : List ℕ) : Type 0 where
   pub front : List ℕ
@@ -198,7 +198,7 @@ module _ {A S : Type 0} {next : Next A S} {spent : S → List ℕ → Reading (L
   unfolding all_by
   all_fails s bytes fault refused = run_fails s bytes fault refused (length bytes) (omega arith)
 
--- ---- items behind which nothing stands that could be one, and items with an end
+-- ---- items after which nothing stands that could be one, and items with an end
 
 abbrev pub StopsOpen : {S : Type 0} → (S → List ℕ → Type 0) → S → List ℕ → List ℕ → Type 0
 StopsOpen NoMore s bytes rest = (bytes ≡ rest) × NoMore s rest

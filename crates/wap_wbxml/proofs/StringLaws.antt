@@ -59,7 +59,7 @@ front_not_zero : (bytes : List ℕ) → list_all is_not_zero (take (zero_place b
 front_not_zero [] = refl
 front_not_zero (c ∷ bytes) = front_step c bytes (is_not_zero c) refl (front_not_zero bytes)
 
--- what stands behind the front is nothing or a 0
+-- what stands after the prefix is nothing or a 0
 zero_step : (c : ℕ) (bytes : List ℕ) (b : Bool) → is_not_zero c ≡ b → (byte : ℕ) (rest : List ℕ)
     → (drop (zero_place bytes) bytes ≡ byte ∷ rest → byte ≡ 0)
     → drop (cond b (1 + zero_place bytes) 0) (c ∷ bytes) ≡ byte ∷ rest → byte ≡ 0
@@ -86,7 +86,7 @@ none_step c bytes true e more f =
     more (sym (ap (λ (n : ℕ). drop n (c ∷ bytes)) one_more) ∙ f)
 none_step c bytes false e more f = absurd cc
 
--- nothing stands behind the front only where no byte is 0
+-- nothing stands after the prefix only where no byte is 0
 none_behind : (bytes : List ℕ) → drop (zero_place bytes) bytes ≡ [] → list_all is_not_zero bytes ≡ true
 none_behind [] e = refl
 none_behind (c ∷ bytes) e = none_step c bytes (is_not_zero c) refl (none_behind bytes) e

@@ -15,6 +15,6 @@ place total left = total - length left
 abbrev pub place_before : ℕ → List ℕ → ℕ
 place_before total left = total - length left - 1
 
--- behind a header with this character set, by number and as it is, and this string table
+-- after a header with this character set, by number and as it is, and this string table
 abbrev pub input_of : ℕ → ℕ × Charset → List ℕ → Input
 input_of total charset table = record { total = total; strings = record { charset = charset.1; table = table } }

@@ -1,5 +1,5 @@
--- What is refused: a front of whole parts, and behind it what can't stand there. Places are counted from the
--- beginning of the input, of which these bytes are the last. This project's own.
+-- What is refused: a prefix of whole parts, and after it what can't stand there. Places are counted
+-- from the beginning of the input, of which these bytes are the last. This project's own.
 use Rattle.std.specs.Prelude.{◌≡◌, ◌≢◌, ℕ, zero, suc, ◌<◌, ◌≤◌, ◌^◌, Bool, true, false, ◌==◌, ◌⊎◌, List, [], ◌∷◌, ◌++◌, length, None}
 use Rattle.std.specs.List.{list_all}
 use Rattle.wap_base.specs.Numbers.{IsMb, EndsInside, IsTooLong}
@@ -92,11 +92,11 @@ TooMany before at name rest fault = (2 ^ 32 ≤ table_size (counted name before)
 unfoldable pub RefusedName : Input → State → ℕ → Refusal
 RefusedName input before at = RefusedThen (IsIndexed input.strings) (RefusedIndexed input at) (TooMany before at)
 
--- behind a byte that can't stand there
+-- after a byte that can't stand there
 abbrev pub NoToken : ℕ → Refusal
 NoToken total rest fault = fault ≡ doc.Token (place_before total rest)
 
--- a string, a character, a reference or opaque data, behind the byte that says which it is
+-- a string, a character, a reference or opaque data, after the byte that says which it is
 unfoldable pub RefusedLeaf : Input → LeafMark → Refusal
 RefusedLeaf input (mark.Inline role) bytes = RefusedInline input (place_before input.total bytes) bytes
 RefusedLeaf input (mark.Indexed role) bytes = RefusedIndexed input (place_before input.total bytes) bytes
@@ -139,7 +139,7 @@ AttributeEnds x rest = ValueEnds x.1 rest
 abbrev pub RefusedValue : Input → State → Refusal
 RefusedValue input = RefusedAmong (IsPiece input.strings) Anything (RefusedPiece input)
 
--- an attribute behind the byte that it begins with
+-- an attribute after the byte that it begins with
 unfoldable pub RefusedAttribute : Input → State → Lead → Refusal
 RefusedAttribute input before lead =
     RefusedThen (grammar.IsStartBehind input.strings (on_attribute_page lead.page before) lead (attribute_mark lead))
@@ -165,7 +165,7 @@ RefusedEnd total state =
     RefusedThen (IsLead state.attribute_page) (RefusedLead total)
     (λ lead. RefusedUnless (is_end (attribute_mark lead)) (NoToken total))
 
--- a processing instruction behind its byte
+-- a processing instruction after its byte
 unfoldable pub RefusedInstruction : Input → State → Refusal
 RefusedInstruction input before =
     EitherRefused (RefusedThen (IsLead before.attribute_page) (RefusedLead input.total) (RefusedAttribute input before))
@@ -181,7 +181,7 @@ abbrev pub RefusedWhen : Bool → Refusal → Refusal
 RefusedWhen true Refused = Refused
 RefusedWhen false Refused = NotRefused
 
--- which elements are refused, behind the byte of their tags
+-- which elements are refused, after the byte of their tags
 abbrev pub ElementRefusal : Type 1
 ElementRefusal = State → Lead → Refusal
 
@@ -288,7 +288,7 @@ RefusedWhole total =
     RefusedThen (IsPublic table identifier) (RefusedPublic table identifier) (λ public.
     RefusedBody (input_of total charset table))))))
 
--- bytes behind a document that goes on no further
+-- bytes after a document that goes on no further
 abbrev pub RefusedRest : ℕ → Refusal
 RefusedRest total =
     BehindWhole documents.IsDocument (λ document. InstructionsEnd)

@@ -2,7 +2,7 @@
 use Rattle.std.specs.Prelude.{◌≡◌, ℕ, ◌⊎◌, List, ◌++◌}
 use Rattle.wap_wbxml.specs.declared.fault.DocFault.{DocFault}
 
--- which bytes are refused, and how; whatever stands behind what can't stand there doesn't count
+-- which bytes are refused, and how; whatever stands after what can't stand there doesn't count
 abbrev pub Refusal : Type 1
 Refusal = List ℕ → DocFault → Type 0
 
@@ -14,7 +14,7 @@ NotRefused bytes fault = ⊥
 abbrev pub EitherRefused : Refusal → Refusal → Refusal
 EitherRefused First Second bytes fault = First bytes fault ⊎ Second bytes fault
 
--- a whole part, which goes on no further, and behind it what is refused there
+-- a whole part, which goes on no further, and after it what is refused there
 pub record BehindWhole {A : Type 0} (Is : List ℕ → A → Type 0) (Ends : A → List ℕ → Type 0) (Refused : A → Refusal)
     (bytes : List ℕ) (fault : DocFault) : Type 0 where
   pub front : List ℕ
@@ -32,11 +32,11 @@ Anything a rest = Unit {0}
 abbrev pub Behind : {A : Type 0} → (List ℕ → A → Type 0) → (A → Refusal) → Refusal
 Behind Is = BehindWhole Is Anything
 
--- a first part is refused, or the second one behind it
+-- a first part is refused, or the second one after it
 abbrev pub RefusedThen : {A : Type 0} → (List ℕ → A → Type 0) → Refusal → (A → Refusal) → Refusal
 RefusedThen Is First Next = EitherRefused First (Behind Is Next)
 
--- some whole items, each of which goes on no further, and behind them an item that is refused
+-- some whole items, each of which goes on no further, and after them an item that is refused
 pub data RefusedAmong {A S : Type 0} (Is : S → List ℕ → A × S → Type 0) (Ends : A × S → List ℕ → Type 0)
     (Refused : S → Refusal) : S → List ℕ → DocFault → Type 0 where
   here : (state : S) (bytes : List ℕ) (fault : DocFault) → Refused state bytes fault

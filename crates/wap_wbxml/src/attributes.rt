@@ -16,7 +16,7 @@ use std::alloc::Global;
 use wap_base::Rows;
 use wap_markup::{Attr, AttributeMark, Lead, Piece, Token};
 
-/// A processing instruction behind its byte: one attribute and an end.
+/// A processing instruction after its byte: one attribute and an end.
 #[tactic(auto, unfolding(crate::specs::reading::Parts::instruction_at))]
 pub fn read_instruction<'a>(
     alloc: Global,
@@ -33,7 +33,7 @@ pub fn read_instruction<'a>(
     Ok((attribute, rest))
 }
 
-/// What follows an end, which has to stand in front.
+/// What follows an end, which the bytes have to begin with.
 #[tactic(auto, unfolding(crate::specs::reading::Parts::end_at))]
 fn read_end<'a>(input: &Input<'_>, state: &State, bytes: &'a [u8]) -> Result<&'a [u8], DocFault>
     ensures { Meets NoMemory (λ rest. rest.now) result
@@ -88,7 +88,7 @@ fn read_attributes<'a>(
     Err(DocFault::Short { at: input.total() })
 }
 
-/// The next attribute, or none behind the end.
+/// The next attribute, or none after the end.
 #[tactic(auto, unfolding(crate::specs::reading::Parts::next_attribute))]
 fn next_attribute<'a>(
     alloc: Global,
@@ -120,7 +120,7 @@ fn is_end(mark: AttributeMark) -> bool
     }
 }
 
-/// An attribute behind the byte that it begins with: its start, and its value.
+/// An attribute after the byte that it begins with: its start, and its value.
 #[tactic(auto, unfolding(crate::specs::reading::Parts::attribute_behind))]
 fn read_attribute<'a>(
     alloc: Global,
@@ -143,7 +143,7 @@ fn read_attribute<'a>(
     Ok((attribute, rest))
 }
 
-/// An attribute's start behind the byte that it begins with.
+/// An attribute's start after the byte that it begins with.
 #[tactic(auto, unfolding(crate::specs::reading::Parts::start_at))]
 fn read_start<'a>(
     alloc: Global,

@@ -27,7 +27,7 @@ pub fn decode(alloc: Global, bytes: &[u8]) -> Result<Document, DocFault>
     ensures found { IfOk result (λ document. IsDocument bytes.now document) }
     ensures only { (d : Document) → IsDocument bytes.now d → Meets NoMemory (λ d. d) result (Ok d) }
 
-    // Each fault but the want of memory says what is refused, and what is refused is that fault.
+    // Each fault but out of memory says what is refused, and what is refused is that fault.
     ensures refused { IfErr result (λ fault. fault ≢ NoMemory → IsRefused bytes.now fault) }
     ensures first { (f : DocFault) → IsRefused bytes.now f
         → Meets NoMemory (λ d. d) result (Err f) }
@@ -82,7 +82,7 @@ fn read_whole<'a>(
     Ok((document, rest))
 }
 
-/// The root, with processing instructions before and behind it, which are dropped.
+/// The root, with processing instructions before and after it, which are dropped.
 #[tactic(auto, unfolding(crate::specs::reading::Whole::body_at))]
 fn read_body<'a>(
     alloc: Global,

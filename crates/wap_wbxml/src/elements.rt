@@ -16,7 +16,7 @@ use std::alloc::Global;
 use wap_base::Rows;
 use wap_markup::{ContentMark, Element, Kid, Lead, Token};
 
-/// An element of so many levels at most, behind the byte of its tag.
+/// An element of so many levels at most, after the byte of its tag.
 #[cycle(elements)]
 #[tactic(auto, unfolding(crate::specs::reading::Parts::element_at))]
 pub fn read_element<'a>(
@@ -38,7 +38,7 @@ pub fn read_element<'a>(
     read_parts(alloc, input, state, levels - 1, lead, bytes)
 }
 
-/// An element in which elements of so many levels may stand, behind the byte of its tag.
+/// An element in which elements of so many levels may stand, after the byte of its tag.
 #[cycle(elements)]
 #[tactic(auto, unfolding(crate::specs::reading::Parts::element_by))]
 fn read_parts<'a>(
@@ -67,7 +67,7 @@ fn read_parts<'a>(
     Ok((element, rest))
 }
 
-/// A tag behind its byte.
+/// A tag after its byte.
 #[tactic(auto, unfolding(crate::specs::reading::Parts::tag_at))]
 fn read_tag<'a>(
     alloc: Global,
@@ -130,7 +130,7 @@ fn read_kids<'a>(
     Err(DocFault::Short { at: input.total() })
 }
 
-/// The next part of some content, or none behind its end.
+/// The next part of some content, or none after its end.
 #[cycle(elements)]
 #[tactic(auto, unfolding(crate::specs::reading::Parts::next_kid))]
 fn next_kid<'a>(

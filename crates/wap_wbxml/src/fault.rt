@@ -28,7 +28,7 @@ pub enum DocFault {
     /// A name of the string table with which the names in the root take 2^32 bytes or more, each
     /// counted once, in UTF-8 and with a 0; `at` is the byte that calls for it.
     Table { at: usize },
-    /// The first byte behind the document.
+    /// The first byte after the document.
     Rest { at: usize },
     NoMemory,
 }

@@ -14,8 +14,8 @@ use std::alloc::Global;
 use wap_base::{Bytes, Charset, ReadFault, Text, read_mb};
 use wap_markup::{Lead, SWITCH_PAGE};
 
-/// The byte that an item begins with, if there is one, with its page: this one, or the one behind
-/// a switch.
+/// The byte that an item begins with, if there is one, with its page: this one, or the one after a
+/// switch.
 pub fn find_lead(page: u8, bytes: &[u8]) -> Option<(Lead, &[u8])>
     ensures { MatchOption result (lead_in page bytes.now ≡ None)
         (λ read. lead_in page bytes.now ≡ Some (read.0, read.1.now)) }
@@ -64,7 +64,7 @@ pub fn read_number(total: usize, bytes: &[u8]) -> Result<(u32, &[u8]), DocFault>
     }
 }
 
-/// As many bytes as the number in front says.
+/// As many bytes as the number before them says.
 #[tactic(auto, unfolding(crate::specs::reading::Fronts::opaque_at))]
 pub fn read_opaque(total: usize, bytes: &[u8]) -> Result<(&[u8], &[u8]), DocFault>
     ensures { Meets NoMemory (λ read. (read.0.now, read.1.now)) result (opaque_at total bytes.now) }

@@ -12,7 +12,7 @@ use std::alloc::Global;
 use wap_base::{Bytes, Text};
 use wap_markup::{Kid, Leaf, LeafMark, Piece, Role};
 
-/// A string, a character, a reference, an extension or opaque data, behind the byte that says so.
+/// A string, a character, a reference, an extension or opaque data, after the byte that says so.
 #[tactic(auto, unfolding(crate::specs::reading::Parts::leaf_at))]
 pub fn read_leaf<'a>(
     alloc: Global,

@@ -51,7 +51,7 @@ pub fn attribute_mark(lead: Lead) -> AttributeMark
     }
 }
 
-/// What a byte says in both, which behind a switch is an extension.
+/// What a byte says in both, of which only the extensions stand after a switch.
 fn leaf_behind(lead: Lead) -> Option<LeafMark>
     ensures { result ≡ leaf_behind lead.switched (leaf_mark lead.byte) }
 {
@@ -105,14 +105,14 @@ pub fn is_named(tag: u8) -> bool
     tag % 64 == LITERAL
 }
 
-/// Whether attributes stand behind a tag.
+/// Whether attributes stand after a tag.
 pub fn has_attributes(tag: u8) -> bool
     ensures { result ≡ has_attributes tag }
 {
     tag >= 128
 }
 
-/// Whether content stands behind a tag, and behind its attributes if it has them.
+/// Whether content stands after a tag, and after its attributes if it has them.
 pub fn has_content(tag: u8) -> bool
     ensures { result ≡ has_content tag }
 {

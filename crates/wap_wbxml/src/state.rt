@@ -1,4 +1,4 @@
-//! What the bytes before settle for those behind them.
+//! What the bytes before settle for those after them.
 ghost use Rattle.std.specs.Prelude.{◌≡◌, OnOk, OnErr};
 ghost use Rattle.indexmap.specs.IndexSet.{insert_key};
 ghost use Rattle.wap_base.specs.Outcome.{Meets};
@@ -104,7 +104,7 @@ impl State {
     }
 }
 
-/// Adds a name behind the others, if it isn't one of them.
+/// Adds a name after the others, if it isn't one of them.
 fn add(names: &mut IndexSet<Text>, name: Text) -> Result<(), NoMemory>
     ensures ok { OnOk result (names.new.keys ≡ insert_key is_same_text names.old.keys name) }
     ensures err { OnErr result (names.new.keys ≡ names.old.keys) }

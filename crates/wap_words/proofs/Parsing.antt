@@ -1,4 +1,4 @@
--- What the kit's parser makes of the words behind a command's name.
+-- What the kit's parser makes of the words after a command's name.
 use Rattle.std.proofs.Common.{◌≡◌, Bool, true, false, List, [], ◌∷◌, drop, Option, Some, None, refl, sym, ap, ap₂, subst, ◌∙◌, inl, inr}
 use Rattle.std.specs.Prelude.{◌&&◌, not, count_by, is_some}
 use Rattle.std.specs.List.{list_all, list_any}

@@ -81,7 +81,7 @@ module _ (P : List ℕ → Type 0) (ender : P (45 ∷ 45 ∷ [])) (long : (c : �
   by_kind (c ∷ []) = plain (c ∷ []) (one_plain c (c == 45) refl)
   by_kind (c ∷ d ∷ ds) = first c d ds (c == 45) refl
 
--- ---- the first character behind a dash
+-- ---- the first character after a dash
 
 first_of_some : (ds flags : List ℕ) (c : ℕ) (cs : List ℕ) → encode_utf8_all ds ≡ flags → flags ≡ c ∷ cs → (x : ℕ) × (slice_get ds 0 ≡ Some x)
 first_of_some [] flags c cs e some = absurd (no_both (e ∙ some))

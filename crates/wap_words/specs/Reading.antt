@@ -1,4 +1,5 @@
--- The words behind a command's name, in UTF-8: a positional and options, each at most once. This project's own.
+-- The words after a command's name, in UTF-8: a positional and options, each at most once. This
+-- project's own.
 use Rattle.std.specs.Prelude.{ℕ, Bool, true, false, ◌==◌, ◌&&◌, if◌then◌else◌, List, [], ◌∷◌, ◌++◌, Option, Some, None, option_map, find}
 use Rattle.std.specs.List.{list_any, before_first, after_first}
 use Rattle.wap_base.specs.Texts.{is_same_text}
@@ -38,7 +39,7 @@ abbrev pub with_value : Read → List ℕ → Option (List ℕ) → Option Read
 with_value read name None = Some (record read { waits = Some name })
 with_value read name (Some text) = with_use read name text
 
--- `name` or `name=text`, behind `--`
+-- `name` or `name=text`, after `--`
 abbrev pub with_option : Form → Read → List ℕ → Option Read
 with_option form read bytes =
     let name = before_first is_equals bytes in

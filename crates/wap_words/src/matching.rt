@@ -32,7 +32,7 @@ fn page_parser<'a>(alloc: Global, word: &'a str) -> Result<clap::Command<'a>, Al
         .arg(Arg::new(alloc, "name"))
 }
 
-/// What a parser makes of the words behind the first, or none where they aren't of its form.
+/// What a parser makes of the words after the first, or none where they aren't of its form.
 fn matches_by<'a>(
     parser: clap::Command<'a>,
     words: &'a [&'a str],
@@ -50,7 +50,7 @@ fn matches_by<'a>(
     }
 }
 
-/// What the words behind the first give for `browse`, or none where they aren't of its form.
+/// What the words after the first give for `browse`, or none where they aren't of its form.
 pub(crate) fn browse_matches<'a>(
     alloc: Global,
     word: &'a str,
@@ -63,7 +63,7 @@ pub(crate) fn browse_matches<'a>(
     matches_by(browse_parser(alloc, word)?, words)
 }
 
-/// What the words behind the first give for a command on one page, or none where they aren't of its
+/// What the words after the first give for a command on one page, or none where they aren't of its
 /// form.
 pub(crate) fn page_matches<'a>(
     alloc: Global,

@@ -32,7 +32,7 @@ use Rattle.wap_world.proofs.Walk.{before, apply_fine}
 abbrev Nothing : World → World → Type 0
 Nothing old new = Unit {0}
 
--- a key sees none of the keys behind it, and leaves them
+-- a key sees none of the keys after it, and leaves them
 pub leaves_keys : (pages : Pages) (one : Key) (keys : List Key) (world : World) → react pages one keys world ≡ before keys (react pages one [] world)
 unfolding react
 leaves_keys pages one keys world =

@@ -1,5 +1,5 @@
--- A walk through all rules: what each change of a world keeps, every key keeps; and no key outside a
--- dialog uses or sees the keys behind it.
+-- A walk through all rules: what each change of a world keeps, every key keeps; and no key outside
+-- a dialog uses or sees the keys after it.
 use Rattle.std.proofs.Common.{◌≡◌, ℕ, zero, suc, Bool, true, false, List, [], ◌++◌, Option, Some, None, Ok, Err, refl, sym, ap, ◌∙◌}
 use Rattle.std.specs.Prelude.{Result, if◌then◌else◌}
 use Rattle.std.specs.Option.{option_and_then}

@@ -42,7 +42,7 @@ query_before None form = form
 query_before (Some []) form = form
 query_before (Some (c ∷ query)) form = (c ∷ query) ++ ampersand ∷ form
 
--- with get the postfields, if there are some, go behind the query
+-- with get the postfields, if there are some, go after the query
 abbrev pub url_with : Url → Pairs → Url
 url_with url [] = url
 url_with url (post ∷ posts) =

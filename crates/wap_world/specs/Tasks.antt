@@ -4,8 +4,9 @@
 --    1. A turn is taken, if one is left.
 --    2. Its href, setvars and postfields are filled: a task is, when it is taken.
 --    3. The href is a reference to the current deck's URL, and has to come to a page's.
---    4. Postfields are the body of a post, and go behind the query of a get.
---    5. With get the current deck isn't asked for again, unless it is wanted anew: on with step 8.
+--    4. Postfields are the body of a post, and go after the query of a get.
+--    5. With get the current deck isn't asked for again, unless it is to be fetched anew: on with
+-- step 8.
 --    6. The request is shown, and the page is asked for.
 --    7. The page's access element decides whether it may be entered from the current deck.
 --    8. The card whose id is the fragment is taken, else the first.
@@ -110,7 +111,8 @@ request pages keys sets caller one world =
     (with_deck pages keys world
     (try_deck pages keys sets caller one.url world) (answer_to pages one))
 
--- 5: no request is made for the current deck, but for a post and for a page that is wanted anew
+-- 5: no request is made for the current deck, but for a post and for a page that is to be fetched
+-- anew
 abbrev pub is_here : Request → Place → Bool
 is_here one place = is_same_page one.url place.url && is_none one.body && not one.fresh
 

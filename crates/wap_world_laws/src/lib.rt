@@ -52,8 +52,8 @@ pub fn keys_that_fit_nothing_are_ignored()
         → (quiet keys (ignored world)).world ≡ world }
 {}
 
-/// A deck that may not be entered adds its request's line, its name and its test, and the current card
-/// is shown again behind the refusal; nothing is left, set or entered.
+/// A deck that may not be entered adds its request's line, its name and its test, and the current
+/// card is shown again after the refusal; nothing is left, set or entered.
 pub fn denied_decks_change_nothing()
     ensures { (pages : Pages) (keys : List Key) (sets : Pairs) (caller : Option Url)
         (one : Request) (world : World) (deck : Deck)

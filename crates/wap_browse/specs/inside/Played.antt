@@ -21,7 +21,7 @@ pub record Moment : Type 0 where
   pub written : Option (List ℕ)
   pub faults : ℕ
 
--- a fact of a key's step, where the pages are told and have the deck
+-- a fact of a key's step, where the pages are known and have the deck
 abbrev pub IfTold : Key → Moment → (Pages → Step → Type 0) → Type 0
 IfTold key old Fact = IfOver old.pages.contents old.state.browser
     (λ pages. Fact pages (react pages key [] old.state.browser.world))

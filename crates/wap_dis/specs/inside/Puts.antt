@@ -1,4 +1,4 @@
--- Bytes that are put behind others, of which some are written and some are held.
+-- Bytes that are put after others, of which some are written and some are held.
 use Rattle.std.specs.Prelude.{◌≡◌, ℕ, ◌≤◌, Bool, true, false, List, ◌++◌, Option}
 use Rattle.wap_base.specs.Count.{Rose}
 use Rattle.wap_base.specs.Transfer.{Appends, AppendsFront}

@@ -1,4 +1,4 @@
--- Lines that are taken from a reader, and bytes that are read behind them.
+-- Lines that are taken from a reader, and bytes that are read after them.
 use Rattle.std.specs.Prelude.{◌≡◌, ◌≢◌, ℕ, ◌+◌, ◌<◌, ◌≤◌, Bool, true, ◌==◌, not, List, [], ◌∷◌, ◌++◌, length, take, drop, Option, Some, None, Result, Ok, Err}
 use Rattle.std.specs.List.{list_all}
 use Rattle.wap_base.specs.Ascii.{line_feed}
@@ -65,7 +65,7 @@ ReadsMore before after old new more.AtEnd = IsAtEnd before × TakesFrom before a
 ReadsMore before after old new more.Past = (piece : List ℕ) × TakesFrom before after piece × (length piece ≡ 1) × (old.count ≡ KEYS_LIMIT) × (new ≡ old)
 ReadsMore before after old new more.Failed = (after ≡ before) × (new ≡ old)
 
--- how often a source has told its end, behind a read that comes to this
+-- how often a source has reported its end, after a read that comes to this
 abbrev pub ends_by : ℕ → More → ℕ
 ends_by ends more.Piece = ends
 ends_by ends more.AtEnd = raised ends

@@ -18,7 +18,7 @@ Kept = LruCache (List ℕ) Page
 abbrev pub names_in : Kept → Cache
 names_in kept = record { names = keys_of kept.entries; capacity = kept.cap }
 
--- a page is the one of its name, where the contents are told
+-- a page is the one of its name, where the contents are known
 abbrev pub IsRight : Option Contents → List ℕ → Page → Type 0
 IsRight contents name page = IfSome contents (λ contents. page ≡ page_of name (judged contents))
 
@@ -32,7 +32,7 @@ pub record IsSound (contents : Option Contents) (kept : Kept) : Type 0 where
   pub few : length kept.entries ≤ kept.cap
   pub some : 0 < kept.cap
 
--- a look-up among the pages that are kept, unless the page is wanted fresh
+-- a look-up among the pages that are kept, unless the page is to be fresh
 pub record LooksUp (contents : Option Contents) (asked : Asked) (before after : Kept) (result : Result (Option Page) NoMemory) : Type 0 where
   pub sound : IsSound contents after
   pub capacity : after.cap ≡ before.cap

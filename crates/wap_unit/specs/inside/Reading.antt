@@ -20,7 +20,7 @@ use Rattle.wap_unit.specs.declared.kind.PragmaKind.TheVariants as pragma
 use Rattle.wap_unit.specs.Kinds.{constant_kind, pragma_kind}
 use Rattle.wap_unit.specs.inside.Steps.{Reader, byte_at, taken_at, number_at, in_turn, given, failing, passing, told, many}
 
--- bytes behind their number
+-- bytes after their number
 unfoldable pub sized_at : Reader (List ℕ)
 sized_at = in_turn number_at taken_at
 

@@ -1,4 +1,4 @@
--- Reading from the left, step by step: what stands in front, and what follows it.
+-- Reading from the left, step by step: what bytes begin with, and what follows it.
 use Rattle.std.specs.Prelude.{ℕ, zero, suc, ◌-◌, Bool, nat_lt, if◌then◌else◌, List, [], ◌∷◌, length, take, drop, Result, Ok, Err}
 use Rattle.wap_base.specs.Outcome.{◌>>=◌}
 use Rattle.wap_base.specs.Numbers.{mb_at}
@@ -7,7 +7,7 @@ use Rattle.wap_base.specs.declared.number.ReadFault.TheVariants as number
 use Rattle.wap_unit.specs.declared.fault.UnitFault.{UnitFault}
 use Rattle.wap_unit.specs.declared.fault.UnitFault.TheVariants as fault
 
--- a value and the bytes behind it, given the length of the input and what is left of it
+-- a value and the bytes after it, given the length of the input and what is left of it
 abbrev pub Reader : Type 0 → Type 0
 Reader A = ℕ → List ℕ → Result (A × List ℕ) UnitFault
 

@@ -2,7 +2,7 @@
 use Rattle.std.specs.Prelude.{◌≡◌, ℕ, ◌⊎◌, List, [], ◌∷◌, ◌++◌}
 use Rattle.wap_base.specs.Ascii.{slash}
 
--- these segments, each with the slash behind it
+-- these segments, each with the slash after it
 abbrev pub folder_of : List (List ℕ) → List ℕ
 folder_of [] = []
 folder_of (s ∷ segments) = s ++ slash ∷ folder_of segments

@@ -60,7 +60,7 @@ or_no_text at None = Err (fault.Text at)
 abbrev pub zero_place : List ℕ → ℕ
 zero_place = prefix_len is_not_zero
 
--- behind the 0 at the end of a string, which has to be there
+-- after the 0 at the end of a string, which has to be there
 abbrev pub behind_zero : ℕ → List ℕ → Result (List ℕ) DocFault
 behind_zero total [] = Err (fault.Short total)
 behind_zero total (byte ∷ rest) = Ok rest

@@ -1,4 +1,4 @@
--- Reading the body of a document: what stands in front, and what follows it. This project's own.
+-- Reading the body of a document: what bytes begin with, and what follows it. This project's own.
 use Rattle.std.specs.Prelude.{ℕ, zero, suc, ◌%◌, Bool, true, false, List, [], Option, Some, None, Result, Ok, Err}
 use Rattle.wap_base.specs.Outcome.{◌>>=◌}
 use Rattle.wap_markup.specs.declared.document.Attr.{Attr}
@@ -26,7 +26,7 @@ use Rattle.wap_wbxml.specs.Places.{Input, place_before}
 use Rattle.wap_wbxml.specs.reading.Steps.{Reading, Next, some, told, all_by}
 use Rattle.wap_wbxml.specs.reading.Fronts.{lead_in, lead_at, inline_at, indexed_at, character_at, opaque_at, name_at}
 
--- behind a byte that can't stand there
+-- after a byte that can't stand there
 abbrev pub no_token : {A : Type 0} → ℕ → List ℕ → Reading A
 no_token total rest = Err (fault.Token (place_before total rest))
 
@@ -104,7 +104,7 @@ end_at total state bytes =
     lead_at total state.attribute_page bytes >>= λ lead.
     end_from total (is_end (attribute_mark lead.0)) lead.1
 
--- a processing instruction behind its byte
+-- a processing instruction after its byte
 unfoldable pub instruction_at : Input → State → List ℕ → Reading (Attr × State)
 instruction_at input before bytes =
     lead_at input.total before.attribute_page bytes >>= λ lead.
@@ -123,7 +123,7 @@ abbrev pub when : {A S : Type 0} → Bool → (S → List ℕ → Reading (List 
 when true read before bytes = read before bytes
 when false read before bytes = Ok (([], before), bytes)
 
--- reading elements behind the byte of their tags
+-- reading elements after the byte of their tags
 abbrev pub ElementReader : Type 0
 ElementReader = State → Lead → List ℕ → Reading (Element × State)
 

@@ -2,7 +2,7 @@ use Rattle.std.proofs.Common.{◌≡◌, ◌++◌, List, ℕ, length}
 use Rattle.wap_base.specs.Transfer.{Appends}
 use Rattle.wap_base.proofs.sink.write_all.Given as goal
 
--- a front of the piece was written, and the rest is to come
+-- a prefix of the piece was written, and the rest is to come
 abbrev pub invariant-loop-rest : goal.invariant-loop-rest
 invariant-loop-rest g l = record {
   front : List ℕ;

@@ -6,7 +6,7 @@ use Rattle.wap_url.specs.Reading.{is_stop, has_bad_char}
 use Rattle.wap_url.proofs.FrontLaws.{HasFragment, has_fragment, no_fragment, behind_hash, fragment_text}
 use Rattle.wap_url.proofs.reading.copy_fragment.Goals as goal
 
--- what follows the front is there, so it is a fragment
+-- what follows the prefix is there, so it is a fragment
 found : (cs whole after : List ℕ) → whole ≡ encode_utf8_all cs → all_scalars cs ≡ true → has_bad_char cs ≡ false → after ≡ onward is_stop (encode_utf8_all cs) → (length after == 0) ≡ false → HasFragment cs whole
 found cs whole after is text good after_is some =
     has_fragment cs whole is text good (lengths (eqb-false (length after) 0 some) (ap length (after_is ∙ ap (onward is_stop) (sym is)))) where
