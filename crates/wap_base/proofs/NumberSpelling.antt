@@ -1,4 +1,5 @@
--- The shortest spelling of a multi-byte integer: that it spells the number, that none is shorter, and how a loop makes it.
+-- The shortest spelling of a multi-byte integer: that it spells the number, that none is shorter,
+-- and how a loop makes it.
 use Rattle.std.proofs.Common.{◌≡◌, ℕ, zero, suc, ◌+◌, ◌*◌, ◌-◌, ◌%◌, ◌/◌, ◌^◌, ◌<◌, ◌≤◌, Bool, false, cond, eqb, List, [], ◌∷◌, ◌++◌, length, take, drop, set, refl, sym, ap, subst, ◌∙◌, append_assoc, add-one, ◌⊎◌, inl, inr, arith}
 use Rattle.std.specs.List.{AllByRecursion}
 use Rattle.std.proofs.Math.Nat.{pow-succ', mul_assoc, mul_comm}

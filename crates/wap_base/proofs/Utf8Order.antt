@@ -1,5 +1,5 @@
--- The order of UTF-8 is the order of characters: comparing the bytes of two texts is comparing the texts.
--- It holds for all lists of numbers, scalar values or not.
+-- The order of UTF-8 is the order of characters: comparing the bytes of two texts is comparing the
+-- texts. It holds for all lists of numbers, scalar values or not.
 use Rattle.std.proofs.Common.{inl, inr, ◌≡◌, ℕ, ◌+◌, ◌/◌, ◌%◌, ◌<◌, ◌≤◌, List, [], ◌∷◌, ◌++◌, refl, sym, ap, ◌∙◌, subst, arith}
 use Rattle.std.specs.Prelude.{encode_utf8_all}
 use Rattle.std.specs.Char.{encode_utf8}

@@ -1,4 +1,5 @@
--- Characters of US-ASCII by their names (the Unicode Standard, code chart C0 Controls and Basic Latin), in order.
+-- Characters of US-ASCII by their names (the Unicode Standard, code chart C0 Controls and Basic
+-- Latin), in order.
 use Rattle.std.specs.Prelude.{ℕ}
 
 abbrev pub nul : ℕ

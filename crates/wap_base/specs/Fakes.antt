@@ -1,4 +1,5 @@
--- Stores, sources and sinks in memory, which fail at the calls that a list names. This project's own.
+-- Stores, sources and sinks in memory, which fail at the calls that a list names. This project's
+-- own.
 use Rattle.std.specs.Prelude.{ℕ, ◌-◌, All, Bool, not, ◌==◌, ◌||◌, ◌&&◌, nat_lt, List, ◌++◌, length, take, drop, min, if◌then◌else◌}
 use Rattle.std.specs.List.{list_any}
 use Rattle.wap_base.specs.Count.{raised}

@@ -1,4 +1,5 @@
--- Limits that may be chosen, their ranges and those that hold where none is chosen. This project's own.
+-- Limits that may be chosen, their ranges and those that hold where none is chosen. This project's
+-- own.
 use Rattle.std.specs.Prelude.{ℕ, ◌≤◌}
 use Rattle.wap_base.specs.declared.limits.Limits.{Limits}
 use Rattle.wap_base.specs.declared.limits.TheConstants.{DEFAULT_STRING, LEAST_STRING, MOST_STRING, DEFAULT_HISTORY, LEAST_HISTORY, MOST_HISTORY, DEFAULT_DEPTH, LEAST_DEPTH, MOST_DEPTH}

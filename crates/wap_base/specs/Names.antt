@@ -1,4 +1,5 @@
--- Names of variables (WAP-191, section 10.3.1): an ASCII letter or an underscore, and then such characters and digits.
+-- Names of variables (WAP-191, section 10.3.1): an ASCII letter or an underscore, and then such
+-- characters and digits.
 use Rattle.std.specs.Prelude.{ℕ, Bool, false, ◌||◌, ◌&&◌, ◌==◌, List, [], ◌∷◌}
 use Rattle.std.specs.Char.{is_ascii_alphabetic, is_ascii_digit}
 use Rattle.std.specs.List.{list_all}

@@ -1,5 +1,6 @@
--- Multi-byte integers (WAP-192, section 5.1): seven bits a byte, the most significant group first, bit 7 set
--- on all bytes but the last. This project's own: one to five bytes, below 2 ^ 32, and not only the shortest.
+-- Multi-byte integers (WAP-192, section 5.1): seven bits a byte, the most significant group first,
+-- bit 7 set on all bytes but the last. This project's own: one to five bytes, below 2 ^ 32, and not
+-- only the shortest.
 use Rattle.std.specs.Prelude.{◌≡◌, ℕ, zero, suc, ◌+◌, ◌*◌, ◌/◌, ◌%◌, ◌^◌, ◌<◌, ◌≤◌, ◌⊎◌, ◌==◌, List, [], ◌∷◌, ◌++◌, length, drop, nat_lt, if◌then◌else◌, Result, Ok, Err}
 use Rattle.std.specs.List.{AllByRecursion}
 use Rattle.wap_base.specs.declared.number.ReadFault.{ReadFault}
@@ -35,7 +36,8 @@ pub record EndsInside (left : List ℕ) : Type 0 where
   pub few : length left < 5
   pub carry_on : AllByRecursion (λ byte. 128 ≤ byte) left
 
--- five bytes are left or more, of which the first four carry on; the fifth carries on too, or ends too large a number
+-- five bytes are left or more, of which the first four carry on; the fifth carries on too, or ends
+-- too large a number
 pub record IsTooLong (left : List ℕ) : Type 0 where
   pub bytes : List ℕ
   pub rest : List ℕ

@@ -1,5 +1,5 @@
--- The libraries (WAP-194): each function with the number of its library, its number in it, how many arguments it takes,
--- and both names.
+-- The libraries (WAP-194): each function with the number of its library, its number in it, how many
+-- arguments it takes, and both names.
 use Rattle.std.specs.Prelude.{ℕ, Bool, ◌==◌, ◌&&◌, bytes_eq, codes, encode_utf8_all, map, List, [], ◌∷◌, Option}
 use Rattle.std.specs.Map.{lookup}
 

@@ -1,5 +1,5 @@
--- The instructions (WAP-193, section 10), a row for each spelling. The effects of pairs and the verification's counts are
--- this project's own.
+-- The instructions (WAP-193, section 10), a row for each spelling. The effects of pairs and the
+-- verification's counts are this project's own.
 use Rattle.std.specs.Prelude.{ℕ, List, [], ◌∷◌}
 use Rattle.wap_code.specs.declared.row.OpName.{OpName}
 use Rattle.wap_code.specs.declared.row.OpName.TheVariants as op
@@ -13,8 +13,8 @@ use Rattle.wap_code.specs.declared.row.After.{After}
 use Rattle.wap_code.specs.declared.row.After.TheVariants.{On, Forward, Backward, ForwardOrOn, BackwardOrOn, Pair, Leave}
 use Rattle.wap_code.specs.declared.row.Row.{Row}
 
--- the first code and how many there are, the operation and the name, where the operands stand and what they are,
--- the values taken and given, and where it goes on
+-- the first code and how many there are, the operation and the name, where the operands stand and
+-- what they are, the values taken and given, and where it goes on
 abbrev pub row : ℕ → ℕ → OpName → OpName → Slot → Slot → Slot → Operands → Takes → ℕ → After → Row
 row first count operation name a b c operands takes gives after = record {
   first = first;

@@ -1,6 +1,7 @@
 //! The libraries (WAP-194).
 
-/// Each function: the library's number, the function's number in it, how many arguments it takes, and both names.
+/// Each function: the library's number, the function's number in it, how many arguments it takes,
+/// and both names.
 pub static LIBRARY: [(u16, u8, u8, &str, &str); 63] = [
     (0, 0, 1, "Lang", "abs"),
     (0, 1, 2, "Lang", "min"),

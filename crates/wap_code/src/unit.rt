@@ -1,4 +1,5 @@
-//! Compiled units (WAP-193, section 9): numbers and texts as they are spelled, nothing yet of what they mean.
+//! Compiled units (WAP-193, section 9): numbers and texts as they are spelled, nothing yet of what
+//! they mean.
 use wap_base::{Bytes, Rows, Text};
 
 /// A compiled unit.
@@ -44,7 +45,8 @@ pub enum Pragma {
     Scheme(u32, u32, u32),
 }
 
-/// A function: how many arguments it takes, how many variables it has besides, and its instructions.
+/// A function: how many arguments it takes, how many variables it has besides, and its
+/// instructions.
 #[derive(Debug, Drop)]
 pub struct Code {
     pub args: u8,

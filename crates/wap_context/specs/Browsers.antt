@@ -1,5 +1,5 @@
--- What is seen of a browser that stands on a card: its world, and the deck that it has at hand. This
--- project's own.
+-- What is seen of a browser that stands on a card: its world, and the deck that it has at hand.
+-- This project's own.
 use Rattle.std.specs.Prelude.{◌≡◌, ℕ, List, Option, IfSome}
 use Rattle.std.specs.Option.{option_and_then, option_map_or}
 use Rattle.wap_filling.specs.Variables.{Variables}

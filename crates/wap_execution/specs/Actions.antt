@@ -1,4 +1,5 @@
--- What each operation does (WAP-193, section 10), a row for each. The names of short forms are no operations of their own.
+-- What each operation does (WAP-193, section 10), a row for each. The names of short forms are no
+-- operations of their own.
 use Rattle.std.specs.Prelude.{pos, negsuc, true, false}
 use Rattle.wap_code.specs.declared.row.OpName.{OpName}
 use Rattle.wap_code.specs.declared.row.OpName.TheVariants as op

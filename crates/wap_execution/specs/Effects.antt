@@ -1,5 +1,5 @@
--- What one instruction does in its frame (WAP-193, section 10), a row for each action. It says nothing of turns, and
--- nothing of what a call comes to.
+-- What one instruction does in its frame (WAP-193, section 10), a row for each action. It says
+-- nothing of turns, and nothing of what a call comes to.
 use Rattle.std.specs.Prelude.{ℕ, ◌+◌, ◌-◌, nat_lt, nat_le, Bool, true, false, not, List, [], ◌∷◌, length, take, drop, reverse, slice_get, slice_set, slice_index, if◌then◌else◌, Option, Some, None, Result, Ok, Err, option_map}
 use Rattle.std.specs.Option.{option_map_or}
 use Rattle.wap_value.specs.declared.value.Value.{Value}
@@ -85,7 +85,8 @@ jumps_at value = option_map_or not (boolean_of value) true
 abbrev pub stored : ℕ → List Value → Value → List Value → ℕ → Effect
 stored index variables value operands next = if nat_lt index (length variables) then onward next (slice_set variables index value) operands else stuck
 
--- the effect of an action, with the limit of Strings, in this frame, whose operands the instruction is not yet taken from
+-- the effect of an action, with the limit of Strings, in this frame, whose operands the instruction
+-- is not yet taken from
 unfoldable pub effect_of : ℕ → Frame → Action → Instr → Effect
 effect_of string frame Jump instr = onward (instr.next + instr.a) frame.variables frame.operands
 effect_of string frame JumpBack instr = backward frame.place instr frame.variables frame.operands

@@ -17,7 +17,8 @@ pub record Function : Type 0 where
   pub referer : Option Url
   pub index : ℕ
 
--- a function at work: the place in its code where it goes on, its variables, and its operands, the topmost first
+-- a function at work: the place in its code where it goes on, its variables, and its operands, the
+-- topmost first
 pub record Frame : Type 0 where
   pub function : Function
   pub place : ℕ

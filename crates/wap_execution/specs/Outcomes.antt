@@ -1,5 +1,5 @@
--- What calls and runs come to, and what a host of machines does: whoever finds the functions of other units and has the
--- libraries. This project's own.
+-- What calls and runs come to, and what a host of machines does: whoever finds the functions of
+-- other units and has the libraries. This project's own.
 use Rattle.std.specs.Prelude.{ℕ, List, Option}
 use Rattle.wap_base.specs.declared.limits.Limits.{Limits}
 use Rattle.wap_value.specs.declared.value.Value.{Value}
@@ -27,14 +27,15 @@ pub record Ended (S : Type 0) : Type 0 where
 
 -- what a host answers, and its state after that
 pub record Hosting (S : Type 0) : Type 0 where
-  -- by the state, the calling unit's URL, the called one's, the function's name, how many arguments there are, and how many
-  -- functions are at work
+  -- by the state, the calling unit's URL, the called one's, the function's name, how many arguments
+  -- there are, and how many functions are at work
   pub external : S → Url → List ℕ → List ℕ → ℕ → ℕ → Found Unit × S
-  -- by the state, the unit's URL and that of its caller, the numbers of library and function, and the arguments
+  -- by the state, the unit's URL and that of its caller, the numbers of library and function, and
+  -- the arguments
   pub library : S → Url → Option Url → ℕ → ℕ → List Value → HostOut × S
 
--- what a run depends on: the limits, the host, and what is done to the state before each instruction, which is nothing but
--- where instructions are counted
+-- what a run depends on: the limits, the host, and what is done to the state before each
+-- instruction, which is nothing but where instructions are counted
 pub record Setting (S : Type 0) : Type 0 where
   pub limits : Limits
   pub host : Hosting S

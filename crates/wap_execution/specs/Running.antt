@@ -1,5 +1,5 @@
--- What a run of a function comes to (WAP-193, sections 9 and 10; turns and the limit of functions at work are this project's
--- own). A jump back and a call take a turn each.
+-- What a run of a function comes to (WAP-193, sections 9 and 10; turns and the limit of functions
+-- at work are this project's own). A jump back and a call take a turn each.
 use Rattle.std.specs.Prelude.{ℕ, zero, suc, ◌+◌, ◌-◌, ◌==◌, nat_le, List, [], ◌∷◌, ◌++◌, length, if◌then◌else◌, Option, Some, None}
 use Rattle.wap_base.specs.declared.limits.TheConstants.{MOST_DEPTH}
 use Rattle.wap_value.specs.declared.value.Value.{Value}
@@ -24,7 +24,8 @@ abbrev pub taking_turn : {S : Type 0} → ℕ → S → (ℕ → Ended S) → En
 taking_turn zero state next = ended (fatal Budget) 0 state
 taking_turn (suc turns) state next = next turns
 
--- what frames make of an outcome of what they called: they go on with a value, wait with what waits, and end with what ends
+-- what frames make of an outcome of what they called: they go on with a value, wait with what
+-- waits, and end with what ends
 abbrev pub returned_by : {S : Type 0} → List Frame → (Value → ℕ → S → Ended S) → Outcome → ℕ → S → Ended S
 returned_by frames next (value v) turns state = next v turns state
 returned_by frames next (exit v) turns state = ended (exit v) turns state
@@ -56,7 +57,8 @@ entered enter caller arguments (Callee unit base index) turns state =
     enter (record { unit = unit; base = base; referer = Some caller; index = index }) arguments turns state
 entered enter caller arguments (Not why) turns state = ended (fatal why) turns state
 
--- what a call comes to, after its turn: by the functions at work, and by what a function comes to that is entered
+-- what a call comes to, after its turn: by the functions at work, and by what a function comes to
+-- that is entered
 abbrev pub called : {S : Type 0} → Setting S → ℕ → Enter S → Function → Called → List Value → ℕ → S → Ended S
 called setting working enter function (local index) arguments turns state =
     if nat_le setting.limits.depth working then ended (fatal Depth) turns state
@@ -86,7 +88,8 @@ followed setting working enter function on again (returns v) turns state = ended
 followed setting working enter function on again (ends why) turns state = ended (fatal why) turns state
 followed setting working enter function on again nowhere turns state = ended stuck turns state
 
--- with so many bytes of the code left, those before the place are passed over; a function that comes to its end gives ""
+-- with so many bytes of the code left, those before the place are passed over; a function that
+-- comes to its end gives ""
 unfoldable pub forward : {S : Type 0} → Setting S → ℕ → Enter S → Function → Onward S → ℕ → Onward S
 forward setting working enter function again zero place variables operands turns state =
     if place == length (code_of function) then ended (value (Str [])) turns state else ended stuck turns state
@@ -113,7 +116,8 @@ abbrev pub began : {S : Type 0} → Setting S → ℕ → Enter S → Function �
 began setting working enter function None arguments turns state = ended stuck turns state
 began setting working enter function (Some code) arguments turns state = run_by setting working enter (begun function code arguments) turns state
 
--- a function is entered, and after it so many more may be; no host finds a function where none may be
+-- a function is entered, and after it so many more may be; no host finds a function where none may
+-- be
 unfoldable pub enter : {S : Type 0} → Setting S → ℕ → Enter S
 enter setting zero function arguments turns state = ended (fatal Depth) turns state
 enter setting (suc more) function arguments turns state =
@@ -123,7 +127,8 @@ enter setting (suc more) function arguments turns state =
 abbrev pub run : {S : Type 0} → Setting S → Frame → List Frame → ℕ → S → Ended S
 run setting frame outer = run_by setting (length (frame ∷ outer)) (enter setting (MOST_DEPTH - length (frame ∷ outer))) frame
 
--- the innermost frame goes on with the value that its call gave, the next with the value that this one gives, and so on
+-- the innermost frame goes on with the value that its call gave, the next with the value that this
+-- one gives, and so on
 unfoldable pub resumed : {S : Type 0} → Setting S → List Frame → Value → ℕ → S → Ended S
 resumed setting [] v turns state = ended (value v) turns state
 resumed setting (frame ∷ outer) v turns state = returned outer (resumed setting outer) (run setting (pushed v frame) outer turns state)

@@ -12,7 +12,8 @@ pub enum Action {
     JumpUnless,
     /// Takes a value, and jumps backward where it is false or invalid as a Boolean.
     JumpBackUnless,
-    /// Takes a value and jumps with it where it decides `&&` (by false) or `||` (by true), or is invalid.
+    /// Takes a value and jumps with it where it decides `&&` (by false) or `||` (by true), or is
+    /// invalid.
     ShortCircuit(bool),
     /// Calls a function of the unit.
     CallLocal,
@@ -26,7 +27,8 @@ pub enum Action {
     StoreVariable,
     /// Stores in a variable what an operator makes of its value.
     ChangeVariable(UnOp),
-    /// Takes a value, and stores in a variable what an operator makes of the variable's value and this.
+    /// Takes a value, and stores in a variable what an operator makes of the variable's value and
+    /// this.
     AssignVariable(BinOp),
     /// Gives a constant of the pool.
     LoadConstant,

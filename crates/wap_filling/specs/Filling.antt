@@ -11,8 +11,8 @@ use Rattle.wap_url.specs.Escapes.{escaped, unescaped}
 use Rattle.wap_filling.specs.Variables.{Variables, text_of}
 
 -- the text as the reference asks for it (section 10.3.1): with escapes, with the bytes that escapes
--- stand for, or as it is. Unescaped bytes that are no UTF-8 are read as the Unicode Standard advises
--- (section 3.9): U+FFFD stands for each greatest part that begins no character.
+-- stand for, or as it is. Unescaped bytes that are no UTF-8 are read as the Unicode Standard
+-- advises (section 3.9): U+FFFD stands for each greatest part that begins no character.
 abbrev pub converted : Conv → List ℕ → List ℕ
 converted Escape text = escaped text
 converted Unescape text = chars (utf8_lossy (unescaped text))

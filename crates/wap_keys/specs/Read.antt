@@ -29,7 +29,8 @@ pub record IsReadBefore (keys : List Key) (left : Option (List ℕ)) (bytes : Li
 abbrev pub AtMostOnce : ℕ → ℕ → Type 0
 AtMostOnce before after = (after ≡ before) ⊎ (after ≡ raised before)
 
--- the whole lines among bytes that were taken: those that a line feed ends, and the last where no byte is left
+-- the whole lines among bytes that were taken: those that a line feed ends, and the last where no
+-- byte is left
 abbrev pub ending_before : List ℕ → Ending
 ending_before [] = End
 ending_before (byte ∷ bytes) = ReadFault
@@ -56,12 +57,13 @@ pub record HasGiven (start left : Option (List ℕ)) (taken : List ℕ) (keys : 
   pub first : IfSome left (λ rest. AreFirst keys (keys_among taken rest))
   pub of_all : IfSome start (λ bytes. AreFirst keys (keys_of bytes).keys)
 
--- a line among the bytes is no key line, whatever follows; or their last line is none, which no line feed ends
+-- a line among the bytes is no key line, whatever follows; or their last line is none, which no
+-- line feed ends
 abbrev pub IsBad : Option (List ℕ) → List ℕ → Keys → Type 0
 IsBad left taken bad = ((ending : Ending) (rest : List ℕ) → keys_at ending (taken ++ rest) ≡ bad) ⊎ (IsAtEnd left × (keys_at End taken ≡ bad))
 
--- how the keys of bytes that were taken came to an end: with the source, by a bad line, by one byte past the limit, or
--- as the source failed
+-- how the keys of bytes that were taken came to an end: with the source, by a bad line, by one byte
+-- past the limit, or as the source failed
 abbrev pub EndsBy : Option (List ℕ) → List ℕ → List Key → Ending → Type 0
 EndsBy left taken keys End = IsAtEnd left × (length taken ≤ KEYS_LIMIT) × (keys_at End taken ≡ record { keys = keys; ending = End })
 EndsBy left taken keys (BadKey line fault) = (fault ≢ NoMemory) × (length taken ≤ KEYS_LIMIT) × IsBad left taken (record { keys = keys; ending = BadKey line fault })

@@ -11,8 +11,8 @@ use Rattle.wap_keys.specs.declared.ending.Next.TheVariants as next
 use Rattle.wap_keys.specs.Lines.{Keys, lines_of, keys_from, keys_at}
 use Rattle.wap_keys.specs.Read.{AtMostOnce, IsPrompt, HasGiven, IsRead}
 
--- a reader: bytes that were taken and whose lines aren't read yet, the number of the first of these lines, how many
--- bytes were taken in all, and whether the source came to its end
+-- a reader: bytes that were taken and whose lines aren't read yet, the number of the first of these
+-- lines, how many bytes were taken in all, and whether the source came to its end
 pub record Reading : Type 0 where
   pub unread : List ℕ
   pub number : ℕ
@@ -30,7 +30,8 @@ said_yet reader ending rest = keys_from ending reader.number (lines_of (reader.u
 abbrev pub said_then : Reading → Ending → List ℕ → Keys
 said_then reader ending rest = if reader.over then record { keys = []; ending = ending } else said_yet reader ending rest
 
--- of a source these bytes were taken, and the reader has said these keys of them: with what it says yet they are all
+-- of a source these bytes were taken, and the reader has said these keys of them: with what it says
+-- yet they are all
 pub record HasRead (start left : Option (List ℕ)) (taken : List ℕ) (keys : List Key) (reader : Reading) : Type 0 where
   pub takes : TakesFrom start left taken
   pub counted : length taken ≡ reader.count

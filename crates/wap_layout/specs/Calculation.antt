@@ -16,7 +16,8 @@ cut_at width (suc times) word = if nat_le (length word) width then word ∷ [] e
 abbrev pub cut_word : ℕ → List ℕ → List (List ℕ)
 cut_word width word = cut_at width (length word) word
 
--- The lines are these words in order, each whole or in its parts, with a space between any two on a line.
+-- The lines are these words in order, each whole or in its parts, with a space between any two on a
+-- line.
 abbrev pub HoldsInOrder : ℕ → List (List ℕ) → List (List ℕ) → Type 0
 HoldsInOrder width words lines =
     (groups : List (List (List ℕ))) × (flat_map (λ group. group) groups ≡ flat_map (cut_word width) words) × (lines ≡ map joined groups)

@@ -1,4 +1,5 @@
--- Which words of a piece stand on which line, which is this project's own. One column is one character.
+-- Which words of a piece stand on which line, which is this project's own. One column is one
+-- character.
 use Rattle.std.specs.Prelude.{◌≡◌, ◌≢◌, ℕ, ◌≤◌, ◌<◌, Bool, true, false, List, [], ◌∷◌, ◌++◌, length, take, drop, All}
 use Rattle.wap_layout.specs.declared.flow.Mode.{Mode}
 use Rattle.wap_layout.specs.declared.flow.Mode.TheVariants.{Wrapped, Unwrapped, Preformatted}

@@ -49,7 +49,8 @@ text_of (Wrap ∷ flow) = text_of flow
 text_of (NoWrap ∷ flow) = text_of flow
 text_of (Pre ∷ flow) = text_of flow
 
--- The same flow with neighbouring texts as one, and no empty text: what a flow says whichever way its texts are cut.
+-- The same flow with neighbouring texts as one, and no empty text: what a flow says whichever way
+-- its texts are cut.
 abbrev pub text_before : List ℕ → List Flow → List Flow
 text_before [] flow = flow
 text_before (c ∷ text) [] = Words (c ∷ text) ∷ []

@@ -1,7 +1,8 @@
 //! Why a source has no tokens.
 use wap_base::NoMemory;
 
-/// The first fault from the left, at the place of its first byte; `NotText` comes before the others.
+/// The first fault from the left, at the place of its first byte; `NotText` comes before the
+/// others.
 #[derive(Clone, Copy, Debug, PartialEq, Eq)]
 pub enum LexFault {
     /// The source isn't UTF-8.

@@ -1,5 +1,5 @@
--- The arguments of a function, converted (WAP-194, "Data Type Conversions"). Where one is invalid or has no such
--- conversion, the function gives invalid.
+-- The arguments of a function, converted (WAP-194, "Data Type Conversions"). Where one is invalid
+-- or has no such conversion, the function gives invalid.
 use Rattle.std.specs.Prelude.{ℕ, List, ℤ, pos, negsuc, Option, Some, None}
 use Rattle.wap_value.specs.declared.value.Value.{Value}
 use Rattle.wap_value.specs.declared.value.Value.TheVariants.{Invalid}

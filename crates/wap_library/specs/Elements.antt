@@ -1,4 +1,5 @@
--- A text as a list of elements (WAP-194, "String"): what stands between the occurrences of one character.
+-- A text as a list of elements (WAP-194, "String"): what stands between the occurrences of one
+-- character.
 use Rattle.std.specs.Prelude.{ℕ, ◌-◌, ◌==◌, if◌then◌else◌, min, List, [], length, slice_index_or, slice_set, insert, remove}
 use Rattle.std.specs.List.{slice_split, join_with_byte}
 
@@ -23,7 +24,8 @@ without_element separator k s = let es = elements separator s in joined separato
 abbrev pub with_element : ℕ → ℕ → List ℕ → List ℕ → List ℕ
 with_element separator k new s = let es = elements separator s in joined separator (slice_set es (within es k) new)
 
--- the new element stands before the one at the place, or at the end; the empty text becomes the new element
+-- the new element stands before the one at the place, or at the end; the empty text becomes the new
+-- element
 abbrev pub with_element_before : ℕ → ℕ → List ℕ → List ℕ → List ℕ
 with_element_before separator k new s =
     let es = elements separator s in

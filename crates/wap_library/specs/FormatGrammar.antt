@@ -1,4 +1,5 @@
--- How a format is written (WAP-194, "format"): characters that stand for themselves, and specifiers.
+-- How a format is written (WAP-194, "format"): characters that stand for themselves, and
+-- specifiers.
 use Rattle.std.specs.Prelude.{◌≡◌, ◌≢◌, ℕ, ◌≤◌, ◌==◌, true, if◌then◌else◌, List, [], ◌∷◌, ◌++◌, Option, Some, None}
 use Rattle.std.specs.Str.{all_ascii_digits}
 use Rattle.std.specs.Str.Parse.{digits_value}

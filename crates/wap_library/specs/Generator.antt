@@ -1,5 +1,5 @@
--- The generator of a session's random numbers. Its words are those of the crate `rand_pcg`, a PCG generator of 32-bit
--- words (XSH RR) that is seeded by a number. This project's own.
+-- The generator of a session's random numbers. Its words are those of the crate `rand_pcg`, a PCG
+-- generator of 32-bit words (XSH RR) that is seeded by a number. This project's own.
 use Rattle.std.specs.Prelude.{◌≡◌, ℕ, ◌+◌, ◌-◌, ◌^◌, ◌<◌, min}
 use Rattle.rand_core.specs.Pcg32Seed.{pcg32_seed}
 use Rattle.rand_pcg.specs.Lcg.{Lcg, advance}

@@ -1,4 +1,5 @@
--- The functions by their numbers (WAP-194, "Library Summary"). The libraries that need no browser are Lang, Float, String and URL.
+-- The functions by their numbers (WAP-194, "Library Summary"). The libraries that need no browser
+-- are Lang, Float, String and URL.
 use Rattle.std.specs.Prelude.{◌≡◌, ℕ, List, [], ◌∷◌, map, Option, Some, slice_get, option_map, option_and_then}
 use Rattle.std.specs.Option.{option_flatten, option_map_or}
 use Rattle.wap_value.specs.declared.value.Value.TheVariants.{Invalid}
@@ -20,7 +21,8 @@ libraries =
     ∷ map (option_map Url) URL
     ∷ []
 
--- the function of a library's number and its own; `None` where it asks the browser, or there is none
+-- the function of a library's number and its own; `None` where it asks the browser, or there is
+-- none
 abbrev pub function_at : ℕ → ℕ → Option Function
 function_at library number = option_flatten (option_and_then (λ functions. slice_get functions number) (slice_get libraries library))
 

@@ -7,7 +7,8 @@ abbrev pub place_of : List ℕ → List ℕ → Option ℕ
 place_of t [] = None
 place_of t (c ∷ s) = if starts_with nat_eq (c ∷ s) t then Some 0 else option_map (λ k. suc k) (place_of t s)
 
--- a text with `new` in place of each occurrence of `old`, from the left, where so many characters of an occurrence are still to be passed over
+-- a text with `new` in place of each occurrence of `old`, from the left, where so many characters
+-- of an occurrence are still to be passed over
 abbrev pub replaced_behind : List ℕ → List ℕ → List ℕ → ℕ → List ℕ
 replaced_behind old new [] passed = []
 replaced_behind old new (c ∷ s) (suc passed) = replaced_behind old new s passed

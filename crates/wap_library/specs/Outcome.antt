@@ -1,4 +1,5 @@
--- What a call of a library comes to, where Strings have a limit in bytes of UTF-8. This project's own.
+-- What a call of a library comes to, where Strings have a limit in bytes of UTF-8. This project's
+-- own.
 use Rattle.std.specs.Prelude.{ℕ, ◌-◌, ◌^◌, min, nat_lt, if◌then◌else◌, List, Result, Ok, Err}
 use Rattle.wap_base.specs.Utf8.{utf8_len}
 use Rattle.wap_value.specs.declared.value.Value.{Value}

@@ -1,5 +1,5 @@
--- Good decks (WAP-191, section 11; the profile of the rules is this project's own): each node keeps the rule of its
--- element, and ids of cards and names of dos are distinct.
+-- Good decks (WAP-191, section 11; the profile of the rules is this project's own): each node keeps
+-- the rule of its element, and ids of cards and names of dos are distinct.
 use Rattle.std.specs.Prelude.{◌≡◌, ℕ, zero, suc, ◌<◌, Bool, true, false, not, ◌&&◌, ◌||◌, nat_eq, nat_le, is_some, map, take, position, filter, slice_get, List, [], ◌∷◌, length, Option, Some, None, codes}
 use Rattle.std.specs.List.{filter_map, flat_map, list_all, list_any, AllByRecursion, IsDistinct}
 use Rattle.std.specs.Option.{option_and_then}
@@ -23,8 +23,8 @@ use Rattle.wap_markup.specs.Cards.{cards_of, ids_of}
 
 -- ---- rules, as the table has them
 
--- what may stand in an element: elements of these groups, perhaps in this order, and perhaps texts; of some groups one
--- at most; of some elements one at least; and the attributes that it has to have
+-- what may stand in an element: elements of these groups, perhaps in this order, and perhaps texts;
+-- of some groups one at most; of some elements one at least; and the attributes that it has to have
 pub record Rule : Type 0 where
   pub groups : List (List Tag)
   pub in_order : Bool
@@ -121,8 +121,8 @@ abbrev pub has_needs : Rule → Node → Bool
 has_needs rule node =
     list_all (has_attribute node) rule.attributes && (is_empty rule.needs || list_any (is_among rule.needs) (tags_of node.kids))
 
--- what the value of an attribute has to be: one of some words; the name of a variable; that, or nothing; free of
--- references
+-- what the value of an attribute has to be: one of some words; the name of a variable; that, or
+-- nothing; free of references
 pub data Form : Type 0 where
   words : List (List ℕ) → Form
   variable : Form

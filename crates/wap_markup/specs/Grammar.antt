@@ -35,7 +35,8 @@ pub record State : Type 0 where
   -- the pages of codes, of tags and of attributes
   pub tag_page : ℕ
   pub attribute_page : ℕ
-  -- whether this is inside the root, where names of the string table count, and those that have counted, each once
+  -- whether this is inside the root, where names of the string table count, and those that have
+  -- counted, each once
   pub in_root : Bool
   pub names : List (List ℕ)
 
@@ -85,7 +86,8 @@ IsLeaf strings mark.Entity = Told leaf.Entity IsCharacter
 IsLeaf strings mark.Opaque = Told leaf.Opaque IsOpaque
 IsLeaf strings (mark.Extension number) = Given (leaf.Ext number)
 
--- ---- names of the string table, for tags and for starts of attributes; those of the root fit into one table
+-- ---- names of the string table, for tags and for starts of attributes; those of the root fit into
+-- one table
 
 pub record IsCounted (before : State) (name : List ℕ) (after : State) : Type 0 where
   pub counts : after ≡ counted name before

@@ -1,5 +1,5 @@
--- The decks that documents mean: at most 64 levels, known tags below the root, and neighbouring literals and
--- neighbouring texts joined. This project's own.
+-- The decks that documents mean: at most 64 levels, known tags below the root, and neighbouring
+-- literals and neighbouring texts joined. This project's own.
 use Rattle.std.specs.Prelude.{◌≡◌, ◌≢◌, ℕ, zero, suc, ◌-◌, true, map, List, [], ◌∷◌}
 use Rattle.std.specs.List.{flat_map, AllByRecursion}
 use Rattle.wap_markup.specs.declared.document.TheConstants.{LEVEL_LIMIT}

@@ -1,5 +1,5 @@
--- How what bytes spell is put together. Bytes are whole lists: all of them spell the value, and no others do.
--- This project's own.
+-- How what bytes spell is put together. Bytes are whole lists: all of them spell the value, and no
+-- others do. This project's own.
 use Rattle.std.specs.Prelude.{◌≡◌, ℕ, Bool, true, false, List, [], ◌∷◌, ◌++◌}
 
 -- one part, and after it another one, which may depend on what the first one says

@@ -1,5 +1,6 @@
--- WML's names and their codes (WAP-191, section 14.3), as this crate's tables list them. The codes are those of page 0;
--- no other page has any. All these texts are of US-ASCII, so their bytes are their characters.
+-- WML's names and their codes (WAP-191, section 14.3), as this crate's tables list them. The codes
+-- are those of page 0; no other page has any. All these texts are of US-ASCII, so their bytes are
+-- their characters.
 use Rattle.std.specs.Prelude.{ℕ, Bool, ◌==◌, ◌&&◌, nat_eq, if◌then◌else◌, map, unwrap_or, List, [], Option, None}
 use Rattle.std.specs.Map.{lookup}
 use Rattle.wap_base.specs.Texts.{is_same_text}

@@ -8,7 +8,8 @@ pub const LEVEL_LIMIT: u32 = 64;
 /// A document.
 #[derive(Debug, Drop, PartialEq, Eq)]
 pub struct Document {
-    /// The version byte: the major number minus one, and the minor number, in four bits each: 3 is WBXML 1.3.
+    /// The version byte: the major number minus one, and the minor number, in four bits each: 3 is
+    /// WBXML 1.3.
     pub version: u8,
     /// The number of the public identifier: 10 is WML 1.3.
     pub public: u32,

@@ -1,4 +1,5 @@
--- How a mask is written (WAP-191, section 11.6.3): a letter, an escaped character, and last of all a repeated letter.
+-- How a mask is written (WAP-191, section 11.6.3): a letter, an escaped character, and last of all
+-- a repeated letter.
 use Rattle.std.specs.Prelude.{◌≡◌, ℕ, ◌+◌, ◌≤◌, List, [], ◌∷◌, Some, Bool, true, false}
 use Rattle.wap_mask.specs.declared.class.Class.{Class}
 use Rattle.wap_mask.specs.declared.class.Class.TheVariants.{Any}

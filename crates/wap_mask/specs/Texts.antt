@@ -1,4 +1,5 @@
--- Which texts a mask takes: it is a set of texts, the concatenation of its symbols' sets (WAP-191, section 11.6.3).
+-- Which texts a mask takes: it is a set of texts, the concatenation of its symbols' sets (WAP-191,
+-- section 11.6.3).
 use Rattle.std.specs.Prelude.{◌≡◌, ℕ, ◌≤◌, List, [], ◌∷◌, ◌++◌, length, IsTrue}
 use Rattle.std.specs.List.{AllPass}
 use Rattle.wap_mask.specs.declared.symbol.Symbol.{Symbol}

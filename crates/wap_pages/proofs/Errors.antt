@@ -1,5 +1,5 @@
--- What an error says of the fault that it was made of: one fault is that memory ran out, and each other one refuses
--- the page.
+-- What an error says of the fault that it was made of: one fault is that memory ran out, and each
+-- other one refuses the page.
 use Rattle.std.proofs.Common.{◌≡◌, ◌≢◌, refl}
 use Rattle.wap_wbxml.specs.declared.fault.DocFault.{DocFault}
 use Rattle.wap_wbxml.specs.declared.fault.DocFault.TheVariants as document

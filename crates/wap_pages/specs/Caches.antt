@@ -7,7 +7,8 @@ use Rattle.wap_site.specs.Misses.{Cache, is_kept}
 use Rattle.wap_site.specs.Asking.{Seen}
 use Rattle.wap_pages.specs.Judged.{judged}
 
--- the store, the pages that are kept, the one that was asked for last first, and how many are at most
+-- the store, the pages that are kept, the one that was asked for last first, and how many are at
+-- most
 pub record CachedPages (S : Type 0) : Type 0 where
   pub store : S
   pub kept : List (List ℕ × Page)

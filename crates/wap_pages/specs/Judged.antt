@@ -1,5 +1,6 @@
--- Pages as they are judged by their names and bytes. This project's own: the names' ends, and that scripts are
--- refused, until they are read. What documents, their decks and good decks are stands in lower definitions.
+-- Pages as they are judged by their names and bytes. This project's own: the names' ends, and that
+-- scripts are refused, until they are read. What documents, their decks and good decks are stands
+-- in lower definitions.
 use Rattle.std.specs.Prelude.{◌≡◌, ℕ, Bool, ◌||◌, nat_eq, if◌then◌else◌, List, map, Option, Some, None, Result, Ok, Err, codes}
 use Rattle.std.specs.List.{ends_with}
 use Rattle.wap_base.specs.Contents.{Contents}
@@ -90,8 +91,8 @@ pub record IsTextPage (name bytes text : List ℕ) : Type 0 where
   pub kind : kind_of name ≡ kind.Words
   pub spells : text_in Utf8 bytes ≡ Some text
 
--- the page is refused for this fault: the bytes are no document, or one whose deck has this fault first; they are no
--- text; or scripts aren't read yet
+-- the page is refused for this fault: the bytes are no document, or one whose deck has this fault
+-- first; they are no text; or scripts aren't read yet
 pub data Refuses (name bytes : List ℕ) : PageFault → Type 0 where
   document : (why : DocFault) → kind_of name ≡ kind.Deck → IsRefused bytes why → Refuses name bytes (fault.Document why)
   deck : (document : Document) (why : DeckFault) → kind_of name ≡ kind.Deck → IsDocument bytes document

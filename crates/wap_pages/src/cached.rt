@@ -25,8 +25,8 @@ pub const LEAST_CAPACITY: usize = 1;
 /// The most that the most pages in a cache may be.
 pub const MOST_CAPACITY: usize = 256;
 
-/// The pages of a store, judged, of which those that were asked for last are kept, also where one is
-/// missing or refused.
+/// The pages of a store, judged, of which those that were asked for last are kept, also where one
+/// is missing or refused.
 #[derive(Drop)]
 pub struct Cached<S: Store> {
     store: S,

@@ -9,7 +9,8 @@ ghost use Rattle.wap_pages.specs.Judged.{page_of_bytes, judged, page_where, IsDe
 
 /// A law of `judged`, which does nothing when it is called. A name's page is that of its bytes, and
 /// missing where it has none. It is a deck where the bytes are a document that means this deck, and
-/// it is good; it is a text where the bytes are this text; and it is refused where there is neither.
+/// it is good; it is a text where the bytes are this text; and it is refused where there is
+/// neither.
 pub fn pages_are_judged()
     ensures pages { (name : List ℕ) (contents : Contents)
         → page_of name (judged contents) ≡ page_where name (page_named name contents) }

@@ -1,5 +1,5 @@
--- The names of a document, where codes are none of names, and the string table that is written for them
--- (WAP-192, section 5.7).
+-- The names of a document, where codes are none of names, and the string table that is written for
+-- them (WAP-192, section 5.7).
 use Rattle.std.specs.Prelude.{ℕ, zero, suc, List, [], ◌∷◌, ◌++◌, length, fold, flat_map, encode_utf8_all}
 use Rattle.std.specs.List.{before_first}
 use Rattle.wap_base.specs.Texts.{is_same_text}
@@ -13,8 +13,8 @@ use Rattle.wap_markup.specs.declared.document.Kid.{Kid, out-Kid}
 use Rattle.wap_markup.specs.declared.document.Kid.TheOpen.{Kid-F}
 use Rattle.wap_markup.specs.Grammar.{with_name}
 
--- ---- names, each once, in the order of first use: a tag before its attributes, attributes in order,
--- then content
+-- ---- names, each once, in the order of first use: a tag before its attributes, attributes in
+-- order, then content
 
 abbrev pub with_token : List (List ℕ) → Token → List (List ℕ)
 with_token names (Code code) = names

@@ -1,6 +1,7 @@
--- The one spelling that is written for a document (WAP-192, section 5): WBXML 1.3 in UTF-8, a table of the
--- names alone, strings in place, the shortest numbers, and no switch of the page, no bit of a tag and no end
--- that isn't needed. This project's own choice among those that the grammar allows.
+-- The one spelling that is written for a document (WAP-192, section 5): WBXML 1.3 in UTF-8, a table
+-- of the names alone, strings in place, the shortest numbers, and no switch of the page, no bit of
+-- a tag and no end that isn't needed. This project's own choice among those that the grammar
+-- allows.
 use Rattle.std.specs.Prelude.{ℕ, zero, suc, ◌+◌, List, [], ◌∷◌, ◌++◌, length}
 use Rattle.wap_base.specs.Numbers.{mb_spelling}
 use Rattle.wap_base.specs.declared.name.Conv.{Conv}

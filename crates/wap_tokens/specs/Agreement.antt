@@ -1,4 +1,5 @@
--- What the tables of names and codes promise: names and codes tell each other (WAP-191, section 14.3).
+-- What the tables of names and codes promise: names and codes tell each other (WAP-191, section
+-- 14.3).
 use Rattle.std.specs.Prelude.{◌≡◌, ◌≢◌, ℕ, List, Some}
 use Rattle.wap_markup.specs.declared.name.Tag.{Tag}
 use Rattle.wap_markup.specs.declared.name.Tag.TheVariants as tags

@@ -1,4 +1,5 @@
--- Where the tables have their rows: in the order of the codes, a few of which are free. This project's own.
+-- Where the tables have their rows: in the order of the codes, a few of which are free. This
+-- project's own.
 use Rattle.std.specs.Prelude.{ℕ, ◌-◌, Bool, ◌&&◌, nat_le, if◌then◌else◌, Option, Some, None}
 
 abbrev pub is_within : ℕ → ℕ → ℕ → Bool

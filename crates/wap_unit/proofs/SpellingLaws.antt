@@ -1,4 +1,5 @@
--- What is written for a unit is that unit, is no longer than what it was read from, and can be written.
+-- What is written for a unit is that unit, is no longer than what it was read from, and can be
+-- written.
 use Rattle.std.proofs.Common.{◌≡◌, ℕ, zero, suc, ◌+◌, ◌/◌, ◌%◌, ◌^◌, ◌<◌, ◌≤◌, Bool, true, false, cond, eqb, List, [], ◌∷◌, ◌++◌, length, get_or, refl, sym, ap, subst, ◌∙◌, arith}
 use Rattle.std.specs.Prelude.{⊤, encode_utf8_all}
 use Rattle.std.specs.List.{flat_map, AllByRecursion}

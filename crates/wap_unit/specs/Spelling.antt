@@ -1,4 +1,5 @@
--- The one spelling that is written for a unit (WAP-193, section 9): the shortest numbers, and its own version byte.
+-- The one spelling that is written for a unit (WAP-193, section 9): the shortest numbers, and its
+-- own version byte.
 use Rattle.std.specs.Prelude.{ℕ, List, [], ◌∷◌, ◌++◌, length, encode_utf8_all}
 use Rattle.std.specs.List.{flat_map}
 use Rattle.std.specs.Int.{w8, w16, w32, cast_unsigned, to_be_bytes}

@@ -1,5 +1,5 @@
--- Compiled units (WAP-193, section 9): which bytes are which unit. This project's own are the version bytes that are
--- read and the character sets.
+-- Compiled units (WAP-193, section 9): which bytes are which unit. This project's own are the
+-- version bytes that are read and the character sets.
 use Rattle.std.specs.Prelude.{◌≡◌, ℕ, ◌<◌, ◌≤◌, true, List, [], ◌∷◌, ◌++◌, length, Some}
 use Rattle.std.specs.List.{AllByRecursion}
 use Rattle.std.specs.Str.{is_utf8, chars}

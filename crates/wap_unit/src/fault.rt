@@ -2,7 +2,8 @@
 ghost use Rattle.std.specs.Prelude.{◌≡◌};
 ghost use Rattle.wap_unit.specs.declared.fault.UnitFault.TheVariants.{NoMemory};
 
-/// Why bytes are no unit: the first fault from the left. Its place is the first byte of what is refused.
+/// Why bytes are no unit: the first fault from the left. Its place is the first byte of what is
+/// refused.
 #[derive(Clone, Copy, Debug, PartialEq, Eq)]
 pub enum UnitFault {
     /// The version byte is none of 00 to 0F.

@@ -1,4 +1,5 @@
--- Who may enter a page (the access element of WAP-191 and the access pragma of WAP-193): labels of the host and segments of the path.
+-- Who may enter a page (the access element of WAP-191 and the access pragma of WAP-193): labels of
+-- the host and segments of the path.
 use Rattle.std.specs.Prelude.{ℕ, ◌==◌, if◌then◌else◌, IsSomeAnd, List, map, length, drop}
 use Rattle.std.specs.Char.{to_ascii_lowercase}
 use Rattle.wap_url.specs.declared.url.Url.{Url}
@@ -18,7 +19,8 @@ without_empty_last segments = if length (last_segment segments) == 0 then all_bu
 abbrev pub access_segments : List ℕ → List (List ℕ)
 access_segments path = without_empty_last (segments (below_root path))
 
--- the host ends in the labels of the domain, which is lowered, and the path begins with the segments of the access path
+-- the host ends in the labels of the domain, which is lowered, and the path begins with the
+-- segments of the access path
 abbrev pub IsAllowed : Access → Url → Type 0
 IsAllowed access caller =
     IsSomeAnd caller.host (λ host. IsSuffix (labels (map to_ascii_lowercase access.domain)) (labels host))

@@ -32,7 +32,8 @@ ends_authority c = is_slash c || is_question c
 abbrev pub is_one_of : List ℕ → ℕ → Bool
 is_one_of cs c = list_any (λ d. c == d) cs
 
--- may stand before a fragment: the characters 21 to 7E but for `"`, `<` and `>` (sections 2.4.3 and 4.1), and for the `#` that ends what stands there
+-- may stand before a fragment: the characters 21 to 7E but for `"`, `<` and `>` (sections 2.4.3 and
+-- 4.1), and for the `#` that ends what stands there
 abbrev pub is_allowed : ℕ → Bool
 is_allowed c = is_ascii_graphic c && not (is_one_of (codes "\"<>#") c)
 

@@ -18,7 +18,8 @@ is_above s = bytes_eq s (full_stop ∷ full_stop ∷ [])
 abbrev pub is_dot_segment : List ℕ → Bool
 is_dot_segment s = is_here s || is_above s
 
--- One more segment after those that are kept: `.` goes, and `..` takes the one before it, if there is one.
+-- One more segment after those that are kept: `.` goes, and `..` takes the one before it, if there
+-- is one.
 abbrev pub kept_with : List (List ℕ) → List ℕ → List (List ℕ)
 kept_with kept s = if is_here s then kept else if is_above s then all_but_last kept else kept ++ s ∷ []
 

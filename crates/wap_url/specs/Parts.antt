@@ -54,7 +54,8 @@ url_of p = record {
   fragment = p.fragment;
 }
 
--- the characters of a scheme's place, a host's, a port's and a path's: none of those at which the next part would begin
+-- the characters of a scheme's place, a host's, a port's and a path's: none of those at which the
+-- next part would begin
 abbrev pub may_be_scheme : ℕ → Bool
 may_be_scheme c = is_allowed c && not (ends_scheme c)
 
@@ -71,7 +72,8 @@ may_be_path c = is_allowed c && not (is_question c)
 abbrev pub ends_word : ℕ → Bool
 ends_word c = is_colon c || is_slash c
 
--- The text in its parts: in a row they are the text, and each ends where the next begins. A fragment may hold any character.
+-- The text in its parts: in a row they are the text, and each ends where the next begins. A
+-- fragment may hold any character.
 pub record IsSplit (text : List ℕ) (p : Parts) : Type 0 where
   pub spells : text ≡ spelled p
   pub scheme : IfSome p.scheme (λ scheme. list_all may_be_scheme scheme ≡ true)
@@ -82,7 +84,8 @@ pub record IsSplit (text : List ℕ) (p : Parts) : Type 0 where
   pub query : IfSome p.query (λ query. list_all is_allowed query ≡ true)
   -- without a scheme no colon stands in the first segment
   pub no_scheme : p.scheme ≡ None → p.host ≡ None → begins_with is_colon (onward ends_word p.path) ≡ false
-  -- after a host the path is empty or begins with a slash, and without one it does not begin with two
+  -- after a host the path is empty or begins with a slash, and without one it does not begin with
+  -- two
   pub rooted : IsSome p.host → (p.path ≡ []) ⊎ (begins_with is_slash p.path ≡ true)
   pub no_host : p.host ≡ None → (rest : List ℕ) → p.path ≢ slash ∷ slash ∷ rest
 

@@ -30,7 +30,8 @@ printed u = spelled (parts_for u)
 abbrev pub text_without_fragment : Url → List ℕ
 text_without_fragment u = printed (without_fragment u)
 
--- a URL that can be read back from its text: the text is that of its parts, which fit, with scheme and host in lower case
+-- a URL that can be read back from its text: the text is that of its parts, which fit, with scheme
+-- and host in lower case
 pub record IsNormal (u : Url) : Type 0 where
   pub split : IsSplit (printed u) (parts_for u)
   pub fits : Fits (parts_for u)

@@ -7,7 +7,8 @@ use Rattle.wap_url.specs.Parts.{Parts, IsSplit}
 use Rattle.wap_url.specs.Reading.{fault_of}
 use Rattle.wap_url.specs.Characters.{is_allowed, is_hash}
 
--- The first character before the fragment that may not stand there. Those before it are of US-ASCII, so their number is its byte offset.
+-- The first character before the fragment that may not stand there. Those before it are of
+-- US-ASCII, so their number is its byte offset.
 pub record HasBadChar (text : List ℕ) (at : ℕ) : Type 0 where
   pub before : List ℕ
   pub bad : ℕ

@@ -1,4 +1,5 @@
--- A URL as seen from another (this project's own, for the header of a request), and the law that leads back.
+-- A URL as seen from another (this project's own, for the header of a request), and the law that
+-- leads back.
 use Rattle.std.specs.Prelude.{◌≡◌, ℕ, Bool, true, false, ◌&&◌, ◌||◌, not, ◌==◌, if◌then◌else◌, IsSome, List, [], ◌∷◌, ◌++◌, length, Option, Some, None}
 use Rattle.std.specs.List.{list_any}
 use Rattle.std.specs.Str.{bytes_eq}
@@ -53,7 +54,8 @@ relative_form base u =
     if not (same_site base u) || begins_with_slashes u.path then text_without_fragment u
     else local_path base.path u.path ++ led_by (question_mark ∷ []) u.query
 
--- a URL as it is read, of a page: with scheme and host (as an http URL has), its path from the root and without dot segments
+-- a URL as it is read, of a page: with scheme and host (as an http URL has), its path from the root
+-- and without dot segments
 pub record IsPage (u : Url) : Type 0 where
   pub normal : IsNormal u
   pub scheme : IsSome u.scheme

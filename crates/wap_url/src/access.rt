@@ -20,8 +20,8 @@ pub struct Access {
 impl Access {
     ghost use Rattle.wap_url.specs.Access.{IsAllowed};
 
-    /// Whether a page of this URL may enter. The domain's letters count as lower case, as those of a URL's
-    /// host are. A caller without a host may not enter.
+    /// Whether a page of this URL may enter. The domain's letters count as lower case, as those of
+    /// a URL's host are. A caller without a host may not enter.
     pub fn allows(&self, caller: &Url) -> bool
         ensures { IsTrue result ↔ IsAllowed self.now caller.now }
     {

@@ -41,8 +41,8 @@ fn escape_bytes(alloc: Global, bytes: &[u8]) -> Result<Text, NoMemory>
     Ok(Text::from_string(text))
 }
 
-/// The bytes of the text's UTF-8, with each `%` and two hexadecimal digits read as a byte. They need not
-/// be UTF-8.
+/// The bytes of the text's UTF-8, with each `%` and two hexadecimal digits read as a byte. They
+/// need not be UTF-8.
 pub fn unescape(alloc: Global, text: &Text) -> Result<Bytes, NoMemory>
     ensures exact { IfOk result (λ bytes. bytes ≡ unescaped text.now) }
 {

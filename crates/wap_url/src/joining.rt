@@ -13,8 +13,8 @@ use crate::url::copy_of;
 use std::alloc::Global;
 use wap_base::{NoMemory, Text};
 
-/// The URL that a reference stands for on the page of the base. A reference that is an empty path without
-/// a query stands for the base itself, with the reference's fragment.
+/// The URL that a reference stands for on the page of the base. A reference that is an empty path
+/// without a query stands for the base itself, with the reference's fragment.
 pub fn join(alloc: Global, base: &Url, reference: &Url) -> Result<Url, NoMemory>
     ensures exact { IfOk result (λ url. url ≡ joined base.now reference.now) }
 {

@@ -1,5 +1,5 @@
-//! URLs after RFC 2396: reading, joining, the relative form, the name of a page in the store, escapes,
-//! and the test of who may enter a page.
+//! URLs after RFC 2396: reading, joining, the relative form, the name of a page in the store,
+//! escapes, and the test of who may enter a page.
 #![tactic(auto)]
 
 mod access;

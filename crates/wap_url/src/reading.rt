@@ -23,7 +23,8 @@ impl Url {
     ghost use Rattle.wap_url.specs.Refusal.{IsRefused};
     ghost use Rattle.wap_url.specs.Printing.{IsNormal};
 
-    /// Reads a text as a URL or a reference (RFC 2396, appendix B). Scheme and host are put in lower case.
+    /// Reads a text as a URL or a reference (RFC 2396, appendix B). Scheme and host are put in
+    /// lower case.
     pub fn read(alloc: Global, text: &Text) -> Result<Url, UrlFault>
         ensures exact { Meets UrlFault.NoMemory (λ url. url) result (url_at text.now) }
 

@@ -12,8 +12,8 @@ use crate::printing::{add_led, text_without_fragment};
 use std::alloc::Global;
 use wap_base::{NoMemory, Text};
 
-/// The URL as seen from the base, without its fragment: a page of the base's folder by its last segment,
-/// another of the base's site by its path, and any other whole.
+/// The URL as seen from the base, without its fragment: a page of the base's folder by its last
+/// segment, another of the base's site by its path, and any other whole.
 pub fn relative(alloc: Global, base: &Url, url: &Url) -> Result<Text, NoMemory>
     ensures exact { IfOk result (λ text. text ≡ relative_form base.now url.now) }
 

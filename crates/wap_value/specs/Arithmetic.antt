@@ -1,4 +1,5 @@
--- The operators on two Integers, over whole numbers (WAP-193, "Arithmetic Operators"). A result that is no Integer is none.
+-- The operators on two Integers, over whole numbers (WAP-193, "Arithmetic Operators"). A result
+-- that is no Integer is none.
 use Rattle.std.specs.Prelude.{ℕ, ◌^◌, ◌/◌, ℤ, pos, negsuc, ◌+ℤ◌, ◌-ℤ◌, ◌*ℤ◌, int_div, int_rem, nat_lt, Option, Some, None, option_and_then, if◌then◌else◌}
 use Rattle.std.specs.Int.{w32, cast_unsigned, cast_signed, int_wrap, int_shr, int_bit_and, int_bit_or, int_bit_xor}
 use Rattle.std.specs.Ordering.{int_eq}
@@ -6,14 +7,16 @@ use Rattle.wap_value.specs.declared.operator.BinOp.{BinOp}
 use Rattle.wap_value.specs.declared.operator.BinOp.TheVariants.{Mul, Div, IDiv, Rem, Add, Sub, Shl, Shr, UShr, BitAnd, BitXor, BitOr}
 use Rattle.wap_value.specs.Integer.{in_range}
 
--- the quotient is cut toward zero, and the remainder has the sign of the dividend; there is neither by 0
+-- the quotient is cut toward zero, and the remainder has the sign of the dividend; there is neither
+-- by 0
 abbrev pub quotient : ℤ → ℤ → Option ℤ
 quotient x y = if int_eq y (pos 0) then None else Some (int_div x y)
 
 abbrev pub remainder : ℤ → ℤ → Option ℤ
 remainder x y = if int_eq y (pos 0) then None else Some (int_rem x y)
 
--- what a shift gives by a count of 0 to 31; by another there is no result, which is this project's own rule
+-- what a shift gives by a count of 0 to 31; by another there is no result, which is this project's
+-- own rule
 abbrev pub shifted : (ℕ → ℤ) → ℤ → Option ℤ
 shifted shift (pos count) = if nat_lt count 32 then Some (shift count) else None
 shifted shift (negsuc n) = None

@@ -1,6 +1,6 @@
--- The operators of two operands (WAP-193, "Operators and Expressions"): `+` and comparisons are on Strings where one
--- operand is a String, and else on Integers, as all the others are. `&&`, `||` and `,` are not asked, since they do not
--- take the values of both operands.
+-- The operators of two operands (WAP-193, "Operators and Expressions"): `+` and comparisons are on
+-- Strings where one operand is a String, and else on Integers, as all the others are. `&&`, `||`
+-- and `,` are not asked, since they do not take the values of both operands.
 use Rattle.std.specs.Prelude.{Bool, false, not, ◌||◌, ◌++◌, ℤ, Option, Some, None, ⊤, if◌then◌else◌}
 use Rattle.std.specs.Option.{option_map}
 use Rattle.std.specs.declared.cmp.Ordering.{Ordering}

@@ -1,5 +1,5 @@
--- What a value becomes where an operator wants an Integer, a Boolean or a String (WAP-193, "Automatic Data Type
--- Conversion Rules"). `None`: there is no such conversion.
+-- What a value becomes where an operator wants an Integer, a Boolean or a String (WAP-193,
+-- "Automatic Data Type Conversion Rules"). `None`: there is no such conversion.
 use Rattle.std.specs.Prelude.{ℕ, Bool, true, false, not, List, [], ◌∷◌, ℤ, pos, codes, Option, Some, None, if◌then◌else◌}
 use Rattle.std.specs.Ordering.{int_eq}
 use Rattle.std.specs.Fmt.{signed_decimal}

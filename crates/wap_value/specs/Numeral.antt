@@ -1,5 +1,6 @@
--- The Integer that a text spells: an optional sign and decimal digits, and nothing else (WAP-193, "Conversions to
--- Integer"). Whether it is in range is asked after the sign is applied. 43 is `+` and 45 is `-`.
+-- The Integer that a text spells: an optional sign and decimal digits, and nothing else (WAP-193,
+-- "Conversions to Integer"). Whether it is in range is asked after the sign is applied. 43 is `+`
+-- and 45 is `-`.
 use Rattle.std.specs.Prelude.{ℕ, List, [], ◌∷◌, ℤ, pos, neg_ℤ, ◌==◌, Option, Some, None, option_and_then, if◌then◌else◌}
 use Rattle.std.specs.Option.{option_map}
 use Rattle.std.specs.Str.{all_ascii_digits}

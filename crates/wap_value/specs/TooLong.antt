@@ -1,4 +1,5 @@
--- Which results are too long to be kept: Strings of more bytes in UTF-8 than a limit. This project's own.
+-- Which results are too long to be kept: Strings of more bytes in UTF-8 than a limit. This
+-- project's own.
 use Rattle.std.specs.Prelude.{◌≡◌, ℕ, ◌<◌, nat_lt, Result, Ok, Err, if◌then◌else◌}
 use Rattle.wap_value.specs.declared.value.Value.{Value}
 use Rattle.wap_value.specs.declared.value.Value.TheVariants.{Int, Bool as Boolean, Str, Invalid}

@@ -13,8 +13,8 @@ use std::marker::Model;
 use wap_base::{Name, NoMemory, Text, is_name};
 use wap_filling::{TEXT_LIMIT, VAR_LIMIT, VarFault};
 
-/// The variables of the browser (WAP-191, section 10.3). A contract sees the pairs of a name and its text, in
-/// ascending order of names.
+/// The variables of the browser (WAP-191, section 10.3). A contract sees the pairs of a name and
+/// its text, in ascending order of names.
 #[derive(Debug, Drop)]
 pub struct Vars {
     alloc: Global,

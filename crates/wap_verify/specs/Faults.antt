@@ -1,4 +1,5 @@
--- Why a unit may not be run: the pragmas come first, then the functions in order, each in three passes. This project's own.
+-- Why a unit may not be run: the pragmas come first, then the functions in order, each in three
+-- passes. This project's own.
 use Rattle.std.specs.Prelude.{◌≡◌, ◌≢◌, ℕ, ◌<◌, true, false, List, length, Some, None, slice_get, Ok, Err}
 use Rattle.std.specs.List.{list_all}
 use Rattle.wap_code.specs.declared.unit.Unit.{Unit}

@@ -1,4 +1,5 @@
--- What is kept of a unit that may be run: room for the values of each function, and the texts of its coded strings.
+-- What is kept of a unit that may be run: room for the values of each function, and the texts of
+-- its coded strings.
 use Rattle.std.specs.Prelude.{◌≡◌, ⊤, ℕ, ◌<◌, true, List, length, map, slice_get, slice_index, Option, Some, None}
 use Rattle.std.specs.Map.{lookup}
 use Rattle.std.specs.Option.{option_map}

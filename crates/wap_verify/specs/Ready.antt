@@ -1,4 +1,5 @@
--- What a verified unit means for who runs it: wherever a function is reached, what its instruction needs is there.
+-- What a verified unit means for who runs it: wherever a function is reached, what its instruction
+-- needs is there.
 use Rattle.std.specs.Prelude.{◌≡◌, ℕ, ◌<◌, ◌≤◌, false, length, slice_get, slice_index, Some, None, Ok}
 use Rattle.wap_code.specs.declared.unit.Unit.{Unit}
 use Rattle.wap_code.specs.declared.unit.Code.{Code}

@@ -38,7 +38,8 @@ pub record IsSplit (unit : Unit) (index : ℕ) (function : Code) : Type 0 where
   pub runs : Runs unit index function 0 places (length function.code)
   pub aimed : list_all (is_aimed unit index function places) places ≡ true
 
--- every place before the end is reached with one number of values at most, and with as many as are taken there
+-- every place before the end is reached with one number of values at most, and with as many as are
+-- taken there
 pub record IsSound (unit : Unit) (index : ℕ) (function : Code) : Type 0 where
   pub split : IsSplit unit index function
   pub one : (at some other : ℕ) → at < length function.code → Reaches unit index function at some → Reaches unit index function at other → some ≡ other

@@ -11,7 +11,8 @@ use crate::step::{Way, step_at, way_on};
 use std::alloc::{AllocError, Global};
 use wap_code::{Code, Unit};
 
-/// One number of values for each place that was reached, the places whose ways aren't followed yet, and the greatest number.
+/// One number of values for each place that was reached, the places whose ways aren't followed yet,
+/// and the greatest number.
 #[derive(Debug, Drop)]
 pub struct Work {
     pub depths: Vec<Option<u32>>,

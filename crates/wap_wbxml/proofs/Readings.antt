@@ -1,4 +1,5 @@
--- What ties a reading to what bytes spell and to what is refused, and how such readings are put together.
+-- What ties a reading to what bytes spell and to what is refused, and how such readings are put
+-- together.
 use Rattle.std.proofs.Common.{◌≡◌, ℕ, Bool, true, false, cond, List, [], ◌++◌, Result, Ok, Err, refl, sym, ap, subst, ◌∙◌, append_assoc, inl, inr}
 use Rattle.wap_base.specs.Outcome.{◌>>=◌}
 use Rattle.wap_base.proofs.Choices.{chosen, bind_ok, bind_err, ok_same, err_same}

@@ -22,7 +22,8 @@ pub record Items {A S : Type 0} (next : Next A S) (spent : S → List ℕ → Re
   pub halts : (s : S) (bytes rest : List ℕ) → Stop s bytes rest → next s bytes ≡ Ok ((None, s), rest)
   pub stops : (s : S) (bytes : List ℕ) (fault : DocFault) → next s bytes ≡ Err fault → Refused s bytes fault
   pub fails : (s : S) (bytes : List ℕ) (fault : DocFault) → Refused s bytes fault → next s bytes ≡ Err fault
-  -- an item has bytes; no bytes are as spent says; and an item ends where another one begins, or a stop is
+  -- an item has bytes; no bytes are as spent says; and an item ends where another one begins, or a
+  -- stop is
   pub some : (s : S) (front : List ℕ) (x : A × S) → Is s front x → 0 < length front
   pub at_nothing : (s : S) → spent s [] ≡ (next s [] >>= chained (run_at next spent 0))
   pub ends_before : (y : A) (s : S) (front : List ℕ) (x : A × S) (rest : List ℕ) → Is s front x

@@ -1,4 +1,5 @@
--- How what is refused is put together from what is spelled and what is refused in its parts. This project's own.
+-- How what is refused is put together from what is spelled and what is refused in its parts. This
+-- project's own.
 use Rattle.std.specs.Prelude.{◌≡◌, ℕ, ◌⊎◌, List, ◌++◌}
 use Rattle.wap_wbxml.specs.declared.fault.DocFault.{DocFault}
 

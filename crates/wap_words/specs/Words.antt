@@ -34,7 +34,8 @@ browse_form = record { positional = codes "url"; options = codes "seed" ∷ code
 abbrev pub browse_with : ℕ → ℕ → ℕ → List ℕ → Command
 browse_with seed budget cache url = command_is.Browse (record { url = chars url; seed = seed; budget = budget; cache = cache })
 
--- the URL, and the seed from 0 to 4294967295, the budget from 1 to 4294967295 and the cache from 1 to 256
+-- the URL, and the seed from 0 to 4294967295, the budget from 1 to 4294967295 and the cache from 1
+-- to 256
 abbrev pub browse_by : Option (List ℕ) → Option (List ℕ) → Option (List ℕ) → Option (List ℕ) → Option Command
 browse_by url seed budget cache = do
   url ← url

@@ -191,8 +191,8 @@ ignores_without_card pages key.Vars keys world wants none = absurd wants
 
 -- ---- a page that may not be entered
 
--- the request's line, name and test are added, and the current card is shown again; nothing is left, set
--- or entered
+-- the request's line, name and test are added, and the current card is shown again; nothing is
+-- left, set or entered
 pub denies : (pages : Pages) (keys : List Key) (sets : Pairs) (caller : Option Url) (one : Request) (world : World) (deck : Deck)
     → answer_to pages one ≡ Ok deck → may_enter one.url deck caller ≡ false
     → request pages keys sets caller one world ≡ settled (record {

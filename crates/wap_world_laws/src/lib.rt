@@ -1,4 +1,5 @@
-//! What follows from the definitions of sessions over decks. These functions do nothing when they are called.
+//! What follows from the definitions of sessions over decks. These functions do nothing when they
+//! are called.
 #![tactic(auto)]
 
 ghost use Rattle.std.specs.Prelude.{◌≡◌, ◌≤◌, ◌++◌, ◌∷◌, [], ℕ, List, length, Option, Some, None, Ok, false};

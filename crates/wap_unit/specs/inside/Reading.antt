@@ -24,7 +24,8 @@ use Rattle.wap_unit.specs.inside.Steps.{Reader, byte_at, taken_at, number_at, in
 unfoldable pub sized_at : Reader (List ℕ)
 sized_at = in_turn number_at taken_at
 
--- the characters of bytes that have to be UTF-8, and bytes that have to be a text of a character set; neither reads on
+-- the characters of bytes that have to be UTF-8, and bytes that have to be a text of a character
+-- set; neither reads on
 unfoldable pub utf8_text : ℕ → List ℕ → Reader (List ℕ)
 utf8_text at content = passing (is_utf8 content) (fault.Text at) (given (chars content))
 

@@ -45,7 +45,8 @@ pub record Aimed (unit : Unit) (index : ℕ) (function : Code) (places : List �
   pub aimed : list_all (is_aimed unit index function places) front ≡ true
   pub within : at ≤ length function.code
 
--- ---- the third pass: one number of values for each place, and the places whose ways aren't followed yet
+-- ---- the third pass: one number of values for each place, and the places whose ways aren't
+-- followed yet
 
 pub record State : Type 0 where
   pub depths : List (Option ℕ)

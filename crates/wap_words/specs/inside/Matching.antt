@@ -37,7 +37,8 @@ abbrev pub AreMatched : Option ArgMatches → Option (List Use) → Type 0
 AreMatched None uses = uses ≡ None
 AreMatched (Some matches) uses = (given : List Use) × (uses ≡ Some given) × HasUses matches given
 
--- a parser of any form, of which no option is called as the positional is, matches the words that are of that form
+-- a parser of any form, of which no option is called as the positional is, matches the words that
+-- are of that form
 abbrev pub IsMatchedBy : App → List Text → Option ArgMatches → Type 0
 IsMatchedBy app words matches =
     (name : Text) (form : Form) → app ≡ app_by name form → is_option form form.positional ≡ false
