@@ -35,14 +35,14 @@ split-append p (x ∷ xs) y ys holds = elim (cases_Bool (p x)) [
       ∙ ap (λ parts. parts ++ slice_split p ys) (sym (slice_split-cons_no p x xs fails))
 ]
 
--- no separator, one part
+-- without a separator there is one part
 pub split-none : (p : ℕ → Bool) (xs : List ℕ) → list_any p xs ≡ false → slice_split p xs ≡ xs ∷ []
 split-none p [] none = refl
 split-none p (x ∷ xs) none =
     let parts = or_parts (p x) (list_any p xs) none in
     slice_split-cons_no p x xs parts.0 ∙ ap (onto_first x) (split-none p xs parts.1)
 
--- joined lists of parts
+-- two lists of parts, joined
 pub join-append : (c : ℕ) (xs ys : List (List ℕ)) → HasFirst xs → HasFirst ys → join_with_byte c (xs ++ ys) ≡ join_with_byte c xs ++ c ∷ join_with_byte c ys
 join-append c [] ys h k = absurd (let e = h.is in cc)
 join-append c (x ∷ []) [] h k = absurd (let e = k.is in cc)

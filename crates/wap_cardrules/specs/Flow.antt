@@ -117,7 +117,7 @@ shown_with vars shown (ends node) = followed_by shown (flow_behind node.tag)
 abbrev pub nothing_shown : Shown
 nothing_shown = record { fields = 0; mode = Wrap; flow = [] }
 
--- a p wraps at first; that it or a pre begins ends the piece before it
+-- text wraps at first; where a p or a pre begins, the piece before it ends
 unfoldable pub flow_of : Variables → Node → List Flow
 flow_of vars card = (fold (shown_with vars) nothing_shown (content_of card)).flow
 

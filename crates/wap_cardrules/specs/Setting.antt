@@ -21,7 +21,7 @@ pub record Set : Type 0 where
   pub vars : Variables
   pub refused : List VarFault
 
--- nothing refused
+-- the variables, where nothing was refused
 abbrev pub accepted : Variables → Set
 accepted vars = record { vars = vars; refused = [] }
 

@@ -28,8 +28,8 @@ fn number_of(digits: &[u8]) -> u64
     number
 }
 
-/// The number that decimal digits write, if there is nothing else; one that is greater than
-/// numbers go is the greatest.
+/// The number that decimal digits write, if there is nothing else; one that is too great for its
+/// type becomes the greatest.
 pub fn number_in(text: &Text) -> Option<u64>
     ensures { result ≡ option_map (min (2 ^ 64 - 1)) (number_in text.now) }
 {

@@ -27,7 +27,7 @@ last_at (x ∷ xs) =
     let before : length xs ≡ length (x ∷ xs) - 1 = omega arith in
     last_behind None x xs ∙ ap (slice_get (x ∷ xs)) before
 
--- the one before it
+-- the one before it is at the length less two
 pub earlier_at : {X : Type 0} (xs : List X) → 2 ≤ length xs
     → last_or None (take (length xs - 1) xs) ≡ slice_get xs (length xs - 2)
 earlier_at [] some = absurd (omega arith)
@@ -123,6 +123,6 @@ none_entry None deck at = refl
 none_entry (Some entry) None at = refl
 none_entry (Some entry) (Some deck) at = none_card entry deck (slice_get (cards_of deck) entry.card) at
 
--- where none is
+-- where no card is at hand
 pub is_nowhere : (browser : Browser) → held browser ≡ None → place_held browser ≡ None
 is_nowhere browser at = none_entry (last_entry browser.world) browser.deck at

@@ -137,7 +137,7 @@ onces_from rule other seen after old mid new before shown result onto is spent s
   spends = spends_in old mid new result spent so.turns;
 }
 
--- it is settled
+-- a navigation that is settled
 pub onces_settled : (rule : Rule) (seen : Seen) (old new : Browser) (before shown : List Line) (next : Option Task)
     → next ≡ None → Takes rule seen seen old new before shown (Ok next) → Onces rule seen seen old new before shown (Ok next)
 onces_settled rule seen old new before shown next is so = record {

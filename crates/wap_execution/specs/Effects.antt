@@ -85,8 +85,8 @@ jumps_at value = option_map_or not (boolean_of value) true
 abbrev pub stored : ℕ → List Value → Value → List Value → ℕ → Effect
 stored index variables value operands next = if nat_lt index (length variables) then onward next (slice_set variables index value) operands else stuck
 
--- the effect of an action, with the limit of Strings, in this frame, whose operands the instruction
--- is not yet taken from
+-- the effect of an action, with the limit of Strings, in this frame, from whose operands the
+-- instruction hasn't taken anything yet
 unfoldable pub effect_of : ℕ → Frame → Action → Instr → Effect
 effect_of string frame Jump instr = onward (instr.next + instr.a) frame.variables frame.operands
 effect_of string frame JumpBack instr = backward frame.place instr frame.variables frame.operands

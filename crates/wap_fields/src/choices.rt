@@ -19,7 +19,7 @@ use wap_cards::{Texts, is_true, is_word, number_in, text_under, value_if, variab
 use wap_good::{AttrName, View};
 use wap_vars::Vars;
 
-/// How many options a select has. There is no room for as many as numbers go.
+/// How many options a select has. A count that is the greatest of its type is out of memory.
 fn count_of(alloc: Global, select: &View<'_>) -> Result<usize, NoMemory>
     ensures count { IfOk result (λ count. count ≡ length (options_of select.now)) }
     ensures small { IfOk result (λ count. count < usize.MAX) }

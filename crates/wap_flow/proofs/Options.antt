@@ -38,7 +38,7 @@ module _ (vars : Variables) (select : ℕ) (choice : List Bool) (options : List 
       ∙ sym (flat_map_more (option_flow vars select) flow (enumerate_from 1 (take i pairs))
       (i + 1, (chosen, option)))
 
-  -- all of them
+  -- the flow of all options
   pub options_end : (i : ℕ) → i ≡ min (length choice) (length options)
       → flow_to i ≡ options_flow vars select pairs
   options_end i all =

@@ -16,7 +16,7 @@ abbrev pub texts_flow : Variables → List Item → List Flow
 texts_flow vars items =
     map (λ parts. Words (filled vars parts)) (filter_map words_of items)
 
--- of items after one, opened
+-- of an opened item, and of those after it
 abbrev flow_behind : Variables → List Item → ItemLevel → List Flow
 flow_behind vars items level =
     map (λ parts. Words (filled vars parts))

@@ -74,7 +74,7 @@ impl Shown {
         flow
     }
 
-    /// Takes a field. There is no room for as many as numbers go.
+    /// Takes a field. Where no number is left for it, that is out of memory.
     fn take_field(&mut self, alloc: Global, vars: &Vars, field: &View<'_>) -> Result<(), NoMemory>
         ensures { OnOk result (self.new ≡ with_field vars.now self.old field.now) }
     {

@@ -113,7 +113,7 @@ last_by number (c ∷ cs) few = ap (λ (key : Result (Option Key) KeyFault). key
 pub last_line_says : (number : ℕ) (line : List ℕ) → is_unended line ≡ true → length line ≤ LINE_LIMIT → keys_from End number (lines_of line) ≡ key_before number (content_key line) (record { keys = []; ending = End })
 last_line_says number line all few = ap (keys_from End number) (unended_line line all) ∙ last_by number line few
 
--- ---- no fault of a line is out of memory
+-- ---- no fault of a line is that memory ran out
 
 some_wants_none : (key : Result Key KeyFault) → (key ≡ Err NoMemory → ⊥) → some_key key ≡ Err NoMemory → ⊥
 some_wants_none (Ok key) none e = cc

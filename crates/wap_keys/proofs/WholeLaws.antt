@@ -13,7 +13,7 @@ use Rattle.wap_keys.specs.Read.{IsReadBefore, TakesAtMost, HasGiven, IsBad, Ends
 use Rattle.wap_keys.specs.Reading.{Reading, HasRead}
 use Rattle.wap_keys.proofs.ReaderLaws.{ending_past, all_by, none_follows, no_bytes}
 
--- where nothing follows
+-- what holds where nothing follows
 end_here : (bytes taken rest : List ℕ) (all : Keys) → bytes ≡ taken ++ rest → length taken ≤ KEYS_LIMIT → rest ≡ [] → keys_at End taken ≡ all → keys_of bytes ≡ all
 end_here bytes taken rest all is few none ends =
     let follows = none_follows taken rest few none in
@@ -24,7 +24,7 @@ end_here bytes taken rest all is few none ends =
     ∙ ap (keys_at End) (append-nil taken)
     ∙ ends
 
--- where nothing that follows matters
+-- what holds where nothing that follows matters
 bad_here : (bytes taken rest : List ℕ) (all : Keys) → bytes ≡ taken ++ rest → length taken ≤ KEYS_LIMIT → IsBad (Some rest) taken all → keys_of bytes ≡ all
 bad_here bytes taken rest all is few (inl so) =
     ap keys_of is ∙ all_by taken rest few ∙ so (ending_past (taken ++ rest)) (take (KEYS_LIMIT - length taken) rest)

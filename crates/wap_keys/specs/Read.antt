@@ -17,7 +17,7 @@ AreFirst keys all = (others : List Key) × (all ≡ keys ++ others)
 abbrev pub TakesAtMost : ℕ → Option (List ℕ) → Option (List ℕ) → Type 0
 TakesAtMost most before after = (taken : List ℕ) × (length taken ≤ most) × TakesFrom before after taken
 
--- a source with these bytes has still left, and the keys are those of the whole lines that it gave
+-- of a source with these bytes this is left, and the keys are those of the whole lines that it gave
 pub record IsReadBefore (keys : List Key) (left : Option (List ℕ)) (bytes : List ℕ) : Type 0 where
   pub given : List ℕ
   pub rest : List ℕ

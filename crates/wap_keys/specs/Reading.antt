@@ -23,15 +23,15 @@ pub record Reading : Type 0 where
 abbrev pub behind_keys : List Key → Keys → Keys
 behind_keys keys others = record { keys = keys ++ others.keys; ending = others.ending }
 
--- what a reader says yet, if these bytes and this ending follow
+-- what a reader is still to say, if these bytes and this ending follow
 abbrev pub said_yet : Reading → Ending → List ℕ → Keys
 said_yet reader ending rest = keys_from ending reader.number (lines_of (reader.unread ++ rest))
 
 abbrev pub said_then : Reading → Ending → List ℕ → Keys
 said_then reader ending rest = if reader.over then record { keys = []; ending = ending } else said_yet reader ending rest
 
--- of a source these bytes were taken, and the reader has said these keys of them: with what it says
--- yet they are all
+-- these bytes were taken from a source, and the reader has said these keys of them: with what it is
+-- still to say they are all
 pub record HasRead (start left : Option (List ℕ)) (taken : List ℕ) (keys : List Key) (reader : Reading) : Type 0 where
   pub takes : TakesFrom start left taken
   pub counted : length taken ≡ reader.count
@@ -50,7 +50,7 @@ Answers before after old new answer =
     (start : Option (List ℕ)) (taken : List ℕ) (keys : List Key) → HasRead start before taken keys old
     → (more : List ℕ) × AnswersAt start after (taken ++ more) keys new answer
 
--- or gives up
+-- or a call gives up
 abbrev pub GivesUp : Option (List ℕ) → Option (List ℕ) → Reading → Type 0
 GivesUp before after old =
     (start : Option (List ℕ)) (taken : List ℕ) (keys : List Key) → HasRead start before taken keys old
@@ -64,11 +64,11 @@ ends_told reader ends = if reader.over then raised ends else ends
 abbrev pub KeepsEnds : Reading → Reading → ℕ → ℕ → Type 0
 KeepsEnds old new before after = (ends : ℕ) → before ≡ ends_told old ends → after ≡ ends_told new ends
 
--- or gives up, and the end was reported once at most
+-- or a call gives up, and the end was reported once at most
 abbrev pub GivesUpEnds : Reading → ℕ → ℕ → Type 0
 GivesUpEnds old before after = (ends : ℕ) → before ≡ ends_told old ends → AtMostOnce ends after
 
--- how many bytes may be read yet
+-- how many bytes may still be read
 abbrev pub room : Reading → ℕ
 room reader = KEYS_LIMIT - reader.count + length reader.unread
 

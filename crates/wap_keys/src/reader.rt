@@ -42,9 +42,9 @@ pub(crate) enum More {
 /// After an end, or when out of memory, no more keys are to be asked for.
 #[derive(Drop)]
 pub struct Reader {
-    /// The line that is begun, of pieces before.
+    /// The line that is begun, as far as earlier pieces have it.
     line: Vec<u8>,
-    /// The last piece, of which what stands from a place on isn't read yet.
+    /// The last piece; what stands in it from the place `at` on isn't read yet.
     piece: Vec<u8>,
     at: usize,
     /// The number of the line that is begun.

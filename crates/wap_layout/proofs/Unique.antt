@@ -57,7 +57,7 @@ same_behind front rest longer shorter b none = record {
 same_swapped : (front rest other others : List (List ℕ)) → SameFront front rest other others → SameFront other others front rest
 same_swapped front rest other others s = record { fronts = sym s.fronts; rests = sym s.rests }
 
--- there is one longest prefix
+-- there is only one longest prefix
 same_front : (width : ℕ) (words front rest other others : List (List ℕ)) → IsLongestFront width words front rest → IsLongestFront width words other others → SameFront front rest other others
 same_front width words front rest other others l m =
     elim (divided front rest other others (sym l.divides ∙ m.divides)) [

@@ -3,7 +3,7 @@ use Rattle.std.specs.Prelude.{◌≡◌, ℕ, ◌+◌, ◌-◌, ◌*◌, ◌<◌
 use Rattle.std.specs.List.{fold, list_all}
 use Rattle.wap_lex.specs.Characters.{is_digit, is_octal_digit, is_hexadecimal_digit}
 
--- digits alone, also none, and one at least
+-- only digits, perhaps none
 abbrev pub AreDigits : List ℕ → Type 0
 AreDigits text = list_all is_digit text ≡ true
 

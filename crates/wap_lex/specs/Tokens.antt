@@ -75,7 +75,7 @@ pub record AreTokens (src : List ℕ) (tokens : List Token) : Type 0 where
 abbrev pub BeginsNoEscape : List ℕ → Type 0
 BeginsNoEscape bytes = (text more : List ℕ) → bytes ≡ text ++ more → IsEscape text → ⊥
 
--- bytes of a string that a line's end or the end of the source ends
+-- nothing is left, or the end of a line comes next
 abbrev pub EndsLine : List ℕ → Type 0
 EndsLine [] = Unit {0}
 EndsLine (c ∷ bytes) = is_line_end c ≡ true

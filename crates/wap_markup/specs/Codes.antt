@@ -29,7 +29,7 @@ leaf_mark byte =
     if byte == EXT_2 then Some (Extension 2) else
     if byte == OPAQUE then Some Opaque else None
 
--- only extensions stand after a switch of the page
+-- of these only extensions stand after a switch of the page
 abbrev pub is_extension : LeafMark → Bool
 is_extension (Inline Shown) = false
 is_extension (Inline (Variable conv)) = true

@@ -159,7 +159,7 @@ impl<S: Store> Pages for Cached<S> {
         ensures stays { Stays (⟦<Cached<S> as Pages>⟧.seen self.old)
             (⟦<Cached<S> as Pages>⟧.seen self.new) }
 
-        // After running out of memory or a fault nothing is kept but what was kept.
+        // After a fault, or out of memory, nothing is kept but what was kept.
         ensures no_more { OnErr result (KeepsNoMore (cache_of self.old) (cache_of self.new)) }
     {
         if let Some(page) = look_up(&mut self.kept, name, fresh)? {

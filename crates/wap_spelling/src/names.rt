@@ -1,4 +1,4 @@
-//! The names of a document that are none of codes.
+//! The names that a document has in place of codes.
 ghost use Rattle.std.specs.Prelude.{◌≡◌, [], fold, OnOk, IfOk};
 ghost use Rattle.wap_markup.specs.Grammar.{with_name};
 ghost use Rattle.wap_spelling.specs.Names.{with_token, with_attr, with_kid, with_element, names_of};

@@ -36,7 +36,7 @@ LacksByte end left found = (left ≡ []) × (found ≡ fault.Short end)
 abbrev pub LacksBytes : ℕ → Refusal
 LacksBytes size end left found = (length left < size) × (found ≡ fault.Short end)
 
--- no number begins: the input ends inside it, or it is too long
+-- no number stands here: the input ends inside it, or it is too long
 abbrev pub RefusesNumber : Refusal
 RefusesNumber end left found =
     (EndsInside left × (found ≡ fault.Short end)) ⊎ (IsTooLong left × (found ≡ fault.Number (end - length left)))

@@ -36,7 +36,7 @@ suffix_from_cut c part whole lead tail cut ends same = elim ends [
   | inr some ↦ suffix_after c part whole some.0 (cut ∙ ap₂ (λ x y. x ++ y) some.1 same ∙ append_assoc some.0 (c ∷ []) part)
 ]
 
--- too short
+-- a list that is shorter than the part doesn't end in it
 pub no_suffix : (c : ℕ) (part whole : List ℕ) → length whole < length part → IsSuffix (parts c part) (parts c whole) → ⊥
 no_suffix c part whole short suffix = elim (suffix_from_parts c part whole suffix) [
   | inl all ↦ absurd (omega (arith, ap length all))

@@ -39,11 +39,11 @@ pub percent_encode_is : (bs : List ℕ) → percent_encode RESERVED bs ≡ flat_
 unfolding percent_encode
 percent_encode_is bs = flat_map-same (encode_byte RESERVED) escape_of encode_byte_is bs
 
--- as characters
+-- the same as characters
 pub chars_escaped : (bs : List ℕ) → chars (percent_encode RESERVED bs) ≡ flat_map escape_of bs
 chars_escaped bs = chars-IsAscii (percent_encode RESERVED bs) (IsAscii-percent_encode RESERVED bs) ∙ percent_encode_is bs
 
--- and back
+-- unescaping them gives the bytes back
 pub unescaped_escaped : (bs : List ℕ) → All IsByte bs → unescaped (flat_map escape_of bs) ≡ bs
 unescaped_escaped bs small =
     ap (λ text. percent_decode (encode_utf8_all text)) (sym (percent_encode_is bs))

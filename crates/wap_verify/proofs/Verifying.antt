@@ -55,7 +55,7 @@ unverified unit found verified (function index code pragmas is earlier fault) = 
     within : (functions : List Code) (index : ℕ) (code : Code) → slice_get functions index ≡ Some code → index < length functions
     within functions index code is = slice_get_within functions index code is
 
--- a fault that has to be out of memory is
+-- a fault that can only be out of memory is that
 pub no_memory : (found : VerifyFault) → (found ≢ fault.NoMemory → ⊥) → found ≡ fault.NoMemory
 no_memory (fault.Pragma index) never = absurd (never (λ e. cc e))
 no_memory (fault.Opcode index at) never = absurd (never (λ e. cc e))

@@ -32,7 +32,7 @@ has_target places end (Err fault) = false
 abbrev pub is_aimed : Unit → ℕ → Code → List ℕ → ℕ → Bool
 is_aimed unit index function places at = has_target places (length function.code) (step_at unit index function at)
 
--- the code is whole instructions, each jump has a target
+-- the code is whole instructions, and each jump has a target
 pub record IsSplit (unit : Unit) (index : ℕ) (function : Code) : Type 0 where
   pub places : List ℕ
   pub runs : Runs unit index function 0 places (length function.code)

@@ -73,8 +73,6 @@ reads_start input before lead attribute.Nothing = reads_no_token input.total
 
 -- ---- parts of values
 
--- ---- parts of values
-
 pub told_told : {A B C : Type 0} (make : A → B) (after : B → C) (read : Reading A)
     → told after (told make read) ≡ told (λ a. after (make a)) read
 told_told make after (Ok x) = refl

@@ -94,7 +94,7 @@ fn browse_by(
     })))
 }
 
-/// The command of matches.
+/// The command `browse` that matches give, or none.
 fn browse_in(alloc: Global, matches: &ArgMatches) -> Result<Option<Command>, NoMemory>
     ensures { IfOk result (λ said. said ≡ browse_by (text_in matches.now (codes "url"))
         (text_in matches.now (codes "seed")) (text_in matches.now (codes "budget"))
@@ -132,7 +132,7 @@ fn read_browse(alloc: Global, word: &str, words: &[Text]) -> Result<Option<Comma
     }
 }
 
-/// The command of matches.
+/// The command on one page that matches give, or none.
 fn page_in(
     alloc: Global,
     command: PageCommand,

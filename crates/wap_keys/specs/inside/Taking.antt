@@ -27,7 +27,7 @@ use Rattle.wap_keys.specs.Reading.{Reading, said_yet}
 abbrev pub is_unended : List ℕ → Bool
 is_unended bytes = list_all (λ c. not (c == line_feed)) bytes
 
--- a line is gone on with by what follows it up to a line feed
+-- a line that is begun goes on with what follows it, up to a line feed
 abbrev pub TakesFront : List ℕ → List ℕ → List ℕ → Front → Type 0
 TakesFront old new unread front.Begun = (is_unended unread ≡ true) × (new ≡ old ++ unread) × (length new ≤ LINE_LIMIT)
 TakesFront old new unread (front.Whole place) =
