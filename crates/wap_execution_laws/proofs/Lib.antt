@@ -1,0 +1,5 @@
+pub mod BoundLaws
+pub mod RunLaws
+pub mod FrameLaws
+pub mod PlaceLaws
+pub mod KeyedLaws

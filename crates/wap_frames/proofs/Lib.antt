@@ -1,0 +1,4 @@
+pub mod Rows
+pub mod Ready
+pub mod Operands
+pub mod Doing
