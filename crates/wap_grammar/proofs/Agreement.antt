@@ -23,7 +23,7 @@ use Rattle.wap_grammar.specs.Values.{id_of, literal_of, chained, called}
 use Rattle.wap_grammar.specs.Statements.{done_first}
 use Rattle.wap_grammar.specs.inside.Steps.{Reading, span_of, after, place_of, told, expect_at, closed, id_at, Next, one_more, run_at, items_at}
 use Rattle.wap_grammar.specs.inside.Expressions.{Reader, callee_at, variable_at, next_argument, arguments_at, named_at, primary_by, primary_at, step_by, unary_by, unary_at, operand_by, next_operand, chain_at, branches_at, conditional_at, assignment_by, assignment_at, looser_at, part_at, expression_at}
-use Rattle.wap_grammar.specs.inside.Statements.{Statements, next_listed, listed_at, valued, declaration_after, declaration_at, variables_at, optional_at, initial_at, condition_at, next_statement, block_at, while_at, for_at, simple_by, simple_at, arm_at, next_arm, last_at, if_of, if_at, statement_by, statement_at}
+use Rattle.wap_grammar.specs.inside.Statements.{Statements, next_listed, listed_at, valued, declaration_after, declaration_at, variables_at, optional_at, initial_at, condition_at, next_statement, block_at, while_at, for_at, simple_by, simple_at, arm_at, next_arm, arms_at, last_at, if_at, statement_by, statement_at}
 use Rattle.wap_grammar.specs.inside.Programs.{next_use, parameters_at, head_at, function_at, next_function, program_at}
 
 -- both give the same, or the first came to a part at too deep a level
@@ -326,15 +326,18 @@ module _ (src : List ℕ) (inner outer : Reader) (deep : (level : ℕ) (a : List
   last_agrees a = if_agree (is_sign signs.Else (word_of a)) _ _ (Ok (None, a)) (Ok (None, a))
       (agree_told Some _ _ (simple_agrees (start_of (word_of (after a))) (after a))) (inl refl)
 
+  arms_agrees : (a : List Lexeme) → Agrees (arms_at src inner read a) (arms_at src outer other a)
+  unfolding arms_at
+  arms_agrees a = agree (arm_at src inner read a) (arm_at src outer other a) _ _ (arm_agrees a)
+      (λ first. agree_told (λ others. first.0 ∷ others) (items_at (next_arm src inner read) first.1)
+      (items_at (next_arm src outer other) first.1) (items_agree (next_arm src inner read)
+      (next_arm src outer other) next_arm_agrees first.1))
+
   if_at_agrees : (a : List Lexeme) → Agrees (if_at src inner read a) (if_at src outer other a)
   unfolding if_at
-  if_at_agrees a = agree (arm_at src inner read a) (arm_at src outer other a) _ _ (arm_agrees a)
-      (λ first.
-      agree (items_at (next_arm src inner read) first.1) (items_at
-      (next_arm src outer other) first.1) _ _ (items_agree (next_arm src inner read)
-      (next_arm src outer other) next_arm_agrees first.1) (λ arms.
-      agree_told (if_of first.0 arms.0) (last_at src inner read arms.1)
-      (last_at src outer other arms.1) (last_agrees arms.1)))
+  if_at_agrees a = agree (arms_at src inner read a) (arms_at src outer other a) _ _ (arms_agrees a)
+      (λ arms. agree_told (stmt.If arms.0) (last_at src inner read arms.1)
+      (last_at src outer other arms.1) (last_agrees arms.1))
 
   statement_agrees_by : (a : List Lexeme) → Agrees (statement_by src inner read a)
       (statement_by src outer other a)

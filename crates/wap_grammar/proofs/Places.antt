@@ -25,7 +25,7 @@ use Rattle.wap_grammar.specs.Refusal.{place_of, IsPast}
 use Rattle.wap_grammar.specs.Statements.{done_first}
 use Rattle.wap_grammar.specs.inside.Steps.{Reading, span_of, after, syntax, told, expect_at, closed, id_at, Next, one_more, run_at, items_at}
 use Rattle.wap_grammar.specs.inside.Expressions.{Reader, callee_after, callee_at, stepped, variable_at, next_argument, arguments_at, named_at, primary_by, primary_at, step_by, unary_by, unary_at, operand_by, next_operand, chain_at, branches_at, conditional_at, assignment_by, assignment_at, looser_at, part_at, expression_at}
-use Rattle.wap_grammar.specs.inside.Statements.{Statements, next_listed, listed_at, valued, declaration_after, declaration_at, variables_at, optional_at, initial_at, condition_at, next_statement, block_at, while_at, for_at, simple_by, simple_at, arm_at, next_arm, last_at, if_of, if_at, statement_by, statement_at}
+use Rattle.wap_grammar.specs.inside.Statements.{Statements, next_listed, listed_at, valued, declaration_after, declaration_at, variables_at, optional_at, initial_at, condition_at, next_statement, block_at, while_at, for_at, simple_by, simple_at, arm_at, next_arm, arms_at, last_at, if_at, statement_by, statement_at}
 
 module _ (src : List ℕ) (whole : List Lexeme) where
   -- tokens that the whole ends with
@@ -556,17 +556,24 @@ module _ (src : List ℕ) (whole : List Lexeme) where
         (goes_simple (start_of (word_of (after c))) (after c) refl (rest_after c is) (omega
         (arith, few, after_less c))))) (λ so. (is, omega arith))
 
+    goes_arms : (c : List Lexeme) → IsRest c → length c < most →
+        Goes (length c) (arms_at src inner read c)
+    unfolding arms_at
+    goes_arms c is few = goes_then (length c) (length c) (arm_at src inner read c) _
+        (goes_arm c is few) (λ first left less.
+        goes_told (length c) (λ others. first.0 ∷ others) (items_at (next_arm src inner read)
+        first.1) (goes_less (length first.1) (length c) (items_at (next_arm src inner read) first.1)
+        less (goes_items (next_arm src inner read) most goes_next_arm first.1 left (omega
+        (arith, less, few)))))
+
     goes_if_at : (c : List Lexeme) → IsRest c → length c < most →
         Goes (length c) (if_at src inner read c)
     unfolding if_at
-    goes_if_at c is few = goes_then (length c) (length c) (arm_at src inner read c) _
-        (goes_arm c is few) (λ first left less.
-        goes_then (length first.1) (length c) (items_at (next_arm src inner read) first.1) _
-        (goes_items (next_arm src inner read) most goes_next_arm first.1 left (omega
-        (arith, less, few))) (λ arms rest fewer.
-        goes_told (length c) (if_of first.0 arms.0) (last_at src inner read arms.1)
-        (goes_less (length arms.1) (length c) (last_at src inner read arms.1) (omega
-        (arith, less, fewer)) (goes_last arms.1 rest (omega (arith, less, fewer, few))))))
+    goes_if_at c is few = goes_then (length c) (length c) (arms_at src inner read c) _
+        (goes_arms c is few) (λ arms left less.
+        goes_told (length c) (stmt.If arms.0) (last_at src inner read arms.1)
+        (goes_less (length arms.1) (length c) (last_at src inner read arms.1) less
+        (goes_last arms.1 left (omega (arith, less, few)))))
 
     goes_statement_by : (c : List Lexeme) → IsRest c → length c ≤ most →
         Goes (length c) (statement_by src inner read c)

@@ -18,7 +18,7 @@ use Rattle.wap_grammar.specs.Spellings.{token, name, sign}
 use Rattle.wap_grammar.specs.Programs.{IsProgram}
 use Rattle.wap_grammar.specs.inside.Steps.{expect_at, id_at, items_at}
 use Rattle.wap_grammar.specs.inside.Expressions.{callee_after, callee_at, variable_at, named_at, primary_at, unary_at, next_operand, chain_at, conditional_at, assignment_at, part_at, expression_at}
-use Rattle.wap_grammar.specs.inside.Statements.{optional_at, condition_at, next_statement, block_at, simple_by, simple_at, arm_at, next_arm, last_at, if_at, statement_by, statement_at}
+use Rattle.wap_grammar.specs.inside.Statements.{optional_at, condition_at, next_statement, block_at, simple_by, simple_at, arm_at, next_arm, arms_at, last_at, if_at, statement_by, statement_at}
 use Rattle.wap_grammar.specs.inside.Programs.{next_use, parameters_at, head_at, function_at, next_function, program_at}
 use Rattle.wap_grammar.proofs.Whole.{program_ok}
 
@@ -58,8 +58,8 @@ sums = program_ok src 64 _ _ refl
 elses : IsProgram src 64 (within (s signs.If ∷ s signs.Open ∷ v ∷ s signs.Close ∷ s signs.If ∷
     s signs.Open ∷ v ∷ s signs.Close ∷ s signs.Semicolon ∷ s signs.Else ∷ s signs.Semicolon ∷
     s signs.CloseBlock ∷ []))
-    (one_of (stmt.If f (stmt.If f stmt.Empty (Some stmt.Empty)) None))
-unfolding src here f s v program_at next_use next_function function_at head_at parameters_at block_at next_statement statement_at statement_by simple_at simple_by if_at arm_at next_arm last_at condition_at optional_at expression_at part_at assignment_at conditional_at chain_at next_operand unary_at primary_at named_at callee_at callee_after variable_at literal_of id_at items_at expect_at
+    (one_of (stmt.If ((f, stmt.If ((f, stmt.Empty) ∷ []) (Some stmt.Empty)) ∷ []) None))
+unfolding src here f s v program_at next_use next_function function_at head_at parameters_at block_at next_statement statement_at statement_by simple_at simple_by if_at arm_at next_arm arms_at last_at condition_at optional_at expression_at part_at assignment_at conditional_at chain_at next_operand unary_at primary_at named_at callee_at callee_after variable_at literal_of id_at items_at expect_at
 elses = program_ok src 64 _ _ refl
 
 -- so many parentheses around f

@@ -79,20 +79,40 @@ pub data IsSimple (src : List ℕ) (Inner : Expressions) (Statement : Spelling S
   return : (word : Span) (x y : List Lexeme) (e : Option Expr) → IsOptional Inner Semicolon x e y →
       IsSimple src Inner Statement (sign Return word ∷ x) (stmt.Return e) y
 
--- a statement. An `else` belongs to the last `if` that it may belong to, so none follows an `if`
--- without one.
+-- a condition in parentheses, and what is done where it holds
+pub data IsArm (Inner : Expressions) (Statement : Spelling Stmt) : List Lexeme → Expr × Stmt →
+    List Lexeme → Type 0 where
+  arm : (x y z : List Lexeme) (c : Expr) (s : Stmt) → IsCondition Inner x c y → Statement y s z →
+      IsArm Inner Statement x (c, s) z
+
+-- the same after `else if`
+pub data IsElseIf (Inner : Expressions) (Statement : Spelling Stmt) : List Lexeme → Expr × Stmt →
+    List Lexeme → Type 0 where
+  else_if : (other word : Span) (x y : List Lexeme) (p : Expr × Stmt) →
+      IsArm Inner Statement x p y →
+      IsElseIf Inner Statement (sign Else other ∷ sign If word ∷ x) p y
+
+-- what is done where no condition holds, if that is said. It is no `if`, which would be one more
+-- condition. An `else` belongs to the last `if` that it may belong to, so none stands where nothing
+-- is said.
+pub data IsElse (src : List ℕ) (Inner : Expressions) (Statement : Spelling Stmt) : List Lexeme →
+    Option Stmt → List Lexeme → Type 0 where
+  without : (x : List Lexeme) → is_sign Else (word_of x) ≡ false →
+      IsElse src Inner Statement x None x
+  with_else : (other : Span) (x y : List Lexeme) (s : Stmt) → IsSimple src Inner Statement x s y →
+      IsElse src Inner Statement (sign Else other ∷ x) (Some s) y
+
+-- a statement. All that stands after an `else` has the level of its `if`, so each `else if` has
+-- that of the first.
 pub data IsStatementOf (src : List ℕ) (Inner : Expressions)
     (Statement : Spelling Stmt) : List Lexeme → Stmt → List Lexeme → Type 0 where
   simple : (x y : List Lexeme) (s : Stmt) → IsSimple src Inner Statement x s y →
       IsStatementOf src Inner Statement x s y
-  if_alone : (word : Span) (x y z : List Lexeme) (c : Expr) (s : Stmt) → IsCondition Inner x c y →
-      Statement y s z →
-      is_sign Else (word_of z) ≡ false →
-      IsStatementOf src Inner Statement (sign If word ∷ x) (stmt.If c s None) z
-  if_else : (word other : Span) (x y z u : List Lexeme) (c : Expr) (s t : Stmt) →
-      IsCondition Inner x c y →
-      Statement y s (sign Else other ∷ z) → IsStatementOf src Inner Statement z t u →
-      IsStatementOf src Inner Statement (sign If word ∷ x) (stmt.If c s (Some t)) u
+  arms : (word : Span) (x y z u : List Lexeme) (first : Expr × Stmt) (others : List (Expr × Stmt))
+      (last : Option Stmt) → IsArm Inner Statement x first y →
+      Several (IsElseIf Inner Statement) y others z →
+      IsElse src Inner Statement z last u →
+      IsStatementOf src Inner Statement (sign If word ∷ x) (stmt.If (first ∷ others) last) u
 
 -- a statement that spans so many levels at most
 unfoldable pub IsStatement : List ℕ → ℕ → Spelling Stmt

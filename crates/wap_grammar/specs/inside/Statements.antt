@@ -1,5 +1,5 @@
 -- Reading statements from the left. This project's own.
-use Rattle.std.specs.Prelude.{ℕ, zero, suc, if◌then◌else◌, ◌&&◌, List, [], ◌∷◌, Option, Some, None, Ok}
+use Rattle.std.specs.Prelude.{ℕ, zero, suc, if◌then◌else◌, ◌&&◌, List, ◌∷◌, Option, Some, None, Ok}
 use Rattle.wap_base.specs.Outcome.{◌>>=◌}
 use Rattle.wap_program.specs.declared.program.Id.{Id}
 use Rattle.wap_program.specs.declared.expression.Expr.{Expr}
@@ -122,24 +122,21 @@ next_arm src inner statement lexemes =
     if is_sign sign.Else (word_of lexemes) && is_sign sign.If (word_of (after lexemes))
     then told Some (arm_at src inner statement (after (after lexemes))) else Ok (None, lexemes)
 
+unfoldable pub arms_at : List ℕ → Reader → Statements → List Lexeme → Reading (List (Expr × Stmt))
+arms_at src inner statement lexemes =
+    arm_at src inner statement lexemes >>= λ first. told (λ others. first.0 ∷ others) (items_at
+    (next_arm src inner statement) first.1)
+
 unfoldable pub last_at : List ℕ → Reader → Statements → List Lexeme → Reading (Option Stmt)
 last_at src inner statement lexemes =
     if is_sign sign.Else (word_of lexemes) then told Some (simple_at src inner statement
     (after lexemes)) else
     Ok (None, lexemes)
 
-abbrev pub others_of : List (Expr × Stmt) → Option Stmt → Option Stmt
-others_of [] last = last
-others_of (arm ∷ arms) last = Some (stmt.If arm.0 arm.1 (others_of arms last))
-
-abbrev pub if_of : Expr × Stmt → List (Expr × Stmt) → Option Stmt → Stmt
-if_of arm arms last = stmt.If arm.0 arm.1 (others_of arms last)
-
 unfoldable pub if_at : List ℕ → Reader → Statements → List Lexeme → Reading Stmt
 if_at src inner statement lexemes =
-    arm_at src inner statement lexemes >>= λ arm.
-    items_at (next_arm src inner statement) arm.1 >>= λ arms.
-    told (if_of arm.0 arms.0) (last_at src inner statement arms.1)
+    arms_at src inner statement lexemes >>= λ arms. told (stmt.If arms.0)
+    (last_at src inner statement arms.1)
 
 unfoldable pub statement_by : List ℕ → Reader → Statements → Statements
 statement_by src inner statement lexemes =
