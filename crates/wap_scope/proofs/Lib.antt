@@ -1,0 +1,12 @@
+pub mod Lists
+pub mod Walking
+pub mod Parts
+pub mod ExpressionParts
+pub mod StatementParts
+pub mod Programs
+pub mod Scopes
+pub mod Counting
+pub mod Once
+pub mod OneMeaning
+pub mod Soundness
+pub mod Completeness

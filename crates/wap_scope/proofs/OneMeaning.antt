@@ -1,0 +1,379 @@
+-- Each name of a scoped program means one thing.
+use Rattle.std.proofs.Common.{◌≡◌, ℕ, zero, suc, ◌<◌, ◌≤◌, Bool, true, false, ◌||◌, cond, nat_eq, nat_le, List, [], ◌∷◌, ◌++◌, length, get_or, take, drop, map, Option, Some, None, unwrap_or, refl, sym, ap, subst, ◌∙◌, append_assoc, arith}
+use Rattle.std.specs.List.{filter_map, cons_option}
+use Rattle.std.specs.Option.{is_some, option_map}
+use Rattle.std.proofs.lemmas.Bool.Decides.{nat_tests}
+use Rattle.std.proofs.lemmas.List.Elements.{filter_map-append}
+use Rattle.std.specs.Cmp.Lexicographic.{bytes_decides}
+use Rattle.wap_base.specs.Texts.{is_same_text}
+use Rattle.wap_code.specs.Libraries.{lib_named}
+use Rattle.wap_program.specs.declared.program.Id.{Id}
+use Rattle.wap_program.specs.declared.program.Use.{Use}
+use Rattle.wap_program.specs.declared.program.Use.TheVariants.{Url, Access, Agent, Note}
+use Rattle.wap_program.specs.declared.program.Function.{Function}
+use Rattle.wap_program.specs.declared.program.Program.{Program}
+use Rattle.wap_scope.specs.declared.limits.TheConstants.{VARIABLE_LIMIT, FUNCTION_LIMIT, ARGUMENT_LIMIT}
+use Rattle.wap_scope.specs.Names.{Variable, Local, External, Library, Mention, Declares, Refers, Jumps, said, declared, names_declared, function_named, unit_of, units}
+use Rattle.wap_scope.specs.Scoped.{is_among, arity_of, is_taken, Says, HasFunction, HasUse, IsScoped}
+use Rattle.wap_scope.specs.Meanings.{StandsOnce, function_names, parameter_counts, HaveMeanings}
+use Rattle.wap_scope.proofs.Once.{NoneTwice, split_at, stands_once}
+
+-- ---- lists of what has names
+
+-- a name of a list is that of an item, which stands after the items of the names before it
+record Comes {X : Type 0} (of : X → Option (List ℕ)) (items : List X) (before : List (List ℕ))
+    (name : List ℕ) : Type 0 where
+  earlier : List X
+  item : X
+  later : List X
+  whole : items ≡ earlier ++ item ∷ later
+  names : filter_map of earlier ≡ before
+  named : of item ≡ Some name
+
+abbrev head_or : List ℕ → List (List ℕ) → List ℕ
+head_or other [] = other
+head_or other (name ∷ names) = name
+
+abbrev tail_of : List (List ℕ) → List (List ℕ)
+tail_of [] = []
+tail_of (name ∷ names) = names
+
+module _ {X : Type 0} (of : X → Option (List ℕ)) where
+  comes_after : (x : X) (items : List X) (before : List (List ℕ)) (name : List ℕ)
+      (all : List (List ℕ)) → cons_option (of x) before ≡ all → Comes of items before name →
+      Comes of (x ∷ items) all name
+  comes_after x items before name all is comes = record {
+    earlier = x ∷ comes.earlier;
+    item = comes.item;
+    later = comes.later;
+    whole = ap (λ items. x ∷ items) comes.whole;
+    names = ap (cons_option (of x)) comes.names ∙ is;
+    named = comes.named;
+  }
+
+  comes_first : (x : X) (items : List X) (name other : List ℕ) → of x ≡ Some other →
+      other ≡ name → Comes of (x ∷ items) [] name
+  comes_first x items name other is same = record {
+    earlier = [];
+    item = x;
+    later = items;
+    whole = refl;
+    names = refl;
+    named = is ∙ ap Some same;
+  }
+
+  -- by what the first item is called
+  by_first : (found : Option (List ℕ)) (x : X) (items : List X) (before : List (List ℕ))
+      (name : List ℕ) (after : List (List ℕ)) → of x ≡ found →
+      cons_option found (filter_map of items) ≡ before ++ name ∷ after →
+      ((before : List (List ℕ)) → filter_map of items ≡ before ++ name ∷ after →
+      Comes of items before name) → Comes of (x ∷ items) before name
+  by_first None x items before name after is split inner =
+      comes_after x items before name before (ap (λ found. cons_option found before) is)
+      (inner before split)
+  by_first (Some other) x items [] name after is split inner =
+      comes_first x items name other is (ap (head_or []) split)
+  by_first (Some other) x items (first ∷ before) name after is split inner =
+      comes_after x items before name (first ∷ before)
+      (ap (λ found. cons_option found before) is
+      ∙ ap (λ one. one ∷ before) (ap (head_or []) split))
+      (inner before (ap tail_of split))
+
+  comes_from : (items : List X) (before : List (List ℕ)) (name : List ℕ)
+      (after : List (List ℕ)) → filter_map of items ≡ before ++ name ∷ after →
+      Comes of items before name
+  comes_from [] [] name after split = absurd (cc split)
+  comes_from [] (first ∷ before) name after split = absurd (cc split)
+  comes_from (x ∷ items) before name after split =
+      by_first (of x) x items before name after refl split
+      (λ inner rest. comes_from items inner name after rest)
+
+-- ---- variables
+
+-- what declares a variable of this name
+declares_it : (m : Mention) (name : List ℕ) → declared m ≡ Some name →
+    (v : Id) × (m ≡ Declares v) × (v.name ≡ name)
+declares_it (Declares v) name is = (v, refl, ap (λ found. unwrap_or found []) is)
+declares_it (Refers r) name is = absurd (cc is)
+declares_it (Jumps word inside) name is = absurd (cc is)
+
+-- what names a unit
+names_it : (u : Use) (name : List ℕ) → unit_of u ≡ Some name →
+    (id : Id) × (url : List ℕ) × (u ≡ Url id url) × (id.name ≡ name)
+names_it (Url id url) name is = (id, url, refl, ap (λ found. unwrap_or found []) is)
+names_it (Access domain path span) name is = absurd (cc is)
+names_it (Agent content value scheme) name is = absurd (cc is)
+names_it Note name is = absurd (cc is)
+
+among_more : (name : List ℕ) (names more : List (List ℕ)) → is_among name names ≡ true →
+    is_among name (names ++ more) ≡ true
+among_more name [] more is = absurd (cc is)
+among_more name (first ∷ names) more is =
+    by (is_same_text name first) is (among_more name names more) where
+      by : (same : Bool) → (same || is_among name names) ≡ true →
+          (is_among name names ≡ true → is_among name (names ++ more) ≡ true) →
+          (same || is_among name (names ++ more)) ≡ true
+      by true is inner = refl
+      by false is inner = inner is
+
+at_prefix : (names more : List (List ℕ)) (place : ℕ) → place < length names →
+    get_or (names ++ more) place [] ≡ get_or names place []
+at_prefix [] more place within = absurd (omega arith)
+at_prefix (first ∷ names) more zero within = refl
+at_prefix (first ∷ names) more (suc place) within = at_prefix names more place (omega arith)
+
+longer : (names more : List (List ℕ)) (place : ℕ) → place < length names →
+    place < length (names ++ more)
+longer [] more place within = absurd (omega arith)
+longer (first ∷ names) more zero within = omega arith
+longer (first ∷ names) more (suc place) within =
+    let inner = longer names more place (omega arith) in omega arith
+
+prefix_once : (names more : List (List ℕ)) → NoneTwice (names ++ more) → NoneTwice names
+prefix_once names more once before name after split =
+    once before name (after ++ more)
+    (ap (λ names. names ++ more) split ∙ append_assoc before (name ∷ after) more)
+
+-- ---- functions by their names
+
+as_names : (functions : List Function) →
+    filter_map (λ (f : Function). Some f.name.name) functions
+    ≡ map (λ (f : Function). f.name.name) functions
+as_names [] = refl
+as_names (f ∷ functions) = ap (λ names. f.name.name ∷ names) (as_names functions)
+
+found_first : (same : Bool) (f : Function) (rest : Option Function) (others : Bool) →
+    is_some rest ≡ others → is_some (cond same (Some f) rest) ≡ (same || others)
+found_first true f rest others is = refl
+found_first false f rest others is = is
+
+found_among : (name : List ℕ) (functions : List Function) →
+    is_some (function_named name functions)
+    ≡ is_among name (map (λ (f : Function). f.name.name) functions)
+found_among name [] = refl
+found_among name (f ∷ functions) =
+    found_first (is_same_text name f.name.name) f (function_named name functions)
+    (is_among name (map (λ (f : Function). f.name.name) functions)) (found_among name functions)
+
+abbrev NamedPlace : List ℕ → List Function → ℕ → Type 0
+NamedPlace name functions arity =
+    (place : ℕ) × (place < length (map (λ (f : Function). f.name.name) functions)) ×
+    (get_or (map (λ (f : Function). f.name.name) functions) place [] ≡ name) ×
+    (get_or (map (λ (f : Function). length f.params) functions) place 0 ≡ arity)
+
+place_first : (same : Bool) (name : List ℕ) (f : Function) (functions : List Function)
+    (arity : ℕ) → is_same_text name f.name.name ≡ same →
+    option_map (λ (f : Function). length f.params)
+    (cond same (Some f) (function_named name functions))
+    ≡ Some arity →
+    (arity_of functions name ≡ Some arity → NamedPlace name functions arity) →
+    NamedPlace name (f ∷ functions) arity
+place_first true name f functions arity same is later = (
+  0,
+  omega arith,
+  sym ((bytes_decides name f.name.name).0 same),
+  ap (λ found. unwrap_or found 0) is,
+)
+place_first false name f functions arity same is later =
+    let inner = later is in
+    (suc inner.0, let within = inner.1 in omega arith, inner.2, inner.3)
+
+named_place : (name : List ℕ) (functions : List Function) (arity : ℕ) →
+    arity_of functions name ≡ Some arity → NamedPlace name functions arity
+named_place name [] arity is = absurd (cc is)
+named_place name (f ∷ functions) arity is =
+    place_first (is_same_text name f.name.name) name f functions arity refl is
+    (λ inner. named_place name functions arity inner)
+
+-- ---- numbers
+
+length_taken : (names : List (List ℕ)) (place : ℕ) → place < length names →
+    length (take place names) ≡ place
+length_taken [] place within = absurd (omega arith)
+length_taken (first ∷ names) zero within = refl
+length_taken (first ∷ names) (suc place) within = ap suc (length_taken names place (omega arith))
+
+length_mapped : {X Y : Type 0} (f : X → Y) (xs : List X) → length (map f xs) ≡ length xs
+length_mapped f [] = refl
+length_mapped f (x ∷ xs) = ap suc (length_mapped f xs)
+
+at_most : (count limit : ℕ) → nat_le count limit ≡ true → count ≤ limit
+at_most count limit is = grind (arith, nat_tests)
+
+same_number : (arity count : ℕ) → nat_eq arity count ≡ true → arity ≡ count
+same_number arity count is = grind (arith, nat_tests)
+
+arity_taken : (count : ℕ) (found : Option Function) → is_some found ≡ true →
+    is_taken count (option_map (λ (f : Function). length f.params) found) ≡ true →
+    option_map (λ (f : Function). length f.params) found ≡ Some count
+arity_taken count None some taken = absurd (cc some)
+arity_taken count (Some f) some taken = ap Some (same_number (length f.params) count taken)
+
+row_taken : (count : ℕ) (found : Option (ℕ × ℕ × ℕ)) → is_some found ≡ true →
+    is_taken count (option_map (λ (row : ℕ × ℕ × ℕ). row.2) found) ≡ true →
+    (number : ℕ) × (function : ℕ) × (found ≡ Some (number, function, count))
+row_taken count None some taken = absurd (cc some)
+row_taken count (Some row) some taken =
+    (row.0, row.1, ap (λ count. Some (row.0, row.1, count)) (same_number row.2 count taken))
+
+module _ (p : Program) (scoped : IsScoped p) where
+  variables_once : (earlier : List Function) (f : Function) (later : List Function) →
+      p.functions ≡ earlier ++ f ∷ later → NoneTwice (names_declared (said f))
+  variables_once earlier f later functions before name after split =
+      let comes = comes_from declared (said f) before name after split in
+      let it = declares_it comes.item name comes.named in
+      let says : Says p comes.earlier (Declares it.0) = record {
+        earlier = earlier;
+        function = f;
+        later = later;
+        functions = functions;
+        after = comes.later;
+        whole = comes.whole ∙ ap (λ m. comes.earlier ++ m ∷ comes.later) it.1;
+      } in
+      ap (λ names. is_among name names) (sym comes.names)
+      ∙ ap (λ name. is_among name (names_declared comes.earlier)) (sym it.2)
+      ∙ scoped.two_variables comes.earlier it.0 says
+
+  units_once : NoneTwice (units p.uses)
+  units_once before name after split =
+      let comes = comes_from unit_of p.uses before name after split in
+      let it = names_it comes.item name comes.named in
+      let has : HasUse p comes.earlier (Url it.0 it.1) = record {
+        after = comes.later;
+        whole = comes.whole ∙ ap (λ u. comes.earlier ++ u ∷ comes.later) it.2;
+      } in
+      ap (λ names. is_among name names) (sym comes.names)
+      ∙ ap (λ name. is_among name (units comes.earlier)) (sym it.3)
+      ∙ scoped.two_units comes.earlier it.0 it.1 has
+
+  -- ---- functions
+
+  function_once : NoneTwice (function_names p)
+  function_once before name after split =
+      let comes = comes_from (λ (f : Function). Some f.name.name) p.functions before name after
+      (as_names p.functions ∙ split) in
+      let has : HasFunction p comes.earlier comes.item =
+      record { after = comes.later; whole = comes.whole } in
+      ap (λ names. is_among name names) (sym comes.names ∙ as_names comes.earlier)
+      ∙ ap (λ name. is_among name (map (λ (f : Function). f.name.name) comes.earlier))
+      (sym (ap (λ found. unwrap_or found []) comes.named))
+      ∙ sym (found_among comes.item.name.name comes.earlier)
+      ∙ ap is_some (scoped.two_functions comes.earlier comes.item has)
+
+  -- ---- numbers
+
+  few_variables : (earlier : List Function) (f : Function) (later : List Function) →
+      p.functions ≡ earlier ++ f ∷ later → (place : ℕ) →
+      place < length (names_declared (said f)) → place < VARIABLE_LIMIT
+  few_variables earlier f later functions place within =
+      let names = names_declared (said f) in
+      let name = get_or names place [] in
+      let comes = comes_from declared (said f) (take place names) name (drop (suc place) names)
+      (split_at names place within) in
+      let it = declares_it comes.item name comes.named in
+      let says : Says p comes.earlier (Declares it.0) = record {
+        earlier = earlier;
+        function = f;
+        later = later;
+        functions = functions;
+        after = comes.later;
+        whole = comes.whole ∙ ap (λ m. comes.earlier ++ m ∷ comes.later) it.1;
+      } in
+      let many : length (names_declared comes.earlier) ≡ place =
+      ap length comes.names ∙ length_taken names place within in
+      let few = scoped.too_many_locals comes.earlier it.0 says in
+      subst (λ count. count < VARIABLE_LIMIT) many few
+
+  few_functions : (place : ℕ) → place < length (function_names p) → place < FUNCTION_LIMIT
+  few_functions place within =
+      let names = function_names p in
+      let name = get_or names place [] in
+      let comes = comes_from (λ (f : Function). Some f.name.name) p.functions
+      (take place names) name
+      (drop (suc place) names) (as_names p.functions ∙ split_at names place within) in
+      let has : HasFunction p comes.earlier comes.item =
+      record { after = comes.later; whole = comes.whole } in
+      let many : length comes.earlier ≡ place =
+      sym (length_mapped (λ (f : Function). f.name.name) comes.earlier)
+      ∙ ap length (sym (as_names comes.earlier) ∙ comes.names)
+      ∙ length_taken names place within in
+      subst (λ count. count < FUNCTION_LIMIT) many
+      (scoped.too_many_functions comes.earlier comes.item has)
+
+  -- ---- meanings
+
+  variable : (before : List Mention) (v : Id) → (says : Says p before (Refers (Variable v))) →
+      (place : ℕ) × StandsOnce v.name (names_declared (said says.function)) place ×
+      (place < length (names_declared before)) × (place < VARIABLE_LIMIT)
+  variable before v says =
+      let known = names_declared before in
+      let more = names_declared (Refers (Variable v) ∷ says.after) in
+      let names = names_declared (said says.function) in
+      let whole : names ≡ known ++ more =
+      ap names_declared says.whole
+      ∙ filter_map-append declared before (Refers (Variable v) ∷ says.after) in
+      let once = variables_once says.earlier says.function says.later says.functions in
+      let among = scoped.no_variable before v says in
+      let stands = stands_once v.name names once
+      (subst (λ names. is_among v.name names ≡ true) (sym whole)
+      (among_more v.name known more among)) in
+      let prefix = stands_once v.name known
+      (prefix_once known more (subst NoneTwice whole once)) among in
+      let within = prefix.1.within in
+      let there : get_or names prefix.0 [] ≡ v.name =
+      ap (λ names. get_or names prefix.0 []) whole
+      ∙ at_prefix known more prefix.0 within ∙ prefix.1.there in
+      let same : prefix.0 ≡ stands.0 =
+      stands.1.only prefix.0
+      (subst (λ names. prefix.0 < length names) (sym whole) (longer known more prefix.0 within))
+      there in (
+        stands.0,
+        stands.1,
+        subst (λ place. place < length known) same within,
+        few_variables says.earlier says.function says.later says.functions stands.0 stands.1.within,
+      )
+
+  local : (before : List Mention) (f : Id) (count : ℕ) → Says p before (Refers (Local f count)) →
+      (place : ℕ) × StandsOnce f.name (function_names p) place × (place < FUNCTION_LIMIT) ×
+      (get_or (parameter_counts p) place 0 ≡ count)
+  local before f count says =
+      let names = function_names p in
+      let some = scoped.no_function before f count says in
+      let stands = stands_once f.name names function_once
+      (sym (found_among f.name p.functions) ∙ some) in
+      let arity = arity_taken count (function_named f.name p.functions) some
+      (scoped.arguments before (Local f count) says) in
+      let one = named_place f.name p.functions count arity in
+      let same : one.0 ≡ stands.0 = stands.1.only one.0 one.1 one.2 in (
+        stands.0,
+        stands.1,
+        few_functions stands.0 stands.1.within,
+        ap (λ place. get_or (parameter_counts p) place 0) (sym same) ∙ one.3,
+      )
+
+  external : (before : List Mention) (unit f : Id) (count : ℕ) →
+      Says p before (Refers (External unit f count)) →
+      (place : ℕ) × StandsOnce unit.name (units p.uses) place × (count ≤ ARGUMENT_LIMIT)
+  external before unit f count says =
+      let stands = stands_once unit.name (units p.uses) units_once
+      (scoped.no_unit before unit f count says) in (
+        stands.0,
+        stands.1,
+        at_most count ARGUMENT_LIMIT
+            (scoped.arguments before (External unit f count) says),
+      )
+
+  library : (before : List Mention) (l f : Id) (count : ℕ) →
+      Says p before (Refers (Library l f count)) →
+      (number : ℕ) × (function : ℕ) × (lib_named l.name f.name ≡ Some (number, function, count))
+  library before l f count says =
+      row_taken count (lib_named l.name f.name) (scoped.no_library before l f count says)
+      (scoped.arguments before (Library l f count) says)
+
+  pub one_meaning : HaveMeanings p
+  one_meaning = record {
+    variable = variable;
+    local = local;
+    external = external;
+    library = library;
+  }

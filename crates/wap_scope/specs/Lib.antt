@@ -1,0 +1,5 @@
+pub mod Names
+pub mod Scoped
+pub mod Faults
+pub mod Meanings
+pub mod inside

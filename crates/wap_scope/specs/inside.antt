@@ -1,0 +1,3 @@
+-- What the contracts of this crate's own functions say.
+pub mod Globals
+pub mod Walks

@@ -1,0 +1,71 @@
+-- What a walk over a program finds, from part to part, and what it knows after each.
+use Rattle.std.specs.Prelude.{ℕ, Bool, true, nat_le, List, [], ◌∷◌, ◌++◌, length, Option, Some, None, Result, Ok, Err}
+use Rattle.wap_base.specs.Outcome.{◌>>=◌}
+use Rattle.wap_program.specs.declared.program.Id.{Id}
+use Rattle.wap_program.specs.declared.program.Use.{Use}
+use Rattle.wap_program.specs.declared.program.Use.TheVariants.{Url, Access, Agent, Note}
+use Rattle.wap_program.specs.declared.program.Function.{Function}
+use Rattle.wap_program.specs.declared.expression.Expr.{Expr}
+use Rattle.wap_program.specs.declared.statement.Stmt.{Stmt}
+use Rattle.wap_scope.specs.declared.limits.TheConstants.{FUNCTION_LIMIT}
+use Rattle.wap_scope.specs.declared.fault.ScopeFault.{ScopeFault}
+use Rattle.wap_scope.specs.declared.fault.ScopeFault.TheVariants as fault
+use Rattle.wap_scope.specs.Names.{Mention, Declares, declared, refers, mentions, said}
+use Rattle.wap_scope.specs.Scoped.{is_among}
+use Rattle.wap_scope.specs.Faults.{Scope, fault_if, mention_faults}
+
+-- the first of these faults, or else what comes next
+abbrev pub unless : {X : Type 0} → List ScopeFault → Result X ScopeFault → Result X ScopeFault
+unless [] next = next
+unless (first ∷ others) next = Err first
+
+-- items one after the other, each from what is known after the one before it
+abbrev pub each : {S X : Type 0} → (S → X → Result S ScopeFault) → S → List X → Result S ScopeFault
+each step known [] = Ok known
+each step known (here ∷ after) = step known here >>= λ known. each step known after
+
+-- ---- in a function, whose variables are known
+
+abbrev pub more : List (List ℕ) → Option (List ℕ) → List (List ℕ)
+more known None = known
+more known (Some name) = known ++ name ∷ []
+
+abbrev pub mention_at : Scope → List (List ℕ) → Mention → Result (List (List ℕ)) ScopeFault
+mention_at scope known here =
+    unless (mention_faults scope known here) (Ok (more known (declared here)))
+
+abbrev pub walked : Scope → List (List ℕ) → List Mention → Result (List (List ℕ)) ScopeFault
+walked scope = each (mention_at scope)
+
+-- items that say this
+abbrev pub walked_each : {X : Type 0} → Scope → (X → List Mention) → List (List ℕ) → List X →
+    Result (List (List ℕ)) ScopeFault
+walked_each scope of = each (λ known item. walked scope known (of item))
+
+-- a condition, and what is done where it holds
+abbrev pub arm_at : Scope → Bool → List (List ℕ) → Expr × Stmt → Result (List (List ℕ)) ScopeFault
+arm_at scope inside known arm =
+    walked scope known (refers arm.0) >>= λ known. walked scope known (mentions arm.1 inside)
+
+abbrev pub parameter_at : Scope → List (List ℕ) → Id → Result (List (List ℕ)) ScopeFault
+parameter_at scope known v = mention_at scope known (Declares v)
+
+-- ---- functions, where the names of the earlier ones are known
+
+abbrev pub function_at : Scope → List (List ℕ) → Function → Result (List (List ℕ)) ScopeFault
+function_at scope earlier f =
+    unless (fault_if (is_among f.name.name earlier) (fault.TwoFunctions f.name.span))
+    (unless (fault_if (nat_le FUNCTION_LIMIT (length earlier))
+    (fault.TooManyFunctions f.name.span))
+    (walked scope [] (said f) >>= λ known. Ok (earlier ++ f.name.name ∷ [])))
+
+-- ---- pragmas, where the units are known, and whether it is said who may call this one
+
+abbrev pub use_at : List (List ℕ) × Bool → Use → Result (List (List ℕ) × Bool) ScopeFault
+use_at (units, limited) (Url u url) =
+    unless (fault_if (is_among u.name units) (fault.TwoUnits u.span))
+    (Ok (units ++ u.name ∷ [], limited))
+use_at (units, limited) (Access domain path span) =
+    unless (fault_if limited (fault.TwoAccess span)) (Ok (units, true))
+use_at (units, limited) (Agent name content scheme) = Ok (units, limited)
+use_at (units, limited) Note = Ok (units, limited)

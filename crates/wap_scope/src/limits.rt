@@ -1,0 +1,10 @@
+//! What a compiled unit has one byte to count.
+
+/// How many variables and parameters a function may have.
+pub const VARIABLE_LIMIT: usize = 255;
+
+/// How many functions a program may have.
+pub const FUNCTION_LIMIT: usize = 255;
+
+/// How many arguments a function of another unit may be called with.
+pub const ARGUMENT_LIMIT: usize = 255;
