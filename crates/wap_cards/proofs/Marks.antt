@@ -2,7 +2,7 @@
 use Rattle.std.proofs.Common.{◌≡◌, ℕ, zero, suc, ◌-◌, ◌+◌, ◌<◌, Bool, true, false, cond, List, [], ◌∷◌, ◌++◌, map, Result, refl, sym, ap, subst, ◌∙◌, append_assoc, arith}
 use Rattle.std.specs.Result.{OnOk}
 use Rattle.std.specs.List.{flat_map, filter_map, cons_option}
-use Rattle.std.proofs.lemmas.List.{append-nil}
+use Rattle.std.proofs.lemmas.List.{append-nil, map-append}
 use Rattle.wap_base.specs.declared.name.Part.{Part}
 use Rattle.wap_markup.specs.declared.deck.Node.{Node}
 use Rattle.wap_markup.specs.declared.deck.Item.{Item, out-Item}
@@ -29,6 +29,41 @@ module _ (inner : Node → List Mark) (items : List Item) where
 
   pub marks_node : (may_have_text : Bool) (node : Node) → left_marks inner may_have_text (item.Node node ∷ items) ≡ begins node ∷ (inner node ++ ends node ∷ []) ++ left_marks inner may_have_text items
   marks_node may_have_text node = ap (λ level. marks_from inner may_have_text level ++ left_marks inner may_have_text items) (out_node node)
+
+-- ---- a child that was read
+
+module _ (inner : Node → List Mark) (whole : List Mark) (kids rest : List Item) (marks : List LentMark) where
+  pub text_added : (parts : List Part) (after : List LentMark)
+      → map mark_of marks ++ left_marks inner true kids ≡ whole
+      → kids ≡ item.Text parts ∷ rest → after ≡ marks ++ lent.Words parts ∷ []
+      → map mark_of after ++ left_marks inner true rest ≡ whole
+  text_added parts after was kids_are after_is =
+      ap (λ (l : List LentMark). map mark_of l ++ left_marks inner true rest) after_is
+      ∙ ap (λ (l : List Mark). l ++ left_marks inner true rest) (map-append mark_of marks (lent.Words parts ∷ []))
+      ∙ append_assoc (map mark_of marks) (words parts ∷ []) (left_marks inner true rest)
+      ∙ ap (λ (l : List Mark). map mark_of marks ++ l) (sym (marks_text inner rest parts))
+      ∙ ap (λ (l : List Item). map mark_of marks ++ left_marks inner true l) (sym kids_are)
+      ∙ was
+
+  pub node_added : (may_have_text : Bool) (node : Node) (begun below after : List LentMark)
+      → map mark_of marks ++ left_marks inner may_have_text kids ≡ whole
+      → kids ≡ item.Node node ∷ rest → begun ≡ marks ++ lent.Begins node ∷ []
+      → map mark_of below ≡ map mark_of begun ++ inner node → after ≡ below ++ lent.Ends node ∷ []
+      → map mark_of after ++ left_marks inner may_have_text rest ≡ whole
+  node_added may_have_text node begun below after was kids_are begun_is below_is after_is =
+      let left = left_marks inner may_have_text rest in
+      let begun_marks : map mark_of begun ≡ map mark_of marks ++ begins node ∷ [] =
+      ap (λ (l : List LentMark). map mark_of l) begun_is ∙ map-append mark_of marks (lent.Begins node ∷ []) in
+      let after_marks : map mark_of after ≡ map mark_of marks ++ begins node ∷ [] ++ inner node ++ ends node ∷ [] =
+      ap (λ (l : List LentMark). map mark_of l) after_is ∙ map-append mark_of below (lent.Ends node ∷ [])
+      ∙ ap (λ (l : List Mark). l ++ ends node ∷ []) (below_is ∙ ap (λ (l : List Mark). l ++ inner node) begun_marks) in
+      ap (λ (l : List Mark). l ++ left) after_marks
+      ∙ ap (λ (l : List Mark). l ++ left) (append_assoc (map mark_of marks ++ begins node ∷ []) (inner node) (ends node ∷ []))
+      ∙ append_assoc (map mark_of marks ++ begins node ∷ []) (inner node ++ ends node ∷ []) left
+      ∙ append_assoc (map mark_of marks) (begins node ∷ []) ((inner node ++ ends node ∷ []) ++ left)
+      ∙ ap (λ (l : List Mark). map mark_of marks ++ l) (sym (marks_node inner rest may_have_text node))
+      ∙ ap (λ (l : List Item). map mark_of marks ++ left_marks inner may_have_text l) (sym kids_are)
+      ∙ was
 
 -- ---- levels
 

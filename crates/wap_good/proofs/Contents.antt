@@ -1,6 +1,5 @@
--- The content of a normal node has normal items.
+-- In normal content texts have parts, neighbouring literals joined, and no two texts stand side by side.
 use Rattle.std.proofs.Common.{◌≡◌, ◌≢◌, ℕ, zero, suc, ◌-◌, ◌+◌, ◌<◌, ◌≤◌, List, [], ◌∷◌, ◌++◌, length, get_or, map, Option, Some, None, refl, sym, ap, subst, ◌∙◌, arith}
-use Rattle.std.specs.List.{AllByRecursion}
 use Rattle.wap_base.specs.declared.name.Part.{Part}
 use Rattle.wap_base.specs.declared.name.Part.TheVariants.{Lit, Var}
 use Rattle.wap_markup.specs.declared.deck.Node.{Node}
@@ -8,15 +7,9 @@ use Rattle.wap_markup.specs.declared.deck.Item.{Item, out-Item}
 use Rattle.wap_markup.specs.declared.deck.Item.TheOpen.{Item-F}
 use Rattle.wap_markup.specs.declared.deck.Item.TheVariants.{outs-Text, outs-Node}
 use Rattle.wap_markup.specs.declared.deck.Item.TheVariants as item
-use Rattle.wap_markup.specs.declared.deck.Deck.{Deck}
-use Rattle.wap_markup.specs.declared.name.Tag.TheVariants as tags
-use Rattle.wap_markup.specs.declared.document.TheConstants.{LEVEL_LIMIT}
-use Rattle.wap_markup.specs.declared.name.AttrName.{AttrName}
 use Rattle.wap_markup.specs.Trees.{ItemLevel, words_of, words_from}
 use Rattle.wap_markup.specs.Decks.{before, joined, Mark, part, text_before, part_before, items_of}
-use Rattle.wap_markup.specs.Normal.{IsValue, IsAttribute, marks_in, marks_of, IsItem, IsContent, IsNode, IsNormal}
-use Rattle.wap_markup.specs.Good.{IsGood}
-use Rattle.wap_good.specs.Levels.{IsNormalNode, IsNormalLevel, AreNormalItems}
+use Rattle.wap_markup.specs.Normal.{marks_in, marks_of}
 
 -- ---- a part in front of items joins the text that they begin with
 
@@ -110,9 +103,19 @@ abbrev IsJoined : ItemLevel → Type 0
 IsJoined (Item-F.Text parts) = joined parts ≡ parts
 IsJoined (Item-F.Node one) = Unit {0}
 
+abbrev HasPart : ItemLevel → Type 0
+HasPart (Item-F.Text parts) = 0 < length parts
+HasPart (Item-F.Node one) = Unit {0}
+
+abbrev IsAlone : ItemLevel → List Item → Type 0
+IsAlone (Item-F.Text parts) others = words others ≡ []
+IsAlone (Item-F.Node one) others = Unit {0}
+
 -- the first item stays, and so do the others
 pub record Stays (level : ItemLevel) (others items : List Item) : Type 0 where
   pub first : IsJoined level
+  pub some : HasPart level
+  pub alone : IsAlone level others
   pub rest : others ≡ items
 
 text_stays : (parts : List Part) (others : List Item) (first : Item) (items : List Item) → out-Item first ≡ Item-F.Text parts → length others ≤ length items → put parts others ≡ first ∷ items → Stays (Item-F.Text parts) others items
@@ -126,55 +129,49 @@ text_stays (one ∷ parts) others first items opened few same =
     let same_parts : onto (one ∷ parts) (words others) ≡ one ∷ parts = cc in
     record {
       first = sym (onto-none (one ∷ parts)) ∙ ap (onto (one ∷ parts)) (sym still.0) ∙ same_parts;
+      some = omega arith;
+      alone = still.0;
       rest = sym still.1 ∙ rest;
     }
 
 item_stays : (level : ItemLevel) (marks : List Mark) (first : Item) (items : List Item) → out-Item first ≡ level → length (items_of marks) ≤ length items → items_of (marks_in level ++ marks) ≡ first ∷ items → Stays level (items_of marks) items
 item_stays (Item-F.Text parts) marks first items opened few same = text_stays parts (items_of marks) first items opened few (sym (items_of-put parts marks) ∙ same)
-item_stays (Item-F.Node one) marks first items opened few same = record { first = tt; rest = cc }
+item_stays (Item-F.Node one) marks first items opened few same = record { first = tt; some = tt; alone = tt; rest = cc }
 
--- ---- the content of a normal node
+-- ---- so it is with all of them
 
-item_normal : (levels : ℕ) (level : ItemLevel) → IsItem (IsNode levels) level → IsJoined level → IsNormalLevel level
-item_normal levels (Item-F.Text parts) each together = record { each = each; together = together }
-item_normal levels (Item-F.Node one) is together = record { levels = levels; normal = is }
+abbrev pub IsNoText : ItemLevel → Type 0
+IsNoText (Item-F.Text parts) = ⊥
+IsNoText (Item-F.Node one) = Unit {0}
 
-items_normal : (levels : ℕ) (items : List Item) → AllByRecursion (λ one. IsItem (IsNode levels) (out-Item one)) items → items_of (marks_of items) ≡ items → AreNormalItems items
-items_normal levels [] each together = tt
-items_normal levels (first ∷ items) each together =
+abbrev pub BeginNoText : List Item → Type 0
+BeginNoText [] = Unit {0}
+BeginNoText (first ∷ items) = IsNoText (out-Item first)
+
+-- an item before others
+abbrev pub Shape : ItemLevel → List Item → Type 0
+Shape (Item-F.Text parts) items = (0 < length parts) × (joined parts ≡ parts) × BeginNoText items
+Shape (Item-F.Node one) items = Unit {0}
+
+abbrev pub Shapes : List Item → Type 0
+Shapes [] = Unit {0}
+Shapes (first ∷ items) = Shape (out-Item first) items × Shapes items
+
+level_begins : (level : ItemLevel) (items : List Item) → Shape level items → words_by (words_from level) ≡ [] → IsNoText level
+level_begins (Item-F.Text parts) items is none = let some = is.0 in let len = ap length none in absurd (omega arith)
+level_begins (Item-F.Node one) items is none = tt
+
+begins : (items : List Item) → Shapes items → words items ≡ [] → BeginNoText items
+begins [] are none = tt
+begins (first ∷ items) are none = level_begins (out-Item first) items are.0 none
+
+shape_of : (level : ItemLevel) (others items : List Item) → Stays level others items → Shapes items → Shape level items
+shape_of (Item-F.Text parts) others items still are = (still.some, still.first, begins items are (ap words (sym still.rest) ∙ still.alone))
+shape_of (Item-F.Node one) others items still are = tt
+
+pub shapes : (items : List Item) → items_of (marks_of items) ≡ items → Shapes items
+shapes [] together = tt
+shapes (first ∷ items) together =
     let still = item_stays (out-Item first) (marks_of items) first items refl (length-items_of items) together in
-    (item_normal levels (out-Item first) each.0 still.first, items_normal levels items each.1 still.rest)
-
-kids_by : (levels : ℕ) (one : Node) → IsNode levels one → AreNormalItems one.kids
-kids_by zero one is = absurd is
-kids_by (suc levels) one is = items_normal levels one.kids is.content.each is.content.together
-
-pub kids_normal : (one : Node) → IsNormalNode one → AreNormalItems one.kids
-kids_normal one is = kids_by is.levels one is.normal
-
-attributes_by : (levels : ℕ) (one : Node) → IsNode levels one → AllByRecursion IsAttribute one.attrs
-attributes_by zero one is = absurd is
-attributes_by (suc levels) one is = is.attributes
-
-pub attributes_normal : (one : Node) → IsNormalNode one → AllByRecursion IsAttribute one.attrs
-attributes_normal one is = attributes_by is.levels one is.normal
-
--- what holds of each attribute holds of the one at a place
-attribute_at : (attrs : List (AttrName × List Part)) → AllByRecursion IsAttribute attrs → (i : ℕ) → i < length attrs → (attr : AttrName × List Part) → attr ≡ get_or attrs i attr → IsAttribute attr
-attribute_at [] each i within attr is = absurd (omega arith)
-attribute_at (first ∷ attrs) each zero within attr is = subst IsAttribute (sym is) each.0
-attribute_at (first ∷ attrs) each (suc i) within attr is = attribute_at attrs each.1 i (omega arith) attr is
-
-pub value_at : (one : Node) → IsNormalNode one → (attrs : List (AttrName × List Part)) → attrs ≡ one.attrs → (i : ℕ) → i < length attrs → (attr : AttrName × List Part) → attr ≡ get_or attrs i attr → IsValue attr.1
-value_at one is attrs are i within attr at = attribute_at attrs (subst (AllByRecursion IsAttribute) (sym are) (attributes_normal one is)) i within attr at
-
--- ---- the root
-
-root_by : (levels : ℕ) (one : Node) → one.tag ≢ tags.Other → AllByRecursion IsAttribute one.attrs → IsContent (IsNode levels) one.kids → IsNormalNode one
-root_by levels one known attributes content = record {
-  levels = suc levels;
-  normal = record { known = known; attributes = attributes; content = content };
-}
-
-pub root_normal : (deck : Deck) → IsGood deck → IsNormal deck → IsNormalNode deck.root
-root_normal deck good is = root_by (LEVEL_LIMIT - 1) deck.root (λ other. let root = good.root in cc) is.attributes is.content
+    let more = shapes items still.rest in
+    (shape_of (out-Item first) (items_of (marks_of items)) items still more, more)

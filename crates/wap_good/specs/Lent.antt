@@ -1,4 +1,6 @@
 -- What the children of a node are seen as. This project's own.
+use Rattle.std.specs.Prelude.{ℕ, List}
+use Rattle.std.specs.Borrow.{Bor}
 use Rattle.wap_markup.specs.declared.deck.Item.{Item}
 use Rattle.wap_markup.specs.declared.deck.Item.TheVariants as item
 use Rattle.wap_good.specs.declared.kids.Child.{Child}
@@ -7,3 +9,7 @@ use Rattle.wap_good.specs.declared.kids.Child.TheVariants as child
 abbrev pub item_of : Child → Item
 item_of (child.Text parts) = item.Text parts
 item_of (child.Node node) = item.Node node
+
+-- a child, and the bytes behind it
+abbrev pub child_seen : Child × Bor (List ℕ) → Item × List ℕ
+child_seen read = (item_of read.0, read.1.now)

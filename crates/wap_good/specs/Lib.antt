@@ -1,3 +1,9 @@
 pub mod Runs
 pub mod Lent
-pub mod Levels
+pub mod Readers
+pub mod Texts
+pub mod Nodes
+pub mod Starts
+pub mod Characters
+pub mod Notes
+pub mod Held

@@ -1,13 +1,16 @@
 -- A text, given bit by bit. This project's own.
-use Rattle.std.specs.Prelude.{◌≡◌, ℕ, ◌+◌, Bool, true, false, List, [], ◌∷◌, length, Option, MatchOption}
+use Rattle.std.specs.Prelude.{◌≡◌, ◌≢◌, ℕ, ◌+◌, Bool, true, false, List, [], ◌∷◌, ◌++◌, length, Option, Some, None, MatchOption, encode_utf8_all}
+use Rattle.std.specs.Borrow.{Bor}
 use Rattle.std.specs.Iterator.{Count, at_most}
 use Rattle.std.specs.Str.{chars}
 use Rattle.wap_base.specs.declared.name.Part.{Part}
 use Rattle.wap_base.specs.declared.name.Part.TheVariants.{Lit, Var}
+use Rattle.wap_base.specs.Texts.{is_same_text}
 use Rattle.wap_markup.specs.Decks.{before}
 use Rattle.wap_markup.specs.Normal.{IsPart}
-use Rattle.wap_good.specs.declared.run.Bit.{Bit}
-use Rattle.wap_good.specs.declared.run.Bit.TheVariants as bit
+use Rattle.wap_good.specs.Texts.{value_at}
+use Rattle.wap_good.specs.declared.bits.Bit.{Bit}
+use Rattle.wap_good.specs.declared.bits.Bit.TheVariants as bit
 
 -- what a bit is of a text
 abbrev pub part_of : Bit → Part
@@ -23,6 +26,12 @@ is_reference (Var name conv) = true
 pub record IsFirstBit (parts : List Part) (first : Part) (rest : List Part) : Type 0 where
   pub together : parts ≡ before first rest
   pub part : IsPart first
+
+-- the first bit of a value and the bytes behind it, or nothing where it has no parts
+abbrev pub FindsBit : List Part → Option (Bit × Bor (List ℕ)) → Type 0
+FindsBit parts result =
+    MatchOption result (parts ≡ [])
+    (λ read. IsFirstBit parts (part_of read.0) (value_at [] read.1.now))
 
 -- a call gives the first bit, or nothing where nothing is left
 abbrev pub GivesBit : List Part → Option Bit → List Part → Type 0
@@ -40,3 +49,17 @@ parts_size (part ∷ parts) = part_size part + parts_size parts
 -- at most so many bits are left
 abbrev pub parts_left : List Part → Count
 parts_left parts = at_most (parts_size parts)
+
+-- ---- a text, compared
+
+-- whether these bytes are the UTF-8 of a text, if there is one
+abbrev pub is_utf8_of : List ℕ → Option (List ℕ) → Bool
+is_utf8_of bytes None = false
+is_utf8_of bytes (Some text) = is_same_text (encode_utf8_all text) bytes
+
+-- what follows a part in bytes, where they begin with its UTF-8
+abbrev pub TakesPart : Part → List ℕ → Option (Bor (List ℕ)) → Type 0
+TakesPart (Lit text) bytes result =
+    MatchOption result ((rest : List ℕ) → bytes ≢ encode_utf8_all text ++ rest)
+    (λ rest. bytes ≡ encode_utf8_all text ++ rest.now)
+TakesPart (Var name conv) bytes result = result ≡ None

@@ -1,22 +1,38 @@
 //! Good decks.
-ghost use Rattle.std.specs.Prelude.{◌≡◌, length, slice_get, IfOk, IfErr};
+ghost use Rattle.std.specs.Prelude.{◌≡◌, ◌≤◌, ◌-◌, length, slice_get, Ok, IfOk, IfErr};
+ghost use Rattle.wap_base.specs.Numbers.{mb_at};
+ghost use Rattle.wap_markup.specs.Writing.{document_of};
+ghost use Rattle.wap_spelling.specs.Spelling.{spelling};
 ghost use Rattle.wap_markup.specs.Cards.{cards_of, id_of, card_numbered};
-ghost use Rattle.wap_markup.specs.Trees.{node_with, is_text};
-ghost use Rattle.wap_good.specs.Lent.{item_of};
+ghost use Rattle.wap_markup.specs.Trees.{is_text};
 ghost use Rattle.wap_markup.specs.Good.{IsGood};
 ghost use Rattle.wap_markup.specs.Normal.{IsNormal};
 
-use crate::kids::Child;
+use crate::cards::{Place, card_places};
+use crate::laws::decks_are_read;
+use crate::notes::{Note, notes_from, notes_of};
+use crate::texts::tell_node;
 use crate::view::View;
 use std::alloc::Global;
 use std::marker::Model;
-use wap_base::{NoMemory, Text};
-use wap_markup::{AttrName, Deck, Tag};
+use wap_base::{Bytes, NoMemory, Rows, Text, read_mb};
+use wap_deck::document_of;
+use wap_markup::{AttrName, Deck, LEVEL_LIMIT};
+use wap_spelling::{decks_are_spellable, encode};
 
-/// A good deck (WAP-191, section 11). A contract sees the deck.
+/// A good deck (WAP-191, section 11), kept as the bytes that spell its document. A contract sees
+/// the deck.
 #[derive(Drop)]
 pub struct GoodDeck {
-    deck: Deck,
+    bytes: Bytes,
+    /// Where the string table begins.
+    table: usize,
+    /// Where the root begins, behind the table.
+    root: usize,
+    /// Where each card begins.
+    cards: Rows<Place>,
+    /// Where long nodes end.
+    notes: Rows<Note>,
 }
 
 impl Model for GoodDeck {
@@ -28,28 +44,57 @@ impl Model for GoodDeck {
 
     ghost coded = { Prim.hlevel (codes, item.the_row.coded) };
 
-    ghost use Rattle.wap_markup.specs.Good.{IsGood};
-    ghost use Rattle.wap_markup.specs.Normal.{IsNormal};
+    ghost use Rattle.wap_good.specs.Held.{deck_in, IsKept};
 
-    ghost view = { λ good. good.deck };
+    ghost view = { λ good. deck_in good.table good.root good.bytes };
 
-    ghost invariant = { λ good. IsGood good.deck × IsNormal good.deck };
+    ghost invariant = { λ good. IsKept good.table good.root good.bytes good.cards good.notes };
 }
 
-/// The card that a child is, if it is one.
-fn card_in(child: Child<'_>) -> Option<View<'_>>
-    ensures { result ≡ node_with Tag.Card (item_of child.entry) }
+/// Where the string table and the root begin in a document in WML 1.3 and UTF-8. Other bytes are
+/// answered as `NoMemory`.
+fn places(bytes: &[u8]) -> Result<(usize, usize), NoMemory>
+    ensures table { IfOk result (λ at. at.0 ≤ at.1) }
+    ensures root { IfOk result (λ at. at.1 ≤ length bytes.now) }
+    ensures exact { IfOk result (λ at. mb_at bytes.now 3 ≡ Ok (at.1 - at.0, at.0)) }
 {
-    match child {
-        Child::Node(node) => {
-            if node.tag() == Tag::Card {
-                Some(node)
-            } else {
-                None
-            }
-        }
-        Child::Text(_) => None,
+    if bytes.len() < 3 {
+        return Err(NoMemory);
     }
+    let Ok((count, table)) = read_mb(bytes, 3) else {
+        return Err(NoMemory);
+    };
+    let Some(root) = table.checked_add(count as usize) else {
+        return Err(NoMemory);
+    };
+    if root > bytes.len() {
+        return Err(NoMemory);
+    }
+    Ok((table, root))
+}
+
+/// The deck as bytes.
+fn held(alloc: Global, deck: &Deck) -> Result<GoodDeck, NoMemory>
+    requires good { IsGood deck.now }
+    requires normal { IsNormal deck.now }
+    ensures { IfOk result (λ good. good ≡ deck.now) }
+{
+    tell_node(LEVEL_LIMIT, &deck.root);
+    decks_are_spellable();
+    decks_are_read();
+    let document = document_of(alloc, deck)?;
+    let bytes = encode(alloc, &document)?;
+    let whole = bytes.as_slice();
+    let (table, root) = places(whole)?;
+    let notes = notes_of(alloc, whole, root)?;
+    let cards = card_places(alloc, table, root, whole, notes.as_slice())?;
+    Ok(GoodDeck {
+        bytes,
+        table,
+        root,
+        cards,
+        notes,
+    })
 }
 
 /// Whether a card has this id.
@@ -64,13 +109,23 @@ fn has_id(card: &View<'_>, id: &Text) -> bool
 
 impl GoodDeck {
     /// The deck, to be read through views. For want of memory it comes back.
-    pub fn new(_alloc: Global, deck: Deck) -> Result<GoodDeck, (Deck, NoMemory)>
+    pub fn new(alloc: Global, deck: Deck) -> Result<GoodDeck, (Deck, NoMemory)>
         requires good { IsGood deck }
         requires normal { IsNormal deck }
         ensures same { IfOk result (λ good. good ≡ deck) }
         ensures back { IfErr result (λ refused. refused.0 ≡ deck) }
     {
-        Ok(GoodDeck { deck })
+        match held(alloc, &deck) {
+            Ok(good) => Ok(good),
+            Err(want) => Err((deck, want)),
+        }
+    }
+
+    /// The bytes that spell the deck's document.
+    pub fn bytes(&self) -> &[u8]
+        ensures { result.now ≡ spelling (document_of self.now) }
+    {
+        self.bytes.as_slice()
     }
 
     /// The root, a node named wml.
@@ -79,33 +134,31 @@ impl GoodDeck {
         ensures good { IsGood self.now }
         ensures normal { IsNormal self.now }
     {
-        View::of(&self.deck.root)
+        let bytes = self.bytes.as_slice();
+        View::of(
+            &bytes[self.table..self.root],
+            LEVEL_LIMIT,
+            &bytes[self.root..],
+            self.notes.as_slice(),
+        )
     }
 
     /// How many cards there are.
     pub fn card_count(&self) -> usize
         ensures { result ≡ length (cards_of self.now) }
     {
-        let mut count = 0;
-        for child in self.root().kids() {
-            if card_in(child).is_some() {
-                count += 1;
-            }
-        }
-        count
+        self.cards.len()
     }
 
     /// The number, from 0, of the card with this id. An id with a reference to a variable is none.
     pub fn find_card(&self, id: &Text) -> Option<usize>
         ensures { result ≡ card_numbered id.now self.now }
     {
-        let mut number = 0;
-        for child in self.root().kids() {
-            if let Some(card) = card_in(child) {
+        for number in 0..self.card_count() {
+            if let Some(card) = self.card(number) {
                 if has_id(&card, id) {
                     return Some(number);
                 }
-                number += 1;
             }
         }
         None
@@ -115,15 +168,14 @@ impl GoodDeck {
     pub fn card(&self, number: usize) -> Option<View<'_>>
         ensures { result ≡ slice_get (cards_of self.now) number }
     {
-        let mut left = number;
-        for child in self.root().kids() {
-            if let Some(card) = card_in(child) {
-                if left == 0 {
-                    return Some(card);
-                }
-                left -= 1;
-            }
-        }
-        None
+        let place = *self.cards.get(number)?;
+        let bytes = self.bytes.as_slice();
+        let notes = notes_from(self.notes.as_slice(), place.note);
+        Some(View::of(
+            &bytes[self.table..self.root],
+            LEVEL_LIMIT - 1,
+            &bytes[place.begin..],
+            notes,
+        ))
     }
 }

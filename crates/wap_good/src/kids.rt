@@ -1,16 +1,22 @@
 //! The content of a node, child by child.
 ghost use Rattle.std.specs.Prelude.{◌≡◌};
-ghost use Rattle.wap_good.specs.Levels.{AreNormalItems};
+ghost use Rattle.wap_good.specs.Readers.{all_of};
+ghost use Rattle.wap_good.specs.Nodes.{item_at};
+ghost use Rattle.wap_good.specs.Notes.{AreLent};
 
+use crate::children::next_child;
+use crate::notes::{Note, notes_left};
 use crate::run::Run;
 use crate::view::View;
 use std::marker::Model;
-use wap_markup::Item;
 
 /// The content of a node. A contract sees the items that are still to come.
 #[derive(Drop)]
 pub struct Kids<'a> {
-    items: &'a [Item],
+    table: &'a [u8],
+    levels: u32,
+    bytes: &'a [u8],
+    notes: &'a [Note],
 }
 
 impl<'a> Model for Kids<'a> {
@@ -23,11 +29,13 @@ impl<'a> Model for Kids<'a> {
 
     ghost coded = { Prim.hlevel (codes, item.the_row.coded) };
 
-    ghost use Rattle.wap_good.specs.Levels.{AreNormalItems};
+    ghost use Rattle.wap_good.specs.Readers.{all_of};
+    ghost use Rattle.wap_good.specs.Nodes.{item_at};
+    ghost use Rattle.wap_good.specs.Notes.{AreLent};
 
-    ghost view = { λ kids. kids.items.now };
+    ghost view = { λ kids. (all_of (item_at kids.table.now kids.levels) kids.bytes.now).0 };
 
-    ghost invariant = { λ kids. AreNormalItems kids.items.now };
+    ghost invariant = { λ kids. AreLent kids.table.now kids.levels kids.bytes.now kids.notes.now };
 }
 
 /// A part of a node's content.
@@ -38,12 +46,17 @@ pub enum Child<'a> {
 }
 
 impl<'a> Kids<'a> {
-    /// The children that these items are.
-    pub(crate) fn of(items: &'a [Item]) -> Kids<'a>
-        requires { AreNormalItems items.now }
-        ensures { result ≡ items.now }
+    /// The children that bytes spell, nodes of so many levels at most.
+    pub(crate) fn of(table: &'a [u8], levels: u32, bytes: &'a [u8], notes: &'a [Note]) -> Kids<'a>
+        requires { AreLent table.now levels bytes.now notes.now }
+        ensures { result ≡ (all_of (item_at table.now levels) bytes.now).0 }
     {
-        Kids { items }
+        Kids {
+            table,
+            levels,
+            bytes,
+            notes,
+        }
     }
 }
 
@@ -58,11 +71,9 @@ impl<'a> Iterator for Kids<'a> {
     ghost remaining = { item_count (λ rest. rest) };
 
     fn next(&mut self) -> Option<Child<'a>> {
-        let (first, rest) = self.items.split_first()?;
-        self.items = rest;
-        match first {
-            Item::Text(parts) => Some(Child::Text(Run::of(parts.as_slice()))),
-            Item::Node(node) => Some(Child::Node(View::of(node))),
-        }
+        let (child, rest) = next_child(self.table, self.levels, self.bytes, self.notes)?;
+        self.bytes = rest;
+        self.notes = notes_left(self.notes, rest);
+        Some(child)
     }
 }

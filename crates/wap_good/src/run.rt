@@ -1,83 +1,115 @@
 //! Texts and values of attributes, read bit by bit.
-ghost use Rattle.std.specs.Prelude.{◌≡◌, ◌↔◌, IsTrue, []};
-ghost use Rattle.wap_markup.specs.Normal.{IsValue};
+ghost use Rattle.std.specs.Prelude.{◌≡◌, ◌↔◌, IsTrue, [], Some};
+ghost use Rattle.std.specs.Str.{chars};
 ghost use Rattle.wap_markup.specs.Trees.{plain_text, is_text};
-ghost use Rattle.wap_good.specs.Runs.{part_of};
+ghost use Rattle.wap_good.specs.Texts.{part_at, value_at};
+ghost use Rattle.wap_good.specs.Runs.{FindsBit, TakesPart, part_of};
 
+use crate::bits::{Bit, next_bit};
 use std::marker::Model;
-use wap_base::{Conv, Part, Text};
+use wap_base::Text;
 
 /// A text, or the value of an attribute. A contract sees the parts that are still to come,
 /// neighbouring literals joined.
 #[derive(Drop)]
 pub struct Run<'a> {
-    parts: &'a [Part],
+    /// What stands before the bytes; a value may begin with a text that has a code.
+    begun: &'a str,
+    bytes: &'a [u8],
 }
 
 impl<'a> Model for Run<'a> {
     ghost use Rattle.std.specs.Prelude.{List};
+    ghost use Rattle.std.specs.Str.{chars};
     ghost use Rattle.wap_base.specs.declared.name.Part.{Part};
-    ghost use Rattle.wap_markup.specs.Normal.{IsValue};
+    ghost use Rattle.wap_good.specs.Texts.{value_at};
 
     ghost Value = { List Part };
 
-    ghost view = { λ run. run.parts.now };
-
-    ghost invariant = { λ run. IsValue run.parts.now };
-}
-
-/// A bit of a text: some of its characters, at least one, or a reference to a variable.
-/// Neighbouring characters belong to one literal.
-#[derive(Clone, Copy, Debug)]
-pub enum Bit<'a> {
-    Slice(&'a str),
-    /// A character that no inline string can hold.
-    Char(char),
-    /// The name of a variable, and how it is written out.
-    Var(&'a str, Conv),
-}
-
-/// A whole part, as a bit.
-fn bit_of(part: &Part) -> Bit<'_>
-    ensures { part_of result ≡ part.now }
-{
-    match part {
-        Part::Lit(text) => Bit::Slice(text.as_str()),
-        Part::Var(name, conv) => Bit::Var(name.text().as_str(), *conv),
-    }
+    ghost view = { λ run. value_at (chars run.begun.now) run.bytes.now };
 }
 
 impl<'a> Run<'a> {
-    /// The run of a value.
-    pub(crate) fn of(parts: &'a [Part]) -> Run<'a>
-        requires { IsValue parts.now }
-        ensures { result ≡ parts.now }
+    /// The run of a text.
+    pub(crate) fn text(bytes: &'a [u8]) -> Run<'a>
+        ensures { result ≡ value_at [] bytes.now }
     {
-        Run { parts }
+        Run { begun: "", bytes }
+    }
+
+    /// The run of a text by its first bit and what follows that.
+    pub(crate) fn begun_by(bit: Bit<'a>, bytes: &'a [u8], rest: &'a [u8]) -> Run<'a>
+        requires { part_at bytes.now ≡ Some (part_of bit, rest.now) }
+        ensures { result ≡ value_at [] bytes.now }
+    {
+        match bit {
+            Bit::Slice(text) => Run::value(text, rest),
+            Bit::Char(_) | Bit::Var(_, _) => Run::text(bytes),
+        }
+    }
+
+    /// The run of a value that begins with a text.
+    pub(crate) fn value(begun: &'a str, bytes: &'a [u8]) -> Run<'a>
+        ensures { result ≡ value_at (chars begun.now) bytes.now }
+    {
+        Run { begun, bytes }
     }
 
     /// The same run once more.
     pub fn again(&self) -> Run<'a>
         ensures { result ≡ self.now }
     {
-        Run { parts: self.parts }
+        Run {
+            begun: self.begun,
+            bytes: self.bytes,
+        }
     }
 
     pub fn is_empty(&self) -> bool
         ensures { IsTrue result ↔ (self.now ≡ []) }
     {
-        self.parts.is_empty()
+        match first_bit(self.begun, self.bytes) {
+            Some(_) => false,
+            None => true,
+        }
     }
 
     /// Whether it is this text, without a reference.
     pub fn is_text(&self, text: &Text) -> bool
         ensures { result ≡ is_text text.now (plain_text self.now) }
     {
-        match self.parts {
-            [] => text.is_empty(),
-            [Part::Lit(own)] => own == text,
-            _ => false,
+        let mut left = text.as_str().as_bytes();
+        for bit in self.again() {
+            match behind(bit, left) {
+                Some(rest) => left = rest,
+                None => return false,
+            }
         }
+        left.is_empty()
+    }
+}
+
+/// The first bit of a value that begins with a text, and the bytes behind it.
+fn first_bit<'a>(begun: &'a str, bytes: &'a [u8]) -> Option<(Bit<'a>, &'a [u8])>
+    ensures { FindsBit (value_at (chars begun.now) bytes.now) result }
+{
+    if !begun.as_bytes().is_empty() {
+        return Some((Bit::Slice(begun), bytes));
+    }
+    next_bit(bytes)
+}
+
+/// What follows a bit in the UTF-8 of a text, where it begins with the bit's.
+fn behind<'a>(bit: Bit<'_>, text: &'a [u8]) -> Option<&'a [u8]>
+    ensures { TakesPart (part_of bit.entry) text.now result }
+{
+    match bit {
+        Bit::Slice(first) => text.strip_prefix(first.as_bytes()),
+        Bit::Char(first) => {
+            let mut bytes = [0; 4];
+            text.strip_prefix(first.encode_utf8(&mut bytes).as_bytes())
+        }
+        Bit::Var(_, _) => None,
     }
 }
 
@@ -91,8 +123,10 @@ impl<'a> Iterator for Run<'a> {
     ghost remaining = { parts_left };
 
     fn next(&mut self) -> Option<Bit<'a>> {
-        let (first, rest) = self.parts.split_first()?;
-        self.parts = rest;
-        Some(bit_of(first))
+        let begun = self.begun;
+        let bytes = self.bytes;
+        let (bit, rest) = first_bit(begun, bytes)?;
+        *self = Run::text(rest);
+        Some(bit)
     }
 }

@@ -1,18 +1,28 @@
 //! Nodes of a good deck.
 ghost use Rattle.std.specs.Prelude.{◌≡◌, ◌≤◌, length};
 ghost use Rattle.wap_markup.specs.Trees.{value_of};
-ghost use Rattle.wap_good.specs.Levels.{IsNormalNode};
+ghost use Rattle.wap_good.specs.Nodes.{front_node};
+ghost use Rattle.wap_good.specs.Notes.{IsLent};
 
+use crate::attrs::find_attr;
+use crate::front::first;
+use crate::head::{attrs_begin, kids_begin};
 use crate::kids::Kids;
+use crate::notes::{Note, notes_left};
 use crate::run::Run;
 use std::marker::Model;
-use wap_markup::{AttrName, Node, Tag};
+use wap_markup::{AttrName, Tag};
+use wap_tokens::tag_of;
 
 /// A node of a good deck. A contract sees that node. What it lends lives as long as the deck is
 /// lent.
 #[derive(Drop)]
 pub struct View<'a> {
-    node: &'a Node,
+    table: &'a [u8],
+    /// So many levels it has at most.
+    levels: u32,
+    bytes: &'a [u8],
+    notes: &'a [Note],
 }
 
 impl<'a> Model for View<'a> {
@@ -24,45 +34,55 @@ impl<'a> Model for View<'a> {
 
     ghost coded = { Prim.hlevel (codes, item.the_row.coded) };
 
-    ghost use Rattle.wap_good.specs.Levels.{IsNormalNode};
+    ghost use Rattle.wap_good.specs.Nodes.{front_node};
+    ghost use Rattle.wap_good.specs.Notes.{IsLent};
 
-    ghost view = { λ view. view.node.now };
+    ghost view = { λ view. front_node view.table.now view.levels view.bytes.now };
 
-    ghost invariant = { λ view. IsNormalNode view.node.now };
+    ghost invariant = { λ view. IsLent view.table.now view.levels view.bytes.now view.notes.now };
 }
 
 impl<'a> View<'a> {
-    /// The view of a node.
-    pub(crate) fn of(node: &'a Node) -> View<'a>
-        requires { IsNormalNode node.now }
-        ensures { result ≡ node.now }
+    /// The view of the node in front of bytes, of which the notes are true.
+    pub(crate) fn of(table: &'a [u8], levels: u32, bytes: &'a [u8], notes: &'a [Note]) -> View<'a>
+        requires { IsLent table.now levels bytes.now notes.now }
+        ensures { result ≡ front_node table.now levels bytes.now }
     {
-        View { node }
+        View {
+            table,
+            levels,
+            bytes,
+            notes,
+        }
     }
 
     /// The same view once more.
     pub fn again(&self) -> View<'a>
         ensures { result ≡ self.now }
     {
-        View { node: self.node }
+        View {
+            table: self.table,
+            levels: self.levels,
+            bytes: self.bytes,
+            notes: self.notes,
+        }
     }
 
     pub fn tag(&self) -> Tag
         ensures { result ≡ self.now.tag }
     {
-        self.node.tag
+        match first(self.bytes) {
+            Some((mark, _)) => tag_of(0, mark % 64).unwrap_or(Tag::Other),
+            None => Tag::Other,
+        }
     }
 
     /// The value of the first attribute of that name.
     pub fn attr(&self, name: AttrName) -> Option<Run<'a>>
         ensures { result ≡ value_of name self.now }
     {
-        for attr in self.node.attrs.as_slice() {
-            if attr.0 == name {
-                return Some(Run::of(attr.1.as_slice()));
-            }
-        }
-        None
+        let attrs = attrs_begin(self.bytes)?;
+        find_attr(self.table, name, attrs)
     }
 
     /// The content, in the order of the document.
@@ -70,8 +90,9 @@ impl<'a> View<'a> {
         ensures kids { result ≡ self.now.kids }
         ensures few { length self.now.kids ≤ usize.MAX }
     {
-        let items = self.node.kids.as_slice();
-        let _few = items.len();
-        Kids::of(items)
+        let bytes = kids_begin(self.bytes);
+        let _few = bytes.len();
+        let notes = notes_left(self.notes, bytes);
+        Kids::of(self.table, self.levels.saturating_sub(1), bytes, notes)
     }
 }

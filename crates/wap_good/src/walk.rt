@@ -5,8 +5,9 @@ ghost use Rattle.wap_markup.specs.Good.{nodes_in};
 ghost use Rattle.wap_markup.specs.Tables.{is_same_tag};
 ghost use Rattle.wap_good.specs.Runs.{is_reference};
 
+use crate::bits::Bit;
 use crate::kids::Child;
-use crate::run::{Bit, Run};
+use crate::run::Run;
 use crate::view::View;
 use wap_markup::Tag;
 

@@ -1,11 +1,12 @@
-use Rattle.std.proofs.Common.{arith, ap, sym, ◌∙◌}
-use Rattle.std.specs.Prelude.{is_some}
-use Rattle.wap_good.specs.Lent.{item_of}
-use Rattle.wap_good.proofs.Cards.{count_fits}
+use Rattle.std.proofs.Common.{◌∙◌, ap, length}
+use Rattle.wap_markup.specs.declared.deck.Deck.{Deck}
+use Rattle.wap_markup.specs.Cards.{cards_of}
+use Rattle.wap_good.specs.Held.{table_in, deck_in}
+use Rattle.wap_good.proofs.CardLaw.{length-places}
 use Rattle.wap_good.proofs.good.GoodDeck.card_count.Goals as goal
 
-pub overflow_add-count : goal.overflow_add-count
-overflow_add-count c =
-    let some = ap is_some (sym c.card_in.ensures) ∙ sym c.is_some.ensures ∙ c.if-is_some.true in
-    let fits = count_fits c.args.self.now c.root.result c.loop-child.count c.loop-child.child-iterator (item_of c.in-Some.child) c.next.new.self c.root.ensures.root c.kids-child-items.ensures.few c.loop-child.invariant c.in-Some.ensures.steps some in
-    omega arith
+pub returns : goal.returns
+returns c =
+    let table = table_in c.self.inside.table c.self.inside.root c.self.inside.bytes in
+    let deck = deck_in c.self.inside.table c.self.inside.root c.self.inside.bytes in
+    c.len.ensures ∙ length-places table c.self.inside.bytes c.self.inside.cards (cards_of deck) c.self.invariant.placed ∙ ap (λ (d : Deck). length (cards_of d)) c.self.view_is

@@ -1,18 +1,22 @@
-use Rattle.std.proofs.Common.{arith, ap, sym}
-use Rattle.std.specs.Prelude.{is_some}
-use Rattle.wap_good.specs.Lent.{item_of}
-use Rattle.wap_good.proofs.Cards.{count_fits, found_here, found_nowhere}
+use Rattle.std.proofs.Common.{◌∙◌, ◌≤◌, sym, length, arith}
+use Rattle.std.proofs.lemmas.Option.{slice_get_within}
+use Rattle.wap_markup.specs.Cards.{cards_of}
+use Rattle.wap_good.proofs.CardLaw.{found_here, found_behind, no_card_behind, found_nowhere}
 use Rattle.wap_good.proofs.good.GoodDeck.find_card.Goals as goal
+use Rattle.wap_good.proofs.good.GoodDeck.find_card.Goals.{in-Some+else-has_id, in_default}
 
 pub returns-then-has_id : goal.returns-then-has_id
 returns-then-has_id c =
-    found_here c.args.self.now c.args.id.now c.loop-child.number c.loop-child.child-iterator (item_of c.in-Some.child) c.next.new.self c.in-Some-card_in.card c.loop-child.invariant.left c.in-Some.ensures.steps c.in-Some-card_in.ensures (sym c.if-has_id.ensures)
+    found_here c.args.self.now c.args.id.now c.loop-number.number c.in-Some.card c.loop-number.invariant c.in-Some.ensures (sym c.has_id.ensures ∙ c.if-has_id.true)
 
-pub overflow_add-number : goal.overflow_add-number
-overflow_add-number c =
-    let some = ap is_some (sym c.in-Some-card_in.ensures) in
-    let fits = count_fits c.args.self.now c.root.result c.loop-child.number c.loop-child.child-iterator (item_of c.in-Some.child) c.next.new.self c.root.ensures.root c.kids-child-items.ensures.few c.loop-child.invariant.few c.in-Some.ensures.steps some in
-    omega arith
+pub loop-number-preserved : goal.loop-number-preserved
+loop-number-preserved c =
+    elim c.match-card.branch [
+      | in-Some+else-has_id w ↦ found_behind c.args.self.now c.args.id.now c.loop-number.number w.in-Some.card c.loop-number.invariant w.in-Some.ensures (sym w.has_id.ensures ∙ w.if-has_id.false)
+      | in_default w ↦ no_card_behind c.args.self.now c.args.id.now c.loop-number.number c.loop-number.invariant w.in_default.ensures
+    ]
 
 pub returns : goal.returns
-returns c = found_nowhere c.args.self.now c.args.id.now c.loop-child.number c.loop-child.child-iterator c.loop-child.invariant.left c.in-None.ensures.steps.0
+returns c =
+    let past : length (cards_of c.args.self.now) ≤ c.loop-number.number = omega (arith, c.card_count-number-end.ensures) in
+    found_nowhere c.args.self.now c.args.id.now c.loop-number.number c.loop-number.invariant past

@@ -1,25 +1,25 @@
-use Rattle.std.proofs.Common.{sym, subst, rules, ◌∙◌, ap, List}
+use Rattle.std.proofs.Common.{rules, ◌∙◌, sym, subst, List}
+use Rattle.std.specs.Str.{chars}
 use Rattle.wap_base.specs.declared.name.Part.{Part}
-use Rattle.wap_markup.specs.Normal.{IsValue}
-use Rattle.wap_good.specs.Runs.{IsFirstBit, parts_size}
-use Rattle.wap_good.proofs.Values.{value_rest, value_first, size_less}
+use Rattle.wap_good.specs.Texts.{value_at}
+use Rattle.wap_good.specs.Runs.{part_of, IsFirstBit}
+use Rattle.wap_good.proofs.Parted.{size_less}
 use Rattle.wap_good.proofs.run.RunIterator.next.Goals as goal
 
-pub invariant_of-self : goal.invariant_of-self
-invariant_of-self c = value_rest c.in_ok-first.first.now c.in_ok-first.rest.now (subst IsValue c.in_ok-first.ensures.cases.0 c.self.invariant)
+pub returns-in_err-bit-clause-steps : goal.returns-in_err-bit-clause-steps
+returns-in_err-bit-clause-steps c =
+    let none = sym c.self.view_is ∙ c.in_err-bit.ensures in
+    search rules
 
 pub returns-clause-steps : goal.returns-clause-steps
 returns-clause-steps c =
-    let whole = c.in_ok-first.ensures.cases.0 in
-    let same = sym whole ∙ c.self.view_is in
-    let first = value_first c.in_ok-first.first.now c.in_ok-first.rest.now (subst IsValue whole c.self.invariant) in
-    let Firsts : List Part → Type 0 = λ parts. IsFirstBit parts c.in_ok-first.first.now c.in_ok-first.rest.now in
-    let Bits : Part → Type 0 = λ part. IsFirstBit c.args.self.now part c.in_ok-first.rest.now in
-    subst Bits (sym c.bit_of.ensures) (subst Firsts same first)
+    let part = part_of c.in_ok-bit.bit in
+    let old = value_at (chars c.self.inside.begun.now) c.self.inside.bytes.now in
+    subst (λ (rest : List Part). IsFirstBit c.args.self.now part rest) (sym c.self-2.view_is)
+    (subst (λ (parts : List Part). IsFirstBit parts part c.text.result) c.self.view_is
+    (subst (λ (rest : List Part). IsFirstBit old part rest) (sym c.text.ensures) c.in_ok-bit.ensures))
 
 pub returns-clause-goes : goal.returns-clause-goes
 returns-clause-goes c =
-    let whole = c.in_ok-first.ensures.cases.0 in
-    let less = size_less c.in_ok-first.first.now c.in_ok-first.rest.now (subst IsValue whole c.self.invariant) in
-    let same = ap parts_size (sym whole ∙ c.self.view_is) in
+    let less = size_less c.args.self.now (part_of c.in_ok-bit.bit) _ (returns-clause-steps c) in
     search rules

@@ -1,0 +1,15 @@
+use Rattle.std.proofs.Common.{ℕ, List, length}
+use Rattle.wap_good.specs.Readers.{IsBehind}
+use Rattle.wap_good.specs.Nodes.{attr_at}
+use Rattle.wap_good.proofs.Ending.{Closes}
+use Rattle.wap_good.proofs.skip.after_attrs.Given as goal
+
+-- what is left has the end that all had
+abbrev pub invariant-loop-rest : goal.invariant-loop-rest
+invariant-loop-rest l = record {
+  exact : (table end : List ℕ) → Closes (attr_at table) l.bytes end → Closes (attr_at table) l.rest end;
+  behind : IsBehind l.rest l.bytes;
+}
+
+abbrev pub decreases-loop-rest : goal.decreases-loop-rest
+decreases-loop-rest l = length l.rest

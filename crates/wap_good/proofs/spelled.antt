@@ -1,0 +1,4 @@
+pub mod Tables
+pub mod Strings
+pub mod Growing
+pub mod Characters

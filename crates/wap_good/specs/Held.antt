@@ -1,0 +1,50 @@
+-- A deck as it is held: its bytes, and where in them the string table, the root and the cards begin. This project's own.
+use Rattle.std.specs.Prelude.{◌≡◌, ℕ, ◌-◌, ◌≤◌, List, [], ◌∷◌, Some, length, take, drop}
+use Rattle.wap_markup.specs.declared.document.TheConstants.{LEVEL_LIMIT}
+use Rattle.wap_markup.specs.declared.deck.Deck.{Deck}
+use Rattle.wap_markup.specs.declared.deck.Node.{Node}
+use Rattle.wap_markup.specs.Cards.{cards_of}
+use Rattle.wap_markup.specs.Good.{IsGood}
+use Rattle.wap_markup.specs.Normal.{IsNormal}
+use Rattle.wap_markup.specs.Writing.{document_of}
+use Rattle.wap_spelling.specs.Spelling.{spelling}
+use Rattle.wap_good.specs.declared.cards.Place.{Place}
+use Rattle.wap_good.specs.declared.notes.Note.{Note}
+use Rattle.wap_good.specs.Nodes.{node_at, front_node, IsRead}
+use Rattle.wap_good.specs.Notes.{AreNotes}
+
+abbrev pub table_in : ℕ → ℕ → List ℕ → List ℕ
+table_in table root bytes = take (root - table) (drop table bytes)
+
+unfoldable pub deck_in : ℕ → ℕ → List ℕ → Deck
+deck_in table root bytes =
+    record { root = front_node (table_in table root bytes) LEVEL_LIMIT (drop root bytes) }
+
+pub record IsHeld (table root : ℕ) (bytes : List ℕ) : Type 0 where
+  pub ordered : table ≤ root
+  pub within : root ≤ length bytes
+  pub read : IsRead (table_in table root bytes) LEVEL_LIMIT (drop root bytes)
+  pub spelled : bytes ≡ spelling (document_of (deck_in table root bytes))
+  pub good : IsGood (deck_in table root bytes)
+  pub normal : IsNormal (deck_in table root bytes)
+
+-- ---- cards
+
+-- a card stands at a place
+pub record StandsAt (table bytes : List ℕ) (place : ℕ) (card : Node) : Type 0 where
+  pub within : place ≤ length bytes
+  pub rest : List ℕ
+  pub read : node_at table (LEVEL_LIMIT - 1) (drop place bytes) ≡ Some (card, rest)
+
+-- each card stands at its place
+abbrev pub StandAt : List ℕ → List ℕ → List Place → List Node → Type 0
+StandAt table bytes [] [] = Unit {0}
+StandAt table bytes [] (card ∷ cards) = ⊥
+StandAt table bytes (place ∷ places) [] = ⊥
+StandAt table bytes (place ∷ places) (card ∷ cards) = StandsAt table bytes place.begin card × StandAt table bytes places cards
+
+-- a deck that is held, where its cards begin, and notes of its nodes
+pub record IsKept (table root : ℕ) (bytes : List ℕ) (cards : List Place) (notes : List Note) : Type 0 where
+  pub held : IsHeld table root bytes
+  pub noted : AreNotes bytes notes
+  pub placed : StandAt (table_in table root bytes) bytes cards (cards_of (deck_in table root bytes))

@@ -1,0 +1,130 @@
+//! Texts bit by bit, as their bytes stand in a deck.
+ghost use Rattle.std.specs.Prelude.{◌≡◌, true, false, None, MatchOption};
+ghost use Rattle.std.specs.Str.{is_utf8};
+ghost use Rattle.std.specs.Option.{option_map};
+ghost use Rattle.wap_good.specs.Readers.{Reads, IsBehind};
+ghost use Rattle.wap_good.specs.Texts.{string_part, name_part, string_at, reference_at, character_at, part_at, part_end, behind_value};
+ghost use Rattle.wap_good.specs.Runs.{part_of};
+
+use crate::front::{after_first, after_zero, ended, first};
+use std::str;
+use wap_base::{Conv, is_name};
+use wap_markup::{ENTITY, EXT_I_0, EXT_I_1, EXT_I_2, STR_I};
+
+/// A bit of a text: some of its characters, at least one, or a reference to a variable.
+/// Neighbouring characters belong to one literal.
+#[derive(Clone, Copy, Debug)]
+pub enum Bit<'a> {
+    Slice(&'a str),
+    /// A character that no inline string can hold.
+    Char(char),
+    /// The name of a variable, and how it is written out.
+    Var(&'a str, Conv),
+}
+
+/// The next bit of a text, and what follows it.
+#[tactic(auto, unfolding(crate::specs::Texts::part_at))]
+pub fn next_bit(bytes: &[u8]) -> Option<(Bit<'_>, &[u8])>
+    ensures { Reads (λ read. (part_of read.0, read.1.now)) result (part_at bytes.now) }
+{
+    let (mark, rest) = first(bytes)?;
+    match mark {
+        STR_I => next_string(rest),
+        ENTITY => next_character(rest),
+        EXT_I_0 => next_reference(Conv::Escape, rest),
+        EXT_I_1 => next_reference(Conv::Unescape, rest),
+        EXT_I_2 => next_reference(Conv::Plain, rest),
+        _ => None,
+    }
+}
+
+/// A string that has a character, and what follows it.
+#[tactic(auto, unfolding(crate::specs::Texts::string_at))]
+fn next_string(bytes: &[u8]) -> Option<(Bit<'_>, &[u8])>
+    ensures { Reads (λ read. (part_of read.0, read.1.now)) result (string_at bytes.now) }
+{
+    let (string, rest) = ended(bytes)?;
+    let bit = string_bit(string)?;
+    Some((bit, rest))
+}
+
+/// The text whose UTF-8 bytes are, if there is one.
+fn text_of(bytes: &[u8]) -> Option<&str>
+    ensures { MatchOption result (is_utf8 bytes.now ≡ false)
+        (λ text. (text.now ≡ bytes.now) × (is_utf8 bytes.now ≡ true)) }
+{
+    match str::from_utf8(bytes) {
+        Ok(text) => Some(text),
+        Err(_) => None,
+    }
+}
+
+/// The characters of a string.
+fn string_bit(bytes: &[u8]) -> Option<Bit<'_>>
+    ensures { option_map part_of result ≡ string_part bytes.now }
+{
+    let text = text_of(bytes)?;
+    if text.is_empty() {
+        return None;
+    }
+    Some(Bit::Slice(text))
+}
+
+/// A character by its number, and what follows it.
+#[tactic(auto, unfolding(crate::specs::Texts::character_at))]
+fn next_character(bytes: &[u8]) -> Option<(Bit<'_>, &[u8])>
+    ensures { Reads (λ read. (part_of read.0, read.1.now)) result (character_at bytes.now) }
+{
+    let (number, rest) = first(bytes)?;
+    if number < 128 {
+        Some((Bit::Char(char::from(number)), rest))
+    } else {
+        None
+    }
+}
+
+/// A reference to a variable, and what follows it.
+#[tactic(auto, unfolding(crate::specs::Texts::reference_at))]
+fn next_reference(conv: Conv, bytes: &[u8]) -> Option<(Bit<'_>, &[u8])>
+    ensures { Reads (λ read. (part_of read.0, read.1.now)) result (reference_at conv bytes.now) }
+{
+    let (string, rest) = ended(bytes)?;
+    let bit = name_bit(conv, string)?;
+    Some((bit, rest))
+}
+
+/// A reference to the variable of a name.
+fn name_bit(conv: Conv, bytes: &[u8]) -> Option<Bit<'_>>
+    ensures { option_map part_of result ≡ name_part conv bytes.now }
+{
+    let name = text_of(bytes)?;
+    if !is_name(bytes) {
+        return None;
+    }
+    Some(Bit::Var(name, conv))
+}
+
+/// What follows a bit of a text, as its mark tells it.
+#[tactic(auto, unfolding(crate::specs::Texts::part_end))]
+pub fn after_bit(bytes: &[u8]) -> Option<&[u8]>
+    ensures { Reads (λ rest. rest.now) result (part_end bytes.now) }
+{
+    let (mark, rest) = first(bytes)?;
+    match mark {
+        STR_I | EXT_I_0 | EXT_I_1 | EXT_I_2 => Some(after_zero(rest)),
+        ENTITY => Some(after_first(rest)),
+        _ => None,
+    }
+}
+
+/// What follows the bits of a text, where no mark of a bit follows them.
+pub fn after_bits(bytes: &[u8]) -> &[u8]
+    ensures exact { part_end (behind_value bytes.now) ≡ None → result.now ≡ behind_value bytes.now }
+    ensures behind { IsBehind result.now bytes.now }
+{
+    let mut rest = bytes;
+    while let Some(behind) = after_bit(rest) {
+        rest = behind;
+    }
+    rest
+}

@@ -1,0 +1,39 @@
+//! Children of nodes, as their bytes stand in a deck.
+ghost use Rattle.std.specs.Prelude.{◌≡◌, IfSome, drop};
+ghost use Rattle.wap_good.specs.Lent.{child_seen};
+ghost use Rattle.wap_good.specs.Readers.{Reads, IsBehind};
+ghost use Rattle.wap_good.specs.Nodes.{item_at};
+ghost use Rattle.wap_good.specs.Notes.{AreLent};
+
+use crate::bits::{after_bits, next_bit};
+use crate::front::is_end;
+use crate::kids::Child;
+use crate::notes::{Note, after_noted};
+use crate::run::Run;
+use crate::view::View;
+
+/// The next child, and what follows it.
+pub fn next_child<'a>(
+    table: &'a [u8],
+    levels: u32,
+    bytes: &'a [u8],
+    notes: &'a [Note],
+) -> Option<(Child<'a>, &'a [u8])>
+    requires { AreLent table.now levels bytes.now notes.now }
+    ensures exact { Reads child_seen result (item_at table.now levels bytes.now) }
+    ensures behind { IfSome result (λ read. IsBehind read.1.now (drop 1 bytes.now)) }
+{
+    if is_end(bytes) {
+        return None;
+    }
+    match next_bit(bytes) {
+        Some((bit, rest)) => {
+            let run = Run::begun_by(bit, bytes, rest);
+            Some((Child::Text(run), after_bits(rest)))
+        }
+        None => {
+            let rest = after_noted(levels, notes, bytes);
+            Some((Child::Node(View::of(table, levels, bytes, notes)), rest))
+        }
+    }
+}

@@ -1,0 +1,96 @@
+//! What stands in front of bytes.
+ghost use Rattle.std.specs.Prelude.{◌≡◌, ◌≤◌, length, drop};
+ghost use Rattle.wap_markup.specs.Strings.{string_from};
+ghost use Rattle.wap_good.specs.Readers.{Reads, first_at, after, number_at, zero_place, ended_at, behind_zero, is_end};
+
+use memchr::memchr;
+use wap_base::read_mb;
+use wap_markup::END;
+
+/// The first byte, and those behind it.
+pub fn first(bytes: &[u8]) -> Option<(u8, &[u8])>
+    ensures { Reads (λ read. (read.0, read.1.now)) result (first_at bytes.now) }
+{
+    match bytes {
+        [first, rest @ ..] => Some((*first, rest)),
+        [] => None,
+    }
+}
+
+/// What follows a byte that has to stand there.
+pub fn after(byte: u8, bytes: &[u8]) -> Option<&[u8]>
+    ensures { Reads (λ rest. rest.now) result (after byte bytes.now) }
+{
+    let (found, rest) = first(bytes)?;
+    if found == byte { Some(rest) } else { None }
+}
+
+/// A number, and the bytes behind it.
+#[tactic(auto, unfolding(crate::specs::Readers::number_at))]
+pub fn number(bytes: &[u8]) -> Option<(u32, &[u8])>
+    ensures { Reads (λ read. (read.0, read.1.now)) result (number_at bytes.now) }
+{
+    match read_mb(bytes, 0) {
+        Ok((number, next)) => Some((number, &bytes[next..])),
+        Err(_) => None,
+    }
+}
+
+/// The bytes up to the first 0, and those behind it.
+#[tactic(auto, unfolding(crate::specs::Readers::ended_at))]
+pub fn ended(bytes: &[u8]) -> Option<(&[u8], &[u8])>
+    ensures { Reads (λ read. (read.0.now, read.1.now)) result (ended_at bytes.now) }
+{
+    let (string, end) = bytes.split_at(zero_place(bytes));
+    let rest = after(0, end)?;
+    Some((string, rest))
+}
+
+/// What follows the first 0; nothing where there is none.
+pub fn after_zero(bytes: &[u8]) -> &[u8]
+    ensures { result.now ≡ behind_zero bytes.now }
+{
+    let (_, end) = bytes.split_at(zero_place(bytes));
+    after_first(end)
+}
+
+/// What follows the first byte; nothing where there is none.
+pub fn after_first(bytes: &[u8]) -> &[u8]
+    ensures { result.now ≡ drop 1 bytes.now }
+{
+    match bytes {
+        [_, rest @ ..] => rest,
+        [] => &[],
+    }
+}
+
+/// Whether nothing follows, or an end.
+pub fn is_end(bytes: &[u8]) -> bool
+    ensures { result ≡ is_end bytes.now }
+{
+    match bytes {
+        [first, ..] => *first == END,
+        [] => true,
+    }
+}
+
+/// The string of a table from an index on.
+pub fn string_from(table: &[u8], index: usize) -> &[u8]
+    ensures { result.now ≡ string_from table.now index }
+{
+    let Some(string) = table.get(index..) else {
+        return &[];
+    };
+    &string[..zero_place(string)]
+}
+
+/// How many bytes stand before the first 0.
+fn zero_place(bytes: &[u8]) -> usize
+    ensures place { result ≡ zero_place bytes.now }
+    ensures within { result ≤ length bytes.now }
+{
+    match memchr(0, bytes) {
+        Some(at) => at,
+        None => bytes.len(),
+    }
+}

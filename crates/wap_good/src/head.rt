@@ -1,0 +1,53 @@
+//! What a node begins with, and where its parts begin.
+ghost use Rattle.std.specs.Prelude.{◌≡◌};
+ghost use Rattle.std.specs.Option.{option_map};
+ghost use Rattle.wap_markup.specs.Codes.{has_attributes, has_content};
+ghost use Rattle.wap_good.specs.Readers.{Reads, IsBehind};
+ghost use Rattle.wap_good.specs.Nodes.{attrs_begin, IsContent};
+
+use crate::front::first;
+use crate::skip::after_head;
+
+/// Whether attributes follow a tag.
+pub fn has_attributes(tag: u8) -> bool
+    ensures { result ≡ has_attributes tag }
+{
+    tag >= 128
+}
+
+/// Whether content follows a tag.
+pub fn has_content(tag: u8) -> bool
+    ensures { result ≡ has_content tag }
+{
+    tag % 128 >= 64
+}
+
+/// The attributes of the node in front.
+#[tactic(auto, unfolding(crate::specs::Nodes::attrs_begin))]
+pub fn attrs_begin(bytes: &[u8]) -> Option<&[u8]>
+    ensures { Reads (λ rest. rest.now) result (attrs_begin bytes.now) }
+{
+    let (mark, rest) = first(bytes)?;
+    if has_attributes(mark) {
+        Some(rest)
+    } else {
+        Some(&[])
+    }
+}
+
+/// The content of the node in front, and what follows it.
+pub fn kids_begin(bytes: &[u8]) -> &[u8]
+    ensures exact { IsContent bytes.now result.now }
+    ensures behind { IsBehind result.now bytes.now }
+{
+    match first(bytes) {
+        Some((mark, rest)) => {
+            if has_content(mark) {
+                after_head(mark, rest)
+            } else {
+                &[]
+            }
+        }
+        None => &[],
+    }
+}

@@ -1,0 +1,21 @@
+//! What the bytes of a deck promise.
+ghost use Rattle.std.specs.Prelude.{◌≡◌, ◌≤◌, ◌-◌, ℕ, List, Ok, length};
+ghost use Rattle.wap_base.specs.Numbers.{mb_at};
+ghost use Rattle.wap_markup.specs.declared.deck.Deck.{Deck};
+ghost use Rattle.wap_markup.specs.declared.document.TheConstants.{LEVEL_LIMIT};
+ghost use Rattle.wap_markup.specs.Good.{IsGood};
+ghost use Rattle.wap_markup.specs.Normal.{IsNormal};
+ghost use Rattle.wap_markup.specs.Writing.{document_of};
+ghost use Rattle.wap_spelling.specs.Spelling.{spelling};
+ghost use Rattle.wap_spelling.specs.Spellable.{IsSpellable};
+ghost use Rattle.wap_good.specs.Characters.{OfNode};
+ghost use Rattle.wap_good.specs.Held.{IsHeld, deck_in};
+
+/// A deck is read from the bytes that spell its document. The function does nothing.
+pub fn decks_are_read()
+    ensures { (deck : Deck) (bytes : List ℕ) (table root : ℕ) → IsGood deck → IsNormal deck
+        → OfNode LEVEL_LIMIT deck.root → IsSpellable (document_of deck)
+        → bytes ≡ spelling (document_of deck) → mb_at bytes 3 ≡ Ok (root - table, table)
+        → table ≤ root → root ≤ length bytes
+        → IsHeld table root bytes × (deck_in table root bytes ≡ deck) }
+{}
