@@ -84,6 +84,6 @@ pub record Browses (begun : Begun) (old new : Outside) (status : Status) : Type 
   pub stays : Stays old.pages new.pages
   pub read_counts : old.read_faults ≤ new.read_faults
   pub write_counts : old.write_faults ≤ new.write_faults
-  -- no more bytes of keys are taken than one too many, and after its end the source isn't read
+  -- no more bytes of keys are taken than one too many, and the source reports its end once at most
   pub few : TakesAtMost (KEYS_LIMIT + 1) old.left new.left
   pub end_once : AtMostOnce old.ends new.ends

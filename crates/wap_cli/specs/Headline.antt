@@ -31,7 +31,7 @@ pub record Serves (command : PageCommand) (name : List ℕ) (old new : Devices) 
   pub store_fault : status ≡ StoreFault → Rose old.store_faults new.store_faults
   pub write_fault : status ≡ WriteFault → Rose old.write_faults new.write_faults
   pub unwritten : status ≡ StoreFault → new.written ≡ old.written
-  -- and no fault is passed over
+  -- no fault of the store is passed over on Done, and none of the sink but on WriteFault
   pub store_steady : status ≡ Done → new.store_faults ≡ old.store_faults
   pub write_steady : status ≢ WriteFault → new.write_faults ≡ old.write_faults
   -- one page is asked for, or none where memory ran out, and no names

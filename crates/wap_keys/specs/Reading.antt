@@ -60,7 +60,7 @@ GivesUp before after old =
 abbrev pub ends_told : Reading → ℕ → ℕ
 ends_told reader ends = if reader.over then raised ends else ends
 
--- after its end it isn't read again
+-- its end isn't reported again
 abbrev pub KeepsEnds : Reading → Reading → ℕ → ℕ → Type 0
 KeepsEnds old new before after = (ends : ℕ) → before ≡ ends_told old ends → after ≡ ends_told new ends
 

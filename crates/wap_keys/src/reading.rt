@@ -28,7 +28,7 @@ pub fn read_keys<I: Source>(alloc: Global, source: &mut I) -> Result<(Vec<Key>, 
     ensures steady { IfOk result (λ read. read.1 ≢ ReadFault → I.faults source.new
         ≡ I.faults source.old) }
     ensures faults { I.faults source.old ≤ I.faults source.new }
-    // After its end the source isn't read again.
+    // The source reports its end once at most.
     ensures ends { AtMostOnce (I.ends source.old) (I.ends source.new) }
 {
     let mut reader = Reader::new(alloc);

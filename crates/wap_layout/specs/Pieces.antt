@@ -49,8 +49,7 @@ text_of (Wrap ∷ flow) = text_of flow
 text_of (NoWrap ∷ flow) = text_of flow
 text_of (Pre ∷ flow) = text_of flow
 
--- The same flow with neighbouring texts as one, and no empty text: what a flow says whichever way
--- its texts are cut.
+-- a text before a flow, joined to the text that the flow begins with
 abbrev pub text_before : List ℕ → List Flow → List Flow
 text_before [] flow = flow
 text_before (c ∷ text) [] = Words (c ∷ text) ∷ []
@@ -61,6 +60,8 @@ text_before (c ∷ text) (Wrap ∷ flow) = Words (c ∷ text) ∷ Wrap ∷ flow
 text_before (c ∷ text) (NoWrap ∷ flow) = Words (c ∷ text) ∷ NoWrap ∷ flow
 text_before (c ∷ text) (Pre ∷ flow) = Words (c ∷ text) ∷ Pre ∷ flow
 
+-- The same flow with neighbouring texts as one, and no empty text: what a flow says whichever way
+-- its texts are cut.
 abbrev pub merged : List Flow → List Flow
 merged [] = []
 merged (Words text ∷ flow) = text_before text (merged flow)

@@ -20,7 +20,7 @@ pub struct Work {
     pub room: u32,
 }
 
-/// The greatest number of values of a function whose code is split.
+/// As many values as a function has at most whose code is split.
 pub fn greatest_depth(
     alloc: Global,
     unit: &Unit,

@@ -25,7 +25,7 @@ pub struct Verified {
     unit: Unit,
     /// The texts of coded strings, each at its constant's index.
     texts: Rows<Option<Text>>,
-    /// The greatest number of values of each function.
+    /// As many values as each function has at most.
     rooms: Rows<u32>,
 }
 
