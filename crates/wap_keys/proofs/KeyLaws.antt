@@ -21,7 +21,7 @@ short_key : (line : List ℕ) → length line ≤ LINE_LIMIT → key_at line ≡
 unfolding key_at
 short_key line short = ap (λ (b : Bool). cond b (Err TooLong) (cond (is_utf8 line) (said line) (Err NotText))) (le-ltb LINE_LIMIT (length line) short)
 
-no_text : (line : List ℕ) (b : Bool) → is_utf8 line ≡ b → ¬ (IsUtf8 line) → b ≡ false
+pub no_text : (line : List ℕ) (b : Bool) → is_utf8 line ≡ b → ¬ (IsUtf8 line) → b ≡ false
 no_text line true is none = absurd (none (IsUtf8-from_is_utf8 line is))
 no_text line false is none = refl
 

@@ -8,3 +8,4 @@ mod ReaderSteps
 pub mod WholeLaws
 pub mod EndLaws
 mod SpellLaws
+mod WordLaws

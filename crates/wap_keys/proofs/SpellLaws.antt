@@ -216,12 +216,12 @@ passes : (p : Word → Bool) (vs : List Word) (w : Word) → find p vs ≡ Some 
 passes p [] w found = absurd (no_word w found)
 passes p (v ∷ vs) w found = passes_by p v vs w (p v) refl found (passes p vs w)
 
-name_is : (front : List ℕ) (w : Word) → word_named front ≡ Some w → front ≡ name_of w
+pub name_is : (front : List ℕ) (w : Word) → word_named front ≡ Some w → front ≡ name_of w
 name_is front w found = (bytes_decides front (name_of w)).0 (passes (λ (w : Word). is_same_text front (name_of w)) words w found)
 
 -- ---- lines
 
-word_reads : (line : List ℕ) (w : Word) (rest : Option (List ℕ)) → line ≡ spaced (name_of w) rest → key_of_word (word_named (front_of line)) (rest_of line) ≡ key_by (form_of w) rest
+pub word_reads : (line : List ℕ) (w : Word) (rest : Option (List ℕ)) → line ≡ spaced (name_of w) rest → key_of_word (word_named (front_of line)) (rest_of line) ≡ key_by (form_of w) rest
 word_reads line w rest is =
     ap (λ (l : List ℕ). key_of_word (word_named (front_of l)) (rest_of l)) is
     ∙ ap (λ (l : List ℕ). key_of_word (word_named l) (rest_of (spaced (name_of w) rest))) (front_spaced (name_of w) rest (unspaced w))

@@ -1,15 +1,18 @@
 //! Reading a key from its line.
-ghost use Rattle.std.specs.Prelude.{◌≡◌, ◌≢◌, ◌≤◌, Ok, Err, IfOk, IfErr};
+ghost use Rattle.std.specs.Prelude.{◌≡◌, ◌≢◌, ◌<◌, ◌≤◌, ◌+◌, ◌++◌, ◌∷◌, length, take, drop};
+ghost use Rattle.std.specs.Prelude.{Ok, Err, IfOk, IfErr, IfSome, IfNone};
 ghost use Rattle.std.specs.Option.{option_map};
+ghost use Rattle.wap_base.specs.Ascii.{space};
 ghost use Rattle.wap_base.specs.Outcome.{Meets};
 ghost use Rattle.wap_input.specs.declared.key.Key.{Key};
 ghost use Rattle.wap_keys.specs.declared.fault.KeyFault.{KeyFault};
 ghost use Rattle.wap_keys.specs.declared.fault.KeyFault.TheVariants.{NoMemory};
 ghost use Rattle.wap_keys.specs.declared.word.Word.TheVariants as word;
-ghost use Rattle.wap_keys.specs.Forms.{front_of, rest_of, word_named, form_of, text_at};
+ghost use Rattle.wap_keys.specs.Forms.{front_of, rest_of, form_of, text_at};
 ghost use Rattle.wap_keys.specs.Forms.{text_or_none_at, nothing_at, number_in, number_at};
-ghost use Rattle.wap_keys.specs.Forms.{ReadsNumber, greatest_u16, key_by, key_of_word, key_at};
-ghost use Rattle.wap_keys.specs.Spelling.{IsKeyLine, IsNoKeyLine};
+ghost use Rattle.wap_keys.specs.Forms.{ReadsNumber, greatest_u16, key_by, key_at};
+ghost use Rattle.wap_keys.specs.Spelling.{spaced, HasNoSpace, IsKeyLine, IsNoKeyLine};
+ghost use Rattle.wap_keys.specs.inside.Wording.{IsRestText, key_of_rest, unknown_fault};
 
 use crate::decimal::decimal_of;
 use crate::word::Word;
@@ -145,28 +148,78 @@ fn read_tick(rest: Option<&str>) -> Result<Key, KeyFault>
     read_nothing(Key::Tick(count), rest)
 }
 
-/// The key of a text.
-fn read_words(alloc: Global, text: &str) -> Result<Key, KeyFault>
-    ensures { Meets NoMemory (λ key. key) result (key_of_word (word_named (front_of text.now))
-        (rest_of text.now)) }
+/// Where the first space stands.
+fn space_at(bytes: &[u8]) -> Option<usize>
+    ensures none { IfNone result (HasNoSpace bytes.now) }
+    ensures within { IfSome result (λ place. place < length bytes.now) }
+    ensures some { IfSome result (λ place. HasNoSpace (take place bytes.now)) }
+    ensures here { IfSome result (λ place. bytes.now ≡ take place bytes.now ++ space
+        ∷ drop (place + 1) bytes.now) }
 {
-    let (front, rest) = split(text);
-    match Word::named(front.as_bytes()) {
-        Some(word) => read_form(alloc, word, rest),
-        None => Err(KeyFault::UnknownWord),
+    for (place, byte) in bytes.iter().enumerate() {
+        if *byte == b' ' {
+            return Some(place);
+        }
+    }
+    None
+}
+
+/// The word of a line, and what follows it behind a space.
+fn split_word(line: &[u8]) -> (&[u8], Option<&[u8]>)
+    ensures is { line.now ≡ spaced result.0.now (option_map (λ rest. rest.now) result.1) }
+    ensures word { HasNoSpace result.0.now }
+{
+    match space_at(line) {
+        Some(place) => (line.split_at(place).0, Some(line.split_at(place + 1).1)),
+        None => (line, None),
     }
 }
 
-/// The key of a line.
+/// What follows a word, as text.
+fn rest_text(rest: Option<&[u8]>) -> Result<Option<&str>, KeyFault>
+    ensures { IsRestText (option_map (λ rest. rest.now) rest.entry) result }
+{
+    let Some(bytes) = rest else {
+        return Ok(None);
+    };
+    match str::from_utf8(bytes) {
+        Ok(text) => Ok(Some(text)),
+        Err(_) => Err(KeyFault::NotText),
+    }
+}
+
+/// The key of a word and what follows it.
+fn read_rest(alloc: Global, word: Word, rest: Option<&[u8]>) -> Result<Key, KeyFault>
+    ensures { Meets NoMemory (λ key. key) result (key_of_rest word
+        (option_map (λ rest. rest.now) rest.entry)) }
+{
+    match rest_text(rest) {
+        Ok(text) => read_form(alloc, word, text),
+        Err(fault) => Err(fault),
+    }
+}
+
+/// Why a line is no key line that begins with no word of a form.
+fn unknown_fault(line: &[u8]) -> KeyFault
+    ensures { result ≡ unknown_fault line.now }
+{
+    match str::from_utf8(line) {
+        Ok(_) => KeyFault::UnknownWord,
+        Err(_) => KeyFault::NotText,
+    }
+}
+
+/// The key of a line. Only what follows its word is looked at as UTF-8, where it has one.
 fn read_line(alloc: Global, line: &[u8]) -> Result<Key, KeyFault>
     ensures { Meets NoMemory (λ key. key) result (key_at line.now) }
 {
     if line.len() > LINE_LIMIT {
         return Err(KeyFault::TooLong);
     }
-    match str::from_utf8(line) {
-        Ok(text) => read_words(alloc, text),
-        Err(_) => Err(KeyFault::NotText),
+    let (front, rest) = split_word(line);
+    match Word::named(front) {
+        Some(word) => read_rest(alloc, word, rest),
+        None => Err(unknown_fault(line)),
     }
 }
 

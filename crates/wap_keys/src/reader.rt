@@ -47,6 +47,8 @@ pub struct Reader {
     /// The last piece; what stands in it from the place `at` on isn't read yet.
     piece: Vec<u8>,
     at: usize,
+    /// What is read at a time.
+    buffer: [u8; PIECE_LIMIT],
     /// The number of the line that is begun.
     number: u32,
     /// How many bytes were taken.
@@ -105,6 +107,7 @@ impl Reader {
             line: Vec::new(alloc),
             piece: Vec::new(alloc),
             at: 0,
+            buffer: [0; PIECE_LIMIT],
             number: 1,
             count: 0,
             over: false,
@@ -164,10 +167,9 @@ impl Reader {
         ensures ends { IfOk result (λ more. I.ends source.new ≡ ends_by (I.ends source.old) more) }
         ensures lost_ends { OnErr result (I.ends source.new ≡ I.ends source.old) }
     {
-        let mut buffer = [0; PIECE_LIMIT];
         let left = KEYS_LIMIT - self.count;
         let room = if left == 0 { 1 } else { PIECE_LIMIT.min(left) };
-        let Ok(count) = read_front(source, &mut buffer, room) else {
+        let Ok(count) = read_front(source, &mut self.buffer, room) else {
             return Ok(More::Failed);
         };
         if count == 0 {
@@ -177,7 +179,7 @@ impl Reader {
         if left == 0 {
             return Ok(More::Past);
         }
-        self.piece.extend_from_slice(buffer.split_at(count).0)?;
+        self.piece.extend_from_slice(self.buffer.split_at(count).0)?;
         self.count += count;
         Ok(More::Piece)
     }
