@@ -6,3 +6,4 @@ pub mod Distinctness
 pub mod Soundness
 pub mod GoodDecks
 pub mod Completeness
+pub mod Ascending

@@ -4,8 +4,16 @@ ghost use Rattle.wap_markup.specs.declared.deck.Deck.{Deck};
 ghost use Rattle.wap_markup.specs.Good.{IsGood};
 ghost use Rattle.wap_markup.specs.Normal.{IsNormal};
 ghost use Rattle.wap_deckcheck.specs.Faults.{faults};
+ghost use Rattle.wap_deckcheck.specs.Order.{FaultsAscend};
 
 /// Good decks are those without faults.
 pub fn good_is_faultless()
     ensures { (deck : Deck) → IsNormal deck → IsGood deck ↔ (faults deck ≡ []) }
+{}
+
+/// The faults of a deck come in the order of the document: at a node before those in it, and at
+/// a child before those at the children behind it.
+#[tactic(auto, using(crate::proofs::Ascending::faults_ascend))]
+pub fn faults_ascend()
+    ensures { (deck : Deck) → FaultsAscend deck }
 {}

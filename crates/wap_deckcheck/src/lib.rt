@@ -11,4 +11,4 @@ mod walk;
 
 pub use fault::DeckFault;
 pub use judge::check;
-pub use laws::good_is_faultless;
+pub use laws::{faults_ascend, good_is_faultless};

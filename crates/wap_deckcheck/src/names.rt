@@ -1,5 +1,7 @@
 //! Ids and names that are taken.
-ghost use Rattle.std.specs.Prelude.{◌≡◌, ◌++◌, [], false, IfOk};
+ghost use Rattle.std.specs.Prelude.{◌≡◌, ◌++◌, ◌↔◌, [], false, IsTrue, IfOk};
+ghost use Rattle.std.specs.List.{list_any};
+ghost use Rattle.wap_base.specs.Texts.{is_same_text};
 ghost use Rattle.std.specs.Option.{option_to_list, option_copied};
 ghost use Rattle.wap_markup.specs.Good.{name_of_do};
 ghost use Rattle.wap_markup.specs.Trees.{value_of, plain_text, plain_value};
@@ -15,15 +17,17 @@ use wap_markup::{AttrName, Node, Tag};
 /// Texts, each of which stands once, in the order in which they came.
 #[derive(Drop)]
 pub struct Names {
-    texts: IndexSet<Text>,
+    first: Option<Text>,
+    others: IndexSet<Text>,
 }
 
 impl Model for Names {
-    ghost use Rattle.std.specs.Prelude.{List, ℕ};
+    ghost use Rattle.std.specs.Prelude.{List, ℕ, ◌++◌};
+    ghost use Rattle.std.specs.Option.{option_to_list};
 
     ghost Value = { List (List ℕ) };
 
-    ghost view = { λ names. names.texts.keys };
+    ghost view = { λ names. option_to_list names.first ++ names.others.keys };
 }
 
 impl Names {
@@ -31,8 +35,16 @@ impl Names {
         ensures { result ≡ [] }
     {
         Names {
-            texts: IndexSet::new(alloc),
+            first: None,
+            others: IndexSet::new(alloc),
         }
+    }
+
+    /// Whether there is no text.
+    fn is_empty(&self) -> bool
+        ensures { IsTrue result ↔ (self.now ≡ []) }
+    {
+        self.first.is_none() && self.others.is_empty()
     }
 
     /// Adds a text, if there is one. Whether it is taken already, in which case none is added.
@@ -44,10 +56,27 @@ impl Names {
         let Some(text) = text else {
             return Ok(false);
         };
-        match self.texts.insert(text) {
+        if self.is_empty() {
+            self.first = Some(text);
+            return Ok(false);
+        }
+        if is_this(&self.first, &text) {
+            return Ok(true);
+        }
+        match self.others.insert(text) {
             Ok(added) => Ok(!added),
             Err(_) => Err(NoMemory),
         }
+    }
+}
+
+/// Whether there is a text, and another is the same.
+fn is_this(one: &Option<Text>, other: &Text) -> bool
+    ensures { result ≡ list_any (is_same_text other.now) (option_to_list one.now) }
+{
+    match one {
+        Some(one) => other == one,
+        None => false,
     }
 }
 

@@ -17,6 +17,7 @@ use crate::forms::{has_forms, has_twice};
 use crate::names::{Names, own_id, own_name};
 use crate::rules::{Rule, has_needs, holds_dos};
 use std::alloc::Global;
+use std::mem::replace;
 use wap_base::{Rows, Text};
 use wap_markup::{Deck, Item, LEVEL_LIMIT, Node, Tag};
 
@@ -181,10 +182,12 @@ fn judge_top_item(alloc: Global, walk: &mut Walk, item: &Item) -> Result<(), Dec
         Item::Node(node) => {
             judge_node(alloc, &walk.path, node)?;
             take_name(alloc, own_id(alloc, node)?, walk)?;
-            let path = Rows::of(alloc, walk.path.as_slice())?;
+            let path = replace(&mut walk.path, Rows::new(alloc));
             let names = Names::new(alloc);
             let mut within = Walk { path, names };
-            judge_kids(alloc, LEVEL_LIMIT, holds_dos(node.tag), &mut within, node)
+            judge_kids(alloc, LEVEL_LIMIT, holds_dos(node.tag), &mut within, node)?;
+            walk.path = within.path;
+            Ok(())
         }
     }
 }
