@@ -1,11 +1,15 @@
 -- A text that was cut into strings and U+0000 is put together again.
-use Rattle.std.proofs.Common.{◌≡◌, ℕ, zero, suc, List, [], ◌∷◌, ◌++◌, Option, Some, None, refl, sym, ap, ◌∙◌, append_assoc}
-use Rattle.std.specs.List.{filter_map}
+use Rattle.std.proofs.Common.{◌≡◌, ◌≢◌, ℕ, zero, suc, ◌==◌, ◌≤◌, Bool, true, false, ◌||◌, List, [], ◌∷◌, ◌++◌, Option, Some, None, refl, sym, ap, ap₂, ◌∙◌, append_assoc, arith, inl, inr, encode_utf8, encode_utf8_all}
+use Rattle.std.specs.List.{filter_map, list_any}
+use Rattle.std.proofs.lemmas.Bool.{or_parts, or_from, cases_lt, ne_eqb}
+use Rattle.std.proofs.lemmas.List.Folds.{list_any-append}
+use Rattle.std.proofs.lemmas.Str.{encode_ascii}
+use Rattle.wap_base.proofs.Utf8Cuts.{AllHigh, high_bytes}
 use Rattle.wap_base.specs.declared.name.Part.{Part}
 use Rattle.wap_base.specs.declared.name.Part.TheVariants.{Lit, Var}
 use Rattle.wap_markup.specs.Decks.{literal, character, before}
 use Rattle.wap_markup.specs.Writing.{run_before, runs_of}
-use Rattle.wap_deck.specs.Adding.{string_after, character_after}
+use Rattle.wap_deck.specs.Adding.{has_zero, string_after, character_after}
 
 -- what a string of a text, or a U+0000, is read as
 abbrev pub run_part : Option (List ℕ) → Option Part
@@ -77,3 +81,41 @@ pub runs_of-last : (cs : List ℕ) (c : ℕ) → runs_of (cs ++ c ∷ []) ≡ ch
 runs_of-last [] c = first_alone c
 runs_of-last (zero ∷ cs) c = ap (λ runs. None ∷ runs) (runs_of-last cs c) ∙ none_first (runs_of cs) c
 runs_of-last (suc d ∷ cs) c = ap (run_before (suc d)) (runs_of-last cs c) ∙ run_first (suc d) (runs_of cs) c
+
+-- ---- a text without U+0000 is one string
+
+string_from : (c : ℕ) (cs : List ℕ) → has_zero (c ∷ cs) ≡ false → runs_of (c ∷ cs) ≡ Some (c ∷ cs) ∷ []
+string_from zero cs none = cc
+string_from (suc c) [] none = refl
+string_from (suc c) (d ∷ ds) none =
+    let parts = or_parts (suc c == 0) (has_zero (d ∷ ds)) none in
+    ap (run_before (suc c)) (string_from d ds parts.1)
+
+pub one_string : (text : List ℕ) → text ≢ [] → has_zero text ≡ false → runs_of text ≡ Some text ∷ []
+one_string [] some none = absurd (some refl)
+one_string (c ∷ cs) some none = string_from c cs none
+
+high : (b : ℕ) → 128 ≤ b → (b == 0) ≡ false
+high b past = ne_eqb b 0 (λ e. differ e past) where
+  differ : b ≡ 0 → 128 ≤ b → ⊥
+  differ e above = omega arith
+
+none_high : (bs : List ℕ) → AllHigh bs → has_zero bs ≡ false
+none_high [] past = refl
+none_high (b ∷ bs) past = or_from (b == 0) (has_zero bs) (high b past.0) (none_high bs past.1)
+
+same_one : (b : Bool) → (b || false) ≡ b
+same_one true = refl
+same_one false = refl
+
+one : (c : ℕ) → has_zero (encode_utf8 c) ≡ (c == 0)
+one c = elim (cases_lt c 128) [
+  | inl ascii ↦ ap has_zero (encode_ascii c ascii) ∙ same_one (c == 0)
+  | inr past ↦ none_high (encode_utf8 c) (high_bytes c past) ∙ sym (high c past)
+]
+
+-- the byte of U+0000 is one of no other character
+pub zero_bytes : (cs : List ℕ) → has_zero (encode_utf8_all cs) ≡ has_zero cs
+zero_bytes [] = refl
+zero_bytes (c ∷ cs) =
+    list_any-append (λ b. b == 0) (encode_utf8 c) (encode_utf8_all cs) ∙ ap₂ (λ (x y : Bool). x || y) (one c) (zero_bytes cs)

@@ -1,5 +1,6 @@
 -- Parts and marks that are added at the end, as a walk from the left adds them. This project's own.
-use Rattle.std.specs.Prelude.{ℕ, zero, suc, List, [], ◌∷◌, ◌++◌, Option, Some, None}
+use Rattle.std.specs.Prelude.{ℕ, zero, suc, Bool, ◌==◌, List, [], ◌∷◌, ◌++◌, Option, Some, None}
+use Rattle.std.specs.List.{list_any}
 use Rattle.wap_base.specs.declared.name.Part.{Part}
 use Rattle.wap_markup.specs.declared.deck.Item.{Item}
 use Rattle.wap_markup.specs.declared.deck.Item.TheVariants as item
@@ -52,3 +53,7 @@ string_after (first ∷ next ∷ runs) c = first ∷ string_after (next ∷ runs
 abbrev pub character_after : List (Option (List ℕ)) → ℕ → List (Option (List ℕ))
 character_after runs zero = runs ++ None ∷ []
 character_after runs (suc c) = string_after runs (suc c)
+
+-- whether there is U+0000
+abbrev pub has_zero : List ℕ → Bool
+has_zero cs = list_any (λ c. c == 0) cs

@@ -1,8 +1,8 @@
 //! The strings of a text, between its U+0000.
-ghost use Rattle.std.specs.Prelude.{◌≡◌, ◌≢◌, ℕ, [], ◌∷◌, ◌++◌, Some, IfOk, OnOk};
+ghost use Rattle.std.specs.Prelude.{◌≡◌, ◌≢◌, ℕ, true, [], ◌∷◌, ◌++◌, Some, IfOk, OnOk};
 ghost use Rattle.std.specs.Str.{chars};
 ghost use Rattle.wap_markup.specs.Writing.{runs_of};
-ghost use Rattle.wap_deck.specs.Adding.{string_after, character_after};
+ghost use Rattle.wap_deck.specs.Adding.{has_zero, string_after, character_after};
 
 use std::alloc::Global;
 use wap_base::{NoMemory, Rows, Text};
@@ -85,4 +85,26 @@ pub fn runs_of(alloc: Global, text: &Text) -> Result<Rows<Option<Text>>, NoMemor
 {
     let runs = runs_in(alloc, text.as_str())?;
     Ok(runs)
+}
+
+/// Whether one of the bytes is 0.
+fn have_zero(bytes: &[u8]) -> bool
+    ensures { result ≡ has_zero bytes.now }
+{
+    bytes.iter().any(|byte| *byte == 0)
+}
+
+/// Whether a text has a U+0000. Its bytes tell, since those of other characters are none.
+fn has_zero(text: &Text) -> bool
+    ensures { result ≡ has_zero text.now }
+{
+    have_zero(text.as_str().as_bytes())
+}
+
+/// Whether a text is one string, which most are.
+#[tactic(auto, using(crate::proofs::Strings::one_string))]
+pub fn is_string(text: &Text) -> bool
+    ensures { result ≡ true → runs_of text.now ≡ Some text.now ∷ [] }
+{
+    !text.is_empty() && !has_zero(text)
 }

@@ -1,9 +1,9 @@
 //! Attributes of a document, for those of a deck.
 ghost use Rattle.std.specs.Prelude.{◌≡◌, ◌++◌, map, IfOk, OnOk};
 ghost use Rattle.std.specs.List.{flat_map};
-ghost use Rattle.wap_markup.specs.Writing.{run_piece, part_pieces, whole_code, attr_without, attr_with, attr_of};
+ghost use Rattle.wap_markup.specs.Writing.{run_piece, runs_of, part_pieces, whole_code, attr_without, attr_with, attr_of};
 
-use crate::runs::runs_of;
+use crate::runs::{is_string, runs_of};
 use std::alloc::Global;
 use wap_base::{NoMemory, Part, Rows, Text};
 use wap_markup::{Attr, AttrName, Piece, Token};
@@ -29,12 +29,22 @@ fn add_runs(runs: Rows<Option<Text>>, pieces: &mut Rows<Piece>) -> Result<(), No
     Ok(())
 }
 
+/// Adds a literal of a value.
+fn add_literal(alloc: Global, text: &Text, pieces: &mut Rows<Piece>) -> Result<(), NoMemory>
+    ensures { OnOk result (pieces.new ≡ pieces.old ++ map run_piece (runs_of text.now)) }
+{
+    if is_string(text) {
+        return pieces.add(Piece::Str(text.copy(alloc)?));
+    }
+    add_runs(runs_of(alloc, text)?, pieces)
+}
+
 /// Adds a part of a value.
 fn add_part(alloc: Global, part: &Part, pieces: &mut Rows<Piece>) -> Result<(), NoMemory>
     ensures { OnOk result (pieces.new ≡ pieces.old ++ part_pieces part.now) }
 {
     match part {
-        Part::Lit(text) => add_runs(runs_of(alloc, text)?, pieces),
+        Part::Lit(text) => add_literal(alloc, text, pieces),
         Part::Var(name, conv) => pieces.add(Piece::Var(name.text().copy(alloc)?, *conv)),
     }
 }

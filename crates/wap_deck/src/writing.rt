@@ -3,9 +3,10 @@ ghost use Rattle.std.specs.Prelude.{◌≡◌, ◌≢◌, ◌++◌, [], map, IfO
 ghost use Rattle.std.specs.List.{flat_map};
 ghost use Rattle.wap_markup.specs.Decks.{deck_of};
 ghost use Rattle.wap_markup.specs.Normal.{IsNormal};
-ghost use Rattle.wap_markup.specs.Writing.{run_kid, part_kids, item_kids, items_kids, node_kids, element_of, document_of};
+ghost use Rattle.wap_markup.specs.Writing.{run_kid, runs_of, part_kids, item_kids, items_kids};
+ghost use Rattle.wap_markup.specs.Writing.{node_kids, element_of, document_of};
 
-use crate::runs::runs_of;
+use crate::runs::{is_string, runs_of};
 use crate::starts::attrs_of;
 use std::alloc::Global;
 use wap_base::{NoMemory, Part, Rows, Text};
@@ -32,12 +33,22 @@ fn add_runs(runs: Rows<Option<Text>>, kids: &mut Rows<Kid>) -> Result<(), NoMemo
     Ok(())
 }
 
+/// Adds a literal of a text.
+fn add_literal(alloc: Global, text: &Text, kids: &mut Rows<Kid>) -> Result<(), NoMemory>
+    ensures { OnOk result (kids.new ≡ kids.old ++ map run_kid (runs_of text.now)) }
+{
+    if is_string(text) {
+        return kids.add(Kid::Str(text.copy(alloc)?));
+    }
+    add_runs(runs_of(alloc, text)?, kids)
+}
+
 /// Adds a part of a text.
 fn add_part(alloc: Global, part: &Part, kids: &mut Rows<Kid>) -> Result<(), NoMemory>
     ensures { OnOk result (kids.new ≡ kids.old ++ part_kids part.now) }
 {
     match part {
-        Part::Lit(text) => add_runs(runs_of(alloc, text)?, kids),
+        Part::Lit(text) => add_literal(alloc, text, kids),
         Part::Var(name, conv) => kids.add(Kid::Var(name.text().copy(alloc)?, *conv)),
     }
 }
