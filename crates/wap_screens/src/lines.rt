@@ -2,7 +2,7 @@
 ghost use Rattle.std.specs.Prelude.{◌≡◌, ◌++◌, ◌∷◌, [], codes, IfOk, OnOk};
 ghost use Rattle.std.specs.Str.{chars};
 ghost use Rattle.std.specs.List.{flat_map};
-ghost use Rattle.wap_world.specs.Lines.{word_of, refusal_line, marked, title_line, do_line};
+ghost use Rattle.wap_world.specs.Lines.{refusal_line, marked, title_line, do_line};
 ghost use Rattle.wap_world.specs.Setting.{fault_lines};
 
 use std::alloc::Global;
@@ -10,35 +10,31 @@ use wap_base::{NoMemory, Rows, Text};
 use wap_vars::VarFault;
 use wap_world::Refusal;
 
-/// The word of a refusal.
+/// The line of a refusal, as it stands in the program.
 #[tactic(auto, using(crate::proofs::Words::words))]
-fn word_of(refusal: Refusal) -> &'static str
-    ensures { chars result.now ≡ word_of refusal }
+fn text_of(refusal: Refusal) -> &'static str
+    ensures { chars result.now ≡ refusal_line refusal }
 {
     match refusal {
-        Refusal::Budget => "budget",
-        Refusal::Url => "url",
-        Refusal::Scheme => "scheme",
-        Refusal::Missing => "missing",
-        Refusal::Refused => "refused",
-        Refusal::Denied => "denied",
-        Refusal::First => "first",
-        Refusal::Ignored => "ignored",
-        Refusal::Mask => "mask",
-        Refusal::Full => "full",
-        Refusal::Long => "long",
+        Refusal::Budget => "! budget",
+        Refusal::Url => "! url",
+        Refusal::Scheme => "! scheme",
+        Refusal::Missing => "! missing",
+        Refusal::Refused => "! refused",
+        Refusal::Denied => "! denied",
+        Refusal::First => "! first",
+        Refusal::Ignored => "! ignored",
+        Refusal::Mask => "! mask",
+        Refusal::Full => "! full",
+        Refusal::Long => "! long",
     }
 }
 
 /// The line of a refusal.
-#[tactic(auto, using(crate::proofs::Words::words))]
-fn refusal_line(alloc: Global, refusal: Refusal) -> Result<Text, NoMemory>
+pub fn refusal_line(alloc: Global, refusal: Refusal) -> Result<Text, NoMemory>
     ensures { IfOk result (λ line. line ≡ refusal_line refusal) }
 {
-    let mut line = Text::new(alloc);
-    line.add("! ")?;
-    line.add(word_of(refusal))?;
-    Ok(line)
+    Text::of(alloc, text_of(refusal))
 }
 
 /// Appends the line of a refusal.

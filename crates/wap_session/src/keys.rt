@@ -93,8 +93,24 @@ fn task_of_do(context: &Context, alloc: Global, name: &Text) -> Result<Option<Ta
     }
 }
 
-/// Runs the do of a name.
+/// Runs the do of a name, once a card was entered.
 fn run_do<P: Pages>(
+    context: &mut Context,
+    alloc: Global,
+    name: &Text,
+    pages: &mut P,
+) -> Result<Rows<Text>, RunErr>
+    ensures { Acts (λ told world. apply told [] world (the_keys.Do name.now))
+        (P.seen pages.old) (P.seen pages.new) context.old context.new result }
+{
+    if context.has_card() {
+        return run_do_here(context, alloc, name, pages);
+    }
+    Ok(refused(alloc, Refusal::Ignored)?)
+}
+
+/// Runs the do of a name of the current card.
+fn run_do_here<P: Pages>(
     context: &mut Context,
     alloc: Global,
     name: &Text,

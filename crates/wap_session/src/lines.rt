@@ -4,7 +4,7 @@ ghost use Rattle.wap_world.specs.Lines.{refusal_line, variable_line};
 
 use std::alloc::Global;
 use wap_base::{NoMemory, Rows, Text};
-use wap_screens::add_refusal;
+use wap_screens::refusal_line;
 use wap_vars::Vars;
 use wap_world::Refusal;
 
@@ -22,9 +22,7 @@ pub(crate) fn add_lines(lines: &mut Rows<Text>, more: Rows<Text>) -> Result<(), 
 pub(crate) fn refused(alloc: Global, refusal: Refusal) -> Result<Rows<Text>, NoMemory>
     ensures { IfOk result (λ lines. lines ≡ refusal_line refusal ∷ []) }
 {
-    let mut lines = Rows::new(alloc);
-    add_refusal(alloc, refusal, &mut lines)?;
-    Ok(lines)
+    Ok(Rows::from_vec(vec![in alloc; refusal_line(alloc, refusal)?]?))
 }
 
 /// The line of a variable.
