@@ -132,4 +132,5 @@ module _ (deck : Deck) (good : IsGood deck) (normal : IsNormal deck) (of : OfNod
       spelled = are ∙ ap (λ (d : Deck). spelling (document_of d)) (sym deck_seen);
       good = subst IsGood (sym deck_seen) good;
       normal = subst IsNormal (sym deck_seen) normal;
+      of = subst (λ (d : Deck). OfNode LEVEL_LIMIT d.root) (sym deck_seen) of;
     }

@@ -21,4 +21,5 @@ pub mod Contents
 pub mod NodeLaw
 pub mod FlatLaw
 pub mod GoodLaw
+pub mod FitLaw
 pub mod DeckLaw

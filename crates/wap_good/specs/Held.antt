@@ -8,6 +8,7 @@ use Rattle.wap_markup.specs.Good.{IsGood}
 use Rattle.wap_markup.specs.Normal.{IsNormal}
 use Rattle.wap_markup.specs.Writing.{document_of}
 use Rattle.wap_spelling.specs.Spelling.{spelling}
+use Rattle.wap_good.specs.Characters.{OfNode}
 use Rattle.wap_good.specs.declared.cards.Place.{Place}
 use Rattle.wap_good.specs.declared.notes.Note.{Note}
 use Rattle.wap_good.specs.Nodes.{node_at, front_node, IsRead}
@@ -27,6 +28,7 @@ pub record IsHeld (table root : ℕ) (bytes : List ℕ) : Type 0 where
   pub spelled : bytes ≡ spelling (document_of (deck_in table root bytes))
   pub good : IsGood (deck_in table root bytes)
   pub normal : IsNormal (deck_in table root bytes)
+  pub of : OfNode LEVEL_LIMIT (deck_in table root bytes).root
 
 -- ---- cards
 

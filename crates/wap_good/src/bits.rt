@@ -119,7 +119,8 @@ pub fn after_bit(bytes: &[u8]) -> Option<&[u8]>
 
 /// What follows the bits of a text, where no mark of a bit follows them.
 pub fn after_bits(bytes: &[u8]) -> &[u8]
-    ensures exact { part_end (behind_value bytes.now) ≡ None → result.now ≡ behind_value bytes.now }
+    ensures exact { part_end (behind_value bytes.now) ≡ None
+        → result.now ≡ behind_value bytes.now }
     ensures behind { IsBehind result.now bytes.now }
 {
     let mut rest = bytes;

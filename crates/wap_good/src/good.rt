@@ -16,9 +16,10 @@ use crate::view::View;
 use std::alloc::Global;
 use std::marker::Model;
 use wap_base::{Bytes, NoMemory, Rows, Text, read_mb};
-use wap_deck::document_of;
+use wap_deck::{deck_of, document_of};
 use wap_markup::{AttrName, Deck, LEVEL_LIMIT};
-use wap_spelling::{decks_are_spellable, encode};
+use wap_spelling::{decks_are_spellable, encode, spelling_is_read};
+use wap_wbxml::decode;
 
 /// A good deck (WAP-191, section 11), kept as the bytes that spell its document. A contract sees
 /// the deck.
@@ -126,6 +127,21 @@ impl GoodDeck {
         ensures { result.now ≡ spelling (document_of self.now) }
     {
         self.bytes.as_slice()
+    }
+
+    /// The deck as a tree.
+    pub fn tree(&self, alloc: Global) -> Result<Deck, NoMemory>
+        ensures { IfOk result (λ deck. deck ≡ self.now) }
+    {
+        decks_are_spellable();
+        spelling_is_read();
+        match decode(alloc, self.bytes.as_slice()) {
+            Ok(document) => {
+                let deck = deck_of(alloc, &document)?;
+                Ok(deck)
+            }
+            Err(_) => Err(NoMemory),
+        }
     }
 
     /// The root, a node named wml.

@@ -26,32 +26,37 @@ each step known (here ∷ after) = step known here >>= λ known. each step known
 
 -- ---- in a function, whose variables are known
 
+-- the variables that are known, and one more where one is declared
 abbrev pub more : List (List ℕ) → Option (List ℕ) → List (List ℕ)
 more known None = known
 more known (Some name) = known ++ name ∷ []
 
+-- the first fault of a mention, or else the variables that are known after it
 abbrev pub mention_at : Scope → List (List ℕ) → Mention → Result (List (List ℕ)) ScopeFault
 mention_at scope known here =
     unless (mention_faults scope known here) (Ok (more known (declared here)))
 
+-- of mentions
 abbrev pub walked : Scope → List (List ℕ) → List Mention → Result (List (List ℕ)) ScopeFault
 walked scope = each (mention_at scope)
 
--- items that say this
+-- of items that say this
 abbrev pub walked_each : {X : Type 0} → Scope → (X → List Mention) → List (List ℕ) → List X →
     Result (List (List ℕ)) ScopeFault
 walked_each scope of = each (λ known item. walked scope known (of item))
 
--- a condition, and what is done where it holds
+-- of a condition, and what is done where it holds
 abbrev pub arm_at : Scope → Bool → List (List ℕ) → Expr × Stmt → Result (List (List ℕ)) ScopeFault
 arm_at scope inside known arm =
     walked scope known (refers arm.0) >>= λ known. walked scope known (mentions arm.1 inside)
 
+-- of a parameter
 abbrev pub parameter_at : Scope → List (List ℕ) → Id → Result (List (List ℕ)) ScopeFault
 parameter_at scope known v = mention_at scope known (Declares v)
 
 -- ---- functions, where the names of the earlier ones are known
 
+-- the first fault of a function, or else the names that are known after it
 abbrev pub function_at : Scope → List (List ℕ) → Function → Result (List (List ℕ)) ScopeFault
 function_at scope earlier f =
     unless (fault_if (is_among f.name.name earlier) (fault.TwoFunctions f.name.span))
@@ -61,6 +66,7 @@ function_at scope earlier f =
 
 -- ---- pragmas, where the units are known, and whether it is said who may call this one
 
+-- the first fault of a pragma, or else what is known after it
 abbrev pub use_at : List (List ℕ) × Bool → Use → Result (List (List ℕ) × Bool) ScopeFault
 use_at (units, limited) (Url u url) =
     unless (fault_if (is_among u.name units) (fault.TwoUnits u.span))
