@@ -1,0 +1,15 @@
+use Rattle.std.proofs.Common.{◌≤◌}
+use Rattle.wap_machine.specs.inside.Efforts.{effort}
+use Rattle.wap_machine.proofs.RunsLaws.{Runs}
+use Rattle.wap_machine.proofs.machine.Machine.run.Given as goal
+
+abbrev pub invariant-loop-next : goal.invariant-loop-next
+invariant-loop-next g l = record {
+  runs : Runs g.H.Host.meaning g.H.Host.fetched l.fn.self l.machine (g.H.Host.turns l.fn.host) (g.H.Host.turns l.host)
+      (g.H.Host.state l.fn.host l.fn.pages) (g.H.Host.state l.host l.pages);
+  faults : g.H.Host.faults l.fn.pages ≤ g.H.Host.faults l.pages;
+  fetches : g.H.Host.fetches l.fn.pages ≤ g.H.Host.fetches l.pages;
+}
+
+abbrev pub decreases-loop-next : goal.decreases-loop-next
+decreases-loop-next g l = effort (g.H.Host.turns l.host) l.machine.frames

@@ -1,0 +1,61 @@
+-- What machines are promised by their hosts. This project's own.
+use Rattle.std.specs.Prelude.{⊤, ◌≡◌, ◌≢◌, ℕ, ◌<◌, ◌≤◌, Option, Some, None, IfSome, slice_get}
+use Rattle.std.specs.declared.sync.Arc.{Arc}
+use Rattle.std.specs.Arc.{arc_value}
+use Rattle.wap_base.specs.Count.{Rose}
+use Rattle.wap_base.specs.declared.limits.TheConstants.{MOST_DEPTH}
+use Rattle.wap_code.specs.declared.unit.Unit.{Unit}
+use Rattle.wap_code.specs.declared.unit.Code.{Code}
+use Rattle.wap_execution.specs.declared.fatal.Fatal.TheVariants.{Budget}
+use Rattle.wap_execution.specs.declared.found.Found.{Found}
+use Rattle.wap_execution.specs.declared.found.Found.TheVariants.{Callee, Not}
+use Rattle.wap_execution.specs.declared.library.HostOut.{HostOut}
+use Rattle.wap_execution.specs.declared.library.HostOut.TheVariants.{Value, Exit, Fatal, Asks}
+
+-- what was found, with the unit itself
+abbrev pub found_of : {Z : Type 0} → Found (Arc Unit Z) → Found Unit
+found_of (Callee unit base index) = Callee (arc_value unit) base index
+found_of (Not why) = Not why
+
+-- what was answered and the state after it are these
+pub record Gives {A S : Type 0} (means : A × S) (answer : A) (after : Option S) : Type 0 where
+  pub answers : answer ≡ means.0
+  pub stays : after ≡ Some means.1
+
+-- the function is there and takes so many arguments, and so few functions are at work that one more
+-- may be
+pub record CanBeCalled (unit : Unit) (index count depth : ℕ) : Type 0 where
+  pub code : Code
+  pub found : slice_get unit.functions index ≡ Some code
+  pub as_many : code.args ≡ count
+  pub few : depth < MOST_DEPTH
+
+-- no turn is wanting where a host says that there is nothing to call
+abbrev pub IsCallable : ℕ → ℕ → Found Unit → Type 0
+IsCallable count depth (Callee unit base index) = CanBeCalled unit index count depth
+IsCallable count depth (Not why) = why ≢ Budget
+
+abbrev pub IsNoBudget : HostOut → Type 0
+IsNoBudget (Value value) = ⊤
+IsNoBudget (Exit value) = ⊤
+IsNoBudget (Fatal why) = why ≢ Budget
+IsNoBudget (Asks dialog) = ⊤
+
+-- a count that was told is still told, and no lower
+abbrev pub AtMost : ℕ → Option ℕ → Type 0
+AtMost count None = ⊥
+AtMost count (Some more) = count ≤ more
+
+abbrev pub Grows : Option ℕ → Option ℕ → Type 0
+Grows before after = IfSome before (λ count. AtMost count after)
+
+-- from one state to the other, where both are told
+abbrev pub GrowsTold : {S : Type 0} → (S → Option ℕ) → Option S → Option S → Type 0
+GrowsTold fetched None after = ⊤
+GrowsTold fetched (Some before) None = ⊤
+GrowsTold fetched (Some before) (Some after) = Grows (fetched before) (fetched after)
+
+-- a call that failed raised the count that was told before, and not above what the call would have
+-- left
+abbrev pub Fetches : Option ℕ → ℕ → Option ℕ → Type 0
+Fetches before count after = IfSome before (λ least. Rose least count × AtMost count after)

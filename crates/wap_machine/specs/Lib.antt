@@ -1,0 +1,4 @@
+pub mod Hosts
+pub mod Stacks
+pub mod Runs
+pub mod inside

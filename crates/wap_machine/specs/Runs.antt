@@ -1,0 +1,42 @@
+-- What machines' runs come to, by the definitions.
+use Rattle.std.specs.Prelude.{⊤, ◌≡◌, ℕ, Option, Some}
+use Rattle.wap_base.specs.declared.limits.Limits.{Limits}
+use Rattle.wap_execution.specs.Outcomes.{Outcome as Meant, value, exit, fatal, waits, Ended, Hosting}
+use Rattle.wap_execution.specs.declared.fatal.Fatal.TheVariants.{Budget}
+use Rattle.wap_execution.specs.Running.{finished}
+use Rattle.wap_execution_laws.specs.Settings.{uncounted}
+use Rattle.wap_machine.specs.Stacks.{Stack}
+use Rattle.wap_machine.specs.declared.machine.Outcome.{Outcome}
+use Rattle.wap_machine.specs.declared.machine.Outcome.TheVariants.{Done, Exited, Fatal, Asks}
+
+-- a machine that waits is its frames
+abbrev pub meant : Outcome → Meant
+meant (Done v) = value v
+meant (Exited v) = exit v
+meant (Fatal why) = fatal why
+meant (Asks dialog waiting) = waits dialog waiting.frames
+
+-- this is what the definition says, with as many turns left, and in the state that it says
+pub record IsEnd {S : Type 0}
+    (end : Ended S) (outcome : Outcome) (turns : ℕ) (state : Option S) : Type 0 where
+  pub outcome_is : meant outcome ≡ end.outcome
+  pub turns_are : turns ≡ end.turns
+  pub state_is : state ≡ Some end.state
+
+-- what the frames of a machine come to in a host, with so many turns left
+abbrev pub run_of : {S : Type 0} → Stack → Hosting S → ℕ → S → Ended S
+run_of machine host = finished (uncounted machine.limits host) machine.frames
+
+-- a machine that waits has these limits
+abbrev pub KeepsLimits : Limits → Outcome → Type 0
+KeepsLimits limits (Done v) = ⊤
+KeepsLimits limits (Exited v) = ⊤
+KeepsLimits limits (Fatal why) = ⊤
+KeepsLimits limits (Asks dialog waiting) = waiting.limits ≡ limits
+
+-- it ends for want of a turn only where none is left
+abbrev pub WantsNoTurn : ℕ → Outcome → Type 0
+WantsNoTurn turns (Done v) = ⊤
+WantsNoTurn turns (Exited v) = ⊤
+WantsNoTurn turns (Fatal why) = why ≡ Budget → turns ≡ 0
+WantsNoTurn turns (Asks dialog waiting) = ⊤

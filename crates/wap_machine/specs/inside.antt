@@ -1,0 +1,7 @@
+pub mod Stacked
+pub mod Weights
+pub mod Innermost
+pub mod Efforts
+pub mod Goings
+pub mod Advances
+pub mod Steps

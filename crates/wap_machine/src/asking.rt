@@ -1,0 +1,132 @@
+//! Calls that ask the host.
+ghost use Rattle.std.specs.Prelude.{◌≡◌, ◌<◌, ◌≤◌, length, IfOk, IsErrOf, IfSome};
+ghost use Rattle.wap_base.specs.Count.{Rose};
+ghost use Rattle.wap_execution.specs.Effects.{library, external};
+ghost use Rattle.wap_frames.specs.Seen.{called_of};
+ghost use Rattle.wap_frames.specs.Doing.{AreFew};
+ghost use Rattle.wap_machine.specs.Hosts.{Fetches, GrowsTold};
+ghost use Rattle.wap_execution_laws.specs.Settings.{uncounted};
+ghost use Rattle.wap_machine.specs.inside.Steps.{rest, Same, called_from, CanCallFrom, IsInOrderFor};
+
+use crate::calls::{enter_found, enter_local, go_with};
+use crate::host::Host;
+use crate::machine::{Step, Waiting};
+use wap_base::{RunErr, Text};
+use wap_frames::Callee;
+use wap_value::Value;
+
+/// Calls a function of a library.
+fn call_library<P, H: Host<P>>(
+    waiting: Waiting,
+    host: &mut H,
+    pages: &mut P,
+    number: u16,
+    index: u8,
+    arguments: Vec<Value>,
+) -> Result<Step, RunErr>
+    requires { CanCallFrom waiting.frames (library number index) arguments.items }
+    ensures told { IfOk result (λ step. Same
+        (called_from waiting H.meaning (library number index) arguments.items (H.turns host.old))
+        (H.state host.old pages.old)
+        (rest (uncounted waiting.limits H.meaning) step (H.turns host.new))
+        (H.state host.new pages.new)) }
+    ensures order { IfOk result (IsInOrderFor waiting.limits) }
+    ensures turns { H.turns host.new ≡ H.turns host.old }
+    ensures grown { IfOk result (λ _. GrowsTold H.fetched
+        (H.state host.old pages.old) (H.state host.new pages.new)) }
+    ensures faults { H.faults pages.old ≤ H.faults pages.new }
+    ensures failed { IsErrOf result RunErr.Store
+        → Rose (H.faults pages.old) (H.faults pages.new) }
+    ensures fetches { H.fetches pages.old ≤ H.fetches pages.new }
+    ensures fetched { IsErrOf result RunErr.Store → IfSome (H.state host.old pages.old)
+        (λ before. Fetches (H.fetched before) (H.fetches pages.new) (H.fetched
+        (called_from waiting H.meaning (library number index) arguments.items
+        (H.turns host.old) before).state)) }
+{
+    let script = waiting.frame().script();
+    let referer = script.referer.as_ref();
+    match host.library(pages, &script.base, referer, number, index, arguments) {
+        Ok(out) => Ok(go_with(waiting, out)),
+        Err(fault) => Err(fault),
+    }
+}
+
+/// Calls a function of another unit.
+fn call_external<P, H: Host<P>>(
+    waiting: Waiting,
+    host: &mut H,
+    pages: &mut P,
+    url: Text,
+    name: Text,
+    arguments: Vec<Value>,
+) -> Result<Step, RunErr>
+    requires few { length arguments.items < 256 }
+    ensures told { IfOk result (λ step. Same
+        (called_from waiting H.meaning (external url name) arguments.items (H.turns host.old))
+        (H.state host.old pages.old)
+        (rest (uncounted waiting.limits H.meaning) step (H.turns host.new))
+        (H.state host.new pages.new)) }
+    ensures order { IfOk result (IsInOrderFor waiting.limits) }
+    ensures turns { H.turns host.new ≡ H.turns host.old }
+    ensures grown { IfOk result (λ _. GrowsTold H.fetched
+        (H.state host.old pages.old) (H.state host.new pages.new)) }
+    ensures faults { H.faults pages.old ≤ H.faults pages.new }
+    ensures failed { IsErrOf result RunErr.Store
+        → Rose (H.faults pages.old) (H.faults pages.new) }
+    ensures fetches { H.fetches pages.old ≤ H.fetches pages.new }
+    ensures fetched { IsErrOf result RunErr.Store → IfSome (H.state host.old pages.old)
+        (λ before. Fetches (H.fetched before) (H.fetches pages.new) (H.fetched
+        (called_from waiting H.meaning (external url name) arguments.items
+        (H.turns host.old) before).state)) }
+{
+    let depth = waiting.depth() as u32;
+    let count = arguments.len() as u8;
+    let caller = &waiting.frame().script().base;
+    match host.external(pages, caller, &url, &name, count, depth) {
+        Ok(found) => match enter_found(waiting, found, arguments) {
+            Ok(step) => Ok(step),
+            Err(_) => Err(RunErr::NoMemory),
+        },
+        Err(fault) => Err(fault),
+    }
+}
+
+/// Makes a call, whose turn was taken.
+pub fn call<P, H: Host<P>>(
+    waiting: Waiting,
+    host: &mut H,
+    pages: &mut P,
+    callee: Callee,
+    arguments: Vec<Value>,
+) -> Result<Step, RunErr>
+    requires few { AreFew callee (length arguments.items) }
+    requires can { CanCallFrom waiting.frames (called_of callee) arguments.items }
+    ensures told { IfOk result (λ step. Same
+        (called_from waiting H.meaning (called_of callee) arguments.items (H.turns host.old))
+        (H.state host.old pages.old)
+        (rest (uncounted waiting.limits H.meaning) step (H.turns host.new))
+        (H.state host.new pages.new)) }
+    ensures order { IfOk result (IsInOrderFor waiting.limits) }
+    ensures turns { H.turns host.new ≡ H.turns host.old }
+    ensures grown { IfOk result (λ _. GrowsTold H.fetched
+        (H.state host.old pages.old) (H.state host.new pages.new)) }
+    ensures faults { H.faults pages.old ≤ H.faults pages.new }
+    ensures failed { IsErrOf result RunErr.Store
+        → Rose (H.faults pages.old) (H.faults pages.new) }
+    ensures fetches { H.fetches pages.old ≤ H.fetches pages.new }
+    ensures fetched { IsErrOf result RunErr.Store → IfSome (H.state host.old pages.old)
+        (λ before. Fetches (H.fetched before) (H.fetches pages.new) (H.fetched
+        (called_from waiting H.meaning (called_of callee) arguments.items
+        (H.turns host.old) before).state)) }
+{
+    match callee {
+        Callee::Local(index) => match enter_local(waiting, index, arguments) {
+            Ok(step) => Ok(step),
+            Err(_) => Err(RunErr::NoMemory),
+        },
+        Callee::Library(number, index) => {
+            call_library(waiting, host, pages, number, index, arguments)
+        }
+        Callee::External(url, name) => call_external(waiting, host, pages, url, name, arguments),
+    }
+}

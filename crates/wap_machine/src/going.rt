@@ -1,0 +1,31 @@
+//! Instructions, one after the other.
+ghost use Rattle.std.specs.Prelude.{◌≡◌, IfOk};
+ghost use Rattle.wap_base.specs.Limits.{IsStringLimit};
+ghost use Rattle.wap_frames.specs.Standing.{Stands};
+ghost use Rattle.wap_frames.specs.Doing.{StandsFor};
+ghost use Rattle.wap_machine.specs.inside.Goings.{HasGone};
+
+use std::alloc::Global;
+use wap_base::{NoMemory, Text};
+use wap_frames::{Frame, Next, act};
+use wap_value::Value;
+
+/// Does instructions up to one after which the frame doesn't simply go on further on. A function
+/// that comes to its end gives the empty String.
+pub fn go_on(alloc: Global, frame: &mut Frame, string: u32) -> Result<Next, NoMemory>
+    requires limit { IsStringLimit string }
+    requires stands { Stands frame.old 0 }
+    ensures gone { IfOk result (HasGone string frame.old frame.new) }
+    ensures stands { IfOk result (StandsFor frame.new) }
+{
+    loop {
+        if frame.is_at_end() {
+            return Ok(Next::Return(Value::Str(Text::new(alloc))));
+        }
+        match act(alloc, frame, string) {
+            Ok(Next::Onward) => {}
+            Ok(next) => return Ok(next),
+            Err(fault) => return Err(fault),
+        }
+    }
+}

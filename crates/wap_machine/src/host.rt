@@ -1,0 +1,120 @@
+//! Hosts of machines.
+ghost use Rattle.std.specs.Prelude.{◌≡◌, ℕ, ◌-◌, ◌<◌, ◌≤◌, List, Option, Some, length, IsTrue, ◌↔◌, IfSome, IfOk, IsErrOf};
+ghost use Rattle.std.specs.Option.{option_copied};
+ghost use Rattle.wap_base.specs.Count.{Rose};
+ghost use Rattle.wap_url.specs.declared.url.Url.{Url as TheUrl};
+ghost use Rattle.wap_value.specs.declared.value.Value.{Value as TheValue};
+ghost use Rattle.wap_code.specs.Libraries.{lib_args};
+ghost use Rattle.wap_execution.specs.Outcomes.{Hosting};
+ghost use Rattle.wap_machine.specs.Hosts.{Gives, Grows, Fetches, found_of, IsCallable, IsNoBudget};
+
+use std::alloc::Global;
+use std::sync::Arc;
+use wap_base::{RunErr, Text};
+use wap_execution::{Found, HostOut};
+use wap_url::Url;
+use wap_value::Value;
+use wap_verify::Verified;
+
+/// What machines run in: it counts turns, finds functions of other units, and has the libraries.
+/// The pages, which calls may ask, are passed beside it.
+pub trait Host<P> {
+    /// What host and pages are in, as far as calls depend on it.
+    ghost State: { Type 0 };
+
+    /// How many turns are left.
+    ghost turns: { Self → ℕ };
+
+    /// The state, where it is told.
+    ghost state: { Self → P → Option State };
+
+    /// What the calls answer, and the state that they leave.
+    ghost meaning: { Hosting State };
+
+    /// How often the pages have failed.
+    ghost faults: { P → ℕ };
+
+    /// How often the pages were fetched.
+    ghost fetches: { P → ℕ };
+
+    /// The same, where the state tells it.
+    ghost fetched: { State → Option ℕ };
+
+    /// Takes a turn, if one is left.
+    fn turn(&mut self) -> bool
+        ensures some { IsTrue result ↔ (0 < turns self.old) }
+        ensures turns { turns self.new ≡ turns self.old - 1 }
+        ensures state { (pages : P) → state self.new pages ≡ state self.old pages };
+
+    /// A function of another unit, by the calling unit's URL, the other's, and its name, for so
+    /// many arguments, while so many functions are at work.
+    ///
+    /// # Errors
+    /// `Store` where the pages failed, and `NoMemory`.
+    fn external(
+        &mut self,
+        pages: &mut P,
+        caller: &Url,
+        target: &Text,
+        function: &Text,
+        count: u8,
+        depth: u32,
+    ) -> Result<Found<Arc<Verified, Global>>, RunErr>
+        // What is told is so, and stays told.
+        ensures told { IfOk result (λ found. IfSome (state self.old pages.old) (λ before. Gives
+            (meaning.external before caller.now target.now function.now count depth)
+            (found_of found) (state self.new pages.new))) }
+        ensures callable { IfOk result (λ found. IsCallable count depth (found_of found)) }
+        ensures turns { turns self.new ≡ turns self.old }
+
+        ensures faults { faults pages.old ≤ faults pages.new }
+        ensures failed { IsErrOf result RunErr.Store
+            → Rose (faults pages.old) (faults pages.new) }
+        ensures fetches { fetches pages.old ≤ fetches pages.new }
+        ensures fetched { IsErrOf result RunErr.Store → IfSome (state self.old pages.old)
+            (λ before. Fetches (fetched before) (fetches pages.new) (fetched
+            (meaning.external before caller.now target.now function.now count depth).1)) };
+
+    /// What a function of a library gives, by the unit's URL and that of the unit that called it.
+    ///
+    /// # Errors
+    /// `Store` where the pages failed, and `NoMemory`.
+    fn library(
+        &mut self,
+        pages: &mut P,
+        base: &Url,
+        referer: Option<&Url>,
+        library: u16,
+        function: u8,
+        arguments: Vec<Value>,
+    ) -> Result<HostOut, RunErr>
+        requires { lib_args library function ≡ Some (length arguments.items) }
+        ensures told { IfOk result (λ out. IfSome (state self.old pages.old) (λ before. Gives
+            (meaning.library before base.now (option_copied referer.entry)
+            library function arguments.items)
+            out (state self.new pages.new))) }
+        ensures no_budget { IfOk result IsNoBudget }
+        ensures turns { turns self.new ≡ turns self.old }
+
+        ensures faults { faults pages.old ≤ faults pages.new }
+        ensures failed { IsErrOf result RunErr.Store
+            → Rose (faults pages.old) (faults pages.new) }
+        ensures fetches { fetches pages.old ≤ fetches pages.new }
+        ensures fetched { IsErrOf result RunErr.Store → IfSome (state self.old pages.old)
+            (λ before. Fetches (fetched before) (fetches pages.new) (fetched
+            (meaning.library before base.now (option_copied referer.entry)
+            library function arguments.items).1)) };
+
+    /// The state tells what the pages count.
+    ghost counted: { (host : Self) (pages : P) → IfSome (state host pages)
+        (λ now. IfSome (fetched now) (λ count. count ≡ fetches pages)) };
+
+    /// No call takes a fetch back.
+    ghost external_grows: { (before : State) (caller : TheUrl) (target name : List ℕ)
+        (count depth : ℕ) → Grows (fetched before)
+        (fetched (meaning.external before caller target name count depth).1) };
+
+    ghost library_grows: { (before : State) (base : TheUrl) (referer : Option TheUrl)
+        (library function : ℕ) (arguments : List TheValue) → Grows (fetched before)
+        (fetched (meaning.library before base referer library function arguments).1) };
+}

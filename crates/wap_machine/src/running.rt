@@ -1,0 +1,46 @@
+//! Runs of machines.
+ghost use Rattle.std.specs.Prelude.{◌≡◌, ◌≤◌, IfOk, IsErrOf, IfSome};
+ghost use Rattle.wap_base.specs.Count.{Rose};
+ghost use Rattle.wap_machine.specs.Hosts.{Fetches};
+ghost use Rattle.wap_machine.specs.Runs.{run_of, IsEnd, KeepsLimits, WantsNoTurn};
+
+use crate::host::Host;
+use crate::machine::{Machine, Outcome, Step};
+use crate::stepping::step;
+use wap_base::RunErr;
+
+impl Machine {
+    /// Runs until the function gives a value, the script ends, or it asks its user.
+    ///
+    /// # Errors
+    /// `Store` where the host's pages failed, and `NoMemory`.
+    pub fn run<P, H: Host<P>>(self, host: &mut H, pages: &mut P) -> Result<Outcome, RunErr>
+        // Where the host tells its state, the outcome, the turns and the state are those of the
+        // definition.
+        ensures told { IfOk result (λ outcome. IfSome (H.state host.old pages.old) (λ before.
+            IsEnd (run_of self H.meaning (H.turns host.old) before)
+            outcome (H.turns host.new) (H.state host.new pages.new))) }
+        // It ends for want of a turn only where none is left.
+        ensures budget { IfOk result (WantsNoTurn (H.turns host.new)) }
+        ensures limits { IfOk result (KeepsLimits self.limits) }
+        ensures turns { H.turns host.new ≤ H.turns host.old }
+
+        // A store that failed has counted it, and no more was fetched than by the whole run.
+        ensures faults { H.faults pages.old ≤ H.faults pages.new }
+        ensures failed { IsErrOf result RunErr.Store
+            → Rose (H.faults pages.old) (H.faults pages.new) }
+        ensures fetches { H.fetches pages.old ≤ H.fetches pages.new }
+        ensures fetched { IsErrOf result RunErr.Store → IfSome (H.state host.old pages.old)
+            (λ before. Fetches (H.fetched before) (H.fetches pages.new)
+            (H.fetched (run_of self H.meaning (H.turns host.old) before).state)) }
+    {
+        let mut machine = self;
+        loop {
+            match step(machine, host, pages) {
+                Ok(Step::Goes(next)) => machine = next,
+                Ok(Step::Ends(outcome)) => return Ok(outcome),
+                Err(fault) => return Err(fault),
+            }
+        }
+    }
+}

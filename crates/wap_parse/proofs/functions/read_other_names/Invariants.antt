@@ -1,0 +1,10 @@
+use Rattle.std.proofs.Common.{◌∷◌, length}
+use Rattle.wap_grammar.specs.inside.Steps.{told, id_at, items_at}
+use Rattle.wap_grammar.specs.inside.Statements.{next_listed}
+use Rattle.wap_expressions.proofs.Loops.{Continues}
+use Rattle.wap_parse.proofs.functions.read_other_names.Given as goal
+
+abbrev pub invariant-loop : goal.invariant-loop
+invariant-loop l =
+    Continues (next_listed (id_at l.src)) (length l.lexemes) l.counter l.names l.rest
+    (told (λ others. l.fn.first ∷ others) (items_at (next_listed (id_at l.src)) l.lexemes))

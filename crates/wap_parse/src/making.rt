@@ -1,0 +1,36 @@
+//! Statements made of their parts.
+ghost use Rattle.std.specs.Prelude.{◌≡◌, [], ◌∷◌, IfOk};
+ghost use Rattle.wap_program.specs.declared.statement.Stmt.TheVariants as stmt;
+
+use crate::clauses::Header;
+use std::alloc::Global;
+use wap_base::{NoMemory, Rows};
+use wap_program::{Boxed, Expr, Stmt};
+
+/// A list of one condition with what is done where it holds.
+pub(crate) fn one(alloc: Global, arm: (Expr, Stmt)) -> Result<Rows<(Expr, Stmt)>, NoMemory>
+    ensures { IfOk result (λ items. items ≡ arm ∷ []) }
+{
+    let mut arms = Rows::new(alloc);
+    arms.add(arm)?;
+    Ok(arms)
+}
+
+/// `while`, from its condition and what is done as long as it holds.
+pub(crate) fn while_of(alloc: Global, arm: (Expr, Stmt)) -> Result<Stmt, NoMemory>
+    ensures { IfOk result (λ made. made ≡ stmt.While arm.0 arm.1) }
+{
+    let (condition, body) = arm;
+    let body = Boxed::new(alloc, body)?;
+    Ok(Stmt::While(condition, body))
+}
+
+/// `for`, from what stands in its parentheses and what is done in each turn.
+pub(crate) fn for_of(alloc: Global, header: Header, body: Stmt) -> Result<Stmt, NoMemory>
+    ensures { IfOk result (λ made. made ≡ stmt.For header.0 header.1.0 header.1.1 body) }
+{
+    let (first, limits) = header;
+    let (condition, update) = limits;
+    let body = Boxed::new(alloc, body)?;
+    Ok(Stmt::For(first, condition, update, body))
+}
