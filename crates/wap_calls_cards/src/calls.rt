@@ -1,8 +1,7 @@
 //! Calls by their names.
 use crate::decks::{card, deck};
 use crate::{events, fields, screens};
-use std::alloc::Global;
-use wap_casebook::{Answer, Args, CaseFault};
+use wap_casebook::{Call, CaseFault, meaning_of};
 use wap_good::{GoodDeck, View};
 
 /// A call on a card.
@@ -21,7 +20,7 @@ enum CardCall {
     Choose,
 }
 
-/// The calls, and their names.
+/// The calls, by their names.
 static CALLS: [(&str, CardCall); 11] = [
     ("flow", CardCall::Flow),
     ("lines", CardCall::Lines),
@@ -36,52 +35,32 @@ static CALLS: [(&str, CardCall); 11] = [
     ("choose", CardCall::Choose),
 ];
 
-/// The call of a name.
-fn call_named(name: &[u8]) -> Option<CardCall> {
-    for (known, call) in &CALLS {
-        if known.as_bytes() == name {
-            return Some(*call);
-        }
-    }
-    None
-}
-
 /// Makes a call on a card, which is one of the deck.
-fn make(
-    alloc: Global,
-    call: CardCall,
+fn make_on(
+    known: CardCall,
+    call: &mut Call,
     deck: &GoodDeck,
     card: &View<'_>,
-    args: &mut Args<'_>,
-    answer: &mut Answer,
 ) -> Result<(), CaseFault> {
-    match call {
-        CardCall::Flow => screens::add_flow(alloc, card, args, answer),
-        CardCall::Lines => screens::add_lines(alloc, card, args, answer),
-        CardCall::Title => screens::add_title(alloc, card, args, answer),
-        CardCall::Dos => events::add_dos(alloc, deck, card, args, answer),
-        CardCall::Do => events::add_do(alloc, deck, card, args, answer),
-        CardCall::Link => events::add_link(alloc, card, args, answer),
-        CardCall::Event => events::add_event(alloc, deck, card, args, answer),
-        CardCall::Timer => events::add_timer(alloc, card, args, answer),
-        CardCall::Defaults => fields::add_defaults(alloc, card, args, answer),
-        CardCall::Enter => fields::add_entered(alloc, card, args, answer),
-        CardCall::Choose => fields::add_chosen(alloc, card, args, answer),
+    match known {
+        CardCall::Flow => screens::give_flow(call, card),
+        CardCall::Lines => screens::give_lines(call, card),
+        CardCall::Title => screens::give_title(call, card),
+        CardCall::Dos => events::give_dos(call, deck, card),
+        CardCall::Do => events::give_do(call, deck, card),
+        CardCall::Link => events::give_link(call, card),
+        CardCall::Event => events::give_event(call, deck, card),
+        CardCall::Timer => events::give_timer(call, card),
+        CardCall::Defaults => fields::give_defaults(call, card),
+        CardCall::Enter => fields::give_entered(call, card),
+        CardCall::Choose => fields::give_chosen(call, card),
     }
 }
 
-/// Makes the call of this name on the card that the arguments begin with, if there is such a call.
-pub fn call(
-    alloc: Global,
-    name: &[u8],
-    args: &mut Args<'_>,
-    answer: &mut Answer,
-) -> Result<bool, CaseFault> {
-    let Some(call) = call_named(name) else {
-        return Ok(false);
-    };
-    let deck = deck(alloc, args)?;
-    let card = card(&deck, args)?;
-    make(alloc, call, &deck, &card, args, answer)?;
-    Ok(true)
+/// Makes the call of this name on the card that the arguments begin with.
+pub fn make(name: &[u8], call: &mut Call) -> Result<(), CaseFault> {
+    let known = meaning_of(&CALLS, name).ok_or(CaseFault::Line)?;
+    let deck = deck(call)?;
+    let card = card(call, &deck)?;
+    make_on(known, call, &deck, &card)
 }

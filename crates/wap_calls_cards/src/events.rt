@@ -1,106 +1,81 @@
 //! Dos, links, events and timers.
-use crate::tasks::add_task;
+use crate::tasks::give_task;
 use crate::variables::vars;
-use std::alloc::Global;
 use wap_base::Text;
 use wap_cardrules::Event;
 use wap_cards::{active_dos, binding, do_task, link_task, timer_of};
-use wap_casebook::{Answer, Args, CaseFault};
+use wap_casebook::{Call, CaseFault};
 use wap_good::{GoodDeck, View};
 
-/// Adds the names and labels of a card's dos.
-pub fn add_dos(
-    alloc: Global,
-    deck: &GoodDeck,
-    card: &View<'_>,
-    args: &mut Args<'_>,
-    answer: &mut Answer,
-) -> Result<(), CaseFault> {
-    let vars = vars(alloc, args)?;
-    for (name, label) in active_dos(alloc, deck, card, &vars)?.into_vec() {
-        answer.text(name)?;
-        answer.text(label)?;
+/// The events, by their names.
+static EVENTS: [(&str, Event); 3] = [
+    ("forward", Event::Forward),
+    ("backward", Event::Backward),
+    ("timer", Event::Timer),
+];
+
+/// Gives the names and labels of a card's dos.
+pub fn give_dos(call: &mut Call, deck: &GoodDeck, card: &View<'_>) -> Result<(), CaseFault> {
+    let vars = vars(call)?;
+    for (name, label) in active_dos(call.alloc(), deck, card, &vars)?.as_slice() {
+        call.give_text(name);
+        call.give_text(label);
     }
     Ok(())
 }
 
-/// Adds the task of the do whose name comes next.
-pub fn add_do(
-    alloc: Global,
-    deck: &GoodDeck,
-    card: &View<'_>,
-    args: &mut Args<'_>,
-    answer: &mut Answer,
-) -> Result<(), CaseFault> {
-    let name = args.text()?;
-    let vars = vars(alloc, args)?;
-    add_task(alloc, do_task(alloc, deck, card, &name, &vars)?, answer)
+/// Gives the task of the do whose name comes next.
+pub fn give_do(call: &mut Call, deck: &GoodDeck, card: &View<'_>) -> Result<(), CaseFault> {
+    let name = call.text();
+    let vars = vars(call)?;
+    let task = do_task(call.alloc(), deck, card, &name, &vars)?;
+    give_task(call, &task);
+    Ok(())
 }
 
-/// The next argument, the number of a field or an option.
-pub fn number(args: &mut Args<'_>) -> Result<u16, CaseFault> {
-    match u16::try_from(args.number()?) {
-        Ok(number) => Ok(number),
-        Err(_) => Err(CaseFault::Malformed("a number of 16 bits is wanted")),
-    }
-}
-
-/// Adds the task of the link whose number comes next.
-pub fn add_link(
-    alloc: Global,
-    card: &View<'_>,
-    args: &mut Args<'_>,
-    answer: &mut Answer,
-) -> Result<(), CaseFault> {
-    let number = number(args)?;
-    let vars = vars(alloc, args)?;
-    add_task(alloc, link_task(alloc, card, number, &vars)?, answer)
-}
-
-/// The next argument, an event.
-fn event(args: &mut Args<'_>) -> Result<Event, CaseFault> {
-    match args.value()? {
-        b"forward" => Ok(Event::Forward),
-        b"backward" => Ok(Event::Backward),
-        b"timer" => Ok(Event::Timer),
-        _ => Err(CaseFault::Malformed("no such event")),
-    }
-}
-
-/// Adds the task of the event that comes next.
-pub fn add_event(
-    alloc: Global,
-    deck: &GoodDeck,
-    card: &View<'_>,
-    args: &mut Args<'_>,
-    answer: &mut Answer,
-) -> Result<(), CaseFault> {
-    let event = event(args)?;
-    let vars = vars(alloc, args)?;
-    add_task(alloc, binding(alloc, deck, card, event, &vars)?, answer)
-}
-
-/// Adds the name of a variable, or `none`.
-fn add_name(name: Option<Text>, answer: &mut Answer) -> Result<(), CaseFault> {
-    match name {
-        Some(name) => answer.text(name),
-        None => answer.word("none"),
-    }
-}
-
-/// Adds a card's timer, its variable and where it starts, or nothing.
-pub fn add_timer(
-    alloc: Global,
-    card: &View<'_>,
-    args: &mut Args<'_>,
-    answer: &mut Answer,
-) -> Result<(), CaseFault> {
-    let vars = vars(alloc, args)?;
-    match timer_of(alloc, card, &vars)? {
-        Some((name, time)) => {
-            add_name(name, answer)?;
-            answer.number(i64::from(time))
+/// The next argument, the number of a field, a link or an option.
+pub fn number(call: &mut Call) -> u16 {
+    match u16::try_from(call.number()) {
+        Ok(number) => number,
+        Err(_) => {
+            call.fail(CaseFault::Argument);
+            0
         }
-        None => Ok(()),
     }
+}
+
+/// Gives the task of the link whose number comes next.
+pub fn give_link(call: &mut Call, card: &View<'_>) -> Result<(), CaseFault> {
+    let number = number(call);
+    let vars = vars(call)?;
+    let task = link_task(call.alloc(), card, number, &vars)?;
+    give_task(call, &task);
+    Ok(())
+}
+
+/// Gives the task of the event that comes next.
+pub fn give_event(call: &mut Call, deck: &GoodDeck, card: &View<'_>) -> Result<(), CaseFault> {
+    let event = call.meaning(&EVENTS)?;
+    let vars = vars(call)?;
+    let task = binding(call.alloc(), deck, card, event, &vars)?;
+    give_task(call, &task);
+    Ok(())
+}
+
+/// Gives the name of a timer's variable, or `none`, and where the timer starts.
+fn give_start(call: &mut Call, name: &Option<Text>, time: u32) {
+    match name {
+        Some(name) => call.give_text(name),
+        None => call.give_word("none"),
+    }
+    call.give_number(i64::from(time));
+}
+
+/// Gives a card's timer, its variable and where it starts, or nothing.
+pub fn give_timer(call: &mut Call, card: &View<'_>) -> Result<(), CaseFault> {
+    let vars = vars(call)?;
+    if let Some((name, time)) = timer_of(call.alloc(), card, &vars)? {
+        give_start(call, &name, time);
+    }
+    Ok(())
 }

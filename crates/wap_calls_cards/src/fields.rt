@@ -1,24 +1,18 @@
 //! Inputs and selects.
 use crate::events::number;
-use crate::tasks::add_task;
-use crate::variables::{add_faults, add_vars, vars};
-use std::alloc::Global;
+use crate::tasks::give_task;
+use crate::variables::{give_faults, give_vars, vars};
 use wap_cardrules::{Chosen, Entered};
-use wap_casebook::{Answer, Args, CaseFault};
+use wap_casebook::{Call, CaseFault};
 use wap_fields::{apply_defaults, choose, enter_text};
 use wap_good::View;
 
-/// Adds the faults of a card's defaults, and the variables afterwards.
-pub fn add_defaults(
-    alloc: Global,
-    card: &View<'_>,
-    args: &mut Args<'_>,
-    answer: &mut Answer,
-) -> Result<(), CaseFault> {
-    let mut vars = vars(alloc, args)?;
-    let faults = apply_defaults(alloc, card, &mut vars)?;
-    add_faults(faults, answer)?;
-    add_vars(alloc, &vars, answer)
+/// Gives the faults of a card's defaults, and the variables afterwards.
+pub fn give_defaults(call: &mut Call, card: &View<'_>) -> Result<(), CaseFault> {
+    let mut vars = vars(call)?;
+    let faults = apply_defaults(call.alloc(), card, &mut vars)?;
+    give_faults(call, &faults)?;
+    give_vars(call, &vars)
 }
 
 /// The word for what comes of a text.
@@ -31,43 +25,34 @@ fn entered_word(entered: Entered) -> &'static str {
     }
 }
 
-/// Adds what comes of a text in a field, and the variables afterwards.
-pub fn add_entered(
-    alloc: Global,
-    card: &View<'_>,
-    args: &mut Args<'_>,
-    answer: &mut Answer,
-) -> Result<(), CaseFault> {
-    let field = number(args)?;
-    let text = args.text()?;
-    let mut vars = vars(alloc, args)?;
-    let entered = enter_text(alloc, card, field, &text, &mut vars)?;
-    answer.word(entered_word(entered))?;
-    add_vars(alloc, &vars, answer)
+/// Gives what comes of a text in a field, and the variables afterwards.
+pub fn give_entered(call: &mut Call, card: &View<'_>) -> Result<(), CaseFault> {
+    let field = number(call);
+    let text = call.text();
+    let mut vars = vars(call)?;
+    let entered = enter_text(call.alloc(), card, field, &text, &mut vars)?;
+    call.give_word(entered_word(entered));
+    give_vars(call, &vars)
 }
 
-/// Adds the faults of a choice and its task, or why there is none.
-fn add_choice(alloc: Global, chosen: Chosen, answer: &mut Answer) -> Result<(), CaseFault> {
+/// Gives the faults of a choice and its task, or why there is none.
+fn give_choice(call: &mut Call, chosen: &Chosen) -> Result<(), CaseFault> {
     match chosen {
-        Chosen::NoOption => answer.word("NoOption"),
+        Chosen::NoOption => call.give_word("NoOption"),
         Chosen::Set(faults, task) => {
-            add_faults(faults, answer)?;
-            add_task(alloc, task, answer)
+            give_faults(call, faults)?;
+            give_task(call, task);
         }
     }
+    Ok(())
 }
 
-/// Adds what comes of an option in a field, and the variables afterwards.
-pub fn add_chosen(
-    alloc: Global,
-    card: &View<'_>,
-    args: &mut Args<'_>,
-    answer: &mut Answer,
-) -> Result<(), CaseFault> {
-    let field = number(args)?;
-    let option = number(args)?;
-    let mut vars = vars(alloc, args)?;
-    let chosen = choose(alloc, card, field, option, &mut vars)?;
-    add_choice(alloc, chosen, answer)?;
-    add_vars(alloc, &vars, answer)
+/// Gives what comes of an option in a field, and the variables afterwards.
+pub fn give_chosen(call: &mut Call, card: &View<'_>) -> Result<(), CaseFault> {
+    let field = number(call);
+    let option = number(call);
+    let mut vars = vars(call)?;
+    let chosen = choose(call.alloc(), card, field, option, &mut vars)?;
+    give_choice(call, &chosen)?;
+    give_vars(call, &vars)
 }

@@ -1,62 +1,46 @@
 //! What a card shows.
 use crate::variables::vars;
-use std::alloc::Global;
 use wap_cards::title;
-use wap_casebook::{Answer, Args, CaseFault};
+use wap_casebook::{Call, CaseFault};
 use wap_flow::flow;
 use wap_good::View;
 use wap_layout::{Flow, lines};
 
-/// Adds words as a text, and a break or a mode by its name.
-fn add_part(alloc: Global, part: &Flow, answer: &mut Answer) -> Result<(), CaseFault> {
+/// Gives words as a text, and a break or a mode by its name.
+fn give_part(call: &mut Call, part: &Flow) {
     match part {
-        Flow::Words(text) => answer.text(text.copy(alloc)?),
-        Flow::Hard => answer.word("Hard"),
-        Flow::Soft => answer.word("Soft"),
-        Flow::Wrap => answer.word("Wrap"),
-        Flow::NoWrap => answer.word("NoWrap"),
-        Flow::Pre => answer.word("Pre"),
+        Flow::Words(text) => call.give_text(text),
+        Flow::Hard => call.give_word("Hard"),
+        Flow::Soft => call.give_word("Soft"),
+        Flow::Wrap => call.give_word("Wrap"),
+        Flow::NoWrap => call.give_word("NoWrap"),
+        Flow::Pre => call.give_word("Pre"),
     }
 }
 
-/// Adds what a card shows, part after part.
-pub fn add_flow(
-    alloc: Global,
-    card: &View<'_>,
-    args: &mut Args<'_>,
-    answer: &mut Answer,
-) -> Result<(), CaseFault> {
-    let vars = vars(alloc, args)?;
-    let flow = flow(alloc, card, &vars)?;
-    for part in flow.as_slice() {
-        add_part(alloc, part, answer)?;
+/// Gives what a card shows, part after part.
+pub fn give_flow(call: &mut Call, card: &View<'_>) -> Result<(), CaseFault> {
+    let vars = vars(call)?;
+    for part in flow(call.alloc(), card, &vars)?.as_slice() {
+        give_part(call, part);
     }
     Ok(())
 }
 
-/// Adds the lines of what a card shows, at a width.
-pub fn add_lines(
-    alloc: Global,
-    card: &View<'_>,
-    args: &mut Args<'_>,
-    answer: &mut Answer,
-) -> Result<(), CaseFault> {
-    let width = args.count()?.max(1);
-    let vars = vars(alloc, args)?;
-    let flow = flow(alloc, card, &vars)?;
-    for line in lines(alloc, flow.as_slice(), width)? {
-        answer.text(line)?;
+/// Gives the lines of what a card shows, at a width.
+pub fn give_lines(call: &mut Call, card: &View<'_>) -> Result<(), CaseFault> {
+    let width = call.count().max(1);
+    let vars = vars(call)?;
+    let flow = flow(call.alloc(), card, &vars)?;
+    for line in &lines(call.alloc(), flow.as_slice(), width)? {
+        call.give_text(line);
     }
     Ok(())
 }
 
-/// Adds the title of a card.
-pub fn add_title(
-    alloc: Global,
-    card: &View<'_>,
-    args: &mut Args<'_>,
-    answer: &mut Answer,
-) -> Result<(), CaseFault> {
-    let vars = vars(alloc, args)?;
-    answer.text(title(alloc, card, &vars)?)
+/// Gives the title of a card.
+pub fn give_title(call: &mut Call, card: &View<'_>) -> Result<(), CaseFault> {
+    let vars = vars(call)?;
+    call.give_text(&title(call.alloc(), card, &vars)?);
+    Ok(())
 }

@@ -1,52 +1,47 @@
 //! Tasks.
-use std::alloc::Global;
 use wap_base::{Rows, Text};
 use wap_cardrules::{Go, Task};
-use wap_casebook::{Answer, CaseFault};
+use wap_casebook::Call;
 
-/// Adds names and texts, a word before each pair.
-fn add_pairs(
-    alloc: Global,
-    word: &'static str,
-    pairs: &Rows<(Text, Text)>,
-    answer: &mut Answer,
-) -> Result<(), CaseFault> {
+/// Gives names and texts, a word before each pair.
+fn give_pairs(call: &mut Call, word: &str, pairs: &Rows<(Text, Text)>) {
     for (name, text) in pairs.as_slice() {
-        answer.word(word)?;
-        answer.text(name.copy(alloc)?)?;
-        answer.text(text.copy(alloc)?)?;
+        call.give_word(word);
+        call.give_text(name);
+        call.give_text(text);
     }
-    Ok(())
 }
 
-/// Adds a word, if something is so.
-fn add_word_if(is_so: bool, word: &'static str, answer: &mut Answer) -> Result<(), CaseFault> {
-    if is_so { answer.word(word) } else { Ok(()) }
+/// Gives a word, if something is so.
+fn give_if(call: &mut Call, is_so: bool, word: &str) {
+    if is_so {
+        call.give_word(word);
+    }
 }
 
-/// Adds a go.
-fn add_go(alloc: Global, go: &Go, answer: &mut Answer) -> Result<(), CaseFault> {
-    answer.word("go")?;
-    answer.text(go.href.copy(alloc)?)?;
-    add_word_if(go.post, "post", answer)?;
-    add_word_if(go.referer, "referer", answer)?;
-    add_word_if(go.fresh, "fresh", answer)?;
-    add_pairs(alloc, "field", &go.posts, answer)?;
-    add_pairs(alloc, "set", &go.sets, answer)
+/// Gives a go.
+fn give_go(call: &mut Call, go: &Go) {
+    call.give_word("go");
+    call.give_text(&go.href);
+    give_if(call, go.post, "post");
+    give_if(call, go.referer, "referer");
+    give_if(call, go.fresh, "fresh");
+    give_pairs(call, "field", &go.posts);
+    give_pairs(call, "set", &go.sets);
 }
 
-/// Adds a task, or `none`.
-pub fn add_task(alloc: Global, task: Option<Task>, answer: &mut Answer) -> Result<(), CaseFault> {
+/// Gives a task, or `none`.
+pub fn give_task(call: &mut Call, task: &Option<Task>) {
     match task {
-        Some(Task::Go(go)) => add_go(alloc, &go, answer),
+        Some(Task::Go(go)) => give_go(call, go),
         Some(Task::Prev(sets)) => {
-            answer.word("prev")?;
-            add_pairs(alloc, "set", &sets, answer)
+            call.give_word("prev");
+            give_pairs(call, "set", sets);
         }
         Some(Task::Refresh(sets)) => {
-            answer.word("refresh")?;
-            add_pairs(alloc, "set", &sets, answer)
+            call.give_word("refresh");
+            give_pairs(call, "set", sets);
         }
-        None => answer.word("none"),
+        None => call.give_word("none"),
     }
 }

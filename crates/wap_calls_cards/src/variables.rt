@@ -1,49 +1,55 @@
 //! Variables, and why some are refused.
-use std::alloc::Global;
 use wap_base::Rows;
-use wap_casebook::{Answer, Args, CaseFault};
+use wap_casebook::{Call, CaseFault};
 use wap_vars::{VarFault, Vars};
 
+/// Sets a variable by the next name and text.
+fn set_next(call: &mut Call, vars: &mut Vars) -> Result<(), CaseFault> {
+    let name = call.text();
+    let text = call.text();
+    match vars.set(&name, text) {
+        Ok(()) => Ok(()),
+        Err(VarFault::NoMemory) => Err(CaseFault::NoMemory),
+        Err(_) => Err(CaseFault::Argument),
+    }
+}
+
 /// The variables that the names and texts which are left give.
-pub fn vars(alloc: Global, args: &mut Args<'_>) -> Result<Vars, CaseFault> {
-    let mut vars = Vars::new(alloc);
+pub fn vars(call: &mut Call) -> Result<Vars, CaseFault> {
+    let mut vars = Vars::new(call.alloc());
     for _ in 0..u64::MAX {
-        if !args.has_more() {
+        if !call.has_more() {
             break;
         }
-        let name = args.text()?;
-        match vars.set(&name, args.text()?) {
-            Ok(()) => {}
-            Err(VarFault::NoMemory) => return Err(CaseFault::NoMemory),
-            Err(_) => return Err(CaseFault::Malformed("a variable is refused")),
-        }
+        set_next(call, &mut vars)?;
     }
     Ok(vars)
 }
 
-/// Adds the names and texts of variables, in order.
-pub fn add_vars(alloc: Global, vars: &Vars, answer: &mut Answer) -> Result<(), CaseFault> {
-    for (name, text) in vars.entries(alloc)? {
-        answer.text(name)?;
-        answer.text(text)?;
+/// Gives the names and texts of variables, in order.
+pub fn give_vars(call: &mut Call, vars: &Vars) -> Result<(), CaseFault> {
+    for (name, text) in &vars.entries(call.alloc())? {
+        call.give_text(name);
+        call.give_text(text);
     }
     Ok(())
 }
 
-/// Adds why a variable isn't set.
-fn add_fault(fault: VarFault, answer: &mut Answer) -> Result<(), CaseFault> {
+/// Gives why a variable isn't set.
+fn give_fault(call: &mut Call, fault: VarFault) -> Result<(), CaseFault> {
     match fault {
-        VarFault::BadName => answer.word("BadName"),
-        VarFault::TooLong { bytes: _ } => answer.word("TooLong"),
-        VarFault::Full => answer.word("Full"),
-        VarFault::NoMemory => Err(CaseFault::NoMemory),
+        VarFault::BadName => call.give_word("BadName"),
+        VarFault::TooLong { bytes: _ } => call.give_word("TooLong"),
+        VarFault::Full => call.give_word("Full"),
+        VarFault::NoMemory => return Err(CaseFault::NoMemory),
     }
+    Ok(())
 }
 
-/// Adds why variables aren't set.
-pub fn add_faults(faults: Rows<VarFault>, answer: &mut Answer) -> Result<(), CaseFault> {
-    for fault in faults.into_vec() {
-        add_fault(fault, answer)?;
+/// Gives why variables aren't set.
+pub fn give_faults(call: &mut Call, faults: &Rows<VarFault>) -> Result<(), CaseFault> {
+    for fault in faults.as_slice() {
+        give_fault(call, *fault)?;
     }
     Ok(())
 }

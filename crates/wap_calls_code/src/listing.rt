@@ -1,8 +1,8 @@
 //! Calls of the listing.
 use crate::units::read_unit;
-use std::alloc::Global;
 use wap_base::MemSink;
-use wap_casebook::{Answer, Args, CaseFault, text};
+use wap_casebook::{Call, CaseFault, text};
+use wap_code::Unit;
 use wap_dis::listing;
 
 /// The most bytes of a listing.
@@ -11,14 +11,22 @@ const ROOM: usize = 65_536;
 /// The most bytes that the sink takes at once.
 const PIECE: usize = 4096;
 
-/// Reads a unit, and adds its listing.
-pub fn listed(alloc: Global, args: &mut Args<'_>, answer: &mut Answer) -> Result<(), CaseFault> {
-    let Some(unit) = read_unit(alloc, &args.bytes()?, answer)? else {
-        return Ok(());
-    };
+/// Gives the listing of a unit.
+fn give_listing(call: &mut Call, unit: &Unit) -> Result<(), CaseFault> {
+    let alloc = call.alloc();
     let mut sink = MemSink::new(alloc, ROOM, PIECE, Vec::new(alloc))?;
-    match listing(&unit, &mut sink) {
-        Ok(()) => answer.text(text(alloc, sink.bytes())?),
-        Err(_) => Err(CaseFault::Malformed("the listing has no room")),
+    if listing(unit, &mut sink).is_err() {
+        return Err(CaseFault::Argument);
+    }
+    call.give_text(&text(alloc, sink.bytes())?);
+    Ok(())
+}
+
+/// Reads a unit, and gives its listing.
+pub fn list(call: &mut Call) -> Result<(), CaseFault> {
+    let bytes = call.bytes();
+    match read_unit(call, &bytes)? {
+        Some(unit) => give_listing(call, &unit),
+        None => Ok(()),
     }
 }

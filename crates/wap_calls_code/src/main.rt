@@ -5,10 +5,9 @@ mod listing;
 mod units;
 mod verifier;
 
-use std::alloc::Global;
 use std::marker::{Send, Sync};
 use std::process::ExitCode;
-use wap_casebook::{Answer, Args, Calls, CaseFault, play_calls};
+use wap_casebook::{Call, Calls, CaseFault, play_calls};
 use wap_code::{Code, Constant, Instr, InstrFault, OpName, Pragma, Row, Unit};
 use wap_unit::UnitFault;
 use wap_verify::{Step, Verified, VerifyFault, Way};
@@ -17,20 +16,16 @@ use wap_verify::{Step, Verified, VerifyFault, Way};
 struct UnitCalls;
 
 impl Calls for UnitCalls {
-    fn call(
-        &self,
-        alloc: Global,
-        name: &[u8],
-        args: &mut Args<'_>,
-        answer: &mut Answer,
-    ) -> Result<bool, CaseFault> {
-        match name {
-            b"decode" => units::decoded(alloc, args, answer)?,
-            b"verify" => verifier::verified(alloc, args, answer)?,
-            b"list" => listing::listed(alloc, args, answer)?,
-            _ => return Ok(false),
+    fn make(&self, name: &[u8], call: &mut Call) -> Result<(), CaseFault> {
+        if name == b"decode".as_slice() {
+            units::read_and_write(call)
+        } else if name == b"verify".as_slice() {
+            verifier::read_and_verify(call)
+        } else if name == b"list".as_slice() {
+            listing::list(call)
+        } else {
+            Err(CaseFault::Line)
         }
-        Ok(true)
     }
 }
 
@@ -55,9 +50,5 @@ fn all_cross() {
 
 fn main(rt: HostRuntime) -> ExitCode {
     all_cross();
-    match play_calls(&rt, &UnitCalls) {
-        Ok(tally) if tally.differing == 0 => ExitCode::from(0),
-        Ok(_) => ExitCode::from(1),
-        Err(_) => ExitCode::from(2),
-    }
+    play_calls(&rt, &UnitCalls)
 }

@@ -2,62 +2,74 @@
 ghost use Rattle.std.specs.Prelude.{IfOk, IfSome};
 ghost use Rattle.wap_unit.specs.Spelling.{HasSpelling};
 
-use std::alloc::Global;
 use wap_base::Bytes;
-use wap_casebook::{Answer, Args, CaseFault};
+use wap_casebook::{Call, CaseFault};
 use wap_code::Unit;
 use wap_unit::{UnitFault, decode, encode};
 
-/// The name of a fault and its place.
-fn told(fault: UnitFault) -> Result<(&'static str, usize), CaseFault> {
+/// Gives a fault and its place.
+fn give_fault(call: &mut Call, fault: UnitFault) -> Result<(), CaseFault> {
     match fault {
-        UnitFault::Version { at } => Ok(("Version", at)),
-        UnitFault::Short { at } => Ok(("Short", at)),
-        UnitFault::Number { at } => Ok(("Number", at)),
-        UnitFault::Size { at } => Ok(("Size", at)),
-        UnitFault::ConstantKind { at } => Ok(("ConstantKind", at)),
-        UnitFault::PragmaKind { at } => Ok(("PragmaKind", at)),
-        UnitFault::Text { at } => Ok(("Text", at)),
-        UnitFault::Charset { at } => Ok(("Charset", at)),
-        UnitFault::NoFunction { at } => Ok(("NoFunction", at)),
-        UnitFault::NameIndex { at } => Ok(("NameIndex", at)),
-        UnitFault::NoMemory => Err(CaseFault::NoMemory),
+        UnitFault::Version { at } => give_place(call, "Version", at),
+        UnitFault::Short { at } => give_place(call, "Short", at),
+        UnitFault::Number { at } => give_place(call, "Number", at),
+        UnitFault::Size { at } => give_place(call, "Size", at),
+        UnitFault::ConstantKind { at } => give_place(call, "ConstantKind", at),
+        UnitFault::PragmaKind { at } => give_place(call, "PragmaKind", at),
+        UnitFault::Text { at } => give_place(call, "Text", at),
+        UnitFault::Charset { at } => give_place(call, "Charset", at),
+        UnitFault::NoFunction { at } => give_place(call, "NoFunction", at),
+        UnitFault::NameIndex { at } => give_place(call, "NameIndex", at),
+        UnitFault::NoMemory => return Err(CaseFault::NoMemory),
     }
+    Ok(())
 }
 
-/// The unit that bytes spell. Where they spell none, it adds why.
-pub fn read_unit(
-    alloc: Global,
-    bytes: &Bytes,
-    answer: &mut Answer,
-) -> Result<Option<Unit>, CaseFault>
+/// Gives a word and a place.
+fn give_place(call: &mut Call, word: &str, at: usize) {
+    call.give_word(word);
+    call.give_count(at);
+}
+
+/// The unit that bytes spell. Where they spell none, it gives why.
+pub fn read_unit(call: &mut Call, bytes: &Bytes) -> Result<Option<Unit>, CaseFault>
     ensures { IfOk result (λ read. IfSome read (λ unit. HasSpelling unit)) }
 {
     if bytes.len() > u32::MAX as usize {
-        return Err(CaseFault::Malformed("a unit has less than 2^32 bytes"));
+        return Err(CaseFault::Argument);
     }
-    match decode(alloc, bytes.as_slice()) {
+    match decode(call.alloc(), bytes.as_slice()) {
         Ok(unit) => Ok(Some(unit)),
         Err(fault) => {
-            let (name, at) = told(fault)?;
-            answer.word(name)?;
-            answer.count(at)?;
+            give_fault(call, fault)?;
             Ok(None)
         }
     }
 }
 
-/// Reads a unit, and adds `ok` where what is written of it is read as what is written the same.
-pub fn decoded(alloc: Global, args: &mut Args<'_>, answer: &mut Answer) -> Result<(), CaseFault> {
-    let Some(unit) = read_unit(alloc, &args.bytes()?, answer)? else {
-        return Ok(());
+/// Gives `ok` where bytes that were written of a unit are read as a unit of which the same is
+/// written.
+fn give_again(call: &mut Call, written: &Bytes) -> Result<(), CaseFault> {
+    let is_same = match read_unit(call, written)? {
+        Some(unit) => encode(call.alloc(), &unit)? == *written,
+        None => false,
     };
-    let written = encode(alloc, &unit)?;
-    let Some(again) = read_unit(alloc, &written, answer)? else {
-        return answer.bytes(written);
-    };
-    if encode(alloc, &again)? != written {
-        return answer.bytes(written);
+    if is_same {
+        call.give_word("ok");
+    } else {
+        call.give_bytes(written.as_slice());
     }
-    answer.word("ok")
+    Ok(())
+}
+
+/// Reads a unit and writes it, and gives `ok` where what is written is read and written the same.
+pub fn read_and_write(call: &mut Call) -> Result<(), CaseFault> {
+    let bytes = call.bytes();
+    match read_unit(call, &bytes)? {
+        Some(unit) => {
+            let written = encode(call.alloc(), &unit)?;
+            give_again(call, &written)
+        }
+        None => Ok(()),
+    }
 }

@@ -1,61 +1,68 @@
 //! Calls of the verifier.
+ghost use Rattle.wap_unit.specs.Spelling.{HasSpelling};
+
 use crate::units::read_unit;
-use std::alloc::Global;
-use wap_casebook::{Answer, Args, CaseFault};
+use wap_casebook::{Call, CaseFault};
+use wap_code::Unit;
 use wap_verify::{VerifyFault, verify};
 
-/// Adds the name of a fault and its place.
-fn add_place(
-    answer: &mut Answer,
-    name: &'static str,
-    function: u8,
-    at: usize,
-) -> Result<(), CaseFault> {
-    answer.word(name)?;
-    answer.number(i64::from(function))?;
-    answer.count(at)
+/// Gives the name of a fault and its place.
+fn give_place(call: &mut Call, name: &str, function: u8, at: usize) {
+    call.give_word(name);
+    call.give_number(i64::from(function));
+    call.give_count(at);
 }
 
-/// Adds why a unit may not be run.
-fn add_fault(answer: &mut Answer, fault: VerifyFault) -> Result<(), CaseFault> {
+/// Gives why a unit may not be run.
+fn give_fault(call: &mut Call, fault: VerifyFault) -> Result<(), CaseFault> {
     match fault {
         VerifyFault::Pragma { index } => {
-            answer.word("Pragma")?;
-            answer.number(i64::from(index))
+            call.give_word("Pragma");
+            call.give_number(i64::from(index));
         }
-        VerifyFault::Opcode { function, at } => add_place(answer, "Opcode", function, at),
-        VerifyFault::Operand { function, at } => add_place(answer, "Operand", function, at),
-        VerifyFault::Variable { function, at } => add_place(answer, "Variable", function, at),
-        VerifyFault::Constant { function, at } => add_place(answer, "Constant", function, at),
-        VerifyFault::Function { function, at } => add_place(answer, "Function", function, at),
-        VerifyFault::Library { function, at } => add_place(answer, "Library", function, at),
-        VerifyFault::LoneShort { function, at } => add_place(answer, "LoneShort", function, at),
-        VerifyFault::Target { function, at } => add_place(answer, "Target", function, at),
-        VerifyFault::Underflow { function, at } => add_place(answer, "Underflow", function, at),
+        VerifyFault::Opcode { function, at } => give_place(call, "Opcode", function, at),
+        VerifyFault::Operand { function, at } => give_place(call, "Operand", function, at),
+        VerifyFault::Variable { function, at } => give_place(call, "Variable", function, at),
+        VerifyFault::Constant { function, at } => give_place(call, "Constant", function, at),
+        VerifyFault::Function { function, at } => give_place(call, "Function", function, at),
+        VerifyFault::Library { function, at } => give_place(call, "Library", function, at),
+        VerifyFault::LoneShort { function, at } => give_place(call, "LoneShort", function, at),
+        VerifyFault::Target { function, at } => give_place(call, "Target", function, at),
+        VerifyFault::Underflow { function, at } => give_place(call, "Underflow", function, at),
         VerifyFault::Depths {
             function,
             at,
             found,
             other,
         } => {
-            add_place(answer, "Depths", function, at)?;
-            answer.number(i64::from(found))?;
-            answer.number(i64::from(other))
+            give_place(call, "Depths", function, at);
+            call.give_number(i64::from(found));
+            call.give_number(i64::from(other));
         }
-        VerifyFault::NoMemory => Err(CaseFault::NoMemory),
+        VerifyFault::NoMemory => return Err(CaseFault::NoMemory),
+    }
+    Ok(())
+}
+
+/// Verifies a unit, and gives `ok` and the number of its functions where it may be run.
+fn give_verified(call: &mut Call, unit: Unit) -> Result<(), CaseFault>
+    requires { HasSpelling unit }
+{
+    match verify(call.alloc(), unit) {
+        Ok(verified) => {
+            call.give_word("ok");
+            call.give_count(verified.unit().functions.len());
+            Ok(())
+        }
+        Err((_, fault)) => give_fault(call, fault),
     }
 }
 
-/// Reads and verifies a unit, and adds `ok` and the number of its functions where it may be run.
-pub fn verified(alloc: Global, args: &mut Args<'_>, answer: &mut Answer) -> Result<(), CaseFault> {
-    let Some(unit) = read_unit(alloc, &args.bytes()?, answer)? else {
-        return Ok(());
-    };
-    match verify(alloc, unit) {
-        Ok(verified) => {
-            answer.word("ok")?;
-            answer.count(verified.unit().functions.len())
-        }
-        Err((_, fault)) => add_fault(answer, fault),
+/// Reads and verifies a unit.
+pub fn read_and_verify(call: &mut Call) -> Result<(), CaseFault> {
+    let bytes = call.bytes();
+    match read_unit(call, &bytes)? {
+        Some(unit) => give_verified(call, unit),
+        None => Ok(()),
     }
 }

@@ -1,254 +1,317 @@
 //! Calls of texts, rows, names and numbers.
-use std::alloc::Global;
 use wap_base::{
     Bytes, Limits, Name, NameFault, ReadFault, Rows, Text, are_ascending, are_distinct, is_name,
     read_mb, read_u8, write_mb,
 };
-use wap_casebook::{Answer, Args, CaseFault};
+use wap_casebook::{Call, CaseFault, meaning_of};
 
-/// A text that is made by appending texts, and then another character by character.
-fn added(alloc: Global, args: &mut Args<'_>, answer: &mut Answer) -> Result<(), CaseFault> {
-    let mut whole = Text::new(alloc);
-    let mut last = args.text()?;
+/// A call of texts, rows, names or numbers.
+#[derive(Clone, Copy)]
+pub enum BaseCall {
+    Add,
+    AddBytes,
+    Rows,
+    IsLess,
+    IsSame,
+    AreAscending,
+    AreDistinct,
+    FromLatin1,
+    AddNumber,
+    Limits,
+    DefaultLimits,
+    IsName,
+    Name,
+    ReadU8,
+    ReadMb,
+    WriteMb,
+}
+
+/// The calls, by their names.
+static CALLS: [(&str, BaseCall); 16] = [
+    ("add", BaseCall::Add),
+    ("add_bytes", BaseCall::AddBytes),
+    ("rows", BaseCall::Rows),
+    ("is_less", BaseCall::IsLess),
+    ("is_same", BaseCall::IsSame),
+    ("are_ascending", BaseCall::AreAscending),
+    ("are_distinct", BaseCall::AreDistinct),
+    ("from_latin1", BaseCall::FromLatin1),
+    ("add_number", BaseCall::AddNumber),
+    ("limits", BaseCall::Limits),
+    ("default_limits", BaseCall::DefaultLimits),
+    ("is_name", BaseCall::IsName),
+    ("name", BaseCall::Name),
+    ("read_u8", BaseCall::ReadU8),
+    ("read_mb", BaseCall::ReadMb),
+    ("write_mb", BaseCall::WriteMb),
+];
+
+/// The call of a name.
+pub fn find(name: &[u8]) -> Option<BaseCall> {
+    meaning_of(&CALLS, name)
+}
+
+/// Appends a text character by character.
+fn add_characters(whole: &mut Text, text: &Text) -> Result<(), CaseFault> {
+    for character in text.as_str().chars() {
+        whole.push(character)?;
+    }
+    Ok(())
+}
+
+/// A text that is made by appending texts, the last character by character.
+fn whole_text(call: &mut Call) -> Result<Text, CaseFault> {
+    let mut whole = Text::new(call.alloc());
+    let mut last = call.text();
     for _ in 0..u64::MAX {
-        if !args.has_more() {
+        if !call.has_more() {
             break;
         }
         whole.add(last.as_str())?;
-        last = args.text()?;
+        last = call.text();
     }
-    for character in last.as_str().chars() {
-        whole.push(character)?;
-    }
-    answer.truth(whole.is_empty())?;
-    answer.text(Text::from_string(whole.copy(alloc)?.into_string()))
+    add_characters(&mut whole, &last)?;
+    Ok(whole)
 }
 
-/// Bytes that are made by appending bytes, and their number.
-fn joined(alloc: Global, args: &mut Args<'_>, answer: &mut Answer) -> Result<(), CaseFault> {
-    let mut whole = Bytes::new(alloc);
-    for _ in 0..u64::MAX {
-        if !args.has_more() {
-            break;
-        }
-        whole.add(args.bytes()?.as_slice())?;
-    }
-    answer.count(whole.len())?;
-    answer.bytes(Bytes::from_vec(whole.into_vec()))
+/// Gives a text made of texts, and whether it is empty.
+fn give_whole_text(call: &mut Call) -> Result<(), CaseFault> {
+    let whole = whole_text(call)?;
+    call.give_truth(whole.is_empty());
+    let copy = whole.copy(call.alloc())?;
+    call.give_text(&Text::from_string(copy.into_string()));
+    Ok(())
 }
 
-/// Rows of numbers: how many, the second, and then each from the last on.
-fn rows(alloc: Global, args: &mut Args<'_>, answer: &mut Answer) -> Result<(), CaseFault> {
-    let mut rows = Rows::new(alloc);
+/// Gives bytes that are made by appending bytes, and their number.
+fn give_whole_bytes(call: &mut Call) -> Result<(), CaseFault> {
+    let mut whole = Bytes::new(call.alloc());
     for _ in 0..u64::MAX {
-        if !args.has_more() {
+        if !call.has_more() {
             break;
         }
-        rows.add(args.number()?)?;
+        whole.add(call.bytes().as_slice())?;
     }
-    answer.count(rows.len())?;
-    match rows.get(1) {
-        Some(number) => answer.number(*number)?,
-        None => answer.word("none")?,
+    call.give_count(whole.len());
+    call.give_bytes(Bytes::from_vec(whole.into_vec()).as_slice());
+    Ok(())
+}
+
+/// The rows of the numbers that are left.
+fn rows(call: &mut Call) -> Result<Rows<i64>, CaseFault> {
+    let mut rows = Rows::new(call.alloc());
+    for _ in 0..u64::MAX {
+        if !call.has_more() {
+            break;
+        }
+        rows.add(call.number())?;
     }
+    Ok(rows)
+}
+
+/// Gives a number, or `none`.
+fn give_if_any(call: &mut Call, number: Option<i64>) {
+    match number {
+        Some(number) => call.give_number(number),
+        None => call.give_word("none"),
+    }
+}
+
+/// Gives rows of numbers: how many, the second, and then each from the last on.
+fn give_rows(call: &mut Call) -> Result<(), CaseFault> {
+    let rows = rows(call)?;
+    call.give_count(rows.len());
+    give_if_any(call, rows.get(1).copied());
     let mut rows = Rows::from_vec(rows.into_vec());
     for _ in 0..rows.len() {
-        match rows.pop() {
-            Some(number) => answer.number(number)?,
-            None => answer.word("none")?,
-        }
+        give_if_any(call, rows.pop());
     }
     Ok(())
 }
 
 /// The texts that are left.
-fn texts(alloc: Global, args: &mut Args<'_>) -> Result<Vec<Text>, CaseFault> {
-    let mut texts = Vec::new(alloc);
+fn texts(call: &mut Call) -> Result<Vec<Text>, CaseFault> {
+    let mut texts = Vec::new(call.alloc());
     for _ in 0..u64::MAX {
-        if !args.has_more() {
+        if !call.has_more() {
             break;
         }
-        texts.push(args.text()?)?;
+        texts.push(call.text())?;
     }
     Ok(texts)
 }
 
-/// Whether a text comes before another.
-fn is_less(args: &mut Args<'_>, answer: &mut Answer) -> Result<(), CaseFault> {
-    let first = args.text()?;
-    answer.truth(first < args.text()?)
+/// Gives whether a text comes before another.
+fn give_is_less(call: &mut Call) {
+    let first = call.text();
+    let is_less = first < call.text();
+    call.give_truth(is_less);
 }
 
-/// Whether two texts are the same.
-fn is_same(args: &mut Args<'_>, answer: &mut Answer) -> Result<(), CaseFault> {
-    let first = args.text()?;
-    answer.truth(first == args.text()?)
+/// Gives whether two texts are the same.
+fn give_is_same(call: &mut Call) {
+    let first = call.text();
+    let is_same = first == call.text();
+    call.give_truth(is_same);
 }
 
-/// Whether each text comes before those that follow it.
-fn ascending(alloc: Global, args: &mut Args<'_>, answer: &mut Answer) -> Result<(), CaseFault> {
-    answer.truth(are_ascending(&texts(alloc, args)?))
+/// Gives whether each text comes before those that follow it.
+fn give_ascending(call: &mut Call) -> Result<(), CaseFault> {
+    let texts = texts(call)?;
+    call.give_truth(are_ascending(&texts));
+    Ok(())
 }
 
-/// Whether no two texts are the same.
-fn distinct(alloc: Global, args: &mut Args<'_>, answer: &mut Answer) -> Result<(), CaseFault> {
-    answer.truth(are_distinct(texts(alloc, args)?))
+/// Gives whether no two texts are the same.
+fn give_distinct(call: &mut Call) -> Result<(), CaseFault> {
+    let texts = texts(call)?;
+    call.give_truth(are_distinct(texts));
+    Ok(())
 }
 
-/// The text of bytes in ISO-8859-1.
-fn latin1(alloc: Global, args: &mut Args<'_>, answer: &mut Answer) -> Result<(), CaseFault> {
-    let bytes = args.bytes()?;
-    answer.text(Text::from_latin1(alloc, bytes.as_slice())?)
+/// Gives the text of bytes in ISO-8859-1.
+fn give_latin1(call: &mut Call) -> Result<(), CaseFault> {
+    let bytes = call.bytes();
+    call.give_text(&Text::from_latin1(call.alloc(), bytes.as_slice())?);
+    Ok(())
 }
 
-/// Whether bytes are a name.
-fn names(args: &mut Args<'_>, answer: &mut Answer) -> Result<(), CaseFault> {
-    answer.truth(is_name(args.bytes()?.as_slice()))
+/// Gives whether bytes are a name.
+fn give_is_name(call: &mut Call) {
+    let bytes = call.bytes();
+    call.give_truth(is_name(bytes.as_slice()));
 }
 
-/// A text with a number behind it.
-fn numbered(args: &mut Args<'_>, answer: &mut Answer) -> Result<(), CaseFault> {
-    let mut text = args.text()?;
-    text.add_number(args.count()? as u64)?;
-    answer.text(text)
-}
-
-/// The next argument, a number of 32 bits.
-fn word32(args: &mut Args<'_>) -> Result<u32, CaseFault> {
-    match u32::try_from(args.number()?) {
-        Ok(number) => Ok(number),
-        Err(_) => Err(CaseFault::Malformed("a number of 32 bits is wanted")),
-    }
+/// Gives a text with a number behind it.
+fn give_numbered(call: &mut Call) -> Result<(), CaseFault> {
+    let mut text = call.text();
+    text.add_number(call.count() as u64)?;
+    call.give_text(&text);
+    Ok(())
 }
 
 /// The next argument, a number of 8 bits.
-fn word8(args: &mut Args<'_>) -> Result<u8, CaseFault> {
-    match u8::try_from(args.number()?) {
-        Ok(number) => Ok(number),
-        Err(_) => Err(CaseFault::Malformed("a number of 8 bits is wanted")),
+fn number8(call: &mut Call) -> u8 {
+    match u8::try_from(call.number()) {
+        Ok(number) => number,
+        Err(_) => {
+            call.fail(CaseFault::Argument);
+            0
+        }
     }
 }
 
-/// Whether limits may be chosen.
-fn limits(args: &mut Args<'_>, answer: &mut Answer) -> Result<(), CaseFault> {
+/// Gives whether limits may be chosen.
+fn give_limits(call: &mut Call) {
     let limits = Limits {
-        string: word32(args)?,
-        history: word8(args)?,
-        depth: word8(args)?,
+        string: call.number32(),
+        history: number8(call),
+        depth: number8(call),
     };
-    answer.truth(limits.are_in_range())
+    call.give_truth(limits.are_in_range());
 }
 
-/// The limits where nothing is chosen.
-fn default_limits(answer: &mut Answer) -> Result<(), CaseFault> {
+/// Gives the limits where nothing is chosen.
+fn give_default_limits(call: &mut Call) {
     let limits = Limits::default();
-    answer.number(i64::from(limits.string))?;
-    answer.number(i64::from(limits.history))?;
-    answer.number(i64::from(limits.depth))
+    call.give_number(i64::from(limits.string));
+    call.give_number(i64::from(limits.history));
+    call.give_number(i64::from(limits.depth));
 }
 
-/// The name of a text.
-fn name(alloc: Global, args: &mut Args<'_>, answer: &mut Answer) -> Result<(), CaseFault> {
-    match Name::of(alloc, &args.text()?) {
-        Ok(name) => answer.text(name.copy(alloc)?.text().copy(alloc)?),
-        Err(NameFault::BadName) => answer.word("BadName"),
-        Err(NameFault::NoMemory) => Err(CaseFault::NoMemory),
+/// Gives the text of a name that is copied.
+fn give_copied(call: &mut Call, name: &Name) -> Result<(), CaseFault> {
+    let copy = name.copy(call.alloc())?;
+    call.give_text(copy.text());
+    Ok(())
+}
+
+/// Gives the name of a text.
+fn give_name(call: &mut Call) -> Result<(), CaseFault> {
+    let text = call.text();
+    match Name::of(call.alloc(), &text) {
+        Ok(name) => return give_copied(call, &name),
+        Err(NameFault::BadName) => call.give_word("BadName"),
+        Err(NameFault::NoMemory) => return Err(CaseFault::NoMemory),
+    }
+    Ok(())
+}
+
+/// Gives a number and where the bytes behind it stand.
+fn give_place(call: &mut Call, number: u32, next: usize) {
+    call.give_number(i64::from(number));
+    call.give_count(next);
+}
+
+/// Gives why bytes have no number.
+fn give_fault(call: &mut Call, fault: ReadFault) {
+    match fault {
+        ReadFault::Short { at } => {
+            call.give_word("Short");
+            call.give_count(at);
+        }
+        ReadFault::TooLong { at } => {
+            call.give_word("TooLong");
+            call.give_count(at);
+        }
     }
 }
 
-/// Adds a number and where the bytes behind it stand, or why there is none.
-fn add_read(answer: &mut Answer, read: Result<(i64, usize), ReadFault>) -> Result<(), CaseFault> {
-    let at = match read {
-        Ok((number, next)) => {
-            answer.number(number)?;
-            next
-        }
-        Err(ReadFault::Short { at }) => {
-            answer.word("Short")?;
-            at
-        }
-        Err(ReadFault::TooLong { at }) => {
-            answer.word("TooLong")?;
-            at
-        }
-    };
-    answer.count(at)
-}
-
-/// The number of one byte at a place.
-fn byte(args: &mut Args<'_>, answer: &mut Answer) -> Result<(), CaseFault> {
-    let bytes = args.bytes()?;
-    let at = args.count()?;
+/// Gives the number of one byte at a place.
+fn give_byte(call: &mut Call) -> Result<(), CaseFault> {
+    let bytes = call.bytes();
+    let at = call.count();
     if at > bytes.len() {
-        return Err(CaseFault::Malformed("the place is behind the bytes"));
+        return Err(CaseFault::Argument);
     }
-    add_read(
-        answer,
-        read_u8(bytes.as_slice(), at).map(|(number, next)| (i64::from(number), next)),
-    )
+    match read_u8(bytes.as_slice(), at) {
+        Ok((number, next)) => give_place(call, u32::from(number), next),
+        Err(fault) => give_fault(call, fault),
+    }
+    Ok(())
 }
 
-/// The number of several bytes at a place.
-fn number(args: &mut Args<'_>, answer: &mut Answer) -> Result<(), CaseFault> {
-    let bytes = args.bytes()?;
-    let at = args.count()?;
+/// Gives the number of several bytes at a place.
+fn give_bytes_number(call: &mut Call) -> Result<(), CaseFault> {
+    let bytes = call.bytes();
+    let at = call.count();
     if at > bytes.len() {
-        return Err(CaseFault::Malformed("the place is behind the bytes"));
+        return Err(CaseFault::Argument);
     }
-    add_read(
-        answer,
-        read_mb(bytes.as_slice(), at).map(|(number, next)| (i64::from(number), next)),
-    )
+    match read_mb(bytes.as_slice(), at) {
+        Ok((number, next)) => give_place(call, number, next),
+        Err(fault) => give_fault(call, fault),
+    }
+    Ok(())
 }
 
-/// A number's spelling.
-fn spelling(alloc: Global, args: &mut Args<'_>, answer: &mut Answer) -> Result<(), CaseFault> {
-    let mut bytes = Bytes::new(alloc);
-    write_mb(&mut bytes, word32(args)?)?;
-    answer.bytes(bytes)
+/// Gives a number's spelling.
+fn give_spelling(call: &mut Call) -> Result<(), CaseFault> {
+    let mut bytes = Bytes::new(call.alloc());
+    write_mb(&mut bytes, call.number32())?;
+    call.give_bytes(bytes.as_slice());
+    Ok(())
 }
 
-/// Makes the call of this name, if there is one.
-pub fn call(
-    alloc: Global,
-    name_of_call: &[u8],
-    args: &mut Args<'_>,
-    answer: &mut Answer,
-) -> Result<bool, CaseFault> {
-    if name_of_call == b"add".as_slice() {
-        added(alloc, args, answer)?;
-    } else if name_of_call == b"add_bytes".as_slice() {
-        joined(alloc, args, answer)?;
-    } else if name_of_call == b"rows".as_slice() {
-        rows(alloc, args, answer)?;
-    } else if name_of_call == b"is_less".as_slice() {
-        is_less(args, answer)?;
-    } else if name_of_call == b"is_same".as_slice() {
-        is_same(args, answer)?;
-    } else if name_of_call == b"are_ascending".as_slice() {
-        ascending(alloc, args, answer)?;
-    } else if name_of_call == b"are_distinct".as_slice() {
-        distinct(alloc, args, answer)?;
-    } else if name_of_call == b"from_latin1".as_slice() {
-        latin1(alloc, args, answer)?;
-    } else if name_of_call == b"add_number".as_slice() {
-        numbered(args, answer)?;
-    } else if name_of_call == b"limits".as_slice() {
-        limits(args, answer)?;
-    } else if name_of_call == b"default_limits".as_slice() {
-        default_limits(answer)?;
-    } else if name_of_call == b"is_name".as_slice() {
-        names(args, answer)?;
-    } else if name_of_call == b"name".as_slice() {
-        name(alloc, args, answer)?;
-    } else if name_of_call == b"read_u8".as_slice() {
-        byte(args, answer)?;
-    } else if name_of_call == b"read_mb".as_slice() {
-        number(args, answer)?;
-    } else if name_of_call == b"write_mb".as_slice() {
-        spelling(alloc, args, answer)?;
-    } else {
-        return Ok(false);
+/// Makes a call.
+pub fn make(known: BaseCall, call: &mut Call) -> Result<(), CaseFault> {
+    match known {
+        BaseCall::Add => give_whole_text(call)?,
+        BaseCall::AddBytes => give_whole_bytes(call)?,
+        BaseCall::Rows => give_rows(call)?,
+        BaseCall::IsLess => give_is_less(call),
+        BaseCall::IsSame => give_is_same(call),
+        BaseCall::AreAscending => give_ascending(call)?,
+        BaseCall::AreDistinct => give_distinct(call)?,
+        BaseCall::FromLatin1 => give_latin1(call)?,
+        BaseCall::AddNumber => give_numbered(call)?,
+        BaseCall::Limits => give_limits(call),
+        BaseCall::DefaultLimits => give_default_limits(call),
+        BaseCall::IsName => give_is_name(call),
+        BaseCall::Name => give_name(call)?,
+        BaseCall::ReadU8 => give_byte(call)?,
+        BaseCall::ReadMb => give_bytes_number(call)?,
+        BaseCall::WriteMb => give_spelling(call)?,
     }
-    Ok(true)
+    Ok(())
 }

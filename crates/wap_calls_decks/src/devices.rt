@@ -1,162 +1,214 @@
 //! Calls of the stores, sources and sinks in memory.
-use std::alloc::Global;
-use wap_base::{
-    Bytes, Fetched, MemSink, MemSource, MemStore, Sink, Source, Store, StoreErr, Text, are_pages,
-    write_all,
-};
-use wap_casebook::{Answer, Args, CaseFault};
+ghost use Rattle.std.specs.Prelude.{◌<◌, IfOk};
 
-/// The call of a device that fails, or none where the number is 0.
-fn failing(alloc: Global, args: &mut Args<'_>) -> Result<Vec<u64>, CaseFault> {
-    Ok(vec![in alloc; args.count()? as u64]?)
+use wap_base::{
+    Bytes, Failed, Fetched, MemSink, MemSource, MemStore, Sink, Source, Store, StoreErr, Text,
+    are_pages, write_all,
+};
+use wap_casebook::{Call, CaseFault, meaning_of};
+
+/// A call of a device.
+#[derive(Clone, Copy)]
+pub enum DeviceCall {
+    ArePages,
+    Fetch,
+    List,
+    Read,
+    Write,
+    WriteAll,
 }
 
-/// The pages of the names that are left, each with its name as its bytes.
-fn pages(alloc: Global, args: &mut Args<'_>) -> Result<Vec<(Text, Bytes)>, CaseFault> {
-    let mut pages = Vec::new(alloc);
+/// The calls, by their names.
+static CALLS: [(&str, DeviceCall); 6] = [
+    ("are_pages", DeviceCall::ArePages),
+    ("fetch", DeviceCall::Fetch),
+    ("list", DeviceCall::List),
+    ("read", DeviceCall::Read),
+    ("write", DeviceCall::Write),
+    ("write_all", DeviceCall::WriteAll),
+];
+
+/// The call of a name.
+pub fn find(name: &[u8]) -> Option<DeviceCall> {
+    meaning_of(&CALLS, name)
+}
+
+/// The call of a device that fails, or none where the number is 0.
+fn failing(call: &mut Call) -> Result<Vec<u64>, CaseFault> {
+    let fail = call.count() as u64;
+    Ok(vec![in call.alloc(); fail]?)
+}
+
+/// A size of pieces, 1 at least.
+fn size(call: &mut Call) -> Result<usize, CaseFault>
+    ensures { IfOk result (λ size. 0 < size) }
+{
+    let size = call.count();
+    if size == 0 {
+        return Err(CaseFault::Argument);
+    }
+    Ok(size)
+}
+
+/// The next page: a name, and the page with its name as its bytes.
+fn page(call: &mut Call) -> Result<(Text, Bytes), CaseFault> {
+    let name = call.text();
+    let bytes = Bytes::of(call.alloc(), name.as_str().as_bytes())?;
+    Ok((name, bytes))
+}
+
+/// The pages of the names that are left.
+fn pages(call: &mut Call) -> Result<Vec<(Text, Bytes)>, CaseFault> {
+    let mut pages = Vec::new(call.alloc());
     for _ in 0..u64::MAX {
-        if !args.has_more() {
+        if !call.has_more() {
             break;
         }
-        let name = args.text()?;
-        let bytes = Bytes::of(alloc, name.as_str().as_bytes())?;
-        pages.push((name, bytes))?;
+        pages.push(page(call)?)?;
     }
     Ok(pages)
 }
 
-/// A store of pages.
-fn store(alloc: Global, fails: Vec<u64>, pages: Vec<(Text, Bytes)>) -> Result<MemStore, CaseFault> {
-    if !are_pages(alloc, &pages)? {
-        return Err(CaseFault::Malformed("a page stands twice"));
+/// A store of the pages that are left.
+fn store(call: &mut Call, fails: Vec<u64>) -> Result<MemStore, CaseFault> {
+    let pages = pages(call)?;
+    if !are_pages(call.alloc(), &pages)? {
+        return Err(CaseFault::Argument);
     }
     Ok(MemStore::new(pages, fails))
 }
 
-/// Whether the names of pages are all different.
-fn all_differ(alloc: Global, args: &mut Args<'_>, answer: &mut Answer) -> Result<(), CaseFault> {
-    let pages = pages(alloc, args)?;
-    answer.truth(are_pages(alloc, &pages)?)
+/// Gives whether the names of pages are all different.
+fn give_are_pages(call: &mut Call) -> Result<(), CaseFault> {
+    let pages = pages(call)?;
+    let are_pages = are_pages(call.alloc(), &pages)?;
+    call.give_truth(are_pages);
+    Ok(())
 }
 
-/// A page of a store, and the same once more.
-fn fetch(alloc: Global, args: &mut Args<'_>, answer: &mut Answer) -> Result<(), CaseFault> {
-    let fails = failing(alloc, args)?;
-    let name = args.text()?;
-    let mut store = store(alloc, fails, pages(alloc, args)?)?;
-    for _ in 0..2_u8 {
-        match store.fetch(&name) {
-            Ok(Fetched::Found(bytes)) => answer.bytes(bytes)?,
-            Ok(Fetched::Missing) => answer.word("Missing")?,
-            Err(StoreErr::Failed) => answer.word("Failed")?,
-            Err(StoreErr::NoMemory) => return Err(CaseFault::NoMemory),
-        }
+/// Gives what a store answers.
+fn give_fetched(call: &mut Call, fetched: Result<Fetched, StoreErr>) -> Result<(), CaseFault> {
+    match fetched {
+        Ok(Fetched::Found(bytes)) => call.give_bytes(bytes.as_slice()),
+        Ok(Fetched::Missing) => call.give_word("Missing"),
+        Err(StoreErr::Failed) => call.give_word("Failed"),
+        Err(StoreErr::NoMemory) => return Err(CaseFault::NoMemory),
     }
     Ok(())
 }
 
-/// The names of a store.
-fn list(alloc: Global, args: &mut Args<'_>, answer: &mut Answer) -> Result<(), CaseFault> {
-    let fails = failing(alloc, args)?;
-    let mut store = store(alloc, fails, pages(alloc, args)?)?;
-    match store.list() {
-        Ok(names) => {
-            for name in &names {
-                answer.text(name.copy(alloc)?)?;
-            }
-            Ok(())
-        }
-        Err(StoreErr::Failed) => answer.word("Failed"),
-        Err(StoreErr::NoMemory) => Err(CaseFault::NoMemory),
+/// Gives a page of a store, and the same once more.
+fn fetch(call: &mut Call) -> Result<(), CaseFault> {
+    let fails = failing(call)?;
+    let name = call.text();
+    let mut store = store(call, fails)?;
+    give_fetched(call, store.fetch(&name))?;
+    give_fetched(call, store.fetch(&name))
+}
+
+/// Gives names.
+fn give_names(call: &mut Call, names: &[Text]) {
+    for name in names {
+        call.give_text(name);
     }
 }
 
-/// Reads of a source, by buffers of these lengths.
-fn read(alloc: Global, args: &mut Args<'_>, answer: &mut Answer) -> Result<(), CaseFault> {
-    let piece = args.count()?;
-    if piece == 0 {
-        return Err(CaseFault::Malformed("a source gives 1 byte at least"));
+/// Gives the names of a store.
+fn list(call: &mut Call) -> Result<(), CaseFault> {
+    let fails = failing(call)?;
+    let mut store = store(call, fails)?;
+    match store.list() {
+        Ok(names) => give_names(call, &names),
+        Err(StoreErr::Failed) => call.give_word("Failed"),
+        Err(StoreErr::NoMemory) => return Err(CaseFault::NoMemory),
     }
-    let fails = failing(alloc, args)?;
-    let mut source = MemSource::new(args.bytes()?, piece, fails);
+    Ok(())
+}
+
+/// Gives what a read takes into so much room.
+fn give_read(call: &mut Call, source: &mut MemSource, room: usize) {
+    let mut buffer = [0; 64];
+    match source.read(&mut buffer[..room.clamp(1, 64)]) {
+        Ok(count) => call.give_bytes(buffer.get(..count).unwrap_or(b"more")),
+        Err(Failed) => call.give_word("Failed"),
+    }
+}
+
+/// Gives what reads of a source take, by buffers of the lengths that are left.
+fn read(call: &mut Call) -> Result<(), CaseFault> {
+    let piece = size(call)?;
+    let fails = failing(call)?;
+    let mut source = MemSource::new(call.bytes(), piece, fails);
     for _ in 0..u64::MAX {
-        if !args.has_more() {
+        if !call.has_more() {
             break;
         }
-        let mut buffer = [0; 64];
-        let room = args.count()?.clamp(1, 64);
-        match source.read(&mut buffer[..room]) {
-            Ok(count) => {
-                answer.bytes(Bytes::of(alloc, buffer.get(..count).unwrap_or(b"more"))?)?;
-            }
-            Err(_) => answer.word("Failed")?,
-        }
+        let room = call.count();
+        give_read(call, &mut source, room);
     }
     Ok(())
 }
 
 /// A sink, by the bytes that a write takes, its room and the write that fails.
-fn sink(alloc: Global, args: &mut Args<'_>) -> Result<MemSink, CaseFault> {
-    let piece = args.count()?;
-    let room = args.count()?;
-    if piece == 0 {
-        return Err(CaseFault::Malformed("a sink takes 1 byte at least"));
-    }
-    let fails = failing(alloc, args)?;
-    Ok(MemSink::new(alloc, room, piece, fails)?)
+fn sink(call: &mut Call) -> Result<MemSink, CaseFault> {
+    let piece = size(call)?;
+    let room = call.count();
+    let fails = failing(call)?;
+    Ok(MemSink::new(call.alloc(), room, piece, fails)?)
 }
 
-/// Writes to a sink, and what it has then.
-fn write(alloc: Global, args: &mut Args<'_>, answer: &mut Answer) -> Result<(), CaseFault> {
-    let mut sink = sink(alloc, args)?;
+/// Gives how much a sink takes of bytes.
+fn give_write(call: &mut Call, sink: &mut MemSink, bytes: &Bytes) {
+    match sink.write(bytes.as_slice()) {
+        Ok(count) => call.give_count(count),
+        Err(Failed) => call.give_word("Failed"),
+    }
+}
+
+/// Writes to a sink, and gives what it has then.
+fn write(call: &mut Call) -> Result<(), CaseFault> {
+    let mut sink = sink(call)?;
     for _ in 0..u64::MAX {
-        if !args.has_more() {
+        if !call.has_more() {
             break;
         }
-        match sink.write(args.bytes()?.as_slice()) {
-            Ok(count) => answer.count(count)?,
-            Err(_) => answer.word("Failed")?,
-        }
+        let bytes = call.bytes();
+        give_write(call, &mut sink, &bytes);
     }
-    answer.bytes(Bytes::of(alloc, sink.bytes())?)
+    call.give_bytes(sink.bytes());
+    Ok(())
 }
 
-/// Pieces that are written whole to a sink, and what it has then.
-fn whole(alloc: Global, args: &mut Args<'_>, answer: &mut Answer) -> Result<(), CaseFault> {
-    let mut sink = sink(alloc, args)?;
+/// Gives whether a sink takes bytes whole.
+fn give_write_all(call: &mut Call, sink: &mut MemSink, bytes: &Bytes) {
+    match write_all(sink, bytes.as_slice()) {
+        Ok(()) => call.give_word("written"),
+        Err(Failed) => call.give_word("Failed"),
+    }
+}
+
+/// Writes pieces whole to a sink, and gives what it has then.
+fn write_whole(call: &mut Call) -> Result<(), CaseFault> {
+    let mut sink = sink(call)?;
     for _ in 0..u64::MAX {
-        if !args.has_more() {
+        if !call.has_more() {
             break;
         }
-        match write_all(&mut sink, args.bytes()?.as_slice()) {
-            Ok(()) => answer.word("written")?,
-            Err(_) => answer.word("Failed")?,
-        }
+        let bytes = call.bytes();
+        give_write_all(call, &mut sink, &bytes);
     }
-    answer.bytes(Bytes::of(alloc, sink.bytes())?)
+    call.give_bytes(sink.bytes());
+    Ok(())
 }
 
-/// Makes the call of this name, if there is one.
-pub fn call(
-    alloc: Global,
-    name: &[u8],
-    args: &mut Args<'_>,
-    answer: &mut Answer,
-) -> Result<bool, CaseFault> {
-    if name == b"are_pages".as_slice() {
-        all_differ(alloc, args, answer)?;
-    } else if name == b"fetch".as_slice() {
-        fetch(alloc, args, answer)?;
-    } else if name == b"list".as_slice() {
-        list(alloc, args, answer)?;
-    } else if name == b"read".as_slice() {
-        read(alloc, args, answer)?;
-    } else if name == b"write".as_slice() {
-        write(alloc, args, answer)?;
-    } else if name == b"write_all".as_slice() {
-        whole(alloc, args, answer)?;
-    } else {
-        return Ok(false);
+/// Makes a call.
+pub fn make(known: DeviceCall, call: &mut Call) -> Result<(), CaseFault> {
+    match known {
+        DeviceCall::ArePages => give_are_pages(call),
+        DeviceCall::Fetch => fetch(call),
+        DeviceCall::List => list(call),
+        DeviceCall::Read => read(call),
+        DeviceCall::Write => write(call),
+        DeviceCall::WriteAll => write_whole(call),
     }
-    Ok(true)
 }

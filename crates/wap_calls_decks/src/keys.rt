@@ -1,197 +1,199 @@
 //! Calls of key lines.
-use std::alloc::Global;
 use wap_base::{Bytes, MemSource, Text};
-use wap_casebook::{Answer, Args, CaseFault};
+use wap_casebook::{Call, CaseFault, meaning_of};
 use wap_keys::{Ending, Key, KeyFault, read_key, read_keys};
 
-/// Adds a key: its name, and what it holds.
-fn add_key(answer: &mut Answer, key: Key) -> Result<(), CaseFault> {
+/// A call of key lines.
+#[derive(Clone, Copy)]
+pub enum KeysCall {
+    Key,
+    KeyTold,
+    Keys,
+    KeysFailing,
+    KeysBy,
+}
+
+/// The calls, by their names.
+static CALLS: [(&str, KeysCall); 5] = [
+    ("read_key", KeysCall::Key),
+    ("read_key_told", KeysCall::KeyTold),
+    ("read_keys", KeysCall::Keys),
+    ("read_keys_failing", KeysCall::KeysFailing),
+    ("read_keys_by", KeysCall::KeysBy),
+];
+
+/// The call of a name.
+pub fn find(name: &[u8]) -> Option<KeysCall> {
+    meaning_of(&CALLS, name)
+}
+
+/// Gives a word and a number.
+fn give_numbered(call: &mut Call, word: &str, number: u32) {
+    call.give_word(word);
+    call.give_number(i64::from(number));
+}
+
+/// Gives a word and a text.
+fn give_named(call: &mut Call, word: &str, text: &Text) {
+    call.give_word(word);
+    call.give_text(text);
+}
+
+/// Gives a key: its name, and what it holds.
+fn give_key(call: &mut Call, key: &Key) {
     match key {
-        Key::Open(url) => {
-            answer.word("Open")?;
-            answer.text(url)
-        }
-        Key::Do(kind) => {
-            answer.word("Do")?;
-            answer.text(kind)
-        }
-        Key::Pick(number) => {
-            answer.word("Pick")?;
-            answer.number(i64::from(number))
-        }
+        Key::Open(url) => give_named(call, "Open", url),
+        Key::Do(kind) => give_named(call, "Do", kind),
+        Key::Pick(number) => give_numbered(call, "Pick", u32::from(*number)),
         Key::Enter(number, text) => {
-            answer.word("Enter")?;
-            answer.number(i64::from(number))?;
-            answer.text(text)
+            give_numbered(call, "Enter", u32::from(*number));
+            call.give_text(text);
         }
         Key::Choose(number, option) => {
-            answer.word("Choose")?;
-            answer.number(i64::from(number))?;
-            answer.number(i64::from(option))
+            give_numbered(call, "Choose", u32::from(*number));
+            call.give_number(i64::from(*option));
         }
-        Key::Back => answer.word("Back"),
-        Key::Tick(tenths) => {
-            answer.word("Tick")?;
-            answer.number(i64::from(tenths))
-        }
-        Key::Ok => answer.word("Ok"),
-        Key::Cancel => answer.word("Cancel"),
-        Key::Answer(text) => {
-            answer.word("Answer")?;
-            answer.text(text)
-        }
-        Key::Stop => answer.word("Stop"),
-        Key::Vars => answer.word("Vars"),
+        Key::Back => call.give_word("Back"),
+        Key::Tick(tenths) => give_numbered(call, "Tick", *tenths),
+        Key::Ok => call.give_word("Ok"),
+        Key::Cancel => call.give_word("Cancel"),
+        Key::Answer(text) => give_named(call, "Answer", text),
+        Key::Stop => call.give_word("Stop"),
+        Key::Vars => call.give_word("Vars"),
     }
 }
 
-/// Adds why a line is no key line.
-fn add_fault(answer: &mut Answer, fault: KeyFault) -> Result<(), CaseFault> {
+/// Gives why a line is no key line.
+fn give_fault(call: &mut Call, fault: KeyFault) -> Result<(), CaseFault> {
     match fault {
-        KeyFault::TooLong => answer.word("TooLong"),
-        KeyFault::NotText => answer.word("NotText"),
-        KeyFault::UnknownWord => answer.word("UnknownWord"),
-        KeyFault::Missing => answer.word("Missing"),
-        KeyFault::BadNumber => answer.word("BadNumber"),
-        KeyFault::Surplus => answer.word("Surplus"),
-        KeyFault::NoMemory => Err(CaseFault::NoMemory),
+        KeyFault::TooLong => call.give_word("TooLong"),
+        KeyFault::NotText => call.give_word("NotText"),
+        KeyFault::UnknownWord => call.give_word("UnknownWord"),
+        KeyFault::Missing => call.give_word("Missing"),
+        KeyFault::BadNumber => call.give_word("BadNumber"),
+        KeyFault::Surplus => call.give_word("Surplus"),
+        KeyFault::NoMemory => return Err(CaseFault::NoMemory),
     }
+    Ok(())
 }
 
-/// Adds how keys come to their end.
-fn add_ending(answer: &mut Answer, ending: Ending) -> Result<(), CaseFault> {
+/// Gives how keys come to their end.
+fn give_ending(call: &mut Call, ending: Ending) -> Result<(), CaseFault> {
     match ending {
-        Ending::End => answer.word("End"),
-        Ending::TooManyKeys => answer.word("TooManyKeys"),
-        Ending::ReadFault => answer.word("ReadFault"),
+        Ending::End => call.give_word("End"),
+        Ending::TooManyKeys => call.give_word("TooManyKeys"),
+        Ending::ReadFault => call.give_word("ReadFault"),
         Ending::BadKey { line, fault } => {
-            answer.word("BadKey")?;
-            answer.number(i64::from(line))?;
-            add_fault(answer, fault)
+            give_numbered(call, "BadKey", line);
+            return give_fault(call, fault);
         }
     }
+    Ok(())
 }
 
-/// The key of a line.
-fn key(alloc: Global, args: &mut Args<'_>, answer: &mut Answer) -> Result<(), CaseFault> {
-    match read_key(alloc, args.bytes()?.as_slice()) {
-        Ok(key) => add_key(answer, key),
-        Err(fault) => add_fault(answer, fault),
+/// The key of the next argument, a line, or why there is none.
+fn key(call: &mut Call) -> Result<Key, KeyFault> {
+    let line = call.bytes();
+    read_key(call.alloc(), line.as_slice())
+}
+
+/// Gives the key of a line.
+fn give_read(call: &mut Call) -> Result<(), CaseFault> {
+    match key(call) {
+        Ok(key) => {
+            give_key(call, &key);
+            Ok(())
+        }
+        Err(fault) => give_fault(call, fault),
     }
 }
 
 /// Why a line is no key line, or the fault that is named.
-fn fault_of(alloc: Global, args: &mut Args<'_>) -> Result<Option<KeyFault>, CaseFault> {
-    if args.value()? == b"NoMemory".as_slice() {
-        return Ok(Some(KeyFault::NoMemory));
+fn fault_of(call: &mut Call) -> Option<KeyFault> {
+    if call.takes("NoMemory") {
+        return Some(KeyFault::NoMemory);
     }
-    match read_key(alloc, args.bytes()?.as_slice()) {
-        Ok(_) => Ok(None),
-        Err(fault) => Ok(Some(fault)),
-    }
+    let _kind = call.word();
+    key(call).err()
 }
 
-/// What is told of a line that is no key line.
-fn told(alloc: Global, args: &mut Args<'_>, answer: &mut Answer) -> Result<(), CaseFault> {
-    match fault_of(alloc, args)? {
-        Some(fault) => answer.text(Text::from_string(format!(in alloc; "{fault}")?)),
-        None => answer.word("none"),
+/// Gives what is told of a line that is no key line.
+fn give_told(call: &mut Call) -> Result<(), CaseFault> {
+    match fault_of(call) {
+        Some(fault) => {
+            let told = format!(in call.alloc(); "{fault}")?;
+            call.give_text(&Text::from_string(told));
+        }
+        None => call.give_word("none"),
     }
+    Ok(())
+}
+
+/// A source that gives bytes in pieces, and whose call of a number fails.
+fn source(call: &Call, bytes: &Bytes, piece: usize, fail: usize) -> Result<MemSource, CaseFault> {
+    if piece == 0 {
+        return Err(CaseFault::Argument);
+    }
+    let bytes = Bytes::of(call.alloc(), bytes.as_slice())?;
+    let fails = vec![in call.alloc(); fail as u64]?;
+    Ok(MemSource::new(bytes, piece, fails))
 }
 
 /// What the keys of bytes come to, which a source gives in pieces, and of whose calls one fails.
-fn read(
-    alloc: Global,
+fn keys(
+    call: &Call,
     bytes: &Bytes,
     piece: usize,
     fail: usize,
 ) -> Result<(Vec<Key>, Ending), CaseFault> {
-    if piece == 0 {
-        return Err(CaseFault::Malformed("a source gives 1 byte at least"));
-    }
-    let bytes = Bytes::of(alloc, bytes.as_slice())?;
-    let mut source = MemSource::new(bytes, piece, vec![in alloc; fail as u64]?);
-    Ok(read_keys(alloc, &mut source)?)
+    let mut source = source(call, bytes, piece, fail)?;
+    Ok(read_keys(call.alloc(), &mut source)?)
 }
 
-/// Adds keys, each with a bar behind it, and how they end.
-fn add_keys(answer: &mut Answer, read: (Vec<Key>, Ending)) -> Result<(), CaseFault> {
+/// Gives keys, each with a bar behind it, and how they end.
+fn give_keys(call: &mut Call, read: &(Vec<Key>, Ending)) -> Result<(), CaseFault> {
     let (keys, ending) = read;
     for key in keys {
-        add_key(answer, key)?;
-        answer.word("|")?;
+        give_key(call, key);
+        call.give_word("|");
     }
-    add_ending(answer, ending)
+    give_ending(call, *ending)
 }
 
-/// Whether bytes come to these keys and this ending by pieces of another size.
-fn are_same(
-    alloc: Global,
-    bytes: &Bytes,
-    known: &(Vec<Key>, Ending),
-    piece: usize,
-) -> Result<bool, CaseFault> {
-    let other = read(alloc, bytes, piece, 0)?;
-    Ok(known.0 == other.0 && known.1 == other.1)
-}
-
-/// The keys of bytes, by sources of three sizes of pieces.
-fn keys(alloc: Global, args: &mut Args<'_>, answer: &mut Answer) -> Result<(), CaseFault> {
-    let bytes = args.bytes()?;
-    let first = read(alloc, &bytes, 1, 0)?;
-    let is_same = are_same(alloc, &bytes, &first, 7)? && are_same(alloc, &bytes, &first, 4096)?;
-    if !is_same {
-        answer.word("by_pieces")?;
+/// Gives the keys of bytes, and a word where a source gives them by pieces of sizes at which they
+/// come to something else.
+fn give_by_pieces(call: &mut Call) -> Result<(), CaseFault> {
+    let bytes = call.bytes();
+    let first = keys(call, &bytes, 1, 0)?;
+    for piece in [7, 4096] {
+        if keys(call, &bytes, piece, 0)? != first {
+            call.give_word("by_pieces");
+        }
     }
-    add_keys(answer, first)
+    give_keys(call, &first)
 }
 
-/// The keys of bytes, by pieces of one size, where a call fails.
-fn keys_by(
-    alloc: Global,
-    piece: usize,
-    args: &mut Args<'_>,
-    answer: &mut Answer,
-) -> Result<(), CaseFault> {
-    let fail = args.count()?;
-    let bytes = args.bytes()?;
-    add_keys(answer, read(alloc, &bytes, piece, fail)?)
+/// Gives the keys of bytes, by pieces of one size, where a call fails.
+fn give_failing(call: &mut Call, piece: usize) -> Result<(), CaseFault> {
+    let fail = call.count();
+    let bytes = call.bytes();
+    let read = keys(call, &bytes, piece, fail)?;
+    give_keys(call, &read)
 }
 
-/// The keys of bytes, byte by byte, where a call fails.
-fn keys_failing(alloc: Global, args: &mut Args<'_>, answer: &mut Answer) -> Result<(), CaseFault> {
-    keys_by(alloc, 1, args, answer)
+/// The same, by pieces of the size that comes next.
+fn give_failing_by(call: &mut Call) -> Result<(), CaseFault> {
+    let piece = call.count();
+    give_failing(call, piece)
 }
 
-/// The keys of bytes, by pieces of the size that is given first, where a call fails.
-fn keys_in_pieces(
-    alloc: Global,
-    args: &mut Args<'_>,
-    answer: &mut Answer,
-) -> Result<(), CaseFault> {
-    let piece = args.count()?;
-    keys_by(alloc, piece, args, answer)
-}
-
-/// Makes the call of this name, if there is one.
-pub fn call(
-    alloc: Global,
-    name: &[u8],
-    args: &mut Args<'_>,
-    answer: &mut Answer,
-) -> Result<bool, CaseFault> {
-    if name == b"read_key".as_slice() {
-        key(alloc, args, answer)?;
-    } else if name == b"read_key_told".as_slice() {
-        told(alloc, args, answer)?;
-    } else if name == b"read_keys".as_slice() {
-        keys(alloc, args, answer)?;
-    } else if name == b"read_keys_failing".as_slice() {
-        keys_failing(alloc, args, answer)?;
-    } else if name == b"read_keys_by".as_slice() {
-        keys_in_pieces(alloc, args, answer)?;
-    } else {
-        return Ok(false);
+/// Makes a call.
+pub fn make(known: KeysCall, call: &mut Call) -> Result<(), CaseFault> {
+    match known {
+        KeysCall::Key => give_read(call),
+        KeysCall::KeyTold => give_told(call),
+        KeysCall::Keys => give_by_pieces(call),
+        KeysCall::KeysFailing => give_failing(call, 1),
+        KeysCall::KeysBy => give_failing_by(call),
     }
-    Ok(true)
 }

@@ -1,125 +1,190 @@
 //! Calls of URLs.
-use std::alloc::Global;
 use wap_base::Text;
-use wap_casebook::{Answer, Args, CaseFault};
+use wap_casebook::{Call, CaseFault, meaning_of};
 use wap_url::{Access, Url, UrlFault, escape, join, name_of, print, relative, unescape};
 
+/// A call of a URL.
+#[derive(Clone, Copy)]
+pub enum UrlCall {
+    Url,
+    Told,
+    Join,
+    Relative,
+    NameOf,
+    Escape,
+    Unescape,
+    Allows,
+}
+
+/// The calls, by their names.
+static CALLS: [(&str, UrlCall); 8] = [
+    ("url", UrlCall::Url),
+    ("url_told", UrlCall::Told),
+    ("join", UrlCall::Join),
+    ("relative", UrlCall::Relative),
+    ("name_of", UrlCall::NameOf),
+    ("escape", UrlCall::Escape),
+    ("unescape", UrlCall::Unescape),
+    ("allows", UrlCall::Allows),
+];
+
+/// The call of a name.
+pub fn find(name: &[u8]) -> Option<UrlCall> {
+    meaning_of(&CALLS, name)
+}
+
+/// The URL that the next argument spells, or why it spells none.
+fn read(call: &mut Call) -> Result<Url, UrlFault> {
+    let text = call.text();
+    Url::read(call.alloc(), &text)
+}
+
 /// The URL that the next argument spells.
-fn url(alloc: Global, args: &mut Args<'_>) -> Result<Url, CaseFault> {
-    match Url::read(alloc, &args.text()?) {
+fn url(call: &mut Call) -> Result<Url, CaseFault> {
+    match read(call) {
         Ok(url) => Ok(url),
         Err(UrlFault::NoMemory) => Err(CaseFault::NoMemory),
-        Err(_) => Err(CaseFault::Malformed("a URL is wanted")),
+        Err(_) => Err(CaseFault::Argument),
     }
 }
 
-/// Adds a fault, and its place where it has one.
-fn add_fault(answer: &mut Answer, fault: UrlFault) -> Result<(), CaseFault> {
+/// Gives a fault, and its place where it has one.
+fn give_fault(call: &mut Call, fault: UrlFault) -> Result<(), CaseFault> {
     match fault {
         UrlFault::BadChar { at } => {
-            answer.word("BadChar")?;
-            answer.count(at)
+            call.give_word("BadChar");
+            call.give_count(at);
         }
-        UrlFault::BadScheme => answer.word("BadScheme"),
-        UrlFault::BadHost => answer.word("BadHost"),
-        UrlFault::BadPort => answer.word("BadPort"),
-        UrlFault::NoMemory => Err(CaseFault::NoMemory),
+        UrlFault::BadScheme => call.give_word("BadScheme"),
+        UrlFault::BadHost => call.give_word("BadHost"),
+        UrlFault::BadPort => call.give_word("BadPort"),
+        UrlFault::NoMemory => return Err(CaseFault::NoMemory),
     }
+    Ok(())
 }
 
-/// What the URL that a text spells prints as, or why it is none.
-fn read(alloc: Global, args: &mut Args<'_>, answer: &mut Answer) -> Result<(), CaseFault> {
-    match Url::read(alloc, &args.text()?) {
-        Ok(url) => answer.text(print(alloc, &url)?),
-        Err(fault) => add_fault(answer, fault),
+/// Gives what a URL prints as.
+fn give_url(call: &mut Call, url: &Url) -> Result<(), CaseFault> {
+    call.give_text(&print(call.alloc(), url)?);
+    Ok(())
+}
+
+/// Gives what the URL that a text spells prints as, or why it is none.
+fn give_read(call: &mut Call) -> Result<(), CaseFault> {
+    match read(call) {
+        Ok(url) => give_url(call, &url),
+        Err(fault) => give_fault(call, fault),
     }
 }
 
 /// Why a text is no URL, or the fault that is named.
-fn fault_of(alloc: Global, args: &mut Args<'_>) -> Result<Option<UrlFault>, CaseFault> {
-    if args.value()? == b"NoMemory".as_slice() {
-        return Ok(Some(UrlFault::NoMemory));
+fn fault_of(call: &mut Call) -> Option<UrlFault> {
+    if call.takes("NoMemory") {
+        return Some(UrlFault::NoMemory);
     }
-    match Url::read(alloc, &args.text()?) {
-        Ok(_) => Ok(None),
-        Err(fault) => Ok(Some(fault)),
-    }
+    let _kind = call.word();
+    read(call).err()
 }
 
-/// What is told of a text that is no URL.
-fn told(alloc: Global, args: &mut Args<'_>, answer: &mut Answer) -> Result<(), CaseFault> {
-    match fault_of(alloc, args)? {
-        Some(fault) => answer.text(Text::from_string(format!(in alloc; "{fault}")?)),
-        None => answer.word("none"),
+/// Gives what is told of a text that is no URL.
+fn give_told(call: &mut Call) -> Result<(), CaseFault> {
+    match fault_of(call) {
+        Some(fault) => {
+            let told = format!(in call.alloc(); "{fault}")?;
+            call.give_text(&Text::from_string(told));
+        }
+        None => call.give_word("none"),
     }
+    Ok(())
 }
 
-/// The name of a URL's page in a store.
-fn name(alloc: Global, args: &mut Args<'_>, answer: &mut Answer) -> Result<(), CaseFault> {
-    let url = url(alloc, args)?;
+/// Gives the name of a URL's page in a store.
+fn give_name_of(call: &mut Call, url: &Url) -> Result<(), CaseFault> {
     if url.host.is_none() {
-        return answer.word("none");
+        call.give_word("none");
+        return Ok(());
     }
-    answer.text(name_of(alloc, &url)?)
+    call.give_text(&name_of(call.alloc(), url)?);
+    Ok(())
 }
 
-/// What a reference is from a URL.
-fn joined(alloc: Global, args: &mut Args<'_>, answer: &mut Answer) -> Result<(), CaseFault> {
-    let base = url(alloc, args)?;
-    let joined = join(alloc, &base, &url(alloc, args)?)?;
-    answer.text(print(alloc, &joined)?)
+/// Gives the name of the next URL's page in a store.
+fn give_name(call: &mut Call) -> Result<(), CaseFault> {
+    let url = url(call)?;
+    give_name_of(call, &url)
 }
 
-/// What a URL is to another.
-fn related(alloc: Global, args: &mut Args<'_>, answer: &mut Answer) -> Result<(), CaseFault> {
-    let base = url(alloc, args)?;
-    answer.text(relative(alloc, &base, &url(alloc, args)?)?)
+/// Gives what a reference is from a URL.
+fn give_join(call: &mut Call, base: &Url, reference: &Url) -> Result<(), CaseFault> {
+    let joined = join(call.alloc(), base, reference)?;
+    give_url(call, &joined)
 }
 
-/// A text with escapes.
-fn escaped(alloc: Global, args: &mut Args<'_>, answer: &mut Answer) -> Result<(), CaseFault> {
-    answer.text(escape(alloc, &args.text()?)?)
+/// Gives what the next argument is from a URL.
+fn give_next_joined(call: &mut Call, base: &Url) -> Result<(), CaseFault> {
+    let reference = url(call)?;
+    give_join(call, base, &reference)
 }
 
-/// The bytes of a text with escapes.
-fn unescaped(alloc: Global, args: &mut Args<'_>, answer: &mut Answer) -> Result<(), CaseFault> {
-    answer.bytes(unescape(alloc, &args.text()?)?)
+/// Gives what a reference is from a URL that stands before it.
+fn give_joined(call: &mut Call) -> Result<(), CaseFault> {
+    let base = url(call)?;
+    give_next_joined(call, &base)
 }
 
-/// Whether pages of a domain and a path may be gone to from a URL.
-fn allows(alloc: Global, args: &mut Args<'_>, answer: &mut Answer) -> Result<(), CaseFault> {
+/// Gives what a URL is to another.
+fn give_relation(call: &mut Call, base: &Url, url: &Url) -> Result<(), CaseFault> {
+    call.give_text(&relative(call.alloc(), base, url)?);
+    Ok(())
+}
+
+/// Gives what the next argument is to a URL.
+fn give_next_relative(call: &mut Call, base: &Url) -> Result<(), CaseFault> {
+    let url = url(call)?;
+    give_relation(call, base, &url)
+}
+
+/// Gives what a URL is to another that stands before it.
+fn give_relative(call: &mut Call) -> Result<(), CaseFault> {
+    let base = url(call)?;
+    give_next_relative(call, &base)
+}
+
+/// Gives a text with escapes.
+fn give_escaped(call: &mut Call) -> Result<(), CaseFault> {
+    let text = call.text();
+    call.give_text(&escape(call.alloc(), &text)?);
+    Ok(())
+}
+
+/// Gives the bytes of a text with escapes.
+fn give_unescaped(call: &mut Call) -> Result<(), CaseFault> {
+    let text = call.text();
+    call.give_bytes(unescape(call.alloc(), &text)?.as_slice());
+    Ok(())
+}
+
+/// Gives whether pages of a domain and a path may be gone to from a URL.
+fn give_access(call: &mut Call) -> Result<(), CaseFault> {
     let access = Access {
-        domain: args.text()?,
-        path: args.text()?,
+        domain: call.text(),
+        path: call.text(),
     };
-    answer.truth(access.allows(&url(alloc, args)?))
+    let is_allowed = access.allows(&url(call)?);
+    call.give_truth(is_allowed);
+    Ok(())
 }
 
-/// Makes the call of this name, if there is one.
-pub fn call(
-    alloc: Global,
-    name_of_call: &[u8],
-    args: &mut Args<'_>,
-    answer: &mut Answer,
-) -> Result<bool, CaseFault> {
-    if name_of_call == b"url".as_slice() {
-        read(alloc, args, answer)?;
-    } else if name_of_call == b"url_told".as_slice() {
-        told(alloc, args, answer)?;
-    } else if name_of_call == b"join".as_slice() {
-        joined(alloc, args, answer)?;
-    } else if name_of_call == b"relative".as_slice() {
-        related(alloc, args, answer)?;
-    } else if name_of_call == b"name_of".as_slice() {
-        name(alloc, args, answer)?;
-    } else if name_of_call == b"escape".as_slice() {
-        escaped(alloc, args, answer)?;
-    } else if name_of_call == b"unescape".as_slice() {
-        unescaped(alloc, args, answer)?;
-    } else if name_of_call == b"allows".as_slice() {
-        allows(alloc, args, answer)?;
-    } else {
-        return Ok(false);
+/// Makes a call.
+pub fn make(known: UrlCall, call: &mut Call) -> Result<(), CaseFault> {
+    match known {
+        UrlCall::Url => give_read(call),
+        UrlCall::Told => give_told(call),
+        UrlCall::Join => give_joined(call),
+        UrlCall::Relative => give_relative(call),
+        UrlCall::NameOf => give_name(call),
+        UrlCall::Escape => give_escaped(call),
+        UrlCall::Unescape => give_unescaped(call),
+        UrlCall::Allows => give_access(call),
     }
-    Ok(true)
 }

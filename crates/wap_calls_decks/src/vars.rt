@@ -1,210 +1,258 @@
 //! Calls of variables.
-use std::alloc::Global;
+use std::str;
 use wap_base::{Conv, Name, NameFault, Part, Text};
-use wap_casebook::{Answer, Args, CaseFault};
+use wap_casebook::{Call, CaseFault, meaning_of};
 use wap_vars::{VarFault, Vars};
 
+/// A call of variables.
+#[derive(Clone, Copy)]
+pub enum VarsCall {
+    Entries,
+    Remove,
+    Clear,
+    Get,
+    Set,
+    SetAgain,
+    Told,
+    Fill,
+}
+
+/// The calls, by their names.
+static CALLS: [(&str, VarsCall); 8] = [
+    ("entries", VarsCall::Entries),
+    ("remove", VarsCall::Remove),
+    ("clear", VarsCall::Clear),
+    ("get", VarsCall::Get),
+    ("set", VarsCall::Set),
+    ("set_again", VarsCall::SetAgain),
+    ("set_told", VarsCall::Told),
+    ("fill", VarsCall::Fill),
+];
+
+/// The call of a name.
+pub fn find(name: &[u8]) -> Option<VarsCall> {
+    meaning_of(&CALLS, name)
+}
+
+/// Sets a variable by the next name and text.
+fn set_next(call: &mut Call, vars: &mut Vars) -> Result<(), CaseFault> {
+    let name = call.text();
+    let text = call.text();
+    match vars.set(&name, text) {
+        Ok(()) => Ok(()),
+        Err(VarFault::NoMemory) => Err(CaseFault::NoMemory),
+        Err(_) => Err(CaseFault::Argument),
+    }
+}
+
 /// The variables that the names and texts which are left give.
-fn vars(alloc: Global, args: &mut Args<'_>) -> Result<Vars, CaseFault> {
-    let mut vars = Vars::new(alloc);
+fn vars(call: &mut Call) -> Result<Vars, CaseFault> {
+    let mut vars = Vars::new(call.alloc());
     for _ in 0..u64::MAX {
-        if !args.has_more() {
+        if !call.has_more() {
             break;
         }
-        let name = args.text()?;
-        match vars.set(&name, args.text()?) {
-            Ok(()) => {}
-            Err(VarFault::NoMemory) => return Err(CaseFault::NoMemory),
-            Err(_) => return Err(CaseFault::Malformed("a variable is refused")),
-        }
+        set_next(call, &mut vars)?;
     }
     Ok(vars)
 }
 
 /// The name that a text is.
-fn name_of(alloc: Global, text: &Text) -> Result<Name, CaseFault> {
-    match Name::of(alloc, text) {
+fn name_of(call: &Call, text: &Text) -> Result<Name, CaseFault> {
+    match Name::of(call.alloc(), text) {
         Ok(name) => Ok(name),
-        Err(NameFault::BadName) => Err(CaseFault::Malformed("a variable's name is wanted")),
+        Err(NameFault::BadName) => Err(CaseFault::Argument),
         Err(NameFault::NoMemory) => Err(CaseFault::NoMemory),
     }
 }
 
-/// Adds names and texts in order.
-fn add_entries(alloc: Global, vars: &Vars, answer: &mut Answer) -> Result<(), CaseFault> {
-    for (name, text) in vars.entries(alloc)? {
-        answer.text(name)?;
-        answer.text(text)?;
+/// The next argument, a name.
+fn name(call: &mut Call) -> Result<Name, CaseFault> {
+    let text = call.text();
+    name_of(call, &text)
+}
+
+/// Gives names and texts in order.
+fn give_entries(call: &mut Call, vars: &Vars) -> Result<(), CaseFault> {
+    for (name, text) in &vars.entries(call.alloc())? {
+        call.give_text(name);
+        call.give_text(text);
     }
     Ok(())
 }
 
-/// The variables, in order.
-fn entries(alloc: Global, args: &mut Args<'_>, answer: &mut Answer) -> Result<(), CaseFault> {
-    add_entries(alloc, &vars(alloc, args)?, answer)
+/// Gives the variables, in order.
+fn give_vars(call: &mut Call) -> Result<(), CaseFault> {
+    let vars = vars(call)?;
+    give_entries(call, &vars)
 }
 
-/// What is kept of variables when one is removed, twice.
-fn remove(alloc: Global, args: &mut Args<'_>, answer: &mut Answer) -> Result<(), CaseFault> {
-    let name = name_of(alloc, &args.text()?)?;
-    let mut vars = vars(alloc, args)?;
+/// Gives what is kept of variables when one is removed, twice.
+fn remove(call: &mut Call) -> Result<(), CaseFault> {
+    let name = name(call)?;
+    let mut vars = vars(call)?;
     vars.remove(&name);
     vars.remove(&name);
-    add_entries(alloc, &vars, answer)
+    give_entries(call, &vars)
 }
 
-/// What is kept of variables when they are cleared.
-fn clear(alloc: Global, args: &mut Args<'_>, answer: &mut Answer) -> Result<(), CaseFault> {
-    let mut vars = vars(alloc, args)?;
+/// Gives what is kept of variables when they are cleared.
+fn clear(call: &mut Call) -> Result<(), CaseFault> {
+    let mut vars = vars(call)?;
     vars.clear();
-    add_entries(alloc, &vars, answer)
+    give_entries(call, &vars)
 }
 
-/// The text of a variable.
-fn get(alloc: Global, args: &mut Args<'_>, answer: &mut Answer) -> Result<(), CaseFault> {
-    let name = name_of(alloc, &args.text()?)?;
-    match vars(alloc, args)?.get(&name) {
-        Some(text) => answer.text(text.copy(alloc)?),
-        None => answer.word("none"),
+/// Gives the text of a variable.
+fn get(call: &mut Call) -> Result<(), CaseFault> {
+    let name = name(call)?;
+    let vars = vars(call)?;
+    match vars.get(&name) {
+        Some(text) => call.give_text(text),
+        None => call.give_word("none"),
+    }
+    Ok(())
+}
+
+/// Sets the variable of a number, `v0` and so on, to `old`.
+fn set_numbered(call: &Call, vars: &mut Vars, number: usize) -> Result<(), CaseFault> {
+    let name = Text::from_string(format!(in call.alloc(); "v{number}")?);
+    match vars.set(&name, Text::of(call.alloc(), "old")?) {
+        Ok(()) => Ok(()),
+        Err(_) => Err(CaseFault::Argument),
     }
 }
 
-/// So many variables, `v0` and so on, whose texts are `old`.
-fn kept(alloc: Global, count: usize) -> Result<Vars, CaseFault> {
-    let mut vars = Vars::new(alloc);
-    for number in 0..count {
-        let name = Text::from_string(format!(in alloc; "v{number}")?);
-        if vars.set(&name, Text::of(alloc, "old")?).is_err() {
-            return Err(CaseFault::Malformed("so many variables are refused"));
-        }
+/// So many variables, whose texts are `old`.
+fn numbered(call: &mut Call) -> Result<Vars, CaseFault> {
+    let mut vars = Vars::new(call.alloc());
+    for number in 0..call.count() {
+        set_numbered(call, &mut vars, number)?;
     }
     Ok(vars)
 }
 
-/// Adds a fault, and the length where there is one.
-fn add_fault(answer: &mut Answer, fault: VarFault) -> Result<(), CaseFault> {
+/// Gives a fault, and the length where there is one.
+fn give_fault(call: &mut Call, fault: VarFault) -> Result<(), CaseFault> {
     match fault {
-        VarFault::BadName => answer.word("BadName"),
+        VarFault::BadName => call.give_word("BadName"),
         VarFault::TooLong { bytes } => {
-            answer.word("TooLong")?;
-            answer.count(bytes)
+            call.give_word("TooLong");
+            call.give_count(bytes);
         }
-        VarFault::Full => answer.word("Full"),
-        VarFault::NoMemory => Err(CaseFault::NoMemory),
+        VarFault::Full => call.give_word("Full"),
+        VarFault::NoMemory => return Err(CaseFault::NoMemory),
     }
+    Ok(())
 }
 
-/// How many variables there are when one is set beside so many others, or why it isn't.
-fn set(alloc: Global, args: &mut Args<'_>, answer: &mut Answer) -> Result<(), CaseFault> {
-    let mut vars = kept(alloc, args.count()?)?;
-    let name = args.text()?;
-    match vars.set(&name, args.text()?) {
-        Ok(()) => answer.word("set")?,
-        Err(fault) => add_fault(answer, fault)?,
+/// Sets a variable, gives whether it is set or why it isn't, and how many there are then.
+fn set_among(call: &mut Call, vars: &mut Vars) -> Result<(), CaseFault> {
+    let name = call.text();
+    let text = call.text();
+    match vars.set(&name, text) {
+        Ok(()) => call.give_word("set"),
+        Err(fault) => give_fault(call, fault)?,
     }
-    answer.count(vars.entries(alloc)?.len())
+    call.give_count(vars.entries(call.alloc())?.len());
+    Ok(())
+}
+
+/// Sets a variable beside so many others.
+fn set(call: &mut Call) -> Result<(), CaseFault> {
+    let mut vars = numbered(call)?;
+    set_among(call, &mut vars)
 }
 
 /// The same, where another is removed before.
-fn set_again(alloc: Global, args: &mut Args<'_>, answer: &mut Answer) -> Result<(), CaseFault> {
-    let mut vars = kept(alloc, args.count()?)?;
-    vars.remove(&name_of(alloc, &args.text()?)?);
-    let name = args.text()?;
-    match vars.set(&name, args.text()?) {
-        Ok(()) => answer.word("set")?,
-        Err(fault) => add_fault(answer, fault)?,
-    }
-    answer.count(vars.entries(alloc)?.len())
+fn set_again(call: &mut Call) -> Result<(), CaseFault> {
+    let mut vars = numbered(call)?;
+    vars.remove(&name(call)?);
+    set_among(call, &mut vars)
 }
 
 /// The fault that the next argument names.
-fn named_fault(args: &mut Args<'_>) -> Result<VarFault, CaseFault> {
-    let name = args.value()?;
-    if name == b"BadName".as_slice() {
-        Ok(VarFault::BadName)
-    } else if name == b"Full".as_slice() {
-        Ok(VarFault::Full)
-    } else if name == b"NoMemory".as_slice() {
-        Ok(VarFault::NoMemory)
-    } else if name == b"TooLong".as_slice() {
-        let bytes = args.count()?;
-        Ok(VarFault::TooLong { bytes })
+fn named_fault(call: &mut Call) -> Option<VarFault> {
+    if call.takes("BadName") {
+        Some(VarFault::BadName)
+    } else if call.takes("Full") {
+        Some(VarFault::Full)
+    } else if call.takes("NoMemory") {
+        Some(VarFault::NoMemory)
+    } else if call.takes("TooLong") {
+        Some(VarFault::TooLong {
+            bytes: call.count(),
+        })
     } else {
-        Err(CaseFault::Malformed("no such fault"))
+        None
     }
 }
 
-/// What is told of a variable that isn't set.
-fn told(alloc: Global, args: &mut Args<'_>, answer: &mut Answer) -> Result<(), CaseFault> {
-    let fault = named_fault(args)?;
-    answer.text(Text::from_string(format!(in alloc; "{fault}")?))
+/// Gives what is told of a variable that isn't set.
+fn give_told(call: &mut Call) -> Result<(), CaseFault> {
+    let fault = named_fault(call).ok_or(CaseFault::Argument)?;
+    let told = format!(in call.alloc(); "{fault}")?;
+    call.give_text(&Text::from_string(told));
+    Ok(())
 }
 
-/// A reference as WML spells it, without its parentheses: `x`, `x:e`, `x:u` or `x:n`.
-fn reference(alloc: Global, spelled: &str) -> Result<Part, CaseFault> {
-    let (name, conv) = match spelled.split_once(':') {
-        None => (spelled, Conv::Plain),
-        Some((name, "n")) => (name, Conv::Plain),
-        Some((name, "e")) => (name, Conv::Escape),
-        Some((name, "u")) => (name, Conv::Unescape),
-        Some(_) => return Err(CaseFault::Malformed("a reference ends with :e, :u or :n")),
-    };
-    Ok(Part::Var(name_of(alloc, &Text::of(alloc, name)?)?, conv))
+/// How a text is filled in, by the letter behind a reference's name.
+static CONVERSIONS: [(&str, Conv); 3] = [
+    ("n", Conv::Plain),
+    ("e", Conv::Escape),
+    ("u", Conv::Unescape),
+];
+
+/// The reference of a name, as WML spells it without its parentheses: `x`, `x:e`, `x:u` or `x:n`.
+fn reference(call: &Call, spelled: &str) -> Result<Part, CaseFault> {
+    let (name, letter) = spelled.split_once(':').unwrap_or((spelled, "n"));
+    let conversion = meaning_of(&CONVERSIONS, letter.as_bytes()).ok_or(CaseFault::Argument)?;
+    let name = name_of(call, &Text::of(call.alloc(), name)?)?;
+    Ok(Part::Var(name, conversion))
 }
 
 /// The next part: a text, or a reference as a word.
-fn next_part(alloc: Global, args: &mut Args<'_>) -> Result<Part, CaseFault> {
-    if args.peek().starts_with(b"\"") {
-        return Ok(Part::Lit(args.text()?));
+fn part(call: &mut Call) -> Result<Part, CaseFault> {
+    if call.is_text_next() {
+        return Ok(Part::Lit(call.text()));
     }
-    reference(alloc, args.word()?.as_str())
+    let word = call.word();
+    match str::from_utf8(word.as_slice()) {
+        Ok(spelled) => reference(call, spelled),
+        Err(_) => Err(CaseFault::Argument),
+    }
 }
 
 /// The parts before the word `with`.
-fn parts(alloc: Global, args: &mut Args<'_>) -> Result<Vec<Part>, CaseFault> {
-    let mut parts = Vec::new(alloc);
+fn parts(call: &mut Call) -> Result<Vec<Part>, CaseFault> {
+    let mut parts = Vec::new(call.alloc());
     for _ in 0..u64::MAX {
-        if args.peek() == b"with".as_slice() {
+        if call.takes("with") {
             break;
         }
-        parts.push(next_part(alloc, args)?)?;
+        parts.push(part(call)?)?;
     }
-    let _with = args.value()?;
     Ok(parts)
 }
 
-/// The text of parts, with variables.
-fn fill(alloc: Global, args: &mut Args<'_>, answer: &mut Answer) -> Result<(), CaseFault> {
-    let parts = parts(alloc, args)?;
-    let vars = vars(alloc, args)?;
-    answer.text(vars.fill(alloc, parts.as_slice())?)
+/// Gives the text of parts, with variables.
+fn fill(call: &mut Call) -> Result<(), CaseFault> {
+    let parts = parts(call)?;
+    let vars = vars(call)?;
+    call.give_text(&vars.fill(call.alloc(), parts.as_slice())?);
+    Ok(())
 }
 
-/// Makes the call of this name, if there is one.
-pub fn call(
-    alloc: Global,
-    name: &[u8],
-    args: &mut Args<'_>,
-    answer: &mut Answer,
-) -> Result<bool, CaseFault> {
-    if name == b"entries".as_slice() {
-        entries(alloc, args, answer)?;
-    } else if name == b"remove".as_slice() {
-        remove(alloc, args, answer)?;
-    } else if name == b"clear".as_slice() {
-        clear(alloc, args, answer)?;
-    } else if name == b"get".as_slice() {
-        get(alloc, args, answer)?;
-    } else if name == b"set".as_slice() {
-        set(alloc, args, answer)?;
-    } else if name == b"set_again".as_slice() {
-        set_again(alloc, args, answer)?;
-    } else if name == b"set_told".as_slice() {
-        told(alloc, args, answer)?;
-    } else if name == b"fill".as_slice() {
-        fill(alloc, args, answer)?;
-    } else {
-        return Ok(false);
+/// Makes a call.
+pub fn make(known: VarsCall, call: &mut Call) -> Result<(), CaseFault> {
+    match known {
+        VarsCall::Entries => give_vars(call),
+        VarsCall::Remove => remove(call),
+        VarsCall::Clear => clear(call),
+        VarsCall::Get => get(call),
+        VarsCall::Set => set(call),
+        VarsCall::SetAgain => set_again(call),
+        VarsCall::Told => give_told(call),
+        VarsCall::Fill => fill(call),
     }
-    Ok(true)
 }

@@ -1,81 +1,132 @@
 //! Calls of documents and decks.
 use crate::{decks, documents};
-use std::alloc::Global;
-use wap_casebook::{Answer, Args, CaseFault};
+use wap_casebook::{Call, CaseFault, meaning_of};
 use wap_deck::{deck_of, document_of};
 use wap_markup::{Deck, Document};
 use wap_wbxml::{DocFault, decode};
 
-/// Adds the name of a fault and its place.
-fn add_fault(answer: &mut Answer, fault: DocFault) -> Result<(), CaseFault> {
-    let (word, at) = match fault {
-        DocFault::Version => ("Version", None),
-        DocFault::PublicId => ("PublicId", None),
-        DocFault::Charset => ("Charset", None),
-        DocFault::Short { at } => ("Short", Some(at)),
-        DocFault::Number { at } => ("Number", Some(at)),
-        DocFault::Token { at } => ("Token", Some(at)),
-        DocFault::Index { at } => ("Index", Some(at)),
-        DocFault::Text { at } => ("Text", Some(at)),
-        DocFault::Depth { at } => ("Depth", Some(at)),
-        DocFault::Table { at } => ("Table", Some(at)),
-        DocFault::Rest { at } => ("Rest", Some(at)),
+/// A call of a document or a deck.
+#[derive(Clone, Copy)]
+enum TreeCall {
+    Decode,
+    Deck,
+    Document,
+    Again,
+}
+
+/// The calls, by their names.
+static CALLS: [(&str, TreeCall); 4] = [
+    ("decode", TreeCall::Decode),
+    ("deck", TreeCall::Deck),
+    ("document", TreeCall::Document),
+    ("again", TreeCall::Again),
+];
+
+/// Gives a fault and its place.
+fn give_fault(call: &mut Call, fault: DocFault) -> Result<(), CaseFault> {
+    match fault {
+        DocFault::Version => call.give_word("Version"),
+        DocFault::PublicId => call.give_word("PublicId"),
+        DocFault::Charset => call.give_word("Charset"),
+        DocFault::Short { at } => give_place(call, "Short", at),
+        DocFault::Number { at } => give_place(call, "Number", at),
+        DocFault::Token { at } => give_place(call, "Token", at),
+        DocFault::Index { at } => give_place(call, "Index", at),
+        DocFault::Text { at } => give_place(call, "Text", at),
+        DocFault::Depth { at } => give_place(call, "Depth", at),
+        DocFault::Table { at } => give_place(call, "Table", at),
+        DocFault::Rest { at } => give_place(call, "Rest", at),
         DocFault::NoMemory => return Err(CaseFault::NoMemory),
-    };
-    answer.word(word)?;
-    match at {
-        Some(at) => answer.count(at),
-        None => Ok(()),
     }
+    Ok(())
+}
+
+/// Gives a word and a place.
+fn give_place(call: &mut Call, word: &str, at: usize) {
+    call.give_word(word);
+    call.give_count(at);
 }
 
 /// The next argument, the bytes of a document.
-fn document(alloc: Global, args: &mut Args<'_>) -> Result<Document, CaseFault> {
-    match decode(alloc, args.bytes()?.as_slice()) {
+fn document(call: &mut Call) -> Result<Document, CaseFault> {
+    let bytes = call.bytes();
+    match decode(call.alloc(), bytes.as_slice()) {
         Ok(document) => Ok(document),
         Err(DocFault::NoMemory) => Err(CaseFault::NoMemory),
-        Err(_) => Err(CaseFault::Malformed("the bytes are no document")),
+        Err(_) => Err(CaseFault::Argument),
     }
 }
 
 /// The next argument, the bytes of a document, which means a deck.
-fn deck(alloc: Global, args: &mut Args<'_>) -> Result<Deck, CaseFault> {
-    Ok(deck_of(alloc, &document(alloc, args)?)?)
+fn deck(call: &mut Call) -> Result<Deck, CaseFault> {
+    let document = document(call)?;
+    Ok(deck_of(call.alloc(), &document)?)
 }
 
-/// Adds a document's numbers and its root, or the fault.
-fn add_decoded(alloc: Global, args: &mut Args<'_>, answer: &mut Answer) -> Result<(), CaseFault> {
-    match decode(alloc, args.bytes()?.as_slice()) {
-        Ok(document) => {
-            answer.number(i64::from(document.version))?;
-            answer.number(i64::from(document.public))?;
-            answer.number(i64::from(document.charset))?;
-            answer.text(documents::shown(alloc, &document)?)
-        }
-        Err(fault) => add_fault(answer, fault),
+/// Gives a document's numbers and its root.
+fn give_document(call: &mut Call, document: &Document) -> Result<(), CaseFault> {
+    call.give_number(i64::from(document.version));
+    call.give_number(i64::from(document.public));
+    call.give_number(i64::from(document.charset));
+    call.give_text(&documents::shown(call.alloc(), document)?);
+    Ok(())
+}
+
+/// Gives the document that bytes are, or the fault.
+fn give_decoded(call: &mut Call) -> Result<(), CaseFault> {
+    let bytes = call.bytes();
+    match decode(call.alloc(), bytes.as_slice()) {
+        Ok(document) => give_document(call, &document),
+        Err(fault) => give_fault(call, fault),
     }
+}
+
+/// Gives the deck of a document.
+fn give_deck(call: &mut Call) -> Result<(), CaseFault> {
+    let deck = deck(call)?;
+    call.give_text(&decks::shown(call.alloc(), &deck)?);
+    Ok(())
+}
+
+/// The document of a deck, which the next argument means.
+fn written(call: &mut Call) -> Result<Document, CaseFault> {
+    let deck = deck(call)?;
+    Ok(document_of(call.alloc(), &deck)?)
+}
+
+/// Gives whether the next argument is a document.
+fn compare_next(call: &mut Call, written: &Document) -> Result<(), CaseFault> {
+    let read = document(call)?;
+    call.give_truth(read == *written);
+    Ok(())
+}
+
+/// Gives whether a document is that of a deck.
+fn compare_documents(call: &mut Call) -> Result<(), CaseFault> {
+    let written = written(call)?;
+    compare_next(call, &written)
+}
+
+/// Gives whether the next argument means a deck.
+fn compare_next_deck(call: &mut Call, first: &Deck) -> Result<(), CaseFault> {
+    let read = deck(call)?;
+    call.give_truth(read == *first);
+    Ok(())
+}
+
+/// Gives whether two documents mean the same deck.
+fn compare_decks(call: &mut Call) -> Result<(), CaseFault> {
+    let first = deck(call)?;
+    compare_next_deck(call, &first)
 }
 
 /// Makes one of the calls `decode BYTES`, `deck BYTES`, `document BYTES BYTES` and
 /// `again BYTES BYTES`.
-pub fn call(
-    alloc: Global,
-    name: &[u8],
-    args: &mut Args<'_>,
-    answer: &mut Answer,
-) -> Result<bool, CaseFault> {
-    match name {
-        b"decode" => add_decoded(alloc, args, answer)?,
-        b"deck" => answer.text(decks::shown(alloc, &deck(alloc, args)?)?)?,
-        b"document" => {
-            let written = document_of(alloc, &deck(alloc, args)?)?;
-            answer.truth(written == document(alloc, args)?)?;
-        }
-        b"again" => {
-            let first = deck(alloc, args)?;
-            answer.truth(first == deck(alloc, args)?)?;
-        }
-        _ => return Ok(false),
+pub fn make(name: &[u8], call: &mut Call) -> Result<(), CaseFault> {
+    match meaning_of(&CALLS, name).ok_or(CaseFault::Line)? {
+        TreeCall::Decode => give_decoded(call),
+        TreeCall::Deck => give_deck(call),
+        TreeCall::Document => compare_documents(call),
+        TreeCall::Again => compare_decks(call),
     }
-    Ok(true)
 }

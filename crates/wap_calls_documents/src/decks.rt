@@ -24,24 +24,31 @@ fn attribute_name(attribute: AttrName) -> &'static str {
     ""
 }
 
-/// Appends parts of a value or of a text, a blank before each.
-fn add_parts(out: &mut String, parts: &[Part]) -> Result<(), AllocError> {
-    for part in parts {
-        out.push(' ')?;
-        match part {
-            Part::Lit(text) => add_string(out, text.as_str())?,
-            Part::Var(name, conv) => add_reference(out, name.text().as_str(), *conv)?,
-        }
+/// Appends a part of a value or of a text.
+fn add_part(out: &mut String, part: &Part) -> Result<(), AllocError> {
+    match part {
+        Part::Lit(text) => add_string(out, text.as_str()),
+        Part::Var(name, conv) => add_reference(out, name.text().as_str(), *conv),
     }
-    Ok(())
 }
 
-/// Appends a word and parts.
+/// Appends a word and parts, a blank before each.
 fn add_group(out: &mut String, word: &str, parts: &[Part]) -> Result<(), AllocError> {
-    out.push('[')?;
-    out.push_str(word)?;
-    add_parts(out, parts)?;
+    write!(out, "[{word}")?;
+    for part in parts {
+        out.push(' ')?;
+        add_part(out, part)?;
+    }
     out.push(']')
+}
+
+/// Appends attributes, a blank before each.
+fn add_attributes(out: &mut String, node: &Node) -> Result<(), AllocError> {
+    for (attribute, parts) in node.attrs.as_slice() {
+        out.push(' ')?;
+        add_group(out, attribute_name(*attribute), parts.as_slice())?;
+    }
+    Ok(())
 }
 
 /// Appends a node of so many levels, or two dots where it has more.
@@ -50,12 +57,9 @@ fn add_node(out: &mut String, levels: u32, node: &Node) -> Result<(), AllocError
     if levels == 0 {
         return out.push_str("..");
     }
-    out.push('(')?;
-    out.push_str(tag_name(node.tag))?;
-    for (attribute, parts) in node.attrs.as_slice() {
-        out.push(' ')?;
-        add_group(out, attribute_name(*attribute), parts.as_slice())?;
-    }
+    let name = tag_name(node.tag);
+    write!(out, "({name}")?;
+    add_attributes(out, node)?;
     add_items(out, levels - 1, node.kids.as_slice())?;
     out.push(')')
 }

@@ -15,8 +15,8 @@ fn add_token(out: &mut String, page: u8, token: &Token) -> Result<(), AllocError
     match token {
         Token::Code(code) => add_code(out, page, *code),
         Token::Literal(name) => {
-            write!(out, "{page}:")?;
-            add_string(out, name.as_str())
+            let name = name.as_str();
+            write!(out, "{page}:'{name}'")
         }
     }
 }
@@ -60,18 +60,35 @@ fn add_attribute(out: &mut String, attribute: &Attr) -> Result<(), AllocError> {
     out.push(']')
 }
 
+/// Appends attributes, a blank before each.
+fn add_attributes(out: &mut String, element: &Element) -> Result<(), AllocError> {
+    for attribute in element.attrs.as_slice() {
+        out.push(' ')?;
+        add_attribute(out, attribute)?;
+    }
+    Ok(())
+}
+
+/// Appends what an element begins with.
+fn add_head(out: &mut String, element: &Element) -> Result<(), AllocError> {
+    out.push('(')?;
+    add_token(out, element.page, &element.tag)?;
+    add_attributes(out, element)
+}
+
+/// Appends an instruction.
+fn add_instruction(out: &mut String, instruction: &Attr) -> Result<(), AllocError> {
+    out.push_str("pi")?;
+    add_attribute(out, instruction)
+}
+
 /// Appends an element of so many levels, or two dots where it has more.
 #[cycle(elements)]
 fn add_element(out: &mut String, levels: u32, element: &Element) -> Result<(), AllocError> {
     if levels == 0 {
         return out.push_str("..");
     }
-    out.push('(')?;
-    add_token(out, element.page, &element.tag)?;
-    for attribute in element.attrs.as_slice() {
-        out.push(' ')?;
-        add_attribute(out, attribute)?;
-    }
+    add_head(out, element)?;
     add_kids(out, levels - 1, element.kids.as_slice())?;
     out.push(')')
 }
@@ -86,10 +103,7 @@ fn add_kid(out: &mut String, levels: u32, kid: &Kid) -> Result<(), AllocError> {
         Kid::Var(name, conv) => add_reference(out, name.as_str(), *conv),
         Kid::Ext(number) => add_extension(out, *number),
         Kid::Opaque(bytes) => add_opaque(out, bytes.as_slice()),
-        Kid::Pi(instruction) => {
-            out.push_str("pi")?;
-            add_attribute(out, instruction)
-        }
+        Kid::Pi(instruction) => add_instruction(out, instruction),
     }
 }
 

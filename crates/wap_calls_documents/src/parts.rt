@@ -4,17 +4,15 @@ use wap_base::Conv;
 
 /// Appends a string between apostrophes.
 pub fn add_string(out: &mut String, text: &str) -> Result<(), AllocError> {
-    out.push('\'')?;
-    out.push_str(text)?;
-    out.push('\'')
+    write!(out, "'{text}'")
 }
 
 /// Appends a reference to a variable.
 pub fn add_reference(out: &mut String, name: &str, conv: Conv) -> Result<(), AllocError> {
-    out.push_str(match conv {
-        Conv::Escape => "$Escape",
-        Conv::Unescape => "$Unescape",
-        Conv::Plain => "$Plain",
-    })?;
-    add_string(out, name)
+    let word = match conv {
+        Conv::Escape => "Escape",
+        Conv::Unescape => "Unescape",
+        Conv::Plain => "Plain",
+    };
+    write!(out, "${word}'{name}'")
 }

@@ -1,8 +1,6 @@
 //! Calls of functions, alone or behind one another.
 use crate::names::numbers_of;
-use std::alloc::Global;
-use wap_base::Text;
-use wap_casebook::{Answer, Args, CaseFault};
+use wap_casebook::{Call, CaseFault, meaning_of};
 use wap_libs::{Gen, LibFault, LibOut, arguments_of, call_pure};
 use wap_value::Value;
 
@@ -17,170 +15,199 @@ const RANDOM: (u16, u8) = (0, 12);
 
 const RESTART: (u16, u8) = (0, 13);
 
-/// The next argument, a value: a number, a text, `true`, `false` or `invalid`.
-fn value(args: &mut Args<'_>) -> Result<Value, CaseFault> {
-    match args.peek() {
-        b"true" | b"false" => Ok(Value::Bool(args.value()? == b"true".as_slice())),
-        b"invalid" => {
-            let _word = args.value()?;
-            Ok(Value::Invalid)
+/// A call that isn't one function's alone.
+#[derive(Clone, Copy)]
+enum SessionCall {
+    Within,
+    Random,
+    Restarted,
+    Arguments,
+}
+
+/// The calls, by their names.
+static CALLS: [(&str, SessionCall); 4] = [
+    ("within", SessionCall::Within),
+    ("random", SessionCall::Random),
+    ("restarted", SessionCall::Restarted),
+    ("arguments", SessionCall::Arguments),
+];
+
+/// The next argument, a number of 32 bits with a sign.
+fn integer(call: &mut Call) -> Value {
+    match i32::try_from(call.number()) {
+        Ok(number) => Value::Int(number),
+        Err(_) => {
+            call.fail(CaseFault::Argument);
+            Value::Invalid
         }
-        [b'"', ..] | [b'(', ..] => Ok(Value::Str(args.text()?)),
-        _ => match i32::try_from(args.number()?) {
-            Ok(number) => Ok(Value::Int(number)),
-            Err(_) => Err(CaseFault::Malformed("a number of 32 bits is wanted")),
-        },
+    }
+}
+
+/// The next argument, a value: a number, a text, `true`, `false` or `invalid`.
+fn value(call: &mut Call) -> Value {
+    if call.is_text_next() {
+        Value::Str(call.text())
+    } else if call.takes("true") {
+        Value::Bool(true)
+    } else if call.takes("false") {
+        Value::Bool(false)
+    } else if call.takes("invalid") {
+        Value::Invalid
+    } else {
+        integer(call)
     }
 }
 
 /// The values that are left.
-fn values(alloc: Global, args: &mut Args<'_>) -> Result<Vec<Value>, CaseFault> {
-    let mut values = Vec::new(alloc);
+fn values(call: &mut Call) -> Result<Vec<Value>, CaseFault> {
+    let mut values = Vec::new(call.alloc());
     for _ in 0..u64::MAX {
-        if !args.has_more() {
+        if !call.has_more() {
             break;
         }
-        values.push(value(args)?)?;
+        values.push(value(call))?;
     }
     Ok(values)
 }
 
-/// The next argument, a number of 32 bits.
-fn word32(args: &mut Args<'_>) -> Result<u32, CaseFault> {
-    match u32::try_from(args.number()?) {
-        Ok(number) => Ok(number),
-        Err(_) => Err(CaseFault::Malformed("a number of 32 bits is wanted")),
-    }
-}
-
-/// Adds a value.
-fn add_value(answer: &mut Answer, value: Value) -> Result<(), CaseFault> {
+/// Gives a value.
+fn give_value(call: &mut Call, value: &Value) {
     match value {
-        Value::Int(number) => answer.number(i64::from(number)),
-        Value::Bool(is_true) => answer.word(if is_true { "true" } else { "false" }),
-        Value::Str(text) => answer.text(text),
-        Value::Invalid => answer.word("invalid"),
+        Value::Int(number) => call.give_number(i64::from(*number)),
+        Value::Bool(true) => call.give_word("true"),
+        Value::Bool(false) => call.give_word("false"),
+        Value::Str(text) => call.give_text(text),
+        Value::Invalid => call.give_word("invalid"),
     }
 }
 
-/// Adds what a call comes to: a value, `exit` and a value, `abort` and a text, or `too-long` and a number.
-fn add_outcome(answer: &mut Answer, out: Result<LibOut, LibFault>) -> Result<(), CaseFault> {
-    match out {
-        Ok(LibOut::Value(value)) => add_value(answer, value),
-        Ok(LibOut::Exit(value)) => {
-            answer.word("exit")?;
-            add_value(answer, value)
+/// Gives what a function comes to: a value, `exit` and a value, or `abort` and a text.
+fn give_outcome(call: &mut Call, outcome: &LibOut) {
+    match outcome {
+        LibOut::Value(value) => give_value(call, value),
+        LibOut::Exit(value) => {
+            call.give_word("exit");
+            give_value(call, value);
         }
-        Ok(LibOut::Abort(text)) => {
-            answer.word("abort")?;
-            answer.text(text)
+        LibOut::Abort(text) => {
+            call.give_word("abort");
+            call.give_text(text);
         }
-        Err(LibFault::TooLong { bytes }) => {
-            answer.word("too-long")?;
-            answer.count(bytes)
-        }
-        Err(LibFault::NoMemory) => Err(CaseFault::NoMemory),
     }
 }
 
-/// Calls a function, and adds what that comes to.
-fn add_call(
-    alloc: Global,
+/// Gives why a function comes to nothing: `too-long` and a number.
+fn give_fault(call: &mut Call, fault: LibFault) -> Result<(), CaseFault> {
+    match fault {
+        LibFault::TooLong { bytes } => {
+            call.give_word("too-long");
+            call.give_count(bytes);
+            Ok(())
+        }
+        LibFault::NoMemory => Err(CaseFault::NoMemory),
+    }
+}
+
+/// Calls a function, and gives what that comes to.
+fn give_call(
+    call: &mut Call,
     numbers: (u16, u8),
     values: Vec<Value>,
     generator: &mut Gen,
     limit: u32,
-    answer: &mut Answer,
 ) -> Result<(), CaseFault> {
     let (lib, f) = numbers;
     match arguments_of(lib, f) {
-        Some(count) if usize::from(count) == values.len() => {
-            add_outcome(answer, call_pure(alloc, lib, f, values, generator, limit))
-        }
-        _ => Err(CaseFault::Malformed("the function takes other arguments")),
+        Some(count) if usize::from(count) == values.len() => {}
+        _ => return Err(CaseFault::Argument),
     }
+    match call_pure(call.alloc(), lib, f, values, generator, limit) {
+        Ok(outcome) => give_outcome(call, &outcome),
+        Err(fault) => give_fault(call, fault)?,
+    }
+    Ok(())
+}
+
+/// Calls a function of a session that begins with the call.
+fn call_alone(call: &mut Call, numbers: (u16, u8), limit: u32) -> Result<(), CaseFault> {
+    let values = values(call)?;
+    give_call(call, numbers, values, &mut Gen::new(SEED), limit)
 }
 
 /// Calls a function under a limit of Strings.
-fn within(alloc: Global, args: &mut Args<'_>, answer: &mut Answer) -> Result<(), CaseFault> {
-    let limit = word32(args)?;
-    match numbers_of(args.value()?) {
-        Some(numbers) => {
-            let values = values(alloc, args)?;
-            add_call(alloc, numbers, values, &mut Gen::new(SEED), limit, answer)
-        }
-        None => Err(CaseFault::Malformed("no function has this name")),
-    }
+fn call_within(call: &mut Call) -> Result<(), CaseFault> {
+    let limit = call.number32();
+    let numbers = numbers_of(call.word().as_slice()).ok_or(CaseFault::Argument)?;
+    call_alone(call, numbers, limit)
+}
+
+/// Calls a function of one argument, a value.
+fn call_with(
+    call: &mut Call,
+    numbers: (u16, u8),
+    value: Value,
+    generator: &mut Gen,
+) -> Result<(), CaseFault> {
+    let values = vec![in call.alloc(); value]?;
+    give_call(call, numbers, values, generator, LIMIT)
 }
 
 /// Draws random numbers behind one another: the next argument up to each value that is left.
-fn draw_each(
-    alloc: Global,
-    generator: &mut Gen,
-    args: &mut Args<'_>,
-    answer: &mut Answer,
-) -> Result<(), CaseFault> {
-    for most in values(alloc, args)? {
-        let values = vec![in alloc; most]?;
-        add_call(alloc, RANDOM, values, generator, LIMIT, answer)?;
+fn draw_each(call: &mut Call, generator: &mut Gen) -> Result<(), CaseFault> {
+    for _ in 0..u64::MAX {
+        if !call.has_more() {
+            break;
+        }
+        let most = value(call);
+        call_with(call, RANDOM, most, generator)?;
     }
     Ok(())
 }
 
 /// Random numbers of a session with a seed.
-fn random(alloc: Global, args: &mut Args<'_>, answer: &mut Answer) -> Result<(), CaseFault> {
-    let mut generator = Gen::new(word32(args)?);
-    draw_each(alloc, &mut generator, args, answer)
+fn draw(call: &mut Call) -> Result<(), CaseFault> {
+    let mut generator = Gen::new(call.number32());
+    draw_each(call, &mut generator)
 }
 
 /// The same, some behind a start of the generator from another seed.
-fn restarted(alloc: Global, args: &mut Args<'_>, answer: &mut Answer) -> Result<(), CaseFault> {
-    let mut generator = Gen::new(word32(args)?);
-    let start = vec![in alloc; value(args)?]?;
-    add_call(
-        alloc,
-        RANDOM,
-        vec![in alloc; Value::Int(9)]?,
-        &mut generator,
-        LIMIT,
-        answer,
-    )?;
-    add_call(alloc, RESTART, start, &mut generator, LIMIT, answer)?;
-    draw_each(alloc, &mut generator, args, answer)
+fn draw_restarted(call: &mut Call) -> Result<(), CaseFault> {
+    let mut generator = Gen::new(call.number32());
+    let start = value(call);
+    call_with(call, RANDOM, Value::Int(9), &mut generator)?;
+    call_with(call, RESTART, start, &mut generator)?;
+    draw_each(call, &mut generator)
 }
 
 /// How many arguments a function takes, by its numbers.
-fn count(args: &mut Args<'_>, answer: &mut Answer) -> Result<(), CaseFault> {
-    let (lib, f) = (args.count()?, args.count()?);
-    match (u16::try_from(lib), u8::try_from(f)) {
-        (Ok(lib), Ok(f)) => match arguments_of(lib, f) {
-            Some(count) => answer.number(i64::from(count)),
-            None => answer.word("none"),
-        },
-        _ => Err(CaseFault::Malformed("numbers of 16 and 8 bits are wanted")),
+fn count_arguments(call: &mut Call) -> Result<(), CaseFault> {
+    let (lib, f) = (call.count(), call.count());
+    let (Ok(lib), Ok(f)) = (u16::try_from(lib), u8::try_from(f)) else {
+        return Err(CaseFault::Argument);
+    };
+    match arguments_of(lib, f) {
+        Some(count) => call.give_number(i64::from(count)),
+        None => call.give_word("none"),
+    }
+    Ok(())
+}
+
+/// Makes a call of a function by its name, as `Lang.abs`.
+fn make_function(name: &[u8], call: &mut Call) -> Result<(), CaseFault> {
+    match numbers_of(name) {
+        Some(numbers) => call_alone(call, numbers, LIMIT),
+        None => Err(CaseFault::Line),
     }
 }
 
-/// Makes a call of a function by its name, as `Lang.abs`, or one of `within LIMIT NAME VALUES`,
+/// Makes a call of a function by its name, or one of `within LIMIT NAME VALUES`,
 /// `random SEED VALUES`, `restarted SEED START VALUES` and `arguments LIBRARY FUNCTION`.
-pub fn call(
-    alloc: Global,
-    name: &[u8],
-    args: &mut Args<'_>,
-    answer: &mut Answer,
-) -> Result<bool, CaseFault> {
-    match name {
-        b"within" => within(alloc, args, answer)?,
-        b"random" => random(alloc, args, answer)?,
-        b"restarted" => restarted(alloc, args, answer)?,
-        b"arguments" => count(args, answer)?,
-        _ => match numbers_of(name) {
-            Some(numbers) => {
-                let values = values(alloc, args)?;
-                add_call(alloc, numbers, values, &mut Gen::new(SEED), LIMIT, answer)?;
-            }
-            None => return Ok(false),
-        },
+pub fn make(name: &[u8], call: &mut Call) -> Result<(), CaseFault> {
+    match meaning_of(&CALLS, name) {
+        Some(SessionCall::Within) => call_within(call),
+        Some(SessionCall::Random) => draw(call),
+        Some(SessionCall::Restarted) => draw_restarted(call),
+        Some(SessionCall::Arguments) => count_arguments(call),
+        None => make_function(name, call),
     }
-    Ok(true)
 }

@@ -1,4 +1,6 @@
 //! The functions by their names.
+use std::str;
+use wap_casebook::meaning_of;
 
 const LANG: [&str; 15] = [
     "abs",
@@ -58,27 +60,35 @@ const URL: [&str; 14] = [
     "loadString",
 ];
 
+#[derive(Clone, Copy)]
+enum Library {
+    Lang,
+    Float,
+    String,
+    Url,
+}
+
+/// The libraries, by their names.
+static LIBRARIES: [(&str, Library); 4] = [
+    ("Lang", Library::Lang),
+    ("Float", Library::Float),
+    ("String", Library::String),
+    ("URL", Library::Url),
+];
+
 /// The numbers of a library and of a function in it, by a name as `Lang.abs`.
 pub fn numbers_of(name: &[u8]) -> Option<(u16, u8)> {
-    let dot = name.iter().position(|byte| *byte == b'.')?;
-    let (library, rest) = name.split_at(dot);
-    let function = match rest {
-        [_, function @ ..] => function,
-        [] => return None,
-    };
-    match library {
-        b"Lang" => Some((0, number_of(&LANG, function)?)),
-        b"Float" => Some((1, number_of(&FLOAT, function)?)),
-        b"String" => Some((2, number_of(&STRING, function)?)),
-        b"URL" => Some((3, number_of(&URL, function)?)),
-        _ => None,
+    let (library, function) = str::from_utf8(name).ok()?.split_once('.')?;
+    match meaning_of(&LIBRARIES, library.as_bytes())? {
+        Library::Lang => numbers_in(0, &LANG, function),
+        Library::Float => numbers_in(1, &FLOAT, function),
+        Library::String => numbers_in(2, &STRING, function),
+        Library::Url => numbers_in(3, &URL, function),
     }
 }
 
-/// The place of a function among those of its library.
-fn number_of(functions: &[&str], name: &[u8]) -> Option<u8> {
-    let at = functions
-        .iter()
-        .position(|function| function.as_bytes() == name)?;
-    u8::try_from(at).ok()
+/// The numbers of a library and of a function among its own.
+fn numbers_in(library: u16, functions: &[&str], name: &str) -> Option<(u16, u8)> {
+    let at = functions.iter().position(|function| *function == name)?;
+    Some((library, u8::try_from(at).ok()?))
 }

@@ -1,26 +1,29 @@
-//! Plays calls of the tokens of sources: files of lines `CALL SOURCE = RESULT`.
+//! Plays calls of the tokens, trees and names of sources: files of lines `CALL SOURCE = RESULT`.
 #![tactic(auto)]
 
+mod expressions;
+mod names;
+mod operators;
+mod statements;
 mod tokens;
+mod trees;
 
-use std::alloc::Global;
 use std::marker::{Send, Sync};
 use std::process::ExitCode;
-use wap_casebook::{Answer, Args, Calls, CaseFault, play_calls};
+use wap_casebook::{Call, Calls, CaseFault, play_calls};
 use wap_lex::{Kind, LexFault, Token};
+use wap_parse::{ParseFault, Program};
+use wap_scope::{ScopeFault, Scoped};
 
 /// The calls of sources.
 struct Sources;
 
 impl Calls for Sources {
-    fn call(
-        &self,
-        alloc: Global,
-        name: &[u8],
-        args: &mut Args<'_>,
-        answer: &mut Answer,
-    ) -> Result<bool, CaseFault> {
-        tokens::call(alloc, name, args, answer)
+    fn make(&self, name: &[u8], call: &mut Call) -> Result<(), CaseFault> {
+        if trees::make(name, call)? || names::make(name, call)? {
+            return Ok(());
+        }
+        tokens::make(name, call)
     }
 }
 
@@ -31,13 +34,13 @@ fn all_cross() {
     crosses::<Token>();
     crosses::<Kind>();
     crosses::<LexFault>();
+    crosses::<Program>();
+    crosses::<ParseFault>();
+    crosses::<Scoped>();
+    crosses::<ScopeFault>();
 }
 
 fn main(rt: HostRuntime) -> ExitCode {
     all_cross();
-    match play_calls(&rt, &Sources) {
-        Ok(tally) if tally.differing == 0 => ExitCode::from(0),
-        Ok(_) => ExitCode::from(1),
-        Err(_) => ExitCode::from(2),
-    }
+    play_calls(&rt, &Sources)
 }

@@ -1,38 +1,30 @@
 //! Calls of values and operators.
-use std::alloc::Global;
 use wap_base::{DEFAULT_STRING, LEAST_STRING, MOST_STRING};
-use wap_casebook::{Answer, Args, CaseFault};
+use wap_casebook::{Call, CaseFault, meaning_of};
 use wap_value::{BinOp, UnOp, Value, ValueFault, binary, to_bool, to_int, to_str, unary};
 
-/// The next argument, a value: a number, a text, `true`, `false` or `invalid`.
-fn value(args: &mut Args<'_>) -> Result<Value, CaseFault> {
-    match args.peek() {
-        b"true" | b"false" => Ok(Value::Bool(args.value()? == b"true".as_slice())),
-        b"invalid" => {
-            let _word = args.value()?;
-            Ok(Value::Invalid)
-        }
-        [b'"', ..] | [b'(', ..] => Ok(Value::Str(args.text()?)),
-        _ => match i32::try_from(args.number()?) {
-            Ok(number) => Ok(Value::Int(number)),
-            Err(_) => Err(CaseFault::Malformed("a number of 32 bits is wanted")),
-        },
-    }
+/// A call of a value or an operator.
+#[derive(Clone, Copy)]
+enum ValueCall {
+    Binary,
+    BinaryWithin,
+    Unary,
+    ToInt,
+    ToBool,
+    ToStr,
+    Copy,
 }
 
-/// Adds a value.
-fn add_value(answer: &mut Answer, value: Value) -> Result<(), CaseFault> {
-    match value {
-        Value::Int(number) => answer.number(i64::from(number)),
-        Value::Bool(is_true) => add_truth(answer, is_true),
-        Value::Str(text) => answer.text(text),
-        Value::Invalid => answer.word("invalid"),
-    }
-}
-
-fn add_truth(answer: &mut Answer, is_true: bool) -> Result<(), CaseFault> {
-    answer.word(if is_true { "true" } else { "false" })
-}
+/// The calls, by their names.
+static CALLS: [(&str, ValueCall); 7] = [
+    ("binary", ValueCall::Binary),
+    ("binary_within", ValueCall::BinaryWithin),
+    ("unary", ValueCall::Unary),
+    ("to_int", ValueCall::ToInt),
+    ("to_bool", ValueCall::ToBool),
+    ("to_str", ValueCall::ToStr),
+    ("copy", ValueCall::Copy),
+];
 
 /// The operators of two operands, as WMLScript spells them.
 static OPERATORS: [(&str, BinOp); 21] = [
@@ -72,100 +64,133 @@ static OPERATORS_OF_ONE: [(&str, UnOp); 9] = [
     ("--", UnOp::Decr),
 ];
 
-/// The operator of two operands that the next argument is.
-fn operator(args: &mut Args<'_>) -> Result<BinOp, CaseFault> {
-    let word = args.value()?;
-    for (name, op) in &OPERATORS {
-        if name.as_bytes() == word {
-            return Ok(*op);
+/// The next argument, a number of 32 bits with a sign.
+fn integer(call: &mut Call) -> Value {
+    match i32::try_from(call.number()) {
+        Ok(number) => Value::Int(number),
+        Err(_) => {
+            call.fail(CaseFault::Argument);
+            Value::Invalid
         }
     }
-    Err(CaseFault::Malformed("no operator of two operands"))
 }
 
-/// The operator of one operand that the next argument is.
-fn operator_of_one(args: &mut Args<'_>) -> Result<UnOp, CaseFault> {
-    let word = args.value()?;
-    for (name, op) in &OPERATORS_OF_ONE {
-        if name.as_bytes() == word {
-            return Ok(*op);
-        }
+/// The next argument, a value: a number, a text, `true`, `false` or `invalid`.
+fn value(call: &mut Call) -> Value {
+    if call.is_text_next() {
+        Value::Str(call.text())
+    } else if call.takes("true") {
+        Value::Bool(true)
+    } else if call.takes("false") {
+        Value::Bool(false)
+    } else if call.takes("invalid") {
+        Value::Invalid
+    } else {
+        integer(call)
     }
-    Err(CaseFault::Malformed("no operator of one operand"))
+}
+
+/// Gives a value.
+fn give_value(call: &mut Call, value: &Value) {
+    match value {
+        Value::Int(number) => call.give_number(i64::from(*number)),
+        Value::Bool(is_true) => give_truth(call, *is_true),
+        Value::Str(text) => call.give_text(text),
+        Value::Invalid => call.give_word("invalid"),
+    }
+}
+
+/// Gives `true` or `false`.
+fn give_truth(call: &mut Call, is_true: bool) {
+    call.give_word(if is_true { "true" } else { "false" });
+}
+
+/// Gives the value that an operator makes, or why it makes none.
+fn give_made(call: &mut Call, made: Result<Value, ValueFault>) -> Result<(), CaseFault> {
+    match made {
+        Ok(value) => give_value(call, &value),
+        Err(ValueFault::TooLong { bytes }) => {
+            call.give_word("TooLong");
+            call.give_count(bytes);
+        }
+        Err(ValueFault::NoMemory) => return Err(CaseFault::NoMemory),
+    }
+    Ok(())
 }
 
 /// What an operator makes of two values; `none` where it may not look at both.
-fn of_two(
-    alloc: Global,
-    string: u32,
-    args: &mut Args<'_>,
-    answer: &mut Answer,
-) -> Result<(), CaseFault> {
-    let op = operator(args)?;
-    let left = value(args)?;
-    let right = value(args)?;
+fn of_two(call: &mut Call, string: u32) -> Result<(), CaseFault> {
+    let op = call.meaning(&OPERATORS)?;
+    let left = value(call);
+    let right = value(call);
     if !op.takes_both() {
-        return answer.word("none");
+        call.give_word("none");
+        return Ok(());
     }
     if string < LEAST_STRING || MOST_STRING < string {
-        return Err(CaseFault::Malformed("no limit of Strings"));
+        return Err(CaseFault::Argument);
     }
-    match binary(alloc, op, &left, &right, string) {
-        Ok(value) => add_value(answer, value),
-        Err(ValueFault::TooLong { bytes }) => {
-            answer.word("TooLong")?;
-            answer.count(bytes)
-        }
-        Err(ValueFault::NoMemory) => Err(CaseFault::NoMemory),
-    }
+    let made = binary(call.alloc(), op, &left, &right, string);
+    give_made(call, made)
+}
+
+/// The same, under a limit of Strings.
+fn of_two_within(call: &mut Call) -> Result<(), CaseFault> {
+    let string = call.number32();
+    of_two(call, string)
+}
+
+/// What an operator makes of a value.
+fn of_one(call: &mut Call) -> Result<(), CaseFault> {
+    let op = call.meaning(&OPERATORS_OF_ONE)?;
+    let made = unary(op, value(call));
+    give_value(call, &made);
+    Ok(())
 }
 
 /// The whole number that a value is converted to.
-fn integer(args: &mut Args<'_>, answer: &mut Answer) -> Result<(), CaseFault> {
-    match to_int(&value(args)?) {
-        Some(number) => answer.number(i64::from(number)),
-        None => answer.word("none"),
+fn give_integer(call: &mut Call) {
+    match to_int(&value(call)) {
+        Some(number) => call.give_number(i64::from(number)),
+        None => call.give_word("none"),
     }
 }
 
 /// The truth that a value is converted to.
-fn truth(args: &mut Args<'_>, answer: &mut Answer) -> Result<(), CaseFault> {
-    match to_bool(&value(args)?) {
-        Some(is_true) => add_truth(answer, is_true),
-        None => answer.word("none"),
+fn give_condition(call: &mut Call) {
+    match to_bool(&value(call)) {
+        Some(is_true) => give_truth(call, is_true),
+        None => call.give_word("none"),
     }
 }
 
 /// The text that a value is converted to.
-fn string(alloc: Global, args: &mut Args<'_>, answer: &mut Answer) -> Result<(), CaseFault> {
-    match to_str(alloc, &value(args)?)? {
-        Some(text) => answer.text(text),
-        None => answer.word("none"),
+fn give_string(call: &mut Call) -> Result<(), CaseFault> {
+    let value = value(call);
+    match to_str(call.alloc(), &value)? {
+        Some(text) => call.give_text(&text),
+        None => call.give_word("none"),
     }
+    Ok(())
 }
 
-/// Makes the call of this name, if there is one.
-pub fn call(
-    alloc: Global,
-    name: &[u8],
-    args: &mut Args<'_>,
-    answer: &mut Answer,
-) -> Result<bool, CaseFault> {
-    match name {
-        b"binary" => of_two(alloc, DEFAULT_STRING, args, answer)?,
-        b"binary_within" => {
-            let string = u32::try_from(args.number()?).unwrap_or(0);
-            of_two(alloc, string, args, answer)?;
-        }
-        b"unary" => {
-            let op = operator_of_one(args)?;
-            add_value(answer, unary(op, value(args)?))?;
-        }
-        b"to_int" => integer(args, answer)?,
-        b"to_bool" => truth(args, answer)?,
-        b"to_str" => string(alloc, args, answer)?,
-        b"copy" => add_value(answer, value(args)?.copy(alloc)?)?,
-        _ => return Ok(false),
+/// The copy of a value.
+fn give_copy(call: &mut Call) -> Result<(), CaseFault> {
+    let copy = value(call).copy(call.alloc())?;
+    give_value(call, &copy);
+    Ok(())
+}
+
+/// Makes the call of this name.
+pub fn make(name: &[u8], call: &mut Call) -> Result<(), CaseFault> {
+    match meaning_of(&CALLS, name).ok_or(CaseFault::Line)? {
+        ValueCall::Binary => of_two(call, DEFAULT_STRING)?,
+        ValueCall::BinaryWithin => of_two_within(call)?,
+        ValueCall::Unary => of_one(call)?,
+        ValueCall::ToInt => give_integer(call),
+        ValueCall::ToBool => give_condition(call),
+        ValueCall::ToStr => give_string(call)?,
+        ValueCall::Copy => give_copy(call)?,
     }
-    Ok(true)
+    Ok(())
 }

@@ -1,19 +1,14 @@
 //! Playing files of calls.
-use crate::{Answer, Args, CaseFault, Pieces, split_word};
-use std::alloc::Global;
+use crate::{Call, CaseFault, split_word};
+use std::alloc::{AllocError, Global};
+use std::process::ExitCode;
 use std::rt::{Env, Files};
-use std::{env, fs, io};
+use std::{env, fs};
 
 /// Calls that lines name.
 pub trait Calls {
-    /// Makes the call of this name, adds what it gives, and answers whether there is such a call.
-    fn call(
-        &self,
-        alloc: Global,
-        name: &[u8],
-        args: &mut Args<'_>,
-        answer: &mut Answer,
-    ) -> Result<bool, CaseFault>;
+    /// Makes the call of this name.
+    fn make(&self, name: &[u8], call: &mut Call) -> Result<(), CaseFault>;
 }
 
 /// How many lines were played, and how many of them differ.
@@ -31,99 +26,111 @@ impl Tally {
             self.differing = self.differing.saturating_add(1);
         }
     }
-
-    /// Counts what another has counted.
-    pub fn add(&mut self, other: Tally) {
-        self.played = self.played.saturating_add(other.played);
-        self.differing = self.differing.saturating_add(other.differing);
-    }
 }
 
-/// What a line that differs came to, or nothing where it doesn't differ.
-fn difference<C: Calls>(
+/// Plays a line, which gives a name to bytes or makes a call, and answers whether it differs.
+fn play_line<C: Calls>(calls: &C, call: &mut Call, tally: &mut Tally, line: &[u8]) -> bool {
+    let (name, rest) = split_word(line);
+    let is_piece = name == b"piece".as_slice();
+    let played = if is_piece {
+        call.define(rest)
+    } else {
+        make(calls, call, name, rest)
+    };
+    if let Err(fault) = played {
+        call.fail(fault);
+    }
+    let differs = call.differs();
+    if differs || !is_piece {
+        tally.count(differs);
+    }
+    differs
+}
+
+/// Makes the call of a name, with the arguments and the results behind it.
+fn make<C: Calls>(calls: &C, call: &mut Call, name: &[u8], rest: &[u8]) -> Result<(), CaseFault> {
+    call.begin(rest)?;
+    calls.make(name, call)
+}
+
+/// Tells of a line whose call differs.
+fn tell(out: &mut String, place: (&str, u64), line: &str, call: &Call) -> Result<(), AllocError> {
+    let (file, number) = place;
+    let (word, came) = call.came();
+    write!(out, "{file} {number}: {line}\n    {word}{came}\n")
+}
+
+/// Whether a line is empty or a comment.
+fn is_passed_over(line: &str) -> bool {
+    line.is_empty() || line.starts_with('#')
+}
+
+/// Plays the lines of a file, counts them, and tells of those that differ.
+fn play_lines<C: Calls>(
+    told: &mut String,
     alloc: Global,
     calls: &C,
-    pieces: &Pieces,
-    line: &[u8],
-) -> Result<Option<String>, CaseFault> {
-    let (name, rest) = split_word(line);
-    let mut args = Args::new(alloc, pieces, rest);
-    let mut answer = Answer::new(alloc);
-    if !calls.call(alloc, name, &mut args, &mut answer)? {
-        return Err(CaseFault::Malformed("no call has this name"));
-    }
-    if answer.is(alloc, pieces, args.wanted()?) {
-        return Ok(None);
-    }
-    Ok(Some(answer.told(alloc)?))
-}
-
-/// Plays one line. Comments and empty lines are passed over, and `piece NAME BYTES` names bytes.
-fn play_line<R: Print + AllocGlobal, C: Calls>(
-    rt: &R,
-    calls: &C,
-    pieces: &mut Pieces,
-    line: &[u8],
-    place: (&str, usize),
-) -> io::Result<Tally> {
-    let alloc = rt.alloc();
+    file: &str,
+    lines: &str,
+) -> Result<Tally, AllocError> {
+    let mut call = Call::new(alloc);
     let mut tally = Tally::default();
-    if line.is_empty() || line.starts_with(b"#") {
-        return Ok(tally);
-    }
-    let (name, rest) = split_word(line);
-    let differs = match name {
-        b"piece" => match pieces.define(alloc, rest) {
-            Ok(()) => return Ok(tally),
-            Err(fault) => Err(fault),
-        },
-        _ => difference(alloc, calls, pieces, line),
-    };
-    let is_differing = !matches!(&differs, Ok(None));
-    tally.count(is_differing);
-    if is_differing {
-        let (file, number) = place;
-        let line = String::from_utf8_lossy(alloc, line)?;
-        println!(rt; "{file} {number}: {line}")?;
-    }
-    match &differs {
-        Ok(None) => {}
-        Ok(Some(came)) => println!(rt; "    came {came}")?,
-        Err(fault) => {
-            let told = fault.told();
-            println!(rt; "    not played: {told}")?;
+    let mut number: u64 = 0;
+    for line in lines.lines() {
+        number = number.saturating_add(1);
+        if is_passed_over(line) {
+            continue;
+        }
+        if play_line(calls, &mut call, &mut tally, line.as_bytes()) {
+            tell(told, (file, number), line, &call)?;
         }
     }
     Ok(tally)
 }
 
-/// Plays the lines of a file.
-fn play_file<R: Files + Print + AllocGlobal, C: Calls>(
-    rt: &R,
+/// Plays the text of a file, tells how many calls it has and how many of them differ, and answers
+/// whether any does.
+fn play_text<C: Calls>(
+    told: &mut String,
+    alloc: Global,
     calls: &C,
     file: &str,
-) -> io::Result<Tally> {
-    let lines = fs::read(rt, file)?;
-    let mut pieces = Pieces::new(rt.alloc());
-    let mut tally = Tally::default();
-    for (at, line) in lines.as_slice().split(|byte| *byte == b'\n').enumerate() {
-        let place = (file, at.saturating_add(1));
-        tally.add(play_line(rt, calls, &mut pieces, line, place)?);
-    }
-    let Tally { played, differing } = tally;
-    println!(rt; "{file}: {played} calls, {differing} differ")?;
-    Ok(tally)
+    lines: &str,
+) -> Result<bool, AllocError> {
+    let Tally { played, differing } = play_lines(told, alloc, calls, file, lines)?;
+    write!(told, "{file}: {played} calls, {differing} differ\n")?;
+    Ok(differing > 0)
 }
 
-/// Plays the files that the words of the program name, tells each call that gives something else
-/// than its line says, and counts.
-pub fn play_calls<R: Files + Env + Print + AllocGlobal, C: Calls>(
+/// Plays the files that the words of the program name, and answers whether calls differ, or nothing
+/// where a file can't be read or memory is out.
+fn play_files<R: Files + Env + AllocGlobal, C: Calls>(
     rt: &R,
     calls: &C,
-) -> io::Result<Tally> {
-    let mut tally = Tally::default();
-    for file in env::args(rt)?.skip(1) {
-        tally.add(play_file(rt, calls, file.as_str())?);
+    told: &mut String,
+) -> Option<bool> {
+    let mut differs = false;
+    for file in env::args(rt).ok()?.skip(1) {
+        let text = fs::read_to_string(rt, file.as_str()).ok()?;
+        if play_text(told, rt.alloc(), calls, file.as_str(), text.as_str()).ok()? {
+            differs = true;
+        }
     }
-    Ok(tally)
+    Some(differs)
+}
+
+/// Plays the files that the words of the program name, tells of each call that gives something else
+/// than its line says, and counts. The status is 1 where there is such a call, and 2 where a file
+/// can't be played or nothing be told.
+pub fn play_calls<R: Files + Env + Print + AllocGlobal, C: Calls>(rt: &R, calls: &C) -> ExitCode {
+    let mut told = String::new(rt.alloc());
+    let played = play_files(rt, calls, &mut told);
+    if print!(rt; "{told}").is_err() {
+        return ExitCode::from(2);
+    }
+    match played {
+        Some(false) => ExitCode::from(0),
+        Some(true) => ExitCode::from(1),
+        None => ExitCode::from(2),
+    }
 }

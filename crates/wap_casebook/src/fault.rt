@@ -5,16 +5,22 @@ use wap_base::NoMemory;
 /// Why a line can't be played.
 #[derive(Clone, Copy)]
 pub enum CaseFault {
-    /// It is none of the lines that are known: in a few words, why.
-    Malformed(&'static str),
+    /// It is none of the lines that are known.
+    Line,
+    /// Bytes, a text or a number in it are misspelled.
+    Spelling,
+    /// An argument is missing, or isn't what the call takes.
+    Argument,
     NoMemory,
 }
 
 impl CaseFault {
     /// What to tell of it.
-    pub fn told(&self) -> &'static str {
+    pub fn told(self) -> &'static str {
         match self {
-            CaseFault::Malformed(told) => told,
+            CaseFault::Line => "no line or call is like this",
+            CaseFault::Spelling => "bytes, a text or a number are misspelled",
+            CaseFault::Argument => "an argument is missing, or isn't what the call takes",
             CaseFault::NoMemory => "out of memory",
         }
     }

@@ -2,20 +2,20 @@
 //! counting, and telling what differs.
 #![tactic(auto)]
 
-mod answer;
-mod args;
+mod call;
 mod calls;
 mod fault;
+mod items;
 mod pieces;
+mod quotes;
 mod quoting;
 mod spelling;
 mod words;
 
-pub use answer::Answer;
-pub use args::Args;
+pub use call::{Call, meaning_of};
 pub use calls::{Calls, Tally, play_calls};
 pub use fault::CaseFault;
 pub use pieces::Pieces;
-pub use quoting::{add_hex, add_number, add_quoted};
-pub use spelling::{range, spelled, spelled_text};
-pub use words::{number, split_value, split_word, text};
+pub use quoting::{add_hex, add_quoted};
+pub use spelling::{spelled, spelled_text};
+pub use words::{number, range, split_value, split_word, text};

@@ -1,31 +1,9 @@
 //! Values as what is told shows them.
 use std::alloc::AllocError;
 
-/// Appends a character as it is spelled in quotes.
-fn add_character(out: &mut String, character: char) -> Result<(), AllocError> {
-    match character {
-        '"' => out.push_str("\\\""),
-        '\\' => out.push_str("\\\\"),
-        '\n' => out.push_str("\\n"),
-        '\r' => out.push_str("\\r"),
-        '\t' => out.push_str("\\t"),
-        ' '..='~' => out.push(character),
-        _ => {
-            out.push_str("\\u{")?;
-            let code = u32::from(character);
-            write!(out, "{code:x}")?;
-            out.push('}')
-        }
-    }
-}
-
 /// Appends a text in quotes.
 pub fn add_quoted(out: &mut String, text: &str) -> Result<(), AllocError> {
-    out.push('"')?;
-    for character in text.chars() {
-        add_character(out, character)?;
-    }
-    out.push('"')
+    write!(out, "{text:?}")
 }
 
 /// Appends bytes, two hexadecimal digits each.
@@ -36,7 +14,23 @@ pub fn add_hex(out: &mut String, bytes: &[u8]) -> Result<(), AllocError> {
     Ok(())
 }
 
-/// Appends a number.
+/// Appends a word of a row.
+pub fn add_word(out: &mut String, word: &str) -> Result<(), AllocError> {
+    write!(out, " {word}")
+}
+
+/// Appends a number of a row.
 pub fn add_number(out: &mut String, number: i64) -> Result<(), AllocError> {
-    write!(out, "{number}")
+    write!(out, " {number}")
+}
+
+/// Appends a text of a row.
+pub fn add_text(out: &mut String, text: &str) -> Result<(), AllocError> {
+    write!(out, " {text:?}")
+}
+
+/// Appends bytes of a row.
+pub fn add_bytes(out: &mut String, bytes: &[u8]) -> Result<(), AllocError> {
+    out.push_str(if bytes.is_empty() { " \"\"" } else { " " })?;
+    add_hex(out, bytes)
 }

@@ -2,6 +2,7 @@
 ghost use Rattle.std.specs.Prelude.{◌≤◌, length};
 
 use crate::CaseFault;
+use crate::quotes::Quotes;
 use std::alloc::Global;
 use std::str;
 use wap_base::Text;
@@ -25,15 +26,13 @@ pub fn split_word(line: &[u8]) -> (&[u8], &[u8]) {
 fn value_end(line: &[u8]) -> usize
     ensures { result ≤ length line.now }
 {
-    let mut is_quoted = false;
-    let mut is_escaped = false;
+    let mut quotes = Quotes::new();
     let mut is_in_group = false;
     for (at, byte) in line.iter().enumerate() {
+        if quotes.take(*byte) {
+            continue;
+        }
         match byte {
-            _ if is_escaped => is_escaped = false,
-            b'"' => is_quoted = !is_quoted,
-            b'\\' => is_escaped = is_quoted,
-            _ if is_quoted => {}
             b'(' => is_in_group = true,
             b')' => is_in_group = false,
             b' ' if !is_in_group => return at,
@@ -55,21 +54,39 @@ pub fn split_value(line: &[u8]) -> (&[u8], &[u8]) {
     rest.split_at(value_end(rest))
 }
 
+/// The text whose UTF-8 the bytes are, where they are.
+fn str_of(bytes: &[u8]) -> Result<&str, CaseFault> {
+    match str::from_utf8(bytes) {
+        Ok(text) => Ok(text),
+        Err(_) => Err(CaseFault::Spelling),
+    }
+}
+
 /// The number that digits spell, with `-` before them where it is below 0.
 pub fn number(digits: &[u8]) -> Result<i64, CaseFault> {
-    match str::from_utf8(digits) {
-        Ok(digits) => match digits.parse::<i64>() {
-            Ok(number) => Ok(number),
-            Err(_) => Err(CaseFault::Malformed("a number is wanted")),
-        },
-        Err(_) => Err(CaseFault::Malformed("a number is wanted")),
+    match str_of(digits)?.parse::<i64>() {
+        Ok(number) => Ok(number),
+        Err(_) => Err(CaseFault::Spelling),
+    }
+}
+
+/// The number from 0 on that digits spell.
+fn number_from_0(digits: &str) -> Result<u32, CaseFault> {
+    match digits.parse::<u32>() {
+        Ok(number) => Ok(number),
+        Err(_) => Err(CaseFault::Spelling),
+    }
+}
+
+/// The two numbers of `FROM..TO`.
+pub fn range(spelled: &[u8]) -> Result<(u32, u32), CaseFault> {
+    match str_of(spelled)?.split_once("..") {
+        Some((from, to)) => Ok((number_from_0(from)?, number_from_0(to)?)),
+        None => Err(CaseFault::Spelling),
     }
 }
 
 /// The text whose UTF-8 the bytes are.
 pub fn text(alloc: Global, bytes: &[u8]) -> Result<Text, CaseFault> {
-    match str::from_utf8(bytes) {
-        Ok(text) => Ok(Text::of(alloc, text)?),
-        Err(_) => Err(CaseFault::Malformed("a text in UTF-8 is wanted")),
-    }
+    Ok(Text::of(alloc, str_of(bytes)?)?)
 }

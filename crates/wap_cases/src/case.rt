@@ -25,6 +25,37 @@ pub struct Case {
     pub fault: Option<(usize, CaseFault)>,
 }
 
+/// Appends a line and its end.
+pub fn add_line(out: &mut Bytes, line: &[u8]) -> Result<(), CaseFault> {
+    out.add(line)?;
+    out.add(b"\n")?;
+    Ok(())
+}
+
+/// Appends the bytes that a line spells.
+pub fn add_spelled(
+    out: &mut Bytes,
+    alloc: Global,
+    pieces: &Pieces,
+    line: &[u8],
+) -> Result<(), CaseFault> {
+    let bytes = spelled(alloc, pieces, line, None)?;
+    out.add(bytes.as_slice())?;
+    Ok(())
+}
+
+/// The page of a number, by its name and its bytes as they are spelled.
+fn numbered_page(
+    alloc: Global,
+    pieces: &Pieces,
+    name: &[u8],
+    bytes: &[u8],
+    number: u32,
+) -> Result<(Text, Bytes), CaseFault> {
+    let name = spelled_text(alloc, pieces, name, Some(number))?;
+    Ok((name, spelled(alloc, pieces, bytes, Some(number))?))
+}
+
 impl Case {
     /// A case of no lines.
     pub fn new(alloc: Global) -> Case {
@@ -42,10 +73,23 @@ impl Case {
         }
     }
 
-    /// Reads the line of the name.
+    /// Notes that the case has a line of this number, and why it can't be read, if it can't.
+    pub fn note(&mut self, number: usize, read: Result<(), CaseFault>) {
+        if !self.is_begun {
+            self.is_begun = true;
+            self.line = number;
+        }
+        if let Err(fault) = read
+            && self.fault.is_none()
+        {
+            self.fault = Some((number, fault));
+        }
+    }
+
+    /// Reads the line of the name. An empty line ends a case, so that it has only one.
     pub fn read_name(&mut self, alloc: Global, line: &[u8]) -> Result<(), CaseFault> {
         if !self.name.is_empty() {
-            return Err(CaseFault::Malformed("an empty line ends a case"));
+            return Err(CaseFault::Line);
         }
         self.name = Bytes::of(alloc, line)?;
         Ok(())
@@ -59,8 +103,9 @@ impl Case {
         line: &[u8],
     ) -> Result<(), CaseFault> {
         let (name, bytes) = split_word(line);
-        let page = (text(alloc, name)?, spelled(alloc, pieces, bytes, None)?);
-        self.pages.push(page)?;
+        let name = text(alloc, name)?;
+        let bytes = spelled(alloc, pieces, bytes, None)?;
+        self.pages.push((name, bytes))?;
         Ok(())
     }
 
@@ -75,9 +120,8 @@ impl Case {
         let (name, bytes) = split_value(rest);
         let (from, to) = range(numbers)?;
         for number in from..to {
-            let name = spelled_text(alloc, pieces, name, Some(number))?;
-            let page = (name, spelled(alloc, pieces, bytes, Some(number))?);
-            self.pages.push(page)?;
+            self.pages
+                .push(numbered_page(alloc, pieces, name, bytes, number)?)?;
         }
         Ok(())
     }
@@ -99,12 +143,12 @@ impl Case {
         Ok(())
     }
 
-    /// Reads the line that says how it ends without a run.
+    /// Reads the line that says how it ends without a run, which is for want of memory.
     pub fn read_ended(&mut self, line: &[u8]) -> Result<(), CaseFault> {
-        match line {
-            b"NoMemory" => self.is_without_memory = true,
-            _ => return Err(CaseFault::Malformed("only NoMemory ends without a run")),
+        if line != b"NoMemory".as_slice() {
+            return Err(CaseFault::Line);
         }
+        self.is_without_memory = true;
         Ok(())
     }
 }

@@ -3,31 +3,34 @@ use std::alloc::Global;
 use wap_base::{MemSink, NoMemory};
 use wap_casebook::{CaseFault, number, split_word};
 
+/// The one number that a line has, from 0 on.
+pub fn one_number(line: &[u8]) -> Result<u64, CaseFault> {
+    match u64::try_from(number(line)?) {
+        Ok(number) => Ok(number),
+        Err(_) => Err(CaseFault::Spelling),
+    }
+}
+
 /// The numbers that a line has, from 0 on.
 pub fn numbers(alloc: Global, line: &[u8]) -> Result<Vec<u64>, CaseFault> {
     let mut numbers = Vec::new(alloc);
-    for word in line.split(|byte| *byte == b' ') {
-        match u64::try_from(number(word)?) {
-            Ok(number) => numbers.push(number)?,
-            Err(_) => return Err(CaseFault::Malformed("a number is below 0")),
+    let mut rest = line;
+    for _ in 0..line.len() {
+        if rest.is_empty() {
+            break;
         }
+        let (word, others) = split_word(rest);
+        numbers.push(one_number(word)?)?;
+        rest = others;
     }
     Ok(numbers)
 }
 
-/// The one number that a line has.
-pub fn one_number(line: &[u8]) -> Result<u64, CaseFault> {
-    match u64::try_from(number(line)?) {
-        Ok(number) => Ok(number),
-        Err(_) => Err(CaseFault::Malformed("a number is below 0")),
-    }
-}
-
-/// The one number that a line has, which counts bytes of which there is one at least.
+/// The one number that a line has, which counts bytes.
 fn size(line: &[u8]) -> Result<usize, CaseFault> {
     match usize::try_from(one_number(line)?) {
-        Ok(size) if 1 <= size => Ok(size),
-        _ => Err(CaseFault::Malformed("a size is 1 at least")),
+        Ok(size) => Ok(size),
+        Err(_) => Err(CaseFault::Spelling),
     }
 }
 
@@ -72,44 +75,45 @@ impl Devices {
         Ok(Vec::from_slice(alloc, self.source_gives.as_slice())?)
     }
 
-    /// Reads a line of the store.
-    pub fn read_store(&mut self, alloc: Global, line: &[u8]) -> Result<(), CaseFault> {
-        match split_word(line) {
-            (b"fails", rest) => self.store_fails = numbers(alloc, rest)?,
-            _ => return Err(CaseFault::Malformed("a store only fails")),
-        }
+    /// Reads which calls of the store fail.
+    pub fn read_store_fails(&mut self, alloc: Global, line: &[u8]) -> Result<(), CaseFault> {
+        self.store_fails = numbers(alloc, line)?;
         Ok(())
     }
 
-    /// Reads a line of the source.
-    pub fn read_source(&mut self, alloc: Global, line: &[u8]) -> Result<(), CaseFault> {
-        match split_word(line) {
-            (b"fails", rest) => self.source_fails = numbers(alloc, rest)?,
-            (b"gives", rest) => self.source_gives = numbers(alloc, rest)?,
-            _ => return Err(CaseFault::Malformed("a source fails or gives")),
-        }
+    /// Reads which reads of keys fail.
+    pub fn read_source_fails(&mut self, alloc: Global, line: &[u8]) -> Result<(), CaseFault> {
+        self.source_fails = numbers(alloc, line)?;
         Ok(())
     }
 
-    /// Reads a line of the sink.
-    pub fn read_sink(&mut self, alloc: Global, line: &[u8]) -> Result<(), CaseFault> {
-        match split_word(line) {
-            (b"fails", rest) => self.sink_fails = numbers(alloc, rest)?,
-            (b"takes", rest) => self.sink_takes = size(rest)?,
-            (b"holds", rest) => {
-                self.sink_holds = usize::try_from(one_number(rest)?).unwrap_or(ROOM);
-            }
-            _ => return Err(CaseFault::Malformed("a sink fails, takes or holds")),
-        }
+    /// Reads the most bytes that a read gives.
+    pub fn read_source_gives(&mut self, alloc: Global, line: &[u8]) -> Result<(), CaseFault> {
+        self.source_gives = numbers(alloc, line)?;
         Ok(())
     }
 
-    /// Reads a line of the sink to which the line of the status is written.
-    pub fn read_error(&mut self, alloc: Global, line: &[u8]) -> Result<(), CaseFault> {
-        match split_word(line) {
-            (b"fails", rest) => self.error_fails = numbers(alloc, rest)?,
-            _ => return Err(CaseFault::Malformed("an error only fails")),
-        }
+    /// Reads which writes fail.
+    pub fn read_sink_fails(&mut self, alloc: Global, line: &[u8]) -> Result<(), CaseFault> {
+        self.sink_fails = numbers(alloc, line)?;
+        Ok(())
+    }
+
+    /// Reads the most bytes that a write takes.
+    pub fn read_sink_takes(&mut self, line: &[u8]) -> Result<(), CaseFault> {
+        self.sink_takes = size(line)?;
+        Ok(())
+    }
+
+    /// Reads for how many bytes the sink has room.
+    pub fn read_sink_holds(&mut self, line: &[u8]) -> Result<(), CaseFault> {
+        self.sink_holds = size(line)?;
+        Ok(())
+    }
+
+    /// Reads which writes of the line of the status fail.
+    pub fn read_error_fails(&mut self, alloc: Global, line: &[u8]) -> Result<(), CaseFault> {
+        self.error_fails = numbers(alloc, line)?;
         Ok(())
     }
 

@@ -16,15 +16,15 @@ use std::io;
 use std::io::Read;
 use std::process::ExitCode;
 use std::thread::Threads;
+use wap_casebook::Tally;
 
 /// Plays the cases of standard input, tells those that differ, and counts them.
 fn play<R: Input + Print + AllocGlobal + Threads + Sync>(rt: &R) -> io::Result<bool> {
     let mut lines = Vec::new(rt.alloc());
     rt.reader().read_to_end(&mut lines)?;
-    let tally = play_all(rt, lines.as_slice())?;
-    let cases = tally.played;
-    let differing = tally.differing;
-    println!(rt; "{cases} cases, {differing} differ")?;
+    let (tally, told) = play_all(rt, rt.alloc(), lines.as_slice())?;
+    let Tally { played, differing } = tally;
+    println!(rt; "{told}{played} cases, {differing} differ")?;
     Ok(differing == 0)
 }
 

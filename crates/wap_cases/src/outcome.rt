@@ -3,7 +3,7 @@ use crate::case::Case;
 use std::alloc::Global;
 use std::thread::Threads;
 use wap_base::{
-    Bytes, MemSink, MemSource, MemStore, NoGate, Source, Store, StoreErr, Text, are_pages,
+    Bytes, MemSink, MemSource, MemStore, NoGate, NoMemory, Source, Store, StoreErr, Text, are_pages,
 };
 use wap_casebook::CaseFault;
 use wap_cli::{Status, run};
@@ -35,26 +35,28 @@ fn failing(alloc: Global, named: &[u64], wanted: Option<u64>) -> Result<Vec<u64>
     Ok(fails)
 }
 
-fn store(alloc: Global, case: &Case) -> Result<MemStore, CaseFault> {
+/// The pages of a case, copied.
+fn pages(alloc: Global, case: &Case) -> Result<Vec<(Text, Bytes)>, NoMemory> {
     let mut pages = Vec::new(alloc);
     for (name, bytes) in &case.pages {
         pages.push((name.copy(alloc)?, Bytes::of(alloc, bytes.as_slice())?))?;
     }
+    Ok(pages)
+}
+
+fn store(alloc: Global, case: &Case) -> Result<MemStore, CaseFault> {
+    let pages = pages(alloc, case)?;
     if !are_pages(alloc, &pages)? {
-        return Err(CaseFault::Malformed("a page stands twice"));
+        return Err(CaseFault::Argument);
     }
-    let fails = failing(
-        alloc,
-        case.devices.store_fails.as_slice(),
-        case.wanted.asked,
-    )?;
-    Ok(MemStore::new(pages, fails))
+    let fails = case.devices.store_fails.as_slice();
+    Ok(MemStore::new(pages, failing(alloc, fails, case.wanted.asked)?))
 }
 
 fn source(alloc: Global, case: &Case, piece: u64) -> Result<MemSource, CaseFault> {
     let piece = usize::try_from(piece).unwrap_or(1);
     if piece == 0 {
-        return Err(CaseFault::Malformed("a source gives 1 byte at least"));
+        return Err(CaseFault::Argument);
     }
     let fails = failing(
         alloc,
@@ -67,7 +69,7 @@ fn source(alloc: Global, case: &Case, piece: u64) -> Result<MemSource, CaseFault
 
 fn sink(alloc: Global, case: &Case) -> Result<MemSink, CaseFault> {
     if case.devices.sink_takes == 0 {
-        return Err(CaseFault::Malformed("a sink takes 1 byte at least"));
+        return Err(CaseFault::Argument);
     }
     let fails = failing(alloc, case.devices.sink_fails.as_slice(), None)?;
     let room = case.devices.sink_holds;
@@ -102,6 +104,29 @@ fn ended(alloc: Global, case: &Case, status: Status, shown: &[u8]) -> Result<Out
     })
 }
 
+/// The devices of a case, whose source gives so many bytes at a time.
+fn devices(
+    alloc: Global,
+    case: &Case,
+    piece: u64,
+) -> Result<(MemStore, MemSource, MemSink), CaseFault> {
+    let store = store(alloc, case)?;
+    let keys = source(alloc, case, piece)?;
+    Ok((store, keys, sink(alloc, case)?))
+}
+
+/// Looks at the store and the source, where it is wanted how often they are called: the next call
+/// fails.
+fn look_at(case: &Case, store: &mut MemStore, keys: &mut MemSource, outcome: &mut Outcome) {
+    if case.wanted.asked.is_some() {
+        outcome.is_asked = matches!(store.list(), Err(StoreErr::Failed));
+    }
+    if case.wanted.reads.is_some() {
+        outcome.is_read = keys.read(&mut [0; 1]).is_err();
+    }
+    outcome.left = count_left(keys);
+}
+
 /// Runs the program over the devices of a case, whose source gives so many bytes at a time.
 pub fn run_case<R: Threads + Sync>(
     rt: &R,
@@ -112,18 +137,10 @@ pub fn run_case<R: Threads + Sync>(
     if case.is_without_memory {
         return ended(alloc, case, Status::NoMemory, b"");
     }
-    let words: &[Text] = case.words.as_slice();
-    let store = store(alloc, case)?;
-    let mut keys = source(alloc, case, piece)?;
-    let mut out = sink(alloc, case)?;
+    let (store, mut keys, mut out) = devices(alloc, case, piece)?;
+    let words = case.words.as_slice();
     let (status, mut store) = run(rt, alloc, words, store, &mut keys, &mut out, &NoGate);
     let mut outcome = ended(alloc, case, status, out.bytes())?;
-    if case.wanted.asked.is_some() {
-        outcome.is_asked = matches!(store.list(), Err(StoreErr::Failed));
-    }
-    if case.wanted.reads.is_some() {
-        outcome.is_read = keys.read(&mut [0; 1]).is_err();
-    }
-    outcome.left = count_left(&mut keys);
+    look_at(case, &mut store, &mut keys, &mut outcome);
     Ok(outcome)
 }

@@ -2,66 +2,69 @@
 use crate::case::Case;
 use crate::lines::read;
 use crate::outcome::run_case;
-use crate::telling::differences;
-use std::alloc::Global;
-use std::io;
+use crate::telling::{add_differences, add_fault, add_head};
+use std::alloc::{AllocError, Global};
 use std::thread::Threads;
 use wap_casebook::{CaseFault, Pieces, Tally};
 
-/// In what the runs of a case differ from what is wanted.
-fn played<R: Threads + Sync>(rt: &R, alloc: Global, case: &Case) -> Result<String, CaseFault> {
-    let mut told = String::new(alloc);
+/// Appends in what the runs of a case differ from what is wanted.
+fn add_runs<R: Threads + Sync>(
+    out: &mut String,
+    rt: &R,
+    alloc: Global,
+    case: &Case,
+) -> Result<(), CaseFault> {
+    if let Some((_, fault)) = case.fault {
+        return Err(fault);
+    }
     for piece in &case.devices.pieces(alloc)? {
         let came = run_case(rt, alloc, case, *piece)?;
-        told.push_str(differences(alloc, &case.wanted, &came)?.as_str())?;
+        add_differences(out, alloc, &case.wanted, &came)?;
     }
-    Ok(told)
+    Ok(())
 }
 
-/// Plays a case, and tells whether and in what it differs.
-fn play<R: Print + AllocGlobal + Threads + Sync>(rt: &R, case: &Case) -> io::Result<bool> {
-    let alloc = rt.alloc();
-    let line = case.line;
-    let name = String::from_utf8_lossy(alloc, case.name.as_slice())?;
-    if let Some((number, fault)) = &case.fault {
-        let told = fault.told();
-        println!(rt; "case {name} at line {line}, line {number}: {told}")?;
-        return Ok(true);
-    }
-    match played(rt, alloc, case) {
-        Ok(told) if told.is_empty() => Ok(false),
-        Ok(told) => {
-            println!(rt; "case {name} at line {line}")?;
-            print!(rt; "{told}")?;
-            Ok(true)
-        }
-        Err(fault) => {
-            let told = fault.told();
-            println!(rt; "case {name} at line {line}: {told}")?;
-            Ok(true)
-        }
-    }
-}
-
-/// Plays the cases of these lines, and counts them.
-pub fn play_all<R: Print + AllocGlobal + Threads + Sync>(
+/// Plays a case, counts it, and tells of it where it differs.
+fn play<R: Threads + Sync>(
+    told: &mut String,
+    tally: &mut Tally,
     rt: &R,
+    alloc: Global,
+    case: &Case,
+) -> Result<(), AllocError> {
+    let mut differences = String::new(alloc);
+    let played = add_runs(&mut differences, rt, alloc, case);
+    if let Err(fault) = played {
+        add_fault(&mut differences, case, fault)?;
+    }
+    tally.count(!differences.is_empty());
+    if differences.is_empty() {
+        return Ok(());
+    }
+    add_head(told, alloc, case)?;
+    told.push_str(differences.as_str())
+}
+
+/// Plays the cases of these lines, counts them, and tells of those that differ.
+pub fn play_all<R: Threads + Sync>(
+    rt: &R,
+    alloc: Global,
     lines: &[u8],
-) -> io::Result<Tally> {
-    let alloc = rt.alloc();
+) -> Result<(Tally, String), AllocError> {
     let mut pieces = Pieces::new(alloc);
     let mut tally = Tally::default();
+    let mut told = String::new(alloc);
     let mut case = Case::new(alloc);
     for (at, line) in lines.split(|byte| *byte == b'\n').enumerate() {
         if !line.is_empty() {
             read(&mut case, alloc, &mut pieces, line, at.saturating_add(1));
         } else if case.is_begun {
-            tally.count(play(rt, &case)?);
+            play(&mut told, &mut tally, rt, alloc, &case)?;
             case = Case::new(alloc);
         }
     }
     if case.is_begun {
-        tally.count(play(rt, &case)?);
+        play(&mut told, &mut tally, rt, alloc, &case)?;
     }
-    Ok(tally)
+    Ok((tally, told))
 }

@@ -1,8 +1,9 @@
 //! In what a run differs from what is wanted.
+use crate::case::Case;
 use crate::outcome::Outcome;
 use crate::wanted::Wanted;
 use std::alloc::{AllocError, Global};
-use wap_casebook::add_quoted;
+use wap_casebook::{CaseFault, add_quoted};
 
 /// The most bytes that are told of what differs.
 const MOST: usize = 400;
@@ -86,28 +87,45 @@ fn add_devices(out: &mut String, wanted: &Wanted, came: &Outcome) -> Result<(), 
     }
 }
 
-/// In what a run differs from what is wanted, in whole lines; nothing where it doesn't.
-pub fn differences(alloc: Global, wanted: &Wanted, came: &Outcome) -> Result<String, AllocError> {
-    let mut out = String::new(alloc);
-    let (came_number, came_line) = &came.status;
+/// Appends in what the status that came differs from the one that is wanted.
+fn add_ending(
+    out: &mut String,
+    alloc: Global,
+    wanted: &Wanted,
+    came: &Outcome,
+) -> Result<(), AllocError> {
+    let (number, line) = &came.status;
+    let came = (*number, line.as_slice());
     match &wanted.status {
-        Some((number, line)) => {
-            let wanted = (*number, line.as_slice());
-            add_status(
-                &mut out,
-                alloc,
-                wanted,
-                (*came_number, came_line.as_slice()),
-            )?;
-        }
-        None => out.push_str("    no status is wanted\n")?,
+        Some((number, line)) => add_status(out, alloc, (*number, line.as_slice()), came),
+        None => out.push_str("    no status is wanted\n"),
     }
-    add_shown(
-        &mut out,
-        alloc,
-        wanted.shown.as_slice(),
-        came.shown.as_slice(),
-    )?;
-    add_devices(&mut out, wanted, came)?;
-    Ok(out)
+}
+
+/// Appends in what a run differs from what is wanted, in whole lines; nothing where it doesn't.
+pub fn add_differences(
+    out: &mut String,
+    alloc: Global,
+    wanted: &Wanted,
+    came: &Outcome,
+) -> Result<(), AllocError> {
+    add_ending(out, alloc, wanted, came)?;
+    add_shown(out, alloc, wanted.shown.as_slice(), came.shown.as_slice())?;
+    add_devices(out, wanted, came)
+}
+
+/// Appends the name of a case and where it stands.
+pub fn add_head(out: &mut String, alloc: Global, case: &Case) -> Result<(), AllocError> {
+    let name = String::from_utf8_lossy(alloc, case.name.as_slice())?;
+    let line = case.line;
+    write!(out, "case {name} at line {line}\n")
+}
+
+/// Appends why a case isn't played, and the line that can't be read.
+pub fn add_fault(out: &mut String, case: &Case, fault: CaseFault) -> Result<(), AllocError> {
+    let told = fault.told();
+    match case.fault {
+        Some((line, _)) => write!(out, "    line {line}: {told}\n"),
+        None => write!(out, "    {told}\n"),
+    }
 }

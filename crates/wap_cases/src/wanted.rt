@@ -1,4 +1,5 @@
 //! What is wanted of a run.
+use crate::case::add_line;
 use crate::devices::one_number;
 use std::alloc::Global;
 use wap_base::Bytes;
@@ -21,6 +22,15 @@ pub struct Wanted {
     pub left: Option<u64>,
 }
 
+/// The line of a status with its end, or nothing where there is none.
+fn printed(alloc: Global, line: &[u8]) -> Result<Bytes, CaseFault> {
+    let mut printed = Bytes::new(alloc);
+    if !line.is_empty() {
+        add_line(&mut printed, line)?;
+    }
+    Ok(printed)
+}
+
 impl Wanted {
     /// Nothing is wanted yet, and nothing written.
     pub fn new(alloc: Global) -> Wanted {
@@ -37,11 +47,8 @@ impl Wanted {
     /// Reads the line of the status.
     pub fn read_status(&mut self, alloc: Global, line: &[u8]) -> Result<(), CaseFault> {
         let (digits, rest) = split_word(line);
-        let mut printed = Bytes::of(alloc, rest)?;
-        if !rest.is_empty() {
-            printed.add(b"\n")?;
-        }
-        self.status = Some((number(digits)?, printed));
+        let number = number(digits)?;
+        self.status = Some((number, printed(alloc, rest)?));
         Ok(())
     }
 
@@ -60,6 +67,15 @@ impl Wanted {
     /// Reads a line that says how many bytes the source has left.
     pub fn read_left(&mut self, line: &[u8]) -> Result<(), CaseFault> {
         self.left = Some(one_number(line)?);
+        Ok(())
+    }
+
+    /// Reads the line that says that the line of the status can't be written.
+    pub fn read_unprinted(&mut self, line: &[u8]) -> Result<(), CaseFault> {
+        if !line.is_empty() {
+            return Err(CaseFault::Line);
+        }
+        self.is_unprinted = true;
         Ok(())
     }
 }

@@ -1,0 +1,183 @@
+//! Runs of machines.
+use crate::small_host::{NoPages, SmallHost};
+use crate::units::verified_of;
+use crate::values::{give_value, values};
+use std::alloc::Global;
+use std::sync::Arc;
+use wap_base::{Limits, Text};
+use wap_casebook::{Call, CaseFault};
+use wap_execution::{Dialog, Fatal};
+use wap_machine::{Machine, Outcome};
+use wap_url::Url;
+use wap_value::Value;
+use wap_verify::Verified;
+
+/// The word of why a script ended.
+fn word_of(why: &Fatal) -> &'static str {
+    match why {
+        Fatal::Budget => "Budget",
+        Fatal::Depth => "Depth",
+        Fatal::NoUnit => "NoUnit",
+        Fatal::UnitRefused => "UnitRefused",
+        Fatal::NoFunction => "NoFunction",
+        Fatal::Arguments => "Arguments",
+        Fatal::Denied => "Denied",
+        Fatal::TooLong => "TooLong",
+        Fatal::Stopped => "Stopped",
+        Fatal::Aborted(_) => "Aborted",
+    }
+}
+
+/// Gives why a script ended.
+fn give_fatal(call: &mut Call, why: Fatal) {
+    call.give_word(word_of(&why));
+    if let Fatal::Aborted(text) = why {
+        call.give_text(&text);
+    }
+}
+
+/// Gives a dialog.
+fn give_dialog(call: &mut Call, dialog: Dialog) {
+    match dialog {
+        Dialog::Prompt(message, default) => {
+            call.give_word("prompt");
+            call.give_text(&message);
+            call.give_text(&default);
+        }
+        Dialog::Confirm(message, yes, no) => {
+            call.give_word("confirm");
+            call.give_text(&message);
+            call.give_text(&yes);
+            call.give_text(&no);
+        }
+        Dialog::Alert(message) => {
+            call.give_word("alert");
+            call.give_text(&message);
+        }
+    }
+}
+
+/// Gives what a run came to.
+fn give_outcome(call: &mut Call, outcome: Outcome) {
+    match outcome {
+        Outcome::Done(value) => give_value(call, value),
+        Outcome::Exited(value) => {
+            call.give_word("exit");
+            give_value(call, value);
+        }
+        Outcome::Fatal(why) => give_fatal(call, why),
+        Outcome::Asks(dialog, _) => give_dialog(call, dialog),
+    }
+}
+
+/// Runs a machine, with an answer for each dialog until there is none, and gives what was asked and
+/// what it came to.
+fn play(
+    machine: Machine,
+    host: &mut SmallHost,
+    answers: Vec<Value>,
+    call: &mut Call,
+) -> Result<(), CaseFault> {
+    let mut machine = machine;
+    for value in answers {
+        match machine.run(host, &mut NoPages) {
+            Ok(Outcome::Asks(dialog, waiting)) => {
+                give_dialog(call, dialog);
+                machine = waiting.answer(value);
+            }
+            Ok(outcome) => {
+                give_outcome(call, outcome);
+                return Ok(());
+            }
+            Err(_) => return Err(CaseFault::NoMemory),
+        }
+    }
+    match machine.run(host, &mut NoPages) {
+        Ok(outcome) => {
+            give_outcome(call, outcome);
+            Ok(())
+        }
+        Err(_) => Err(CaseFault::NoMemory),
+    }
+}
+
+/// The URL of each unit.
+fn base(alloc: Global) -> Result<Url, CaseFault> {
+    Ok(Url {
+        scheme: None,
+        host: None,
+        port: None,
+        path: Text::of(alloc, "unit")?,
+        query: None,
+        fragment: None,
+    })
+}
+
+/// The machine of a function at its beginning, if there is one that takes so many arguments.
+fn started(
+    alloc: Global,
+    unit: Arc<Verified, Global>,
+    function: u8,
+    arguments: Vec<Value>,
+    depth: u8,
+) -> Result<Machine, CaseFault> {
+    let mut limits = Limits::default();
+    limits.depth = depth;
+    if !limits.are_in_range() {
+        return Err(CaseFault::Argument);
+    }
+    match unit.unit().functions.get(function as usize) {
+        Some(code) => {
+            if code.args as usize != arguments.len() {
+                return Err(CaseFault::Argument);
+            }
+        }
+        None => return Err(CaseFault::Argument),
+    }
+    let base = base(alloc)?;
+    Ok(Machine::start(alloc, unit, base, None, function, arguments, limits)?)
+}
+
+/// The next argument, a number of a byte.
+fn byte(call: &mut Call) -> u8 {
+    match u8::try_from(call.number()) {
+        Ok(number) => number,
+        Err(_) => {
+            call.fail(CaseFault::Argument);
+            0
+        }
+    }
+}
+
+/// The unit of the next argument, or none where that is empty.
+fn next_unit(call: &mut Call) -> Result<Option<Arc<Verified, Global>>, CaseFault> {
+    let bytes = call.bytes();
+    if bytes.is_empty() {
+        return Ok(None);
+    }
+    Ok(Some(verified_of(call.alloc(), &bytes)?))
+}
+
+/// Runs a function of the first of two units, and gives what it comes to and the turns that are left.
+pub fn run(call: &mut Call) -> Result<(), CaseFault> {
+    let alloc = call.alloc();
+    let Some(first) = next_unit(call)? else {
+        return Err(CaseFault::Argument);
+    };
+    let second = next_unit(call)?;
+    let depth = byte(call);
+    let turns = call.count() as u64;
+    let function = byte(call);
+    let arguments = values(alloc, call)?;
+    let answers = values(alloc, call)?;
+    let machine = started(alloc, Arc::try_clone(&first)?, function, arguments, depth)?;
+    let mut host = SmallHost {
+        alloc,
+        turns,
+        first,
+        second,
+    };
+    play(machine, &mut host, answers, call)?;
+    call.give_number(i64::try_from(host.turns).unwrap_or(i64::MAX));
+    Ok(())
+}

@@ -1,0 +1,34 @@
+//! Units that may be run, read from bytes.
+ghost use Rattle.std.specs.Prelude.{IfOk};
+ghost use Rattle.wap_unit.specs.Spelling.{HasSpelling};
+
+use std::alloc::Global;
+use std::sync::Arc;
+use wap_base::Bytes;
+use wap_casebook::CaseFault;
+use wap_code::Unit;
+use wap_unit::{UnitFault, decode};
+use wap_verify::{Verified, VerifyFault, verify};
+
+/// The unit that bytes spell.
+fn unit_of(alloc: Global, bytes: &Bytes) -> Result<Unit, CaseFault>
+    ensures { IfOk result (λ unit. HasSpelling unit) }
+{
+    if bytes.len() > u32::MAX as usize {
+        return Err(CaseFault::Argument);
+    }
+    match decode(alloc, bytes.as_slice()) {
+        Ok(unit) => Ok(unit),
+        Err(UnitFault::NoMemory) => Err(CaseFault::NoMemory),
+        Err(_) => Err(CaseFault::Argument),
+    }
+}
+
+/// The same, where it may be run.
+pub fn verified_of(alloc: Global, bytes: &Bytes) -> Result<Arc<Verified, Global>, CaseFault> {
+    match verify(alloc, unit_of(alloc, bytes)?) {
+        Ok(verified) => Ok(Arc::new(alloc, verified)?),
+        Err((_, VerifyFault::NoMemory)) => Err(CaseFault::NoMemory),
+        Err(_) => Err(CaseFault::Argument),
+    }
+}

@@ -1,0 +1,122 @@
+//! Statements as lines show them: what belongs to an `if`, an `else` or a loop in brackets.
+use crate::expressions::{Shown, add_expression};
+use wap_base::Rows;
+use wap_casebook::CaseFault;
+use wap_parse::{Boxed, Expr, Id, Stmt};
+
+/// Adds a blank and an expression, where there is one.
+fn add_optional(shown: &mut Shown, levels: u32, expr: &Option<Expr>) -> Result<(), CaseFault> {
+    match expr {
+        Some(expr) => {
+            shown.add(" ")?;
+            add_expression(shown, levels, expr)
+        }
+        None => Ok(()),
+    }
+}
+
+/// Adds variables, and what each begins with.
+fn add_variables(
+    shown: &mut Shown,
+    levels: u32,
+    variables: &Rows<(Id, Option<Expr>)>,
+) -> Result<(), CaseFault> {
+    shown.add("var")?;
+    for (at, (id, value)) in variables.as_slice().iter().enumerate() {
+        shown.add(if at > 0 { ", " } else { " " })?;
+        shown.add_id(id)?;
+        if let Some(value) = value {
+            shown.add(" = ")?;
+            add_expression(shown, levels, value)?;
+        }
+    }
+    shown.add(";")
+}
+
+/// Adds a statement of so many levels at most.
+#[cycle(statements)]
+pub fn add_statement(shown: &mut Shown, levels: u32, statement: &Stmt) -> Result<(), CaseFault> {
+    if levels == 0 {
+        return Err(CaseFault::Argument);
+    }
+    let levels = levels - 1;
+    match statement {
+        Stmt::Empty => shown.add(";"),
+        Stmt::Expr(expr) => {
+            add_expression(shown, levels, expr)?;
+            shown.add(";")
+        }
+        Stmt::Block(statements) => add_block(shown, levels, statements),
+        Stmt::Vars(variables) => add_variables(shown, levels, variables),
+        Stmt::If(arms, last) => add_if(shown, levels, arms, last),
+        Stmt::While(condition, body) => {
+            shown.add("while ")?;
+            add_expression(shown, levels, condition)?;
+            add_inside(shown, levels, body.get())
+        }
+        Stmt::For(first, condition, update, body) => {
+            shown.add("for ")?;
+            add_statement(shown, levels, first.get())?;
+            add_optional(shown, levels, condition)?;
+            shown.add(";")?;
+            add_optional(shown, levels, update)?;
+            add_inside(shown, levels, body.get())
+        }
+        Stmt::Break(span) => {
+            shown.add("break")?;
+            shown.add_place(*span)?;
+            shown.add(";")
+        }
+        Stmt::Continue(span) => {
+            shown.add("continue")?;
+            shown.add_place(*span)?;
+            shown.add(";")
+        }
+        Stmt::Return(value) => {
+            shown.add("return")?;
+            add_optional(shown, levels, value)?;
+            shown.add(";")
+        }
+    }
+}
+
+/// Adds each condition with what is done where it holds, and what is done where none does.
+#[cycle(statements)]
+fn add_if(
+    shown: &mut Shown,
+    levels: u32,
+    arms: &Rows<(Expr, Stmt)>,
+    last: &Option<Boxed<Stmt>>,
+) -> Result<(), CaseFault> {
+    for (at, (condition, done)) in arms.as_slice().iter().enumerate() {
+        shown.add(if at > 0 { " else if " } else { "if " })?;
+        add_expression(shown, levels, condition)?;
+        add_inside(shown, levels, done)?;
+    }
+    match last {
+        Some(last) => {
+            shown.add(" else")?;
+            add_inside(shown, levels, last.get())
+        }
+        None => Ok(()),
+    }
+}
+
+/// Adds a statement in brackets.
+#[cycle(statements)]
+fn add_inside(shown: &mut Shown, levels: u32, statement: &Stmt) -> Result<(), CaseFault> {
+    shown.add(" [")?;
+    add_statement(shown, levels, statement)?;
+    shown.add("]")
+}
+
+/// Adds statements in braces.
+#[cycle(statements)]
+pub fn add_block(shown: &mut Shown, levels: u32, statements: &Rows<Stmt>) -> Result<(), CaseFault> {
+    shown.add("{")?;
+    for statement in statements.as_slice() {
+        shown.add(" ")?;
+        add_statement(shown, levels, statement)?;
+    }
+    shown.add(" }")
+}

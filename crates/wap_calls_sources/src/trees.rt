@@ -1,0 +1,162 @@
+//! Calls of the trees of sources.
+use crate::expressions::Shown;
+use crate::statements::add_block;
+use crate::tokens::tokens_of;
+use wap_base::{Rows, Text};
+use wap_casebook::{Call, CaseFault};
+use wap_parse::{Function, Id, ParseFault, Program, Span, Use, parse};
+
+/// The most levels of a tree that are shown: those of a program, each with all precedences.
+const LEVELS: u32 = 1024;
+
+/// Adds names with commas between them.
+fn add_names(shown: &mut Shown, names: &Rows<Id>) -> Result<(), CaseFault> {
+    for (at, name) in names.as_slice().iter().enumerate() {
+        if at > 0 {
+            shown.add(", ")?;
+        }
+        shown.add_id(name)?;
+    }
+    Ok(())
+}
+
+/// Adds a word and a text, where there is one.
+fn add_worded(shown: &mut Shown, word: &str, text: &Option<Text>) -> Result<(), CaseFault> {
+    match text {
+        Some(text) => {
+            shown.add(word)?;
+            shown.add_quoted(text.as_str())
+        }
+        None => Ok(()),
+    }
+}
+
+/// Adds who may call the unit.
+fn add_access(
+    shown: &mut Shown,
+    domain: &Option<Text>,
+    path: &Option<Text>,
+    span: Span,
+) -> Result<(), CaseFault> {
+    shown.add("use access")?;
+    add_worded(shown, " domain ", domain)?;
+    add_worded(shown, " path ", path)?;
+    shown.add_place(span)?;
+    shown.add("; ")
+}
+
+/// Adds a pragma.
+fn add_use(shown: &mut Shown, pragma: &Use) -> Result<(), CaseFault> {
+    match pragma {
+        Use::Url(unit, url) => {
+            shown.add("use url ")?;
+            shown.add_id(unit)?;
+            shown.add(" ")?;
+            shown.add_quoted(url.as_str())?;
+            shown.add("; ")
+        }
+        Use::Access(domain, path, span) => add_access(shown, domain, path, *span),
+        Use::Agent(name, content, scheme) => {
+            shown.add("use meta user agent ")?;
+            shown.add_quoted(name.as_str())?;
+            shown.add(" ")?;
+            shown.add_quoted(content.as_str())?;
+            add_worded(shown, " ", scheme)?;
+            shown.add("; ")
+        }
+        Use::Note => shown.add("use meta; "),
+    }
+}
+
+/// Adds a function.
+fn add_function(shown: &mut Shown, function: &Function) -> Result<(), CaseFault> {
+    if function.external {
+        shown.add("extern ")?;
+    }
+    shown.add_id(&function.name)?;
+    shown.add("(")?;
+    add_names(shown, &function.params)?;
+    shown.add(") ")?;
+    add_block(shown, LEVELS, &function.body)
+}
+
+/// Adds a program: its pragmas and functions.
+fn add_program(shown: &mut Shown, program: &Program) -> Result<(), CaseFault> {
+    for pragma in program.uses.as_slice() {
+        add_use(shown, pragma)?;
+    }
+    for (at, function) in program.functions.as_slice().iter().enumerate() {
+        if at > 0 {
+            shown.add(" ")?;
+        }
+        add_function(shown, function)?;
+    }
+    Ok(())
+}
+
+/// Gives a fault and its place.
+fn give_parse_fault(call: &mut Call, fault: ParseFault) -> Result<(), CaseFault> {
+    let (word, at) = match fault {
+        ParseFault::NoMemory => return Err(CaseFault::NoMemory),
+        ParseFault::Syntax { at } => ("Syntax", at),
+        ParseFault::Nested { at } => ("Nested", at),
+    };
+    call.give_word(word);
+    call.give_count(at);
+    Ok(())
+}
+
+/// The program of the source that is the next argument, or nothing where why there is none was
+/// given.
+pub fn program_of(call: &mut Call) -> Result<Option<Program>, CaseFault> {
+    let source = call.bytes();
+    let Some(tokens) = tokens_of(call, source.as_slice())? else {
+        return Ok(None);
+    };
+    match parse(call.alloc(), source.as_slice(), &tokens) {
+        Ok(program) => Ok(Some(program)),
+        Err(fault) => {
+            give_parse_fault(call, fault)?;
+            Ok(None)
+        }
+    }
+}
+
+/// Gives the tree of a program, with its places in the source or without.
+fn give_tree(call: &mut Call, program: &Program, has_places: bool) -> Result<(), CaseFault> {
+    let mut shown = Shown::new(call.alloc(), has_places);
+    add_program(&mut shown, program)?;
+    call.give_text(&Text::from_string(shown.into_text()));
+    Ok(())
+}
+
+/// Reads a source, and gives its tree.
+fn show(call: &mut Call, has_places: bool) -> Result<(), CaseFault> {
+    match program_of(call)? {
+        Some(program) => give_tree(call, &program, has_places),
+        None => Ok(()),
+    }
+}
+
+/// Reads a source, and gives `yes` where it has a program.
+fn parses(call: &mut Call) -> Result<(), CaseFault> {
+    if program_of(call)?.is_some() {
+        call.give_truth(true);
+    }
+    Ok(())
+}
+
+/// Makes the call of this name, if there is one: `tree SOURCE`, `places SOURCE` or
+/// `parses SOURCE`. Whether there is.
+pub fn make(name: &[u8], call: &mut Call) -> Result<bool, CaseFault> {
+    if name == b"tree".as_slice() {
+        show(call, false)?;
+    } else if name == b"places".as_slice() {
+        show(call, true)?;
+    } else if name == b"parses".as_slice() {
+        parses(call)?;
+    } else {
+        return Ok(false);
+    }
+    Ok(true)
+}
