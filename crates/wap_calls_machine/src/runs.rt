@@ -1,10 +1,10 @@
 //! Runs of machines.
-use crate::small_host::{NoPages, SmallHost};
+use crate::small_host::{FailingPages, SmallHost};
 use crate::units::verified_of;
 use crate::values::{give_value, values};
 use std::alloc::Global;
 use std::sync::Arc;
-use wap_base::{Limits, Text};
+use wap_base::{Limits, RunErr, Text};
 use wap_casebook::{Call, CaseFault};
 use wap_execution::{Dialog, Fatal};
 use wap_machine::{Machine, Outcome};
@@ -70,6 +70,17 @@ fn give_outcome(call: &mut Call, outcome: Outcome) {
     }
 }
 
+/// Gives why a run failed.
+fn give_fault(call: &mut Call, fault: RunErr) -> Result<(), CaseFault> {
+    match fault {
+        RunErr::Store => {
+            call.give_word("Store");
+            Ok(())
+        }
+        RunErr::NoMemory => Err(CaseFault::NoMemory),
+    }
+}
+
 /// Runs a machine, with an answer for each dialog until there is none, and gives what was asked and
 /// what it came to.
 fn play(
@@ -79,8 +90,9 @@ fn play(
     call: &mut Call,
 ) -> Result<(), CaseFault> {
     let mut machine = machine;
+    let mut pages = FailingPages { faults: 0 };
     for value in answers {
-        match machine.run(host, &mut NoPages) {
+        match machine.run(host, &mut pages) {
             Ok(Outcome::Asks(dialog, waiting)) => {
                 give_dialog(call, dialog);
                 machine = waiting.answer(value);
@@ -89,15 +101,15 @@ fn play(
                 give_outcome(call, outcome);
                 return Ok(());
             }
-            Err(_) => return Err(CaseFault::NoMemory),
+            Err(fault) => return give_fault(call, fault),
         }
     }
-    match machine.run(host, &mut NoPages) {
+    match machine.run(host, &mut pages) {
         Ok(outcome) => {
             give_outcome(call, outcome);
             Ok(())
         }
-        Err(_) => Err(CaseFault::NoMemory),
+        Err(fault) => give_fault(call, fault),
     }
 }
 

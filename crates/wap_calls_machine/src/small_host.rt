@@ -1,5 +1,5 @@
-//! A small host: the dialogs ask, `exit` and `abort` end, and other library calls give invalid. The
-//! units `first` and `second` may be called.
+//! A small host: the dialogs ask, `exit` and `abort` end, the library WMLBrowser fails, and other
+//! library calls give invalid. The units `first` and `second` may be called.
 ghost use Rattle.std.specs.Prelude.{◌≡◌, ◌≢◌, ◌<◌, ◌≤◌, Option, Some, None, IfSome, IfOk, IfErr};
 ghost use Rattle.wap_execution.specs.declared.fatal.Fatal.TheVariants.{Budget};
 ghost use Rattle.wap_machine.specs.Hosts.{CanBeCalled, IsNoBudget};
@@ -35,9 +35,14 @@ impl SmallHost {
     }
 }
 
-/// There are no pages.
+/// Pages that fail wherever they are asked, and count that.
 #[derive(Drop)]
-pub struct NoPages;
+pub struct FailingPages {
+    pub faults: u64,
+}
+
+/// The library WMLBrowser, whose functions ask the pages.
+const ASKS_PAGES: u16 = 4;
 
 /// The most functions at work.
 const MOST_AT_WORK: u32 = 255;
@@ -102,7 +107,7 @@ fn given(library: u16, function: u8, arguments: Vec<Value>) -> Option<HostOut>
     }
 }
 
-impl Host<NoPages> for SmallHost {
+impl Host<FailingPages> for SmallHost {
     ghost use Rattle.std.specs.Prelude.{⊤, ◌≡◌, ◌-◌, ◌<◌, ◌≤◌, IsTrue, ◌↔◌, None, IfOk, IfSome, IsErrOf};
     ghost use Rattle.wap_calls_machine.specs.Silent.{silent};
 
@@ -114,7 +119,7 @@ impl Host<NoPages> for SmallHost {
 
     ghost meaning = { silent };
 
-    ghost faults = { λ pages. 0 };
+    ghost faults = { λ pages. pages.faults };
 
     ghost fetches = { λ pages. 0 };
 
@@ -130,7 +135,7 @@ impl Host<NoPages> for SmallHost {
 
     fn external(
         &mut self,
-        pages: &mut NoPages,
+        pages: &mut FailingPages,
         caller: &Url,
         target: &Text,
         function: &Text,
@@ -151,13 +156,17 @@ impl Host<NoPages> for SmallHost {
 
     fn library(
         &mut self,
-        pages: &mut NoPages,
+        pages: &mut FailingPages,
         base: &Url,
         referer: Option<&Url>,
         library: u16,
         function: u8,
         arguments: Vec<Value>,
     ) -> Result<HostOut, RunErr> {
+        if library == ASKS_PAGES {
+            pages.faults = pages.faults.saturating_add(1);
+            return Err(RunErr::Store);
+        }
         match given(library, function, arguments) {
             Some(out) => Ok(out),
             None => Ok(HostOut::Value(Value::Invalid)),
