@@ -1,12 +1,12 @@
 -- Attributes are read as they are spelled.
-use Rattle.std.proofs.Common.{◌≡◌, ◌≢◌, ℕ, ◌+◌, ◌^◌, ◌<◌, Bool, true, false, eqb, List, [], ◌∷◌, ◌++◌, length, drop, map, Option, Some, None, Ok, refl, sym, ap, subst, ◌∙◌, append_assoc, arith}
+use Rattle.std.proofs.Common.{◌≡◌, ◌≢◌, ℕ, ◌^◌, ◌<◌, Bool, true, false, eqb, List, [], ◌∷◌, ◌++◌, length, Option, Some, None, refl, sym, ap, subst, ◌∙◌, append_assoc, arith}
 use Rattle.std.specs.Prelude.{encode_utf8_all, if◌then◌else◌}
-use Rattle.std.specs.List.{flat_map, filter_map, cons_option, list_any, AllByRecursion}
+use Rattle.std.specs.List.{flat_map, list_any, AllByRecursion}
 use Rattle.std.specs.Option.{option_map}
 use Rattle.std.proofs.lemmas.List.{drop_at}
 use Rattle.std.proofs.lemmas.Bool.Decides.{nat_tests}
 use lib.Utf8.{encode}
-use Rattle.wap_base.specs.Numbers.{IsMb, mb_at, mb_spelling}
+use Rattle.wap_base.specs.Numbers.{IsMb, mb_spelling}
 use Rattle.wap_base.specs.Texts.{is_same_text}
 use Rattle.wap_base.specs.declared.name.Part.{Part}
 use Rattle.wap_base.proofs.NumberLaws.{mb_again}
@@ -20,23 +20,22 @@ use Rattle.wap_markup.specs.declared.name.AttrName.TheVariants as names
 use Rattle.wap_markup.specs.Grammar.{table_size}
 use Rattle.wap_markup.specs.Strings.{string_from}
 use Rattle.wap_markup.specs.Tables.{Start, start_rows, name_rows, attr_start, attr_named, name_of_attr}
-use Rattle.wap_markup.specs.Decks.{value_after, start_of, attribute_from, attribute}
-use Rattle.wap_markup.specs.Normal.{IsPart, IsAttribute}
-use Rattle.wap_markup.specs.Writing.{part_pieces, coded_attr, attr_without, whole_code, attr_with, attr_of}
+use Rattle.wap_markup.specs.Decks.{value_after, start_of, attribute_from}
+use Rattle.wap_markup.specs.Normal.{IsAttribute}
+use Rattle.wap_markup.specs.Writing.{part_pieces, attr_without, whole_code, attr_with, attr_of}
 use Rattle.wap_tokens.proofs.AttributeTable.{name}
 use Rattle.wap_deck.proofs.Values.{attribute_read}
 use Rattle.wap_spelling.specs.Names.{table_of, place_of}
 use Rattle.wap_spelling.specs.Writings.{◌⨾◌, plain, each, on_attribute_page}
 use Rattle.wap_spelling.specs.Spelling.{start_spelling, piece_spelling, attr_spelling, first_pages}
-use Rattle.wap_good.proofs.spelled.Strings.{in_utf8, indexed_read}
+use Rattle.wap_good.proofs.spelled.Strings.{indexed_read}
 use Rattle.wap_good.proofs.spelled.Characters.{known_name}
-use Rattle.wap_good.specs.Readers.{◌>>=◌, first_at, number_from, number_at, all_of}
+use Rattle.wap_good.specs.Readers.{◌>>=◌, number_from, number_at, all_of}
 use Rattle.wap_good.specs.Texts.{part_at, value_at, behind_value}
 use Rattle.wap_good.specs.Nodes.{named_at, start_at, attr_at}
 use Rattle.wap_good.specs.Characters.{OfAttr}
-use Rattle.wap_good.proofs.Runs.{Takes, all_on, all_end}
+use Rattle.wap_good.proofs.Runs.{all_on, all_end}
 use Rattle.wap_good.proofs.Taking.{attr_takes}
-use Rattle.wap_good.proofs.Opening.{bind_some}
 use Rattle.wap_good.proofs.Flat.{Flat, flat_on, flat_each}
 use Rattle.wap_good.proofs.PartLaw.{IsPlain, piece_bytes, piece_flat, value_read, behind_read, parts_plain}
 

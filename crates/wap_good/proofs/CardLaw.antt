@@ -26,8 +26,8 @@ use Rattle.wap_good.proofs.Runs.{fewer}
 use Rattle.wap_good.proofs.Taking.{item_takes}
 use Rattle.wap_good.proofs.Seen.{kids_seen, kids_end}
 use Rattle.wap_good.proofs.Layers.{out_node, out_text}
-use Rattle.wap_good.proofs.Opening.{bind_some, same_value, seen}
-use Rattle.wap_good.proofs.Ending.{behind_left, behind_place}
+use Rattle.wap_good.proofs.Opening.{same_value, seen}
+use Rattle.wap_good.proofs.Ending.{behind_place}
 use Rattle.wap_good.proofs.ChildLaw.{child_on, child_end}
 
 -- ---- a child as a card
@@ -75,7 +75,8 @@ cards = filter_map (node_with tags.Card)
 abbrev pub levels_below : ℕ
 levels_below = LEVEL_LIMIT - 1
 
--- these places are those of cards among all children, if other places are those of the cards that are left
+-- these places are those of cards among all children, if other places are those of the cards that
+-- are left
 abbrev pub Placed : List ℕ → List ℕ → List Place → List Node → List ℕ → Type 0
 Placed table bytes places all left =
     (others : List Place) → StandAt table bytes others (cards (all_of (item_at table levels_below) left).0) → StandAt table bytes (places ++ others) all

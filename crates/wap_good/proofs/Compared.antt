@@ -1,5 +1,5 @@
 -- A value compared with a text, part by part.
-use Rattle.std.proofs.Common.{◌≡◌, ◌≢◌, ℕ, ◌+◌, ◌<◌, ◌≤◌, Bool, true, false, List, [], ◌∷◌, ◌++◌, length, Option, Some, None, inl, inr, refl, sym, ap, subst, ◌∙◌, append_assoc, arith}
+use Rattle.std.proofs.Common.{◌≡◌, ◌≢◌, ℕ, false, List, [], ◌∷◌, ◌++◌, length, Option, Some, None, inl, inr, refl, sym, ap, ◌∙◌, arith}
 use Rattle.std.specs.Prelude.{encode_utf8_all, ◌==◌, MatchOption}
 use Rattle.std.specs.Borrow.{Bor}
 use Rattle.std.specs.Str.{chars, IsUtf8}
@@ -9,7 +9,6 @@ use Rattle.std.proofs.Math.Dec.{eqb-suc-zero}
 use Rattle.std.proofs.lemmas.Bool.{cases_Bool}
 use Rattle.std.proofs.lemmas.List.{append-nil, append_cancel_left, length-append}
 use Rattle.std.proofs.lemmas.Str.{chars-encodes, encode_same, encodes-append, length-encode, len_utf8_bounds}
-use Rattle.std.specs.Char.{len_utf8}
 use lib.Utf8.{encode}
 use Rattle.wap_base.specs.Texts.{is_same_text}
 use Rattle.wap_base.specs.declared.name.Conv.{Conv}

@@ -1,12 +1,11 @@
 -- A deck is read from the bytes that spell its document.
-use Rattle.std.proofs.Common.{◌≡◌, ◌≢◌, ℕ, suc, ◌+◌, ◌-◌, ◌^◌, ◌<◌, ◌≤◌, List, [], ◌∷◌, ◌++◌, length, take, drop, Option, Some, Result, Ok, Err, refl, sym, ap, subst, ◌∙◌, append_assoc, arith}
+use Rattle.std.proofs.Common.{◌≡◌, ◌≢◌, ℕ, suc, ◌+◌, ◌-◌, ◌^◌, ◌<◌, ◌≤◌, List, [], ◌∷◌, ◌++◌, length, take, drop, Some, Result, Ok, Err, refl, sym, ap, subst, ◌∙◌, append_assoc, arith}
 use Rattle.std.proofs.lemmas.List.{append-nil, take_at, drop_at, drop-drop}
-use Rattle.wap_base.specs.Numbers.{IsMb, mb_at, mb_spelling}
+use Rattle.wap_base.specs.Numbers.{mb_at, mb_spelling}
 use Rattle.wap_base.specs.declared.number.ReadFault.{ReadFault}
 use Rattle.wap_base.proofs.NumberLaws.{mb_again}
 use Rattle.wap_base.proofs.NumberSpelling.{IsShortest-mb_spelling}
 use Rattle.wap_markup.specs.declared.document.TheConstants.{LEVEL_LIMIT}
-use Rattle.wap_markup.specs.declared.document.Element.{Element}
 use Rattle.wap_markup.specs.declared.deck.Deck.{Deck}
 use Rattle.wap_markup.specs.declared.deck.Node.{Node}
 use Rattle.wap_markup.specs.declared.name.Tag.TheVariants as tags
@@ -17,7 +16,7 @@ use Rattle.wap_markup.specs.Writing.{items_kids, node_kids, element_of, document
 use Rattle.wap_spelling.specs.Names.{table_of, with_element, names_of}
 use Rattle.wap_spelling.specs.Spelling.{header_spelling, root_spelling, spelling, element_spelling, first_pages}
 use Rattle.wap_spelling.specs.Spellable.{IsSpellable}
-use Rattle.wap_good.specs.Nodes.{node_at, front_node, IsRead}
+use Rattle.wap_good.specs.Nodes.{node_at}
 use Rattle.wap_good.specs.Characters.{OfNode}
 use Rattle.wap_good.specs.Held.{table_in, deck_in, IsHeld}
 use Rattle.wap_good.proofs.spelled.Growing.{grows_same}

@@ -1,5 +1,6 @@
--- What follows a part is told by its mark, and no such mark begins an attribute or a node, or is an end.
-use Rattle.std.proofs.Common.{◌≡◌, ℕ, zero, suc, ◌+◌, ◌-◌, ◌<◌, ◌≤◌, Bool, true, false, List, [], ◌∷◌, ◌++◌, length, take, drop, Option, Some, None, Result, Ok, Err, refl, sym, ap, subst, ◌∙◌, append_assoc, eq-eqb, arith}
+-- What follows a part is told by its mark, and no such mark begins an attribute or a node, or is
+-- an end.
+use Rattle.std.proofs.Common.{◌≡◌, ℕ, zero, suc, ◌-◌, ◌<◌, ◌≤◌, Bool, true, false, List, [], ◌∷◌, ◌++◌, length, take, drop, Option, Some, None, Result, Ok, Err, refl, sym, ap, subst, ◌∙◌, append_assoc, eq-eqb, arith}
 use Rattle.wap_base.specs.Numbers.{mb_at}
 use Rattle.wap_base.specs.declared.number.ReadFault.{ReadFault}
 use Rattle.wap_markup.specs.Strings.{string_from}
@@ -25,7 +26,7 @@ use Rattle.wap_good.proofs.Opening.{bind_some, same_value, all_nothing}
 use Rattle.wap_good.proofs.Skipping.{item_by_rest}
 use Rattle.wap_good.proofs.Taking.{part_takes, attr_takes, item_takes}
 
--- ---- bytes behind others
+-- ---- bytes after others
 
 pub behind_all : (bytes : List ℕ) → IsBehind bytes bytes
 behind_all bytes = record { front = []; split = refl }
@@ -440,7 +441,7 @@ pub rest_shorter : (bytes rest : List ℕ) → is_end bytes ≡ false → IsBehi
 rest_shorter [] rest more is = absurd cc
 rest_shorter (mark ∷ bytes) rest more is = let left = behind_left rest bytes is in omega arith
 
--- at an end the rest is behind its byte
+-- at an end the rest is after its byte
 pub done_first : (bytes end : List ℕ) → after END bytes ≡ Some end → drop 1 bytes ≡ end
 done_first bytes end e = sym (after_is END bytes end e)
 

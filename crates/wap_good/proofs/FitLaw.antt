@@ -1,5 +1,5 @@
 -- The strings of a deck's document are texts.
-use Rattle.std.proofs.Common.{◌≡◌, ◌≢◌, ℕ, zero, suc, ◌-◌, ◌%◌, ◌<◌, Bool, true, false, List, [], ◌∷◌, ◌++◌, map, Option, Some, None, refl, sym, ap, subst, ◌∙◌, arith}
+use Rattle.std.proofs.Common.{◌≡◌, ◌≢◌, ℕ, zero, suc, ◌-◌, ◌%◌, ◌<◌, Bool, true, List, [], ◌∷◌, map, Option, Some, None, refl, sym, ap, subst, arith}
 use Rattle.std.specs.Prelude.{nat_lt, ◌&&◌}
 use Rattle.std.specs.List.{flat_map, list_all, AllByRecursion}
 use Rattle.std.specs.Option.{option_and_then}
@@ -9,7 +9,6 @@ use Rattle.wap_base.specs.declared.name.Part.{Part}
 use Rattle.wap_base.specs.declared.name.Part.TheVariants.{Lit, Var}
 use Rattle.wap_markup.specs.declared.codes.TheConstants.{LITERAL}
 use Rattle.wap_markup.specs.declared.document.TheConstants.{LEVEL_LIMIT}
-use Rattle.wap_markup.specs.declared.document.Attr.{Attr}
 use Rattle.wap_markup.specs.declared.document.Element.{Element}
 use Rattle.wap_markup.specs.declared.document.Kid.{Kid, out-Kid}
 use Rattle.wap_markup.specs.declared.document.Kid.TheOpen.{Kid-F}
@@ -26,7 +25,7 @@ use Rattle.wap_markup.specs.Charsets.{is_character}
 use Rattle.wap_markup.specs.Tables.{Start, is_same_start, start_rows, code_by_start, code_of_start, code_of}
 use Rattle.wap_markup.specs.Trees.{ItemLevel, plain_text}
 use Rattle.wap_markup.specs.Normal.{IsPart, IsAttribute, IsItem, IsContent, IsNode, IsNormal}
-use Rattle.wap_markup.specs.Writing.{runs_of, run_piece, run_kid, part_pieces, part_kids, attr_without, whole_code, attr_with, attr_of, kids_from, item_kids, items_kids, node_kids, element_of, document_of}
+use Rattle.wap_markup.specs.Writing.{runs_of, run_kid, part_pieces, part_kids, attr_without, whole_code, attr_with, attr_of, kids_from, item_kids, items_kids, node_kids, element_of, document_of}
 use Rattle.wap_tokens.proofs.Found.{found_passes}
 use Rattle.wap_spelling.specs.Names.{KidLevel}
 use Rattle.wap_spelling.specs.Spellable.{IsString, FitsPiece, FitsAttr, FitsOpened, FitsKid, FitsElement, HasTexts}

@@ -1,16 +1,14 @@
 -- The document of a deck is written as the bytes of its nodes.
-use Rattle.std.proofs.Common.{◌≡◌, ◌≢◌, ℕ, zero, suc, ◌+◌, ◌^◌, ◌<◌, List, [], ◌∷◌, ◌++◌, length, map, Option, Some, None, refl, sym, ap, subst, ◌∙◌, arith}
+use Rattle.std.proofs.Common.{◌≡◌, ℕ, zero, suc, ◌+◌, ◌^◌, ◌<◌, List, [], ◌∷◌, ◌++◌, length, map, Option, Some, None, refl, sym, ap, subst, ◌∙◌, arith}
 use Rattle.std.specs.List.{flat_map, AllByRecursion}
 use Rattle.std.proofs.lemmas.List.{append-nil}
 use Rattle.std.proofs.lemmas.Grind.{flat_map-append}
 use Rattle.wap_base.specs.declared.name.Part.{Part}
 use Rattle.wap_base.specs.declared.name.Part.TheVariants.{Lit, Var}
-use Rattle.wap_markup.specs.declared.codes.TheConstants.{END}
 use Rattle.wap_markup.specs.declared.document.Element.{Element}
 use Rattle.wap_markup.specs.declared.document.Kid.{Kid, out-Kid}
 use Rattle.wap_markup.specs.declared.document.Kid.TheOpen.{Kid-F}
 use Rattle.wap_markup.specs.declared.document.Kid.TheVariants as kid
-use Rattle.wap_markup.specs.declared.document.Piece.{Piece}
 use Rattle.wap_markup.specs.declared.document.Piece.TheVariants as piece
 use Rattle.wap_markup.specs.declared.document.Token.TheVariants.{Code}
 use Rattle.wap_markup.specs.declared.deck.Node.{Node}
@@ -20,7 +18,7 @@ use Rattle.wap_markup.specs.declared.name.AttrName.{AttrName}
 use Rattle.wap_markup.specs.Grammar.{table_size}
 use Rattle.wap_markup.specs.Tables.{code_of}
 use Rattle.wap_markup.specs.Trees.{ItemLevel}
-use Rattle.wap_markup.specs.Normal.{IsPart, IsValue}
+use Rattle.wap_markup.specs.Normal.{IsPart}
 use Rattle.wap_markup.specs.Writing.{runs_of, run_piece, run_kid, part_pieces, part_kids, attr_of, kids_from, item_kids, items_kids, node_kids, element_of}
 use Rattle.wap_spelling.specs.Writings.{Writing, plain, ◌⨾◌, each, ended, on_tag_page}
 use Rattle.wap_spelling.specs.Names.{KidLevel}

@@ -1,12 +1,8 @@
 -- Normal nodes whose texts are of characters, and whose names are among those of the table.
-use Rattle.std.proofs.Common.{◌≡◌, ◌≢◌, ℕ, zero, suc, ◌+◌, ◌^◌, ◌<◌, List, [], ◌∷◌, ◌++◌, length, map, refl, sym, ap, subst, ◌∙◌}
-use Rattle.std.specs.List.{fold, flat_map, list_any, AllByRecursion}
-use Rattle.wap_base.specs.Texts.{is_same_text}
+use Rattle.std.proofs.Common.{◌≡◌, ◌≢◌, ℕ, zero, suc, ◌^◌, ◌<◌, List, [], ◌∷◌, ◌++◌, map, refl, subst}
+use Rattle.std.specs.List.{fold, AllByRecursion}
 use Rattle.wap_base.specs.declared.name.Part.{Part}
-use Rattle.wap_markup.specs.declared.document.Attr.{Attr}
-use Rattle.wap_markup.specs.declared.document.Element.{Element}
-use Rattle.wap_markup.specs.declared.document.Kid.{Kid, out-Kid}
-use Rattle.wap_markup.specs.declared.document.Kid.TheOpen.{Kid-F}
+use Rattle.wap_markup.specs.declared.document.Kid.{Kid}
 use Rattle.wap_markup.specs.declared.document.Kid.TheVariants as kid
 use Rattle.wap_markup.specs.declared.document.Token.{Token}
 use Rattle.wap_markup.specs.declared.document.Token.TheVariants.{Code, Literal}
@@ -17,10 +13,10 @@ use Rattle.wap_markup.specs.declared.name.Tag.TheVariants as tags
 use Rattle.wap_markup.specs.declared.name.AttrName.{AttrName}
 use Rattle.wap_markup.specs.Grammar.{with_name, table_size}
 use Rattle.wap_markup.specs.Trees.{ItemLevel}
-use Rattle.wap_markup.specs.Normal.{IsAttribute, IsItem, IsContent, IsElement, IsNode}
+use Rattle.wap_markup.specs.Normal.{IsAttribute, IsItem, IsContent, IsNode}
 use Rattle.wap_markup.specs.Writing.{attr_of, kids_from, item_kids, items_kids, node_kids, element_of}
 use Rattle.wap_spelling.specs.Names.{KidLevel, with_token, with_attr, with_opened, with_kid, with_element}
-use Rattle.wap_good.specs.Characters.{OfAttr, OfItem, OfOpened, OfElement, OfNode}
+use Rattle.wap_good.specs.Characters.{OfAttr, OfItem, OfOpened, OfNode}
 use Rattle.wap_good.proofs.spelled.Growing.{Grows, grows_on, grows-has, with_name-has, grows-with_attr, grows-fold, grows-with_kid, grows-with_element}
 use Rattle.wap_good.proofs.Contents.{Shape, Shapes, shapes}
 use Rattle.wap_good.proofs.AttrLaw.{IsNamed, IsGoodAttr}

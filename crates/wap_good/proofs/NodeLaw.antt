@@ -1,11 +1,11 @@
 -- Nodes are read as they are spelled.
-use Rattle.std.proofs.Common.{◌≡◌, ◌≢◌, ℕ, zero, suc, ◌+◌, ◌%◌, ◌^◌, ◌<◌, ◌≤◌, Bool, true, false, List, [], ◌∷◌, ◌++◌, length, Option, Some, None, refl, sym, ap, ◌∙◌, append_assoc, arith}
+use Rattle.std.proofs.Common.{◌≡◌, ◌≢◌, ℕ, zero, suc, ◌+◌, ◌%◌, ◌^◌, ◌<◌, Bool, true, false, List, [], ◌∷◌, ◌++◌, length, Option, Some, None, refl, sym, ap, ◌∙◌, append_assoc, arith}
 use Rattle.std.specs.Prelude.{is_some, if◌then◌else◌, nat_lt, ◌&&◌}
 use Rattle.std.specs.List.{flat_map, AllByRecursion}
 use Rattle.std.proofs.lemmas.Bool.{and_parts}
 use Rattle.std.proofs.lemmas.Bool.Decides.{nat_tests, Decides-ltb}
 use Rattle.wap_base.specs.declared.name.Part.{Part}
-use Rattle.wap_markup.specs.declared.codes.TheConstants.{END, ENTITY, STR_I, LITERAL, EXT_I_0, EXT_I_1, EXT_I_2}
+use Rattle.wap_markup.specs.declared.codes.TheConstants.{END, LITERAL}
 use Rattle.wap_markup.specs.declared.deck.Node.{Node}
 use Rattle.wap_markup.specs.declared.deck.Item.{Item, out-Item, roll-Item, roll-out-Item}
 use Rattle.wap_markup.specs.declared.deck.Item.TheOpen.{Item-F}
@@ -19,7 +19,7 @@ use Rattle.wap_markup.specs.Grammar.{table_size}
 use Rattle.wap_markup.specs.Tables.{tag_rows, tag_of, code_of}
 use Rattle.wap_markup.specs.Trees.{ItemLevel}
 use Rattle.wap_markup.specs.Decks.{joined}
-use Rattle.wap_markup.specs.Normal.{IsPart, IsValue}
+use Rattle.wap_markup.specs.Normal.{IsValue}
 use Rattle.wap_markup.specs.Writing.{part_pieces}
 use Rattle.wap_tokens.proofs.TagTable.{coded}
 use Rattle.wap_deck.proofs.Values as values
@@ -32,7 +32,7 @@ use Rattle.wap_good.specs.Characters.{OfPart}
 use Rattle.wap_good.proofs.Runs.{Takes, all_on, all_end}
 use Rattle.wap_good.proofs.Taking.{item_takes}
 use Rattle.wap_good.proofs.Contents.{IsNoText, BeginNoText}
-use Rattle.wap_good.proofs.PartLaw.{piece_bytes, pieces_read, value_read, behind_read, parts_plain}
+use Rattle.wap_good.proofs.PartLaw.{piece_bytes, value_read, behind_read, parts_plain}
 use Rattle.wap_good.proofs.AttrLaw.{IsGoodAttr, attr_bytes, attrs_read, no_part, no_part_end}
 
 -- ---- items, over what spells nodes and which nodes are good

@@ -1,5 +1,5 @@
 -- Texts and values are read as they are spelled.
-use Rattle.std.proofs.Common.{◌≡◌, ◌≢◌, ℕ, zero, suc, ◌+◌, ◌<◌, Bool, true, false, cond, List, [], ◌∷◌, ◌++◌, length, take, drop, map, Option, Some, None, refl, sym, ap, subst, ◌∙◌, append_assoc, arith}
+use Rattle.std.proofs.Common.{◌≡◌, ◌≢◌, ℕ, zero, suc, ◌+◌, Bool, true, cond, List, [], ◌∷◌, ◌++◌, length, take, drop, map, Option, Some, None, refl, sym, ap, subst, ◌∙◌, append_assoc, arith}
 use Rattle.std.specs.Prelude.{encode_utf8_all, if◌then◌else◌, ◌&&◌}
 use Rattle.std.specs.List.{flat_map, filter_map, cons_option, list_all, prefix_len, AllByRecursion}
 use Rattle.std.specs.Str.{chars, is_utf8, all_scalars}
@@ -11,7 +11,7 @@ use Rattle.wap_base.specs.declared.name.Conv.{Conv}
 use Rattle.wap_base.specs.declared.name.Conv.TheVariants.{Escape, Unescape, Plain}
 use Rattle.wap_base.specs.declared.name.Part.{Part}
 use Rattle.wap_base.specs.declared.name.Part.TheVariants.{Lit, Var}
-use Rattle.wap_markup.specs.declared.codes.TheConstants.{END, ENTITY, STR_I}
+use Rattle.wap_markup.specs.declared.codes.TheConstants.{STR_I}
 use Rattle.wap_markup.specs.declared.document.Piece.{Piece}
 use Rattle.wap_markup.specs.declared.document.Piece.TheVariants as piece
 use Rattle.wap_markup.specs.Strings.{is_not_zero}

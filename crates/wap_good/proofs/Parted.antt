@@ -1,6 +1,6 @@
 -- The parts of a value, one by one.
-use Rattle.std.proofs.Common.{◌≡◌, ◌≢◌, ℕ, ◌+◌, ◌<◌, Bool, true, false, List, [], ◌∷◌, ◌++◌, length, Option, Some, None, refl, sym, ap, subst, ◌∙◌, arith}
-use Rattle.std.specs.Prelude.{encode_utf8_all, if◌then◌else◌, ◌&&◌, nat_lt, ◌==◌}
+use Rattle.std.proofs.Common.{◌≡◌, ◌≢◌, ℕ, ◌+◌, ◌<◌, Bool, true, false, List, [], ◌∷◌, length, Option, Some, None, refl, sym, ap, subst, ◌∙◌, arith}
+use Rattle.std.specs.Prelude.{if◌then◌else◌, ◌&&◌, nat_lt, ◌==◌}
 use Rattle.std.specs.Str.{chars, is_utf8, IsUtf8}
 use Rattle.std.proofs.lemmas.Bool.{and_parts, eqb-true}
 use Rattle.std.proofs.lemmas.List.{length-append, nil_from_length}
@@ -25,9 +25,6 @@ use Rattle.wap_good.proofs.Taking.{each_if, part_takes}
 use Rattle.wap_good.proofs.Spoken.{filled}
 
 -- ---- each part is one of a normal value
-
-abbrev IsGiven : Option Part → Type 0
-IsGiven = Each IsPart
 
 abbrev IsRead : Part × List ℕ → Type 0
 IsRead x = IsPart x.0
@@ -148,17 +145,6 @@ chars_filled text utf8 some none = filled text some (nil-from_chars text utf8 no
 
 pub begun_first : (text bytes : List ℕ) → IsUtf8 text → (length text == 0) ≡ false → IsFirstBit (value_at (chars text) bytes) (Lit (chars text)) (value_at [] bytes)
 begun_first text bytes utf8 some = first_text (chars text) bytes (chars_filled text utf8 some)
-
-pub begun_some : (text bytes : List ℕ) → IsUtf8 text → (length text == 0) ≡ false → value_at (chars text) bytes ≢ []
-begun_some text bytes utf8 some none =
-    before_some (Lit (chars text)) (value_at [] bytes) (sym (value_begun (chars text) bytes (chars_filled text utf8 some)) ∙ none)
-
-value_some : (bytes : List ℕ) (o : Option (Part × List ℕ)) → part_at bytes ≡ o → value_at [] bytes ≡ [] → o ≡ None
-value_some bytes (Some x) e none = absurd (before_some x.0 (value_at [] x.1) (sym (value_next bytes x.0 x.1 e) ∙ none))
-value_some bytes None e none = refl
-
-pub no_part_from : (bytes : List ℕ) → value_at [] bytes ≡ [] → part_at bytes ≡ None
-no_part_from bytes none = value_some bytes (part_at bytes) refl none
 
 -- ---- the first bit, as calls give it
 

@@ -1,7 +1,6 @@
 -- Readers that take bytes, and runs of them.
-use Rattle.std.proofs.Common.{◌≡◌, ℕ, zero, suc, ◌+◌, ◌<◌, ◌≤◌, List, [], ◌∷◌, length, Option, Some, None, refl, sym, ap, subst, ◌∙◌, arith}
-use Rattle.std.specs.Prelude.{is_some}
-use Rattle.wap_good.specs.Readers.{Reads, Reader, ◌>>=◌, rest_of, after, run_step, run_at, all_of, closed}
+use Rattle.std.proofs.Common.{◌≡◌, ℕ, zero, suc, ◌<◌, ◌≤◌, List, [], ◌∷◌, length, Option, Some, None, refl, sym, ap, subst, ◌∙◌, arith}
+use Rattle.wap_good.specs.Readers.{Reader, ◌>>=◌, rest_of, after, run_step, run_at, all_of, closed}
 use Rattle.wap_markup.specs.declared.codes.TheConstants.{END}
 
 -- what holds of a value, where there is one
@@ -76,22 +75,11 @@ all_end next bytes e = stops next (length bytes) bytes e
 pub turn : {A : Type 0} (next : Reader A) → Takes next → (bytes : List ℕ) (a : A) (rest end : List ℕ) → next bytes ≡ Some (a, rest) → (all_of next bytes).1 ≡ end → (all_of next rest).1 ≡ end
 turn {A = A} next takes bytes a rest end e so_far = sym (ap (λ (r : List A × List ℕ). r.1) (all_on next takes bytes a rest e)) ∙ so_far
 
-pub last : {A : Type 0} (next : Reader A) (bytes end : List ℕ) → next bytes ≡ None → (all_of next bytes).1 ≡ end → bytes ≡ end
-last {A = A} next bytes end e so_far = sym (ap (λ (r : List A × List ℕ). r.1) (all_end next bytes e)) ∙ so_far
-
 -- ---- what follows alone
 
 pub rest_some : {A : Type 0} (o : Option (A × List ℕ)) (rest : List ℕ) → rest_of o ≡ Some rest → (a : A) × (o ≡ Some (a, rest))
 rest_some {A = A} (Some x) rest e = (x.0, ap (λ (r : List ℕ). Some (x.0, r)) (let same : x.1 ≡ rest = cc in same))
 rest_some None rest e = absurd cc
-
-pub rest_none : {A : Type 0} (o : Option (A × List ℕ)) → rest_of o ≡ None → o ≡ None
-rest_none (Some x) e = absurd cc
-rest_none None e = refl
-
-pub rest_bind : {A B : Type 0} (o : Option (A × List ℕ)) (next : A × List ℕ → Option (B × List ℕ)) (skip : List ℕ → Option (List ℕ)) → ((x : A × List ℕ) → rest_of (next x) ≡ skip x.1) → rest_of (o >>= next) ≡ (rest_of o >>= skip)
-rest_bind (Some x) next skip same = same x
-rest_bind None next skip same = refl
 
 pub closed_rest : {A : Type 0} (next : Reader A) (bytes : List ℕ) → rest_of (closed next bytes) ≡ after END (all_of next bytes).1
 unfolding closed
@@ -100,10 +88,6 @@ closed_rest next bytes = told (after END (all_of next bytes).1) (all_of next byt
     told : {X : Type 0} (o : Option (List ℕ)) (x : X) → rest_of (o >>= λ rest. Some (x, rest)) ≡ o
     told (Some rest) x = refl
     told None x = refl
-
-pub reads_some : {X Y : Type 0} (view : X → Y) (result : Option X) (reading : Option Y) → Reads view result reading → is_some reading ≡ is_some result
-reads_some view (Some x) reading e = ap is_some e
-reads_some view None reading e = ap is_some e
 
 -- there are no more values than bytes
 module _ {A : Type 0} (next : Reader A) (takes : Takes next) where

@@ -1,5 +1,5 @@
 -- What strings give.
-use Rattle.std.proofs.Common.{◌≡◌, ◌≢◌, ℕ, ◌<◌, Bool, true, false, List, [], ◌∷◌, length, Some, None, refl, sym, ap, ◌∙◌, arith}
+use Rattle.std.proofs.Common.{◌≡◌, ◌≢◌, ℕ, Bool, true, false, List, [], ◌∷◌, length, Some, None, refl, sym, ap, ◌∙◌}
 use Rattle.std.specs.Prelude.{if◌then◌else◌, ◌&&◌, ◌==◌}
 use Rattle.std.specs.Str.{chars, is_utf8}
 use Rattle.std.proofs.lemmas.Bool.{eqb-true}
@@ -8,7 +8,6 @@ use Rattle.std.proofs.lemmas.Str.{chars-nil, IsUtf8-from_is_utf8}
 use Rattle.wap_base.proofs.TextLaws.{nil-from_chars}
 use Rattle.wap_base.specs.Names.{is_name}
 use Rattle.wap_base.specs.declared.name.Conv.{Conv}
-use Rattle.wap_base.specs.declared.name.Part.{Part}
 use Rattle.wap_base.specs.declared.name.Part.TheVariants.{Lit, Var}
 use Rattle.wap_markup.specs.Decks.{literal}
 use Rattle.wap_good.specs.Texts.{string_part, name_part}

@@ -1,5 +1,5 @@
 -- Each reader takes a byte or more.
-use Rattle.std.proofs.Common.{◌≡◌, ℕ, zero, suc, ◌+◌, ◌<◌, ◌≤◌, Bool, true, false, List, [], ◌∷◌, length, take, drop, Option, Some, None, Result, Ok, Err, refl, ap, subst, length-drop, arith}
+use Rattle.std.proofs.Common.{◌≡◌, ℕ, zero, suc, ◌<◌, ◌≤◌, Bool, true, false, List, [], ◌∷◌, length, take, drop, Option, Some, None, Result, Ok, Err, refl, ap, length-drop, arith}
 use Rattle.std.specs.Prelude.{is_some, if◌then◌else◌, ◌==◌, ◌%◌, nat_lt}
 use Rattle.wap_base.specs.Numbers.{mb_at}
 use Rattle.wap_base.specs.declared.number.ReadFault.{ReadFault}
@@ -12,10 +12,9 @@ use Rattle.wap_markup.specs.declared.deck.Node.{Node}
 use Rattle.wap_markup.specs.declared.deck.Item.{Item}
 use Rattle.wap_markup.specs.declared.deck.Item.TheVariants as item
 use Rattle.wap_markup.specs.declared.name.Tag.{Tag}
-use Rattle.wap_markup.specs.declared.name.AttrName.{AttrName}
 use Rattle.wap_markup.specs.Codes.{has_attributes, has_content}
 use Rattle.wap_markup.specs.Strings.{string_from}
-use Rattle.wap_markup.specs.Tables.{Start, tag_of, attr_start, attr_named}
+use Rattle.wap_markup.specs.Tables.{tag_of, attr_start, attr_named}
 use Rattle.wap_good.specs.Readers.{Reader, ◌>>=◌, first_at, after, number_from, number_at, zero_place, ended_at, all_of, closed, closed_if}
 use Rattle.wap_good.specs.Texts.{string_part, name_part, string_at, reference_at, character_at, part_from, part_at, value_at, behind_value}
 use Rattle.wap_good.specs.Nodes.{named_at, start_at, attr_at, node, node_by, item_by, node_at, item_at}

@@ -1,8 +1,7 @@
 -- The first 0, as a search finds it.
-use Rattle.std.proofs.Common.{◌≡◌, ℕ, zero, suc, ◌+◌, ◌<◌, ◌≤◌, Bool, true, false, cond, List, [], ◌∷◌, length, refl, ap, ◌∙◌, arith}
+use Rattle.std.proofs.Common.{◌≡◌, ℕ, zero, suc, ◌+◌, ◌<◌, Bool, true, false, cond, List, [], ◌∷◌, length, refl, ap, ◌∙◌, arith}
 use Rattle.std.specs.Prelude.{not, ◌==◌}
 use Rattle.memchr.specs.Find.{Nowhere, Passes, is_byte}
-use Rattle.wap_markup.specs.Strings.{is_not_zero}
 use Rattle.wap_good.specs.Readers.{zero_place}
 
 isnt : (b : Bool) → (b ≡ true → ⊥) → b ≡ false

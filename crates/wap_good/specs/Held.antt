@@ -1,4 +1,5 @@
--- A deck as it is held: its bytes, and where in them the string table, the root and the cards begin. This project's own.
+-- A deck as it is held: its bytes, and where in them the string table, the root and the cards
+-- begin. This project's own.
 use Rattle.std.specs.Prelude.{◌≡◌, ℕ, ◌-◌, ◌≤◌, List, [], ◌∷◌, Some, length, take, drop}
 use Rattle.wap_markup.specs.declared.document.TheConstants.{LEVEL_LIMIT}
 use Rattle.wap_markup.specs.declared.deck.Deck.{Deck}

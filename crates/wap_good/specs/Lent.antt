@@ -10,6 +10,6 @@ abbrev pub item_of : Child → Item
 item_of (child.Text parts) = item.Text parts
 item_of (child.Node node) = item.Node node
 
--- a child, and the bytes behind it
+-- a child, and the bytes after it
 abbrev pub child_seen : Child × Bor (List ℕ) → Item × List ℕ
 child_seen read = (item_of read.0, read.1.now)

@@ -1,5 +1,6 @@
--- Nodes, as they stand in the bytes of a deck (WAP-192, section 5.8), and how they are read. Tags and starts of
--- attributes are codes of page 0; the name of an attribute may stand in the string table.
+-- Nodes, as they stand in the bytes of a deck (WAP-192, section 5.8), and how they are read. Tags
+-- and starts of attributes are codes of page 0; the name of an attribute may stand in the string
+-- table.
 use Rattle.std.specs.Prelude.{◌≡◌, ℕ, zero, suc, ◌-◌, ◌<◌, ◌≤◌, ◌%◌, ◌==◌, if◌then◌else◌, List, [], is_some, Option, Some, None}
 use Rattle.wap_base.specs.declared.name.Part.{Part}
 use Rattle.wap_markup.specs.declared.codes.TheConstants.{LITERAL}
@@ -76,7 +77,8 @@ pub record IsRead (table : List ℕ) (levels : ℕ) (bytes : List ℕ) : Type 0 
   pub rest : List ℕ
   pub read : node_at table levels bytes ≡ Some (node, rest)
 
--- ---- where the attributes of a node in front begin, and where its content does; nothing where there are none
+-- ---- where the attributes of a node in front begin, and where its content does; nothing where
+-- there are none
 
 unfoldable pub attrs_begin : List ℕ → Option (List ℕ)
 attrs_begin bytes = first_at bytes >>= λ x. Some (if has_attributes x.0 then x.1 else [])

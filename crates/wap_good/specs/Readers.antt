@@ -16,16 +16,16 @@ abbrev pub ◌>>=◌ : {A B : Type 0} → Option A → (A → Option B) → Opti
 (Some x) >>= next = next x
 None >>= next = None
 
--- a value and the bytes behind it
+-- a value and the bytes after it
 abbrev pub Reader : Type 0 → Type 0
 Reader A = List ℕ → Option (A × List ℕ)
 
--- the bytes behind what was read
+-- the bytes after what was read
 abbrev pub rest_of : {A : Type 0} → Option (A × List ℕ) → Option (List ℕ)
 rest_of (Some read) = Some read.1
 rest_of None = None
 
--- these are the bytes behind what is read, if a value is read
+-- these are the bytes after what is read, if a value is read
 abbrev pub Leaves : {A : Type 0} → Reader A → List ℕ → List ℕ → Type 0
 Leaves {A = A} next bytes rest = (a : A) (behind : List ℕ) → next bytes ≡ Some (a, behind) → rest ≡ behind
 
@@ -49,7 +49,7 @@ number_at bytes = number_from bytes (mb_at bytes 0)
 abbrev pub zero_place : List ℕ → ℕ
 zero_place = prefix_len is_not_zero
 
--- the bytes up to a 0, and those behind it
+-- the bytes up to a 0, and those after it
 unfoldable pub ended_at : List ℕ → Option (List ℕ × List ℕ)
 ended_at bytes =
     after 0 (drop (zero_place bytes) bytes) >>= λ rest. Some (take (zero_place bytes) bytes, rest)
@@ -65,7 +65,7 @@ pub record IsBehind (rest bytes : List ℕ) : Type 0 where
 
 -- ---- lists
 
--- one value, and those that more reads behind it, or none
+-- one value, and those that more reads after it, or none
 abbrev pub run_step : {A : Type 0} → (List ℕ → List A × List ℕ) → List ℕ → Option (A × List ℕ) → List A × List ℕ
 run_step more bytes None = ([], bytes)
 run_step more bytes (Some read) = (read.0 ∷ (more read.1).0, (more read.1).1)

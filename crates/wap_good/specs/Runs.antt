@@ -27,7 +27,7 @@ pub record IsFirstBit (parts : List Part) (first : Part) (rest : List Part) : Ty
   pub together : parts ≡ before first rest
   pub part : IsPart first
 
--- the first bit of a value and the bytes behind it, or nothing where it has no parts
+-- the first bit of a value and the bytes after it, or nothing where it has no parts
 abbrev pub FindsBit : List Part → Option (Bit × Bor (List ℕ)) → Type 0
 FindsBit parts result =
     MatchOption result (parts ≡ [])

@@ -1,5 +1,6 @@
--- Texts and values of attributes, as they stand in the bytes of a deck (WAP-192, section 5.8.4): strings in place,
--- characters by their numbers, of which one byte is read, and references to variables.
+-- Texts and values of attributes, as they stand in the bytes of a deck (WAP-192, section 5.8.4):
+-- strings in place, characters by their numbers, of which one byte is read, and references to
+-- variables.
 use Rattle.std.specs.Prelude.{ℕ, ◌==◌, ◌&&◌, nat_lt, if◌then◌else◌, List, [], ◌∷◌, drop, Option, Some, None}
 use Rattle.std.specs.List.{cons_option}
 use Rattle.std.specs.Str.{chars, is_utf8}
@@ -53,7 +54,7 @@ part_end_from mark rest =
 unfoldable pub part_end : List ℕ → Option (List ℕ)
 part_end bytes = first_at bytes >>= λ x. part_end_from x.0 x.1
 
--- what parts in a row give behind a text, and what follows them
+-- what parts in a row give after a text, and what follows them
 abbrev pub value_at : List ℕ → List ℕ → List Part
 value_at text bytes = joined (cons_option (literal text) (all_of part_at bytes).0)
 

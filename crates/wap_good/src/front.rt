@@ -7,7 +7,7 @@ use memchr::memchr;
 use wap_base::read_mb;
 use wap_markup::END;
 
-/// The first byte, and those behind it.
+/// The first byte, and those after it.
 pub fn first(bytes: &[u8]) -> Option<(u8, &[u8])>
     ensures { Reads (λ read. (read.0, read.1.now)) result (first_at bytes.now) }
 {
@@ -25,7 +25,7 @@ pub fn after(byte: u8, bytes: &[u8]) -> Option<&[u8]>
     if found == byte { Some(rest) } else { None }
 }
 
-/// A number, and the bytes behind it.
+/// A number, and the bytes after it.
 #[tactic(auto, unfolding(crate::specs::Readers::number_at))]
 pub fn number(bytes: &[u8]) -> Option<(u32, &[u8])>
     ensures { Reads (λ read. (read.0, read.1.now)) result (number_at bytes.now) }
@@ -36,7 +36,7 @@ pub fn number(bytes: &[u8]) -> Option<(u32, &[u8])>
     }
 }
 
-/// The bytes up to the first 0, and those behind it.
+/// The bytes up to the first 0, and those after it.
 #[tactic(auto, unfolding(crate::specs::Readers::ended_at))]
 pub fn ended(bytes: &[u8]) -> Option<(&[u8], &[u8])>
     ensures { Reads (λ read. (read.0.now, read.1.now)) result (ended_at bytes.now) }

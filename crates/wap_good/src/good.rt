@@ -28,7 +28,7 @@ pub struct GoodDeck {
     bytes: Bytes,
     /// Where the string table begins.
     table: usize,
-    /// Where the root begins, behind the table.
+    /// Where the root begins, after the table.
     root: usize,
     /// Where each card begins.
     cards: Rows<Place>,
@@ -109,7 +109,7 @@ fn has_id(card: &View<'_>, id: &Text) -> bool
 }
 
 impl GoodDeck {
-    /// The deck, to be read through views. For want of memory it comes back.
+    /// The deck, to be read through views. Where memory runs out it comes back.
     pub fn new(alloc: Global, deck: Deck) -> Result<GoodDeck, (Deck, NoMemory)>
         requires good { IsGood deck }
         requires normal { IsNormal deck }

@@ -46,7 +46,7 @@ fn note_of(bytes: &[u8]) -> Option<Note>
     })
 }
 
-/// Where the next node, text or end may begin behind the one in front.
+/// Where the next node, text or end may begin after the one in front.
 fn after_place(bytes: &[u8]) -> &[u8]
     ensures { IsBehind result.now (drop 1 bytes.now) }
 {
@@ -89,6 +89,9 @@ pub fn notes_from(notes: &[Note], place: usize) -> &[Note]
 pub fn notes_left<'a>(notes: &'a [Note], bytes: &[u8]) -> &'a [Note]
     ensures { (whole : List ℕ) → AreNotes whole notes.now → AreNotes whole result.now }
 {
+    if bytes.is_empty() {
+        return &[];
+    }
     let mut passed = 0;
     while passed < notes.len() && notes[passed].begin as usize > bytes.len() {
         passed += 1;

@@ -89,7 +89,7 @@ impl<'a> Run<'a> {
     }
 }
 
-/// The first bit of a value that begins with a text, and the bytes behind it.
+/// The first bit of a value that begins with a text, and the bytes after it.
 fn first_bit<'a>(begun: &'a str, bytes: &'a [u8]) -> Option<(Bit<'a>, &'a [u8])>
     ensures { FindsBit (value_at (chars begun.now) bytes.now) result }
 {

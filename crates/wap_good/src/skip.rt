@@ -49,7 +49,7 @@ fn after_attrs(bytes: &[u8]) -> &[u8]
     after_first(rest)
 }
 
-/// What follows the attributes behind a mark, if it says that there are any.
+/// What follows the attributes after a mark, if it says that there are any.
 pub fn after_head(mark: u8, bytes: &[u8]) -> &[u8]
     ensures exact { (table : List ℕ) →
         Leaves (closed_if (has_attributes mark) (attr_at table)) bytes.now result.now }
@@ -74,7 +74,7 @@ pub fn after_node(levels: u32, bytes: &[u8]) -> &[u8]
     }
 }
 
-/// What follows the content behind a mark, if it says that there is any.
+/// What follows the content after a mark, if it says that there is any.
 #[cycle(skip)]
 fn after_content(levels: u32, mark: u8, bytes: &[u8]) -> &[u8]
     ensures exact { FollowsContent levels mark bytes.now result.now }

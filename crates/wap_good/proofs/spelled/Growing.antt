@@ -1,4 +1,4 @@
--- Names that come behind others.
+-- Names that come after others.
 use Rattle.std.proofs.Common.{◌≡◌, ℕ, zero, suc, ◌≤◌, Bool, true, false, cond, List, [], ◌∷◌, ◌++◌, refl, sym, ap, ◌∙◌, append_assoc, arith}
 use Rattle.std.specs.Prelude.{◌||◌}
 use Rattle.std.specs.List.{fold, list_any}
@@ -15,7 +15,7 @@ use Rattle.wap_markup.specs.declared.document.Kid.TheOpen.{Kid-F}
 use Rattle.wap_markup.specs.Grammar.{with_name, table_size}
 use Rattle.wap_spelling.specs.Names.{Naming, KidLevel, with_token, with_attr, with_opened, with_kid, with_element}
 
--- the same names, and more behind them
+-- the same names, and more after them
 pub record Grows (names others : List (List ℕ)) : Type 0 where
   pub more : List (List ℕ)
   pub are : others ≡ names ++ more
@@ -56,7 +56,7 @@ grows-has names others name grown among =
 
 -- ---- a name more
 
--- the names stay, and have the name, or it stands behind them
+-- the names stay, and have the name, or it stands after them
 record Added (names : List (List ℕ)) (name : List ℕ) (others : List (List ℕ)) : Type 0 where
   grown : Grows names others
   among : list_any (is_same_text name) others ≡ true

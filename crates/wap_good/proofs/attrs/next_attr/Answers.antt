@@ -1,10 +1,5 @@
-use Rattle.std.proofs.Common.{◌≡◌, ◌∙◌, sym, ap, List, ℕ}
-use Rattle.wap_markup.specs.declared.name.AttrName.{AttrName}
-use Rattle.wap_base.specs.declared.name.Part.{Part}
 use Rattle.std.specs.Str.{chars}
-use Rattle.wap_good.specs.Readers.{◌>>=◌}
-use Rattle.wap_good.specs.Texts.{value_at, behind_value}
-use Rattle.wap_good.specs.Nodes.{attr_at}
+use Rattle.wap_good.specs.Texts.{behind_value}
 use Rattle.wap_good.proofs.Ending.{attr_read, attr_followed}
 use Rattle.wap_good.proofs.attrs.next_attr.Goals as goal
 

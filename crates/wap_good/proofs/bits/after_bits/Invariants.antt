@@ -3,7 +3,7 @@ use Rattle.wap_good.specs.Readers.{IsBehind}
 use Rattle.wap_good.specs.Texts.{part_end, behind_value}
 use Rattle.wap_good.proofs.bits.after_bits.Given as goal
 
--- what is left is behind bits
+-- what is left is after bits
 abbrev pub invariant-loop-behind : goal.invariant-loop-behind
 invariant-loop-behind l = record {
   exact : part_end (behind_value l.bytes) ≡ None → behind_value l.rest ≡ behind_value l.bytes;

@@ -1,6 +1,5 @@
-use Rattle.std.proofs.Common.{◌≡◌, ◌∙◌, ◌≤◌, sym, ap, subst, length, List, ℕ}
+use Rattle.std.proofs.Common.{◌∙◌, ◌≤◌, sym, ap, subst, length, List, ℕ}
 use Rattle.wap_base.specs.Numbers.{mb_at}
-use Rattle.wap_markup.specs.Writing.{document_of}
 use Rattle.wap_spelling.specs.Spelling.{spelling}
 use Rattle.wap_spelling.specs.Spellable.{IsSpellable}
 use Rattle.wap_good.specs.Notes.{AreNotes}

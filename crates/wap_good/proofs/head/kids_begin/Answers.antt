@@ -1,4 +1,4 @@
-use Rattle.std.proofs.Common.{◌∙◌, sym, [], drop}
+use Rattle.std.proofs.Common.{◌∙◌, sym, []}
 use Rattle.wap_good.proofs.Ending.{behind_on, behind_first, behind_nothing, content_there, no_content_there, nothing_there}
 use Rattle.wap_good.proofs.head.kids_begin.Goals as goal
 

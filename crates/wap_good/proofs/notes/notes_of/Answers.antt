@@ -1,4 +1,4 @@
-use Rattle.std.proofs.Common.{◌≡◌, ◌∙◌, [], ◌∷◌, ◌++◌, List, ℕ, drop, sym, subst}
+use Rattle.std.proofs.Common.{◌≡◌, ◌∙◌, [], ◌∷◌, ◌++◌, List, ℕ, sym, subst}
 use Rattle.std.proofs.lemmas.List.{take_rest}
 use Rattle.wap_good.specs.Readers.{IsBehind}
 use Rattle.wap_good.specs.Notes.{AreNotes}

@@ -1,4 +1,4 @@
-use Rattle.std.proofs.Common.{◌≡◌, ◌∙◌, ◌-◌, drop, sym, subst, true, false, rules, arith}
+use Rattle.std.proofs.Common.{◌≡◌, ◌∙◌, ◌-◌, drop, sym, subst, true, rules, arith}
 use Rattle.wap_markup.specs.Codes.{has_content}
 use Rattle.wap_good.specs.Readers.{IsBehind, Leaves, closed, is_end}
 use Rattle.wap_good.specs.Nodes.{item_at}

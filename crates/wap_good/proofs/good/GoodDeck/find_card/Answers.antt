@@ -1,5 +1,4 @@
 use Rattle.std.proofs.Common.{◌∙◌, ◌≤◌, sym, length, arith}
-use Rattle.std.proofs.lemmas.Option.{slice_get_within}
 use Rattle.wap_markup.specs.Cards.{cards_of}
 use Rattle.wap_good.proofs.CardLaw.{found_here, found_behind, no_card_behind, found_nowhere}
 use Rattle.wap_good.proofs.good.GoodDeck.find_card.Goals as goal

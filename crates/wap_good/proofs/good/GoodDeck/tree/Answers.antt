@@ -1,6 +1,4 @@
 use Rattle.std.proofs.Common.{◌≡◌, ◌∙◌, sym, ap, subst, List, ℕ}
-use Rattle.wap_markup.specs.declared.deck.Deck.{Deck}
-use Rattle.wap_markup.specs.declared.document.Document.{Document}
 use Rattle.wap_markup.specs.Decks.{deck_of}
 use Rattle.wap_markup.specs.Documents.{IsDocument}
 use Rattle.wap_markup.specs.Writing.{document_of}

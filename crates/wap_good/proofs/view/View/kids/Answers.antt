@@ -1,6 +1,4 @@
-use Rattle.std.proofs.Common.{◌∙◌, ◌-◌, ℕ, List, ap, sym, subst, length, rules, arith}
-use Rattle.wap_good.specs.Readers.{Ends, all_of}
-use Rattle.wap_good.specs.Nodes.{item_at}
+use Rattle.std.proofs.Common.{rules, arith}
 use Rattle.wap_good.proofs.NoteLaw.{notes_behind}
 use Rattle.wap_good.proofs.Seen.{kids_seen, kids_end, few_kids}
 use Rattle.wap_good.proofs.view.View.kids.Goals as goal
