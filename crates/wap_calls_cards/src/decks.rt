@@ -1,4 +1,6 @@
 //! Good decks and their cards.
+ghost use Rattle.wap_markup.specs.Normal.{IsNormal};
+
 use wap_casebook::{Call, CaseFault};
 use wap_deck::deck_of;
 use wap_deckcheck::{DeckFault, check};
@@ -17,7 +19,9 @@ fn document(call: &mut Call) -> Result<Document, CaseFault> {
 }
 
 /// A deck as a good one.
-fn good(call: &Call, deck: Deck) -> Result<GoodDeck, CaseFault> {
+fn good(call: &Call, deck: Deck) -> Result<GoodDeck, CaseFault>
+    requires { IsNormal deck }
+{
     match check(call.alloc(), deck) {
         Ok(good) => Ok(good),
         Err((_, DeckFault::NoMemory)) => Err(CaseFault::NoMemory),
