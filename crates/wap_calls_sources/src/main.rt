@@ -12,8 +12,8 @@ use std::marker::{Send, Sync};
 use std::process::ExitCode;
 use wap_casebook::{Call, Calls, CaseFault, play_calls};
 use wap_lex::{Kind, LexFault, Token};
-use wap_parse::{ParseFault, Program};
-use wap_scope::{ScopeFault, Scoped};
+use wap_parse::{Expr, ParseFault, Stmt, Use};
+use wap_scope::ScopeFault;
 
 /// The calls of sources.
 struct Sources;
@@ -34,9 +34,10 @@ fn all_cross() {
     crosses::<Token>();
     crosses::<Kind>();
     crosses::<LexFault>();
-    crosses::<Program>();
+    crosses::<Expr>();
+    crosses::<Stmt>();
+    crosses::<Use>();
     crosses::<ParseFault>();
-    crosses::<Scoped>();
     crosses::<ScopeFault>();
 }
 
