@@ -12,7 +12,7 @@ use std::marker::{Send, Sync};
 use std::process::ExitCode;
 use wap_casebook::{Call, Calls, CaseFault, play_calls};
 use wap_lex::{Kind, LexFault, Token};
-use wap_parse::{Expr, ParseFault, Stmt, Use};
+use wap_parse::{Expr, ParseFault, Use};
 use wap_scope::ScopeFault;
 
 /// The calls of sources.
@@ -35,7 +35,6 @@ fn all_cross() {
     crosses::<Kind>();
     crosses::<LexFault>();
     crosses::<Expr>();
-    crosses::<Stmt>();
     crosses::<Use>();
     crosses::<ParseFault>();
     crosses::<ScopeFault>();
