@@ -1,4 +1,5 @@
--- Which errors of the system tell that no file of a path can be, and what the others are to a store. This project's own.
+-- Which errors of the system tell that no file of a path can be, and what the others are to a
+-- store. This project's own.
 use Rattle.std.specs.Prelude.{Bool, true, false, Option, Some, None, Result, Ok, Err, if◌then◌else◌}
 use Rattle.std.specs.IoError.{error_kind}
 use Rattle.std.specs.declared.io.Error.{Error}

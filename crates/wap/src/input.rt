@@ -30,7 +30,7 @@ impl<I> StdinSource<I> {
     }
 }
 
-/// How often the end was told, after a read that moves so many bytes.
+/// How often the end was reported, after a read that moves so many bytes.
 fn ends_after(ends: u64, count: usize) -> u64
     ensures { result ≡ ends_after ends (Ok count) }
 {

@@ -17,7 +17,7 @@ use wap_cli::{Status, run};
 #[cfg(test)]
 mod tests;
 
-/// The pages of the folder that is named first, and the words of the command behind it, where there
+/// The pages of the folder that is named first, and the words of the command after it, where there
 /// is a folder and each word is UTF-8.
 fn given(rt: &HostRuntime) -> Result<Option<(FolderStore<HostRuntime>, Vec<Text>)>, NoMemory> {
     let given = match env::args(rt) {

@@ -182,7 +182,7 @@ fn give_is_name(call: &mut Call) {
     call.give_truth(is_name(bytes.as_slice()));
 }
 
-/// Gives a text with a number behind it.
+/// Gives a text with a number after it.
 fn give_numbered(call: &mut Call) -> Result<(), CaseFault> {
     let mut text = call.text();
     text.add_number(call.count() as u64)?;
@@ -237,7 +237,7 @@ fn give_name(call: &mut Call) -> Result<(), CaseFault> {
     Ok(())
 }
 
-/// Gives a number and where the bytes behind it stand.
+/// Gives a number and where the bytes after it begin.
 fn give_place(call: &mut Call, number: u32, next: usize) {
     call.give_number(i64::from(number));
     call.give_count(next);

@@ -150,7 +150,7 @@ fn keys(
     Ok(read_keys(call.alloc(), &mut source)?)
 }
 
-/// Gives keys, each with a bar behind it, and how they end.
+/// Gives keys, each with a bar after it, and how they end.
 fn give_keys(call: &mut Call, read: &(Vec<Key>, Ending)) -> Result<(), CaseFault> {
     let (keys, ending) = read;
     for key in keys {

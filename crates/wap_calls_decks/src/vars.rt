@@ -196,7 +196,7 @@ fn give_told(call: &mut Call) -> Result<(), CaseFault> {
     Ok(())
 }
 
-/// How a text is filled in, by the letter behind a reference's name.
+/// How a text is filled in, by the letter after a reference's name.
 static CONVERSIONS: [(&str, Conv); 3] = [
     ("n", Conv::Plain),
     ("e", Conv::Escape),

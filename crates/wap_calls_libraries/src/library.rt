@@ -1,4 +1,4 @@
-//! Calls of functions, alone or behind one another.
+//! Calls of functions, alone or one after the other.
 use crate::names::numbers_of;
 use wap_casebook::{Call, CaseFault, meaning_of};
 use wap_libs::{Gen, LibFault, LibOut, arguments_of, call_pure};
@@ -152,7 +152,7 @@ fn call_with(
     give_call(call, numbers, values, generator, LIMIT)
 }
 
-/// Draws random numbers behind one another: the next argument up to each value that is left.
+/// Draws random numbers one after the other, one up to each value that is left.
 fn draw_each(call: &mut Call, generator: &mut Gen) -> Result<(), CaseFault> {
     for _ in 0..u64::MAX {
         if !call.has_more() {
@@ -170,7 +170,7 @@ fn draw(call: &mut Call) -> Result<(), CaseFault> {
     draw_each(call, &mut generator)
 }
 
-/// The same, some behind a start of the generator from another seed.
+/// One number, and the same after a start of the generator from another seed.
 fn draw_restarted(call: &mut Call) -> Result<(), CaseFault> {
     let mut generator = Gen::new(call.number32());
     let start = value(call);

@@ -170,7 +170,8 @@ fn next_unit(call: &mut Call) -> Result<Option<Arc<Verified, Global>>, CaseFault
     Ok(Some(verified_of(call.alloc(), &bytes)?))
 }
 
-/// Runs a function of the first of two units, and gives what it comes to and the turns that are left.
+/// Runs a function of the first of two units, and gives what it comes to and the turns that are
+/// left.
 pub fn run(call: &mut Call) -> Result<(), CaseFault> {
     let alloc = call.alloc();
     let Some(first) = next_unit(call)? else {

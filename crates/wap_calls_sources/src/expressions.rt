@@ -75,7 +75,7 @@ fn add_literal(shown: &mut Shown, literal: &Literal) -> Result<(), CaseFault> {
     }
 }
 
-/// Adds `++` or `--`, before or behind a variable.
+/// Adds a variable, and `++` or `--` before it or after it.
 fn add_step(shown: &mut Shown, id: &Id, up: bool, prefix: bool) -> Result<(), CaseFault> {
     let word = if up { "++" } else { "--" };
     if prefix {

@@ -11,7 +11,7 @@ use wap_base::{Bytes, Text};
 /// which is compared with what the line says.
 ///
 /// Where an argument is missing or misspelled, a call goes on with an empty one or 0, and doesn't
-/// count as played in the end. The same holds where memory is out when something is given.
+/// count as played in the end. The same holds where memory runs out when something is given.
 #[derive(Drop)]
 pub struct Call {
     alloc: Global,
@@ -95,7 +95,7 @@ fn add_value(values: &mut VecDeque<Bytes>, alloc: Global, value: &[u8]) -> Resul
     Ok(())
 }
 
-/// Adds the values of a line before `=`, and gives what stands behind that.
+/// Adds the values of a line before `=`, and gives what stands after that.
 fn add_values<'a>(
     values: &mut VecDeque<Bytes>,
     alloc: Global,

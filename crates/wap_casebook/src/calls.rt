@@ -47,7 +47,7 @@ fn play_line<C: Calls>(calls: &C, call: &mut Call, tally: &mut Tally, line: &[u8
     differs
 }
 
-/// Makes the call of a name, with the arguments and the results behind it.
+/// Makes the call of a name, with the arguments and the results after it.
 fn make<C: Calls>(calls: &C, call: &mut Call, name: &[u8], rest: &[u8]) -> Result<(), CaseFault> {
     call.begin(rest)?;
     calls.make(name, call)
@@ -103,7 +103,7 @@ fn play_text<C: Calls>(
 }
 
 /// Plays the files that the words of the program name, and answers whether calls differ, or nothing
-/// where a file can't be read or memory is out.
+/// where a file can't be read or memory runs out.
 fn play_files<R: Files + Env + AllocGlobal, C: Calls>(
     rt: &R,
     calls: &C,

@@ -9,17 +9,17 @@ use wap_base::{Bytes, NoMemory};
 enum Place {
     /// Between items.
     Between,
-    /// Behind the first of two digits, which has this number.
+    /// After the first of two digits, which has this number.
     Digit(u8),
     /// In a text.
     Text,
-    /// Behind a backslash in a text.
+    /// After a backslash in a text.
     Escape,
     /// In the number of a character, which is this so far.
     Character(u32),
     /// In the name of a piece.
     Name,
-    /// Behind `#`.
+    /// After `#`.
     Number,
 }
 
@@ -74,7 +74,7 @@ fn in_text(byte: u8) -> (Place, Spelled) {
     }
 }
 
-/// What a byte behind a backslash spells.
+/// What a byte after a backslash spells.
 fn escaped(byte: u8) -> (Place, Spelled) {
     match byte {
         b'u' => (Place::Character(0), Spelled::Nothing),
@@ -101,7 +101,7 @@ fn in_character(number: u32, byte: u8) -> (Place, Spelled) {
     }
 }
 
-/// What a digit spells behind another, or behind `#` the one that says how many digits there are.
+/// What a digit spells after another, or after `#` the one that says how many digits there are.
 fn in_digits(high: Option<u8>, byte: u8) -> (Place, Spelled) {
     let spelled = match (high, digit(byte)) {
         (Some(high), Some(low)) => Spelled::Byte(high.wrapping_mul(16).wrapping_add(low)),
@@ -125,7 +125,7 @@ fn step(place: Place, byte: u8) -> (Place, Spelled) {
     }
 }
 
-/// The bytes that items spell. The first fault is kept, and told in the end.
+/// The bytes that items spell. The first fault is kept, and reported in the end.
 #[derive(Drop)]
 pub struct Items {
     alloc: Global,

@@ -7,7 +7,7 @@ use std::alloc::Global;
 use std::str;
 use wap_base::Text;
 
-/// The bytes before the first blank, and those behind it.
+/// The bytes before the first blank, and those after it.
 pub fn split_word(line: &[u8]) -> (&[u8], &[u8]) {
     let mut rest = line;
     for at in 0..line.len() {

@@ -19,7 +19,7 @@ pub struct Case {
     pub keys: Bytes,
     pub devices: Devices,
     pub wanted: Wanted,
-    /// No run is made, but memory is taken to be wanting.
+    /// No run is made, but memory is taken to have run out.
     pub is_without_memory: bool,
     /// The first line that can't be read, and why.
     pub fault: Option<(usize, CaseFault)>,
@@ -143,7 +143,7 @@ impl Case {
         Ok(())
     }
 
-    /// Reads the line that says how it ends without a run, which is for want of memory.
+    /// Reads the line that says how it ends without a run, which is out of memory.
     pub fn read_ended(&mut self, line: &[u8]) -> Result<(), CaseFault> {
         if line != b"NoMemory".as_slice() {
             return Err(CaseFault::Line);

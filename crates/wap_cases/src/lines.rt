@@ -56,7 +56,7 @@ static LINES: [(&str, Line); 22] = [
     ("unprinted", Line::Unprinted),
 ];
 
-/// What stands behind the words that a line begins with, where they are these.
+/// What stands after the words that a line begins with, where they are these.
 fn rest_behind<'a>(words: &str, line: &'a [u8]) -> Option<&'a [u8]> {
     match line.strip_prefix(words.as_bytes())? {
         [] => Some(b""),
@@ -65,7 +65,7 @@ fn rest_behind<'a>(words: &str, line: &'a [u8]) -> Option<&'a [u8]> {
     }
 }
 
-/// What a line says, and what stands behind the words that say it.
+/// What a line says, and what stands after the words that say it.
 fn split_line(line: &[u8]) -> Result<(Line, &[u8]), CaseFault> {
     for (words, known) in &LINES {
         if let Some(rest) = rest_behind(words, line) {

@@ -25,8 +25,8 @@ pub struct Outcome {
     pub left: u64,
 }
 
-/// The calls of a device that fail: those that a case names, and the one behind those that are
-/// wanted.
+/// The calls of a device that fail: those that a case names, and the one after those that are
+/// wanted, where it says how many are.
 fn failing(alloc: Global, named: &[u64], wanted: Option<u64>) -> Result<Vec<u64>, CaseFault> {
     let mut fails = Vec::from_slice(alloc, named)?;
     if let Some(calls) = wanted {

@@ -31,7 +31,7 @@ up-later : (p : List ℕ) (a b : ℕ) (s t : List ℕ) → a < b → IsUpTo (p +
 up-later [] a b s t less = inl less
 up-later (c ∷ p) a b s t less = inr (refl, up-later p a b s t less)
 
--- ---- paths one behind the other
+-- ---- paths one after the other
 
 abbrev AreUpTo : List (List ℕ) → List (List ℕ) → Type 0
 AreUpTo [] ys = Unit {0}

@@ -14,7 +14,7 @@ use Rattle.wap_markup.specs.Good.{Rule, is_among, place_in, is_not_behind, may_p
 use Rattle.wap_deckcheck.specs.inside.Reached.{HasReached, IsReachedBy}
 use Rattle.wap_deckcheck.proofs.Tests.{and_true, all_and, all_or, all_not, all_apart, all_all, all_same}
 
--- ---- an element behind others
+-- ---- an element after others
 
 abbrev pub is_used_with : Rule → Tag → List Tag → Bool
 is_used_with rule tag earlier = list_any (λ group. is_among group tag && list_any (is_among group) earlier) rule.once

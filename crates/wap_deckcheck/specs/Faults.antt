@@ -1,5 +1,5 @@
--- The faults of a deck, in the order of the document (WAP-191, section 11; the profile of the rules is this
--- project's own). A deck without any is good.
+-- The faults of a deck, in the order of the document (WAP-191, section 11; the profile of the rules
+-- is this project's own). A deck without any is good.
 use Rattle.std.specs.Prelude.{◌≡◌, ◌≢◌, ℕ, Bool, true, false, not, ◌||◌, List, [], ◌∷◌, ◌++◌, Option, Some, None, Result, Ok, Err}
 use Rattle.std.specs.List.{list_any, flat_map}
 use Rattle.wap_base.specs.Texts.{is_same_text}
@@ -74,7 +74,7 @@ abbrev pub first_fault : List DeckFault → Option DeckFault
 first_fault [] = None
 first_fault (first ∷ others) = Some first
 
--- Ok where there are no faults, else the first of them, unless memory is short
+-- Ok where there are no faults, else the first of them, unless memory ran out
 abbrev pub Judges : {X : Type 0} → Result X DeckFault → List DeckFault → Type 0
 Judges (Ok x) some = some ≡ []
 Judges (Err told) some = told ≢ fault.NoMemory → first_fault some ≡ Some told

@@ -1,5 +1,5 @@
--- The order of the document, on paths: parents come before their children, and siblings by their numbers. This
--- project's own.
+-- The order of the document, on paths: parents come before their children, and siblings by their
+-- numbers. This project's own.
 use Rattle.std.specs.Prelude.{◌≡◌, ℕ, ◌<◌, ◌⊎◌, List, [], ◌∷◌, Option, Some, None}
 use Rattle.std.specs.List.{filter_map}
 use Rattle.wap_markup.specs.declared.deck.Deck.{Deck}

@@ -1,5 +1,5 @@
--- The nodes and texts below the root of a deck, each at its place, in the order of the document: a node comes
--- before what is in it. This project's own words for WAP-191, section 11.
+-- The nodes and texts below the root of a deck, each at its place, in the order of the document: a
+-- node comes before what is in it. This project's own words for WAP-191, section 11.
 use Rattle.std.specs.Prelude.{ℕ, zero, suc, Bool, ◌&&◌, if◌then◌else◌, List, [], ◌∷◌, ◌++◌, length, Option, Some, None}
 use Rattle.std.specs.List.{filter_map}
 use Rattle.std.specs.Option.{option_and_then, option_to_list}
@@ -31,9 +31,9 @@ names_among apart levels items = filter_map (own_name apart) (nodes_in levels it
 
 -- ---- places
 
--- the numbers of the children that lead to an item, from 0, texts included; the rule of the element in which
--- it stands, and what stands before it there; its id or its name, if it has one, and those before it, which
--- have to be others
+-- the numbers of the children that lead to an item, from 0, texts included; the rule of the element
+-- in which it stands, and what stands before it there; its id or its name, if it has one, and those
+-- before it, which have to be others
 pub record Place : Type 0 where
   pub path : List ℕ
   pub rule : Rule
@@ -42,8 +42,8 @@ pub record Place : Type 0 where
   pub own : Option (List ℕ)
   pub others : List (List ℕ)
 
--- how the children of a node are told apart: by what, and from which of those before them; and the places in
--- a child, behind these ids or names
+-- how the children of a node are told apart: by what, and from which of those before them; and the
+-- places in a child, after these ids or names
 pub record Level : Type 0 where
   pub own : Node → Option (List ℕ)
   pub others : List Item → List (List ℕ)
@@ -53,7 +53,7 @@ abbrev pub inner_places : Level → List (List ℕ) → List ℕ → Option Node
 inner_places level others path None = []
 inner_places level others path (Some node) = level.inner (others ++ option_to_list (level.own node)) path node
 
--- the path of the child behind these
+-- the path of the child after these
 abbrev pub path_behind : List ℕ → List Item → List ℕ
 path_behind path earlier = path ++ length earlier ∷ []
 
@@ -67,7 +67,7 @@ place_of level path rule earlier item = record {
   others = level.others earlier;
 }
 
--- the places of items behind earlier ones, in a node at a path
+-- the places of items after earlier ones, in a node at a path
 abbrev pub items_places : Level → List ℕ → Rule → List Item → List Item → List Place
 items_places level path rule earlier [] = []
 items_places level path rule earlier (item ∷ items) =
@@ -84,7 +84,7 @@ names_level inner apart levels names = record {
   inner = inner;
 }
 
--- the places in a node at a path, of so many levels, behind these names
+-- the places in a node at a path, of so many levels, after these names
 unfoldable pub node_places : ℕ → Bool → List (List ℕ) → List ℕ → Node → List Place
 node_places zero apart names path node = []
 node_places (suc levels) apart names path node =

@@ -12,7 +12,7 @@ pub fn good_is_faultless()
 {}
 
 /// The faults of a deck come in the order of the document: at a node before those in it, and at
-/// a child before those at the children behind it.
+/// a child before those at the children after it.
 #[tactic(auto, using(crate::proofs::Ascending::faults_ascend))]
 pub fn faults_ascend()
     ensures { (deck : Deck) → FaultsAscend deck }

@@ -169,7 +169,7 @@ impl Rule {
         place_in(self.groups, tag)
     }
 
-    /// Whether an element of a group may stand behind items.
+    /// Whether an element of a group may stand after items.
     fn admits(&self, place: usize, reached: usize, earlier: &[Item], tag: Tag) -> bool
         ensures { result ≡ ((not self.now.in_order || nat_le reached place)
             && not (is_used_with self.now.once tag (tags_of earlier.now))) }
@@ -180,7 +180,7 @@ impl Rule {
         !is_used_with(self.once, earlier, tag)
     }
 
-    /// The place that is reached with an element behind items, if it may stand there.
+    /// The place that is reached with an element after items, if it may stand there.
     fn reach(&self, reached: usize, earlier: &[Item], tag: Tag) -> Option<usize>
         requires { HasReached self.now earlier.now reached }
         ensures follows { is_some result ≡ may_follow self.now (tags_of earlier.now) tag }
@@ -196,7 +196,7 @@ impl Rule {
         }
     }
 
-    /// The place that is reached with an item behind others, if it may stand there.
+    /// The place that is reached with an item after others, if it may stand there.
     pub fn reach_item(&self, reached: usize, earlier: &[Item], item: &Item) -> Option<usize>
         requires { HasReached self.now earlier.now reached }
         ensures stands { is_some result

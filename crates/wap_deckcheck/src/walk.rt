@@ -28,7 +28,7 @@ pub struct Walk {
     names: Names,
 }
 
-/// Judges whether an item may stand behind others, and tells what is reached with it.
+/// Judges whether an item may stand after others, and tells what is reached with it.
 fn judge_place(
     alloc: Global,
     path: &Rows<usize>,
@@ -104,7 +104,7 @@ fn judge_item(
     }
 }
 
-/// Judges a child behind others, and tells what is reached with it.
+/// Judges a child after others, and tells what is reached with it.
 #[cycle(walk)]
 fn judge_child(
     alloc: Global,
@@ -192,7 +192,7 @@ fn judge_top_item(alloc: Global, walk: &mut Walk, item: &Item) -> Result<(), Dec
     }
 }
 
-/// Judges a child of the root behind others, and tells what is reached with it.
+/// Judges a child of the root after others, and tells what is reached with it.
 fn judge_top_child(
     alloc: Global,
     walk: &mut Walk,

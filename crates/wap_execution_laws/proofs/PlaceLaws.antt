@@ -1,4 +1,4 @@
--- A frame that calls goes on behind the instruction of the call, and not past the end of its code.
+-- A frame that calls goes on after the instruction of the call, and not past the end of its code.
 use Rattle.std.proofs.Common.{◌≡◌, ℕ, ◌+◌, ◌-◌, ◌<◌, ◌≤◌, Bool, true, false, leb, ltb, cond, List, [], ◌∷◌, length, reverse, take, drop, Option, Some, None, Result, Ok, Err, refl, arith}
 use Rattle.std.specs.Prelude.{⊤, slice_get, slice_index, option_map}
 use Rattle.std.proofs.lemmas.Bool.{ltb-false}

@@ -1,5 +1,5 @@
--- What runs by the definitions don't depend on, and what they leave: how many bytes or jumps may be left makes no difference
--- where there are enough, and turns only fall.
+-- What runs by the definitions don't depend on, and what they leave: how many bytes or jumps may be
+-- left makes no difference where there are enough, and turns only fall.
 use Rattle.std.proofs.Common.{◌≡◌, ℕ, zero, suc, ◌+◌, ◌-◌, ◌<◌, ◌≤◌, Bool, true, false, eqb, leb, cond, List, [], ◌∷◌, length, Option, Some, None, refl, sym, ap, ◌∙◌, inl, inr, arith}
 use Rattle.std.proofs.lemmas.Bool.{eq-eqb}
 use Rattle.std.proofs.lemmas.Bool.Decides.{eqb_tells}

@@ -1,5 +1,5 @@
-//! Laws of runs of compiled units, each the contract of a function that does nothing. What runs come
-//! to stands in `wap_execution`.
+//! Laws of runs of compiled units, each the contract of a function that does nothing. What runs
+//! come to stands in `wap_execution`.
 #![tactic(auto)]
 
 ghost use Rattle.wap_base.specs.declared.limits.Limits.{Limits as TheLimits};

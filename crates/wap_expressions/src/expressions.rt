@@ -203,7 +203,8 @@ fn read_assignment<'a>(
     }
 }
 
-/// A unary operator and its operand, `++` or `--` and a variable, or what has no operator in front.
+/// A unary operator and its operand, `++` or `--` and a variable, or what has no operator before
+/// it.
 #[cycle(expressions)]
 #[tactic(auto, unfolding(wap_grammar::specs::inside::Expressions::unary_at))]
 fn read_unary<'a>(

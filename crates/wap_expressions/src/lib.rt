@@ -5,7 +5,7 @@
 //!
 //! A string whose bytes stand for no text, since they are not UTF-8 or escape a surrogate, is
 //! answered as `NoMemory`. `wap_lex` refuses sources with such strings, but that its tokens have
-//! none isn't proved: no contract here says that `NoMemory` comes of want of memory alone.
+//! none isn't proved: no contract here says that `NoMemory` comes only where memory ran out.
 #![tactic(auto)]
 
 mod callees;

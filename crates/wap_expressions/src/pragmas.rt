@@ -15,8 +15,8 @@ use wap_base::Rows;
 use wap_grammar::{Lexeme, ParseFault, Sign};
 use wap_program::{Span, Use};
 
-/// The pragmas in front, and the tokens after them. A string whose bytes stand for no text is
-/// answered as `NoMemory`.
+/// The pragmas that tokens begin with, and the tokens after them. A string whose bytes stand for no
+/// text is answered as `NoMemory`.
 pub fn read_uses<'a>(
     alloc: Global,
     src: &[u8],

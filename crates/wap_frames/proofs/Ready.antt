@@ -1,4 +1,5 @@
--- Where a frame stands, the effect of its instruction has all that it needs: no run of a unit that may be run is stuck.
+-- Where a frame stands, the effect of its instruction has all that it needs: no run of a unit that
+-- may be run is stuck.
 use Rattle.std.proofs.Common.{◌≡◌, ◌≢◌, ℕ, zero, suc, ◌+◌, ◌-◌, ◌^◌, ◌<◌, ◌≤◌, Bool, true, false, ltb, cond, ◌&&◌, List, [], ◌∷◌, length, take, drop, Option, Some, None, Result, Ok, Err, refl, sym, ap, subst, ◌∙◌, inl, inr, arith, length-drop}
 use Rattle.std.specs.Prelude.{slice_get, slice_index, slice_set, reverse, is_some, unwrap_or, option_map, option_and_then}
 use Rattle.std.specs.List.{AllByRecursion}
@@ -184,7 +185,7 @@ module _ (string : ℕ) (function : Function) (place : ℕ) (variables : List Va
     | inr past ↦ let few = past.0 in absurd (omega arith)
   ]
 
-  -- it goes on behind the instruction, with so many values
+  -- it goes on after the instruction, with so many values
   next : (before : List Value) (changed operands : List Value) (values : ℕ) → length changed ≡ length variables → instr.next ≤ length code.code → Reaches function.unit function.index code instr.next values → values ≡ length operands + 0
       → Fits (here before) (onward instr.next changed operands)
   next before changed operands values same within reach is = goes before instr.next changed operands 0 values further same within reach is
@@ -578,7 +579,7 @@ no_instr frame row fault stands within row_is short =
     row_same : (x y : Row) → Some x ≡ Some y → x ≡ y
     row_same x y e = cc
 
--- ---- the jump behind a short-circuit
+-- ---- the jump after a short-circuit
 
 jumps_by : (decides truth : Bool) (jump : Instr) (variables operands : List Value)
     → decided (Some truth) decides (jump.next + jump.a) jump.next variables operands ≡ jumping jump variables operands (given_by decides (Some truth))

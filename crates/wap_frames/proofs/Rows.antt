@@ -1,4 +1,5 @@
--- What the rows of the table say of the actions of their operations: what they take and give, and where it goes on.
+-- What the rows of the table say of the actions of their operations: what they take and give, and
+-- where it goes on.
 use Rattle.std.proofs.Common.{◌≡◌, ℕ, Bool, true, false, inl, inr, List, [], ◌∷◌, Some, refl, sym, subst}
 use Rattle.std.specs.List.{list_all, AllByRecursion}
 use Rattle.wap_code.specs.declared.row.Slot.{Slot}

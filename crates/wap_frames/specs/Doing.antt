@@ -16,7 +16,8 @@ AreFew (Local index) count = ⊤
 AreFew (Library number index) count = ⊤
 AreFew (External url name) count = count < 256
 
--- what is to be done is in order: its arguments can be counted, and no turn is wanting
+-- what is to be done is in order: its arguments can be counted, and it isn't an end because turns
+-- ran out
 abbrev pub IsInOrder : Next → Type 0
 IsInOrder Onward = ⊤
 IsInOrder Back = ⊤

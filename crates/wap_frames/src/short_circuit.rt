@@ -1,4 +1,4 @@
-//! A short-circuit, which is one instruction with the jump behind it.
+//! A short-circuit, which is one instruction with the jump after it.
 ghost use Rattle.std.specs.Prelude.{◌≡◌, ◌+◌, ◌<◌, ◌^◌, length, slice_index, IfOk};
 ghost use Rattle.wap_code.specs.Instructions.{row_of};
 ghost use Rattle.wap_execution.specs.Frames.{code_of};
@@ -13,7 +13,7 @@ use wap_asm::{read_row, row_of};
 use wap_code::Instr;
 use wap_value::{Value, to_bool};
 
-/// The jump behind a short-circuit of this kind.
+/// The jump after a short-circuit of this kind.
 fn jump_behind(frame: &Frame, decides: bool, next: usize) -> Instr
     requires small { length (code_of frame.now.function) < 2 ^ 32 }
     requires fits { Fits frame.now (pair_behind decides next frame.now) }

@@ -52,7 +52,7 @@ pub by_bytes : (text : List ℕ) (found : Option (List ℕ)) → is_text text fo
 by_bytes text None = refl
 by_bytes text (Some other) = alike other text (encode_utf8_all other) (encode_utf8_all text) (ap encode_utf8_all) (bytes_tell other text)
 
--- ---- a literal in front
+-- ---- a literal at the beginning
 
 same_behind : (front a b : List ℕ) → is_same_text (front ++ a) (front ++ b) ≡ is_same_text a b
 same_behind front a b = alike (front ++ a) (front ++ b) a b (append_cancel_left front a b) (ap (λ (l : List ℕ). front ++ l))

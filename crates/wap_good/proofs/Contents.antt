@@ -11,7 +11,7 @@ use Rattle.wap_markup.specs.Trees.{ItemLevel, words_of, words_from}
 use Rattle.wap_markup.specs.Decks.{before, joined, Mark, part, text_before, part_before, items_of}
 use Rattle.wap_markup.specs.Normal.{marks_in, marks_of}
 
--- ---- a part in front of items joins the text that they begin with
+-- ---- a part before items joins the text that they begin with
 
 abbrev words_by : Option (List Part) → List Part
 words_by None = []

@@ -1,4 +1,4 @@
--- What the reading of a node, of a list and of a text says of its front.
+-- What the reading of a node, of a list and of a text says of what it begins with.
 use Rattle.std.proofs.Common.{◌≡◌, ℕ, zero, suc, ◌-◌, Bool, true, false, List, [], Option, Some, None, refl, sym, ap, subst, ◌∙◌, arith}
 use Rattle.std.specs.Prelude.{if◌then◌else◌, ◌%◌}
 use Rattle.wap_base.specs.declared.name.Part.{Part}
@@ -60,7 +60,7 @@ opened table (suc levels) bytes found rest e =
     let same : levels ≡ suc levels - 1 = omega arith in
     opened_by table (suc levels) bytes found rest (ap (λ (n : ℕ). node_by table (item_at table n) bytes) (sym same) ∙ e)
 
--- the front that is seen
+-- front_node is the node that is read
 pub seen : (table : List ℕ) (levels : ℕ) (bytes : List ℕ) (found : Node) (rest : List ℕ) → node_at table levels bytes ≡ Some (found, rest) → front_node table levels bytes ≡ found
 unfolding front_node
 seen table levels bytes found rest e = ap node_or e

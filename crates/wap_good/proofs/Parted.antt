@@ -134,7 +134,7 @@ first_bit bytes part rest e = record { together = value_next bytes part rest e; 
 pub first_text : (text bytes : List ℕ) → text ≢ [] → IsFirstBit (value_at text bytes) (Lit text) (value_at [] bytes)
 first_text text bytes some = record { together = value_begun text bytes some; part = some }
 
--- ---- a text in front
+-- ---- a text before what bytes say
 
 pub begun_none : (text bytes : List ℕ) → (length text == 0) ≡ true → value_at (chars text) bytes ≡ value_at [] bytes
 begun_none text bytes empty =

@@ -62,7 +62,7 @@ node_at table (suc levels) bytes = node_by table (item_by (node_at table levels)
 abbrev pub item_at : List ℕ → ℕ → Reader Item
 item_at table levels = item_by (node_at table levels)
 
--- ---- the node in front
+-- ---- the node that bytes begin with
 
 abbrev pub node_or : Option (Node × List ℕ) → Node
 node_or (Some read) = read.0
@@ -71,13 +71,13 @@ node_or None = node tags.Other [] []
 unfoldable pub front_node : List ℕ → ℕ → List ℕ → Node
 front_node table levels bytes = node_or (node_at table levels bytes)
 
--- a node stands in front
+-- bytes begin with a node
 pub record IsRead (table : List ℕ) (levels : ℕ) (bytes : List ℕ) : Type 0 where
   pub node : Node
   pub rest : List ℕ
   pub read : node_at table levels bytes ≡ Some (node, rest)
 
--- ---- where the attributes of a node in front begin, and where its content does; nothing where
+-- ---- bytes that begin with a node, from its attributes on and from its content on; nothing where
 -- there are none
 
 unfoldable pub attrs_begin : List ℕ → Option (List ℕ)
@@ -89,7 +89,8 @@ kids_begin table bytes =
     rest_of (closed_if (has_attributes x.0) (attr_at table) x.1) >>= λ rest.
     Some (if has_content x.0 then rest else [])
 
--- the content of the node in front begins with these, if a node is there
+-- if bytes begin with a node, these are its content and what follows it; nothing where it has no
+-- content
 abbrev pub IsContent : List ℕ → List ℕ → Type 0
 IsContent bytes content = (table begin : List ℕ) → kids_begin table bytes ≡ Some begin → content ≡ begin
 

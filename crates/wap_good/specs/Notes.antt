@@ -18,7 +18,7 @@ pub record IsNote (bytes : List ℕ) (note : Note) : Type 0 where
 abbrev pub AreNotes : List ℕ → List Note → Type 0
 AreNotes bytes notes = AllByRecursion (IsNote bytes) notes
 
--- a node of so many levels is read in front, and notes are true of the bytes
+-- bytes begin with a node of at most so many levels, and notes are true of them
 pub record IsLent (table : List ℕ) (levels : ℕ) (bytes : List ℕ) (notes : List Note) : Type 0 where
   pub few : levels ≤ LEVEL_LIMIT
   pub read : IsRead table levels bytes

@@ -1,4 +1,4 @@
-//! What stands in front of bytes.
+//! What bytes begin with.
 ghost use Rattle.std.specs.Prelude.{◌≡◌, ◌≤◌, length, drop};
 ghost use Rattle.wap_markup.specs.Strings.{string_from};
 ghost use Rattle.wap_good.specs.Readers.{Reads, first_at, after, number_at, zero_place, ended_at, behind_zero, is_end};

@@ -22,7 +22,8 @@ pub fn has_content(tag: u8) -> bool
     tag % 128 >= 64
 }
 
-/// The attributes of the node in front.
+/// The attributes of the node that bytes begin with, and what follows them; nothing where it has
+/// none.
 #[tactic(auto, unfolding(crate::specs::Nodes::attrs_begin))]
 pub fn attrs_begin(bytes: &[u8]) -> Option<&[u8]>
     ensures { Reads (λ rest. rest.now) result (attrs_begin bytes.now) }
@@ -35,7 +36,7 @@ pub fn attrs_begin(bytes: &[u8]) -> Option<&[u8]>
     }
 }
 
-/// The content of the node in front, and what follows it.
+/// The content of the node that bytes begin with, and what follows it; nothing where it has none.
 pub fn kids_begin(bytes: &[u8]) -> &[u8]
     ensures exact { IsContent bytes.now result.now }
     ensures behind { IsBehind result.now bytes.now }

@@ -23,7 +23,8 @@ pub struct Note {
 /// A node of fewer bytes is skipped byte by byte.
 const NOTED: usize = 16;
 
-/// The note of the node in front, unless it is short or has no content.
+/// The note of the node that bytes begin with; none where they begin with no tag, the node is short
+/// or has no content, or 32 bits can't count the bytes.
 fn note_of(bytes: &[u8]) -> Option<Note>
     ensures noted { IfSome result (IsNote bytes.now) }
     ensures begin { IfSome result (λ note. note.begin ≤ length bytes.now) }
@@ -46,7 +47,8 @@ fn note_of(bytes: &[u8]) -> Option<Note>
     })
 }
 
-/// Where the next node, text or end may begin after the one in front.
+/// Where the next node, text or end may begin: after the first tag and its attributes, or after the
+/// first bit of a text.
 fn after_place(bytes: &[u8]) -> &[u8]
     ensures { IsBehind result.now (drop 1 bytes.now) }
 {

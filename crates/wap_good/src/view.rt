@@ -43,7 +43,7 @@ impl<'a> Model for View<'a> {
 }
 
 impl<'a> View<'a> {
-    /// The view of the node in front of bytes, of which the notes are true.
+    /// The view of the node that bytes begin with; the notes are true of the bytes.
     pub(crate) fn of(table: &'a [u8], levels: u32, bytes: &'a [u8], notes: &'a [Note]) -> View<'a>
         requires { IsLent table.now levels bytes.now notes.now }
         ensures { result ≡ front_node table.now levels bytes.now }

@@ -145,7 +145,7 @@ module _ (src : List ℕ) (Inner : Expressions) (inner : Reader) (deep : AllRead
       (close.takes c.0.1 update.0.0 update.0.1 update.1)
       (reads.takes update.0.1 body.0 b body.1)))
 
-  -- behind the sign that a statement begins with
+  -- a statement that begins with this sign
   simple_begun : (k : Start) (s : Sign) (a : List Lexeme) (x : Stmt) (b : List Lexeme) →
       start_of (word_of a) ≡ k → sign_for k ≡ Some s
       → Here (sign s (span_of a) ∷ after a) x b → Here a x b

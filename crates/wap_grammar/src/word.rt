@@ -4,7 +4,7 @@ use wap_value::{BinOp, UnOp};
 /// What a token is to the grammar.
 #[derive(Clone, Copy, Debug, PartialEq, Eq)]
 pub enum Word {
-    /// Behind the last token.
+    /// After the last token.
     End,
     Name,
     Int,

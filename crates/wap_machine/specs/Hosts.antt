@@ -30,7 +30,8 @@ pub record CanBeCalled (unit : Unit) (index count depth : ℕ) : Type 0 where
   pub as_many : code.args ≡ count
   pub few : depth < MOST_DEPTH
 
--- no turn is wanting where a host says that there is nothing to call
+-- what a host finds can be called; where it says that there is nothing to call, it isn't because
+-- turns ran out
 abbrev pub IsCallable : ℕ → ℕ → Found Unit → Type 0
 IsCallable count depth (Callee unit base index) = CanBeCalled unit index count depth
 IsCallable count depth (Not why) = why ≢ Budget

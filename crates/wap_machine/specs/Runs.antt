@@ -34,7 +34,7 @@ KeepsLimits limits (Exited v) = ⊤
 KeepsLimits limits (Fatal why) = ⊤
 KeepsLimits limits (Asks dialog waiting) = waiting.limits ≡ limits
 
--- it ends for want of a turn only where none is left
+-- it ends because turns ran out only where none is left
 abbrev pub WantsNoTurn : ℕ → Outcome → Type 0
 WantsNoTurn turns (Done v) = ⊤
 WantsNoTurn turns (Exited v) = ⊤

@@ -158,8 +158,8 @@ fn want_for(alloc: Global, limits: Limits, frame: Frame, outer: Vec<Frame>, next
 }
 
 impl Machine {
-    /// Does instructions up to one that asks for more than to go on further on, or ends the innermost
-    /// function.
+    /// Does instructions up to one that asks for more than to go on further on, or ends the
+    /// innermost function.
     pub(crate) fn advance(self) -> Result<Wanted, NoMemory>
         ensures { IfOk result (IsAdvanced self.limits self.frames) }
     {

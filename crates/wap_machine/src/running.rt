@@ -20,7 +20,7 @@ impl Machine {
         ensures told { IfOk result (λ outcome. IfSome (H.state host.old pages.old) (λ before.
             IsEnd (run_of self H.meaning (H.turns host.old) before)
             outcome (H.turns host.new) (H.state host.new pages.new))) }
-        // It ends for want of a turn only where none is left.
+        // It ends because turns ran out only where none is left.
         ensures budget { IfOk result (WantsNoTurn (H.turns host.new)) }
         ensures limits { IfOk result (KeepsLimits self.limits) }
         ensures turns { H.turns host.new ≤ H.turns host.old }

@@ -54,7 +54,7 @@ module _ (statement : Statements) (rest : List Lexeme) (held : Bool)
   unfolding next_statement
   no_statement so = rw (sym is ∙ so) refl
 
--- a loop that is left at a fault, unless memory is wanting
+-- a loop that is left at a fault, unless memory ran out
 pub at_exit : {X Y : Type 0} (view : X → Y) (result : Result X ParseFault) (fault : ParseFault)
     (whole : Result Y ParseFault) → result ≡ Err fault →
     (fault ≢ faults.NoMemory → whole ≡ Err fault) → Meets faults.NoMemory view result whole

@@ -11,10 +11,10 @@ pub enum Expr {
     Var(Id),
     /// `=`, or an operator and `=`.
     Assign(Id, Option<BinOp>, Boxed<Expr>),
-    /// `++` where `up` holds, else `--`, before the variable where `prefix` holds, else behind it.
+    /// `++` where `up` holds, else `--`, before the variable where `prefix` holds, else after it.
     Step { id: Id, up: bool, prefix: bool },
     Unary(UnOp, Boxed<Expr>),
-    /// Operators of one precedence, each with the operand behind it, taken from the left.
+    /// Operators of one precedence, each with the operand after it, taken from the left.
     Chain(Boxed<Expr>, Rows<(BinOp, Expr)>),
     /// The condition, and a branch for each answer.
     Cond(Boxed<Expr>, Boxed<Expr>, Boxed<Expr>),

@@ -69,7 +69,7 @@ pub fn add_fault_lines(
     Ok(())
 }
 
-/// Appends a text behind a space to a line, if there is some.
+/// Appends a space and a text to a line, unless the text is empty.
 fn add_marked(line: &mut Text, text: &Text) -> Result<(), NoMemory>
     ensures { OnOk result (line.new ≡ marked line.old text.now) }
 {

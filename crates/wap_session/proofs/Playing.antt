@@ -211,7 +211,7 @@ plays_failing done rest one before mid after old now new lines fault so next =
       stays = Stays-then before mid after so.stays next.stays;
     }
 
--- a key was played, and then memory was wanting
+-- a key was played, and then memory ran out
 pub plays_wanting : (keys done : List Key) (one : Key) (before mid after : Seen)
     (old now new last : State) (lines more : List (List ℕ))
     → Played done before mid old now (Ok lines) → Fed one mid after now new (Ok more)
@@ -232,7 +232,7 @@ plays_wanting keys done one before mid after old now new last lines more so next
 
 -- ---- keys of a list, by their numbers
 
--- those before one, it, and those behind it
+-- those before one, it, and those after it
 pub around : (keys : List Key) (i : ℕ) (one : Key) → i < length keys → one ≡ get_or keys i one
     → take i keys ++ one ∷ drop (i + 1) keys ≡ keys
 around keys i one within is =

@@ -97,7 +97,7 @@ module _ (change : List (List ℕ) → List (List ℕ)) (one other : Pages → W
     stays = so.stays;
   }
 
--- ---- want of memory
+-- ---- memory ran out
 
 pub Acts-wants : (rule : Pages → World → Step) (before after : Seen) (old new : Browser)
     (result : Result (List (List ℕ)) RunErr)

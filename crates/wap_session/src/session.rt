@@ -99,7 +99,7 @@ impl Session {
         }
     }
 
-    /// Appends lines; where memory is wanting, the session is over.
+    /// Appends lines; where memory runs out, the session is over.
     fn keep_lines(&mut self, lines: &mut Rows<Text>, more: Rows<Text>) -> Result<(), SessionFault>
         ensures kept { OnOk result (lines.new ≡ lines.old ++ more) }
         ensures same { OnOk result (self.new ≡ self.old) }

@@ -5,7 +5,8 @@ use Rattle.wap_markup.specs.declared.deck.Item.{Item}
 use Rattle.wap_markup.specs.declared.name.Tag.{Tag}
 use Rattle.wap_markup.specs.Good.{Rule, is_among, place_in, is_not_behind, tags_of}
 
--- none of these items stands behind a place if and only if the place isn't before the one that is reached
+-- none of these elements has a place after this one if and only if this one isn't before the one
+-- that is reached
 abbrev pub HasReached : Rule → List Item → ℕ → Type 0
 HasReached rule items reached = (place : ℕ) →
     list_all (λ first. is_not_behind (place_in rule.groups first) (Some place)) (tags_of items) ≡ nat_le reached place

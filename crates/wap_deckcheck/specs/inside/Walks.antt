@@ -15,11 +15,12 @@ use Rattle.wap_deckcheck.specs.Faults.{is_misplaced, is_taken, fault_if, own_fau
 abbrev pub judged : List Place → List DeckFault
 judged places = flat_map faults_at places
 
--- the places in a node at a path, behind some ids or names
+-- the places in a node at a path, after some ids or names
 abbrev pub Inner : Type 0
 Inner = List (List ℕ) → List ℕ → Node → List Place
 
--- the faults of a node at a path, and of what is in it, by what it is told apart and by the places in it
+-- the faults of a node at a path, and of what is in it, by what it is told apart and by the places
+-- in it
 abbrev pub inner_faults : (Node → Option (List ℕ)) → Inner → List (List ℕ) → List ℕ → Option Node → List DeckFault
 inner_faults own inner others path None = []
 inner_faults own inner others path (Some node) =

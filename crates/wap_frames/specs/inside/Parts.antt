@@ -88,18 +88,18 @@ jumping jump variables operands None = onward jump.next variables operands
 jumping jump variables operands (Some value) =
     onward (jump.next + jump.a) variables (value ∷ operands)
 
--- what stands behind it
+-- what it does by the row of what stands after it
 abbrev pub pair_behind : Bool → ℕ → Frame → Effect
 pair_behind decides next frame =
     pair_by frame decides (code_of frame.function) next
     (row_of (slice_index (code_of frame.function) next))
 
--- what it does by the jump behind it
+-- what it does by the jump after it
 abbrev pub pair_done : Bool → Instr → Frame → Effect
 pair_done decides jump frame = with_top frame.operands (λ value operands.
     jumping jump frame.variables operands (given decides value))
 
--- the jump behind it
+-- the jump after it
 pub record IsJump (frame : Frame) (decides : Bool) (next : ℕ) (jump : Instr) : Type 0 where
   pub effect : pair_behind decides next frame ≡ pair_done decides jump frame
   pub within : jump.next ≤ length (code_of frame.function)

@@ -12,8 +12,8 @@ pub record GoesOn (string : ℕ) (frame after : Frame) : Type 0 where
   pub within : frame.place < length (code_of frame.function)
   pub acts : Acts string frame after Onward
 
--- one such instruction after the other, from the last of these frames to another, the latest in
--- front
+-- one such instruction after the other, from the first frame, which is the last of these, to
+-- another; the latest of these comes first
 abbrev pub HasPassed : ℕ → Frame → List Frame → Frame → Type 0
 HasPassed string first [] now = now ≡ first
 HasPassed string first (frame ∷ others) now =

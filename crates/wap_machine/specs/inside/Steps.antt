@@ -110,7 +110,7 @@ pub record IsInOrderFor (limits : Limits) (step : Step) : Type 0 where
   pub turns_are : IsWithoutBudget step
   pub light : IsLight step
 
--- no turn is wanting where turns are left
+-- no step ends because turns ran out where turns are left
 abbrev pub Wants : ℕ → Step → Type 0
 Wants turns (Goes machine) = ⊤
 Wants turns (Ends outcome) = WantsNoTurn turns outcome
