@@ -117,7 +117,7 @@ fn fault_of(call: &mut Call) -> Option<KeyFault> {
     key(call).err()
 }
 
-/// Gives what is told of a line that is no key line.
+/// Gives the text that says why a line is no key line.
 fn give_told(call: &mut Call) -> Result<(), CaseFault> {
     match fault_of(call) {
         Some(fault) => {

@@ -86,7 +86,7 @@ fn fault_of(call: &mut Call) -> Option<UrlFault> {
     read(call).err()
 }
 
-/// Gives what is told of a text that is no URL.
+/// Gives the text that says why a text is no URL.
 fn give_told(call: &mut Call) -> Result<(), CaseFault> {
     match fault_of(call) {
         Some(fault) => {

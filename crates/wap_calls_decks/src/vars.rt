@@ -188,7 +188,7 @@ fn named_fault(call: &mut Call) -> Option<VarFault> {
     }
 }
 
-/// Gives what is told of a variable that isn't set.
+/// Gives the text that says why a variable isn't set.
 fn give_told(call: &mut Call) -> Result<(), CaseFault> {
     let fault = named_fault(call).ok_or(CaseFault::Argument)?;
     let told = format!(in call.alloc(); "{fault}")?;

@@ -39,7 +39,7 @@ fn give_names(call: &mut Call, program: Program) -> Result<(), CaseFault> {
     }
 }
 
-/// Makes the call of this name, if it is `names SOURCE`. Whether it is.
+/// Makes the call of this name, if it is `names SOURCE`, and answers whether it is.
 pub fn make(name: &[u8], call: &mut Call) -> Result<bool, CaseFault> {
     if name != b"names".as_slice() {
         return Ok(false);

@@ -147,7 +147,7 @@ fn parses(call: &mut Call) -> Result<(), CaseFault> {
 }
 
 /// Makes the call of this name, if there is one: `tree SOURCE`, `places SOURCE` or
-/// `parses SOURCE`. Whether there is.
+/// `parses SOURCE`. The answer is whether there is.
 pub fn make(name: &[u8], call: &mut Call) -> Result<bool, CaseFault> {
     if name == b"tree".as_slice() {
         show(call, false)?;

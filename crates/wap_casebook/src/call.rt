@@ -45,7 +45,7 @@ impl Call {
         self.alloc
     }
 
-    /// Leaves what an earlier call took and gave.
+    /// Forgets what an earlier call took and gave.
     fn clear(&mut self) {
         self.arguments = VecDeque::new(self.alloc);
         self.wanted = VecDeque::new(self.alloc);
@@ -113,7 +113,7 @@ fn add_values<'a>(
     Ok(rest)
 }
 
-/// Taking arguments.
+/// How a call takes arguments.
 impl Call {
     /// Whether an argument is left.
     pub fn has_more(&self) -> bool {
@@ -228,7 +228,7 @@ pub fn meaning_of<T: Copy>(meanings: &[(&str, T)], word: &[u8]) -> Option<T> {
     None
 }
 
-/// Giving results.
+/// How a call gives results.
 impl Call {
     /// Gives a word.
     pub fn give_word(&mut self, word: &str) {

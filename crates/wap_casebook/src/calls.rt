@@ -1,4 +1,4 @@
-//! Playing files of calls.
+//! How files of calls are played.
 use crate::{Call, CaseFault, split_word};
 use std::alloc::{AllocError, Global};
 use std::process::ExitCode;
@@ -121,7 +121,7 @@ fn play_files<R: Files + Env + AllocGlobal, C: Calls>(
 
 /// Plays the files that the words of the program name, tells of each call that gives something else
 /// than its line says, and counts. The status is 1 where there is such a call, and 2 where a file
-/// can't be played or nothing be told.
+/// can't be played or what is to be told can't be printed.
 pub fn play_calls<R: Files + Env + Print + AllocGlobal, C: Calls>(rt: &R, calls: &C) -> ExitCode {
     let mut told = String::new(rt.alloc());
     let played = play_files(rt, calls, &mut told);

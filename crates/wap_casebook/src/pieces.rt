@@ -1,4 +1,4 @@
-//! Bytes that have a name, for lines that want them often.
+//! Bytes that have a name, for lines that need them often.
 use crate::spelling::spelled;
 use crate::{CaseFault, split_word};
 use std::alloc::Global;

@@ -1,4 +1,4 @@
-//! Values as what is told shows them.
+//! How values are shown in what is printed.
 use std::alloc::AllocError;
 
 /// Appends a text in quotes.

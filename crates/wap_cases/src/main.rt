@@ -18,7 +18,7 @@ use std::process::ExitCode;
 use std::thread::Threads;
 use wap_casebook::Tally;
 
-/// Plays the cases of standard input, tells those that differ, and counts them.
+/// Plays the cases of standard input, tells of those that differ, and counts them.
 fn play<R: Input + Print + AllocGlobal + Threads + Sync>(rt: &R) -> io::Result<bool> {
     let mut lines = Vec::new(rt.alloc());
     rt.reader().read_to_end(&mut lines)?;

@@ -1,4 +1,4 @@
-//! Playing cases one after the other.
+//! How cases are played, one after the other.
 use crate::case::Case;
 use crate::lines::read;
 use crate::outcome::run_case;

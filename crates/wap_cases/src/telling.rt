@@ -5,7 +5,7 @@ use crate::wanted::Wanted;
 use std::alloc::{AllocError, Global};
 use wap_casebook::{CaseFault, add_quoted};
 
-/// The most bytes that are told of what differs.
+/// The most bytes that are shown of what differs.
 const MOST: usize = 400;
 
 /// Where the line begins in which two texts differ first.
@@ -22,7 +22,7 @@ fn fork(wanted: &[u8], came: &[u8]) -> usize {
     begin
 }
 
-/// Appends bytes from a place on in quotes, as many as are told.
+/// Appends bytes from a place on in quotes, as many as are shown.
 fn add_bytes(out: &mut String, alloc: Global, bytes: &[u8], from: usize) -> Result<(), AllocError> {
     let rest = bytes.get(from..).unwrap_or(b"");
     let front = rest.get(..MOST).unwrap_or(rest);

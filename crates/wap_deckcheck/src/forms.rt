@@ -21,7 +21,7 @@ pub enum LentForm {
     Variable,
     /// The name of a variable, or nothing.
     OptionalVariable,
-    /// Free of references.
+    /// A text without references.
     Plain,
 }
 

@@ -47,7 +47,8 @@ impl Names {
         self.first.is_none() && self.others.is_empty()
     }
 
-    /// Adds a text, if there is one. Whether it is taken already, in which case none is added.
+    /// Adds a text, if there is one. The answer is whether it is taken already, in which case none
+    /// is added.
     pub fn take(&mut self, text: Option<Text>) -> Result<bool, NoMemory>
         ensures taken { IfOk result (λ taken. taken ≡ is_taken self.old text) }
         ensures added { IfOk result (λ taken.

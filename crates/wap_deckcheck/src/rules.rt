@@ -240,7 +240,7 @@ fn has_all(node: &Node, names: &[AttrName]) -> bool
     true
 }
 
-/// Whether nothing is missing in a node that its rule wants.
+/// Whether a node has all that its rule asks for.
 pub fn has_needs(rule: &Rule, node: &Node) -> bool
     ensures { result ≡ has_needs rule.now node.now }
 {

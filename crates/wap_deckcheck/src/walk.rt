@@ -77,8 +77,8 @@ fn take_name(alloc: Global, text: Option<Text>, walk: &mut Walk) -> Result<(), D
     Ok(())
 }
 
-/// Judges an item by what it is: nothing holds of a text, and of a node what it has and what is
-/// in it.
+/// Judges an item by what it is: a text has no faults, and a node is judged by what it has and by
+/// what is in it.
 #[cycle(walk)]
 fn judge_item(
     alloc: Global,

@@ -52,8 +52,8 @@ impl Model for GoodDeck {
     ghost invariant = { λ good. IsKept good.table good.root good.bytes good.cards good.notes };
 }
 
-/// Where the string table and the root begin in a document in WML 1.3 and UTF-8. Other bytes are
-/// answered as `NoMemory`.
+/// Where the string table and the root begin in a document in WML 1.3 and UTF-8. Bytes that have no
+/// such places are answered as `NoMemory`.
 fn places(bytes: &[u8]) -> Result<(usize, usize), NoMemory>
     ensures table { IfOk result (λ at. at.0 ≤ at.1) }
     ensures root { IfOk result (λ at. at.1 ≤ length bytes.now) }

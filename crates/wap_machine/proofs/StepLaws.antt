@@ -258,7 +258,7 @@ pub light_below : (turns left : ℕ) (frames : List Frame) (step : Step) → 0 <
 light_below turns left frames (Goes machine) some fewer is_light = let less : weight machine.frames < heavy = is_light in omega arith
 light_below turns left frames (Ends outcome) some fewer is_light = tt
 
--- a step that wants no turn wants none, whatever is left
+-- a step that doesn't end because turns ran out doesn't do so where turns are left
 pub never_wants : (turns : ℕ) (step : Step) → IsWithoutBudget step → Wants turns step
 never_wants turns (Goes machine) no_want = tt
 never_wants turns (Ends (Done v)) no_want = tt

@@ -28,7 +28,7 @@ scope_of p = record { units = units p.uses; arity = arity_of p.functions }
 
 -- ---- in a function
 
--- of a name, where these variables are known
+-- the faults of a name, where these variables are known
 abbrev pub reference_faults : Scope → List (List ℕ) → Reference → List ScopeFault
 reference_faults scope known (Variable v) =
     fault_if (not (is_among v.name known)) (fault.NoVariable v.span)
@@ -49,7 +49,7 @@ mention_faults scope known (Declares v) =
 mention_faults scope known (Refers r) = reference_faults scope known r
 mention_faults scope known (Jumps word inside) = fault_if (not inside) (fault.LoneBreak word)
 
--- of items one by one, each by what stands before it
+-- the faults of items one by one, each by what stands before it
 abbrev pub one_by_one : {X : Type 0} → (List X → X → List ScopeFault) → List X → List X →
     List ScopeFault
 one_by_one rule before [] = []
@@ -59,14 +59,14 @@ one_by_one rule before (here ∷ after) =
 abbrev pub mention_rule : Scope → List Mention → Mention → List ScopeFault
 mention_rule scope before here = mention_faults scope (names_declared before) here
 
--- of a function after these: of its name, and of what it says
+-- the faults of a function after these: of its name, and of what it says
 abbrev pub function_rule : Scope → List Function → Function → List ScopeFault
 function_rule scope before f =
     fault_if (is_some (function_named f.name.name before)) (fault.TwoFunctions f.name.span) ++
     (fault_if (nat_le FUNCTION_LIMIT (length before)) (fault.TooManyFunctions f.name.span) ++
     one_by_one (mention_rule scope) [] (said f))
 
--- of a pragma after these
+-- the faults of a pragma after these
 abbrev pub use_rule : List Use → Use → List ScopeFault
 use_rule before (Url u url) = fault_if (is_among u.name (units before)) (fault.TwoUnits u.span)
 use_rule before (Access domain path span) =

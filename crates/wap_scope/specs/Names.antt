@@ -25,7 +25,7 @@ pub data Reference : Type 0 where
   External : (unit f : Id) (count : ℕ) → Reference
   Library : (library f : Id) (count : ℕ) → Reference
 
--- of an expression, by those of its parts
+-- the references of an expression, by those of its parts
 abbrev pub references_by : Expr-F (List Reference) → List Reference
 references_by (Expr-F.Lit l) = []
 references_by (Expr-F.Var v) = Variable v ∷ []
@@ -65,7 +65,7 @@ abbrev pub says_if : Bool → Option (Bool → List Mention) → List Mention
 says_if inside None = []
 says_if inside (Some s) = s inside
 
--- of a statement that stands in a loop or not, by those of its parts
+-- the mentions of a statement that stands in a loop or not, by those of its parts
 abbrev pub mentions_by : Stmt-F (Bool → List Mention) → Bool → List Mention
 mentions_by Stmt-F.Empty inside = []
 mentions_by (Stmt-F.Expr e) inside = refers e

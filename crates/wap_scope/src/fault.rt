@@ -13,8 +13,8 @@ pub enum ScopeFault {
     NoFunction { span: Span },
     /// An earlier function has this name.
     TwoFunctions { span: Span },
-    /// The function is called with as many arguments as it doesn't take, or one of another unit
-    /// with more than `ARGUMENT_LIMIT`.
+    /// The function is called with a number of arguments that it doesn't take, or one of another
+    /// unit with more than `ARGUMENT_LIMIT`.
     Arguments { span: Span },
     /// No pragma names this unit.
     NoUnit { span: Span },

@@ -42,7 +42,8 @@ impl Names {
         self.names.contains(name)
     }
 
-    /// Adds a copy of a name. Whether it is known already, in which case none is added.
+    /// Adds a copy of a name. The answer is whether it is known already, in which case none is
+    /// added.
     pub fn take(&mut self, alloc: Global, name: &Text) -> Result<bool, NoMemory>
         ensures taken { IfOk result (λ taken. taken ≡ is_among name.now self.old) }
         ensures added { IfOk result (λ taken.

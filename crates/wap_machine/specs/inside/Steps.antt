@@ -103,8 +103,8 @@ IsWithoutBudget (Ends (Exited v)) = ⊤
 IsWithoutBudget (Ends (Fatal why)) = why ≢ Budget
 IsWithoutBudget (Ends (Asks dialog waiting)) = ⊤
 
--- the limits stay, it isn't the host that wants a turn, and where it goes on it is as light as all
--- machines
+-- the limits stay, the step doesn't end because turns ran out, and where it goes on it is as light
+-- as all machines
 pub record IsInOrderFor (limits : Limits) (step : Step) : Type 0 where
   pub limits_stay : LimitsStay limits step
   pub turns_are : IsWithoutBudget step

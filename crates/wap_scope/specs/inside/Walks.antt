@@ -36,21 +36,21 @@ abbrev pub mention_at : Scope → List (List ℕ) → Mention → Result (List (
 mention_at scope known here =
     unless (mention_faults scope known here) (Ok (more known (declared here)))
 
--- of mentions
+-- the same of mentions, one after the other
 abbrev pub walked : Scope → List (List ℕ) → List Mention → Result (List (List ℕ)) ScopeFault
 walked scope = each (mention_at scope)
 
--- of items that say this
+-- the same of items, by what each of them says
 abbrev pub walked_each : {X : Type 0} → Scope → (X → List Mention) → List (List ℕ) → List X →
     Result (List (List ℕ)) ScopeFault
 walked_each scope of = each (λ known item. walked scope known (of item))
 
--- of a condition, and what is done where it holds
+-- the same of a condition, and of what is done where it holds
 abbrev pub arm_at : Scope → Bool → List (List ℕ) → Expr × Stmt → Result (List (List ℕ)) ScopeFault
 arm_at scope inside known arm =
     walked scope known (refers arm.0) >>= λ known. walked scope known (mentions arm.1 inside)
 
--- of a parameter
+-- the same of a parameter
 abbrev pub parameter_at : Scope → List (List ℕ) → Id → Result (List (List ℕ)) ScopeFault
 parameter_at scope known v = mention_at scope known (Declares v)
 
