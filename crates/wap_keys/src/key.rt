@@ -164,7 +164,7 @@ fn space_at(bytes: &[u8]) -> Option<usize>
     None
 }
 
-/// The word of a line, and what follows it behind a space.
+/// The word of a line, and what follows it after a space.
 fn split_word(line: &[u8]) -> (&[u8], Option<&[u8]>)
     ensures is { line.now ≡ spaced result.0.now (option_map (λ rest. rest.now) result.1) }
     ensures word { HasNoSpace result.0.now }
