@@ -1,33 +1,29 @@
 -- No text has two shapes.
-use Rattle.std.proofs.Common.{◌≡◌, ℕ, ◌+◌, ◌<◌, Bool, true, false, cond, eqb, List, [], ◌∷◌, ◌++◌, length, refl, ap, ◌∙◌, arith, length-append}
+use Rattle.std.proofs.Common.{◌≡◌, ℕ, ◌+◌, ◌<◌, Bool, true, false, cond, eqb, List, [], ◌∷◌}
+use Rattle.std.proofs.Common.{◌++◌, length, refl, ap, ◌∙◌, arith, length-append}
 use Rattle.std.specs.Prelude.{◌||◌}
 use Rattle.std.specs.List.{list_all, list_any}
-use Rattle.std.proofs.lemmas.Bool.{and_parts, and_from, and_left, and_right, cond-true, cond-false, or_from, or_left, or_right}
+use Rattle.std.proofs.lemmas.Bool.{and_parts, and_from, and_left, and_right, cond-true}
+use Rattle.std.proofs.lemmas.Bool.{cond-false, or_from, or_left, or_right}
 use Rattle.std.proofs.lemmas.Bool.Decides.{nat_tests}
 use Rattle.wap_base.specs.Names.{begins_name, continues_name, is_name}
+use Rattle.wap_lex.specs.declared.first.First.{First}
+use Rattle.wap_lex.specs.declared.first.First.TheVariants.{White as white, Letter as letter}
+use Rattle.wap_lex.specs.declared.first.First.TheVariants.{Digit as digit, Point as point}
+use Rattle.wap_lex.specs.declared.first.First.TheVariants.{Quote as quoting, Slash as slash}
+use Rattle.wap_lex.specs.declared.first.First.TheVariants.{Other as other}
 use Rattle.wap_lex.specs.declared.shape.Shape.{Shape}
 use Rattle.wap_lex.specs.declared.shape.Shape.TheVariants as shape
 use Rattle.wap_lex.specs.Characters.{is_digit, is_octal_digit, is_white, is_quote}
-use Rattle.wap_lex.specs.Numbers.{AreDigits, IsInteger, decimal, octal, hexadecimal, IsFloat, pointed, scaled, both, is_x, is_e}
+use Rattle.wap_lex.specs.Numbers.{AreDigits, IsInteger, decimal, octal, hexadecimal}
+use Rattle.wap_lex.specs.Numbers.{IsFloat, pointed, scaled, both, is_x, is_e}
 use Rattle.wap_lex.specs.Strings.{IsString, quoted}
 use Rattle.wap_lex.specs.Comments.{IsComment, line, block, is_nothing}
 use Rattle.wap_lex.specs.Marks.{marks, is_mark}
 use Rattle.wap_lex.specs.Tokens.{IsShape}
+use Rattle.wap_lex.specs.ByFirst.{first_of}
 use Rattle.wap_lex.proofs.NumberReach.{exponent_first}
 use Rattle.wap_lex.proofs.CommentReach.{any_all}
-
--- what a first byte tells
-pub data First : Type 0 where
-  white : First
-  letter : First
-  digit : First
-  point : First
-  quoting : First
-  slash : First
-  other : First
-
-abbrev pub first_of : ℕ → First
-first_of c = cond (is_white c) white (cond (begins_name c) letter (cond (is_digit c) digit (cond (eqb c 46) point (cond (is_quote c) quoting (cond (eqb c 47) slash other)))))
 
 abbrev pub begins_x : List ℕ → Bool
 begins_x [] = false
@@ -70,10 +66,14 @@ mark_shape_is shape.Str e = absurd cc
 mark_shape_is shape.Mark e = refl
 
 abbrev from_letter : ℕ → First
-from_letter c = cond (begins_name c) letter (cond (is_digit c) digit (cond (eqb c 46) point (cond (is_quote c) quoting (cond (eqb c 47) slash other))))
+from_letter c =
+    cond (begins_name c) letter (cond (is_digit c) digit
+    (cond (eqb c 46) point (cond (is_quote c) quoting (cond (eqb c 47) slash other))))
 
 abbrev from_digit : ℕ → First
-from_digit c = cond (is_digit c) digit (cond (eqb c 46) point (cond (is_quote c) quoting (cond (eqb c 47) slash other)))
+from_digit c =
+    cond (is_digit c) digit
+    (cond (eqb c 46) point (cond (is_quote c) quoting (cond (eqb c 47) slash other)))
 
 abbrev from_quote : ℕ → First
 from_quote c = cond (is_quote c) quoting (cond (eqb c 47) slash other)
@@ -85,7 +85,9 @@ letter_no_white : (c : ℕ) → begins_name c ≡ true → is_white c ≡ false
 letter_no_white c e = grind (arith, nat_tests)
 
 letter_is : (c : ℕ) → begins_name c ≡ true → first_of c ≡ letter
-letter_is c e = cond-false (is_white c) white (from_letter c) (letter_no_white c e) ∙ cond-true (begins_name c) letter (from_digit c) e
+letter_is c e =
+    cond-false (is_white c) white (from_letter c) (letter_no_white c e)
+    ∙ cond-true (begins_name c) letter (from_digit c) e
 
 digit_no_white : (c : ℕ) → is_digit c ≡ true → is_white c ≡ false
 digit_no_white c e = grind (arith, nat_tests)
@@ -99,8 +101,14 @@ digit_is c e =
     ∙ cond-false (begins_name c) letter (from_digit c) (digit_no_letter c e)
     ∙ cond-true (is_digit c) digit (cond (eqb c 46) point (from_quote c)) e
 
-quote_others : (c : ℕ) → is_quote c ≡ true → (is_white c ≡ false) × (begins_name c ≡ false) × (is_digit c ≡ false) × (eqb c 46 ≡ false)
-quote_others c e = (grind (arith, nat_tests), grind (arith, nat_tests), grind (arith, nat_tests), grind (arith, nat_tests))
+quote_others : (c : ℕ) → is_quote c ≡ true
+    → (is_white c ≡ false) × (begins_name c ≡ false) × (is_digit c ≡ false) × (eqb c 46 ≡ false)
+quote_others c e = (
+  grind (arith, nat_tests),
+  grind (arith, nat_tests),
+  grind (arith, nat_tests),
+  grind (arith, nat_tests),
+)
 
 pub quote_is : (c : ℕ) → is_quote c ≡ true → first_of c ≡ quoting
 quote_is c e =
@@ -111,24 +119,30 @@ quote_is c e =
     ∙ cond-false (eqb c 46) point (from_quote c) others.3
     ∙ cond-true (is_quote c) quoting (cond (eqb c 47) slash other) e
 
-blank_apart : (text : List ℕ) → 0 < length text → list_all is_white text ≡ true → shape_of text ≡ shape.Blank
+blank_apart : (text : List ℕ) → 0 < length text → list_all is_white text ≡ true
+    → shape_of text ≡ shape.Blank
 blank_apart [] some all = refl
-blank_apart (c ∷ rest) some all = ap (λ (f : First). shape_at f rest) (white_is c (and_parts (is_white c) (list_all is_white rest) all).0)
+blank_apart (c ∷ rest) some all =
+    ap (λ (f : First). shape_at f rest)
+    (white_is c (and_parts (is_white c) (list_all is_white rest) all).0)
 
 part_no_equal : (c : ℕ) → continues_name c ≡ true → eqb c 61 ≡ false
 part_no_equal c e = grind (arith, nat_tests)
 
-no_equal : (text : List ℕ) → list_all continues_name text ≡ true → list_any (λ c. eqb c 61) text ≡ false
+no_equal : (text : List ℕ) → list_all continues_name text ≡ true
+    → list_any (λ c. eqb c 61) text ≡ false
 no_equal [] all = refl
 no_equal (c ∷ rest) all =
     let parts = and_parts (continues_name c) (list_all continues_name rest) all in
-    or_from (eqb c 61) (list_any (λ c. eqb c 61) rest) (part_no_equal c parts.0) (no_equal rest parts.1)
+    or_from (eqb c 61) (list_any (λ c. eqb c 61) rest) (part_no_equal c parts.0)
+    (no_equal rest parts.1)
 
 word_apart : (text : List ℕ) → is_name text ≡ true → shape_of text ≡ shape.Word
 word_apart [] fits = absurd cc
 word_apart (c ∷ rest) fits =
     let parts = and_parts (begins_name c) (list_all continues_name rest) fits in
-    ap (λ (f : First). shape_at f rest) (letter_is c parts.0) ∙ cond-false (list_any (λ c. eqb c 61) rest) shape.Mark shape.Word (no_equal rest parts.1)
+    ap (λ (f : First). shape_at f rest) (letter_is c parts.0)
+    ∙ cond-false (list_any (λ c. eqb c 61) rest) shape.Mark shape.Word (no_equal rest parts.1)
 
 octal_digit : (c : ℕ) → is_octal_digit c ≡ true → is_digit c ≡ true
 octal_digit c e = grind (arith, nat_tests)
@@ -137,36 +151,52 @@ octal_digits : (text : List ℕ) → list_all is_octal_digit text ≡ true → A
 octal_digits [] all = refl
 octal_digits (c ∷ rest) all =
     let parts = and_parts (is_octal_digit c) (list_all is_octal_digit rest) all in
-    and_from (is_digit c) (list_all is_digit rest) (octal_digit c parts.0) (octal_digits rest parts.1)
+    and_from (is_digit c) (list_all is_digit rest) (octal_digit c parts.0)
+    (octal_digits rest parts.1)
 
-number_apart : (c : ℕ) (rest : List ℕ) → is_digit c ≡ true → (begins_x rest || list_all is_digit rest) ≡ true → shape_of (c ∷ rest) ≡ shape.Integer
+number_apart : (c : ℕ) (rest : List ℕ) → is_digit c ≡ true
+    → (begins_x rest || list_all is_digit rest) ≡ true → shape_of (c ∷ rest) ≡ shape.Integer
 number_apart c rest first fits =
-    ap (λ (f : First). shape_at f rest) (digit_is c first) ∙ cond-true (begins_x rest || list_all is_digit rest) shape.Integer shape.Float fits
+    ap (λ (f : First). shape_at f rest) (digit_is c first)
+    ∙ cond-true (begins_x rest || list_all is_digit rest) shape.Integer shape.Float fits
 
 integer_apart : (text : List ℕ) → IsInteger text → shape_of text ≡ shape.Integer
-integer_apart text (decimal first digits is differs all) = number_apart first digits is (or_right (begins_x digits) (list_all is_digit digits) all)
-integer_apart text (octal digits all) = number_apart 48 digits refl (or_right (begins_x digits) (list_all is_digit digits) (octal_digits digits all))
-integer_apart text (hexadecimal x digits is some all) = number_apart 48 (x ∷ digits) refl (or_left (is_x x) (list_all is_digit (x ∷ digits)) is)
+integer_apart text (decimal first digits is differs all) =
+    number_apart first digits is (or_right (begins_x digits) (list_all is_digit digits) all)
+integer_apart text (octal digits all) =
+    number_apart 48 digits refl
+    (or_right (begins_x digits) (list_all is_digit digits) (octal_digits digits all))
+integer_apart text (hexadecimal x digits is some all) =
+    number_apart 48 (x ∷ digits) refl (or_left (is_x x) (list_all is_digit (x ∷ digits)) is)
 
 -- digits, and then something that neither is a digit nor makes a number hexadecimal
-not_all : (digits : List ℕ) (c : ℕ) (rest : List ℕ) → is_digit c ≡ false → list_all is_digit (digits ++ c ∷ rest) ≡ false
+not_all : (digits : List ℕ) (c : ℕ) (rest : List ℕ) → is_digit c ≡ false
+    → list_all is_digit (digits ++ c ∷ rest) ≡ false
 not_all [] c rest differs = and_left (is_digit c) (list_all is_digit rest) differs
-not_all (d ∷ digits) c rest differs = and_right (is_digit d) (list_all is_digit (digits ++ c ∷ rest)) (not_all digits c rest differs)
+not_all (d ∷ digits) c rest differs =
+    and_right (is_digit d) (list_all is_digit (digits ++ c ∷ rest)) (not_all digits c rest differs)
 
 digit_no_x : (c : ℕ) → is_digit c ≡ true → is_x c ≡ false
 digit_no_x c e = grind (arith, nat_tests)
 
-no_x : (digits : List ℕ) (c : ℕ) (rest : List ℕ) → AreDigits digits → is_x c ≡ false → begins_x (digits ++ c ∷ rest) ≡ false
+no_x : (digits : List ℕ) (c : ℕ) (rest : List ℕ) → AreDigits digits → is_x c ≡ false
+    → begins_x (digits ++ c ∷ rest) ≡ false
 no_x [] c rest all differs = differs
-no_x (d ∷ digits) c rest all differs = digit_no_x d (and_parts (is_digit d) (list_all is_digit digits) all).0
+no_x (d ∷ digits) c rest all differs =
+    digit_no_x d (and_parts (is_digit d) (list_all is_digit digits) all).0
 
-float_behind_digit : (d : ℕ) (digits : List ℕ) (c : ℕ) (rest : List ℕ) → is_digit d ≡ true → AreDigits digits → is_digit c ≡ false → is_x c ≡ false → shape_of (d ∷ (digits ++ c ∷ rest)) ≡ shape.Float
+float_behind_digit : (d : ℕ) (digits : List ℕ) (c : ℕ) (rest : List ℕ) → is_digit d ≡ true
+    → AreDigits digits → is_digit c ≡ false → is_x c ≡ false
+    → shape_of (d ∷ (digits ++ c ∷ rest)) ≡ shape.Float
 float_behind_digit d digits c rest first all differs plain =
     let behind = digits ++ c ∷ rest in
     ap (λ (f : First). shape_at f behind) (digit_is d first)
-    ∙ cond-false (begins_x behind || list_all is_digit behind) shape.Integer shape.Float (or_from (begins_x behind) (list_all is_digit behind) (no_x digits c rest all plain) (not_all digits c rest differs))
+    ∙ cond-false (begins_x behind || list_all is_digit behind) shape.Integer shape.Float
+    (or_from (begins_x behind) (list_all is_digit behind) (no_x digits c rest all plain)
+    (not_all digits c rest differs))
 
-float_at_point : (whole rest : List ℕ) → AreDigits whole → 0 < length whole + length rest → shape_of (whole ++ 46 ∷ rest) ≡ shape.Float
+float_at_point : (whole rest : List ℕ) → AreDigits whole → 0 < length whole + length rest
+    → shape_of (whole ++ 46 ∷ rest) ≡ shape.Float
 float_at_point [] [] all some = absurd (omega arith)
 float_at_point [] (c ∷ rest) all some = refl
 float_at_point (d ∷ whole) rest all some =
@@ -179,7 +209,8 @@ e_no_digit c e = grind (arith, nat_tests)
 e_no_x : (c : ℕ) → is_e c ≡ true → is_x c ≡ false
 e_no_x c e = grind (arith, nat_tests)
 
-float_at_e : (whole : List ℕ) (e : ℕ) (rest : List ℕ) → AreDigits whole → 0 < length whole → is_e e ≡ true → shape_of (whole ++ e ∷ rest) ≡ shape.Float
+float_at_e : (whole : List ℕ) (e : ℕ) (rest : List ℕ) → AreDigits whole → 0 < length whole
+    → is_e e ≡ true → shape_of (whole ++ e ∷ rest) ≡ shape.Float
 float_at_e [] e rest all some is = absurd (omega arith)
 float_at_e (d ∷ whole) e rest all some is =
     let parts = and_parts (is_digit d) (list_all is_digit whole) all in
@@ -189,12 +220,15 @@ float_apart : (text : List ℕ) → IsFloat text → shape_of text ≡ shape.Flo
 float_apart text (pointed whole fraction all parts some) = float_at_point whole fraction all some
 float_apart text (scaled whole exponent all some fits) =
     let first = exponent_first exponent fits in
-    ap (λ (l : List ℕ). shape_of (whole ++ l)) first.3 ∙ float_at_e whole first.0 first.1 all some first.2
+    ap (λ (l : List ℕ). shape_of (whole ++ l)) first.3
+    ∙ float_at_e whole first.0 first.1 all some first.2
 float_apart text (both whole fraction exponent all parts some fits) =
-    float_at_point whole (fraction ++ exponent) all (omega (arith, some, length-append fraction exponent))
+    float_at_point whole (fraction ++ exponent) all
+    (omega (arith, some, length-append fraction exponent))
 
 string_apart : (text : List ℕ) → IsString text → shape_of text ≡ shape.Str
-string_apart text (quoted quote items is all) = ap (λ (f : First). shape_at f (items ++ quote ∷ [])) (quote_is quote is)
+string_apart text (quoted quote items is all) =
+    ap (λ (f : First). shape_at f (items ++ quote ∷ [])) (quote_is quote is)
 
 comment_apart : (text : List ℕ) → IsComment text → shape_of text ≡ shape.Comment
 comment_apart text (line inside all) = refl
@@ -205,7 +239,9 @@ unfolding marks
 marks_apart = refl
 
 mark_apart : (text : List ℕ) → is_mark text ≡ true → shape_of text ≡ shape.Mark
-mark_apart text fits = mark_shape_is (shape_of text) (any_all (λ mark. is_mark_shape (shape_of mark)) text marks fits marks_apart)
+mark_apart text fits =
+    mark_shape_is (shape_of text)
+    (any_all (λ mark. is_mark_shape (shape_of mark)) text marks fits marks_apart)
 
 pub apart : (s : Shape) (text : List ℕ) → IsShape s text → shape_of text ≡ s
 apart shape.Blank text fits = blank_apart text fits.0 fits.1

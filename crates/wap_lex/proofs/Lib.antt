@@ -6,5 +6,7 @@ pub mod StringReach
 pub mod CommentReach
 pub mod Apart
 pub mod Longest
+pub mod FirstShapes
+pub mod FirstTexts
 pub mod Fronts
 pub mod Sources

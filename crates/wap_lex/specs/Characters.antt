@@ -3,7 +3,8 @@ use Rattle.std.specs.Prelude.{ℕ, Bool, ◌||◌, ◌==◌, not}
 use Rattle.std.specs.Int.{is_in_range}
 use Rattle.wap_base.specs.Names.{continues_name}
 use Rattle.wap_lex.specs.declared.class.Class.{Class}
-use Rattle.wap_lex.specs.declared.class.Class.TheVariants.{InWord, Digit, OctalDigit, HexadecimalDigit, White, InLine}
+use Rattle.wap_lex.specs.declared.class.Class.TheVariants.{InWord, Digit, OctalDigit}
+use Rattle.wap_lex.specs.declared.class.Class.TheVariants.{HexadecimalDigit, White, InLine}
 
 abbrev pub is_digit : ℕ → Bool
 is_digit = is_in_range 48 57

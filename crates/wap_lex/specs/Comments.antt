@@ -11,7 +11,8 @@ is_nothing (c ∷ rest) = false
 -- the first `*/` stands at the end; star tells whether a `*` stands before the text
 abbrev pub ends_block : Bool → List ℕ → Bool
 ends_block star [] = false
-ends_block star (c ∷ rest) = if star && (c == 47) then is_nothing rest else ends_block (c == 42) rest
+ends_block star (c ∷ rest) =
+    if star && (c == 47) then is_nothing rest else ends_block (c == 42) rest
 
 -- up to a line's end, or from `/*` to the next `*/`
 pub data IsComment : List ℕ → Type 0 where

@@ -4,5 +4,6 @@ pub mod Numbers
 pub mod Strings
 pub mod Comments
 pub mod Marks
+pub mod ByFirst
 pub mod Tokens
 pub mod Reading

@@ -1,5 +1,6 @@
 -- Numbers (WAP-193, sections 6.1.5.1 and 6.1.5.2).
-use Rattle.std.specs.Prelude.{◌≡◌, ℕ, ◌+◌, ◌-◌, ◌*◌, ◌<◌, nat_le, Bool, true, false, ◌==◌, ◌||◌, if◌then◌else◌, List, [], ◌∷◌, ◌++◌, length}
+use Rattle.std.specs.Prelude.{◌≡◌, ℕ, ◌+◌, ◌-◌, ◌*◌, ◌<◌, nat_le, Bool, true, false, ◌==◌}
+use Rattle.std.specs.Prelude.{◌||◌, if◌then◌else◌, List, [], ◌∷◌, ◌++◌, length}
 use Rattle.std.specs.List.{fold, list_all}
 use Rattle.wap_lex.specs.Characters.{is_digit, is_octal_digit, is_hexadecimal_digit}
 
@@ -21,7 +22,8 @@ is_sign c = (c == 43) || (c == 45)
 
 -- decimal, the first digit other than 0; octal, after a 0; or hexadecimal, after 0x
 pub data IsInteger : List ℕ → Type 0 where
-  decimal : (first : ℕ) (digits : List ℕ) → is_digit first ≡ true → (first == 48) ≡ false → AreDigits digits →
+  decimal : (first : ℕ) (digits : List ℕ) → is_digit first ≡ true → (first == 48) ≡ false →
+      AreDigits digits →
       IsInteger (first ∷ digits)
   octal : (digits : List ℕ) → list_all is_octal_digit digits ≡ true → IsInteger (48 ∷ digits)
   hexadecimal : (x : ℕ) (digits : List ℕ) → is_x x ≡ true → 0 < length digits →
@@ -42,7 +44,8 @@ abbrev pub integer_value : List ℕ → ℕ
 integer_value [] = 0
 integer_value (a ∷ []) = numeral 10 (a ∷ [])
 integer_value (a ∷ b ∷ digits) =
-    if a == 48 then if is_x b then numeral 16 digits else numeral 8 (b ∷ digits) else numeral 10 (a ∷ b ∷ digits)
+    if a == 48 then if is_x b then numeral 16 digits else numeral 8 (b ∷ digits)
+    else numeral 10 (a ∷ b ∷ digits)
 
 -- the greatest integer of a source
 abbrev pub integer_limit : ℕ
@@ -50,15 +53,19 @@ integer_limit = 2147483647
 
 -- e, maybe a sign, and digits
 pub data IsExponent : List ℕ → Type 0 where
-  plain : (e : ℕ) (digits : List ℕ) → is_e e ≡ true → 0 < length digits → AreDigits digits → IsExponent (e ∷ digits)
-  signed : (e sign : ℕ) (digits : List ℕ) → is_e e ≡ true → is_sign sign ≡ true → 0 < length digits → AreDigits digits →
+  plain : (e : ℕ) (digits : List ℕ) → is_e e ≡ true → 0 < length digits → AreDigits digits →
+      IsExponent (e ∷ digits)
+  signed : (e sign : ℕ) (digits : List ℕ) → is_e e ≡ true → is_sign sign ≡ true →
+      0 < length digits → AreDigits digits →
       IsExponent (e ∷ sign ∷ digits)
 
 -- digits with a point, on one side of it at least; with an exponent; or with both
 pub data IsFloat : List ℕ → Type 0 where
-  pointed : (whole fraction : List ℕ) → AreDigits whole → AreDigits fraction → 0 < length whole + length fraction →
+  pointed : (whole fraction : List ℕ) → AreDigits whole → AreDigits fraction →
+      0 < length whole + length fraction →
       IsFloat (whole ++ 46 ∷ fraction)
   scaled : (whole exponent : List ℕ) → AreDigits whole → 0 < length whole → IsExponent exponent →
       IsFloat (whole ++ exponent)
   both : (whole fraction exponent : List ℕ) → AreDigits whole → AreDigits fraction →
-      0 < length whole + length fraction → IsExponent exponent → IsFloat (whole ++ 46 ∷ (fraction ++ exponent))
+      0 < length whole + length fraction → IsExponent exponent →
+      IsFloat (whole ++ 46 ∷ (fraction ++ exponent))

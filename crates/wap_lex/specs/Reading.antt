@@ -1,15 +1,19 @@
 -- The same by calculation: how far each shape reaches, and what bytes begin with.
-use Rattle.std.specs.Prelude.{ℕ, zero, suc, ◌+◌, nat_le, nat_lt, Bool, false, ◌==◌, ◌||◌, ◌&&◌, if◌then◌else◌, nat_eq, List, [], ◌∷◌, length, take, drop, Option, Some, None, Result, Ok, Err}
+use Rattle.std.specs.Prelude.{ℕ, zero, suc, ◌+◌, nat_le, nat_lt, Bool, false, ◌==◌, ◌||◌}
+use Rattle.std.specs.Prelude.{◌&&◌, if◌then◌else◌, nat_eq, List, [], ◌∷◌, length, take}
+use Rattle.std.specs.Prelude.{drop, Option, Some, None, Result, Ok, Err}
 use Rattle.std.specs.List.{prefix_len, starts_with}
 use Rattle.wap_base.specs.Names.{begins_name, continues_name}
 use Rattle.wap_base.specs.Outcome.{◌>>=◌}
 use Rattle.wap_lex.specs.declared.class.Class.TheVariants.{InLine}
 use Rattle.wap_lex.specs.declared.token.Token.{Token}
 use Rattle.wap_lex.specs.declared.shape.Shape.{Shape}
-use Rattle.wap_lex.specs.declared.shape.Shape.TheVariants.{Blank, Comment, Word, Integer, Float, Str, Mark}
+use Rattle.wap_lex.specs.declared.shape.Shape.TheVariants.{Blank, Comment, Word, Integer}
+use Rattle.wap_lex.specs.declared.shape.Shape.TheVariants.{Float, Str, Mark}
 use Rattle.wap_lex.specs.declared.fault.LexFault.{LexFault}
 use Rattle.wap_lex.specs.declared.fault.LexFault.TheVariants as fault
-use Rattle.wap_lex.specs.Characters.{is_digit, is_octal_digit, is_hexadecimal_digit, is_white, is_quote, is_line_end, is_in}
+use Rattle.wap_lex.specs.Characters.{is_digit, is_octal_digit, is_hexadecimal_digit}
+use Rattle.wap_lex.specs.Characters.{is_white, is_quote, is_line_end, is_in}
 use Rattle.wap_lex.specs.Numbers.{is_x, is_e, is_sign, integer_value, integer_limit}
 use Rattle.wap_lex.specs.Strings.{is_simple, is_surrogate}
 use Rattle.wap_lex.specs.Marks.{marks}
@@ -27,18 +31,23 @@ more_by by len = if len == 0 then 0 else by + len
 
 abbrev pub hexadecimal_len : List ℕ → ℕ
 hexadecimal_len [] = 0
-hexadecimal_len (x ∷ digits) = if is_x x then more_by 1 (prefix_len is_hexadecimal_digit digits) else 0
+hexadecimal_len (x ∷ digits) =
+    if is_x x then more_by 1 (prefix_len is_hexadecimal_digit digits) else 0
 
 abbrev pub octal_or : ℕ → List ℕ → ℕ
-octal_or hexadecimal rest = if hexadecimal == 0 then 1 + prefix_len is_octal_digit rest else 1 + hexadecimal
+octal_or hexadecimal rest =
+    if hexadecimal == 0 then 1 + prefix_len is_octal_digit rest else 1 + hexadecimal
 
 abbrev pub integer_len : List ℕ → ℕ
 integer_len [] = 0
-integer_len (first ∷ rest) = if first == 48 then octal_or (hexadecimal_len rest) rest else prefix_len is_digit (first ∷ rest)
+integer_len (first ∷ rest) =
+    if first == 48 then octal_or (hexadecimal_len rest) rest else prefix_len is_digit (first ∷ rest)
 
 abbrev pub signed_len : List ℕ → ℕ
 signed_len [] = 0
-signed_len (first ∷ rest) = if is_sign first then more_by 1 (prefix_len is_digit rest) else prefix_len is_digit (first ∷ rest)
+signed_len (first ∷ rest) =
+    if is_sign first then more_by 1 (prefix_len is_digit rest) else
+    prefix_len is_digit (first ∷ rest)
 
 abbrev pub exponent_len : List ℕ → ℕ
 exponent_len [] = 0
@@ -55,7 +64,8 @@ scaled_len whole exponent = if (whole == 0) || (exponent == 0) then 0 else whole
 -- after so many digits
 abbrev pub float_behind : ℕ → List ℕ → ℕ
 float_behind whole [] = 0
-float_behind whole (c ∷ rest) = if c == 46 then fraction_len whole rest else scaled_len whole (exponent_len (c ∷ rest))
+float_behind whole (c ∷ rest) =
+    if c == 46 then fraction_len whole rest else scaled_len whole (exponent_len (c ∷ rest))
 
 abbrev pub float_len : List ℕ → ℕ
 float_len bytes = let whole = prefix_len is_digit bytes in float_behind whole (drop whole bytes)
@@ -63,7 +73,8 @@ float_len bytes = let whole = prefix_len is_digit bytes in float_behind whole (d
 abbrev pub unicode_len : List ℕ → ℕ
 unicode_len [] = 0
 unicode_len (a ∷ []) = 0
-unicode_len (a ∷ b ∷ digits) = if nat_lt (prefix_len is_hexadecimal_digit (a ∷ b ∷ digits)) 4 || is_surrogate a b then 0 else 5
+unicode_len (a ∷ b ∷ digits) =
+    if nat_lt (prefix_len is_hexadecimal_digit (a ∷ b ∷ digits)) 4 || is_surrogate a b then 0 else 5
 
 abbrev pub escape_len : List ℕ → ℕ
 escape_len [] = 0
@@ -116,7 +127,8 @@ is_open_comment (a ∷ b ∷ rest) = (a == 47) && ((b == 42) && (block_len false
 -- of the first of some marks that stands there
 abbrev pub first_len : List (List ℕ) → List ℕ → ℕ
 first_len [] bytes = 0
-first_len (mark ∷ others) bytes = if starts_with nat_eq bytes mark then length mark else first_len others bytes
+first_len (mark ∷ others) bytes =
+    if starts_with nat_eq bytes mark then length mark else first_len others bytes
 
 abbrev pub mark_len : List ℕ → ℕ
 mark_len = first_len marks
@@ -135,7 +147,8 @@ shapes = Blank ∷ Comment ∷ Word ∷ Integer ∷ Float ∷ Str ∷ Mark ∷ [
 
 -- the better of the best so far and one more
 abbrev pub longer : List ℕ → Shape × ℕ → Shape → Shape × ℕ
-longer bytes best shape = if nat_lt best.1 (shape_len shape bytes) then (shape, shape_len shape bytes) else best
+longer bytes best shape =
+    if nat_lt best.1 (shape_len shape bytes) then (shape, shape_len shape bytes) else best
 
 abbrev pub longest_of : List ℕ → Shape × ℕ → List Shape → Shape × ℕ
 longest_of bytes best [] = best
@@ -152,7 +165,8 @@ small value = if nat_le value integer_limit then Some value else None
 
 abbrev pub string_fault : ℕ → ℕ → List ℕ → LexFault
 string_fault at items [] = fault.OpenString at
-string_fault at items (c ∷ rest) = if c == 92 then fault.BadEscape (at + 1 + items) else fault.OpenString at
+string_fault at items (c ∷ rest) =
+    if c == 92 then fault.BadEscape (at + 1 + items) else fault.OpenString at
 
 abbrev pub bad_front : ℕ → List ℕ → LexFault
 bad_front at [] = fault.BadChar at
@@ -164,7 +178,9 @@ abbrev pub in_range : ℕ → Shape → ℕ → List ℕ → Result (Shape × �
 in_range at Blank len bytes = Ok (Blank, len)
 in_range at Comment len bytes = Ok (Comment, len)
 in_range at Word len bytes = Ok (Word, len)
-in_range at Integer len bytes = if nat_le (integer_value (take len bytes)) integer_limit then Ok (Integer, len) else Err (fault.IntRange at)
+in_range at Integer len bytes =
+    if nat_le (integer_value (take len bytes)) integer_limit then Ok (Integer, len) else
+    Err (fault.IntRange at)
 in_range at Float len bytes = Ok (Float, len)
 in_range at Str len bytes = Ok (Str, len)
 in_range at Mark len bytes = Ok (Mark, len)

@@ -1,5 +1,6 @@
 -- The tokens of a source, and its first fault (WAP-193, section 6.1).
-use Rattle.std.specs.Prelude.{◌≡◌, ℕ, ◌+◌, ◌<◌, ◌≤◌, true, false, if◌then◌else◌, List, [], ◌∷◌, ◌++◌, length, Option, Some, None}
+use Rattle.std.specs.Prelude.{◌≡◌, ℕ, ◌+◌, ◌<◌, ◌≤◌, true, false, if◌then◌else◌, List}
+use Rattle.std.specs.Prelude.{[], ◌∷◌, ◌++◌, length, Option, Some, None}
 use Rattle.std.specs.List.{list_all}
 use Rattle.std.specs.Str.{IsUtf8}
 use Rattle.wap_base.specs.Names.{is_name}
@@ -7,9 +8,11 @@ use Rattle.wap_lex.specs.declared.token.Kind.{Kind}
 use Rattle.wap_lex.specs.declared.token.Kind.TheVariants as kind
 use Rattle.wap_lex.specs.declared.token.Token.{Token}
 use Rattle.wap_lex.specs.declared.shape.Shape.{Shape}
-use Rattle.wap_lex.specs.declared.shape.Shape.TheVariants.{Blank, Comment, Word, Integer, Float, Str, Mark}
+use Rattle.wap_lex.specs.declared.shape.Shape.TheVariants.{Blank, Comment, Word, Integer}
+use Rattle.wap_lex.specs.declared.shape.Shape.TheVariants.{Float, Str, Mark}
 use Rattle.wap_lex.specs.declared.fault.LexFault.{LexFault}
-use Rattle.wap_lex.specs.declared.fault.LexFault.TheVariants.{NotText, BadChar, OpenString, OpenComment, BadEscape, IntRange}
+use Rattle.wap_lex.specs.declared.fault.LexFault.TheVariants.{NotText, BadChar, OpenString}
+use Rattle.wap_lex.specs.declared.fault.LexFault.TheVariants.{OpenComment, BadEscape, IntRange}
 use Rattle.wap_lex.specs.Characters.{is_white, is_quote, is_line_end}
 use Rattle.wap_lex.specs.Words.{is_reserved}
 use Rattle.wap_lex.specs.Numbers.{IsInteger, IsFloat, integer_value, integer_limit}
@@ -46,7 +49,8 @@ pub record IsOpenComment (bytes : List ℕ) : Type 0 where
 -- a text at the beginning of the bytes has a shape, and none that is longer has any
 pub record IsPiece (shape : Shape) (text more : List ℕ) : Type 0 where
   pub fits : IsShape shape text
-  pub longest : (other : Shape) (longer after : List ℕ) → text ++ more ≡ longer ++ after → IsShape other longer →
+  pub longest : (other : Shape) (longer after : List ℕ) → text ++ more ≡ longer ++ after →
+      IsShape other longer →
       length longer ≤ length text
   pub closed : IsOpenComment (text ++ more) → ⊥
 
@@ -60,7 +64,8 @@ token_before (Some kind) from to tokens = record { kind = kind; from = from; to 
 -- the tokens of bytes that stand at a place, each piece of them the longest
 pub data Lexes : ℕ → List ℕ → List Token → Type 0 where
   ends : (at : ℕ) → Lexes at [] []
-  piece : (at : ℕ) (shape : Shape) (text more : List ℕ) (tokens : List Token) → IsPiece shape text more →
+  piece : (at : ℕ) (shape : Shape) (text more : List ℕ) (tokens : List Token) →
+      IsPiece shape text more →
       IsInRange shape text → Lexes (at + length text) more tokens →
       Lexes at (text ++ more) (token_before (kind_of shape text) at (at + length text) tokens)
 
@@ -82,11 +87,14 @@ EndsLine (c ∷ bytes) = is_line_end c ≡ true
 
 -- what is wrong with what begins at a place
 pub data Stops (at : ℕ) : List ℕ → LexFault → Type 0 where
-  character : (c : ℕ) (bytes : List ℕ) → is_quote c ≡ false → ((shape : Shape) (text more : List ℕ) →
+  character : (c : ℕ) (bytes : List ℕ) → is_quote c ≡ false →
+      ((shape : Shape) (text more : List ℕ) →
       c ∷ bytes ≡ text ++ more → IsShape shape text → ⊥) → Stops at (c ∷ bytes) (BadChar at)
-  string : (quote : ℕ) (items bytes : List ℕ) → is_quote quote ≡ true → AreItems quote items → EndsLine bytes →
+  string : (quote : ℕ) (items bytes : List ℕ) → is_quote quote ≡ true → AreItems quote items →
+      EndsLine bytes →
       Stops at (quote ∷ (items ++ bytes)) (OpenString at)
-  escape : (quote : ℕ) (items bytes : List ℕ) → is_quote quote ≡ true → AreItems quote items → BeginsNoEscape bytes →
+  escape : (quote : ℕ) (items bytes : List ℕ) → is_quote quote ≡ true → AreItems quote items →
+      BeginsNoEscape bytes →
       Stops at (quote ∷ (items ++ 92 ∷ bytes)) (BadEscape (at + 1 + length items))
   comment : (bytes : List ℕ) → IsOpenComment bytes → Stops at bytes (OpenComment at)
   integer : (text more : List ℕ) → IsPiece Integer text more → integer_limit < integer_value text →
@@ -94,8 +102,10 @@ pub data Stops (at : ℕ) : List ℕ → LexFault → Type 0 where
 
 -- pieces, and after them the first thing that is wrong
 pub data StopsIn : ℕ → List ℕ → LexFault → Type 0 where
-  here : (at : ℕ) (bytes : List ℕ) (fault : LexFault) → Stops at bytes fault → StopsIn at bytes fault
-  behind : (at : ℕ) (shape : Shape) (text more : List ℕ) (fault : LexFault) → IsPiece shape text more →
+  here : (at : ℕ) (bytes : List ℕ) (fault : LexFault) → Stops at bytes fault →
+      StopsIn at bytes fault
+  behind : (at : ℕ) (shape : Shape) (text more : List ℕ) (fault : LexFault) →
+      IsPiece shape text more →
       IsInRange shape text → StopsIn (at + length text) more fault → StopsIn at (text ++ more) fault
 
 pub data IsRefused (src : List ℕ) : LexFault → Type 0 where

@@ -22,7 +22,7 @@ pub(crate) fn is_in(class: Class, byte: u8) -> bool
     ensures { result ≡ is_in class byte }
 {
     match class {
-        Class::InWord => matches!(byte, b'A'..=b'Z' | b'a'..=b'z' | b'_' | b'0'..=b'9'),
+        Class::InWord => byte.is_ascii_alphabetic() || byte == b'_' || byte.is_ascii_digit(),
         Class::Digit => byte.is_ascii_digit(),
         Class::OctalDigit => matches!(byte, b'0'..=b'7'),
         Class::HexadecimalDigit => matches!(byte, b'0'..=b'9' | b'A'..=b'F' | b'a'..=b'f'),

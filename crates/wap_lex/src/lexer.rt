@@ -1,5 +1,6 @@
 //! Reading a source's tokens.
-ghost use Rattle.std.specs.Prelude.{◌≡◌, ℕ, ◌^◌, ◌<◌, ◌≤◌, ◌+◌, List, length, Ok, Err, IfOk, IfErr, ◌≢◌, ◌++◌, [], OnOk};
+ghost use Rattle.std.specs.Prelude.{◌≡◌, ℕ, ◌^◌, ◌<◌, ◌≤◌, ◌+◌, List, length, Ok};
+ghost use Rattle.std.specs.Prelude.{Err, IfOk, IfErr, ◌≢◌, ◌++◌, [], OnOk};
 ghost use Rattle.wap_base.specs.Outcome.{Meets};
 ghost use Rattle.wap_lex.specs.declared.token.Token.{Token};
 ghost use Rattle.wap_lex.specs.declared.fault.LexFault.{LexFault};

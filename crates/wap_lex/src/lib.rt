@@ -5,6 +5,7 @@
 mod class;
 mod comments;
 mod fault;
+mod first;
 mod lexer;
 mod marks;
 mod numbers;

@@ -1,11 +1,13 @@
 //! The shapes of what stands in a source, and the longest that begins at a place.
 ghost use Rattle.std.specs.Prelude.{◌≡◌, ◌≤◌, length};
-ghost use Rattle.wap_lex.specs.Reading.{shape_len, longest, longest_of};
+ghost use Rattle.wap_lex.specs.Reading.{shape_len, longer, longest, longest_of};
+ghost use Rattle.wap_lex.specs.ByFirst.{shapes_at};
 ghost use Rattle.wap_lex.specs.declared.shape.Shape.TheVariants.{Blank};
 ghost use Rattle.wap_lex.specs.Tokens.{kind_of};
 
 use crate::class::{Class, run_len};
 use crate::comments::comment_len;
+use crate::first::{First, first_of};
 use crate::marks::mark_len;
 use crate::numbers::{float_len, integer_len};
 use crate::strings::string_len;
@@ -24,17 +26,11 @@ pub(crate) enum Shape {
     Mark,
 }
 
-const SHAPES: [Shape; 7] = [
-    Shape::Blank,
-    Shape::Comment,
-    Shape::Word,
-    Shape::Integer,
-    Shape::Float,
-    Shape::Str,
-    Shape::Mark,
-];
+/// What stands where no shape begins.
+const NOTHING: (Shape, usize) = (Shape::Blank, 0);
 
 /// How many bytes of a shape stand at the beginning, 0 where it doesn't begin.
+#[inline(always)]
 fn shape_len(shape: Shape, bytes: &[u8]) -> usize
     ensures shape { result ≡ shape_len shape bytes.now }
     ensures within { result ≤ length bytes.now }
@@ -51,27 +47,41 @@ fn shape_len(shape: Shape, bytes: &[u8]) -> usize
 }
 
 /// The shape that reaches farthest, and how far; 0 where none begins.
-#[tactic(auto, unfolding(crate::specs::Reading::shapes))]
 pub(crate) fn longest(bytes: &[u8]) -> (Shape, usize)
     ensures longest { result ≡ longest bytes.now }
     ensures within { result.1 ≤ length bytes.now }
 {
-    longest_of(&SHAPES, bytes)
+    match bytes {
+        [] => NOTHING,
+        [first, ..] => longest_at(first_of(*first), bytes),
+    }
 }
 
-/// Of some shapes the one that reaches farthest.
-fn longest_of(shapes: &[Shape], bytes: &[u8]) -> (Shape, usize)
-    ensures longest { result ≡ longest_of bytes.now (Blank, 0) shapes.now }
+/// The same, of the shapes that may begin with such a first byte.
+fn longest_at(first: First, bytes: &[u8]) -> (Shape, usize)
+    ensures longest { result ≡ longest_of bytes.now (Blank, 0) (shapes_at first) }
     ensures within { result.1 ≤ length bytes.now }
 {
-    let mut best = (Shape::Blank, 0);
-    for shape in shapes {
-        let len = shape_len(*shape, bytes);
-        if len > best.1 {
-            best = (*shape, len);
-        }
+    match first {
+        First::White => longer(bytes, NOTHING, Shape::Blank),
+        First::Letter => longer(bytes, longer(bytes, NOTHING, Shape::Word), Shape::Mark),
+        First::Digit => longer(bytes, longer(bytes, NOTHING, Shape::Integer), Shape::Float),
+        First::Point => longer(bytes, longer(bytes, NOTHING, Shape::Float), Shape::Mark),
+        First::Quote => longer(bytes, NOTHING, Shape::Str),
+        First::Slash => longer(bytes, longer(bytes, NOTHING, Shape::Comment), Shape::Mark),
+        First::Other => longer(bytes, NOTHING, Shape::Mark),
     }
-    best
+}
+
+/// The better of the best so far and one more.
+#[inline(always)]
+fn longer(bytes: &[u8], best: (Shape, usize), shape: Shape) -> (Shape, usize)
+    requires { best.1 ≤ length bytes.now }
+    ensures longer { result ≡ longer bytes.now best shape }
+    ensures within { result.1 ≤ length bytes.now }
+{
+    let len = shape_len(shape, bytes);
+    if len > best.1 { (shape, len) } else { best }
 }
 
 /// The kind of a token of a shape, none where the shape is of no token.

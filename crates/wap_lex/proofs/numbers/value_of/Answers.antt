@@ -10,7 +10,8 @@ pub returns-then-value-gt2147483647 : goal.returns-then-value-gt2147483647
 returns-then-value-gt2147483647 c =
     let digits = c.args.digits.now in
     let at = c.loop-digit.digit-index in
-    let step = at_drop_more (fold (with_digit c.args.base) c.loop-digit.value) digits at 0 (omega arith) in
+    let step =
+    at_drop_more (fold (with_digit c.args.base) c.loop-digit.value) digits at 0 (omega arith) in
     let value = with_digit c.args.base c.loop-digit.value (get_or digits at 0) in
     too_large c.args.base value (drop (at + 1) digits) (omega arith) (omega arith)
     ∙ ap small (sym step ∙ c.loop-digit.invariant.whole)
