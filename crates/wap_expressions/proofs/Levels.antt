@@ -1,10 +1,12 @@
 -- Expressions by the levels that are left for them.
-use Rattle.std.proofs.Common.{◌≡◌, ◌≢◌, ℕ, zero, suc, ◌-◌, ◌<◌, Bool, true, false, cond, List, ap, ◌∙◌, arith}
+use Rattle.std.proofs.Common.{◌≡◌, ◌≢◌, ℕ, zero, suc, ◌-◌, ◌<◌, Bool, true}
+use Rattle.std.proofs.Common.{false, cond, List, ap, ◌∙◌, arith}
 use Rattle.std.specs.Prelude.{nat_eq}
 use Rattle.std.proofs.lemmas.Bool.{ne_eqb, eq-eqb}
 use Rattle.wap_grammar.specs.declared.lexeme.Lexeme.{Lexeme}
 use Rattle.wap_grammar.specs.declared.precedence.TheConstants.{UNARY, CONDITIONAL, ASSIGNMENT}
-use Rattle.wap_grammar.specs.inside.Expressions.{Reader, unary_at, conditional_at, assignment_at, chain_at, looser_at, part_at, expression_at}
+use Rattle.wap_grammar.specs.inside.Expressions.{Reader, conditional_at, assignment_at, chain_at}
+use Rattle.wap_grammar.specs.inside.Expressions.{looser_at, part_at, expression_at}
 
 pub deeper : (src : List ℕ) (levels level : ℕ) (lexemes : List Lexeme) → 0 < levels →
     expression_at src levels level lexemes
@@ -27,10 +29,6 @@ looser src inner (suc level) lexemes some =
 -- ---- by the level of precedence
 
 module _ (src : List ℕ) (inner : Reader) (level : ℕ) (lexemes : List Lexeme) where
-  pub at_unary : level ≡ UNARY → part_at src inner level lexemes ≡ unary_at src inner lexemes
-  unfolding part_at
-  at_unary is = ap (λ (n : ℕ). part_at src inner n lexemes) is
-
   pub at_conditional : level ≡ CONDITIONAL → part_at src inner level lexemes
       ≡ conditional_at src inner (part_at src inner (level - 1)) lexemes
   at_conditional is =

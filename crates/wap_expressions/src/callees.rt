@@ -4,7 +4,8 @@ ghost use Rattle.wap_base.specs.Outcome.{Meets};
 ghost use Rattle.wap_grammar.specs.declared.fault.ParseFault.TheVariants.{NoMemory};
 ghost use Rattle.wap_grammar.specs.Values.{called};
 ghost use Rattle.wap_grammar.specs.inside.Steps.{told, id_at};
-ghost use Rattle.wap_grammar.specs.inside.Expressions.{callee_after, callee_at, variable_at, prefixed};
+ghost use Rattle.wap_grammar.specs.inside.Expressions.{callee_after, callee_at};
+ghost use Rattle.wap_grammar.specs.inside.Expressions.{variable_at, prefixed};
 
 use crate::steps::{read_id, syntax};
 use crate::words::{after, is_sign, step_of, word_of};

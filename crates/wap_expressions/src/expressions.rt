@@ -3,20 +3,24 @@ ghost use Rattle.std.specs.Prelude.{◌≡◌, ◌∷◌};
 ghost use Rattle.wap_base.specs.Outcome.{Meets};
 ghost use Rattle.wap_grammar.specs.declared.fault.ParseFault.TheVariants as faults;
 ghost use Rattle.wap_grammar.specs.inside.Steps.{told, items_at};
-ghost use Rattle.wap_grammar.specs.inside.Expressions.{next_argument, arguments_at, named_at, primary_at, unary_at, next_operand, chain_at, branches_at, conditional_at, assignment_at, part_at, expression_at};
+ghost use Rattle.wap_grammar.specs.inside.Expressions.{next_argument, arguments_at, named_at};
+ghost use Rattle.wap_grammar.specs.inside.Expressions.{primary_at, unary_at, next_operand};
+ghost use Rattle.wap_grammar.specs.inside.Expressions.{branches_at, conditional_at, assignment_at};
+ghost use Rattle.wap_grammar.specs.inside.Expressions.{part_at, expression_at};
+ghost use Rattle.wap_expressions.specs.inside.Climbing.{climbed_at, climbed_after, chained_after};
 
 use crate::callees::{called, read_callee, read_prefixed, read_variable};
 use crate::literals::literal_of;
-use crate::making::{assignment, chained, choice_of, one, unary};
-use crate::steps::{expect, nested};
+use crate::making::{chained, one};
+use crate::steps::{expect, id_of, nested};
 use crate::words::{
-    after, assignment_of, is_comma, is_name, is_sign, operator_of, span_of, step_of, unary_of,
-    word_of,
+    after, assignment_of, is_comma, is_name, is_sign, looser_of, operator_of, span_of, step_of,
+    unary_of, word_of,
 };
 use std::alloc::Global;
 use wap_base::Rows;
 use wap_grammar::{ASSIGNMENT, COMMA, CONDITIONAL, Lexeme, ParseFault, Sign, UNARY};
-use wap_program::Expr;
+use wap_program::{Boxed, Expr};
 use wap_value::BinOp;
 
 /// An expression of a level of precedence, with so many levels left for it and its parts, and the
@@ -51,8 +55,8 @@ fn read_part<'a>(
     ensures { Meets faults.NoMemory (λ read. (read.0, read.1.now)) result
         (part_at src.now (expression_at src.now levels) level lexemes.now) }
 {
-    if level == UNARY {
-        return read_unary(alloc, src, levels, lexemes);
+    if level < CONDITIONAL {
+        return read_operators(alloc, src, levels, level, lexemes);
     }
     let tighter = level - 1;
     if level == CONDITIONAL {
@@ -61,13 +65,12 @@ fn read_part<'a>(
     if level == ASSIGNMENT {
         return read_assignment(alloc, src, levels, tighter, lexemes);
     }
-    read_chain(alloc, src, levels, level, tighter, lexemes)
+    read_loosest(alloc, src, levels, level, tighter, lexemes)
 }
 
-/// Operands of the next tighter level, and operators of a level between them.
+/// An expression of the next tighter level, and the operators of a level after it.
 #[cycle(expressions)]
-#[tactic(auto, unfolding(wap_grammar::specs::inside::Expressions::chain_at))]
-fn read_chain<'a>(
+fn read_loosest<'a>(
     alloc: Global,
     src: &[u8],
     levels: u32,
@@ -76,12 +79,72 @@ fn read_chain<'a>(
     lexemes: &'a [Lexeme],
 ) -> Result<(Expr, &'a [Lexeme]), ParseFault>
     ensures { Meets faults.NoMemory (λ read. (read.0, read.1.now)) result
-        (chain_at level (part_at src.now (expression_at src.now levels) tighter) lexemes.now) }
+        (climbed_after (part_at src.now (expression_at src.now levels)) tighter level
+        (part_at src.now (expression_at src.now levels) tighter lexemes.now)) }
 {
     let (first, rest) = read_part(alloc, src, levels, tighter, lexemes)?;
-    let (operands, rest) = read_operands(alloc, src, levels, level, tighter, rest)?;
+    read_looser(alloc, src, levels, tighter, level, first, rest)
+}
+
+/// An operand, and the operators up to a level of precedence, each with the operand after it.
+#[cycle(expressions)]
+fn read_operators<'a>(
+    alloc: Global,
+    src: &[u8],
+    levels: u32,
+    level: u8,
+    lexemes: &'a [Lexeme],
+) -> Result<(Expr, &'a [Lexeme]), ParseFault>
+    ensures { Meets faults.NoMemory (λ read. (read.0, read.1.now)) result
+        (climbed_after (part_at src.now (expression_at src.now levels)) 0 level
+        (unary_at src.now (expression_at src.now levels) lexemes.now)) }
+{
+    let (first, rest) = read_unary(alloc, src, levels, lexemes)?;
+    read_looser(alloc, src, levels, UNARY, level, first, rest)
+}
+
+/// An expression and the operators after it that are looser than one level, up to another. Levels
+/// without an operator there are passed over.
+#[cycle(expressions)]
+fn read_looser<'a>(
+    alloc: Global,
+    src: &[u8],
+    levels: u32,
+    from: u8,
+    level: u8,
+    first: Expr,
+    lexemes: &'a [Lexeme],
+) -> Result<(Expr, &'a [Lexeme]), ParseFault>
+    ensures { Meets faults.NoMemory (λ read. (read.0, read.1.now)) result
+        (climbed_at (part_at src.now (expression_at src.now levels)) from level
+        (first, lexemes.now)) }
+{
+    match looser_of(from, level, word_of(lexemes)) {
+        Some(found) => read_chain(alloc, src, levels, found, found - 1, level, first, lexemes),
+        None => Ok((first, lexemes)),
+    }
+}
+
+/// An expression and the operators of a level after it, and then those of looser levels.
+#[cycle(expressions)]
+fn read_chain<'a>(
+    alloc: Global,
+    src: &[u8],
+    levels: u32,
+    found: u8,
+    tighter: u8,
+    level: u8,
+    first: Expr,
+    lexemes: &'a [Lexeme],
+) -> Result<(Expr, &'a [Lexeme]), ParseFault>
+    ensures { Meets faults.NoMemory (λ read. (read.0, read.1.now)) result
+        (chained_after (part_at src.now (expression_at src.now levels)) found level first
+        (items_at (next_operand found (part_at src.now (expression_at src.now levels) tighter))
+        lexemes.now)) }
+{
+    let (operands, rest) = read_operands(alloc, src, levels, found, tighter, lexemes)?;
     let chain = chained(alloc, first, operands)?;
-    Ok((chain, rest))
+    read_looser(alloc, src, levels, found, level, chain, rest)
 }
 
 /// The operands after the first, each with the operator before it.
@@ -168,11 +231,27 @@ fn read_branches<'a>(
     ensures { Meets faults.NoMemory (λ read. (read.0, read.1.now)) result
         (branches_at src.now (expression_at src.now levels) condition lexemes.now) }
 {
-    let (yes, rest) = read_expression(alloc, src, levels, ASSIGNMENT, lexemes)?;
+    let condition = Boxed::new(alloc, condition)?;
+    let (yes, rest) = read_boxed(alloc, src, levels, ASSIGNMENT, lexemes)?;
     let rest = expect(src, Sign::Colon, rest)?;
-    let (no, rest) = read_expression(alloc, src, levels, ASSIGNMENT, rest)?;
-    let choice = choice_of(alloc, condition, yes, no)?;
-    Ok((choice, rest))
+    let (no, rest) = read_boxed(alloc, src, levels, ASSIGNMENT, rest)?;
+    Ok((Expr::Cond(condition, yes, no), rest))
+}
+
+/// An expression in a place of its own.
+#[cycle(expressions)]
+fn read_boxed<'a>(
+    alloc: Global,
+    src: &[u8],
+    levels: u32,
+    level: u8,
+    lexemes: &'a [Lexeme],
+) -> Result<(Boxed<Expr>, &'a [Lexeme]), ParseFault>
+    ensures { Meets faults.NoMemory (λ read. (read.0, read.1.now)) result
+        (expression_at src.now levels level lexemes.now) }
+{
+    let (value, rest) = read_expression(alloc, src, levels, level, lexemes)?;
+    Ok((Boxed::new(alloc, value)?, rest))
 }
 
 /// An assignment to a variable, or an expression of the next tighter level.
@@ -195,9 +274,9 @@ fn read_assignment<'a>(
     let rest = after(lexemes);
     match assignment_of(word_of(rest)) {
         Some(op) => {
-            let (value, rest) = read_expression(alloc, src, levels, ASSIGNMENT, after(rest))?;
-            let assignment = assignment(alloc, src, span_of(lexemes), op, value)?;
-            Ok((assignment, rest))
+            let (value, rest) = read_boxed(alloc, src, levels, ASSIGNMENT, after(rest))?;
+            let id = id_of(alloc, src, span_of(lexemes))?;
+            Ok((Expr::Assign(id, op, value), rest))
         }
         None => read_part(alloc, src, levels, tighter, lexemes),
     }
@@ -218,9 +297,8 @@ fn read_unary<'a>(
 {
     let word = word_of(lexemes);
     if let Some(op) = unary_of(word) {
-        let (operand, rest) = read_expression(alloc, src, levels, UNARY, after(lexemes))?;
-        let unary = unary(alloc, op, operand)?;
-        return Ok((unary, rest));
+        let (operand, rest) = read_boxed(alloc, src, levels, UNARY, after(lexemes))?;
+        return Ok((Expr::Unary(op, operand), rest));
     }
     match step_of(word) {
         Some(up) => read_prefixed(alloc, src, up, after(lexemes)),

@@ -4,8 +4,8 @@
 //! tokens spell. Declarations and pragmas are read here too, for they hold no statements.
 //!
 //! A string whose bytes stand for no text, since they are not UTF-8 or escape a surrogate, is
-//! answered as `NoMemory`. `wap_lex` refuses sources with such strings, but that its tokens have
-//! none isn't proved: no contract here says that `NoMemory` comes only where memory ran out.
+//! answered as `NoMemory`. The tokens of a source have no such strings, as a law of `wap_grammar`
+//! says (`strings_are_texts`), so for them `NoMemory` comes only where memory runs out.
 #![tactic(auto)]
 
 mod callees;

@@ -1,16 +1,11 @@
 //! Expressions made of their parts.
-ghost use Rattle.std.specs.Prelude.{◌≡◌, [], ◌∷◌, Ok, IfOk};
-ghost use Rattle.wap_base.specs.Outcome.{Meets};
-ghost use Rattle.wap_program.specs.declared.expression.Expr.TheVariants as expr;
-ghost use Rattle.wap_grammar.specs.declared.fault.ParseFault.TheVariants as faults;
-ghost use Rattle.wap_grammar.specs.Values.{id_of, chained};
+ghost use Rattle.std.specs.Prelude.{◌≡◌, [], ◌∷◌, IfOk};
+ghost use Rattle.wap_grammar.specs.Values.{chained};
 
-use crate::steps::id_of;
 use std::alloc::Global;
 use wap_base::{NoMemory, Rows};
-use wap_grammar::ParseFault;
-use wap_program::{Boxed, Expr, Span};
-use wap_value::{BinOp, UnOp};
+use wap_program::{Boxed, Expr};
+use wap_value::BinOp;
 
 /// Operands, which are the first alone where there is no other.
 pub(crate) fn chained(
@@ -25,45 +20,6 @@ pub(crate) fn chained(
     }
     let first = Boxed::new(alloc, first)?;
     Ok(Expr::Chain(first, operands))
-}
-
-/// A condition with its branches.
-pub(crate) fn choice_of(
-    alloc: Global,
-    condition: Expr,
-    yes: Expr,
-    no: Expr,
-) -> Result<Expr, NoMemory>
-    ensures { IfOk result (λ choice. choice ≡ expr.Cond condition yes no) }
-{
-    let condition = Boxed::new(alloc, condition)?;
-    let yes = Boxed::new(alloc, yes)?;
-    let no = Boxed::new(alloc, no)?;
-    Ok(Expr::Cond(condition, yes, no))
-}
-
-/// An assignment to the variable of a part of the source.
-pub(crate) fn assignment(
-    alloc: Global,
-    src: &[u8],
-    span: Span,
-    op: Option<BinOp>,
-    value: Expr,
-) -> Result<Expr, ParseFault>
-    ensures { Meets faults.NoMemory (λ made. made) result
-        (Ok (expr.Assign (id_of src.now span) op value)) }
-{
-    let value = Boxed::new(alloc, value)?;
-    let id = id_of(alloc, src, span)?;
-    Ok(Expr::Assign(id, op, value))
-}
-
-/// A unary operator before its operand.
-pub(crate) fn unary(alloc: Global, op: UnOp, operand: Expr) -> Result<Expr, NoMemory>
-    ensures { IfOk result (λ made. made ≡ expr.Unary op operand) }
-{
-    let operand = Boxed::new(alloc, operand)?;
-    Ok(Expr::Unary(op, operand))
 }
 
 /// A list of one expression.

@@ -4,7 +4,8 @@ ghost use Rattle.wap_base.specs.Outcome.{Meets};
 ghost use Rattle.wap_grammar.specs.declared.fault.ParseFault.TheVariants as faults;
 ghost use Rattle.wap_grammar.specs.Programs.{from_to};
 ghost use Rattle.wap_grammar.specs.inside.Steps.{told, items_at};
-ghost use Rattle.wap_grammar.specs.inside.Programs.{agent_of, note_of, url_at, who_at, meta_at, use_at, next_use};
+ghost use Rattle.wap_grammar.specs.inside.Programs.{agent_of, note_of, url_at, who_at};
+ghost use Rattle.wap_grammar.specs.inside.Programs.{meta_at, use_at, next_use};
 ghost use Rattle.wap_expressions.specs.inside.Properties.{ended_at};
 
 use crate::steps::{expect, read_id};

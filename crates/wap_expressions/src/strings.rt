@@ -3,7 +3,8 @@ ghost use Rattle.std.specs.Prelude.{◌≡◌, ◌≤◌, ℕ, ◌++◌, [], ◌
 ghost use Rattle.std.specs.Str.{chars};
 ghost use Rattle.wap_lex.specs.Numbers.{with_digit, digit_value};
 ghost use Rattle.wap_lex.specs.Characters.{is_octal_digit, is_hexadecimal_digit};
-ghost use Rattle.wap_grammar.specs.Strings.{named_by, goes_on, unescaped, escaped, numbered, string_of};
+ghost use Rattle.wap_grammar.specs.Strings.{named_by, goes_on, unescaped};
+ghost use Rattle.wap_grammar.specs.Strings.{escaped, numbered, string_of};
 ghost use Rattle.wap_expressions.specs.inside.Escapes.{left_of};
 
 use std::alloc::Global;
@@ -20,7 +21,8 @@ enum Place {
 }
 
 /// The text that a string stands for, from its bytes with their quotes. Bytes that stand for no
-/// text, since they are not UTF-8 or escape a surrogate, are answered as `NoMemory`.
+/// text, since they are not UTF-8 or escape a surrogate, are answered as `NoMemory`; a string in a
+/// source has no such bytes.
 #[tactic(auto, unfolding(wap_grammar::specs::Strings::string_of))]
 pub(crate) fn string_of(alloc: Global, bytes: &[u8]) -> Result<Text, NoMemory>
     ensures { IfOk result (λ text. text ≡ string_of bytes.now) }

@@ -2,7 +2,8 @@
 ghost use Rattle.std.specs.Prelude.{◌≡◌};
 ghost use Rattle.wap_base.specs.Outcome.{Meets};
 ghost use Rattle.wap_grammar.specs.declared.fault.ParseFault.TheVariants as faults;
-ghost use Rattle.wap_grammar.specs.inside.Programs.{text_at, signed_at, access_by, access_at, scheme_at, property_at};
+ghost use Rattle.wap_grammar.specs.inside.Programs.{text_at, signed_at, access_by};
+ghost use Rattle.wap_grammar.specs.inside.Programs.{access_at, scheme_at, property_at};
 ghost use Rattle.wap_expressions.specs.inside.Properties.{ended_at};
 
 use crate::lexemes::text_in;

@@ -1,7 +1,10 @@
 //! What stands first among some tokens.
-ghost use Rattle.std.specs.Prelude.{◌≡◌};
-ghost use Rattle.wap_grammar.specs.Words.{word_of, precedence, sign_of, unary_of, step_of, assignment_of, operator_of, is_sign, is_name, is_text, is_comma, is_equals};
+ghost use Rattle.std.specs.Prelude.{◌≡◌, ◌<◌, ◌≤◌, IfSome};
+ghost use Rattle.wap_grammar.specs.Words.{word_of, precedence, sign_of, unary_of, step_of};
+ghost use Rattle.wap_grammar.specs.Words.{assignment_of, operator_of, is_sign, is_name};
+ghost use Rattle.wap_grammar.specs.Words.{is_text, is_comma, is_equals};
 ghost use Rattle.wap_grammar.specs.inside.Steps.{span_of, after};
+ghost use Rattle.wap_expressions.specs.inside.Climbing.{looser_of};
 
 use wap_grammar::{Lexeme, Sign, Word};
 use wap_program::Span;
@@ -125,6 +128,25 @@ pub(crate) fn operator_of(level: u8, word: Word) -> Option<BinOp>
 {
     match word {
         Word::Operator(op) if precedence(op) == level => Some(op),
+        _ => None,
+    }
+}
+
+/// The level of the operator that a word may be, if it is looser than one level and no looser than
+/// another.
+pub(crate) fn looser_of(from: u8, level: u8, word: Word) -> Option<u8>
+    ensures value { result ≡ looser_of from level word }
+    ensures within { IfSome result (λ found. (from < found) × (found ≤ level)) }
+{
+    match word {
+        Word::Operator(op) => {
+            let found = precedence(op);
+            if from < found && found <= level {
+                Some(found)
+            } else {
+                None
+            }
+        }
         _ => None,
     }
 }

@@ -7,12 +7,15 @@ use Rattle.wap_grammar.specs.declared.fault.ParseFault.TheVariants as fault
 use Rattle.wap_grammar.specs.declared.lexeme.Lexeme.{Lexeme}
 use Rattle.wap_grammar.specs.Programs.{IsProgram, Spells}
 use Rattle.wap_grammar.specs.Refusal.{IsPast}
+use Rattle.wap_grammar.specs.Depth.{IsFirstBelow}
 use Rattle.wap_grammar.specs.inside.Programs.{program_at}
+use Rattle.wap_grammar.specs.inside.Statements.{statement_at}
 use Rattle.wap_grammar.proofs.Whole.{program_ok, program_again}
-use Rattle.wap_grammar.proofs.Refusals.{program_none, program_past}
+use Rattle.wap_grammar.proofs.Below.{program_none, program_past, first_spelled}
 
 abbrev pub IsRead : List ℕ → List Lexeme → Result Program ParseFault → Type 0
-IsRead src a r = Meets fault.NoMemory (λ (p : Program). p) r (program_at src 64 a)
+IsRead src a r =
+    Meets fault.NoMemory (λ (p : Program). p) r (program_at src (statement_at src 64) a)
 
 no_memory : (at : ℕ) → fault.Syntax at ≢ fault.NoMemory
 no_memory at e = absurd cc
@@ -34,18 +37,34 @@ pub syntax_by : (src : List ℕ) (a : List Lexeme) (r : Result Program ParseFaul
     → IfErr r (λ f. (at : ℕ) → f ≡ fault.Syntax at → (p : Program) → Spells src p a → ⊥)
 syntax_by src a (Ok p) met = tt
 syntax_by src a (Err f) met =
-    λ at is p spells. program_none src a at (read_at at is) p spells where
-      read_at : (at : ℕ) → f ≡ fault.Syntax at → program_at src 64 a ≡ Err (fault.Syntax at)
+    λ at is p spells. program_none src a at 64 (read_at at is) p spells where
+      read_at : (at : ℕ) → f ≡ fault.Syntax at →
+          program_at src (statement_at src 64) a ≡ Err (fault.Syntax at)
       read_at at is =
-          subst (λ (g : ParseFault). g ≢ fault.NoMemory → program_at src 64 a ≡ Err g) is met
+          subst (λ (g : ParseFault). g ≢ fault.NoMemory →
+          program_at src (statement_at src 64) a ≡ Err g) is met
           (no_memory at)
 
 pub nested_by : (src : List ℕ) (a : List Lexeme) (r : Result Program ParseFault) → IsRead src a r
     → IfErr r (λ f. (at : ℕ) → f ≡ fault.Nested at → IsPast src 64 a at)
 nested_by src a (Ok p) met = tt
 nested_by src a (Err f) met =
-    λ at is. program_past src a at (read_at at is) where
-      read_at : (at : ℕ) → f ≡ fault.Nested at → program_at src 64 a ≡ Err (fault.Nested at)
+    λ at is. program_past src a 64 0 at (read_at at is) where
+      read_at : (at : ℕ) → f ≡ fault.Nested at →
+          program_at src (statement_at src 64) a ≡ Err (fault.Nested at)
       read_at at is =
-          subst (λ (g : ParseFault). g ≢ fault.NoMemory → program_at src 64 a ≡ Err g) is met
+          subst (λ (g : ParseFault). g ≢ fault.NoMemory →
+          program_at src (statement_at src 64) a ≡ Err g) is met
           (no_memory_nested at)
+
+pub first_by : (src : List ℕ) (a : List Lexeme) (r : Result Program ParseFault) → IsRead src a r
+    → IfErr r (λ f. (at : ℕ) → f ≡ fault.Nested at → (p : Program) → Spells src p a →
+    IsFirstBelow src 64 a p at)
+first_by src a (Ok p) met = tt
+first_by src a (Err f) met =
+    λ at is p spells. first_spelled src a 64 at p (read_at at is) spells where
+      read_at : (at : ℕ) → f ≡ fault.Nested at →
+          program_at src (statement_at src 64) a ≡ Err (fault.Nested at)
+      read_at at is =
+          subst (λ (g : ParseFault). g ≢ fault.NoMemory →
+          program_at src (statement_at src 64) a ≡ Err g) is met (no_memory_nested at)

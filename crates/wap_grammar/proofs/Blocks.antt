@@ -1,5 +1,6 @@
 -- Blocks are read as they are spelled, given the statements in them.
-use Rattle.std.proofs.Common.{◌≡◌, ℕ, ◌<◌, true, false, List, ◌∷◌, length, Option, Some, None, Ok, refl, ap, ◌∙◌, inl, inr, ◌⊎◌, arith}
+use Rattle.std.proofs.Common.{◌≡◌, ℕ, ◌<◌, true, false, List, ◌∷◌, length, Option, Some}
+use Rattle.std.proofs.Common.{None, Ok, refl, ap, ◌∙◌, inl, inr, ◌⊎◌, arith}
 use Rattle.wap_base.proofs.Choices.{chosen, some_same}
 use Rattle.wap_program.specs.declared.program.Span.{Span}
 use Rattle.wap_program.specs.declared.statement.Stmt.{Stmt}

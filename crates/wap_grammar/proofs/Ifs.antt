@@ -1,5 +1,7 @@
 -- `if` and all statements are read as they are spelled.
-use Rattle.std.proofs.Common.{◌≡◌, ℕ, zero, suc, ◌<◌, ◌≤◌, Bool, true, false, ◌&&◌, List, ◌∷◌, length, Option, Some, None, Ok, refl, sym, ap, subst, ◌∙◌, inl, inr, ◌⊎◌, arith}
+use Rattle.std.proofs.Common.{◌≡◌, ℕ, zero, suc, ◌<◌, ◌≤◌, Bool, true, false, ◌&&◌}
+use Rattle.std.proofs.Common.{List, ◌∷◌, length, Option, Some, None, Ok, refl, sym}
+use Rattle.std.proofs.Common.{ap, subst, ◌∙◌, inl, inr, ◌⊎◌, arith}
 use Rattle.wap_base.specs.Outcome.{◌>>=◌}
 use Rattle.wap_base.proofs.Choices.{chosen, bind_ok, some_same}
 use Rattle.wap_program.specs.declared.program.Span.{Span}
@@ -11,10 +13,14 @@ use Rattle.wap_grammar.specs.declared.word.Sign.TheVariants as signs
 use Rattle.wap_grammar.specs.Words.{word_of, is_sign}
 use Rattle.wap_grammar.specs.Spellings.{Spelling, sign, Several}
 use Rattle.wap_grammar.specs.Expressions.{Expressions, IsExpression}
-use Rattle.wap_grammar.specs.Statements.{IsCondition, IsSimple, IsArm, arm, IsElseIf, else_if, IsElse, without, with_else, IsStatementOf, simple, arms, IsStatement}
+use Rattle.wap_grammar.specs.Statements.{IsCondition, IsSimple, IsArm, arm, IsElseIf}
+use Rattle.wap_grammar.specs.Statements.{else_if, IsElse, without, with_else}
+use Rattle.wap_grammar.specs.Statements.{IsStatementOf, simple, arms, IsStatement}
 use Rattle.wap_grammar.specs.inside.Steps.{Reading, span_of, after, nested, told, items_at}
 use Rattle.wap_grammar.specs.inside.Expressions.{Reader, expression_at}
-use Rattle.wap_grammar.specs.inside.Statements.{Statements, condition_at, simple_at, arm_at, next_arm, arms_at, last_at, if_at, statement_by, statement_at}
+use Rattle.wap_grammar.specs.inside.Statements.{Statements, condition_at, simple_at}
+use Rattle.wap_grammar.specs.inside.Statements.{arm_at, next_arm, arms_at, last_at, if_at}
+use Rattle.wap_grammar.specs.inside.Statements.{statement_by, statement_at}
 use Rattle.wap_grammar.proofs.Firsts.{value_same, told_ok, sign_first}
 use Rattle.wap_grammar.proofs.Items.{Reads, reads_items}
 use Rattle.wap_grammar.proofs.Operands.{AllRead, AllStart}
@@ -153,7 +159,8 @@ module _ (src : List ℕ) (Inner : Expressions) (inner : Reader) (deep : AllRead
             let found = told_ok Some (simple_at src inner statement (after a)) x b so.1 in
             subst (λ (c : List Lexeme). Else c x b) (sym (sign_first signs.Else a so.0))
             (subst (λ (y : Option Stmt). Else (sign signs.Else (span_of a) ∷ after a) y b) found.2
-            (with_else (span_of a) (after a) b found.0 (simples.takes (after a) found.0 b found.1))))
+            (with_else (span_of a) (after a) b found.0
+            (simples.takes (after a) found.0 b found.1))))
         | inr so ↦ (
             let same = value_same (None, a) (x, b) so.1 in
             subst (λ (y : Option Stmt). Else a y b) same.0 (subst (Else a None) same.1

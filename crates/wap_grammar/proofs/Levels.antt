@@ -1,5 +1,7 @@
 -- Expressions of each level of precedence, and of each depth, are read as they are spelled.
-use Rattle.std.proofs.Common.{◌≡◌, ℕ, zero, suc, ◌<◌, ◌≤◌, Bool, true, false, cond, List, [], ◌∷◌, length, Option, Some, None, Ok, refl, sym, ap, subst, ◌∙◌, inl, inr, ◌⊎◌, eq-eqb, arith}
+use Rattle.std.proofs.Common.{◌≡◌, ℕ, zero, suc, ◌<◌, ◌≤◌, Bool, true, false, cond, List}
+use Rattle.std.proofs.Common.{[], ◌∷◌, length, Option, Some, None, Ok, refl, sym, ap}
+use Rattle.std.proofs.Common.{subst, ◌∙◌, inl, inr, ◌⊎◌, eq-eqb, arith}
 use Rattle.std.specs.Prelude.{nat_eq}
 use Rattle.std.proofs.lemmas.Bool.{eqb-true, ne_eqb, cases_Bool}
 use Rattle.wap_base.specs.Outcome.{◌>>=◌}
@@ -18,10 +20,33 @@ use Rattle.wap_grammar.specs.Words.{precedence, assignment_of, operator_of, is_s
 use Rattle.wap_grammar.specs.Values.{id_of, literal_of, chained}
 use Rattle.wap_grammar.specs.Spellings.{Spelling, token, name, sign, Several}
 use Rattle.wap_grammar.specs.Spellings as several
-use Rattle.wap_grammar.specs.Expressions.{Expressions, IsOperand, operand, IsLooser, tighter, chain, conditional, assignment, IsPart, IsExpression}
-use Rattle.wap_grammar.specs.inside.Steps.{Reading, word_of, span_of, after, nested, told, closed, id_at, items_at}
-use Rattle.wap_grammar.specs.inside.Expressions.{Reader, operand_by, next_operand, chain_at, callee_after, callee_at, variable_at, named_at, primary_at, unary_at, branches_at, conditional_at, assignment_by, assignment_at, looser_at, part_at, expression_at}
-use Rattle.wap_grammar.proofs.Firsts.{value_same, told_ok, sign_first, name_first, assignment_is, operator_is, operator_at, closed_ok, closed_at, Ends, looseness, ends_tighter, ends_branch, no_sign, no_operator, starts}
+use Rattle.wap_grammar.specs.Expressions.{Expressions, IsOperand, operand, IsLooser, tighter, chain}
+use Rattle.wap_grammar.specs.Expressions.{conditional, assignment, IsPart, IsExpression}
+use Rattle.wap_grammar.specs.inside.Steps.{Reading, word_of, span_of, after, nested}
+use Rattle.wap_grammar.specs.inside.Steps.{told, closed, id_at, items_at}
+use Rattle.wap_grammar.specs.inside.Expressions.{
+  Reader,
+  operand_by,
+  next_operand,
+  chain_at,
+  callee_after,
+  callee_at,
+  variable_at,
+  named_at,
+  primary_at,
+  unary_at,
+  branches_at,
+  conditional_at,
+  assignment_by,
+  assignment_at,
+  looser_at,
+  part_at,
+  expression_at,
+}
+use Rattle.wap_grammar.proofs.Firsts.{value_same, told_ok, sign_first, name_first}
+use Rattle.wap_grammar.proofs.Firsts.{assignment_is, operator_is, operator_at, closed_ok}
+use Rattle.wap_grammar.proofs.Firsts.{closed_at, Ends, looseness, ends_tighter, ends_branch}
+use Rattle.wap_grammar.proofs.Firsts.{no_sign, no_operator, starts}
 use Rattle.wap_grammar.proofs.Items.{Reads, ReadsItems, reads_items, first_inside, items_none}
 use Rattle.wap_grammar.proofs.Operands.{AllRead, AllStart, reads_unary, unary_starts}
 

@@ -10,9 +10,12 @@ pub mod Pragmas
 pub mod Blocks
 pub mod Whole
 mod Rows
-pub mod Agreement
+pub mod Texts
+pub mod Guards
 pub mod Unique
 pub mod Places
+pub mod Depths
 pub mod Refusals
+pub mod Below
 mod Programs
 pub mod Answering

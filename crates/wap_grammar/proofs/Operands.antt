@@ -1,5 +1,7 @@
 -- Operands, calls and what stands one level deeper in them are read as they are spelled.
-use Rattle.std.proofs.Common.{◌≡◌, ℕ, ◌<◌, ◌≤◌, Bool, true, false, cond, List, [], ◌∷◌, length, Option, Some, None, Ok, refl, sym, ap, subst, ◌∙◌, inl, inr, ◌⊎◌, arith}
+use Rattle.std.proofs.Common.{◌≡◌, ℕ, ◌<◌, ◌≤◌, Bool, true, false, cond, List, []}
+use Rattle.std.proofs.Common.{◌∷◌, length, Option, Some, None, Ok, refl, sym, ap}
+use Rattle.std.proofs.Common.{subst, ◌∙◌, inl, inr, ◌⊎◌, arith}
 use Rattle.wap_base.specs.Outcome.{◌>>=◌}
 use Rattle.wap_base.proofs.Choices.{chosen, bind_ok}
 use Rattle.wap_value.specs.declared.operator.UnOp.{UnOp}
@@ -16,10 +18,20 @@ use Rattle.wap_grammar.specs.declared.word.Sign.TheVariants as signs
 use Rattle.wap_grammar.specs.Words.{unary_of, step_of, is_sign, is_comma}
 use Rattle.wap_grammar.specs.Values.{id_of, literal_of, called}
 use Rattle.wap_grammar.specs.Spellings.{token, name, sign, Several}
-use Rattle.wap_grammar.specs.Expressions.{Expressions, IsCallee, local, external, library, IsArgument, argument, AreArguments, none, some, IsUnary, literal, variable, postfix, prefix, call, parentheses, unary}
-use Rattle.wap_grammar.specs.inside.Steps.{Reading, word_of, span_of, after, told, closed, id_at, items_at}
-use Rattle.wap_grammar.specs.inside.Expressions.{Reader, callee_after, callee_at, stepped, variable_at, next_argument, arguments_at, named_at, primary_by, primary_at, prefixed, step_by, unary_by, unary_at}
-use Rattle.wap_grammar.proofs.Firsts.{value_same, told_ok, sign_first, comma_first, step_is, closed_ok, closed_at, id_ok, literal_plain, Ends, no_sign, no_step, no_comma, starts, starts_unary_of, starts_literal, no_start}
+use Rattle.wap_grammar.specs.Expressions.{Expressions, IsCallee, local, external, library}
+use Rattle.wap_grammar.specs.Expressions.{IsArgument, argument, AreArguments, none, some}
+use Rattle.wap_grammar.specs.Expressions.{IsUnary, literal, variable, postfix, prefix, call}
+use Rattle.wap_grammar.specs.Expressions.{parentheses, unary}
+use Rattle.wap_grammar.specs.inside.Steps.{Reading, word_of, span_of, after, told}
+use Rattle.wap_grammar.specs.inside.Steps.{closed, id_at, items_at}
+use Rattle.wap_grammar.specs.inside.Expressions.{Reader, callee_after, callee_at, stepped}
+use Rattle.wap_grammar.specs.inside.Expressions.{variable_at, next_argument, arguments_at}
+use Rattle.wap_grammar.specs.inside.Expressions.{named_at, primary_by, primary_at, prefixed}
+use Rattle.wap_grammar.specs.inside.Expressions.{step_by, unary_by, unary_at}
+use Rattle.wap_grammar.proofs.Firsts.{value_same, told_ok, sign_first, comma_first, step_is}
+use Rattle.wap_grammar.proofs.Firsts.{closed_ok, closed_at, id_ok, literal_plain, Ends}
+use Rattle.wap_grammar.proofs.Firsts.{no_sign, no_step, no_comma, starts, starts_unary_of}
+use Rattle.wap_grammar.proofs.Firsts.{starts_literal, no_start}
 use Rattle.wap_grammar.proofs.Items.{Reads, ReadsItems, reads_items, first_inside}
 use Rattle.wap_grammar.proofs.Callees.{callee_ok, callee_again, callee_within}
 

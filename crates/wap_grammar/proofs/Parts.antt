@@ -1,5 +1,6 @@
 -- Lists with commas, declarations, conditions and the like are read as they are spelled.
-use Rattle.std.proofs.Common.{◌≡◌, ℕ, ◌<◌, ◌≤◌, true, false, List, [], ◌∷◌, length, Option, Some, None, Ok, refl, sym, ap, subst, ◌∙◌, inl, inr, ◌⊎◌, arith}
+use Rattle.std.proofs.Common.{◌≡◌, ℕ, ◌<◌, ◌≤◌, true, false, List, [], ◌∷◌, length, Option, Some}
+use Rattle.std.proofs.Common.{None, Ok, refl, sym, ap, subst, ◌∙◌, inl, inr, ◌⊎◌, arith}
 use Rattle.wap_base.specs.Outcome.{◌>>=◌}
 use Rattle.wap_base.proofs.Choices.{chosen, bind_ok, some_same}
 use Rattle.wap_program.specs.declared.program.Span.{Span}
@@ -15,14 +16,22 @@ use Rattle.wap_grammar.specs.declared.word.Sign.{Sign}
 use Rattle.wap_grammar.specs.declared.word.Sign.TheVariants as signs
 use Rattle.wap_grammar.specs.Words.{word_of, is_same_sign, is_sign, is_comma, is_equals}
 use Rattle.wap_grammar.specs.Values.{id_of}
-use Rattle.wap_grammar.specs.Spellings.{Spelling, token, name, sign, Several, IsAfterComma, item, AreListed, listed}
+use Rattle.wap_grammar.specs.Spellings.{Spelling, token, name, sign, Several}
+use Rattle.wap_grammar.specs.Spellings.{IsAfterComma, item, AreListed, listed}
 use Rattle.wap_grammar.specs.Expressions.{Expressions}
-use Rattle.wap_grammar.specs.Statements.{IsDeclaration, plain, valued, IsOptional, none, some, done_first, IsInitial, expression, variables, IsCondition, condition}
-use Rattle.wap_grammar.specs.inside.Steps.{Reading, span_of, after, told, expect_at, closed, id_at, items_at}
+use Rattle.wap_grammar.specs.Statements.{IsDeclaration, plain, valued, IsOptional, none}
+use Rattle.wap_grammar.specs.Statements.{some, done_first, IsInitial, expression, variables}
+use Rattle.wap_grammar.specs.Statements.{IsCondition, condition}
+use Rattle.wap_grammar.specs.inside.Steps.{Reading, span_of, after, told, expect_at}
+use Rattle.wap_grammar.specs.inside.Steps.{closed, id_at, items_at}
 use Rattle.wap_grammar.specs.inside.Expressions.{Reader}
 use Rattle.wap_grammar.specs.inside.Statements as reading
-use Rattle.wap_grammar.specs.inside.Statements.{next_listed, listed_at, declaration_after, declaration_at, variables_at, optional_at, initial_at, condition_at}
-use Rattle.wap_grammar.proofs.Firsts.{value_same, told_ok, sign_first, comma_first, closed_ok, closed_at, expect_ok, id_ok, Ends, looseness, looseness_of, no_comma, no_start}
+use Rattle.wap_grammar.specs.inside.Statements.{next_listed, listed_at, declaration_after}
+use Rattle.wap_grammar.specs.inside.Statements.{declaration_at, variables_at, optional_at}
+use Rattle.wap_grammar.specs.inside.Statements.{initial_at, condition_at}
+use Rattle.wap_grammar.proofs.Firsts.{value_same, told_ok, sign_first, comma_first}
+use Rattle.wap_grammar.proofs.Firsts.{closed_ok, closed_at, expect_ok, id_ok, Ends}
+use Rattle.wap_grammar.proofs.Firsts.{looseness, looseness_of, no_comma, no_start}
 use Rattle.wap_grammar.proofs.Items.{Reads, ReadsItems, reads_items, first_inside}
 use Rattle.wap_grammar.proofs.Operands.{AllRead, AllStart}
 
@@ -162,10 +171,12 @@ module _ (src : List ℕ) (Inner : Expressions) (inner : Reader) (deep : AllRead
   declared_ok v a d b e = elim (chosen (is_equals (word_of a)) (told (reading.valued (id_of src v))
       (inner ASSIGNMENT (after a))) (Ok ((id_of src v, None), a)) (Ok (d, b)) e) [
         | inl so ↦ (
-            let found = told_ok (reading.valued (id_of src v)) (inner ASSIGNMENT (after a)) d b so.1 in
+            let found = told_ok (reading.valued (id_of src v)) (inner ASSIGNMENT (after a)) d b
+            so.1 in
             subst (λ (x : List Lexeme). IsDeclaration src Inner (name v ∷ x) d b) (sym
             (equals_first a so.0))
-            (subst (λ (y : Id × Option Expr). IsDeclaration src Inner (name v ∷ token (word.Assign None)
+            (subst (λ (y : Id × Option Expr). IsDeclaration src Inner
+            (name v ∷ token (word.Assign None)
             (span_of a) ∷ after a) y b) found.2
             (valued v (span_of a) (after a) b found.0 ((deep ASSIGNMENT).takes
             (after a) found.0 b found.1))))
@@ -247,8 +258,10 @@ module _ (src : List ℕ) (Inner : Expressions) (inner : Reader) (deep : AllRead
           | inl so ↦ (
               let same = value_same (None, after a) (e, b) so.1 in
               subst (λ (x : List Lexeme). IsOptional Inner s x e b) (sym (sign_first s a so.0))
-              (subst (λ (f : Option Expr). IsOptional Inner s (sign s (span_of a) ∷ after a) f b) same.0
-              (subst (IsOptional Inner s (sign s (span_of a) ∷ after a) None) same.1 (none (span_of a)
+              (subst (λ (f : Option Expr). IsOptional Inner s (sign s (span_of a) ∷ after a) f b)
+              same.0
+              (subst (IsOptional Inner s (sign s (span_of a) ∷ after a) None) same.1
+              (none (span_of a)
               (after a)))))
           | inr so ↦ (
               let found = told_ok Some (inner COMMA a >>= closed src s) e b so.1 in
@@ -295,7 +308,8 @@ module _ (src : List ℕ) (Inner : Expressions) (inner : Reader) (deep : AllRead
       (after a)) (told done_first (optional_at src inner signs.Semicolon a)) (Ok (s, b)) e) [
         | inl so ↦ (
             let found = variables_ok (after a) s b so.1 in
-            subst (λ (x : List Lexeme). IsInitial src Inner x s b) (sym (sign_first signs.Var a so.0))
+            subst (λ (x : List Lexeme). IsInitial src Inner x s b)
+            (sym (sign_first signs.Var a so.0))
             (subst (λ (t : Stmt). IsInitial src Inner (sign signs.Var
             (span_of a) ∷ after a) t b) found.3
             (variables (span_of a) found.1 (after a) b found.0 found.2)))

@@ -1,5 +1,6 @@
 -- Pragmas are read as they are spelled.
-use Rattle.std.proofs.Common.{◌≡◌, ℕ, ◌<◌, true, false, cond, List, [], ◌∷◌, length, Option, Some, None, Ok, refl, sym, ap, subst, ◌∙◌, inl, inr, ◌⊎◌, arith}
+use Rattle.std.proofs.Common.{◌≡◌, ℕ, ◌<◌, true, false, cond, List, [], ◌∷◌, length, Option, Some}
+use Rattle.std.proofs.Common.{None, Ok, refl, sym, ap, subst, ◌∙◌, inl, inr, ◌⊎◌, arith}
 use Rattle.wap_base.specs.Outcome.{◌>>=◌}
 use Rattle.wap_base.proofs.Choices.{chosen, bind_ok, some_same}
 use Rattle.wap_program.specs.declared.program.Span.{Span}
@@ -14,9 +15,14 @@ use Rattle.wap_grammar.specs.declared.word.Sign.TheVariants as signs
 use Rattle.wap_grammar.specs.Words.{word_of, is_sign, is_text}
 use Rattle.wap_grammar.specs.Values.{id_of, text_of}
 use Rattle.wap_grammar.specs.Spellings.{token, name, sign, Several}
-use Rattle.wap_grammar.specs.Programs.{text, from_to, IsAccess, domain, path, both, IsProperty, plain, schemed, IsUse, url, access, name_meta, http_equiv, user_agent}
-use Rattle.wap_grammar.specs.inside.Steps.{Reading, span_of, after, syntax, told, expect_at, closed, id_at, items_at}
-use Rattle.wap_grammar.specs.inside.Programs.{text_at, signed_at, access_by, access_at, scheme_at, property_at, agent_of, note_of, url_at, who_at, meta_at, use_at, next_use}
+use Rattle.wap_grammar.specs.Programs.{text, from_to, IsAccess, domain, path, both}
+use Rattle.wap_grammar.specs.Programs.{IsProperty, plain, schemed, IsUse, url, access}
+use Rattle.wap_grammar.specs.Programs.{name_meta, http_equiv, user_agent}
+use Rattle.wap_grammar.specs.inside.Steps.{Reading, span_of, after, syntax, told}
+use Rattle.wap_grammar.specs.inside.Steps.{expect_at, closed, id_at, items_at}
+use Rattle.wap_grammar.specs.inside.Programs.{text_at, signed_at, access_by, access_at}
+use Rattle.wap_grammar.specs.inside.Programs.{scheme_at, property_at, agent_of, note_of}
+use Rattle.wap_grammar.specs.inside.Programs.{url_at, who_at, meta_at, use_at, next_use}
 use Rattle.wap_grammar.proofs.Firsts.{value_same, told_ok, sign_first, closed_ok, expect_ok, id_ok}
 use Rattle.wap_grammar.proofs.Items.{Reads, reads_items}
 use Rattle.wap_grammar.proofs.Parts.{Anything, closing_ok, closing_again}
@@ -71,8 +77,8 @@ module _ (src : List ℕ) where
             (signed_by s (span_of a) (after a) found.0 b (text_ok (after a) found.0 b found.1))))
         | inr so ↦ (
             let same = value_same (None, a) (o, b) so.1 in
-            subst (λ (v : Option (List ℕ)). IsSigned s a v b) same.0 (subst (IsSigned s a None) same.1
-            (absent a)))
+            subst (λ (v : Option (List ℕ)). IsSigned s a v b) same.0
+            (subst (IsSigned s a None) same.1 (absent a)))
       ]
 
   who_by : (a : List Lexeme) (d : Option (List ℕ)) (c : List Lexeme) → IsSigned signs.Domain a d c →

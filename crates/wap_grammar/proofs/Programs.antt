@@ -1,6 +1,7 @@
 -- Programs and their tokens, worked. Each name is `f`, and all places are those of the source's
 -- one byte.
-use Rattle.std.proofs.Common.{◌≡◌, ℕ, zero, suc, true, false, List, [], ◌∷◌, Some, None, Err, is_ok, codes, refl}
+use Rattle.std.proofs.Common.{◌≡◌, ℕ, zero, suc, true, false, List, [], ◌∷◌}
+use Rattle.std.proofs.Common.{Some, None, Err, is_ok, codes, refl}
 use Rattle.wap_value.specs.declared.operator.BinOp.TheVariants as op
 use Rattle.wap_program.specs.declared.program.Span.{Span}
 use Rattle.wap_program.specs.declared.expression.Expr.{Expr}
@@ -17,9 +18,15 @@ use Rattle.wap_grammar.specs.Values.{id_of, literal_of}
 use Rattle.wap_grammar.specs.Spellings.{token, name, sign}
 use Rattle.wap_grammar.specs.Programs.{IsProgram}
 use Rattle.wap_grammar.specs.inside.Steps.{expect_at, id_at, items_at}
-use Rattle.wap_grammar.specs.inside.Expressions.{callee_after, callee_at, variable_at, named_at, primary_at, unary_at, next_operand, chain_at, conditional_at, assignment_at, part_at, expression_at}
-use Rattle.wap_grammar.specs.inside.Statements.{optional_at, condition_at, next_statement, block_at, simple_by, simple_at, arm_at, next_arm, arms_at, last_at, if_at, statement_by, statement_at}
-use Rattle.wap_grammar.specs.inside.Programs.{next_use, parameters_at, head_at, function_at, next_function, program_at}
+use Rattle.wap_grammar.specs.inside.Expressions.{callee_after, callee_at, variable_at}
+use Rattle.wap_grammar.specs.inside.Expressions.{named_at, primary_at, unary_at, next_operand}
+use Rattle.wap_grammar.specs.inside.Expressions.{chain_at, conditional_at, assignment_at}
+use Rattle.wap_grammar.specs.inside.Expressions.{part_at, expression_at}
+use Rattle.wap_grammar.specs.inside.Statements.{optional_at, condition_at, next_statement, block_at}
+use Rattle.wap_grammar.specs.inside.Statements.{simple_by, simple_at, arm_at, next_arm, arms_at}
+use Rattle.wap_grammar.specs.inside.Statements.{last_at, if_at, statement_by, statement_at}
+use Rattle.wap_grammar.specs.inside.Programs.{next_use, parameters_at, head_at}
+use Rattle.wap_grammar.specs.inside.Programs.{function_at, next_function, program_at}
 use Rattle.wap_grammar.proofs.Whole.{program_ok}
 
 src : List ℕ
@@ -44,14 +51,18 @@ within body = s signs.Function ∷ v ∷ s signs.Open ∷ s signs.Close ∷ s si
 abbrev one_of : Stmt → Program
 one_of body = record {
   uses = [];
-  functions = record { name = id_of src here; external = false; params = []; body = body ∷ [] } ∷ [];
+  functions =
+      record { name = id_of src here; external = false; params = []; body = body ∷ [] } ∷ [];
 }
 
 -- return f + f * f ;
 sums : IsProgram src 64 (within (s signs.Return ∷ v ∷ token (word.Operator op.Add) here ∷ v ∷
     token (word.Operator op.Mul) here ∷ v ∷ s signs.Semicolon ∷ s signs.CloseBlock ∷ []))
     (one_of (stmt.Return (Some (expr.Chain f ((op.Add, expr.Chain f ((op.Mul, f) ∷ [])) ∷ [])))))
-unfolding src here f s v program_at next_use next_function function_at head_at parameters_at block_at next_statement statement_at statement_by simple_at simple_by optional_at expression_at part_at assignment_at conditional_at chain_at next_operand unary_at primary_at named_at callee_at callee_after variable_at literal_of id_at items_at expect_at
+unfolding src here f s v program_at next_use next_function function_at head_at parameters_at
+    block_at next_statement statement_at statement_by simple_at simple_by optional_at expression_at
+    part_at assignment_at conditional_at chain_at next_operand unary_at primary_at named_at
+    callee_at callee_after variable_at literal_of id_at items_at expect_at
 sums = program_ok src 64 _ _ refl
 
 -- if ( f ) if ( f ) ; else ;
@@ -59,7 +70,11 @@ elses : IsProgram src 64 (within (s signs.If ∷ s signs.Open ∷ v ∷ s signs.
     s signs.Open ∷ v ∷ s signs.Close ∷ s signs.Semicolon ∷ s signs.Else ∷ s signs.Semicolon ∷
     s signs.CloseBlock ∷ []))
     (one_of (stmt.If ((f, stmt.If ((f, stmt.Empty) ∷ []) (Some stmt.Empty)) ∷ []) None))
-unfolding src here f s v program_at next_use next_function function_at head_at parameters_at block_at next_statement statement_at statement_by simple_at simple_by if_at arm_at next_arm arms_at last_at condition_at optional_at expression_at part_at assignment_at conditional_at chain_at next_operand unary_at primary_at named_at callee_at callee_after variable_at literal_of id_at items_at expect_at
+unfolding src here f s v program_at next_use next_function function_at head_at parameters_at
+    block_at next_statement statement_at statement_by simple_at simple_by if_at arm_at next_arm
+    arms_at last_at condition_at optional_at expression_at part_at assignment_at conditional_at
+    chain_at next_operand unary_at primary_at named_at callee_at callee_after variable_at literal_of
+    id_at items_at expect_at
 elses = program_ok src 64 _ _ refl
 
 -- so many parentheses around f
@@ -70,10 +85,16 @@ around (suc n) rest = s signs.Open ∷ around n (s signs.Close ∷ rest)
 abbrev returned : ℕ → List Lexeme
 returned n = within (s signs.Return ∷ around n (s signs.Semicolon ∷ s signs.CloseBlock ∷ []))
 
-deepest : is_ok (program_at src 64 (returned 62)) ≡ true
-unfolding around src here f s v program_at next_use next_function function_at head_at parameters_at block_at next_statement statement_at statement_by simple_at simple_by optional_at expression_at part_at assignment_at conditional_at chain_at next_operand unary_at primary_at named_at callee_at callee_after variable_at literal_of id_at items_at expect_at
+deepest : is_ok (program_at src (statement_at src 64) (returned 62)) ≡ true
+unfolding around src here f s v program_at next_use next_function function_at head_at parameters_at
+    block_at next_statement statement_at statement_by simple_at simple_by optional_at expression_at
+    part_at assignment_at conditional_at chain_at next_operand unary_at primary_at named_at
+    callee_at callee_after variable_at literal_of id_at items_at expect_at
 deepest = refl
 
-too_deep : program_at src 64 (returned 63) ≡ Err (fault.Nested 0)
-unfolding around src here f s v program_at next_use next_function function_at head_at parameters_at block_at next_statement statement_at statement_by simple_at simple_by optional_at expression_at part_at assignment_at conditional_at chain_at next_operand unary_at primary_at named_at callee_at callee_after variable_at literal_of id_at items_at expect_at
+too_deep : program_at src (statement_at src 64) (returned 63) ≡ Err (fault.Nested 0)
+unfolding around src here f s v program_at next_use next_function function_at head_at parameters_at
+    block_at next_statement statement_at statement_by simple_at simple_by optional_at expression_at
+    part_at assignment_at conditional_at chain_at next_operand unary_at primary_at named_at
+    callee_at callee_after variable_at literal_of id_at items_at expect_at
 too_deep = refl

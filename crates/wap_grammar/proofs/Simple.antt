@@ -1,5 +1,6 @@
 -- Statements other than `if` are read as they are spelled.
-use Rattle.std.proofs.Common.{◌≡◌, ℕ, ◌<◌, true, false, List, [], ◌∷◌, length, Option, Some, None, Ok, refl, sym, ap, subst, ◌∙◌, arith}
+use Rattle.std.proofs.Common.{◌≡◌, ℕ, ◌<◌, true, false, List, [], ◌∷◌, length, Option, Some}
+use Rattle.std.proofs.Common.{None, Ok, refl, sym, ap, subst, ◌∙◌, arith}
 use Rattle.wap_base.specs.Outcome.{◌>>=◌}
 use Rattle.wap_base.proofs.Choices.{bind_ok, some_same}
 use Rattle.wap_program.specs.declared.program.Span.{Span}
@@ -18,15 +19,19 @@ use Rattle.wap_grammar.specs.Words.{word_of, is_same_sign, is_sign, start_of, st
 use Rattle.wap_grammar.specs.Spellings.{Spelling, token, sign}
 use Rattle.wap_grammar.specs.Expressions.{Expressions}
 use Rattle.wap_grammar.specs.Statements as stated
-use Rattle.wap_grammar.specs.Statements.{IsOptional, IsInitial, IsCondition, IsSimple}
+use Rattle.wap_grammar.specs.Statements.{IsOptional, IsCondition, IsSimple}
 use Rattle.wap_grammar.specs.inside.Steps.{Reading, span_of, after, told, expect_at, closed}
 use Rattle.wap_grammar.specs.inside.Expressions.{Reader}
-use Rattle.wap_grammar.specs.inside.Statements.{Statements, optional_at, initial_at, condition_at, block_at, while_at, for_at, simple_by, simple_at}
-use Rattle.wap_grammar.proofs.Firsts.{value_same, told_ok, closed_ok, closed_at, expect_ok, starts, no_start}
+use Rattle.wap_grammar.specs.inside.Statements.{Statements, optional_at, initial_at, condition_at}
+use Rattle.wap_grammar.specs.inside.Statements.{block_at, while_at, for_at, simple_by, simple_at}
+use Rattle.wap_grammar.proofs.Firsts.{value_same, told_ok, closed_ok, closed_at}
+use Rattle.wap_grammar.proofs.Firsts.{expect_ok, starts, no_start}
 use Rattle.wap_grammar.proofs.Items.{Reads}
 use Rattle.wap_grammar.proofs.Operands.{AllRead, AllStart}
 use Rattle.wap_grammar.proofs.Blocks.{ReadsStatements, block_ok, block_again, block_within}
-use Rattle.wap_grammar.proofs.Parts.{Anything, closing_ok, closing_again, variables_ok, variables_again, reads_optional, reads_declarations, reads_initial, reads_condition}
+use Rattle.wap_grammar.proofs.Parts.{Anything, closing_ok, closing_again, variables_ok}
+use Rattle.wap_grammar.proofs.Parts.{variables_again, reads_optional, reads_declarations}
+use Rattle.wap_grammar.proofs.Parts.{reads_initial, reads_condition}
 
 -- the sign of its own that a statement begins with
 pub sign_for : Start → Option Sign

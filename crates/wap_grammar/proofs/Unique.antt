@@ -5,7 +5,7 @@ use Rattle.wap_program.specs.declared.program.Program.{Program}
 use Rattle.wap_grammar.specs.declared.lexeme.Lexeme.{Lexeme}
 use Rattle.wap_grammar.specs.Programs.{Spells}
 use Rattle.wap_grammar.proofs.Whole.{program_again}
-use Rattle.wap_grammar.proofs.Agreement.{program_more}
+use Rattle.wap_grammar.proofs.Below.{program_more}
 
 pub one : (src : List ℕ) (a : List Lexeme) (p q : Program) → Spells src p a → Spells src q a → p ≡ q
 one src a p q first second =

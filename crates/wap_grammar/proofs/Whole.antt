@@ -1,5 +1,6 @@
 -- Functions and programs are read as they are spelled.
-use Rattle.std.proofs.Common.{◌≡◌, ℕ, ◌<◌, ◌≤◌, Bool, true, false, cond, List, [], ◌∷◌, length, Some, None, Ok, refl, sym, ap, subst, ◌∙◌, inl, inr, arith}
+use Rattle.std.proofs.Common.{◌≡◌, ℕ, ◌<◌, ◌≤◌, Bool, true, false, cond, List, [], ◌∷◌, length}
+use Rattle.std.proofs.Common.{Some, None, Ok, refl, sym, ap, subst, ◌∙◌, inl, inr, arith}
 use Rattle.wap_base.specs.Outcome.{◌>>=◌}
 use Rattle.wap_base.proofs.Choices.{chosen, bind_ok, ok_same, some_same}
 use Rattle.wap_program.specs.declared.program.Id.{Id}
@@ -11,13 +12,18 @@ use Rattle.wap_grammar.specs.declared.lexeme.Lexeme.{Lexeme}
 use Rattle.wap_grammar.specs.declared.word.Sign.TheVariants as signs
 use Rattle.wap_grammar.specs.Words.{word_of, is_sign}
 use Rattle.wap_grammar.specs.Values.{id_of}
-use Rattle.wap_grammar.specs.Spellings.{Spelling, token, name, sign, Several, AreListed, listed}
+use Rattle.wap_grammar.specs.Spellings.{Spelling, name, sign, Several, AreListed, listed}
 use Rattle.wap_grammar.specs.Spellings as several
 use Rattle.wap_grammar.specs.Statements.{IsStatement}
-use Rattle.wap_grammar.specs.Programs.{IsUse, IsHead, own, external, IsParameter, parameter, AreParameters, none, some, IsTail, without, semicolon, IsFunction, function, IsProgram, program}
-use Rattle.wap_grammar.specs.inside.Steps.{Reading, span_of, after, told, expect_at, closed, id_at, items_at}
-use Rattle.wap_grammar.specs.inside.Statements.{listed_at, block_at, statement_at}
-use Rattle.wap_grammar.specs.inside.Programs.{next_use, parameters_at, tail_at, head_at, function_of, function_at, next_function, program_by, program_at}
+use Rattle.wap_grammar.specs.Programs.{IsUse, IsHead, own, external, IsParameter, parameter}
+use Rattle.wap_grammar.specs.Programs.{AreParameters, none, some, IsTail, without, semicolon}
+use Rattle.wap_grammar.specs.Programs.{IsFunction, function, IsProgramOf, IsProgram, program}
+use Rattle.wap_grammar.specs.inside.Steps.{Reading, span_of, after, told, expect_at}
+use Rattle.wap_grammar.specs.inside.Steps.{closed, id_at, items_at}
+use Rattle.wap_grammar.specs.inside.Statements.{Statements, listed_at, block_at, statement_at}
+use Rattle.wap_grammar.specs.inside.Programs.{next_use, parameters_at, tail_at, head_at}
+use Rattle.wap_grammar.specs.inside.Programs.{function_of, function_at, next_function}
+use Rattle.wap_grammar.specs.inside.Programs.{program_by, program_at}
 use Rattle.wap_grammar.proofs.Firsts.{value_same, told_ok, sign_first, expect_ok, id_ok, Ends}
 use Rattle.wap_grammar.proofs.Items.{Reads, reads_items}
 use Rattle.wap_grammar.proofs.Parts.{closing_ok, closing_again, reads_listed}
@@ -25,7 +31,8 @@ use Rattle.wap_grammar.proofs.Blocks.{block_ok, block_again, block_within}
 use Rattle.wap_grammar.proofs.Ifs.{ReadsStatements, reads_statements}
 use Rattle.wap_grammar.proofs.Pragmas.{NoUse, reads_uses}
 
-module _ (src : List ℕ) (levels : ℕ) where
+module _ (src : List ℕ) (Statement : Spelling Stmt) (statement : Statements)
+    (statements : ReadsStatements Statement statement) where
   -- ---- parameters
 
   parameter_ok : (a : List Lexeme) (v : Id) (b : List Lexeme) → id_at src a ≡ Ok (v, b) →
@@ -60,7 +67,8 @@ module _ (src : List ℕ) (levels : ℕ) where
       (listed_at (id_at src) a >>= closed src signs.Close) (Ok (ps, b)) e) [
         | inl so ↦ (
             let same = value_same ([], after a) (ps, b) so.1 in
-            subst (λ (x : List Lexeme). AreParameters src x ps b) (sym (sign_first signs.Close a so.0))
+            subst (λ (x : List Lexeme). AreParameters src x ps b)
+            (sym (sign_first signs.Close a so.0))
             (subst (λ (qs : List Id). AreParameters src (sign signs.Close
             (span_of a) ∷ after a) qs b) same.0
             (subst (AreParameters src (sign signs.Close (span_of a) ∷ after a) []) same.1 (none
@@ -157,13 +165,10 @@ module _ (src : List ℕ) (levels : ℕ) where
   tail_within a b (semicolon end x) = omega arith
 
   abbrev body : List Lexeme → Reading (List Stmt)
-  body = block_at src (statement_at src levels)
-
-  abbrev statements : ReadsStatements (IsStatement src levels) (statement_at src levels)
-  statements = reads_statements src levels
+  body = block_at src statement
 
   function_ok : (a : List Lexeme) (g : Function) (b : List Lexeme) →
-      function_at src levels a ≡ Ok (g, b) → IsFunction src levels a g b
+      function_at src statement a ≡ Ok (g, b) → IsFunction src Statement a g b
   unfolding function_at
   function_ok a g b e =
       let head = bind_ok (head_at src a) (λ head. id_at src head.1 >>= λ f. expect_at src signs.Open
@@ -188,12 +193,11 @@ module _ (src : List ℕ) (levels : ℕ) where
       let same = value_same (function_of head.0.0 f.0.0 ps.0.0 ss.0.0, tail_at ss.0.1)
       (g, b) ss.2 in
       let id = id_ok src head.0.1 f.0.0 f.0.1 f.1 in
-      let inside = block_ok src (IsStatement src levels)
-      (statement_at src levels) statements opened.0 ss.0.0 ss.0.1 ss.1 in
+      let inside = block_ok src Statement statement statements opened.0 ss.0.0 ss.0.1 ss.1 in
       let named : head.0.1 ≡ name (span_of head.0.1) ∷ sign signs.Open (span_of f.0.1) ∷ left.0 =
       id.0 ∙ ap (λ (x : List Lexeme). name (span_of head.0.1) ∷ x)
       (expect_ok src signs.Open f.0.1 left.0 left.1) in
-      subst (λ (h : Function). IsFunction src levels a h b) (ap (λ
+      subst (λ (h : Function). IsFunction src Statement a h b) (ap (λ
       (i : Id). function_of head.0.0 i ps.0.0 ss.0.0) (sym id.1) ∙ same.0)
       (function (span_of head.0.1) (span_of f.0.1) (span_of ps.0.1) inside.0 a left.0 opened.0
       ss.0.1 b head.0.0 ps.0.0 ss.0.0
@@ -203,8 +207,8 @@ module _ (src : List ℕ) (levels : ℕ) where
       inside.1 (subst (IsTail ss.0.1) same.1 (tail_ok ss.0.1)))
 
   function_again : (a : List Lexeme) (g : Function) (b : List Lexeme) →
-      IsFunction src levels a g b → is_sign signs.Semicolon (word_of b) ≡ false →
-      function_at src levels a ≡ Ok (g, b)
+      IsFunction src Statement a g b → is_sign signs.Semicolon (word_of b) ≡ false →
+      function_at src statement a ≡ Ok (g, b)
   unfolding function_at id_at expect_at
   function_again a g b (function f left opened shut a' y z u b' out ps ss one two three four) over =
       ap (λ (r : Reading Bool). r >>= λ head. id_at src head.1 >>= λ f. expect_at src signs.Open f.1
@@ -219,19 +223,19 @@ module _ (src : List ℕ) (levels : ℕ) where
             (id_of src f) ps ss.0,
         tail_at ss.1,
       ))
-      (block_again src (IsStatement src levels) (statement_at src levels) statements z ss shut u
+      (block_again src Statement statement statements z ss shut u
       three)
       ∙ ap (λ (x : List Lexeme). Ok (function_of out (id_of src f) ps ss, x))
       (tail_again u b four over)
 
   function_shorter : (a : List Lexeme) (g : Function) (b : List Lexeme) →
-      IsFunction src levels a g b → length b < length a
+      IsFunction src Statement a g b → length b < length a
   function_shorter a g b (function f left opened shut a' y z u b' out ps ss one two three four) =
       omega (
         arith,
         head_shorter a out (name f ∷ sign signs.Open left ∷ y) one,
         parameters_within y ps (sign signs.OpenBlock opened ∷ z) two,
-        block_within src (IsStatement src levels) (statement_at src levels) statements z ss shut u
+        block_within src Statement statement statements z ss shut u
             three,
         tail_within u b four,
       )
@@ -242,27 +246,27 @@ module _ (src : List ℕ) (levels : ℕ) where
   head_first a out b (external extern word x) = (refl, refl)
 
   function_first : (a : List Lexeme) (g : Function) (b : List Lexeme) →
-      IsFunction src levels a g b → (is_sign signs.Semicolon (word_of a) ≡ false) ×
+      IsFunction src Statement a g b → (is_sign signs.Semicolon (word_of a) ≡ false) ×
       (is_sign signs.Use (word_of a) ≡ false)
   function_first a g b (function f left opened shut a' y z u b' out ps ss one two three four) =
       head_first a out (name f ∷ sign signs.Open left ∷ y) one
 
   next_item : (a : List Lexeme) (g : Function) (b : List Lexeme) →
-      next_function src levels a ≡ Ok (Some g, b) → IsFunction src levels a g b
+      next_function src statement a ≡ Ok (Some g, b) → IsFunction src Statement a g b
   unfolding next_function
   next_item [] g b e = let same = (value_same (None, []) (Some g, b) e).0 in absurd cc
   next_item (l ∷ x) g b e =
-      let found = told_ok Some (function_at src levels (l ∷ x)) (Some g) b e in
+      let found = told_ok Some (function_at src statement (l ∷ x)) (Some g) b e in
       function_ok (l ∷ x) g b (found.1 ∙ ap (λ y. Ok (y, b)) (some_same found.0 g found.2))
 
-  next_stop : (a b : List Lexeme) → next_function src levels a ≡ Ok (None, b) → a ≡ b
+  next_stop : (a b : List Lexeme) → next_function src statement a ≡ Ok (None, b) → a ≡ b
   unfolding next_function
   next_stop [] b e = (value_same (None, []) (None, b) e).1
-  next_stop (l ∷ x) b e = let found = told_ok Some (function_at src levels
+  next_stop (l ∷ x) b e = let found = told_ok Some (function_at src statement
       (l ∷ x)) None b e in absurd cc
 
-  next_again : (a : List Lexeme) (g : Function) (b : List Lexeme) → IsFunction src levels a g b →
-      is_sign signs.Semicolon (word_of b) ≡ false → next_function src levels a ≡ Ok (Some g, b)
+  next_again : (a : List Lexeme) (g : Function) (b : List Lexeme) → IsFunction src Statement a g b →
+      is_sign signs.Semicolon (word_of b) ≡ false → next_function src statement a ≡ Ok (Some g, b)
   unfolding next_function
   next_again [] g b is over = absurd (omega (arith, function_shorter [] g b is))
   next_again (l ∷ x) g b is over = ap (told Some) (function_again (l ∷ x) g b is over)
@@ -273,14 +277,14 @@ module _ (src : List ℕ) (levels : ℕ) where
   abbrev IsEnd : List Lexeme → Type 0
   IsEnd a = a ≡ []
 
-  reads_functions : Reads (Several (IsFunction src levels)) IsEnd (items_at
-      (next_function src levels))
+  reads_functions : Reads (Several (IsFunction src Statement)) IsEnd (items_at
+      (next_function src statement))
   unfolding next_function
   reads_functions = reads_items {Inside = NoSemicolon} (record {
     item = next_item;
     stop = next_stop;
     again = next_again;
-    stops = λ b over. ap (next_function src levels) over ∙ ap (λ (x : List Lexeme). Ok (None, x))
+    stops = λ b over. ap (next_function src statement) over ∙ ap (λ (x : List Lexeme). Ok (None, x))
         (sym over);
     looser = λ b over. ap (λ (x : List Lexeme). is_sign signs.Semicolon (word_of x)) over;
     goes_on = λ a g b is. (function_first a g b is).0;
@@ -290,35 +294,47 @@ module _ (src : List ℕ) (levels : ℕ) where
   -- ---- programs
 
   whole_ok : (a : List Lexeme) (us : List Use) (c : List Lexeme) → Several (IsUse src) a us c →
-      (fs : List Function) (d : List Lexeme) → Several (IsFunction src levels) c fs d
-      → (p : Program) → program_by src us fs d ≡ Ok p → IsProgram src levels a p
+      (fs : List Function) (d : List Lexeme) → Several (IsFunction src Statement) c fs d
+      → (p : Program) → program_by src us fs d ≡ Ok p → IsProgramOf src Statement a p
   whole_ok a us c uses [] d functions p e = absurd cc
   whole_ok a us c uses (f ∷ fs) [] functions p e =
-      subst (IsProgram src levels a) (ok_same (record { uses = us; functions = f ∷ fs }) p e)
+      subst (IsProgramOf src Statement a) (ok_same (record { uses = us; functions = f ∷ fs }) p e)
       (program a c us f fs uses functions)
   whole_ok a us c uses (f ∷ fs) (l ∷ d) functions p e = absurd cc
 
-  pub program_ok : (a : List Lexeme) (p : Program) → program_at src levels a ≡ Ok p →
-      IsProgram src levels a p
+  pub program_ok_of : (a : List Lexeme) (p : Program) → program_at src statement a ≡ Ok p →
+      IsProgramOf src Statement a p
   unfolding program_at
-  program_ok a p e =
+  program_ok_of a p e =
       let us = bind_ok (items_at (next_use src) a) (λ us. items_at
-      (next_function src levels) us.1 >>= λ fs. program_by src us.0 fs.0 fs.1) p e in
-      let fs = bind_ok (items_at (next_function src levels) us.0.1)
+      (next_function src statement) us.1 >>= λ fs. program_by src us.0 fs.0 fs.1) p e in
+      let fs = bind_ok (items_at (next_function src statement) us.0.1)
       (λ fs. program_by src us.0.0 fs.0 fs.1) p us.2 in
       whole_ok a us.0.0 us.0.1 ((reads_uses src).takes a us.0.0 us.0.1 us.1) fs.0.0 fs.0.1
       (reads_functions.takes us.0.1 fs.0.0 fs.0.1 fs.1) p fs.2
 
   no_use : (a : List Lexeme) (f : Function) (fs : List Function) (b : List Lexeme) →
-      Several (IsFunction src levels) a (f ∷ fs) b → NoUse src a
+      Several (IsFunction src Statement) a (f ∷ fs) b → NoUse src a
   no_use a f fs b (several.more a' c b' f' fs' one others) = (function_first a f c one).1
 
-  pub program_again : (a : List Lexeme) (p : Program) → IsProgram src levels a p →
-      program_at src levels a ≡ Ok p
+  pub program_again_of : (a : List Lexeme) (p : Program) → IsProgramOf src Statement a p →
+      program_at src statement a ≡ Ok p
   unfolding program_at
-  program_again a p (program a' c us f fs uses functions) =
+  program_again_of a p (program a' c us f fs uses functions) =
       ap (λ (r : Reading (List Use)). r >>= λ us. items_at
-      (next_function src levels) us.1 >>= λ fs. program_by src us.0 fs.0 fs.1)
+      (next_function src statement) us.1 >>= λ fs. program_by src us.0 fs.0 fs.1)
       ((reads_uses src).again a us c uses (no_use c f fs [] functions))
       ∙ ap (λ (r : Reading (List Function)). r >>= λ fs. program_by src us fs.0 fs.1)
       (reads_functions.again c (f ∷ fs) [] functions refl)
+
+-- ---- with so many levels
+
+pub program_ok : (src : List ℕ) (levels : ℕ) (a : List Lexeme) (p : Program) →
+    program_at src (statement_at src levels) a ≡ Ok p → IsProgram src levels a p
+program_ok src levels = program_ok_of src (IsStatement src levels) (statement_at src levels)
+    (reads_statements src levels)
+
+pub program_again : (src : List ℕ) (levels : ℕ) (a : List Lexeme) (p : Program) →
+    IsProgram src levels a p → program_at src (statement_at src levels) a ≡ Ok p
+program_again src levels = program_again_of src (IsStatement src levels) (statement_at src levels)
+    (reads_statements src levels)

@@ -13,10 +13,12 @@ use Rattle.wap_program.specs.declared.expression.Expr.TheVariants as expr
 use Rattle.wap_grammar.specs.declared.callee.Callee.{Callee}
 use Rattle.wap_grammar.specs.declared.callee.Callee.TheVariants as callee
 use Rattle.wap_grammar.specs.declared.lexeme.Lexeme.{Lexeme}
-use Rattle.wap_grammar.specs.declared.precedence.TheConstants.{UNARY, CONDITIONAL, ASSIGNMENT, COMMA}
+use Rattle.wap_grammar.specs.declared.precedence.TheConstants.{UNARY, CONDITIONAL}
+use Rattle.wap_grammar.specs.declared.precedence.TheConstants.{ASSIGNMENT, COMMA}
 use Rattle.wap_grammar.specs.declared.word.Word.{Word}
 use Rattle.wap_grammar.specs.declared.word.Word.TheVariants.{Operator, Step, Assign}
-use Rattle.wap_grammar.specs.declared.word.Sign.TheVariants.{Question, Colon, Open, Close, Hash, Dot}
+use Rattle.wap_grammar.specs.declared.word.Sign.TheVariants.{Question, Colon, Open}
+use Rattle.wap_grammar.specs.declared.word.Sign.TheVariants.{Close, Hash, Dot}
 use Rattle.wap_grammar.specs.Words.{precedence, unary_of}
 use Rattle.wap_grammar.specs.Values.{id_of, literal_of, called}
 use Rattle.wap_grammar.specs.Spellings.{Spelling, token, name, sign, Several}

@@ -1,9 +1,11 @@
 pub mod Words
 pub mod Strings
+pub mod Texts
 pub mod Values
 pub mod Spellings
 pub mod Expressions
 pub mod Statements
 pub mod Refusal
 pub mod Programs
+pub mod Depth
 pub mod inside

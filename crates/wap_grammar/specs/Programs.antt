@@ -12,7 +12,7 @@ use Rattle.wap_grammar.specs.declared.lexeme.Lexeme.{Lexeme}
 use Rattle.wap_grammar.specs.declared.word.Word.TheVariants as word
 use Rattle.wap_grammar.specs.declared.word.Sign.TheVariants as signs
 use Rattle.wap_grammar.specs.Values.{id_of, text_of}
-use Rattle.wap_grammar.specs.Spellings.{token, name, sign, Several, AreListed}
+use Rattle.wap_grammar.specs.Spellings.{Spelling, token, name, sign, Several, AreListed}
 use Rattle.wap_grammar.specs.Statements.{IsStatement}
 
 abbrev pub text : Span → Lexeme
@@ -98,27 +98,32 @@ pub data IsTail : List Lexeme → List Lexeme → Type 0 where
   without : (x : List Lexeme) → IsTail x x
   semicolon : (end : Span) (x : List Lexeme) → IsTail (sign signs.Semicolon end ∷ x) x
 
--- a function whose statements span so many levels at most
-pub data IsFunction (src : List ℕ) (levels : ℕ) : List Lexeme → Function → List Lexeme →
-    Type 0 where
+-- a function of such statements
+pub data IsFunction (src : List ℕ) (Statement : Spelling Stmt) : List Lexeme → Function →
+    List Lexeme → Type 0 where
   function : (f left opened closed : Span) (x y z u v : List Lexeme) (out : Bool) (ps : List Id)
       (ss : List Stmt) →
       IsHead x out (name f ∷ sign signs.Open left ∷ y) →
       AreParameters src y ps (sign signs.OpenBlock opened ∷ z) →
-      Several (IsStatement src levels) z ss (sign signs.CloseBlock closed ∷ u) → IsTail u v →
-      IsFunction src levels x (record {
+      Several Statement z ss (sign signs.CloseBlock closed ∷ u) → IsTail u v →
+      IsFunction src Statement x (record {
         name = id_of src f;
         external = out;
         params = ps;
         body = ss;
       }) v
 
--- all tokens spell a program whose statements span so many levels at most
-pub data IsProgram (src : List ℕ) (levels : ℕ) : List Lexeme → Program → Type 0 where
+-- all tokens spell a program of such statements
+pub data IsProgramOf (src : List ℕ) (Statement : Spelling Stmt) : List Lexeme → Program →
+    Type 0 where
   program : (x y : List Lexeme) (us : List Use) (f : Function) (fs : List Function) →
       Several (IsUse src) x us y →
-      Several (IsFunction src levels) y (f ∷ fs) [] →
-      IsProgram src levels x (record { uses = us; functions = f ∷ fs })
+      Several (IsFunction src Statement) y (f ∷ fs) [] →
+      IsProgramOf src Statement x (record { uses = us; functions = f ∷ fs })
+
+-- all tokens spell a program whose statements span so many levels at most
+abbrev pub IsProgram : List ℕ → ℕ → List Lexeme → Program → Type 0
+IsProgram src levels = IsProgramOf src (IsStatement src levels)
 
 -- all tokens spell a program, at whatever levels its parts stand
 abbrev pub Spells : List ℕ → Program → List Lexeme → Type 0

@@ -10,7 +10,9 @@ use Rattle.wap_grammar.specs.declared.lexeme.Lexeme.{Lexeme}
 use Rattle.wap_grammar.specs.declared.precedence.TheConstants.{ASSIGNMENT, COMMA}
 use Rattle.wap_grammar.specs.declared.word.Word.TheVariants.{Assign}
 use Rattle.wap_grammar.specs.declared.word.Sign.{Sign}
-use Rattle.wap_grammar.specs.declared.word.Sign.TheVariants.{Semicolon, Open, Close, OpenBlock, CloseBlock, Break, Continue, Else, For, If, Return, Var, While}
+use Rattle.wap_grammar.specs.declared.word.Sign.TheVariants.{Semicolon, Open, Close, OpenBlock}
+use Rattle.wap_grammar.specs.declared.word.Sign.TheVariants.{CloseBlock, Break, Continue, Else, For}
+use Rattle.wap_grammar.specs.declared.word.Sign.TheVariants.{If, Return, Var, While}
 use Rattle.wap_grammar.specs.Words.{is_sign, word_of}
 use Rattle.wap_grammar.specs.Values.{id_of}
 use Rattle.wap_grammar.specs.Spellings.{Spelling, token, name, sign, Several, AreListed}

@@ -1,5 +1,6 @@
 -- The text that a string stands for (WAP-193, section 6.1.5.3).
-use Rattle.std.specs.Prelude.{ℕ, ◌-◌, nat_le, nat_lt, Bool, ◌==◌, ◌&&◌, if◌then◌else◌, List, [], ◌∷◌, take, drop, length}
+use Rattle.std.specs.Prelude.{ℕ, ◌-◌, nat_le, nat_lt, Bool, ◌==◌, ◌&&◌}
+use Rattle.std.specs.Prelude.{if◌then◌else◌, List, [], ◌∷◌, take, drop, length}
 use Rattle.std.specs.Str.{chars}
 use Rattle.wap_lex.specs.Characters.{is_octal_digit, is_hexadecimal_digit}
 use Rattle.wap_lex.specs.Numbers.{with_digit}

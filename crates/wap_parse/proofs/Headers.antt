@@ -9,7 +9,8 @@ use Rattle.wap_grammar.specs.declared.lexeme.Lexeme.{Lexeme}
 use Rattle.wap_grammar.specs.declared.word.Sign.TheVariants as sign
 use Rattle.wap_grammar.specs.inside.Steps.{Reading, told, expect_at}
 use Rattle.wap_grammar.specs.inside.Expressions.{Reader}
-use Rattle.wap_grammar.specs.inside.Statements.{Statements, optional_at, initial_at, condition_at, arm_at, while_at, for_at}
+use Rattle.wap_grammar.specs.inside.Statements.{Statements, optional_at, initial_at}
+use Rattle.wap_grammar.specs.inside.Statements.{condition_at, arm_at, while_at, for_at}
 use Rattle.wap_parse.specs.inside.Headers.{limits_at, turns_at, header_at}
 
 -- what is done first, the condition, and what is done after each turn

@@ -1,5 +1,6 @@
 -- The next condition of an `if`, and the next statement of a block.
-use Rattle.std.proofs.Common.{◌≡◌, ◌≢◌, ℕ, Bool, true, false, ◌&&◌, List, Some, None, Result, Ok, Err, refl, sym, ap, subst, ◌∙◌}
+use Rattle.std.proofs.Common.{◌≡◌, ◌≢◌, ℕ, Bool, true, false, ◌&&◌, List, Some, None}
+use Rattle.std.proofs.Common.{Result, Ok, Err, refl, sym, ap, subst, ◌∙◌}
 use Rattle.wap_base.specs.Outcome.{Meets}
 use Rattle.wap_program.specs.declared.expression.Expr.{Expr}
 use Rattle.wap_program.specs.declared.statement.Stmt.{Stmt}

@@ -8,8 +8,9 @@ use Rattle.wap_grammar.specs.declared.fault.ParseFault.{ParseFault}
 use Rattle.wap_grammar.specs.declared.lexeme.Lexeme.{Lexeme}
 use Rattle.wap_grammar.specs.declared.word.Sign.TheVariants as sign
 use Rattle.wap_grammar.specs.inside.Steps.{Reading, expect_at, id_at}
-use Rattle.wap_grammar.specs.inside.Statements.{block_at, statement_at}
-use Rattle.wap_grammar.specs.inside.Programs.{parameters_at, tail_at, head_at, function_of, function_at}
+use Rattle.wap_grammar.specs.inside.Statements.{Statements, block_at}
+use Rattle.wap_grammar.specs.inside.Programs.{parameters_at, tail_at, head_at}
+use Rattle.wap_grammar.specs.inside.Programs.{function_of, function_at}
 use Rattle.wap_parse.specs.inside.Signatures.{signature_at}
 
 module _ (block : List Lexeme → Reading (List Stmt)) where
@@ -63,11 +64,11 @@ module _ (block : List Lexeme → Reading (List Stmt)) where
   by_head one two parameters name (Ok h) = by_name one two parameters h.0 (name h.1)
   by_head one two parameters name (Err fault) = refl
 
-pub function_by_signature : (src : List ℕ) (levels : ℕ) (lexemes : List Lexeme) →
-    function_at src levels lexemes
-    ≡ (signature_at src lexemes >>= λ s. block_at src (statement_at src levels) s.1 >>= λ ss.
+pub function_by_signature : (src : List ℕ) (statement : Statements) (lexemes : List Lexeme) →
+    function_at src statement lexemes
+    ≡ (signature_at src lexemes >>= λ s. block_at src statement s.1 >>= λ ss.
     Ok (function_of s.0.0 s.0.1.0 s.0.1.1 ss.0, tail_at ss.1))
 unfolding function_at signature_at
-function_by_signature src levels lexemes =
-    by_head (block_at src (statement_at src levels)) (expect_at src sign.Open)
+function_by_signature src statement lexemes =
+    by_head (block_at src statement) (expect_at src sign.Open)
     (expect_at src sign.OpenBlock) (parameters_at src) (id_at src) (head_at src lexemes)

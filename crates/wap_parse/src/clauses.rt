@@ -8,7 +8,8 @@ ghost use Rattle.wap_grammar.specs.declared.word.Sign.TheVariants as signs;
 ghost use Rattle.wap_grammar.specs.Statements.{done_first};
 ghost use Rattle.wap_grammar.specs.inside.Steps.{span_of, after, closed, told};
 ghost use Rattle.wap_grammar.specs.inside.Expressions.{expression_at};
-ghost use Rattle.wap_grammar.specs.inside.Statements.{closed_at, optional_at, initial_at, condition_at};
+ghost use Rattle.wap_grammar.specs.inside.Statements.{closed_at, optional_at};
+ghost use Rattle.wap_grammar.specs.inside.Statements.{initial_at, condition_at};
 ghost use Rattle.wap_parse.specs.inside.Headers.{limits_at, turns_at, header_at};
 
 use std::alloc::Global;

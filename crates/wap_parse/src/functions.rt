@@ -3,8 +3,9 @@ ghost use Rattle.std.specs.Prelude.{◌≡◌, [], ◌∷◌, IfOk};
 ghost use Rattle.wap_base.specs.Outcome.{Meets};
 ghost use Rattle.wap_grammar.specs.declared.fault.ParseFault.TheVariants as faults;
 ghost use Rattle.wap_grammar.specs.inside.Steps.{told, id_at, items_at};
-ghost use Rattle.wap_grammar.specs.inside.Statements.{next_listed, listed_at};
-ghost use Rattle.wap_grammar.specs.inside.Programs.{parameters_at, tail_at, head_at, function_of, function_at, next_function};
+ghost use Rattle.wap_grammar.specs.inside.Statements.{next_listed, listed_at, statement_at};
+ghost use Rattle.wap_grammar.specs.inside.Programs.{parameters_at, tail_at, head_at, function_of};
+ghost use Rattle.wap_grammar.specs.inside.Programs.{function_at, next_function};
 ghost use Rattle.wap_parse.specs.inside.Signatures.{signature_at};
 
 use crate::statements::read_block;
@@ -22,7 +23,7 @@ pub(crate) fn read_functions<'a>(
     lexemes: &'a [Lexeme],
 ) -> Result<(Rows<Function>, &'a [Lexeme]), ParseFault>
     ensures { Meets faults.NoMemory (λ read. (read.0, read.1.now)) result
-        (items_at (next_function src.now levels) lexemes.now) }
+        (items_at (next_function src.now (statement_at src.now levels)) lexemes.now) }
 {
     let mut functions = Rows::new(alloc);
     let mut rest = lexemes;
@@ -46,7 +47,7 @@ fn next_function<'a>(
     lexemes: &'a [Lexeme],
 ) -> Result<(Option<Function>, &'a [Lexeme]), ParseFault>
     ensures { Meets faults.NoMemory (λ read. (read.0, read.1.now)) result
-        (next_function src.now levels lexemes.now) }
+        (next_function src.now (statement_at src.now levels) lexemes.now) }
 {
     match lexemes {
         [] => Ok((None, lexemes)),
@@ -66,7 +67,7 @@ fn read_function<'a>(
     lexemes: &'a [Lexeme],
 ) -> Result<(Function, &'a [Lexeme]), ParseFault>
     ensures { Meets faults.NoMemory (λ read. (read.0, read.1.now)) result
-        (function_at src.now levels lexemes.now) }
+        (function_at src.now (statement_at src.now levels) lexemes.now) }
 {
     let (signature, rest) = read_signature(alloc, src, lexemes)?;
     let (body, rest) = read_block(alloc, src, levels, rest)?;

@@ -26,11 +26,10 @@ pub(crate) fn while_of(alloc: Global, arm: (Expr, Stmt)) -> Result<Stmt, NoMemor
 }
 
 /// `for`, from what stands in its parentheses and what is done in each turn.
-pub(crate) fn for_of(alloc: Global, header: Header, body: Stmt) -> Result<Stmt, NoMemory>
-    ensures { IfOk result (λ made. made ≡ stmt.For header.0 header.1.0 header.1.1 body) }
+pub(crate) fn for_of(header: Header, body: Boxed<Stmt>) -> Stmt
+    ensures { result ≡ stmt.For header.0 header.1.0 header.1.1 body }
 {
     let (first, limits) = header;
     let (condition, update) = limits;
-    let body = Boxed::new(alloc, body)?;
-    Ok(Stmt::For(first, condition, update, body))
+    Stmt::For(first, condition, update, body)
 }

@@ -6,7 +6,9 @@ ghost use Rattle.wap_grammar.specs.declared.fault.ParseFault.TheVariants as faul
 ghost use Rattle.wap_grammar.specs.Words.{lexemes_of};
 ghost use Rattle.wap_grammar.specs.Programs.{IsProgram, Spells};
 ghost use Rattle.wap_grammar.specs.Refusal.{IsPast};
+ghost use Rattle.wap_grammar.specs.Depth.{IsFirstBelow};
 ghost use Rattle.wap_grammar.specs.inside.Programs.{program_by, program_at};
+ghost use Rattle.wap_grammar.specs.inside.Statements.{statement_at};
 
 use crate::functions::read_functions;
 use std::alloc::Global;
@@ -17,7 +19,7 @@ use wap_lex::Token;
 use wap_program::{Function, Program, Use};
 
 /// The program that the tokens of a source spell. A string whose bytes stand for no text is
-/// answered as `NoMemory`.
+/// answered as `NoMemory`, but a source has none (`wap_grammar::strings_are_texts`).
 pub fn parse(alloc: Global, src: &[u8], tokens: &[Token]) -> Result<Program, ParseFault>
     // What is answered is the program whose parts stand at levels up to 64, and no other is.
     ensures found { IfOk result (λ program.
@@ -31,6 +33,10 @@ pub fn parse(alloc: Global, src: &[u8], tokens: &[Token]) -> Result<Program, Par
     // A part that is too deep has as many tokens before it at least as there are levels.
     ensures nested { IfErr result (λ fault. (at : ℕ) → fault ≡ faults.Nested at →
         IsPast src.now LEVEL_LIMIT (lexemes_of src.now tokens.now) at) }
+    // Where a program spells the tokens, its first part that is too deep begins there.
+    ensures first { IfErr result (λ fault. (at : ℕ) → fault ≡ faults.Nested at →
+        (program : Program) → Spells src.now program (lexemes_of src.now tokens.now) →
+        IsFirstBelow src.now LEVEL_LIMIT (lexemes_of src.now tokens.now) program at) }
 {
     let lexemes = lexemes_of(alloc, src, tokens)?;
     read_program(alloc, src, LEVEL_LIMIT, lexemes.as_slice())
@@ -45,7 +51,7 @@ fn read_program(
     lexemes: &[Lexeme],
 ) -> Result<Program, ParseFault>
     ensures { Meets faults.NoMemory (λ program. program) result
-        (program_at src.now levels lexemes.now) }
+        (program_at src.now (statement_at src.now levels) lexemes.now) }
 {
     let (uses, rest) = read_uses(alloc, src, lexemes)?;
     let (functions, rest) = read_functions(alloc, src, levels, rest)?;

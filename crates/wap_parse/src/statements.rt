@@ -5,7 +5,9 @@ ghost use Rattle.wap_program.specs.declared.statement.Stmt.TheVariants as stmt;
 ghost use Rattle.wap_grammar.specs.declared.fault.ParseFault.TheVariants as faults;
 ghost use Rattle.wap_grammar.specs.inside.Steps.{told, items_at};
 ghost use Rattle.wap_grammar.specs.inside.Expressions.{expression_at};
-ghost use Rattle.wap_grammar.specs.inside.Statements.{next_statement, block_at, while_at, for_at, simple_at, arm_at, next_arm, arms_at, last_at, if_at, statement_by, statement_at};
+ghost use Rattle.wap_grammar.specs.inside.Statements.{next_statement, block_at, while_at, for_at};
+ghost use Rattle.wap_grammar.specs.inside.Statements.{simple_at, arm_at, next_arm, arms_at};
+ghost use Rattle.wap_grammar.specs.inside.Statements.{last_at, if_at, statement_by, statement_at};
 
 use crate::clauses::{
     Header, read_break, read_condition, read_continue, read_evaluation, read_header, read_return,
@@ -260,6 +262,7 @@ fn read_for<'a>(
         lexemes.now) }
 {
     let (header, rest) = read_header(alloc, src, levels, lexemes)?;
+    let header = Boxed::new(alloc, header)?;
     read_repeated(alloc, src, levels, header, rest)
 }
 
@@ -269,7 +272,7 @@ fn read_repeated<'a>(
     alloc: Global,
     src: &[u8],
     levels: u32,
-    header: Header,
+    header: Boxed<Header>,
     lexemes: &'a [Lexeme],
 ) -> Result<(Stmt, &'a [Lexeme]), ParseFault>
     ensures { Meets faults.NoMemory (λ read. (read.0, read.1.now)) result
@@ -277,5 +280,6 @@ fn read_repeated<'a>(
         (statement_at src.now levels lexemes.now)) }
 {
     let (body, rest) = read_statement(alloc, src, levels, lexemes)?;
-    Ok((for_of(alloc, header, body)?, rest))
+    let body = Boxed::new(alloc, body)?;
+    Ok((for_of(header.into_inner(), body), rest))
 }

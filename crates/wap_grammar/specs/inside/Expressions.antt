@@ -1,5 +1,6 @@
 -- Reading expressions from the left. This project's own.
-use Rattle.std.specs.Prelude.{ℕ, zero, suc, Bool, true, false, nat_eq, if◌then◌else◌, List, [], ◌∷◌, Option, Some, None, Ok}
+use Rattle.std.specs.Prelude.{ℕ, zero, suc, Bool, true, false, nat_eq, if◌then◌else◌}
+use Rattle.std.specs.Prelude.{List, [], ◌∷◌, Option, Some, None, Ok}
 use Rattle.wap_base.specs.Outcome.{◌>>=◌}
 use Rattle.wap_value.specs.declared.operator.BinOp.{BinOp}
 use Rattle.wap_value.specs.declared.operator.UnOp.{UnOp}
@@ -10,11 +11,14 @@ use Rattle.wap_program.specs.declared.expression.Expr.TheVariants as expr
 use Rattle.wap_grammar.specs.declared.callee.Callee.{Callee}
 use Rattle.wap_grammar.specs.declared.callee.Callee.TheVariants as callee
 use Rattle.wap_grammar.specs.declared.lexeme.Lexeme.{Lexeme}
-use Rattle.wap_grammar.specs.declared.precedence.TheConstants.{UNARY, CONDITIONAL, ASSIGNMENT, COMMA}
+use Rattle.wap_grammar.specs.declared.precedence.TheConstants.{UNARY, CONDITIONAL}
+use Rattle.wap_grammar.specs.declared.precedence.TheConstants.{ASSIGNMENT, COMMA}
 use Rattle.wap_grammar.specs.declared.word.Sign.TheVariants as sign
-use Rattle.wap_grammar.specs.Words.{unary_of, step_of, assignment_of, operator_of, is_sign, is_name, is_comma}
+use Rattle.wap_grammar.specs.Words.{unary_of, step_of, assignment_of, operator_of}
+use Rattle.wap_grammar.specs.Words.{is_sign, is_name, is_comma}
 use Rattle.wap_grammar.specs.Values.{id_of, literal_of, chained, called}
-use Rattle.wap_grammar.specs.inside.Steps.{Reading, word_of, span_of, after, syntax, nested, told, closed, id_at, Next, items_at}
+use Rattle.wap_grammar.specs.inside.Steps.{Reading, word_of, span_of, after, syntax, nested}
+use Rattle.wap_grammar.specs.inside.Steps.{told, closed, id_at, Next, items_at}
 
 -- expressions of a level of precedence, tightest first
 abbrev pub Reader : Type 0

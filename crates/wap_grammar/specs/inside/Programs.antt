@@ -1,5 +1,6 @@
 -- Reading programs from the left. This project's own.
-use Rattle.std.specs.Prelude.{ℕ, Bool, true, false, if◌then◌else◌, List, [], ◌∷◌, Option, Some, None, Result, Ok}
+use Rattle.std.specs.Prelude.{ℕ, Bool, true, false, if◌then◌else◌, List, []}
+use Rattle.std.specs.Prelude.{◌∷◌, Option, Some, None, Result, Ok}
 use Rattle.wap_base.specs.Outcome.{◌>>=◌}
 use Rattle.wap_program.specs.declared.program.Span.{Span}
 use Rattle.wap_program.specs.declared.program.Id.{Id}
@@ -15,8 +16,9 @@ use Rattle.wap_grammar.specs.declared.word.Sign.TheVariants as sign
 use Rattle.wap_grammar.specs.Words.{word_of, is_sign, is_text}
 use Rattle.wap_grammar.specs.Values.{text_of}
 use Rattle.wap_grammar.specs.Programs.{from_to}
-use Rattle.wap_grammar.specs.inside.Steps.{Reading, span_of, after, syntax, told, expect_at, closed, id_at, Next, items_at}
-use Rattle.wap_grammar.specs.inside.Statements.{listed_at, block_at, statement_at}
+use Rattle.wap_grammar.specs.inside.Steps.{Reading, span_of, after, syntax, told}
+use Rattle.wap_grammar.specs.inside.Steps.{expect_at, closed, id_at, Next, items_at}
+use Rattle.wap_grammar.specs.inside.Statements.{Statements, listed_at, block_at}
 
 unfoldable pub text_at : List ℕ → List Lexeme → Reading (List ℕ)
 text_at src lexemes =
@@ -95,7 +97,7 @@ next_use src lexemes =
     if is_sign sign.Use (word_of lexemes) then told Some (use_at src (span_of lexemes)
     (after lexemes)) else Ok (None, lexemes)
 
--- ---- functions
+-- ---- functions, given the reader of their statements
 
 unfoldable pub parameters_at : List ℕ → List Lexeme → Reading (List Id)
 parameters_at src lexemes =
@@ -114,19 +116,19 @@ head_at src lexemes =
 abbrev pub function_of : Bool → Id → List Id → List Stmt → Function
 function_of out f ps ss = record { name = f; external = out; params = ps; body = ss }
 
-unfoldable pub function_at : List ℕ → ℕ → List Lexeme → Reading Function
-function_at src levels lexemes =
+unfoldable pub function_at : List ℕ → Statements → List Lexeme → Reading Function
+function_at src statement lexemes =
     head_at src lexemes >>= λ head.
     id_at src head.1 >>= λ f.
     expect_at src sign.Open f.1 >>= λ rest.
     parameters_at src rest >>= λ ps.
     expect_at src sign.OpenBlock ps.1 >>= λ rest.
-    block_at src (statement_at src levels) rest >>= λ ss.
+    block_at src statement rest >>= λ ss.
     Ok (function_of head.0 f.0 ps.0 ss.0, tail_at ss.1)
 
-unfoldable pub next_function : List ℕ → ℕ → Next Function
-next_function src levels [] = Ok (None, [])
-next_function src levels (first ∷ rest) = told Some (function_at src levels (first ∷ rest))
+unfoldable pub next_function : List ℕ → Statements → Next Function
+next_function src statement [] = Ok (None, [])
+next_function src statement (first ∷ rest) = told Some (function_at src statement (first ∷ rest))
 
 -- ---- programs
 
@@ -135,7 +137,7 @@ program_by src us [] lexemes = syntax src lexemes
 program_by src us (f ∷ fs) [] = Ok (record { uses = us; functions = f ∷ fs })
 program_by src us (f ∷ fs) (l ∷ rest) = syntax src (l ∷ rest)
 
-unfoldable pub program_at : List ℕ → ℕ → List Lexeme → Result Program ParseFault
-program_at src levels lexemes =
+unfoldable pub program_at : List ℕ → Statements → List Lexeme → Result Program ParseFault
+program_at src statement lexemes =
     items_at (next_use src) lexemes >>= λ us.
-    items_at (next_function src levels) us.1 >>= λ fs. program_by src us.0 fs.0 fs.1
+    items_at (next_function src statement) us.1 >>= λ fs. program_by src us.0 fs.0 fs.1

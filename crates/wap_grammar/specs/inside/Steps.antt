@@ -1,5 +1,6 @@
 -- Reading tokens from the left: what stands first, and what follows it. This project's own.
-use Rattle.std.specs.Prelude.{ℕ, zero, suc, if◌then◌else◌, List, [], ◌∷◌, length, Option, Some, None, Result, Ok, Err}
+use Rattle.std.specs.Prelude.{ℕ, zero, suc, if◌then◌else◌, List, [], ◌∷◌}
+use Rattle.std.specs.Prelude.{length, Option, Some, None, Result, Ok, Err}
 use Rattle.wap_base.specs.Outcome.{◌>>=◌}
 use Rattle.wap_program.specs.declared.program.Span.{Span}
 use Rattle.wap_program.specs.declared.program.Id.{Id}

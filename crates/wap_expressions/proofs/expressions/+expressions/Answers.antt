@@ -1,10 +1,13 @@
-use Rattle.std.proofs.Common.{length, ◌∷◌, Option, Ok, ap, ◌∙◌, arith}
+use Rattle.std.proofs.Common.{length, ◌∷◌, Option, Ok, sym, ap, ◌∙◌, arith}
 use Rattle.wap_value.specs.declared.operator.BinOp.{BinOp}
 use Rattle.wap_program.specs.declared.expression.Expr.{Expr}
 use Rattle.wap_grammar.specs.inside.Steps.{told, items_at}
-use Rattle.wap_grammar.specs.inside.Expressions.{next_argument, next_operand, part_at, expression_at}
+use Rattle.wap_grammar.specs.inside.Expressions.{next_argument, next_operand}
+use Rattle.wap_grammar.specs.inside.Expressions.{part_at, expression_at}
 use Rattle.wap_expressions.proofs.Loops.{begins, begins_with, another}
-use Rattle.wap_expressions.proofs.Levels.{deeper, at_unary, at_conditional, at_assignment, at_chain}
+use Rattle.wap_expressions.specs.inside.Climbing.{looser_of}
+use Rattle.wap_expressions.proofs.Levels.{deeper, at_conditional, at_assignment}
+use Rattle.wap_expressions.proofs.Climbing.{at_operators, at_loosest, no_looser, next_looser}
 use Rattle.wap_expressions.proofs.expressions.+expressions.Goals as goal
 
 pub read_expression-returns : goal.read_expression-returns
@@ -12,10 +15,10 @@ read_expression-returns t c =
     rw (deeper c.args.src.now c.args.levels c.args.level c.args.lexemes.now (omega arith))
     c.read_part.ensures
 
-pub read_part-returns-then-level-eq-UNARY : goal.read_part-returns-then-level-eq-UNARY
-read_part-returns-then-level-eq-UNARY t c =
-    rw (at_unary c.args.src.now (expression_at c.args.src.now c.args.levels) c.args.level
-    c.args.lexemes.now c.if-level-eq-UNARY.true) c.read_unary.ensures
+pub read_part-returns-then-level-lt-CONDITIONAL : goal.read_part-returns-then-level-lt-CONDITIONAL
+read_part-returns-then-level-lt-CONDITIONAL t c =
+    rw (at_operators c.args.src.now (expression_at c.args.src.now c.args.levels)
+    c.args.lexemes.now c.args.level c.if-level-lt-CONDITIONAL.true) c.read_operators.ensures
 
 pub read_part-returns-then-level-eq-CONDITIONAL : goal.read_part-returns-then-level-eq-CONDITIONAL
 read_part-returns-then-level-eq-CONDITIONAL t c =
@@ -25,14 +28,29 @@ read_part-returns-then-level-eq-CONDITIONAL t c =
 pub read_part-returns-then-level-eq-ASSIGNMENT : goal.read_part-returns-then-level-eq-ASSIGNMENT
 read_part-returns-then-level-eq-ASSIGNMENT t c =
     rw (at_assignment c.args.src.now (expression_at c.args.src.now c.args.levels) c.args.level
-    c.args.lexemes.now c.if-level-eq-UNARY.false c.if-level-eq-CONDITIONAL.false
-    c.if-level-eq-ASSIGNMENT.true) c.read_assignment.ensures
+    c.args.lexemes.now (λ e. absurd (omega (arith, e, c.if-level-lt-CONDITIONAL.false)))
+    c.if-level-eq-CONDITIONAL.false c.if-level-eq-ASSIGNMENT.true) c.read_assignment.ensures
 
 pub read_part-returns : goal.read_part-returns
 read_part-returns t c =
-    rw (at_chain c.args.src.now (expression_at c.args.src.now c.args.levels) c.args.level
-    c.args.lexemes.now c.if-level-eq-UNARY.false c.if-level-eq-CONDITIONAL.false
-    c.if-level-eq-ASSIGNMENT.false) c.read_chain.ensures
+    rw (at_loosest c.args.src.now (expression_at c.args.src.now c.args.levels)
+    c.args.lexemes.now c.args.level (omega (arith, c.if-level-lt-CONDITIONAL.false))
+    c.if-level-eq-CONDITIONAL.false c.if-level-eq-ASSIGNMENT.false) c.read_loosest.ensures
+
+pub read_looser-returns-in-None : goal.read_looser-returns-in-None
+read_looser-returns-in-None t c =
+    let none = ap (looser_of c.args.from c.args.level) (sym c.word_of.ensures)
+    ∙ sym c.looser_of.ensures.value ∙ c.in-None.is in
+    no_looser (part_at c.args.src.now (expression_at c.args.src.now c.args.levels)) c.args.from
+    c.args.level (c.args.first, c.args.lexemes.now) none
+
+pub read_looser-returns-in-Some : goal.read_looser-returns-in-Some
+read_looser-returns-in-Some t c =
+    let some = ap (looser_of c.args.from c.args.level) (sym c.word_of.ensures)
+    ∙ sym c.looser_of.ensures.value ∙ c.in-Some.is in
+    rw (next_looser (part_at c.args.src.now (expression_at c.args.src.now c.args.levels))
+    c.args.from c.args.level c.in-Some.found (c.args.first, c.args.lexemes.now) some)
+    c.read_chain.ensures
 
 pub read_operands-loop-init : goal.read_operands-loop-init
 read_operands-loop-init t c =

@@ -1,50 +1,66 @@
-use Rattle.std.proofs.Common.{◌+◌, ◌*◌, ◌∷◌, length}
+use Rattle.std.proofs.Common.{◌+◌, ◌-◌, ◌*◌, ◌∷◌, length}
 use Rattle.wap_grammar.specs.inside.Steps.{told, items_at}
-use Rattle.wap_grammar.specs.inside.Expressions.{next_argument, next_operand, part_at, expression_at}
+use Rattle.wap_grammar.specs.inside.Expressions.{next_argument, next_operand}
+use Rattle.wap_grammar.specs.inside.Expressions.{part_at, expression_at}
 use Rattle.wap_expressions.proofs.Loops.{Continues}
 use Rattle.wap_expressions.proofs.expressions.+expressions.Given as goal
 
 abbrev pub decreases-read_expression : goal.decreases-read_expression
-decreases-read_expression l = 8192 * l.levels
+decreases-read_expression l = 1048576 * l.levels
 
 abbrev pub decreases-read_part : goal.decreases-read_part
-decreases-read_part l = 8192 * l.levels + 16 * l.level + 10
+decreases-read_part l = 1048576 * l.levels + 1024 * l.level + 900
+
+abbrev pub decreases-read_loosest : goal.decreases-read_loosest
+decreases-read_loosest l =
+    1048576 * l.levels + 1024 * l.level + 600 + 1024 * (l.tighter + 1 - l.level)
+
+abbrev pub decreases-read_operators : goal.decreases-read_operators
+decreases-read_operators l = 1048576 * l.levels + 1024 * l.level + 800
+
+abbrev pub decreases-read_looser : goal.decreases-read_looser
+decreases-read_looser l = 1048576 * l.levels + 1024 * l.level + 2 * (l.level - l.from) + 1
 
 abbrev pub decreases-read_chain : goal.decreases-read_chain
-decreases-read_chain l = 8192 * l.levels + 16 * l.tighter + 13
+decreases-read_chain l =
+    1048576 * l.levels + 1024 * l.level + 2 * (l.level - l.found) + 2
+    + 1024 * (l.tighter + 1 - l.level)
 
 abbrev pub decreases-read_operands : goal.decreases-read_operands
-decreases-read_operands l = 8192 * l.levels + 16 * l.tighter + 12
+decreases-read_operands l = 1048576 * l.levels + 1024 * l.tighter + 1002
 
 abbrev pub decreases-next_operand : goal.decreases-next_operand
-decreases-next_operand l = 8192 * l.levels + 16 * l.tighter + 11
+decreases-next_operand l = 1048576 * l.levels + 1024 * l.tighter + 1001
 
 abbrev pub decreases-read_conditional : goal.decreases-read_conditional
-decreases-read_conditional l = 8192 * l.levels + 16 * l.tighter + 13
+decreases-read_conditional l = 1048576 * l.levels + 1024 * l.tighter + 1000
 
 abbrev pub decreases-read_assignment : goal.decreases-read_assignment
-decreases-read_assignment l = 8192 * l.levels + 16 * l.tighter + 13
+decreases-read_assignment l = 1048576 * l.levels + 1024 * l.tighter + 1000
 
 abbrev pub decreases-read_branches : goal.decreases-read_branches
-decreases-read_branches l = 8192 * l.levels + 1
+decreases-read_branches l = 1048576 * l.levels + 2
+
+abbrev pub decreases-read_boxed : goal.decreases-read_boxed
+decreases-read_boxed l = 1048576 * l.levels + 1
 
 abbrev pub decreases-read_unary : goal.decreases-read_unary
-decreases-read_unary l = 8192 * l.levels + 6
+decreases-read_unary l = 1048576 * l.levels + 6
 
 abbrev pub decreases-read_primary : goal.decreases-read_primary
-decreases-read_primary l = 8192 * l.levels + 5
+decreases-read_primary l = 1048576 * l.levels + 5
 
 abbrev pub decreases-read_named : goal.decreases-read_named
-decreases-read_named l = 8192 * l.levels + 4
+decreases-read_named l = 1048576 * l.levels + 4
 
 abbrev pub decreases-read_arguments : goal.decreases-read_arguments
-decreases-read_arguments l = 8192 * l.levels + 3
+decreases-read_arguments l = 1048576 * l.levels + 3
 
 abbrev pub decreases-read_other_arguments : goal.decreases-read_other_arguments
-decreases-read_other_arguments l = 8192 * l.levels + 2
+decreases-read_other_arguments l = 1048576 * l.levels + 2
 
 abbrev pub decreases-next_argument : goal.decreases-next_argument
-decreases-next_argument l = 8192 * l.levels + 1
+decreases-next_argument l = 1048576 * l.levels + 1
 
 abbrev pub invariant-read_operands-loop : goal.invariant-read_operands-loop
 invariant-read_operands-loop l =

@@ -1,18 +1,21 @@
 use Rattle.std.proofs.Common.{length, Option, Ok, ap, ◌∙◌}
 use Rattle.wap_program.specs.declared.program.Function.{Function}
 use Rattle.wap_grammar.specs.inside.Steps.{items_at}
+use Rattle.wap_grammar.specs.inside.Statements.{statement_at}
 use Rattle.wap_grammar.specs.inside.Programs.{next_function}
 use Rattle.wap_expressions.proofs.Loops.{begins, another}
 use Rattle.wap_parse.proofs.functions.read_functions.Goals as goal
 
 pub loop-init : goal.loop-init
 loop-init c =
-    begins (next_function c.args.src.now c.args.levels) c.new-functions.result c.args.lexemes.now
+    begins (next_function c.args.src.now
+    (statement_at c.args.src.now c.args.levels)) c.new-functions.result c.args.lexemes.now
     c.new-functions.ensures
 
 pub loop-preserved : goal.loop-preserved
 loop-preserved c =
-    let next = next_function c.args.src.now c.args.levels in
+    let next = next_function c.args.src.now
+    (statement_at c.args.src.now c.args.levels) in
     let first = c.in_ok-function.ensures
     ∙ ap (λ (item : Option Function). Ok (item, c.in_ok-function.behind.now)) c.in-Some.is in
     rw c.in_ok-add-in-Some.ensures.ok

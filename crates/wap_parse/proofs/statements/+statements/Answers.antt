@@ -7,7 +7,8 @@ use Rattle.wap_grammar.specs.inside.Expressions.{expression_at}
 use Rattle.wap_grammar.specs.inside.Statements.{next_statement, next_arm, statement_at}
 use Rattle.wap_expressions.proofs.Loops.{begins, another, no_other, at_fault}
 use Rattle.wap_parse.proofs.Lists.{begins_after}
-use Rattle.wap_parse.proofs.Nexts.{arm_found, arm_fault, no_arm, statement_found, statement_fault, no_statement, at_exit}
+use Rattle.wap_parse.proofs.Nexts.{arm_found, arm_fault, no_arm, statement_found}
+use Rattle.wap_parse.proofs.Nexts.{statement_fault, no_statement, at_exit}
 use Rattle.wap_parse.proofs.Levels.{deeper_statement}
 use Rattle.wap_parse.proofs.statements.+statements.Goals as goal
 

@@ -1,0 +1,5 @@
+use Rattle.wap_grammar.proofs.Texts.{text_of}
+use Rattle.wap_grammar.proofs.laws.strings_are_texts.Goals as goal
+
+pub returns : goal.returns
+returns c = text_of

@@ -1,0 +1,46 @@
+-- Where the first part of a program begins that stands below so many levels. This project's own.
+use Rattle.std.specs.Prelude.{ℕ, zero, suc, ◌<◌, List, length}
+use Rattle.wap_program.specs.declared.program.Program.{Program}
+use Rattle.wap_program.specs.declared.statement.Stmt.{Stmt}
+use Rattle.wap_grammar.specs.declared.lexeme.Lexeme.{Lexeme}
+use Rattle.wap_grammar.specs.Spellings.{Spelling}
+use Rattle.wap_grammar.specs.Expressions.{Expressions, IsPart, IsExpression}
+use Rattle.wap_grammar.specs.Statements.{IsStatementOf, IsStatement}
+use Rattle.wap_grammar.specs.Programs.{IsProgramOf}
+use Rattle.wap_grammar.specs.Refusal.{IsPast}
+
+-- an expression with so many levels, whose parts below them are such ones
+unfoldable pub IsExpressionOver : List ℕ → Expressions → ℕ → Expressions
+IsExpressionOver src Deep zero level x e y = Deep level x e y
+IsExpressionOver src Deep (suc levels) level x e y =
+    IsPart src (IsExpressionOver src Deep levels) level x e y
+
+-- a statement with so many levels, whose parts below them are such ones
+unfoldable pub IsStatementOver : List ℕ → Expressions → Spelling Stmt → ℕ → Spelling Stmt
+IsStatementOver src Deep Below zero x s y = Below x s y
+IsStatementOver src Deep Below (suc levels) x s y =
+    IsStatementOf src (IsExpressionOver src Deep levels) (IsStatementOver src Deep Below levels)
+    x s y
+
+-- what begins where fewer tokens than so many are left
+abbrev pub IsLate : {A : Type 0} → ℕ → Spelling A → Spelling A
+IsLate most Is x a y = (length x < most) × Is x a y
+
+-- all tokens spell a program, and its parts below so many levels span so many more at most, and
+-- each begins where fewer tokens than so many are left
+abbrev pub IsProgramLate : List ℕ → ℕ → ℕ → ℕ → List Lexeme → Program → Type 0
+IsProgramLate src limit more most =
+    IsProgramOf src (IsStatementOver src (λ level. IsLate most (IsExpression src more level))
+    (IsLate most (IsStatement src more)) limit)
+
+-- the first part of a program below so many levels begins at a place
+pub record IsFirstBelow (src : List ℕ) (limit : ℕ) (lexemes : List Lexeme) (program : Program)
+    (at : ℕ) : Type 0 where
+  -- the place, with the tokens before it and from it on
+  pub past : IsPast src limit lexemes at
+  -- how many more levels are enough for the program
+  pub more : ℕ
+  -- each such part begins there or later
+  pub from : IsProgramLate src limit more (suc (length past.rest)) lexemes program
+  -- and not each of them begins later
+  pub here : IsProgramLate src limit more (length past.rest) lexemes program → ⊥
