@@ -1,6 +1,8 @@
 -- Decimal digits, as bytes and as characters.
-use Rattle.std.proofs.Common.{◌≡◌, ℕ, ◌+◌, ◌*◌, ◌-◌, ◌^◌, ◌<◌, ◌≤◌, ◌/◌, min, Bool, true, false, cond, not, ltb, List, [], ◌∷◌, ◌++◌, length, get_or, Option, Some, None, refl, sym, ap, ◌∙◌, inl, inr, arith}
-use Rattle.std.specs.Prelude.{encode_utf8_all, ◌&&◌, ◌==◌, IsTrue, ◌↔◌}
+use Rattle.std.proofs.Common.{◌≡◌, ℕ, ◌+◌, ◌*◌, ◌-◌, ◌^◌, ◌<◌, ◌≤◌, ◌/◌, min, Bool, true}
+use Rattle.std.proofs.Common.{false, cond, not, ltb, List, [], ◌∷◌, ◌++◌, length, get_or}
+use Rattle.std.proofs.Common.{Some, None, refl, sym, ap, ◌∙◌, inl, inr, arith}
+use Rattle.std.specs.Prelude.{encode_utf8_all, ◌&&◌, IsTrue, ◌↔◌}
 use Rattle.std.specs.Option.{option_map}
 use Rattle.std.specs.Char.{encode_utf8, is_ascii_digit}
 use Rattle.std.specs.Int.{IsInRange}
@@ -17,8 +19,10 @@ use Rattle.wap_cardrules.specs.Values.{number_in, is_empty}
 digit_in_range : (c : ℕ) → is_ascii_digit c ≡ true → IsInRange 48 57 c
 digit_in_range c h = grind (arith, nat_tests)
 
-pub digit_at : (ds : List ℕ) (i : ℕ) → list_all is_ascii_digit ds ≡ true → i < length ds → IsInRange 48 57 (get_or ds i 0)
-digit_at ds i digits within = digit_in_range (get_or ds i 0) (AllPass-from_list_all is_ascii_digit ds digits i 0 within)
+pub digit_at : (ds : List ℕ) (i : ℕ) → list_all is_ascii_digit ds ≡ true → i < length ds
+    → IsInRange 48 57 (get_or ds i 0)
+digit_at ds i digits within =
+    digit_in_range (get_or ds i 0) (AllPass-from_list_all is_ascii_digit ds digits i 0 within)
 
 -- ---- bytes and characters
 
@@ -40,13 +44,22 @@ past-encode : (c : ℕ) → 128 ≤ c → BeginsPast (encode_utf8 c)
 unfolding encode_utf8
 past-encode c past = rw (le-ltb c 128 past) (past-if (ltb c 2048) _ _
     (record { lead = 192 + c / 64; rest = _; is = refl; past = omega arith })
-    (past-if (ltb c 65536) _ _ (record { lead = 224 + c / 4096; rest = _; is = refl; past = omega arith }) (record { lead = 240 + c / 262144; rest = _; is = refl; past = omega arith })))
+    (past-if (ltb c 65536) _ _ (record {
+      lead = 224 + c / 4096;
+      rest = _;
+      is = refl;
+      past = omega arith;
+    }) (record { lead = 240 + c / 262144; rest = _; is = refl; past = omega arith })))
 
-pub digits-encode : (cs : List ℕ) → list_all is_ascii_digit (encode_utf8_all cs) ≡ list_all is_ascii_digit cs
+pub digits-encode : (cs : List ℕ)
+    → list_all is_ascii_digit (encode_utf8_all cs) ≡ list_all is_ascii_digit cs
 digits-encode [] = refl
 digits-encode (c ∷ cs) = elim (cases_lt c 128) [
-  | inl ascii ↦ rw (encode_ascii c ascii) (ap (λ (b : Bool). is_ascii_digit c && b) (digits-encode cs))
-  | inr past ↦ let e = past-encode c past in rw (e.is, past_digit e.lead e.past, past_digit c past) refl
+  | inl ascii ↦
+      rw (encode_ascii c ascii) (ap (λ (b : Bool). is_ascii_digit c && b) (digits-encode cs))
+  | inr past ↦
+      let e = past-encode c past in
+      rw (e.is, past_digit e.lead e.past, past_digit c past) refl
 ]
 
 below : (c : ℕ) → is_ascii_digit c ≡ true → c < 128
@@ -56,34 +69,49 @@ digits-bytes : (cs : List ℕ) → list_all is_ascii_digit cs ≡ true → encod
 digits-bytes [] all = refl
 digits-bytes (c ∷ cs) all =
     let parts = and_parts (is_ascii_digit c) (list_all is_ascii_digit cs) all in
-    ap (λ bytes. bytes ++ encode_utf8_all cs) (encode_ascii c (below c parts.0)) ∙ ap (λ rest. c ∷ rest) (digits-bytes cs parts.1)
+    ap (λ bytes. bytes ++ encode_utf8_all cs) (encode_ascii c (below c parts.0))
+    ∙ ap (λ rest. c ∷ rest) (digits-bytes cs parts.1)
 
 -- ---- numbers
 
 pub none_empty : (text : List ℕ) → text ≡ [] → None ≡ option_map (min (2 ^ 64 - 1)) (number_in text)
 none_empty text is = sym (ap (λ (text : List ℕ). option_map (min (2 ^ 64 - 1)) (number_in text)) is)
 
-none_by : (b : Bool) (n : ℕ) → option_map (min (2 ^ 64 - 1)) (cond (b && false) (Some n) None) ≡ None
+none_by : (b : Bool) (n : ℕ)
+    → option_map (min (2 ^ 64 - 1)) (cond (b && false) (Some n) None) ≡ None
 none_by true n = refl
 none_by false n = refl
 
-pub none_other : (bytes text : List ℕ) → bytes ≡ encode_utf8_all text → list_all is_ascii_digit bytes ≡ false → None ≡ option_map (min (2 ^ 64 - 1)) (number_in text)
+pub none_other : (bytes text : List ℕ) → bytes ≡ encode_utf8_all text
+    → list_all is_ascii_digit bytes ≡ false → None ≡ option_map (min (2 ^ 64 - 1)) (number_in text)
 none_other bytes text encoded other =
-    let others : list_all is_ascii_digit text ≡ false = sym (digits-encode text) ∙ ap (list_all is_ascii_digit) (sym encoded) ∙ other in
-    sym (ap (λ (b : Bool). option_map (min (2 ^ 64 - 1)) (cond (not (is_empty text) && b) (Some (digits_value 10 text)) None)) others ∙ none_by (not (is_empty text)) (digits_value 10 text))
+    let others : list_all is_ascii_digit text ≡ false =
+    sym (digits-encode text) ∙ ap (list_all is_ascii_digit) (sym encoded) ∙ other in
+    sym (ap (λ (b : Bool). option_map (min (2 ^ 64 - 1))
+    (cond (not (is_empty text) && b) (Some (digits_value 10 text)) None)) others
+    ∙ none_by (not (is_empty text)) (digits_value 10 text))
 
-some_by : (text : List ℕ) (empty : Bool) → IsTrue empty ↔ (text ≡ []) → empty ≡ false → list_all is_ascii_digit text ≡ true → number_in text ≡ Some (digits_value 10 text)
+some_by : (text : List ℕ) (empty : Bool) → IsTrue empty ↔ (text ≡ []) → empty ≡ false
+    → list_all is_ascii_digit text ≡ true → number_in text ≡ Some (digits_value 10 text)
 some_by [] empty when isnt all = absurd (cc (when.1 refl, isnt))
 some_by (c ∷ cs) empty when isnt all =
     let some : is_empty (c ∷ cs) ≡ false = grind (arith, nat_tests) in
-    ap (λ (b : Bool). cond (not b && list_all is_ascii_digit (c ∷ cs)) (Some (digits_value 10 (c ∷ cs))) None) some
+    ap (λ (b : Bool).
+    cond (not b && list_all is_ascii_digit (c ∷ cs)) (Some (digits_value 10 (c ∷ cs))) None) some
     ∙ ap (λ (b : Bool). cond b (Some (digits_value 10 (c ∷ cs))) None) all
 
-pub some_number : (bytes text : List ℕ) (empty : Bool) (number : ℕ) → bytes ≡ encode_utf8_all text → IsTrue empty ↔ (text ≡ []) → empty ≡ false → list_all is_ascii_digit bytes ≡ true → number ≡ min (2 ^ 64 - 1) (digits_value 10 bytes) → Some number ≡ option_map (min (2 ^ 64 - 1)) (number_in text)
+pub some_number : (bytes text : List ℕ) (empty : Bool) (number : ℕ) → bytes ≡ encode_utf8_all text
+    → IsTrue empty ↔ (text ≡ []) → empty ≡ false → list_all is_ascii_digit bytes ≡ true
+    → number ≡ min (2 ^ 64 - 1) (digits_value 10 bytes)
+    → Some number ≡ option_map (min (2 ^ 64 - 1)) (number_in text)
 some_number bytes text empty number encoded when isnt all is =
-    let digits : list_all is_ascii_digit text ≡ true = sym (digits-encode text) ∙ ap (list_all is_ascii_digit) (sym encoded) ∙ all in
+    let digits : list_all is_ascii_digit text ≡ true =
+    sym (digits-encode text) ∙ ap (list_all is_ascii_digit) (sym encoded) ∙ all in
     let same : bytes ≡ text = encoded ∙ digits-bytes text digits in
-    ap Some (is ∙ ap (λ (ds : List ℕ). min (2 ^ 64 - 1) (digits_value 10 ds)) same) ∙ sym (ap (option_map (min (2 ^ 64 - 1))) (some_by text empty when isnt digits))
+    ap Some (is ∙ ap (λ (ds : List ℕ). min (2 ^ 64 - 1) (digits_value 10 ds)) same)
+    ∙ sym (ap (option_map (min (2 ^ 64 - 1))) (some_by text empty when isnt digits))
 
-pub one_more : (number value digit : ℕ) → number ≡ min (2 ^ 64 - 1) value → min (min (number * 10) (2 ^ 64 - 1) + digit) (2 ^ 64 - 1) ≡ min (2 ^ 64 - 1) (value * 10 + digit)
+pub one_more : (number value digit : ℕ) → number ≡ min (2 ^ 64 - 1) value
+    → min (min (number * 10) (2 ^ 64 - 1) + digit) (2 ^ 64 - 1)
+    ≡ min (2 ^ 64 - 1) (value * 10 + digit)
 one_more number value digit is = omega arith

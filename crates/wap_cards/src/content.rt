@@ -3,7 +3,8 @@ ghost use Rattle.std.specs.Prelude.{◌≡◌, ◌++◌, map, IfOk, OnOk};
 ghost use Rattle.std.specs.Map.{lookup};
 ghost use Rattle.wap_markup.specs.Good.{is_among, rule_of};
 ghost use Rattle.wap_markup.specs.Tables.{is_same_tag};
-ghost use Rattle.wap_cardrules.specs.Content.{shown_tags, kids_marks, marks_in, begun_by, content_of, elements_of};
+ghost use Rattle.wap_cardrules.specs.Content.{shown_tags, kids_marks, marks_in};
+ghost use Rattle.wap_cardrules.specs.Content.{begun_by, content_of, elements_of};
 ghost use Rattle.wap_cards.specs.Lent.{mark_of};
 ghost use Rattle.wap_cards.specs.inside.Rows.{has_text, rule_rows};
 

@@ -7,7 +7,8 @@ ghost use Rattle.wap_markup.specs.Trees.{value_of};
 ghost use Rattle.wap_markup.specs.Tasks.{task_of};
 ghost use Rattle.wap_markup.specs.Good.{first_of, name_of_do};
 ghost use Rattle.wap_cardrules.specs.Events.{template_of};
-ghost use Rattle.wap_cardrules.specs.Dos.{dos_in, do_name, active_dos, label_of, do_labels, do_task};
+ghost use Rattle.wap_cardrules.specs.Dos.{dos_in, do_name, active_dos};
+ghost use Rattle.wap_cardrules.specs.Dos.{label_of, do_labels, do_task};
 
 use crate::content::elements_of;
 use crate::events::template_of;
@@ -23,7 +24,8 @@ use wap_vars::Vars;
 
 /// The value of a do's name, or else of its type.
 fn named_value<'a>(view: &View<'a>) -> Option<Run<'a>>
-    ensures { result ≡ first_of (value_of AttrName.Name view.now) (value_of AttrName.Type view.now) }
+    ensures { result
+        ≡ first_of (value_of AttrName.Name view.now) (value_of AttrName.Type view.now) }
 {
     match view.attr(AttrName::Name) {
         Some(value) => Some(value),

@@ -2,11 +2,12 @@
 ghost use Rattle.std.specs.Prelude.{◌≡◌, IfOk};
 ghost use Rattle.std.specs.Str.{chars};
 ghost use Rattle.std.specs.Option.{option_and_then, option_flatten};
-ghost use Rattle.wap_cardrules.specs.Events.{named, pick_event, bound_in, template_of, binding, onpick};
+ghost use Rattle.wap_cardrules.specs.Events.{named, pick_event, bound_in};
+ghost use Rattle.wap_cardrules.specs.Events.{template_of, binding, onpick};
 ghost use Rattle.wap_cards.specs.inside.Onevents.{is_onevent, onevent_in};
 
 use crate::filling::value_if;
-use crate::tasks::{first_with, go_to, task_in};
+use crate::tasks::{go_to, task_in};
 use crate::values::{is_word, plain_value};
 use std::alloc::Global;
 use wap_base::NoMemory;
@@ -86,7 +87,7 @@ fn bound_in(
 pub fn template_of(deck: &GoodDeck) -> Option<View<'_>>
     ensures { result ≡ template_of deck.now }
 {
-    first_with(&deck.root(), Tag::Template)
+    deck.template()
 }
 
 /// The task that a template binds to an event.

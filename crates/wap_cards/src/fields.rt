@@ -1,6 +1,7 @@
 //! The fields of a card (WAP-191, sections 9.7 and 11.6).
 ghost use Rattle.std.specs.Prelude.{◌≡◌, filter, IfOk};
-ghost use Rattle.wap_cardrules.specs.Fields.{is_field, fields_of, numbered, task_of_link, link_task};
+ghost use Rattle.wap_cardrules.specs.Fields.{is_field, fields_of, numbered};
+ghost use Rattle.wap_cardrules.specs.Fields.{task_of_link, link_task};
 
 use crate::content::{elements_of, is_among};
 use crate::filling::fill_value;

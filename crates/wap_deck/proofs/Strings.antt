@@ -1,6 +1,8 @@
 -- A text that was cut into strings and U+0000 is put together again.
-use Rattle.std.proofs.Common.{◌≡◌, ◌≢◌, ℕ, zero, suc, ◌==◌, ◌≤◌, Bool, true, false, ◌||◌, List, [], ◌∷◌, ◌++◌, Option, Some, None, refl, sym, ap, ap₂, ◌∙◌, append_assoc, arith, inl, inr, encode_utf8, encode_utf8_all}
-use Rattle.std.specs.List.{filter_map, list_any}
+use Rattle.std.proofs.Common.{◌≡◌, ◌≢◌, ℕ, zero, suc, ◌==◌, ◌≤◌, Bool, true, false, ◌||◌, List, []}
+use Rattle.std.proofs.Common.{◌∷◌, ◌++◌, Option, Some, None, refl, sym, ap, ap₂, ◌∙◌, append_assoc}
+use Rattle.std.proofs.Common.{arith, inl, inr, encode_utf8, encode_utf8_all}
+use Rattle.std.specs.List.{filter_map}
 use Rattle.std.proofs.lemmas.Bool.{or_parts, or_from, cases_lt, ne_eqb}
 use Rattle.std.proofs.lemmas.List.Folds.{list_any-append}
 use Rattle.std.proofs.lemmas.Str.{encode_ascii}
@@ -23,25 +25,34 @@ put_by put (part ∷ parts) rest = put part (put_by put parts rest)
 
 -- two literals are put there as one
 abbrev pub Joins : {X : Type 0} → (Part → X → X) → Type 0
-Joins {X = X} put = (a b : List ℕ) (rest : X) → put (Lit a) (put (Lit b) rest) ≡ put (Lit (a ++ b)) rest
+Joins {X = X} put =
+    (a b : List ℕ) (rest : X) → put (Lit a) (put (Lit b) rest) ≡ put (Lit (a ++ b)) rest
 
 abbrev run_parts : List (Option (List ℕ)) → List Part
 run_parts runs = filter_map run_part runs
 
-one_more : {X : Type 0} (put : Part → X → X) → Joins put → (c : ℕ) (runs : List (Option (List ℕ))) (rest : X) → put_by put (run_parts (run_before c runs)) rest ≡ put (Lit (c ∷ [])) (put_by put (run_parts runs) rest)
+one_more : {X : Type 0} (put : Part → X → X) → Joins put
+    → (c : ℕ) (runs : List (Option (List ℕ))) (rest : X)
+    → put_by put (run_parts (run_before c runs)) rest
+    ≡ put (Lit (c ∷ [])) (put_by put (run_parts runs) rest)
 one_more put joins c [] rest = refl
 one_more put joins c (None ∷ runs) rest = refl
 one_more put joins c (Some [] ∷ runs) rest = refl
-one_more put joins c (Some (d ∷ text) ∷ runs) rest = sym (joins (c ∷ []) (d ∷ text) (put_by put (run_parts runs) rest))
+one_more put joins c (Some (d ∷ text) ∷ runs) rest =
+    sym (joins (c ∷ []) (d ∷ text) (put_by put (run_parts runs) rest))
 
-one_character : {X : Type 0} (put : Part → X → X) → Joins put → (c : ℕ) (cs : List ℕ) (rest : X) → put_by put (run_parts (runs_of (c ∷ cs))) rest ≡ put (Lit (c ∷ [])) (put_by put (run_parts (runs_of cs)) rest)
+one_character : {X : Type 0} (put : Part → X → X) → Joins put → (c : ℕ) (cs : List ℕ) (rest : X)
+    → put_by put (run_parts (runs_of (c ∷ cs))) rest
+    ≡ put (Lit (c ∷ [])) (put_by put (run_parts (runs_of cs)) rest)
 one_character put joins zero cs rest = refl
 one_character put joins (suc c) cs rest = one_more put joins (suc c) (runs_of cs) rest
 
-pub put_runs : {X : Type 0} (put : Part → X → X) → Joins put → (c : ℕ) (cs : List ℕ) (rest : X) → put_by put (filter_map run_part (runs_of (c ∷ cs))) rest ≡ put (Lit (c ∷ cs)) rest
+pub put_runs : {X : Type 0} (put : Part → X → X) → Joins put → (c : ℕ) (cs : List ℕ) (rest : X)
+    → put_by put (filter_map run_part (runs_of (c ∷ cs))) rest ≡ put (Lit (c ∷ cs)) rest
 put_runs put joins c [] rest = one_character put joins c [] rest
 put_runs put joins c (d ∷ ds) rest =
-    one_character put joins c (d ∷ ds) rest ∙ ap (put (Lit (c ∷ []))) (put_runs put joins d ds rest) ∙ joins (c ∷ []) (d ∷ ds) rest
+    one_character put joins c (d ∷ ds) rest ∙ ap (put (Lit (c ∷ []))) (put_runs put joins d ds rest)
+    ∙ joins (c ∷ []) (d ∷ ds) rest
 
 pub before-joins : Joins before
 before-joins a b [] = refl
@@ -50,20 +61,26 @@ before-joins a b (Var name conv ∷ parts) = refl
 
 -- ---- strings, character by character
 
-string_after-last : (runs : List (Option (List ℕ))) (last : Option (List ℕ)) (c : ℕ) → string_after (runs ++ last ∷ []) c ≡ runs ++ string_after (last ∷ []) c
+string_after-last : (runs : List (Option (List ℕ))) (last : Option (List ℕ)) (c : ℕ)
+    → string_after (runs ++ last ∷ []) c ≡ runs ++ string_after (last ∷ []) c
 string_after-last [] last c = refl
 string_after-last (first ∷ []) last c = refl
-string_after-last (first ∷ next ∷ runs) last c = ap (λ rest. first ∷ rest) (string_after-last (next ∷ runs) last c)
+string_after-last (first ∷ next ∷ runs) last c =
+    ap (λ rest. first ∷ rest) (string_after-last (next ∷ runs) last c)
 
-pub string_after-any : (runs others : List (Option (List ℕ))) (last : Option (List ℕ)) (c : ℕ) → runs ≡ others ++ last ∷ [] → string_after runs c ≡ others ++ string_after (last ∷ []) c
-string_after-any runs others last c is = ap (λ runs. string_after runs c) is ∙ string_after-last others last c
+pub string_after-any : (runs others : List (Option (List ℕ))) (last : Option (List ℕ)) (c : ℕ)
+    → runs ≡ others ++ last ∷ [] → string_after runs c ≡ others ++ string_after (last ∷ []) c
+string_after-any runs others last c is =
+    ap (λ runs. string_after runs c) is ∙ string_after-last others last c
 
-none_first : (runs : List (Option (List ℕ))) (c : ℕ) → None ∷ character_after runs c ≡ character_after (None ∷ runs) c
+none_first : (runs : List (Option (List ℕ))) (c : ℕ)
+    → None ∷ character_after runs c ≡ character_after (None ∷ runs) c
 none_first runs zero = refl
 none_first [] (suc c) = refl
 none_first (first ∷ runs) (suc c) = refl
 
-run_first : (d : ℕ) (runs : List (Option (List ℕ))) (c : ℕ) → run_before d (character_after runs c) ≡ character_after (run_before d runs) c
+run_first : (d : ℕ) (runs : List (Option (List ℕ))) (c : ℕ)
+    → run_before d (character_after runs c) ≡ character_after (run_before d runs) c
 run_first d [] zero = refl
 run_first d (None ∷ runs) zero = refl
 run_first d (Some text ∷ runs) zero = refl
@@ -79,12 +96,15 @@ first_alone (suc c) = refl
 
 pub runs_of-last : (cs : List ℕ) (c : ℕ) → runs_of (cs ++ c ∷ []) ≡ character_after (runs_of cs) c
 runs_of-last [] c = first_alone c
-runs_of-last (zero ∷ cs) c = ap (λ runs. None ∷ runs) (runs_of-last cs c) ∙ none_first (runs_of cs) c
-runs_of-last (suc d ∷ cs) c = ap (run_before (suc d)) (runs_of-last cs c) ∙ run_first (suc d) (runs_of cs) c
+runs_of-last (zero ∷ cs) c =
+    ap (λ runs. None ∷ runs) (runs_of-last cs c) ∙ none_first (runs_of cs) c
+runs_of-last (suc d ∷ cs) c =
+    ap (run_before (suc d)) (runs_of-last cs c) ∙ run_first (suc d) (runs_of cs) c
 
 -- ---- a text without U+0000 is one string
 
-string_from : (c : ℕ) (cs : List ℕ) → has_zero (c ∷ cs) ≡ false → runs_of (c ∷ cs) ≡ Some (c ∷ cs) ∷ []
+string_from : (c : ℕ) (cs : List ℕ) → has_zero (c ∷ cs) ≡ false
+    → runs_of (c ∷ cs) ≡ Some (c ∷ cs) ∷ []
 string_from zero cs none = cc
 string_from (suc c) [] none = refl
 string_from (suc c) (d ∷ ds) none =
@@ -118,4 +138,5 @@ one c = elim (cases_lt c 128) [
 pub zero_bytes : (cs : List ℕ) → has_zero (encode_utf8_all cs) ≡ has_zero cs
 zero_bytes [] = refl
 zero_bytes (c ∷ cs) =
-    list_any-append (λ b. b == 0) (encode_utf8 c) (encode_utf8_all cs) ∙ ap₂ (λ (x y : Bool). x || y) (one c) (zero_bytes cs)
+    list_any-append (λ b. b == 0) (encode_utf8 c) (encode_utf8_all cs)
+    ∙ ap₂ (λ (x y : Bool). x || y) (one c) (zero_bytes cs)

@@ -7,6 +7,7 @@ ghost use Rattle.wap_markup.specs.Decks.{start_of, attribute};
 ghost use Rattle.wap_tokens.specs.Rows.{lent_start};
 
 use crate::pieces::value;
+use crate::room::rows_for;
 use std::alloc::Global;
 use wap_base::{NoMemory, Part, Rows};
 use wap_markup::{Attr, AttrName, Token};
@@ -40,7 +41,7 @@ fn attribute(alloc: Global, attr: &Attr) -> Result<Option<(AttrName, Rows<Part>)
 pub fn attributes(alloc: Global, attrs: &[Attr]) -> Result<Rows<(AttrName, Rows<Part>)>, NoMemory>
     ensures { IfOk result (λ attributes. attributes ≡ filter_map attribute attrs.now) }
 {
-    let mut attributes = Rows::new(alloc);
+    let mut attributes = rows_for(alloc, attrs.len())?;
     for attr in attrs {
         if let Some(known) = attribute(alloc, attr)? {
             attributes.add(known)?;

@@ -1,12 +1,14 @@
 //! From a document to its deck.
 ghost use Rattle.std.specs.Prelude.{◌≡◌, [], ◌∷◌, ◌++◌, IfOk, OnOk};
 ghost use Rattle.wap_base.specs.declared.name.Part.{Part};
-ghost use Rattle.wap_markup.specs.Decks.{tag_in, part_marks, kid_marks, kids_marks, element_marks, deck_of};
+ghost use Rattle.wap_markup.specs.Decks.{tag_in, part_marks, kid_marks};
+ghost use Rattle.wap_markup.specs.Decks.{kids_marks, element_marks, deck_of};
 ghost use Rattle.wap_markup.specs.Normal.{IsNormal};
 ghost use Rattle.wap_deck.specs.Adding.{part_added, part_after, marks_after};
 
 use crate::attributes::attributes;
 use crate::pieces::{add_part, character, literal, reference};
+use crate::room::rows_for;
 use std::alloc::Global;
 use wap_base::{NoMemory, Part, Rows};
 use wap_markup::{Deck, Document, Element, Item, Kid, LEVEL_LIMIT, Node, Tag, Token};
@@ -32,7 +34,7 @@ fn text_from(alloc: Global, last: Item, items: &mut Rows<Item>) -> Result<Rows<P
         Item::Text(parts) => Ok(parts),
         Item::Node(node) => {
             items.add(Item::Node(node))?;
-            Ok(Rows::new(alloc))
+            Ok(rows_for(alloc, 1)?)
         }
     }
 }
@@ -45,7 +47,7 @@ fn last_text(alloc: Global, items: &mut Rows<Item>) -> Result<Rows<Part>, NoMemo
 {
     match items.pop() {
         Some(last) => Ok(text_from(alloc, last, items)?),
-        None => Ok(Rows::new(alloc)),
+        None => Ok(rows_for(alloc, 1)?),
     }
 }
 
@@ -78,7 +80,7 @@ fn add_element(
         return add_kids(alloc, levels - 1, element.kids.as_slice(), items);
     };
     let attrs = attributes(alloc, element.attrs.as_slice())?;
-    let mut kids = Rows::new(alloc);
+    let mut kids = rows_for(alloc, element.kids.len())?;
     add_kids(alloc, levels - 1, element.kids.as_slice(), &mut kids)?;
     items.add(Item::Node(Node { tag, attrs, kids }))?;
     Ok(())
@@ -125,7 +127,7 @@ pub fn deck_of(alloc: Global, document: &Document) -> Result<Deck, NoMemory>
 {
     let root = &document.root;
     let attrs = attributes(alloc, root.attrs.as_slice())?;
-    let mut kids = Rows::new(alloc);
+    let mut kids = rows_for(alloc, root.kids.len())?;
     add_kids(alloc, LEVEL_LIMIT - 1, root.kids.as_slice(), &mut kids)?;
     let tag = tag_in(root.page, &root.tag).unwrap_or(Tag::Other);
     Ok(Deck {

@@ -1,9 +1,11 @@
 //! Parts of values and texts.
 ghost use Rattle.std.specs.Prelude.{◌≡◌, [], ◌∷◌, ◌++◌, IfOk, OnOk};
-ghost use Rattle.wap_markup.specs.Decks.{literal, character, reference, before, piece_part, value_after};
+ghost use Rattle.wap_markup.specs.Decks.{literal, character, reference, before};
+ghost use Rattle.wap_markup.specs.Decks.{piece_part, value_after};
 ghost use Rattle.wap_deck.specs.Adding.{part_added, any_added};
 ghost use Rattle.std.specs.Str.{chars};
 
+use crate::room::rows_for;
 use std::alloc::Global;
 use wap_base::{Conv, Name, NameFault, NoMemory, Part, Rows, Text};
 use wap_markup::Piece;
@@ -109,11 +111,11 @@ fn add_any(parts: &mut Rows<Part>, part: Option<Part>) -> Result<(), NoMemory>
     }
 }
 
-/// The beginning of a value, with this text.
-fn begun(alloc: Global, text: &str) -> Result<Rows<Part>, NoMemory>
+/// The beginning of a value, with this text, and room for so many parts.
+fn begun(alloc: Global, text: &str, room: usize) -> Result<Rows<Part>, NoMemory>
     ensures { IfOk result (λ value. value ≡ value_after (chars text.now) []) }
 {
-    let mut value = Rows::new(alloc);
+    let mut value = rows_for(alloc, room)?;
     if let Some(part) = literal(Text::of(alloc, text)?) {
         value.add(part)?;
     }
@@ -124,7 +126,7 @@ fn begun(alloc: Global, text: &str) -> Result<Rows<Part>, NoMemory>
 pub fn value(alloc: Global, text: &str, pieces: &[Piece]) -> Result<Rows<Part>, NoMemory>
     ensures { IfOk result (λ value. value ≡ value_after (chars text.now) pieces.now) }
 {
-    let mut value = begun(alloc, text)?;
+    let mut value = begun(alloc, text, pieces.len())?;
     for piece in pieces {
         add_any(&mut value, part_of(alloc, piece)?)?;
     }

@@ -1,7 +1,8 @@
 //! Attributes of a document, for those of a deck.
 ghost use Rattle.std.specs.Prelude.{◌≡◌, ◌++◌, map, IfOk, OnOk};
 ghost use Rattle.std.specs.List.{flat_map};
-ghost use Rattle.wap_markup.specs.Writing.{run_piece, runs_of, part_pieces, whole_code, attr_without, attr_with, attr_of};
+ghost use Rattle.wap_markup.specs.Writing.{run_piece, runs_of, part_pieces, whole_code};
+ghost use Rattle.wap_markup.specs.Writing.{attr_without, attr_with, attr_of};
 
 use crate::runs::{is_string, runs_of};
 use std::alloc::Global;
@@ -61,7 +62,7 @@ fn pieces_of(alloc: Global, parts: &[Part]) -> Result<Rows<Piece>, NoMemory>
 }
 
 /// The code of an attribute and its whole value, if there is one.
-fn whole_code(name: AttrName, parts: &[Part]) -> Option<u8>
+pub fn whole_code(name: AttrName, parts: &[Part]) -> Option<u8>
     ensures { result ≡ whole_code name parts.now }
 {
     match parts {

@@ -1,5 +1,6 @@
 -- A value compared with a text, part by part.
-use Rattle.std.proofs.Common.{◌≡◌, ◌≢◌, ℕ, false, List, [], ◌∷◌, ◌++◌, length, Option, Some, None, inl, inr, refl, sym, ap, ◌∙◌, arith}
+use Rattle.std.proofs.Common.{◌≡◌, ◌≢◌, ℕ, false, List, [], ◌∷◌, ◌++◌, length, Option, Some}
+use Rattle.std.proofs.Common.{None, inl, inr, refl, sym, ap, ◌∙◌, arith}
 use Rattle.std.specs.Prelude.{encode_utf8_all, ◌==◌, MatchOption}
 use Rattle.std.specs.Borrow.{Bor}
 use Rattle.std.specs.Str.{chars, IsUtf8}
@@ -8,7 +9,8 @@ use Rattle.std.specs.Cmp.Lexicographic.{bytes_decides}
 use Rattle.std.proofs.Math.Dec.{eqb-suc-zero}
 use Rattle.std.proofs.lemmas.Bool.{cases_Bool}
 use Rattle.std.proofs.lemmas.List.{append-nil, append_cancel_left, length-append}
-use Rattle.std.proofs.lemmas.Str.{chars-encodes, encode_same, encodes-append, length-encode, len_utf8_bounds}
+use Rattle.std.proofs.lemmas.Str.{chars-encodes, encode_same, encodes-append}
+use Rattle.std.proofs.lemmas.Str.{length-encode, len_utf8_bounds}
 use lib.Utf8.{encode}
 use Rattle.wap_base.specs.Texts.{is_same_text}
 use Rattle.wap_base.specs.declared.name.Conv.{Conv}
@@ -39,7 +41,8 @@ bytes_tell (c ∷ a) (d ∷ b) e =
 alike : (a b x y : List ℕ) → (a ≡ b → x ≡ y) → (x ≡ y → a ≡ b) → is_same_text a b ≡ is_same_text x y
 alike a b x y to from =
     let first : Decides (is_same_text a b) (a ≡ b) = bytes_decides a b in
-    let second : Decides (is_same_text x y) (a ≡ b) = (λ so. from ((bytes_decides x y).0 so), λ so. (bytes_decides x y).1 (to so)) in
+    let second : Decides (is_same_text x y) (a ≡ b) =
+    (λ so. from ((bytes_decides x y).0 so), λ so. (bytes_decides x y).1 (to so)) in
     one_answer (is_same_text a b) (is_same_text x y) first second
 
 differ : (a b : List ℕ) → a ≢ b → is_same_text a b ≡ false
@@ -48,32 +51,48 @@ differ a b apart = elim (cases_Bool (is_same_text a b)) [
   | inr other ↦ other
 ]
 
-pub by_bytes : (text : List ℕ) (found : Option (List ℕ)) → is_text text found ≡ is_utf8_of (encode_utf8_all text) found
+pub by_bytes : (text : List ℕ) (found : Option (List ℕ))
+    → is_text text found ≡ is_utf8_of (encode_utf8_all text) found
 by_bytes text None = refl
-by_bytes text (Some other) = alike other text (encode_utf8_all other) (encode_utf8_all text) (ap encode_utf8_all) (bytes_tell other text)
+by_bytes text (Some other) =
+    alike other text (encode_utf8_all other) (encode_utf8_all text) (ap encode_utf8_all)
+    (bytes_tell other text)
 
 -- ---- a literal at the beginning
 
 same_behind : (front a b : List ℕ) → is_same_text (front ++ a) (front ++ b) ≡ is_same_text a b
-same_behind front a b = alike (front ++ a) (front ++ b) a b (append_cancel_left front a b) (ap (λ (l : List ℕ). front ++ l))
+same_behind front a b =
+    alike (front ++ a) (front ++ b) a b (append_cancel_left front a b)
+    (ap (λ (l : List ℕ). front ++ l))
 
-pub taken : (text rest : List ℕ) (parts : List Part) → is_utf8_of (encode_utf8_all text ++ rest) (plain_text (before (Lit text) parts)) ≡ is_utf8_of rest (plain_text parts)
+pub taken : (text rest : List ℕ) (parts : List Part)
+    → is_utf8_of (encode_utf8_all text ++ rest) (plain_text (before (Lit text) parts))
+    ≡ is_utf8_of rest (plain_text parts)
 taken text rest [] =
     let bytes = encode_utf8_all text in
-    ap (λ (l : List ℕ). is_same_text l (bytes ++ rest)) (sym (append-nil bytes)) ∙ same_behind bytes [] rest
+    ap (λ (l : List ℕ). is_same_text l (bytes ++ rest)) (sym (append-nil bytes))
+    ∙ same_behind bytes [] rest
 taken text rest (Lit more ∷ []) =
     let bytes = encode_utf8_all text in
-    ap (λ (l : List ℕ). is_same_text l (bytes ++ rest)) (encodes-append text more) ∙ same_behind bytes (encode_utf8_all more) rest
+    ap (λ (l : List ℕ). is_same_text l (bytes ++ rest)) (encodes-append text more)
+    ∙ same_behind bytes (encode_utf8_all more) rest
 taken text rest (Lit more ∷ next ∷ parts) = refl
 taken text rest (Var name conv ∷ parts) = refl
 
-pub not_taken : (text bytes : List ℕ) (parts : List Part) → ((rest : List ℕ) → bytes ≢ encode_utf8_all text ++ rest) → is_utf8_of bytes (plain_text (before (Lit text) parts)) ≡ false
-not_taken text bytes [] none = differ (encode_utf8_all text) bytes (λ same. none [] (sym same ∙ sym (append-nil (encode_utf8_all text))))
-not_taken text bytes (Lit more ∷ []) none = differ (encode_utf8_all (text ++ more)) bytes (λ same. none (encode_utf8_all more) (sym same ∙ encodes-append text more))
+pub not_taken : (text bytes : List ℕ) (parts : List Part)
+    → ((rest : List ℕ) → bytes ≢ encode_utf8_all text ++ rest)
+    → is_utf8_of bytes (plain_text (before (Lit text) parts)) ≡ false
+not_taken text bytes [] none =
+    differ (encode_utf8_all text) bytes
+    (λ same. none [] (sym same ∙ sym (append-nil (encode_utf8_all text))))
+not_taken text bytes (Lit more ∷ []) none =
+    differ (encode_utf8_all (text ++ more)) bytes
+    (λ same. none (encode_utf8_all more) (sym same ∙ encodes-append text more))
 not_taken text bytes (Lit more ∷ next ∷ parts) none = refl
 not_taken text bytes (Var name conv ∷ parts) none = refl
 
-pub variable_none : (name : List ℕ) (conv : Conv) (bytes : List ℕ) (parts : List Part) → is_utf8_of bytes (plain_text (before (Var name conv) parts)) ≡ false
+pub variable_none : (name : List ℕ) (conv : Conv) (bytes : List ℕ) (parts : List Part)
+    → is_utf8_of bytes (plain_text (before (Var name conv) parts)) ≡ false
 variable_none name conv bytes parts = refl
 
 pub all_taken : (bytes : List ℕ) → is_utf8_of bytes (plain_text []) ≡ (length bytes == 0)
@@ -83,23 +102,40 @@ all_taken (byte ∷ bytes) = sym (eqb-suc-zero (length bytes))
 -- ---- what follows a part
 
 pub bytes_again : (bytes : List ℕ) → IsUtf8 bytes → encode_utf8_all (chars bytes) ≡ bytes
-bytes_again bytes of = ap encode_utf8_all (ap chars (sym of.1.1) ∙ chars-encodes of.0 of.1.0) ∙ of.1.1
+bytes_again bytes of =
+    ap encode_utf8_all (ap chars (sym of.1.1) ∙ chars-encodes of.0 of.1.0) ∙ of.1.1
 
-strips : (part front bytes : List ℕ) (result : Option (Bor (List ℕ))) → encode_utf8_all part ≡ front → MatchOption result ((rest : List ℕ) → bytes ≢ front ++ rest) (λ x. bytes ≡ front ++ x.now) → TakesPart (Lit part) bytes result
+strips : (part front bytes : List ℕ) (result : Option (Bor (List ℕ))) → encode_utf8_all part ≡ front
+    → MatchOption result ((rest : List ℕ) → bytes ≢ front ++ rest) (λ x. bytes ≡ front ++ x.now)
+    → TakesPart (Lit part) bytes result
 strips part front bytes (Some rest) same is = is ∙ ap (λ (l : List ℕ). l ++ rest.now) (sym same)
-strips part front bytes None same isnt = λ rest e. isnt rest (e ∙ ap (λ (l : List ℕ). l ++ rest) same)
+strips part front bytes None same isnt =
+    λ rest e. isnt rest (e ∙ ap (λ (l : List ℕ). l ++ rest) same)
 
-pub slice_taken : (front bytes : List ℕ) (result : Option (Bor (List ℕ))) → IsUtf8 front → MatchOption result ((rest : List ℕ) → bytes ≢ front ++ rest) (λ x. bytes ≡ front ++ x.now) → TakesPart (Lit (chars front)) bytes result
-slice_taken front bytes result utf8 is = strips (chars front) front bytes result (bytes_again front utf8) is
+pub slice_taken : (front bytes : List ℕ) (result : Option (Bor (List ℕ))) → IsUtf8 front
+    → MatchOption result ((rest : List ℕ) → bytes ≢ front ++ rest) (λ x. bytes ≡ front ++ x.now)
+    → TakesPart (Lit (chars front)) bytes result
+slice_taken front bytes result utf8 is =
+    strips (chars front) front bytes result (bytes_again front utf8) is
 
 -- ---- a turn
 
-pub stepped : (part : Part) (bytes : List ℕ) (rest : Bor (List ℕ)) (parts others : List Part) → IsFirstBit parts part others → TakesPart part bytes (Some rest) → is_utf8_of bytes (plain_text parts) ≡ is_utf8_of rest.now (plain_text others)
+pub stepped : (part : Part) (bytes : List ℕ) (rest : Bor (List ℕ)) (parts others : List Part)
+    → IsFirstBit parts part others → TakesPart part bytes (Some rest)
+    → is_utf8_of bytes (plain_text parts) ≡ is_utf8_of rest.now (plain_text others)
 stepped (Lit text) bytes rest parts others is takes =
     ap (λ (l : List ℕ). is_utf8_of l (plain_text parts)) takes
-    ∙ ap (λ (v : List Part). is_utf8_of (encode_utf8_all text ++ rest.now) (plain_text v)) is.together ∙ taken text rest.now others
+    ∙ ap (λ (v : List Part). is_utf8_of (encode_utf8_all text ++ rest.now) (plain_text v))
+    is.together
+    ∙ taken text rest.now others
 stepped (Var name conv) bytes rest parts others is takes = absurd (cc takes)
 
-pub missed : (part : Part) (bytes : List ℕ) (parts others : List Part) → IsFirstBit parts part others → TakesPart part bytes None → is_utf8_of bytes (plain_text parts) ≡ false
-missed (Lit text) bytes parts others is takes = ap (λ (v : List Part). is_utf8_of bytes (plain_text v)) is.together ∙ not_taken text bytes others takes
-missed (Var name conv) bytes parts others is takes = ap (λ (v : List Part). is_utf8_of bytes (plain_text v)) is.together ∙ variable_none name conv bytes others
+pub missed : (part : Part) (bytes : List ℕ) (parts others : List Part)
+    → IsFirstBit parts part others → TakesPart part bytes None
+    → is_utf8_of bytes (plain_text parts) ≡ false
+missed (Lit text) bytes parts others is takes =
+    ap (λ (v : List Part). is_utf8_of bytes (plain_text v)) is.together
+    ∙ not_taken text bytes others takes
+missed (Var name conv) bytes parts others is takes =
+    ap (λ (v : List Part). is_utf8_of bytes (plain_text v)) is.together
+    ∙ variable_none name conv bytes others

@@ -1,5 +1,7 @@
 -- A deck is read from the bytes that spell its document.
-use Rattle.std.proofs.Common.{◌≡◌, ◌≢◌, ℕ, suc, ◌+◌, ◌-◌, ◌^◌, ◌<◌, ◌≤◌, List, [], ◌∷◌, ◌++◌, length, take, drop, Some, Result, Ok, Err, refl, sym, ap, subst, ◌∙◌, append_assoc, arith}
+use Rattle.std.proofs.Common.{◌≡◌, ◌≢◌, ℕ, suc, ◌+◌, ◌-◌, ◌^◌, ◌<◌, ◌≤◌, List, [], ◌∷◌}
+use Rattle.std.proofs.Common.{◌++◌, length, take, drop, Some, Result, Ok, Err, refl}
+use Rattle.std.proofs.Common.{sym, ap, subst, ◌∙◌, append_assoc, arith}
 use Rattle.std.proofs.lemmas.List.{append-nil, take_at, drop_at, drop-drop}
 use Rattle.wap_base.specs.Numbers.{mb_at, mb_spelling}
 use Rattle.wap_base.specs.declared.number.ReadFault.{ReadFault}
@@ -14,7 +16,8 @@ use Rattle.wap_markup.specs.Good.{IsGood}
 use Rattle.wap_markup.specs.Normal.{IsNormal}
 use Rattle.wap_markup.specs.Writing.{items_kids, node_kids, element_of, document_of}
 use Rattle.wap_spelling.specs.Names.{table_of, with_element, names_of}
-use Rattle.wap_spelling.specs.Spelling.{header_spelling, root_spelling, spelling, element_spelling, first_pages}
+use Rattle.wap_spelling.specs.Spelling.{header_spelling, root_spelling, spelling}
+use Rattle.wap_spelling.specs.Spelling.{element_spelling, first_pages}
 use Rattle.wap_spelling.specs.Spellable.{IsSpellable}
 use Rattle.wap_good.specs.Nodes.{node_at}
 use Rattle.wap_good.specs.Characters.{OfNode}
@@ -37,10 +40,12 @@ abbrev next_of : Result (ℕ × ℕ) ReadFault → ℕ
 next_of (Ok read) = read.1
 next_of (Err fault) = 0
 
-same_pair : (a b c d : ℕ) → ◌≡◌ {A = Result (ℕ × ℕ) ReadFault} (Ok (a, b)) (Ok (c, d)) → (a ≡ c) × (b ≡ d)
+same_pair : (a b c d : ℕ) → ◌≡◌ {A = Result (ℕ × ℕ) ReadFault} (Ok (a, b)) (Ok (c, d))
+    → (a ≡ c) × (b ≡ d)
 same_pair a b c d e = (ap first_of e, ap next_of e)
 
-module _ (deck : Deck) (good : IsGood deck) (normal : IsNormal deck) (of : OfNode LEVEL_LIMIT deck.root) (spellable : IsSpellable (document_of deck)) where
+module _ (deck : Deck) (good : IsGood deck) (normal : IsNormal deck)
+    (of : OfNode LEVEL_LIMIT deck.root) (spellable : IsSpellable (document_of deck)) where
   abbrev names : List (List ℕ)
   names = names_of (document_of deck)
 
@@ -56,22 +61,28 @@ module _ (deck : Deck) (good : IsGood deck) (normal : IsNormal deck) (of : OfNod
   root_is_good : IsGoodElement names size (IsGoodNode names size (LEVEL_LIMIT - 1)) deck.root
   root_is_good =
       let kids = items_kids (node_kids (LEVEL_LIMIT - 1)) deck.root.kids in
-      root_good names size (LEVEL_LIMIT - 1) deck.root (root_known deck good) normal.attributes normal.content
+      root_good names size (LEVEL_LIMIT - 1) deck.root
+      (root_known deck good) normal.attributes normal.content
       (subst (λ (l : ℕ). OfNode l deck.root) (sym levels_are) of)
       (grows_same (with_element (suc (LEVEL_LIMIT - 1)) [] (element_of deck.root kids)))
 
   root_written : root_spelling names (document_of deck).root ≡ root_bytes
   root_written =
-      let element = element_of deck.root (items_kids (node_kids (LEVEL_LIMIT - 1)) deck.root.kids) in
-      let P : ℕ → Type 0 = λ l. (element_spelling names l element first_pages).0 ≡ node_bytes names size l deck.root in
-      subst P levels_are (ap (λ (w : List ℕ × _). w.0) (root_flat names size (LEVEL_LIMIT - 1) deck.root root_is_good))
+      let element =
+      element_of deck.root (items_kids (node_kids (LEVEL_LIMIT - 1)) deck.root.kids) in
+      let P : ℕ → Type 0 =
+      λ l. (element_spelling names l element first_pages).0 ≡ node_bytes names size l deck.root in
+      subst P levels_are
+      (ap (λ (w : List ℕ × _). w.0) (root_flat names size (LEVEL_LIMIT - 1) deck.root root_is_good))
 
   root_node : IsGoodNode names size LEVEL_LIMIT deck.root
   unfolding IsGoodNode
   root_node = subst (λ (l : ℕ). IsGoodNode names size l deck.root) levels_are root_is_good
 
   root_read : node_at (table_of names) LEVEL_LIMIT root_bytes ≡ Some (deck.root, [])
-  root_read = ap (node_at (table_of names) LEVEL_LIMIT) (sym (append-nil root_bytes)) ∙ node_read names size LEVEL_LIMIT deck.root [] root_node
+  root_read =
+      ap (node_at (table_of names) LEVEL_LIMIT) (sym (append-nil root_bytes))
+      ∙ node_read names size LEVEL_LIMIT deck.root [] root_node
 
   -- ---- where the table and the root are
 
@@ -81,7 +92,8 @@ module _ (deck : Deck) (good : IsGood deck) (normal : IsNormal deck) (of : OfNod
   abbrev count_bytes : List ℕ
   count_bytes = mb_spelling (length table)
 
-  written : spelling (document_of deck) ≡ (3 ∷ 10 ∷ 106 ∷ []) ++ (count_bytes ++ (table ++ root_bytes))
+  written : spelling (document_of deck)
+      ≡ (3 ∷ 10 ∷ 106 ∷ []) ++ (count_bytes ++ (table ++ root_bytes))
   unfolding spelling
   written =
       ap (λ (l : List ℕ). header_spelling 10 names ++ l) root_written
@@ -90,7 +102,8 @@ module _ (deck : Deck) (good : IsGood deck) (normal : IsNormal deck) (of : OfNod
   table_small : length table < 2 ^ 32
   table_small = let len = length-table names in let small = size in omega arith
 
-  counted : (bytes : List ℕ) → bytes ≡ (3 ∷ 10 ∷ 106 ∷ []) ++ (count_bytes ++ (table ++ root_bytes)) → mb_at bytes 3 ≡ Ok (length table, 3 + length count_bytes)
+  counted : (bytes : List ℕ) → bytes ≡ (3 ∷ 10 ∷ 106 ∷ []) ++ (count_bytes ++ (table ++ root_bytes))
+      → mb_at bytes 3 ≡ Ok (length table, 3 + length count_bytes)
   counted bytes are = mb_again bytes 3 (length table) (3 + length count_bytes) (record {
     bytes = count_bytes;
     rest = table ++ root_bytes;
@@ -99,29 +112,41 @@ module _ (deck : Deck) (good : IsGood deck) (normal : IsNormal deck) (of : OfNod
     next_is = refl;
   })
 
-  module _ (bytes : List ℕ) (at root : ℕ) (are : bytes ≡ spelling (document_of deck)) (ordered : at ≤ root) (found : mb_at bytes 3 ≡ Ok (root - at, at)) where
+  module _ (bytes : List ℕ) (at root : ℕ) (are : bytes ≡ spelling (document_of deck))
+      (ordered : at ≤ root) (found : mb_at bytes 3 ≡ Ok (root - at, at)) where
     places : (root - at ≡ length table) × (at ≡ 3 + length count_bytes)
-    places = same_pair (root - at) at (length table) (3 + length count_bytes) (sym found ∙ counted bytes (are ∙ written))
+    places =
+        same_pair (root - at) at (length table) (3 + length count_bytes)
+        (sym found ∙ counted bytes (are ∙ written))
 
     behind_count : drop at bytes ≡ table ++ root_bytes
     behind_count =
-        ap (λ (n : ℕ). drop n bytes) places.1 ∙ sym (drop-drop (length count_bytes) 3 bytes) ∙ ap (λ (l : List ℕ). drop (length count_bytes) (drop 3 l)) (are ∙ written)
+        ap (λ (n : ℕ). drop n bytes) places.1 ∙ sym (drop-drop (length count_bytes) 3 bytes)
+        ∙ ap (λ (l : List ℕ). drop (length count_bytes) (drop 3 l)) (are ∙ written)
         ∙ drop_at count_bytes (table ++ root_bytes) (length count_bytes) refl
 
     table_there : table_in at root bytes ≡ table
-    table_there = ap (λ (n : ℕ). take n (drop at bytes)) places.0 ∙ ap (take (length table)) behind_count ∙ take_at table root_bytes (length table) refl
+    table_there =
+        ap (λ (n : ℕ). take n (drop at bytes)) places.0 ∙ ap (take (length table)) behind_count
+        ∙ take_at table root_bytes (length table) refl
 
     root_there : drop root bytes ≡ root_bytes
     root_there =
         let e : root ≡ at + length table = let p = places.0 in omega arith in
-        ap (λ (n : ℕ). drop n bytes) e ∙ sym (drop-drop (length table) at bytes) ∙ ap (drop (length table)) behind_count ∙ drop_at table root_bytes (length table) refl
+        ap (λ (n : ℕ). drop n bytes) e ∙ sym (drop-drop (length table) at bytes)
+        ∙ ap (drop (length table)) behind_count ∙ drop_at table root_bytes (length table) refl
 
-    front_read : node_at (table_in at root bytes) LEVEL_LIMIT (drop root bytes) ≡ Some (deck.root, [])
-    front_read = ap (λ (t : List ℕ). node_at t LEVEL_LIMIT (drop root bytes)) table_there ∙ ap (node_at table LEVEL_LIMIT) root_there ∙ root_read
+    front_read : node_at (table_in at root bytes) LEVEL_LIMIT (drop root bytes)
+        ≡ Some (deck.root, [])
+    front_read =
+        ap (λ (t : List ℕ). node_at t LEVEL_LIMIT (drop root bytes)) table_there
+        ∙ ap (node_at table LEVEL_LIMIT) root_there ∙ root_read
 
     pub deck_seen : deck_in at root bytes ≡ deck
     unfolding deck_in
-    deck_seen = ap (λ (n : Node). let d : Deck = record { root = n } in d) (seen (table_in at root bytes) LEVEL_LIMIT (drop root bytes) deck.root [] front_read)
+    deck_seen =
+        ap (λ (n : Node). let d : Deck = record { root = n } in d)
+        (seen (table_in at root bytes) LEVEL_LIMIT (drop root bytes) deck.root [] front_read)
 
     pub held : root ≤ length bytes → IsHeld at root bytes
     held within = record {

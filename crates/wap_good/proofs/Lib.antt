@@ -8,6 +8,7 @@ pub mod Zeros
 pub mod Ending
 pub mod NoteLaw
 pub mod Seen
+pub mod HeadLaw
 pub mod ChildLaw
 pub mod Parted
 pub mod Compared

@@ -23,6 +23,9 @@ all_any : list_all (λ row. any_name row.0) (map attr_by_name name_rows) ≡ tru
 unfolding name_rows
 all_any = refl
 
-pub by_bytes : (name : List ℕ) → lookup (bytes_eq name) (map attr_by_name name_rows) ≡ attr_named name
+pub by_bytes : (name : List ℕ)
+    → lookup (bytes_eq name) (map attr_by_name name_rows) ≡ attr_named name
 unfolding attr_named
-by_bytes name = lookup_alike any_name (bytes_eq name) (is_same_text name) (map attr_by_name name_rows) (λ known t. alike name known) all_any
+by_bytes name =
+    lookup_alike any_name (bytes_eq name) (is_same_text name) (map attr_by_name name_rows)
+    (λ known t. alike name known) all_any

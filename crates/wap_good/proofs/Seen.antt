@@ -1,6 +1,9 @@
 -- What the parts of a view are seen as.
-use Rattle.std.proofs.Common.{◌≡◌, ℕ, ◌-◌, ◌≤◌, Bool, true, false, List, ◌∷◌, length, Some, None, sym, ap, subst, ◌∙◌, arith}
-use Rattle.std.specs.Prelude.{if◌then◌else◌, ◌%◌, find}
+use Rattle.std.proofs.Common.{◌≡◌, ℕ, ◌-◌, ◌≤◌, Bool, true, false, List, [], ◌∷◌}
+use Rattle.std.proofs.Common.{length, Some, None, sym, ap, subst, ◌∙◌, arith}
+use Rattle.std.specs.Prelude.{if◌then◌else◌, ◌==◌, ◌%◌, find}
+use Rattle.std.proofs.lemmas.Bool.{eqb-true}
+use Rattle.std.proofs.lemmas.List.{nil_from_length}
 use Rattle.std.specs.Option.{option_map}
 use Rattle.wap_base.specs.declared.name.Part.{Part}
 use Rattle.wap_markup.specs.declared.deck.Node.{Node}
@@ -8,12 +11,14 @@ use Rattle.wap_markup.specs.declared.name.AttrName.{AttrName}
 use Rattle.wap_markup.specs.Tables.{tag_of, is_same_attr}
 use Rattle.wap_markup.specs.Codes.{has_attributes, has_content}
 use Rattle.wap_good.specs.Readers.{first_at, all_of, Ends}
-use Rattle.wap_good.specs.Nodes.{attr_at, node_at, item_at, front_node, IsRead, attrs_begin, IsContent}
+use Rattle.wap_good.specs.Nodes.{attr_at, node_at, item_at, front_node}
+use Rattle.wap_good.specs.Nodes.{IsRead, attrs_begin, IsContent}
 use Rattle.wap_good.specs.Starts.{value_in}
 use Rattle.wap_good.proofs.Runs.{all_on, all_end, all_few}
 use Rattle.wap_good.proofs.Taking.{attr_takes, item_takes}
 use Rattle.wap_good.proofs.Ending.{attr_lists, item_lists, closed_ends}
-use Rattle.wap_good.proofs.Opening.{same_value, Opened, opened_front, seen, attrs_from, attrs_there, attrs_are, kids_from, kids_there, kids_are}
+use Rattle.wap_good.proofs.Opening.{same_value, all_nothing, Opened, opened_front, seen, attrs_from}
+use Rattle.wap_good.proofs.Opening.{attrs_there, attrs_are, kids_from, kids_there, kids_are}
 
 -- ---- a view
 
@@ -25,15 +30,21 @@ module _ (table : List ℕ) (levels : ℕ) (bytes : List ℕ) (is : IsRead table
   some_first e = let first = front.first in cc
 
   pub some_attrs : attrs_begin bytes ≡ None → ⊥
-  some_attrs e = let some = attrs_there table levels bytes (front_node table levels bytes) front in cc
+  some_attrs e =
+      let some = attrs_there table levels bytes (front_node table levels bytes) front in
+      cc
 
-  attrs_is : (begin : List ℕ) → attrs_begin bytes ≡ Some begin → begin ≡ attrs_from table levels bytes (front_node table levels bytes) front
-  attrs_is begin e = same_value begin _ (sym e ∙ attrs_there table levels bytes (front_node table levels bytes) front)
+  attrs_is : (begin : List ℕ) → attrs_begin bytes ≡ Some begin
+      → begin ≡ attrs_from table levels bytes (front_node table levels bytes) front
+  attrs_is begin e =
+      same_value begin _
+      (sym e ∙ attrs_there table levels bytes (front_node table levels bytes) front)
 
   pub attrs_end : (begin : List ℕ) → attrs_begin bytes ≡ Some begin → Ends (attr_at table) begin
   attrs_end begin e =
       subst (Ends (attr_at table)) (sym (attrs_is begin e))
-      (closed_ends (attr_at table) (attr_lists table) (has_attributes front.mark) front.behind front.attrs front.attrs_read)
+      (closed_ends (attr_at table) (attr_lists table)
+      (has_attributes front.mark) front.behind front.attrs front.attrs_read)
 
   module _ (begin : List ℕ) (content : IsContent bytes begin) where
     kids_is : begin ≡ kids_from table levels bytes (front_node table levels bytes) front
@@ -42,21 +53,30 @@ module _ (table : List ℕ) (levels : ℕ) (bytes : List ℕ) (is : IsRead table
     pub kids_end : Ends (item_at table (levels - 1)) begin
     kids_end =
         subst (Ends (item_at table (levels - 1))) (sym kids_is)
-        (closed_ends (item_at table (levels - 1)) (item_lists table (levels - 1)) (has_content front.mark) front.attrs.1 front.kids front.kids_read)
+        (closed_ends (item_at table (levels - 1)) (item_lists table (levels - 1))
+        (has_content front.mark) front.attrs.1 front.kids front.kids_read)
 
   module _ (now : Node) (view_is : front_node table levels bytes ≡ now) where
-    pub tag_seen : (mark : ℕ) (behind : List ℕ) → first_at bytes ≡ Some (mark, behind) → tag_of 0 (mark % 64) ≡ Some now.tag
+    pub tag_seen : (mark : ℕ) (behind : List ℕ) → first_at bytes ≡ Some (mark, behind)
+        → tag_of 0 (mark % 64) ≡ Some now.tag
     tag_seen mark behind e =
         let same = same_value (mark, behind) (front.mark, front.behind) (sym e ∙ front.first) in
-        ap (λ (x : ℕ × List ℕ). tag_of 0 (x.0 % 64)) same ∙ front.tagged ∙ ap (λ (n : Node). Some n.tag) (sym front.is ∙ view_is)
+        ap (λ (x : ℕ × List ℕ). tag_of 0 (x.0 % 64)) same ∙ front.tagged
+        ∙ ap (λ (n : Node). Some n.tag) (sym front.is ∙ view_is)
 
-    pub attrs_seen : (begin : List ℕ) → attrs_begin bytes ≡ Some begin → (all_of (attr_at table) begin).0 ≡ now.attrs
+    pub attrs_seen : (begin : List ℕ) → attrs_begin bytes ≡ Some begin
+        → (all_of (attr_at table) begin).0 ≡ now.attrs
     attrs_seen begin e =
-        ap (λ (b : List ℕ). (all_of (attr_at table) b).0) (attrs_is begin e) ∙ sym (attrs_are table levels bytes (front_node table levels bytes) front) ∙ ap (λ (n : Node). n.attrs) view_is
+        ap (λ (b : List ℕ). (all_of (attr_at table) b).0) (attrs_is begin e)
+        ∙ sym (attrs_are table levels bytes (front_node table levels bytes) front)
+        ∙ ap (λ (n : Node). n.attrs) view_is
 
-    pub kids_seen : (begin : List ℕ) → IsContent bytes begin → (all_of (item_at table (levels - 1)) begin).0 ≡ now.kids
+    pub kids_seen : (begin : List ℕ) → IsContent bytes begin
+        → (all_of (item_at table (levels - 1)) begin).0 ≡ now.kids
     kids_seen begin content =
-        ap (λ (b : List ℕ). (all_of (item_at table (levels - 1)) b).0) (kids_is begin content) ∙ sym (kids_are table levels bytes (front_node table levels bytes) front) ∙ ap (λ (n : Node). n.kids) view_is
+        ap (λ (b : List ℕ). (all_of (item_at table (levels - 1)) b).0) (kids_is begin content)
+        ∙ sym (kids_are table levels bytes (front_node table levels bytes) front)
+        ∙ ap (λ (n : Node). n.kids) view_is
 
     pub few_kids : (begin : List ℕ) → IsContent bytes begin → length now.kids ≤ length begin
     few_kids begin content =
@@ -66,20 +86,47 @@ module _ (table : List ℕ) (levels : ℕ) (bytes : List ℕ) (is : IsRead table
 
 -- ---- what is read is seen
 
-pub read_front : (table : List ℕ) (levels : ℕ) (bytes : List ℕ) (is : IsRead table levels bytes) → node_at table levels bytes ≡ Some (front_node table levels bytes, is.rest)
-read_front table levels bytes is = is.read ∙ ap (λ (n : Node). Some (n, is.rest)) (sym (seen table levels bytes is.node is.rest is.read))
+pub read_front : (table : List ℕ) (levels : ℕ) (bytes : List ℕ) (is : IsRead table levels bytes)
+    → node_at table levels bytes ≡ Some (front_node table levels bytes, is.rest)
+read_front table levels bytes is =
+    is.read
+    ∙ ap (λ (n : Node). Some (n, is.rest)) (sym (seen table levels bytes is.node is.rest is.read))
 
 -- ---- attributes
 
-module _ (table : List ℕ) (name : AttrName) (bytes : List ℕ) (found : AttrName) (parts : List Part) (behind : List ℕ) (e : attr_at table bytes ≡ Some ((found, parts), behind)) where
-  value_on : value_in name (all_of (attr_at table) bytes).0 ≡ value_in name ((found, parts) ∷ (all_of (attr_at table) behind).0)
-  value_on = ap (λ (r : List (AttrName × List Part) × List ℕ). value_in name r.0) (all_on (attr_at table) (attr_takes table) bytes (found, parts) behind e)
+module _ (table : List ℕ) (name : AttrName) (bytes : List ℕ) (found : AttrName) (parts : List Part)
+    (behind : List ℕ) (e : attr_at table bytes ≡ Some ((found, parts), behind)) where
+  value_on : value_in name (all_of (attr_at table) bytes).0
+      ≡ value_in name ((found, parts) ∷ (all_of (attr_at table) behind).0)
+  value_on =
+      ap (λ (r : List (AttrName × List Part) × List ℕ). value_in name r.0)
+      (all_on (attr_at table) (attr_takes table) bytes (found, parts) behind e)
 
-  pub value_here : is_same_attr found name ≡ true → value_in name (all_of (attr_at table) bytes).0 ≡ Some parts
-  value_here same = value_on ∙ ap (λ (b : Bool). option_map (λ (a : AttrName × List Part). a.1) (if b then Some (found, parts) else find (λ a. is_same_attr a.0 name) (all_of (attr_at table) behind).0)) same
+  pub value_here : is_same_attr found name ≡ true
+      → value_in name (all_of (attr_at table) bytes).0 ≡ Some parts
+  value_here same =
+      value_on ∙ ap (λ (b : Bool).
+      option_map (λ (a : AttrName × List Part). a.1) (if b then Some (found, parts) else
+      find (λ a. is_same_attr a.0 name) (all_of (attr_at table) behind).0)) same
 
-  pub value_behind : is_same_attr found name ≡ false → value_in name (all_of (attr_at table) bytes).0 ≡ value_in name (all_of (attr_at table) behind).0
-  value_behind other = value_on ∙ ap (λ (b : Bool). option_map (λ (a : AttrName × List Part). a.1) (if b then Some (found, parts) else find (λ a. is_same_attr a.0 name) (all_of (attr_at table) behind).0)) other
+  pub value_behind : is_same_attr found name ≡ false
+      → value_in name (all_of (attr_at table) bytes).0
+      ≡ value_in name (all_of (attr_at table) behind).0
+  value_behind other =
+      value_on ∙ ap (λ (b : Bool).
+      option_map (λ (a : AttrName × List Part). a.1) (if b then Some (found, parts) else
+      find (λ a. is_same_attr a.0 name) (all_of (attr_at table) behind).0)) other
 
-pub value_end : (table : List ℕ) (name : AttrName) (bytes : List ℕ) → attr_at table bytes ≡ None → value_in name (all_of (attr_at table) bytes).0 ≡ None
-value_end table name bytes e = ap (λ (r : List (AttrName × List Part) × List ℕ). value_in name r.0) (all_end (attr_at table) bytes e)
+pub value_end : (table : List ℕ) (name : AttrName) (bytes : List ℕ) → attr_at table bytes ≡ None
+    → value_in name (all_of (attr_at table) bytes).0 ≡ None
+value_end table name bytes e =
+    ap (λ (r : List (AttrName × List Part) × List ℕ). value_in name r.0)
+    (all_end (attr_at table) bytes e)
+
+-- no bytes are no attributes
+pub no_value : (table : List ℕ) (name : AttrName) (bytes : List ℕ) → (length bytes == 0) ≡ true
+    → None ≡ value_in name (all_of (attr_at table) bytes).0
+no_value table name bytes empty =
+    let nothing : bytes ≡ [] = nil_from_length bytes (eqb-true (length bytes) 0 empty) in
+    sym (ap (λ (b : List ℕ). value_in name (all_of (attr_at table) b).0) nothing ∙ ap
+    (λ (r : List (AttrName × List Part) × List ℕ). value_in name r.0) (all_nothing (attr_at table)))

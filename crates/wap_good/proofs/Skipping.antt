@@ -7,7 +7,9 @@ use Rattle.wap_good.specs.Readers.{Reader, ◌>>=◌, rest_of}
 use Rattle.wap_good.specs.Texts.{part_at, value_at, behind_value}
 use Rattle.wap_good.specs.Nodes.{item_by}
 
-pub item_by_rest : (inner : Reader Node) (bytes : List ℕ) → rest_of (item_by inner bytes) ≡ (if is_some (part_at bytes) then Some (behind_value bytes) else rest_of (inner bytes))
+pub item_by_rest : (inner : Reader Node) (bytes : List ℕ)
+    → rest_of (item_by inner bytes)
+    ≡ (if is_some (part_at bytes) then Some (behind_value bytes) else rest_of (inner bytes))
 unfolding item_by
 item_by_rest inner bytes = chosen (is_some (part_at bytes))
   where
@@ -15,6 +17,9 @@ item_by_rest inner bytes = chosen (is_some (part_at bytes))
     last (Some x) = refl
     last None = refl
 
-    chosen : (b : Bool) → rest_of (if b then Some (item.Text (value_at [] bytes), behind_value bytes) else (inner bytes >>= λ x. Some (item.Node x.0, x.1))) ≡ (if b then Some (behind_value bytes) else rest_of (inner bytes))
+    chosen : (b : Bool)
+        → rest_of (if b then Some (item.Text (value_at [] bytes), behind_value bytes) else
+        (inner bytes >>= λ x. Some (item.Node x.0, x.1)))
+        ≡ (if b then Some (behind_value bytes) else rest_of (inner bytes))
     chosen true = refl
     chosen false = last (inner bytes)

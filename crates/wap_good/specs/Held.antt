@@ -1,16 +1,20 @@
--- A deck as it is held: its bytes, and where in them the string table, the root and the cards
--- begin. This project's own.
+-- A deck as it is held: its bytes, and where in them the string table, the root, the cards and the
+-- template begin. This project's own.
 use Rattle.std.specs.Prelude.{◌≡◌, ℕ, ◌-◌, ◌≤◌, List, [], ◌∷◌, Some, length, take, drop}
+use Rattle.std.specs.List.{filter_map}
 use Rattle.wap_markup.specs.declared.document.TheConstants.{LEVEL_LIMIT}
 use Rattle.wap_markup.specs.declared.deck.Deck.{Deck}
 use Rattle.wap_markup.specs.declared.deck.Node.{Node}
-use Rattle.wap_markup.specs.Cards.{cards_of}
+use Rattle.wap_markup.specs.declared.name.Tag.{Tag}
+use Rattle.wap_markup.specs.declared.name.Tag.TheVariants as tags
+use Rattle.wap_markup.specs.Trees.{node_with}
 use Rattle.wap_markup.specs.Good.{IsGood}
 use Rattle.wap_markup.specs.Normal.{IsNormal}
 use Rattle.wap_markup.specs.Writing.{document_of}
 use Rattle.wap_spelling.specs.Spelling.{spelling}
 use Rattle.wap_good.specs.Characters.{OfNode}
 use Rattle.wap_good.specs.declared.cards.Place.{Place}
+use Rattle.wap_good.specs.declared.cards.Cards.{Cards}
 use Rattle.wap_good.specs.declared.notes.Note.{Note}
 use Rattle.wap_good.specs.Nodes.{node_at, front_node, IsRead}
 use Rattle.wap_good.specs.Notes.{AreNotes}
@@ -33,21 +37,30 @@ pub record IsHeld (table root : ℕ) (bytes : List ℕ) : Type 0 where
 
 -- ---- cards
 
--- a card stands at a place
+-- a node of the root's content stands at a place
 pub record StandsAt (table bytes : List ℕ) (place : ℕ) (card : Node) : Type 0 where
   pub within : place ≤ length bytes
   pub rest : List ℕ
   pub read : node_at table (LEVEL_LIMIT - 1) (drop place bytes) ≡ Some (card, rest)
 
--- each card stands at its place
+-- each node stands at its place
 abbrev pub StandAt : List ℕ → List ℕ → List Place → List Node → Type 0
 StandAt table bytes [] [] = Unit {0}
 StandAt table bytes [] (card ∷ cards) = ⊥
 StandAt table bytes (place ∷ places) [] = ⊥
-StandAt table bytes (place ∷ places) (card ∷ cards) = StandsAt table bytes place.begin card × StandAt table bytes places cards
+StandAt table bytes (place ∷ places) (card ∷ cards) =
+    StandsAt table bytes place.begin card × StandAt table bytes places cards
 
--- a deck that is held, where its cards begin, and notes of its nodes
-pub record IsKept (table root : ℕ) (bytes : List ℕ) (cards : List Place) (notes : List Note) : Type 0 where
+-- the nodes of a tag in the root's content
+abbrev pub tagged : Tag → Deck → List Node
+tagged tag deck = filter_map (node_with tag) deck.root.kids
+
+-- a deck that is held, where its cards and templates begin, and notes of its nodes
+pub record IsKept (table root : ℕ) (bytes : List ℕ) (cards : Cards)
+    (notes : List Note) : Type 0 where
   pub held : IsHeld table root bytes
   pub noted : AreNotes bytes notes
-  pub placed : StandAt (table_in table root bytes) bytes cards (cards_of (deck_in table root bytes))
+  pub placed : StandAt (table_in table root bytes) bytes cards.places
+      (tagged tags.Card (deck_in table root bytes))
+  pub templates : StandAt (table_in table root bytes) bytes cards.templates
+      (tagged tags.Template (deck_in table root bytes))

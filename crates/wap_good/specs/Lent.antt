@@ -4,6 +4,7 @@ use Rattle.std.specs.Borrow.{Bor}
 use Rattle.wap_markup.specs.declared.deck.Item.{Item}
 use Rattle.wap_markup.specs.declared.deck.Item.TheVariants as item
 use Rattle.wap_good.specs.declared.kids.Child.{Child}
+use Rattle.wap_good.specs.declared.notes.Note.{Note}
 use Rattle.wap_good.specs.declared.kids.Child.TheVariants as child
 
 abbrev pub item_of : Child → Item
@@ -11,5 +12,5 @@ item_of (child.Text parts) = item.Text parts
 item_of (child.Node node) = item.Node node
 
 -- a child, and the bytes after it
-abbrev pub child_seen : Child × Bor (List ℕ) → Item × List ℕ
+abbrev pub child_seen : Child × Bor (List ℕ) × Bor (List Note) → Item × List ℕ
 child_seen read = (item_of read.0, read.1.now)

@@ -1,7 +1,8 @@
 -- Nodes, as they stand in the bytes of a deck (WAP-192, section 5.8), and how they are read. Tags
 -- and starts of attributes are codes of page 0; the name of an attribute may stand in the string
 -- table.
-use Rattle.std.specs.Prelude.{◌≡◌, ℕ, zero, suc, ◌-◌, ◌<◌, ◌≤◌, ◌%◌, ◌==◌, if◌then◌else◌, List, [], is_some, Option, Some, None}
+use Rattle.std.specs.Prelude.{◌≡◌, ℕ, zero, suc, ◌-◌, ◌<◌, ◌≤◌, ◌%◌, ◌==◌, if◌then◌else◌}
+use Rattle.std.specs.Prelude.{List, [], is_some, Option, Some, None}
 use Rattle.wap_base.specs.declared.name.Part.{Part}
 use Rattle.wap_markup.specs.declared.codes.TheConstants.{LITERAL}
 use Rattle.wap_markup.specs.declared.deck.Node.{Node}
@@ -13,7 +14,8 @@ use Rattle.wap_markup.specs.declared.name.AttrName.{AttrName}
 use Rattle.wap_markup.specs.Codes.{has_attributes, has_content}
 use Rattle.wap_markup.specs.Strings.{string_from}
 use Rattle.wap_markup.specs.Tables.{Start, tag_of, attr_start, attr_named}
-use Rattle.wap_good.specs.Readers.{Reader, ◌>>=◌, rest_of, first_at, number_at, closed, closed_if, Ends, Leaves}
+use Rattle.wap_good.specs.Readers.{Reader, ◌>>=◌, rest_of, first_at, number_at}
+use Rattle.wap_good.specs.Readers.{closed, closed_if, Ends, Leaves}
 use Rattle.wap_good.specs.Texts.{part_at, value_at, behind_value}
 
 -- ---- attributes
@@ -92,20 +94,25 @@ kids_begin table bytes =
 -- if bytes begin with a node, these are its content and what follows it; nothing where it has no
 -- content
 abbrev pub IsContent : List ℕ → List ℕ → Type 0
-IsContent bytes content = (table begin : List ℕ) → kids_begin table bytes ≡ Some begin → content ≡ begin
+IsContent bytes content =
+    (table begin : List ℕ) → kids_begin table bytes ≡ Some begin → content ≡ begin
 
 -- ---- what follows, where it is read at so many levels at most
 
 abbrev pub FollowsNode : ℕ → List ℕ → List ℕ → Type 0
-FollowsNode levels bytes rest = (table : List ℕ) (below : ℕ) → below ≤ levels → Leaves (node_at table below) bytes rest
+FollowsNode levels bytes rest =
+    (table : List ℕ) (below : ℕ) → below ≤ levels → Leaves (node_at table below) bytes rest
 
 abbrev pub FollowsContent : ℕ → ℕ → List ℕ → List ℕ → Type 0
 FollowsContent levels mark bytes rest =
-    (table : List ℕ) (below : ℕ) → below ≤ levels → 0 < below → Leaves (closed_if (has_content mark) (item_at table (below - 1))) bytes rest
+    (table : List ℕ) (below : ℕ) → below ≤ levels → 0 < below
+    → Leaves (closed_if (has_content mark) (item_at table (below - 1))) bytes rest
 
 abbrev pub FollowsItems : ℕ → List ℕ → List ℕ → Type 0
-FollowsItems levels bytes rest = (table : List ℕ) (below : ℕ) → below ≤ levels → Leaves (closed (item_at table below)) bytes rest
+FollowsItems levels bytes rest =
+    (table : List ℕ) (below : ℕ) → below ≤ levels → Leaves (closed (item_at table below)) bytes rest
 
 abbrev pub FollowsItem : ℕ → List ℕ → List ℕ → Type 0
 FollowsItem levels bytes rest =
-    (table : List ℕ) (below : ℕ) → below ≤ levels → Ends (item_at table below) bytes → Leaves (item_at table below) bytes rest
+    (table : List ℕ) (below : ℕ) → below ≤ levels → Ends (item_at table below) bytes
+    → Leaves (item_at table below) bytes rest

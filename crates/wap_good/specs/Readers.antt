@@ -1,5 +1,6 @@
 -- Reading bytes from the left. This project's own.
-use Rattle.std.specs.Prelude.{◌≡◌, ℕ, zero, suc, Bool, true, ◌==◌, if◌then◌else◌, List, [], ◌∷◌, ◌++◌, length, take, drop, Option, Some, None, Result, Ok, Err}
+use Rattle.std.specs.Prelude.{◌≡◌, ℕ, zero, suc, Bool, true, ◌==◌, if◌then◌else◌, List, [], ◌∷◌}
+use Rattle.std.specs.Prelude.{◌++◌, length, take, drop, Option, Some, None, Result, Ok, Err}
 use Rattle.std.specs.List.{prefix_len}
 use Rattle.wap_base.specs.Numbers.{mb_at}
 use Rattle.wap_base.specs.declared.number.ReadFault.{ReadFault}
@@ -27,7 +28,8 @@ rest_of None = None
 
 -- these are the bytes after what is read, if a value is read
 abbrev pub Leaves : {A : Type 0} → Reader A → List ℕ → List ℕ → Type 0
-Leaves {A = A} next bytes rest = (a : A) (behind : List ℕ) → next bytes ≡ Some (a, behind) → rest ≡ behind
+Leaves {A = A} next bytes rest =
+    (a : A) (behind : List ℕ) → next bytes ≡ Some (a, behind) → rest ≡ behind
 
 -- ---- a byte, a number, and a string up to a 0
 
@@ -66,7 +68,8 @@ pub record IsBehind (rest bytes : List ℕ) : Type 0 where
 -- ---- lists
 
 -- one value, and those that more reads after it, or none
-abbrev pub run_step : {A : Type 0} → (List ℕ → List A × List ℕ) → List ℕ → Option (A × List ℕ) → List A × List ℕ
+abbrev pub run_step : {A : Type 0} → (List ℕ → List A × List ℕ) → List ℕ → Option (A × List ℕ)
+    → List A × List ℕ
 run_step more bytes None = ([], bytes)
 run_step more bytes (Some read) = (read.0 ∷ (more read.1).0, (more read.1).1)
 

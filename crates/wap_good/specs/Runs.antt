@@ -1,5 +1,6 @@
 -- A text, given bit by bit. This project's own.
-use Rattle.std.specs.Prelude.{◌≡◌, ◌≢◌, ℕ, ◌+◌, Bool, true, false, List, [], ◌∷◌, ◌++◌, length, Option, Some, None, MatchOption, encode_utf8_all}
+use Rattle.std.specs.Prelude.{◌≡◌, ◌≢◌, ℕ, ◌+◌, Bool, true, false, List, [], ◌∷◌, ◌++◌}
+use Rattle.std.specs.Prelude.{length, Option, Some, None, MatchOption, encode_utf8_all}
 use Rattle.std.specs.Borrow.{Bor}
 use Rattle.std.specs.Iterator.{Count, at_most}
 use Rattle.std.specs.Str.{chars}
@@ -35,7 +36,8 @@ FindsBit parts result =
 
 -- a call gives the first bit, or nothing where nothing is left
 abbrev pub GivesBit : List Part → Option Bit → List Part → Type 0
-GivesBit parts given rest = MatchOption given ((parts ≡ []) × (rest ≡ [])) (λ one. IsFirstBit parts (part_of one) rest)
+GivesBit parts given rest =
+    MatchOption given ((parts ≡ []) × (rest ≡ [])) (λ one. IsFirstBit parts (part_of one) rest)
 
 -- a character counts as one, and so does a reference
 abbrev pub part_size : Part → ℕ

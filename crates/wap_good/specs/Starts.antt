@@ -6,7 +6,6 @@ use Rattle.std.specs.Str.{chars}
 use Rattle.wap_base.specs.declared.name.Part.{Part}
 use Rattle.wap_markup.specs.declared.name.AttrName.{AttrName}
 use Rattle.wap_markup.specs.Tables.{Start, is_same_attr}
-use Rattle.wap_good.specs.Texts.{value_at}
 
 abbrev pub LentStart : Type 0
 LentStart = AttrName × Bor (List ℕ) × Bor (List ℕ)
@@ -14,10 +13,6 @@ LentStart = AttrName × Bor (List ℕ) × Bor (List ℕ)
 -- a start, and the bytes after it
 abbrev pub start_seen : LentStart → Start × List ℕ
 start_seen start = ((start.0, chars start.1.now), start.2.now)
-
--- an attribute, and the bytes after it
-abbrev pub attr_seen : LentStart × Bor (List ℕ) → (AttrName × List Part) × List ℕ
-attr_seen read = ((read.0.0, value_at (chars read.0.1.now) read.0.2.now), read.1.now)
 
 -- the value of the first attribute of this name
 abbrev pub value_in : AttrName → List (AttrName × List Part) → Option (List Part)

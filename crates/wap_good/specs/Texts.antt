@@ -1,7 +1,8 @@
 -- Texts and values of attributes, as they stand in the bytes of a deck (WAP-192, section 5.8.4):
 -- strings in place, characters by their numbers, of which one byte is read, and references to
 -- variables.
-use Rattle.std.specs.Prelude.{ℕ, ◌==◌, ◌&&◌, nat_lt, if◌then◌else◌, List, [], ◌∷◌, drop, Option, Some, None}
+use Rattle.std.specs.Prelude.{◌≡◌, ℕ, ◌==◌, ◌&&◌, nat_lt, if◌then◌else◌, List}
+use Rattle.std.specs.Prelude.{[], ◌∷◌, drop, Option, Some, None}
 use Rattle.std.specs.List.{cons_option}
 use Rattle.std.specs.Str.{chars, is_utf8}
 use Rattle.wap_base.specs.Names.{is_name}
@@ -19,7 +20,8 @@ string_part bytes = if is_utf8 bytes then literal (chars bytes) else None
 
 -- a reference, if the string is a name
 abbrev pub name_part : Conv → List ℕ → Option Part
-name_part conv bytes = if is_utf8 bytes && is_name bytes then Some (Var (chars bytes) conv) else None
+name_part conv bytes =
+    if is_utf8 bytes && is_name bytes then Some (Var (chars bytes) conv) else None
 
 unfoldable pub string_at : Reader Part
 string_at bytes = ended_at bytes >>= λ x. string_part x.0 >>= λ part. Some (part, x.1)
@@ -60,3 +62,7 @@ value_at text bytes = joined (cons_option (literal text) (all_of part_at bytes).
 
 abbrev pub behind_value : List ℕ → List ℕ
 behind_value bytes = (all_of part_at bytes).1
+
+-- each mark of a part begins one, up to what follows them
+abbrev pub AreParts : List ℕ → Type 0
+AreParts bytes = part_end (behind_value bytes) ≡ None

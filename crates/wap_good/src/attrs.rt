@@ -5,9 +5,8 @@ ghost use Rattle.std.specs.Str.{chars, bytes_eq};
 ghost use Rattle.wap_markup.specs.Tables.{attr_named};
 ghost use Rattle.wap_tokens.specs.Rows.{attrs_by_name};
 ghost use Rattle.wap_good.specs.Readers.{Reads, Ends, all_of};
-ghost use Rattle.wap_good.specs.Texts.{value_at};
 ghost use Rattle.wap_good.specs.Nodes.{named_at, start_at, attr_at};
-ghost use Rattle.wap_good.specs.Starts.{start_seen, attr_seen, value_in};
+ghost use Rattle.wap_good.specs.Starts.{start_seen, value_in};
 
 use crate::bits::after_bits;
 use crate::front::{first, number, string_from};
@@ -61,28 +60,17 @@ fn next_start<'a>(table: &[u8], bytes: &'a [u8]) -> Option<Start<'a>>
     Some((attr, text, rest))
 }
 
-/// The next attribute, and what follows it.
-#[tactic(auto, unfolding(crate::specs::Nodes::attr_at))]
-fn next_attr<'a>(table: &[u8], bytes: &'a [u8]) -> Option<(Start<'a>, &'a [u8])>
-    requires { Ends (attr_at table.now) bytes.now }
-    ensures { Reads attr_seen result (attr_at table.now bytes.now) }
-{
-    let start = next_start(table, bytes)?;
-    let rest = after_bits(start.2);
-    Some((start, rest))
-}
-
 /// The value of the first attribute of that name.
 pub fn find_attr<'a>(table: &[u8], name: AttrName, bytes: &'a [u8]) -> Option<Run<'a>>
     requires { Ends (attr_at table.now) bytes.now }
     ensures { result ≡ value_in name (all_of (attr_at table.now) bytes.now).0 }
 {
     let mut rest = bytes;
-    while let Some(((found, begun, value), behind)) = next_attr(table, rest) {
+    while let Some((found, begun, value)) = next_start(table, rest) {
         if found == name {
             return Some(Run::value(begun, value));
         }
-        rest = behind;
+        rest = after_bits(value);
     }
     None
 }

@@ -1,14 +1,14 @@
 //! Texts bit by bit, as their bytes stand in a deck.
-ghost use Rattle.std.specs.Prelude.{◌≡◌, true, false, None, MatchOption};
+ghost use Rattle.std.specs.Prelude.{◌≡◌, true, is_some};
 ghost use Rattle.std.specs.Str.{is_utf8};
-ghost use Rattle.std.specs.Option.{option_map};
 ghost use Rattle.wap_good.specs.Readers.{Reads, IsBehind};
-ghost use Rattle.wap_good.specs.Texts.{string_part, name_part, string_at, reference_at, character_at, part_at, part_end, behind_value};
+ghost use Rattle.wap_good.specs.Texts.{string_at, reference_at, character_at, part_at};
+ghost use Rattle.wap_good.specs.Texts.{part_end, behind_value, AreParts};
 ghost use Rattle.wap_good.specs.Runs.{part_of};
 
 use crate::front::{after_first, after_zero, ended, first};
 use std::str;
-use wap_base::{Conv, is_name};
+use wap_base::Conv;
 use wap_markup::{ENTITY, EXT_I_0, EXT_I_1, EXT_I_2, STR_I};
 
 /// A bit of a text: some of its characters, at least one, or a reference to a variable.
@@ -24,7 +24,9 @@ pub enum Bit<'a> {
 
 /// The next bit of a text, and what follows it.
 #[tactic(auto, unfolding(crate::specs::Texts::part_at))]
+#[inline(always)]
 pub fn next_bit(bytes: &[u8]) -> Option<(Bit<'_>, &[u8])>
+    requires { AreParts bytes.now }
     ensures { Reads (λ read. (part_of read.0, read.1.now)) result (part_at bytes.now) }
 {
     let (mark, rest) = first(bytes)?;
@@ -38,36 +40,23 @@ pub fn next_bit(bytes: &[u8]) -> Option<(Bit<'_>, &[u8])>
     }
 }
 
+/// The text whose UTF-8 bytes are.
+fn text_of(bytes: &[u8]) -> &str
+    requires { is_utf8 bytes.now ≡ true }
+    ensures { result.now ≡ bytes.now }
+{
+    unsafe { str::from_utf8_unchecked(bytes) }
+}
+
 /// A string that has a character, and what follows it.
 #[tactic(auto, unfolding(crate::specs::Texts::string_at))]
+#[inline(always)]
 fn next_string(bytes: &[u8]) -> Option<(Bit<'_>, &[u8])>
+    requires { is_some (string_at bytes.now) ≡ true }
     ensures { Reads (λ read. (part_of read.0, read.1.now)) result (string_at bytes.now) }
 {
     let (string, rest) = ended(bytes)?;
-    let bit = string_bit(string)?;
-    Some((bit, rest))
-}
-
-/// The text whose UTF-8 bytes are, if there is one.
-fn text_of(bytes: &[u8]) -> Option<&str>
-    ensures { MatchOption result (is_utf8 bytes.now ≡ false)
-        (λ text. (text.now ≡ bytes.now) × (is_utf8 bytes.now ≡ true)) }
-{
-    match str::from_utf8(bytes) {
-        Ok(text) => Some(text),
-        Err(_) => None,
-    }
-}
-
-/// The characters of a string.
-fn string_bit(bytes: &[u8]) -> Option<Bit<'_>>
-    ensures { option_map part_of result ≡ string_part bytes.now }
-{
-    let text = text_of(bytes)?;
-    if text.is_empty() {
-        return None;
-    }
-    Some(Bit::Slice(text))
+    Some((Bit::Slice(text_of(string)), rest))
 }
 
 /// A character by its number, and what follows it.
@@ -86,22 +75,11 @@ fn next_character(bytes: &[u8]) -> Option<(Bit<'_>, &[u8])>
 /// A reference to a variable, and what follows it.
 #[tactic(auto, unfolding(crate::specs::Texts::reference_at))]
 fn next_reference(conv: Conv, bytes: &[u8]) -> Option<(Bit<'_>, &[u8])>
+    requires { is_some (reference_at conv bytes.now) ≡ true }
     ensures { Reads (λ read. (part_of read.0, read.1.now)) result (reference_at conv bytes.now) }
 {
     let (string, rest) = ended(bytes)?;
-    let bit = name_bit(conv, string)?;
-    Some((bit, rest))
-}
-
-/// A reference to the variable of a name.
-fn name_bit(conv: Conv, bytes: &[u8]) -> Option<Bit<'_>>
-    ensures { option_map part_of result ≡ name_part conv bytes.now }
-{
-    let name = text_of(bytes)?;
-    if !is_name(bytes) {
-        return None;
-    }
-    Some(Bit::Var(name, conv))
+    Some((Bit::Var(text_of(string), conv), rest))
 }
 
 /// What follows a bit of a text, as its mark tells it.

@@ -1,64 +1,66 @@
-//! Where the cards of a deck begin in its bytes.
-ghost use Rattle.std.specs.Prelude.{◌≡◌, ◌-◌, IfOk};
+//! Where the cards and the template of a deck begin in its bytes.
+ghost use Rattle.std.specs.Prelude.{◌≡◌, ◌≤◌, ◌-◌, length, drop, IfOk};
 ghost use Rattle.std.specs.List.{filter_map};
 ghost use Rattle.wap_markup.specs.Trees.{node_with};
 ghost use Rattle.wap_good.specs.Lent.{item_of};
 ghost use Rattle.wap_good.specs.Readers.{all_of, IsBehind};
-ghost use Rattle.wap_good.specs.Nodes.{item_at};
+ghost use Rattle.wap_good.specs.Nodes.{item_at, front_node, IsRead};
 ghost use Rattle.wap_good.specs.Notes.{AreNotes, AreLent};
-ghost use Rattle.wap_good.specs.Held.{IsHeld, StandAt, IsKept};
+ghost use Rattle.wap_good.specs.Held.{table_in, deck_in, IsHeld, StandAt, tagged, IsKept};
 
 use crate::children::next_child;
 use crate::head::kids_begin;
 use crate::kids::Child;
-use crate::notes::{Note, notes_left};
+use crate::notes::{Note, notes_from, notes_left};
 use crate::view::View;
 use std::alloc::Global;
 use wap_base::{NoMemory, Rows};
 use wap_markup::{LEVEL_LIMIT, Tag};
 
-/// The card that a child is, if it is one.
-fn card_in(child: Child<'_>) -> Option<View<'_>>
-    ensures { result ≡ node_with Tag.Card (item_of child.entry) }
+/// The child as a node of this tag, if it is one.
+fn node_with(child: Child<'_>, tag: Tag) -> Option<View<'_>>
+    ensures { result ≡ node_with tag (item_of child.entry) }
 {
     match child {
-        Child::Node(node) => {
-            if node.tag() == Tag::Card {
-                Some(node)
-            } else {
-                None
-            }
-        }
+        Child::Node(node) => { if node.tag() == tag { Some(node) } else { None } }
         Child::Text(_) => None,
     }
 }
 
-/// Where a card begins: its place among the bytes, and that of the first note from it on.
+/// Where a node begins: its place among the bytes, and that of the first note from it on.
 #[derive(Clone, Copy, Debug)]
 pub struct Place {
     pub begin: usize,
     pub note: usize,
 }
 
-/// Where the cards in a content begin, in the bytes that end with it.
+/// Where the cards of a deck begin, and its templates, of which a good deck has one at most.
+#[derive(Drop)]
+pub struct Cards {
+    pub places: Rows<Place>,
+    pub templates: Rows<Place>,
+}
+
+/// Where the nodes of a tag in a content begin, in the bytes that end with it.
 fn places_in(
     alloc: Global,
     table: &[u8],
     bytes: &[u8],
     notes: &[Note],
     content: &[u8],
+    tag: Tag,
 ) -> Result<Rows<Place>, NoMemory>
     requires behind { IsBehind content.now bytes.now }
     requires lent { AreLent table.now (LEVEL_LIMIT - 1) content.now notes.now }
     ensures { let items = (all_of (item_at table.now (LEVEL_LIMIT - 1)) content.now).0 in
-        let cards = filter_map (node_with Tag.Card) items in
-        IfOk result (λ places. StandAt table.now bytes.now places cards) }
+        let nodes = filter_map (node_with tag) items in
+        IfOk result (λ places. StandAt table.now bytes.now places nodes) }
 {
     let mut places = Rows::new(alloc);
     let mut rest = content;
     let mut left = notes_left(notes, rest);
-    while let Some((child, behind)) = next_child(table, LEVEL_LIMIT - 1, rest, left) {
-        if card_in(child).is_some() {
+    while let Some((child, behind, _)) = next_child(table, LEVEL_LIMIT - 1, rest, left) {
+        if node_with(child, tag).is_some() {
             let begin = bytes.len() - rest.len();
             let note = notes.len().saturating_sub(left.len());
             places.add(Place { begin, note })?;
@@ -69,18 +71,62 @@ fn places_in(
     Ok(places)
 }
 
-/// Where the cards of a deck begin.
+/// Where the nodes of a tag in the root of a deck begin.
+fn places_of(
+    alloc: Global,
+    table: usize,
+    root: usize,
+    bytes: &[u8],
+    notes: &[Note],
+    tag: Tag,
+) -> Result<Rows<Place>, NoMemory>
+    requires held { IsHeld table root bytes.now }
+    requires noted { AreNotes bytes.now notes.now }
+    ensures { let nodes = tagged tag (deck_in table root bytes.now) in
+        IfOk result (λ places. StandAt (table_in table root bytes.now) bytes.now places nodes) }
+{
+    let content = kids_begin(&bytes[root..]);
+    places_in(alloc, &bytes[table..root], bytes, notes, content, tag)
+}
+
+/// Where the cards and the templates of a deck begin.
 pub fn card_places(
     alloc: Global,
     table: usize,
     root: usize,
     bytes: &[u8],
     notes: &[Note],
-) -> Result<Rows<Place>, NoMemory>
+) -> Result<Cards, NoMemory>
     requires held { IsHeld table root bytes.now }
     requires noted { AreNotes bytes.now notes.now }
     ensures { IfOk result (λ cards. IsKept table root bytes.now cards notes.now) }
 {
-    let content = kids_begin(&bytes[root..]);
-    places_in(alloc, &bytes[table..root], bytes, notes, content)
+    let places = places_of(alloc, table, root, bytes, notes, Tag::Card)?;
+    let templates = places_of(alloc, table, root, bytes, notes, Tag::Template)?;
+    Ok(Cards { places, templates })
+}
+
+/// The view of the node in the root's content that begins at a place.
+pub fn view_at<'a>(
+    table: usize,
+    root: usize,
+    bytes: &'a [u8],
+    notes: &'a [Note],
+    place: Place,
+) -> View<'a>
+    requires held { IsHeld table root bytes.now }
+    requires within { place.begin ≤ length bytes.now }
+    requires read { let names = table_in table root bytes.now in
+        IsRead names (LEVEL_LIMIT - 1) (drop place.begin bytes.now) }
+    requires noted { AreNotes bytes.now notes.now }
+    ensures { let names = table_in table root bytes.now in
+        result ≡ front_node names (LEVEL_LIMIT - 1) (drop place.begin bytes.now) }
+{
+    let notes = notes_from(notes, place.note);
+    View::of(
+        &bytes[table..root],
+        LEVEL_LIMIT - 1,
+        &bytes[place.begin..],
+        notes,
+    )
 }

@@ -3,7 +3,7 @@ ghost use Rattle.std.specs.Prelude.{◌≡◌, IfSome, drop};
 ghost use Rattle.wap_good.specs.Lent.{child_seen};
 ghost use Rattle.wap_good.specs.Readers.{Reads, IsBehind};
 ghost use Rattle.wap_good.specs.Nodes.{item_at};
-ghost use Rattle.wap_good.specs.Notes.{AreLent};
+ghost use Rattle.wap_good.specs.Notes.{AreNotes, AreLent};
 
 use crate::bits::{after_bits, next_bit};
 use crate::front::is_end;
@@ -12,16 +12,18 @@ use crate::notes::{Note, after_noted};
 use crate::run::Run;
 use crate::view::View;
 
-/// The next child, and what follows it.
+/// The next child, what follows it, and the notes of that.
+#[inline(always)]
 pub fn next_child<'a>(
     table: &'a [u8],
     levels: u32,
     bytes: &'a [u8],
     notes: &'a [Note],
-) -> Option<(Child<'a>, &'a [u8])>
+) -> Option<(Child<'a>, &'a [u8], &'a [Note])>
     requires { AreLent table.now levels bytes.now notes.now }
     ensures exact { Reads child_seen result (item_at table.now levels bytes.now) }
     ensures behind { IfSome result (λ read. IsBehind read.1.now (drop 1 bytes.now)) }
+    ensures noted { IfSome result (λ read. AreNotes bytes.now read.2.now) }
 {
     if is_end(bytes) {
         return None;
@@ -29,11 +31,12 @@ pub fn next_child<'a>(
     match next_bit(bytes) {
         Some((bit, rest)) => {
             let run = Run::begun_by(bit, bytes, rest);
-            Some((Child::Text(run), after_bits(rest)))
+            Some((Child::Text(run), after_bits(rest), notes))
         }
         None => {
-            let rest = after_noted(levels, notes, bytes);
-            Some((Child::Node(View::of(table, levels, bytes, notes)), rest))
+            let (rest, left) = after_noted(levels, notes, bytes);
+            let node = View::of(table, levels, bytes, notes);
+            Some((Child::Node(node), rest, left))
         }
     }
 }

@@ -1,7 +1,8 @@
 //! What bytes begin with.
 ghost use Rattle.std.specs.Prelude.{◌≡◌, ◌≤◌, length, drop};
 ghost use Rattle.wap_markup.specs.Strings.{string_from};
-ghost use Rattle.wap_good.specs.Readers.{Reads, first_at, after, number_at, zero_place, ended_at, behind_zero, is_end};
+ghost use Rattle.wap_good.specs.Readers.{Reads, first_at, after, number_at, zero_place};
+ghost use Rattle.wap_good.specs.Readers.{ended_at, behind_zero, is_end};
 
 use memchr::memchr;
 use wap_base::read_mb;

@@ -4,22 +4,23 @@ ghost use Rattle.wap_base.specs.Numbers.{mb_at};
 ghost use Rattle.wap_markup.specs.Writing.{document_of};
 ghost use Rattle.wap_spelling.specs.Spelling.{spelling};
 ghost use Rattle.wap_markup.specs.Cards.{cards_of, id_of, card_numbered};
-ghost use Rattle.wap_markup.specs.Trees.{is_text};
+ghost use Rattle.wap_markup.specs.Trees.{is_text, first_with};
 ghost use Rattle.wap_markup.specs.Good.{IsGood};
 ghost use Rattle.wap_markup.specs.Normal.{IsNormal};
 
-use crate::cards::{Place, card_places};
+use crate::cards::{Cards, card_places, view_at};
 use crate::laws::decks_are_read;
-use crate::notes::{Note, notes_from, notes_of};
+use crate::notes::{Note, notes_of};
 use crate::texts::tell_node;
 use crate::view::View;
 use std::alloc::Global;
 use std::marker::Model;
 use wap_base::{Bytes, NoMemory, Rows, Text, read_mb};
-use wap_deck::{deck_of, document_of};
-use wap_markup::{AttrName, Deck, LEVEL_LIMIT};
-use wap_spelling::{decks_are_spellable, encode, spelling_is_read};
+use wap_deck::deck_of;
+use wap_markup::{AttrName, Deck, LEVEL_LIMIT, Tag};
+use wap_spelling::{decks_are_spellable, spelling_is_read};
 use wap_wbxml::decode;
+use wap_writing::spell;
 
 /// A good deck (WAP-191, section 11), kept as the bytes that spell its document. A contract sees
 /// the deck.
@@ -30,8 +31,8 @@ pub struct GoodDeck {
     table: usize,
     /// Where the root begins, after the table.
     root: usize,
-    /// Where each card begins.
-    cards: Rows<Place>,
+    /// Where each card begins, and the template.
+    cards: Cards,
     /// Where long nodes end.
     notes: Rows<Note>,
 }
@@ -83,8 +84,7 @@ fn held(alloc: Global, deck: &Deck) -> Result<GoodDeck, NoMemory>
     tell_node(LEVEL_LIMIT, &deck.root);
     decks_are_spellable();
     decks_are_read();
-    let document = document_of(alloc, deck)?;
-    let bytes = encode(alloc, &document)?;
+    let bytes = spell(alloc, deck)?;
     let whole = bytes.as_slice();
     let (table, root) = places(whole)?;
     let notes = notes_of(alloc, whole, root)?;
@@ -163,7 +163,7 @@ impl GoodDeck {
     pub fn card_count(&self) -> usize
         ensures { result ≡ length (cards_of self.now) }
     {
-        self.cards.len()
+        self.cards.places.len()
     }
 
     /// The number, from 0, of the card with this id. An id with a reference to a variable is none.
@@ -184,14 +184,19 @@ impl GoodDeck {
     pub fn card(&self, number: usize) -> Option<View<'_>>
         ensures { result ≡ slice_get (cards_of self.now) number }
     {
-        let place = *self.cards.get(number)?;
+        let place = *self.cards.places.get(number)?;
         let bytes = self.bytes.as_slice();
-        let notes = notes_from(self.notes.as_slice(), place.note);
-        Some(View::of(
-            &bytes[self.table..self.root],
-            LEVEL_LIMIT - 1,
-            &bytes[place.begin..],
-            notes,
-        ))
+        let notes = self.notes.as_slice();
+        Some(view_at(self.table, self.root, bytes, notes, place))
+    }
+
+    /// The template.
+    pub fn template(&self) -> Option<View<'_>>
+        ensures { result ≡ first_with Tag.Template self.now.root.kids }
+    {
+        let place = *self.cards.templates.get(0)?;
+        let bytes = self.bytes.as_slice();
+        let notes = self.notes.as_slice();
+        Some(view_at(self.table, self.root, bytes, notes, place))
     }
 }

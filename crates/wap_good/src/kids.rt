@@ -5,7 +5,7 @@ ghost use Rattle.wap_good.specs.Nodes.{item_at};
 ghost use Rattle.wap_good.specs.Notes.{AreLent};
 
 use crate::children::next_child;
-use crate::notes::{Note, notes_left};
+use crate::notes::Note;
 use crate::run::Run;
 use crate::view::View;
 use std::marker::Model;
@@ -70,10 +70,12 @@ impl<'a> Iterator for Kids<'a> {
 
     ghost remaining = { item_count (λ rest. rest) };
 
+    // Inlined, since a child takes many words to hand on.
+    #[inline(always)]
     fn next(&mut self) -> Option<Child<'a>> {
-        let (child, rest) = next_child(self.table, self.levels, self.bytes, self.notes)?;
+        let (child, rest, left) = next_child(self.table, self.levels, self.bytes, self.notes)?;
         self.bytes = rest;
-        self.notes = notes_left(self.notes, rest);
+        self.notes = left;
         Some(child)
     }
 }

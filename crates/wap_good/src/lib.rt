@@ -8,6 +8,7 @@ mod children;
 mod front;
 mod good;
 mod head;
+mod heads;
 mod kids;
 mod laws;
 mod notes;

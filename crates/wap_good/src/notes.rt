@@ -1,16 +1,17 @@
 //! Notes of where nodes end, by which long nodes are skipped at once.
-ghost use Rattle.std.specs.Prelude.{ℕ, ◌≤◌, List, length, drop, IfOk, IfSome};
+ghost use Rattle.std.specs.Prelude.{◌≡◌, ℕ, ◌<◌, ◌≤◌, List, length, drop, true, IfOk, IfSome};
 ghost use Rattle.wap_good.specs.Readers.{IsBehind};
-ghost use Rattle.wap_good.specs.Nodes.{FollowsNode};
-ghost use Rattle.wap_good.specs.Notes.{IsNote, AreNotes};
+ghost use Rattle.wap_good.specs.Nodes.{FollowsNode, IsContent};
+ghost use Rattle.wap_good.specs.Notes.{IsNote, AreNotes, IsHead, LacksName};
 
 use crate::bits::after_bit;
 use crate::front::first;
-use crate::head::has_content;
+use crate::head::{has_content, kids_begin};
+use crate::heads::head_of;
 use crate::skip::{after_head, after_node};
 use std::alloc::Global;
 use wap_base::{NoMemory, Rows};
-use wap_markup::LEVEL_LIMIT;
+use wap_markup::{AttrName, LEVEL_LIMIT};
 use wap_tokens::tag_of;
 
 /// Where a node begins and where it ends, by how many bytes are left there.
@@ -18,6 +19,13 @@ use wap_tokens::tag_of;
 pub struct Note {
     pub begin: u32,
     pub end: u32,
+    /// So many of its bytes stand before its content; 0 where that isn't known, nor the names.
+    pub head: u8,
+    /// How many notes of nodes in it follow, 255 where there are as many or more.
+    pub inside: u8,
+    /// Its attributes have no names but this and the next.
+    pub first: AttrName,
+    pub second: AttrName,
 }
 
 /// A node of fewer bytes is skipped byte by byte.
@@ -41,9 +49,14 @@ fn note_of(bytes: &[u8]) -> Option<Note>
     if bytes.len() - rest.len() < NOTED {
         return None;
     }
+    let (head, first, second) = head_of(bytes);
     Some(Note {
         begin: bytes.len() as u32,
         end: rest.len() as u32,
+        head,
+        inside: 0,
+        first,
+        second,
     })
 }
 
@@ -62,7 +75,8 @@ fn after_place(bytes: &[u8]) -> &[u8]
 }
 
 /// The notes of the nodes in a document, in their order, by its bytes and where its root begins.
-pub fn notes_of(alloc: Global, bytes: &[u8], root: usize) -> Result<Rows<Note>, NoMemory>
+/// They don't tell yet what is inside.
+fn notes_in(alloc: Global, bytes: &[u8], root: usize) -> Result<Rows<Note>, NoMemory>
     requires { root ≤ length bytes.now }
     ensures { IfOk result (AreNotes bytes.now) }
 {
@@ -75,6 +89,39 @@ pub fn notes_of(alloc: Global, bytes: &[u8], root: usize) -> Result<Rows<Note>, 
         rest = after_place(rest);
     }
     Ok(notes)
+}
+
+/// How many of the notes are of nodes in one that ends where so many bytes are left, 255 at most.
+fn count_inside(notes: &[Note], end: u32) -> u8 {
+    let mut count: u8 = 0;
+    while count < u8::MAX && (count as usize) < notes.len() && notes[count as usize].begin > end {
+        count += 1;
+    }
+    count
+}
+
+/// The same notes, each with the number of those inside.
+fn with_inside(alloc: Global, bytes: &[u8], notes: &[Note]) -> Result<Rows<Note>, NoMemory>
+    requires { AreNotes bytes.now notes.now }
+    ensures { IfOk result (AreNotes bytes.now) }
+{
+    let mut told = Rows::new(alloc);
+    let mut left = notes;
+    while let Some((note, behind)) = first_note(left) {
+        let inside = count_inside(behind, note.end);
+        told.add(Note { inside, ..note })?;
+        left = behind;
+    }
+    Ok(told)
+}
+
+/// The notes of the nodes in a document, in their order, by its bytes and where its root begins.
+pub fn notes_of(alloc: Global, bytes: &[u8], root: usize) -> Result<Rows<Note>, NoMemory>
+    requires { root ≤ length bytes.now }
+    ensures { IfOk result (AreNotes bytes.now) }
+{
+    let notes = notes_in(alloc, bytes, root)?;
+    with_inside(alloc, bytes, notes.as_slice())
 }
 
 /// The notes from a place on.
@@ -91,9 +138,6 @@ pub fn notes_from(notes: &[Note], place: usize) -> &[Note]
 pub fn notes_left<'a>(notes: &'a [Note], bytes: &[u8]) -> &'a [Note]
     ensures { (whole : List ℕ) → AreNotes whole notes.now → AreNotes whole result.now }
 {
-    if bytes.is_empty() {
-        return &[];
-    }
     let mut passed = 0;
     while passed < notes.len() && notes[passed].begin as usize > bytes.len() {
         passed += 1;
@@ -101,27 +145,106 @@ pub fn notes_left<'a>(notes: &'a [Note], bytes: &[u8]) -> &'a [Note]
     &notes[passed..]
 }
 
-/// The first note.
-fn first_note(notes: &[Note]) -> Option<Note>
-    ensures { (whole : List ℕ) → AreNotes whole notes.now → IfSome result (IsNote whole) }
+/// The notes of what follows a node, by those behind its own, of which so many are inside.
+fn notes_past<'a>(inside: u8, notes: &'a [Note], rest: &[u8]) -> &'a [Note]
+    ensures { (whole : List ℕ) → AreNotes whole notes.now → AreNotes whole result.now }
+{
+    if inside < u8::MAX {
+        notes_from(notes, inside as usize)
+    } else {
+        notes_left(notes, rest)
+    }
+}
+
+/// The first note, and those after it.
+fn first_note(notes: &[Note]) -> Option<(Note, &[Note])>
+    ensures notes { (whole : List ℕ) → AreNotes whole notes.now
+        → IfSome result (λ read. IsNote whole read.0 × AreNotes whole read.1.now) }
+    ensures fewer { IfSome result (λ read. length read.1.now < length notes.now) }
 {
     match notes {
-        [note, ..] => Some(*note),
+        [note, rest @ ..] => Some((*note, rest)),
         [] => None,
     }
 }
 
-/// What follows a node of so many levels at most, by its note if it has one.
-pub fn after_noted<'a>(levels: u32, notes: &[Note], bytes: &'a [u8]) -> &'a [u8]
-    requires few { levels ≤ LEVEL_LIMIT }
-    requires noted { AreNotes bytes.now notes.now }
-    ensures exact { FollowsNode levels bytes.now result.now }
-    ensures behind { IsBehind result.now (drop 1 bytes.now) }
+/// The notes behind that of the node that bytes begin with, if it has one.
+pub fn notes_inside<'a>(notes: &'a [Note], bytes: &[u8]) -> &'a [Note]
+    ensures { (whole : List ℕ) → AreNotes whole notes.now → AreNotes whole result.now }
 {
-    if let Some(note) = first_note(notes) {
+    if let Some((note, inside)) = first_note(notes) {
         if note.begin as usize == bytes.len() {
-            return &bytes[bytes.len() - note.end as usize..];
+            return inside;
         }
     }
-    after_node(levels, bytes)
+    notes
+}
+
+/// What follows a node of so many levels at most, by its note if it has one, and the notes of that.
+pub fn after_noted<'a>(levels: u32, notes: &'a [Note], bytes: &'a [u8]) -> (&'a [u8], &'a [Note])
+    requires few { levels ≤ LEVEL_LIMIT }
+    requires noted { AreNotes bytes.now notes.now }
+    ensures exact { FollowsNode levels bytes.now result.0.now }
+    ensures behind { IsBehind result.0.now (drop 1 bytes.now) }
+    ensures noted { AreNotes bytes.now result.1.now }
+{
+    if let Some((note, inside)) = first_note(notes) {
+        if note.begin as usize == bytes.len() {
+            let rest = &bytes[bytes.len() - note.end as usize..];
+            return (rest, notes_past(note.inside, inside, rest));
+        }
+    }
+    (after_node(levels, bytes), notes)
+}
+
+/// The note of the node that bytes begin with, if it has one that knows what the node begins with.
+fn own_note(notes: &[Note], bytes: &[u8]) -> Option<Note>
+    requires { AreNotes bytes.now notes.now }
+    ensures { IfSome result (λ note. IsHead bytes.now note.head note.first note.second) }
+{
+    let (note, _) = first_note(notes)?;
+    if note.begin as usize == bytes.len() && note.head > 0 {
+        return Some(note);
+    }
+    None
+}
+
+/// Whether a note tells that the node that bytes begin with has no attribute of a name.
+#[inline(always)]
+pub fn lacks(notes: &[Note], bytes: &[u8], name: AttrName) -> bool
+    requires { AreNotes bytes.now notes.now }
+    ensures { result ≡ true → LacksName bytes.now name }
+{
+    let Some(note) = own_note(notes, bytes) else {
+        return false;
+    };
+    if note.first == name {
+        return false;
+    }
+    if note.second == name {
+        return false;
+    }
+    true
+}
+
+/// What follows so many bytes.
+fn after_some(count: u8, bytes: &[u8]) -> &[u8]
+    ensures { result.now ≡ drop count bytes.now }
+{
+    match bytes.get(count as usize..) {
+        Some(rest) => rest,
+        None => &[],
+    }
+}
+
+/// The content of the node that bytes begin with, and what follows it, by its note if it has one.
+pub fn content_of<'a>(notes: &[Note], bytes: &'a [u8]) -> &'a [u8]
+    requires { AreNotes bytes.now notes.now }
+    ensures exact { IsContent bytes.now result.now }
+    ensures behind { IsBehind result.now bytes.now }
+{
+    match own_note(notes, bytes) {
+        Some(note) => after_some(note.head, bytes),
+        None => kids_begin(bytes),
+    }
 }

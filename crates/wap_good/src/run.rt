@@ -1,8 +1,8 @@
 //! Texts and values of attributes, read bit by bit.
-ghost use Rattle.std.specs.Prelude.{◌≡◌, ◌↔◌, IsTrue, [], Some};
+ghost use Rattle.std.specs.Prelude.{◌≡◌, ◌↔◌, IsTrue, [], Some, IfSome};
 ghost use Rattle.std.specs.Str.{chars};
 ghost use Rattle.wap_markup.specs.Trees.{plain_text, is_text};
-ghost use Rattle.wap_good.specs.Texts.{part_at, value_at};
+ghost use Rattle.wap_good.specs.Texts.{part_at, value_at, AreParts};
 ghost use Rattle.wap_good.specs.Runs.{FindsBit, TakesPart, part_of};
 
 use crate::bits::{Bit, next_bit};
@@ -22,16 +22,19 @@ impl<'a> Model for Run<'a> {
     ghost use Rattle.std.specs.Prelude.{List};
     ghost use Rattle.std.specs.Str.{chars};
     ghost use Rattle.wap_base.specs.declared.name.Part.{Part};
-    ghost use Rattle.wap_good.specs.Texts.{value_at};
+    ghost use Rattle.wap_good.specs.Texts.{value_at, AreParts};
 
     ghost Value = { List Part };
 
     ghost view = { λ run. value_at (chars run.begun.now) run.bytes.now };
+
+    ghost invariant = { λ run. AreParts run.bytes.now };
 }
 
 impl<'a> Run<'a> {
     /// The run of a text.
     pub(crate) fn text(bytes: &'a [u8]) -> Run<'a>
+        requires { AreParts bytes.now }
         ensures { result ≡ value_at [] bytes.now }
     {
         Run { begun: "", bytes }
@@ -39,7 +42,8 @@ impl<'a> Run<'a> {
 
     /// The run of a text by its first bit and what follows that.
     pub(crate) fn begun_by(bit: Bit<'a>, bytes: &'a [u8], rest: &'a [u8]) -> Run<'a>
-        requires { part_at bytes.now ≡ Some (part_of bit, rest.now) }
+        requires bit { part_at bytes.now ≡ Some (part_of bit, rest.now) }
+        requires parts { AreParts bytes.now }
         ensures { result ≡ value_at [] bytes.now }
     {
         match bit {
@@ -50,6 +54,7 @@ impl<'a> Run<'a> {
 
     /// The run of a value that begins with a text.
     pub(crate) fn value(begun: &'a str, bytes: &'a [u8]) -> Run<'a>
+        requires { AreParts bytes.now }
         ensures { result ≡ value_at (chars begun.now) bytes.now }
     {
         Run { begun, bytes }
@@ -90,8 +95,11 @@ impl<'a> Run<'a> {
 }
 
 /// The first bit of a value that begins with a text, and the bytes after it.
+#[inline(always)]
 fn first_bit<'a>(begun: &'a str, bytes: &'a [u8]) -> Option<(Bit<'a>, &'a [u8])>
-    ensures { FindsBit (value_at (chars begun.now) bytes.now) result }
+    requires { AreParts bytes.now }
+    ensures bit { FindsBit (value_at (chars begun.now) bytes.now) result }
+    ensures rest { IfSome result (λ read. AreParts read.1.now) }
 {
     if !begun.as_bytes().is_empty() {
         return Some((Bit::Slice(begun), bytes));
@@ -122,6 +130,7 @@ impl<'a> Iterator for Run<'a> {
 
     ghost remaining = { parts_left };
 
+    #[inline(always)]
     fn next(&mut self) -> Option<Bit<'a>> {
         let begun = self.begun;
         let bytes = self.bytes;

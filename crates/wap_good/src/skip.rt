@@ -2,7 +2,8 @@
 ghost use Rattle.std.specs.Prelude.{ℕ, ◌∷◌, List, drop};
 ghost use Rattle.wap_markup.specs.Codes.{has_attributes};
 ghost use Rattle.wap_good.specs.Readers.{Leaves, Ends, IsBehind, number_at, closed, closed_if};
-ghost use Rattle.wap_good.specs.Nodes.{attr_at, FollowsNode, FollowsContent, FollowsItems, FollowsItem};
+ghost use Rattle.wap_good.specs.Nodes.{attr_at, FollowsNode, FollowsContent};
+ghost use Rattle.wap_good.specs.Nodes.{FollowsItems, FollowsItem};
 
 use crate::bits::{after_bit, after_bits};
 use crate::front::{after_first, first, is_end, number};

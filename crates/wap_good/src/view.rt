@@ -6,9 +6,9 @@ ghost use Rattle.wap_good.specs.Notes.{IsLent};
 
 use crate::attrs::find_attr;
 use crate::front::first;
-use crate::head::{attrs_begin, kids_begin};
+use crate::head::attrs_begin;
 use crate::kids::Kids;
-use crate::notes::{Note, notes_left};
+use crate::notes::{Note, content_of, lacks, notes_inside};
 use crate::run::Run;
 use std::marker::Model;
 use wap_markup::{AttrName, Tag};
@@ -78,10 +78,18 @@ impl<'a> View<'a> {
     }
 
     /// The value of the first attribute of that name.
+    // Inlined, so that an attribute which isn't there takes no call.
+    #[inline(always)]
     pub fn attr(&self, name: AttrName) -> Option<Run<'a>>
         ensures { result ≡ value_of name self.now }
     {
         let attrs = attrs_begin(self.bytes)?;
+        if attrs.is_empty() {
+            return None;
+        }
+        if lacks(self.notes, self.bytes, name) {
+            return None;
+        }
         find_attr(self.table, name, attrs)
     }
 
@@ -90,9 +98,9 @@ impl<'a> View<'a> {
         ensures kids { result ≡ self.now.kids }
         ensures few { length self.now.kids ≤ usize.MAX }
     {
-        let bytes = kids_begin(self.bytes);
+        let bytes = content_of(self.notes, self.bytes);
         let _few = bytes.len();
-        let notes = notes_left(self.notes, bytes);
+        let notes = notes_inside(self.notes, self.bytes);
         Kids::of(self.table, self.levels.saturating_sub(1), bytes, notes)
     }
 }

@@ -1,5 +1,6 @@
 -- What is written one after the other.
-use Rattle.std.proofs.Common.{◌≡◌, ℕ, zero, suc, ◌+◌, ◌<◌, ◌≤◌, true, false, length, take, get_or, List, [], ◌∷◌, ◌++◌, refl, sym, ap, ◌∙◌, append_assoc}
+use Rattle.std.proofs.Common.{◌≡◌, ℕ, zero, suc, ◌+◌, ◌<◌, ◌≤◌, true, false, length, take, get_or}
+use Rattle.std.proofs.Common.{List, [], ◌∷◌, ◌++◌, refl, sym, ap, ◌∙◌, append_assoc}
 use Rattle.std.specs.Prelude.{◌==◌}
 use Rattle.std.proofs.Math.Dec.{eqb-suc-zero}
 use Rattle.std.proofs.lemmas.List.{append-nil, take_more, take_all}
@@ -21,7 +22,7 @@ written_then first next output =
     let b = next a.1 in
     ap (with_bytes b.1) (append_assoc output.bytes a.0 b.0)
 
-written_none : (output : Output) → written (plain []) output ≡ output
+pub written_none : (output : Output) → written (plain []) output ≡ output
 unfolding with_bytes
 written_none output = ap (with_bytes output.pages) (append-nil output.bytes)
 
@@ -31,7 +32,8 @@ module _ {A : Type 0} (write : A → Writing) where
   each_none output = sym (written_none output)
 
   pub each_one_more : (xs : List A) (x : A) (output : Output)
-      → written (write x) (written (each write xs) output) ≡ written (each write (xs ++ x ∷ [])) output
+      → written (write x) (written (each write xs) output)
+      ≡ written (each write (xs ++ x ∷ [])) output
   unfolding each
   each_one_more [] x output =
       ap (written (write x)) (written_none output) ∙ sym (written_none (written (write x) output))
@@ -42,9 +44,11 @@ module _ {A : Type 0} (write : A → Writing) where
       ∙ written_then (write y) (each write (xs ++ x ∷ [])) output
 
 -- what stands after two steps
-pub in_turn : (first next : Writing) (before between after : Output) → between ≡ written first before
+pub in_turn : (first next : Writing) (before between after : Output)
+    → between ≡ written first before
     → after ≡ written next between → after ≡ written (first ⨾ next) before
-in_turn first next before between after one two = two ∙ ap (written next) one ∙ written_then first next before
+in_turn first next before between after one two =
+    two ∙ ap (written next) one ∙ written_then first next before
 
 no_items : {A : Type 0} (xs : List A) → true ≡ (length xs == 0) → xs ≡ []
 no_items [] empty = refl
@@ -54,7 +58,8 @@ take_none : {A : Type 0} (i : ℕ) → take {A = A} i [] ≡ []
 take_none zero = refl
 take_none (suc i) = refl
 
-with_end : {A : Type 0} (write : A → Writing) (xs : List A) → false ≡ (length xs == 0) → (before : Output)
+with_end : {A : Type 0} (write : A → Writing) (xs : List A) → false ≡ (length xs == 0)
+    → (before : Output)
     → written (each write xs ⨾ plain (END ∷ [])) before ≡ written (ended write xs) before
 with_end write [] some before = absurd cc
 with_end write (x ∷ xs) some before = refl
@@ -81,9 +86,11 @@ module _ {A : Type 0} (write : A → Writing) (xs : List A) (before : Output) wh
       ∙ ap (λ (l : List A). written (ended write l) before) (sym none)
 
   pub ended_some : (i : ℕ) (between after : Output) → length xs ≤ i → false ≡ (length xs == 0)
-      → between ≡ written (each write (take i xs)) before → after ≡ written (plain (END ∷ [])) between
+      → between ≡ written (each write (take i xs)) before
+      → after ≡ written (plain (END ∷ [])) between
       → after ≡ written (ended write xs) before
   ended_some i between after all some so_far end =
       let whole : between ≡ written (each write xs) before =
       so_far ∙ ap (λ (l : List A). written (each write l) before) (take_all i xs all) in
-      in_turn (each write xs) (plain (END ∷ [])) before between after whole end ∙ with_end write xs some before
+      in_turn (each write xs) (plain (END ∷ [])) before between after whole end
+      ∙ with_end write xs some before

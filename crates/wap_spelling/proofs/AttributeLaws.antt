@@ -1,5 +1,7 @@
 -- What is written for attributes is read as these attributes.
-use Rattle.std.proofs.Common.{◌≡◌, ◌≢◌, ℕ, zero, suc, ◌+◌, ◌%◌, ◌^◌, ◌<◌, ◌≤◌, Bool, true, false, cond, eqb, List, [], ◌∷◌, ◌++◌, length, refl, sym, ap, subst, append_assoc, arith}
+use Rattle.std.proofs.Common.{◌≡◌, ◌≢◌, ℕ, zero, suc, ◌+◌, ◌%◌, ◌^◌, ◌<◌, ◌≤◌, Bool}
+use Rattle.std.proofs.Common.{true, false, cond, eqb, List, [], ◌∷◌, ◌++◌, length}
+use Rattle.std.proofs.Common.{refl, sym, ap, subst, append_assoc, arith}
 use Rattle.std.specs.List.{AllByRecursion}
 use Rattle.std.proofs.lemmas.Bool.{eqb-true}
 use Rattle.std.proofs.lemmas.Bool.Decides.{nat_tests}
@@ -7,7 +9,8 @@ use Rattle.std.proofs.lemmas.List.{append-nil}
 use Rattle.wap_base.specs.Numbers.{mb_spelling}
 use Rattle.wap_base.specs.declared.name.Conv.{Conv}
 use Rattle.wap_base.specs.declared.name.Conv.TheVariants.{Escape, Unescape, Plain}
-use Rattle.wap_markup.specs.declared.codes.TheConstants.{SWITCH_PAGE, ENTITY, STR_I, LITERAL, EXT_0, OPAQUE}
+use Rattle.wap_markup.specs.declared.codes.TheConstants.{SWITCH_PAGE, ENTITY, STR_I}
+use Rattle.wap_markup.specs.declared.codes.TheConstants.{LITERAL, EXT_0, OPAQUE}
 use Rattle.wap_markup.specs.declared.document.Attr.{Attr}
 use Rattle.wap_markup.specs.declared.document.Token.{Token}
 use Rattle.wap_markup.specs.declared.document.Token.TheVariants.{Code, Literal}
@@ -25,7 +28,8 @@ use Rattle.wap_markup.specs.Charsets.{is_character}
 use Rattle.wap_markup.specs.Codes.{leaf_mark, attribute_mark}
 use Rattle.wap_markup.specs.Spellings.{Many}
 use Rattle.wap_markup.specs.Strings.{Strings}
-use Rattle.wap_markup.specs.Grammar.{with_name, table_size, IsLead, IsLeaf, IsName, IsStartBehind, IsPieceBehind, piece_of, IsPiece, IsAttribute}
+use Rattle.wap_markup.specs.Grammar.{with_name, table_size, IsLead, IsLeaf, IsName, IsStartBehind}
+use Rattle.wap_markup.specs.Grammar.{IsPieceBehind, piece_of, IsPiece, IsAttribute}
 use Rattle.wap_spelling.specs.declared.output.Pages.{Pages}
 use Rattle.wap_spelling.specs.Writings.{◌⨾◌, each, switch}
 use Rattle.wap_spelling.specs.Names.{string, table_of, place_of, with_attr}
@@ -38,13 +42,21 @@ use Rattle.wap_spelling.proofs.States.{state_at, many_read}
 -- ---- what an item begins with
 
 lead_by : (page next byte : ℕ) → byte ≢ 0 → (b : Bool) → eqb next page ≡ b
-    → (switched : Bool) × IsLead page (cond b [] (SWITCH_PAGE ∷ next ∷ []) ++ byte ∷ []) (record { switched = switched; page = next; byte = byte })
-lead_by page next byte some true same =
-    (false, (some, ap (λ (p : ℕ). let lead : Lead = record { switched = false; page = p; byte = byte } in lead) (eqb-true next page same)))
+    → (switched : Bool) × IsLead page (cond b [] (SWITCH_PAGE ∷ next ∷ []) ++ byte ∷ [])
+    (record { switched = switched; page = next; byte = byte })
+lead_by page next byte some true same = (
+  false,
+  (
+    some,
+    ap (λ (p : ℕ). let lead : Lead = record { switched = false; page = p; byte = byte } in lead)
+        (eqb-true next page same),
+  ),
+)
 lead_by page next byte some false other = (true, (refl, refl))
 
 pub lead_read : (page next byte : ℕ) → byte ≢ 0
-    → (switched : Bool) × IsLead page (switch page next ++ byte ∷ []) (record { switched = switched; page = next; byte = byte })
+    → (switched : Bool) × IsLead page (switch page next ++ byte ∷ [])
+    (record { switched = switched; page = next; byte = byte })
 lead_read page next byte some = lead_by page next byte some (eqb next page) refl
 
 -- ---- strings, characters, references to variables, extensions and opaque data
@@ -56,7 +68,8 @@ module _ (table : List ℕ) where
   abbrev strings : Strings
   strings = in_utf8 table
 
-  pub text_leaf : (text : List ℕ) → IsString text → IsLeaf strings (mark.Inline Shown) (string text) (leaf.Str text)
+  pub text_leaf : (text : List ℕ) → IsString text
+      → IsLeaf strings (mark.Inline Shown) (string text) (leaf.Str text)
   text_leaf text is = record { a = text; is = inline_read table text is; made = refl }
 
   pub variable_leaf : (name : List ℕ) (conv : Conv) → IsString name
@@ -68,7 +81,8 @@ module _ (table : List ℕ) where
   entity_leaf number is =
       record { a = number; is = (number_read number (character_small number is), is); made = refl }
 
-  pub opaque_leaf : (bytes : List ℕ) → length bytes < 2 ^ 32 → IsLeaf strings mark.Opaque (sized bytes) (leaf.Opaque bytes)
+  pub opaque_leaf : (bytes : List ℕ) → length bytes < 2 ^ 32
+      → IsLeaf strings mark.Opaque (sized bytes) (leaf.Opaque bytes)
   opaque_leaf bytes fits = record {
     a = bytes;
     is = record {
@@ -91,11 +105,13 @@ extension_by P none one two (suc (suc (suc number))) few = absurd (omega arith)
 
 -- ---- parts of values
 
-value_mark : (lead : Lead) → LITERAL < lead.byte % 64 → 128 ≤ lead.byte → attribute_mark lead ≡ attribute.Value
+value_mark : (lead : Lead) → LITERAL < lead.byte % 64 → 128 ≤ lead.byte
+    → attribute_mark lead ≡ attribute.Value
 unfolding attribute_mark
 value_mark lead code large = grind (arith, nat_tests)
 
-coded_mark : (lead : Lead) → LITERAL < lead.byte % 64 → lead.byte < 128 → attribute_mark lead ≡ attribute.Coded
+coded_mark : (lead : Lead) → LITERAL < lead.byte % 64 → lead.byte < 128
+    → attribute_mark lead ≡ attribute.Coded
 unfolding attribute_mark
 coded_mark lead code small = grind (arith, nat_tests)
 
@@ -105,7 +121,8 @@ unfolding attribute_mark
 named_mark switched page = refl
 
 variable_mark : (page : ℕ) (conv : Conv)
-    → attribute_mark (record { switched = false; page = page; byte = variable conv }) ≡ attribute.Leaf (mark.Inline (Variable conv))
+    → attribute_mark (record { switched = false; page = page; byte = variable conv })
+    ≡ attribute.Leaf (mark.Inline (Variable conv))
 unfolding attribute_mark leaf_mark
 variable_mark page Escape = refl
 variable_mark page Unescape = refl
@@ -120,9 +137,11 @@ module _ (all : List (List ℕ)) where
   abbrev in_table : Strings
   in_table = in_utf8 (table_of all)
 
-  leaf_piece : (pages : Pages) (names : List (List ℕ)) (byte : ℕ) (rest : List ℕ) (m : LeafMark) (l : Leaf)
+  leaf_piece : (pages : Pages) (names : List (List ℕ)) (byte : ℕ) (rest : List ℕ)
+      (m : LeafMark) (l : Leaf)
       → byte ≢ 0
-      → attribute_mark (record { switched = false; page = pages.attribute; byte = byte }) ≡ attribute.Leaf m
+      → attribute_mark (record { switched = false; page = pages.attribute; byte = byte })
+      ≡ attribute.Leaf m
       → IsLeaf in_table m rest l
       → IsPiece in_table (state_at pages names) (byte ∷ rest) (piece_of l, state_at pages names)
   leaf_piece pages names byte rest m l some is reads =
@@ -135,7 +154,9 @@ module _ (all : List (List ℕ)) where
         first = (some, refl);
         next = record {
           a = piece_of l;
-          is = subst (λ (k : AttributeMark). IsPieceBehind in_table lead k rest (piece_of l)) (sym is)
+          is =
+              subst (λ (k : AttributeMark). IsPieceBehind in_table lead k rest (piece_of l))
+              (sym is)
               (record { a = l; is = reads; made = refl });
           made = refl;
         };
@@ -157,36 +178,50 @@ module _ (all : List (List ℕ)) where
         first = found.1;
         next = record {
           a = piece.Code page code;
-          is = subst (λ (k : AttributeMark). IsPieceBehind in_table lead k [] (piece.Code page code))
+          is =
+              subst (λ (k : AttributeMark). IsPieceBehind in_table lead k [] (piece.Code page code))
               (sym (value_mark lead fits.0 fits.1)) (refl, refl);
           made = refl;
         };
       }
   piece_read pages names (piece.Str text) fits =
-      leaf_piece pages names STR_I (string text) (mark.Inline Shown) (leaf.Str text) (λ e. absurd (omega (arith, e))) refl
+      leaf_piece pages names STR_I (string text) (mark.Inline Shown) (leaf.Str text)
+      (λ e. absurd (omega (arith, e))) refl
       (text_leaf (table_of all) text fits)
   piece_read pages names (piece.Entity number) fits =
-      leaf_piece pages names ENTITY (mb_spelling number) mark.Entity (leaf.Entity number) (λ e. absurd (omega (arith, e))) refl
+      leaf_piece pages names ENTITY (mb_spelling number) mark.Entity (leaf.Entity number)
+      (λ e. absurd (omega (arith, e))) refl
       (entity_leaf (table_of all) number fits)
   piece_read pages names (piece.Var name conv) fits =
-      leaf_piece pages names (variable conv) (string name) (mark.Inline (Variable conv)) (leaf.Var name conv)
-      (variable_some conv) (variable_mark pages.attribute conv) (variable_leaf (table_of all) name conv fits)
+      leaf_piece pages names (variable conv) (string name) (mark.Inline (Variable conv))
+      (leaf.Var name conv)
+      (variable_some conv) (variable_mark pages.attribute conv)
+      (variable_leaf (table_of all) name conv fits)
   piece_read pages names (piece.Ext number) fits =
-      extension_by (λ (n : ℕ). IsPiece in_table (state_at pages names) ((EXT_0 + n) ∷ []) (piece.Ext n, state_at pages names))
-      (leaf_piece pages names EXT_0 [] (mark.Extension 0) (leaf.Ext 0) (λ e. absurd (omega (arith, e))) refl (refl, refl))
-      (leaf_piece pages names (EXT_0 + 1) [] (mark.Extension 1) (leaf.Ext 1) (λ e. absurd (omega (arith, e))) refl (refl, refl))
-      (leaf_piece pages names (EXT_0 + 2) [] (mark.Extension 2) (leaf.Ext 2) (λ e. absurd (omega (arith, e))) refl (refl, refl))
+      extension_by (λ (n : ℕ).
+      IsPiece in_table (state_at pages names) ((EXT_0 + n) ∷ [])
+      (piece.Ext n, state_at pages names))
+      (leaf_piece pages names EXT_0 [] (mark.Extension 0) (leaf.Ext 0)
+      (λ e. absurd (omega (arith, e))) refl (refl, refl))
+      (leaf_piece pages names (EXT_0 + 1) [] (mark.Extension 1) (leaf.Ext 1)
+      (λ e. absurd (omega (arith, e))) refl (refl, refl))
+      (leaf_piece pages names (EXT_0 + 2) [] (mark.Extension 2) (leaf.Ext 2)
+      (λ e. absurd (omega (arith, e))) refl (refl, refl))
       number fits
   piece_read pages names (piece.Opaque bytes) fits =
-      leaf_piece pages names OPAQUE (sized bytes) mark.Opaque (leaf.Opaque bytes) (λ e. absurd (omega (arith, e))) refl
+      leaf_piece pages names OPAQUE (sized bytes) mark.Opaque (leaf.Opaque bytes)
+      (λ e. absurd (omega (arith, e))) refl
       (opaque_leaf (table_of all) bytes fits)
 
-  pieces_read : (pages : Pages) (names : List (List ℕ)) (pieces : List Piece) → AllByRecursion (FitsPiece IsString) pieces
+  pieces_read : (pages : Pages) (names : List (List ℕ)) (pieces : List Piece)
+      → AllByRecursion (FitsPiece IsString) pieces
       → Many (IsPiece in_table) (state_at pages names) (each piece_spelling pieces pages).0 pieces
       (state_at (each piece_spelling pieces pages).1 names)
   pieces_read pages names pieces fits =
-      many_read {N = Unit {0}} piece_spelling (λ n x. tt) (λ pages n. state_at pages names) (IsPiece in_table)
-      (FitsPiece IsString) (λ n. Unit {0}) (λ n x u. tt) (λ pages n x fits u. piece_read pages names x fits)
+      many_read {N = Unit {0}} piece_spelling (λ n x. tt) (λ pages n. state_at pages names)
+      (IsPiece in_table)
+      (FitsPiece IsString) (λ n. Unit {0}) (λ n x u. tt)
+      (λ pages n x fits u. piece_read pages names x fits)
       pages tt pieces fits tt
 
   -- ---- attributes
@@ -198,11 +233,13 @@ module _ (all : List (List ℕ)) where
         (name, state_at pages (with_name names name))
     name_read pages names name is grown =
         let within = grows-size (with_name names name) all grown in (
-          indexed_read all name size (grows-has (with_name names name) all name grown (with_name-has names name)) is,
+          indexed_read all name size
+              (grows-has (with_name names name) all name grown (with_name-has names name)) is,
           record { counts = refl; fits = omega arith },
         )
 
-    attr_by : (pages : Pages) (names : List (List ℕ)) (page : ℕ) (start : Token) (value : List Piece)
+    attr_by : (pages : Pages) (names : List (List ℕ)) (page : ℕ) (start : Token)
+        (value : List Piece)
         → FitsStart IsString start → AllByRecursion (FitsPiece IsString) value
         → let attr : Attr = record { page = page; start = start; value = value } in
         Grows (with_attr names attr) all
@@ -227,9 +264,15 @@ module _ (all : List (List ℕ)) where
             rest = parts.0;
             spelled = refl;
             a = (Code code, state_at on names);
-            first = subst (λ (k : AttributeMark). IsStartBehind in_table (state_at on names) lead k [] (Code code, state_at on names))
+            first =
+                subst (λ (k : AttributeMark).
+                IsStartBehind in_table (state_at on names) lead k [] (Code code, state_at on names))
                 (sym (coded_mark lead start.0 start.1)) (refl, refl);
-            next = record { a = (value, state_at parts.1 names); is = pieces_read on names value pieces; made = refl };
+            next = record {
+              a = (value, state_at parts.1 names);
+              is = pieces_read on names value pieces;
+              made = refl;
+            };
           };
         }
     attr_by pages names page (Literal name) value start pieces grown =
@@ -251,10 +294,21 @@ module _ (all : List (List ℕ)) where
             rest = parts.0;
             spelled = refl;
             a = (Literal name, state_at on more);
-            first = subst (λ (k : AttributeMark). IsStartBehind in_table (state_at on names) lead k place (Literal name, state_at on more))
+            first =
+                subst (λ (k : AttributeMark).
+                IsStartBehind in_table (state_at on names) lead k place
+                (Literal name, state_at on more))
                 (sym (named_mark found.0 page))
-                (record { a = (name, state_at on more); is = name_read on names name start grown; made = refl });
-            next = record { a = (value, state_at parts.1 more); is = pieces_read on more value pieces; made = refl };
+                (record {
+                  a = (name, state_at on more);
+                  is = name_read on names name start grown;
+                  made = refl;
+                });
+            next = record {
+              a = (value, state_at parts.1 more);
+              is = pieces_read on more value pieces;
+              made = refl;
+            };
           };
         }
 

@@ -1,5 +1,7 @@
 -- The document of a deck can be written.
-use Rattle.std.proofs.Common.{◌≡◌, ◌≢◌, ℕ, zero, suc, ◌-◌, ◌%◌, ◌^◌, ◌<◌, Bool, true, map, List, [], ◌∷◌, ◌++◌, Option, Some, None, refl, sym, ap, subst, inl, inr, ltb-true, arith}
+use Rattle.std.proofs.Common.{◌≡◌, ◌≢◌, ℕ, zero, suc, ◌-◌, ◌%◌, ◌^◌, ◌<◌, Bool, true}
+use Rattle.std.proofs.Common.{map, List, [], ◌∷◌, ◌++◌, Option, Some, None, refl, sym}
+use Rattle.std.proofs.Common.{ap, subst, inl, inr, ltb-true, arith}
 use Rattle.std.specs.Prelude.{◌&&◌, nat_lt, not}
 use Rattle.std.specs.List.{fold, flat_map, list_all, AllByRecursion}
 use Rattle.std.specs.Option.{option_and_then}
@@ -28,12 +30,18 @@ use Rattle.wap_markup.specs.declared.name.AttrName.{AttrName}
 use Rattle.wap_markup.specs.declared.name.AttrName.TheVariants as attrs
 use Rattle.wap_markup.specs.Strings.{is_not_zero}
 use Rattle.wap_markup.specs.Grammar.{table_size}
-use Rattle.wap_markup.specs.Tables.{is_same_start, tag_rows, code_of, name_rows, name_of_attr, Start, start_rows, code_by_start, code_of_start}
+use Rattle.wap_markup.specs.Tables.{is_same_start, tag_rows, code_of, name_rows, name_of_attr}
+use Rattle.wap_markup.specs.Tables.{Start, start_rows, code_by_start, code_of_start}
 use Rattle.wap_markup.specs.Trees.{ItemLevel, plain_text}
 use Rattle.wap_markup.specs.Normal.{IsPart, IsAttribute, IsItem, IsNode, IsNormal}
-use Rattle.wap_markup.specs.Writing.{run_before, runs_of, run_piece, run_kid, part_pieces, attr_without, whole_code, attr_with, attr_of, part_kids, kids_from, item_kids, items_kids, element_of, node_kids, document_of}
-use Rattle.wap_spelling.specs.Names.{KidLevel, with_attr, with_opened, with_kid, with_element, names_of}
-use Rattle.wap_spelling.specs.Spellable.{HasNoZero, FitsPiece, FitsAttr, FitsOpened, FitsKid, FitsElement, IsSpellable}
+use Rattle.wap_markup.specs.Writing.{run_before, runs_of, run_piece, run_kid, part_pieces}
+use Rattle.wap_markup.specs.Writing.{attr_without, whole_code, attr_with, attr_of}
+use Rattle.wap_markup.specs.Writing.{part_kids, kids_from, item_kids, items_kids}
+use Rattle.wap_markup.specs.Writing.{element_of, node_kids, document_of}
+use Rattle.wap_spelling.specs.Names.{KidLevel, with_attr, with_opened}
+use Rattle.wap_spelling.specs.Names.{with_kid, with_element, names_of}
+use Rattle.wap_spelling.specs.Spellable.{HasNoZero, FitsPiece, FitsAttr, FitsOpened}
+use Rattle.wap_spelling.specs.Spellable.{FitsKid, FitsElement, IsSpellable}
 use Rattle.wap_spelling.proofs.Strings.{and_true, and_parts}
 use Rattle.wap_spelling.proofs.NameBounds.{among, Bounded, bounded_none, bounded_size, bounded_with}
 
@@ -46,12 +54,14 @@ names_small : nat_lt (table_size known_names) (2 ^ 32) ≡ true
 unfolding table_size name_rows
 names_small = refl
 
-tag_fits : (tag : Tag) → tag ≢ tags.Other → (nat_lt LITERAL (code_of tag) && nat_lt (code_of tag) 64) ≡ true
+tag_fits : (tag : Tag) → tag ≢ tags.Other
+    → (nat_lt LITERAL (code_of tag) && nat_lt (code_of tag) 64) ≡ true
 unfolding code_of tag_rows
 tag_fits tags.Other known = absurd (known refl)
 tag_fits tag known = refl
 
-name_fits : (attr : AttrName) → (list_all is_not_zero (name_of_attr attr) && among (name_of_attr attr) known_names) ≡ true
+name_fits : (attr : AttrName)
+    → (list_all is_not_zero (name_of_attr attr) && among (name_of_attr attr) known_names) ≡ true
 unfolding name_of_attr name_rows
 name_fits attrs.Align = refl
 name_fits attr = refl
@@ -63,7 +73,8 @@ starts_fit : list_all is_start (map code_by_start start_rows) ≡ true
 unfolding start_rows
 starts_fit = refl
 
-found_fits : (test : Start → Bool) (rows : List (Start × ℕ)) (code : ℕ) → list_all is_start rows ≡ true
+found_fits : (test : Start → Bool) (rows : List (Start × ℕ)) (code : ℕ)
+    → list_all is_start rows ≡ true
     → lookup test rows ≡ Some code → (LITERAL < code % 64) × (code < 128)
 found_fits test [] code all found = absurd cc
 found_fits test (row ∷ rows) code all found =
@@ -76,9 +87,11 @@ found_fits test (row ∷ rows) code all found =
       | inr later ↦ found_fits test rows code parts.1 later.1
     ]
 
-start_fits : (start : Start) (code : ℕ) → code_of_start start ≡ Some code → (LITERAL < code % 64) × (code < 128)
+start_fits : (start : Start) (code : ℕ) → code_of_start start ≡ Some code
+    → (LITERAL < code % 64) × (code < 128)
 unfolding code_of_start
-start_fits start code found = found_fits (is_same_start start) (map code_by_start start_rows) code starts_fit found
+start_fits start code found =
+    found_fits (is_same_start start) (map code_by_start start_rows) code starts_fit found
 
 -- ---- strings
 
@@ -113,7 +126,8 @@ rest_fits : (cs : List ℕ) → list_all continues_name cs ≡ true → HasNoZer
 rest_fits [] is = refl
 rest_fits (c ∷ cs) is =
     let parts = and_parts (continues_name c) (list_all continues_name cs) is in
-    and_true (is_not_zero c) (list_all is_not_zero cs) (continues_fit c parts.0) (rest_fits cs parts.1)
+    and_true (is_not_zero c) (list_all is_not_zero cs) (continues_fit c parts.0)
+    (rest_fits cs parts.1)
 
 name_no_zero : (name : List ℕ) → is_name name ≡ true → HasNoZero name
 name_no_zero [] is = refl
@@ -123,7 +137,8 @@ name_no_zero (c ∷ cs) is =
 
 -- ---- attributes
 
-all_append : {A : Type 0} (P : A → Type 0) (a b : List A) → AllByRecursion P a → AllByRecursion P b → AllByRecursion P (a ++ b)
+all_append : {A : Type 0} (P : A → Type 0) (a b : List A) → AllByRecursion P a → AllByRecursion P b
+    → AllByRecursion P (a ++ b)
 all_append P [] b one two = two
 all_append P (x ∷ a) b one two = (one.0, all_append P a b one.1 two)
 
@@ -133,64 +148,81 @@ run_pieces_fit [] fits = tt
 run_pieces_fit (None ∷ runs) fits = (refl, run_pieces_fit runs fits.1)
 run_pieces_fit (Some text ∷ runs) fits = (fits.0, run_pieces_fit runs fits.1)
 
-part_pieces_fit : (part : Part) → IsPart part → AllByRecursion (FitsPiece HasNoZero) (part_pieces part)
+part_pieces_fit : (part : Part) → IsPart part
+    → AllByRecursion (FitsPiece HasNoZero) (part_pieces part)
 part_pieces_fit (Lit text) is = run_pieces_fit (runs_of text) (runs_fit text)
 part_pieces_fit (Var name conv) is = (name_no_zero name is, tt)
 
-pieces_fit : (parts : List Part) → AllByRecursion IsPart parts → AllByRecursion (FitsPiece HasNoZero) (flat_map part_pieces parts)
+pieces_fit : (parts : List Part) → AllByRecursion IsPart parts
+    → AllByRecursion (FitsPiece HasNoZero) (flat_map part_pieces parts)
 pieces_fit [] are = tt
 pieces_fit (part ∷ parts) are =
-    all_append (FitsPiece HasNoZero) (part_pieces part) (flat_map part_pieces parts) (part_pieces_fit part are.0) (pieces_fit parts are.1)
+    all_append (FitsPiece HasNoZero) (part_pieces part) (flat_map part_pieces parts)
+    (part_pieces_fit part are.0) (pieces_fit parts are.1)
 
 -- an attribute that fits, whose name is known if it has one
 record AttrGood (attr : Attr) : Type 0 where
   fits : FitsAttr HasNoZero attr
-  keeps : (names : List (List ℕ)) → Bounded known_names names → Bounded known_names (with_attr names attr)
+  keeps : (names : List (List ℕ)) → Bounded known_names names
+      → Bounded known_names (with_attr names attr)
 
 abbrev some_whole : AttrName → Option (List ℕ) → Option ℕ
 some_whole attr text = option_and_then (λ text. code_of_start (attr, text)) text
 
-whole_fits : (attr : AttrName) (text : Option (List ℕ)) (code : ℕ) → some_whole attr text ≡ Some code
+whole_fits : (attr : AttrName) (text : Option (List ℕ)) (code : ℕ)
+    → some_whole attr text ≡ Some code
     → (LITERAL < code % 64) × (code < 128)
 whole_fits attr None code found = absurd cc
 whole_fits attr (Some text) code found = start_fits (attr, text) code found
 
-without_good : (attr : AttrName) (whole : Option ℕ) → ((code : ℕ) → whole ≡ Some code → (LITERAL < code % 64) × (code < 128))
-    → (value : List Piece) → AllByRecursion (FitsPiece HasNoZero) value → AttrGood (attr_without whole attr value)
+without_good : (attr : AttrName) (whole : Option ℕ)
+    → ((code : ℕ) → whole ≡ Some code → (LITERAL < code % 64) × (code < 128))
+    → (value : List Piece) → AllByRecursion (FitsPiece HasNoZero) value
+    → AttrGood (attr_without whole attr value)
 without_good attr (Some code) are value fits = record {
   fits = record { start = are code refl; value = tt };
   keeps = λ names bounded. bounded;
 }
 without_good attr None are value fits =
-    let name = and_parts (list_all is_not_zero (name_of_attr attr)) (among (name_of_attr attr) known_names) (name_fits attr) in
+    let name =
+    and_parts (list_all is_not_zero (name_of_attr attr)) (among (name_of_attr attr) known_names)
+    (name_fits attr) in
     record {
       fits = record { start = name.0; value = fits };
       keeps = λ names bounded. bounded_with known_names names (name_of_attr attr) name.1 bounded;
     }
 
-with_good : (attr : AttrName) (own : Option ℕ) → ((code : ℕ) → own ≡ Some code → (LITERAL < code % 64) × (code < 128))
+with_good : (attr : AttrName) (own : Option ℕ)
+    → ((code : ℕ) → own ≡ Some code → (LITERAL < code % 64) × (code < 128))
     → (parts : List Part) → AllByRecursion IsPart parts → AttrGood (attr_with own attr parts)
 with_good attr (Some code) are parts is = record {
   fits = record { start = are code refl; value = pieces_fit parts is };
   keeps = λ names bounded. bounded;
 }
 with_good attr None are parts is =
-    without_good attr (whole_code attr parts) (whole_fits attr (plain_text parts)) (flat_map part_pieces parts) (pieces_fit parts is)
+    without_good attr (whole_code attr parts) (whole_fits attr (plain_text parts))
+    (flat_map part_pieces parts) (pieces_fit parts is)
 
-attr_good : (attribute : AttrName × List Part) → IsAttribute attribute → AttrGood (attr_of attribute)
+attr_good : (attribute : AttrName × List Part) → IsAttribute attribute
+    → AttrGood (attr_of attribute)
 attr_good attribute is =
-    with_good attribute.0 (code_of_start (attribute.0, [])) (start_fits (attribute.0, [])) attribute.1 is.each
+    with_good attribute.0 (code_of_start (attribute.0, []))
+    (start_fits (attribute.0, [])) attribute.1 is.each
 
 attrs_fit : (attributes : List (AttrName × List Part)) → AllByRecursion IsAttribute attributes
     → AllByRecursion (FitsAttr HasNoZero) (map attr_of attributes)
 attrs_fit [] are = tt
-attrs_fit (attribute ∷ attributes) are = ((attr_good attribute are.0).fits, attrs_fit attributes are.1)
+attrs_fit (attribute ∷ attributes) are =
+    ((attr_good attribute are.0).fits, attrs_fit attributes are.1)
 
-attrs_keep : (attributes : List (AttrName × List Part)) → AllByRecursion IsAttribute attributes → (names : List (List ℕ))
-    → Bounded known_names names → Bounded known_names (fold with_attr names (map attr_of attributes))
+attrs_keep : (attributes : List (AttrName × List Part)) → AllByRecursion IsAttribute attributes
+    → (names : List (List ℕ))
+    → Bounded known_names names
+    → Bounded known_names (fold with_attr names (map attr_of attributes))
 attrs_keep [] are names bounded = bounded
 attrs_keep (attribute ∷ attributes) are names bounded =
-    attrs_keep attributes are.1 (with_attr names (attr_of attribute)) ((attr_good attribute are.0).keeps names bounded)
+    attrs_keep attributes are.1 (with_attr names (attr_of attribute))
+    ((attr_good attribute are.0).keeps names bounded)
 
 -- ---- content, its elements of so many levels
 
@@ -203,14 +235,18 @@ module _ (levels : ℕ) where
   good_none : Good levels []
   good_none = record { fits = tt; keeps = λ names bounded. bounded }
 
-  good_more : (k : Kid) (level : KidLevel) → out-Kid k ≡ level → FitsOpened HasNoZero (FitsElement HasNoZero levels) level
-      → ((names : List (List ℕ)) → Bounded known_names names → Bounded known_names (with_opened (with_element levels) names level))
+  good_more : (k : Kid) (level : KidLevel) → out-Kid k ≡ level
+      → FitsOpened HasNoZero (FitsElement HasNoZero levels) level
+      → ((names : List (List ℕ)) → Bounded known_names names
+      → Bounded known_names (with_opened (with_element levels) names level))
       → (kids : List Kid) → Good levels kids → Good levels (k ∷ kids)
   good_more k level opened fits keeps kids good = record {
-    fits = (subst (FitsOpened HasNoZero (FitsElement HasNoZero levels)) (sym opened) fits, good.fits);
+    fits =
+        (subst (FitsOpened HasNoZero (FitsElement HasNoZero levels)) (sym opened) fits, good.fits);
     keeps = λ names bounded.
         good.keeps (with_kid (with_element levels) names k)
-        (subst (λ (level : KidLevel). Bounded known_names (with_opened (with_element levels) names level)) (sym opened)
+        (subst (λ (level : KidLevel).
+        Bounded known_names (with_opened (with_element levels) names level)) (sym opened)
         (keeps names bounded));
   }
 
@@ -222,30 +258,38 @@ module _ (levels : ℕ) where
         (two.keeps (fold (with_kid (with_element levels)) names a) (one.keeps names bounded));
   }
 
-  runs_good : (runs : List (Option (List ℕ))) → AllByRecursion RunFits runs → Good levels (map run_kid runs)
+  runs_good : (runs : List (Option (List ℕ))) → AllByRecursion RunFits runs
+      → Good levels (map run_kid runs)
   runs_good [] fits = good_none
   runs_good (None ∷ runs) fits =
-      good_more (kid.Entity 0) (Kid-F.Entity 0) (kid.outs-Entity 0) refl (λ names bounded. bounded) (map run_kid runs) (runs_good runs fits.1)
+      good_more (kid.Entity 0) (Kid-F.Entity 0) (kid.outs-Entity 0) refl (λ names bounded. bounded)
+      (map run_kid runs) (runs_good runs fits.1)
   runs_good (Some text ∷ runs) fits =
-      good_more (kid.Str text) (Kid-F.Str text) (kid.outs-Str text) fits.0 (λ names bounded. bounded) (map run_kid runs) (runs_good runs fits.1)
+      good_more (kid.Str text) (Kid-F.Str text) (kid.outs-Str text) fits.0
+      (λ names bounded. bounded) (map run_kid runs) (runs_good runs fits.1)
 
   part_good : (part : Part) → IsPart part → Good levels (part_kids part)
   part_good (Lit text) is = runs_good (runs_of text) (runs_fit text)
   part_good (Var name conv) is =
-      good_more (kid.Var name conv) (Kid-F.Var name conv) (kid.outs-Var name conv) (name_no_zero name is) (λ names bounded. bounded)
+      good_more (kid.Var name conv) (Kid-F.Var name conv) (kid.outs-Var name conv)
+      (name_no_zero name is) (λ names bounded. bounded)
       [] good_none
 
-  parts_good : (parts : List Part) → AllByRecursion IsPart parts → Good levels (flat_map part_kids parts)
+  parts_good : (parts : List Part) → AllByRecursion IsPart parts
+      → Good levels (flat_map part_kids parts)
   parts_good [] are = good_none
   parts_good (part ∷ parts) are =
-      good_append (part_kids part) (flat_map part_kids parts) (part_good part are.0) (parts_good parts are.1)
+      good_append (part_kids part) (flat_map part_kids parts) (part_good part are.0)
+      (parts_good parts are.1)
 
   module _ (nodes : (one : Node) → IsNode levels one → Good levels (node_kids levels one)) where
-    item_good : (level : ItemLevel) → IsItem (IsNode levels) level → Good levels (kids_from (node_kids levels) level)
+    item_good : (level : ItemLevel) → IsItem (IsNode levels) level
+        → Good levels (kids_from (node_kids levels) level)
     item_good (Item-F.Text parts) is = parts_good parts is
     item_good (Item-F.Node one) is = nodes one is
 
-    items_good : (items : List Item) → AllByRecursion (λ item. IsItem (IsNode levels) (out-Item item)) items
+    items_good : (items : List Item)
+        → AllByRecursion (λ item. IsItem (IsNode levels) (out-Item item)) items
         → Good levels (items_kids (node_kids levels) items)
     items_good [] are = good_none
     items_good (item ∷ items) are =
@@ -255,20 +299,26 @@ module _ (levels : ℕ) where
 -- an element of a node whose content is good
 record ElementGood (levels : ℕ) (element : Element) : Type 0 where
   fits : FitsElement HasNoZero (suc levels) element
-  keeps : (names : List (List ℕ)) → Bounded known_names names → Bounded known_names (with_element (suc levels) names element)
+  keeps : (names : List (List ℕ)) → Bounded known_names names
+      → Bounded known_names (with_element (suc levels) names element)
 
-element_good : (levels : ℕ) (one : Node) → one.tag ≢ tags.Other → AllByRecursion IsAttribute one.attrs
+element_good : (levels : ℕ) (one : Node) → one.tag ≢ tags.Other
+    → AllByRecursion IsAttribute one.attrs
     → (kids : List Kid) → Good levels kids → ElementGood levels (element_of one kids)
 unfolding FitsElement with_element
 element_good levels one known attributes kids good =
-    let code = and_parts (nat_lt LITERAL (code_of one.tag)) (nat_lt (code_of one.tag) 64) (tag_fits one.tag known) in
+    let code =
+    and_parts (nat_lt LITERAL (code_of one.tag)) (nat_lt (code_of one.tag) 64)
+    (tag_fits one.tag known) in
     record {
       fits = record {
         tag = (ltb-true LITERAL (code_of one.tag) code.0, ltb-true (code_of one.tag) 64 code.1);
         attrs = attrs_fit one.attrs attributes;
         kids = good.fits;
       };
-      keeps = λ names bounded. good.keeps (fold with_attr names (map attr_of one.attrs)) (attrs_keep one.attrs attributes names bounded);
+      keeps =
+          λ names bounded. good.keeps (fold with_attr names (map attr_of one.attrs))
+          (attrs_keep one.attrs attributes names bounded);
     }
 
 node_good : (levels : ℕ) (one : Node) → IsNode levels one → Good levels (node_kids levels one)
@@ -278,10 +328,12 @@ node_good (suc levels) one is =
     let element = element_of one kids in
     let good = element_good levels one is.known is.attributes kids
     (items_good levels (node_good levels) one.kids is.content.each) in
-    good_more (suc levels) (kid.Element element) (Kid-F.Element element) (kid.outs-Element element) good.fits good.keeps []
+    good_more (suc levels) (kid.Element element) (Kid-F.Element element)
+    (kid.outs-Element element) good.fits good.keeps []
     (good_none (suc levels))
 
-pub deck_spellable : (deck : Deck) → IsNormal deck → deck.root.tag ≢ tags.Other → IsSpellable (document_of deck)
+pub deck_spellable : (deck : Deck) → IsNormal deck → deck.root.tag ≢ tags.Other
+    → IsSpellable (document_of deck)
 deck_spellable deck is known =
     let levels = LEVEL_LIMIT - 1 in
     let kids = items_kids (node_kids levels) deck.root.kids in

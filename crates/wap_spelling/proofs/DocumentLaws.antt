@@ -1,5 +1,6 @@
 -- What is written for a document is read as its canon.
-use Rattle.std.proofs.Common.{◌≡◌, ℕ, ◌^◌, ◌<◌, Bool, true, false, eqb, List, [], ◌∷◌, ◌++◌, length, refl, sym, ap, subst, ◌∙◌, append_assoc, arith}
+use Rattle.std.proofs.Common.{◌≡◌, ℕ, ◌^◌, ◌<◌, Bool, true, false, eqb, List, [], ◌∷◌, ◌++◌}
+use Rattle.std.proofs.Common.{length, refl, sym, ap, subst, ◌∙◌, append_assoc, arith}
 use Rattle.std.proofs.lemmas.Bool.Decides.{nat_tests}
 use Rattle.std.proofs.lemmas.List.{append-nil}
 use Rattle.wap_base.specs.Numbers.{mb_spelling}
@@ -11,10 +12,13 @@ use Rattle.wap_markup.specs.declared.mark.Identifier.TheVariants.{Numbered}
 use Rattle.wap_markup.specs.Spellings.{none}
 use Rattle.wap_markup.specs.Strings.{Strings}
 use Rattle.wap_markup.specs.Grammar.{State, IsOpaque}
-use Rattle.wap_markup.specs.Documents.{is_public, IsIdentifier, IsIdentifierBehind, IsRootBehind, IsRoot, first_state, into_root, out_of_root, IsBody, IsDocument}
+use Rattle.wap_markup.specs.Documents.{is_public, IsIdentifier, IsIdentifierBehind}
+use Rattle.wap_markup.specs.Documents.{IsRootBehind, IsRoot, first_state, into_root}
+use Rattle.wap_markup.specs.Documents.{out_of_root, IsBody, IsDocument}
 use Rattle.wap_spelling.specs.declared.documents.TheConstants.{VERSION, CHARSET}
 use Rattle.wap_spelling.specs.Names.{table_of, names_of}
-use Rattle.wap_spelling.specs.Spelling.{sized, first_pages, element_spelling, root_spelling, spelling, canon}
+use Rattle.wap_spelling.specs.Spelling.{sized, first_pages, element_spelling}
+use Rattle.wap_spelling.specs.Spelling.{root_spelling, spelling, canon}
 use Rattle.wap_spelling.specs.Spellable.{IsSpellable, HasTexts}
 use Rattle.wap_spelling.proofs.Tables.{length-table}
 use Rattle.wap_spelling.proofs.Strings.{in_utf8, number_read}
@@ -38,10 +42,13 @@ module _ (document : Document) (is : IsSpellable document) (texts : HasTexts doc
   abbrev after : State
   after = state_at (element_spelling names LEVEL_LIMIT document.root first_pages).1 names
 
-  root_read : IsRoot strings (into_root first_state) (root_spelling names document.root) (document.root, after)
+  root_read : IsRoot strings (into_root first_state) (root_spelling names document.root)
+      (document.root, after)
   unfolding IsRoot Reads
   root_read =
-      let one = element_read names is.names LEVEL_LIMIT first_pages [] document.root texts (grows_same names) in
+      let one =
+      element_read names is.names LEVEL_LIMIT first_pages [] document.root texts
+      (grows_same names) in
       record {
         front = one.front;
         rest = one.rest;
@@ -49,7 +56,8 @@ module _ (document : Document) (is : IsSpellable document) (texts : HasTexts doc
         a = one.lead;
         first = one.leads;
         next = subst
-            (λ (c : ContentMark). IsRootBehind strings (into_root first_state) one.lead c one.rest (document.root, after))
+            (λ (c : ContentMark).
+            IsRootBehind strings (into_root first_state) one.lead c one.rest (document.root, after))
             (sym one.is_element) one.reads;
       }
 

@@ -4,7 +4,8 @@ use Rattle.wap_markup.specs.declared.document.Element.{Element}
 use Rattle.wap_spelling.specs.Spelling.{element_by, element_spelling}
 
 pub deeper : (names : List (List ℕ)) (levels : ℕ) (element : Element) → 0 < levels
-    → element_spelling names levels element ≡ element_by names (element_spelling names (levels - 1)) element
+    → element_spelling names levels element
+    ≡ element_by names (element_spelling names (levels - 1)) element
 unfolding element_spelling
 deeper names zero element some = absurd (omega arith)
 deeper names (suc levels) element some =

@@ -1,4 +1,4 @@
-mod Appending
+pub mod Appending
 mod Tables
 mod Levels
 mod Strings

@@ -1,5 +1,6 @@
 -- Names that are all known take no more room than the table of all names that are known.
-use Rattle.std.proofs.Common.{◌≡◌, ℕ, ◌+◌, ◌≤◌, Bool, true, false, cond, List, [], ◌∷◌, ◌++◌, refl, sym, ap, ◌∙◌, arith}
+use Rattle.std.proofs.Common.{◌≡◌, ℕ, ◌+◌, ◌≤◌, Bool, true, false, cond, List, []}
+use Rattle.std.proofs.Common.{◌∷◌, ◌++◌, refl, sym, ap, ◌∙◌, arith}
 use Rattle.std.specs.Prelude.{◌||◌}
 use Rattle.std.specs.List.{list_any}
 use Rattle.std.specs.Cmp.Lexicographic.{same_text}
@@ -33,10 +34,12 @@ pub bounded_none : (known : List (List ℕ)) → Bounded known []
 unfolding table_size
 bounded_none known = record { bound = (let all = free_none known in omega arith) }
 
-pub bounded_size : (known names : List (List ℕ)) → Bounded known names → table_size names ≤ table_size known
+pub bounded_size : (known names : List (List ℕ)) → Bounded known names
+    → table_size names ≤ table_size known
 bounded_size known names bounded = let bound = bounded.bound in omega arith
 
-size_more : (names : List (List ℕ)) (name : List ℕ) → table_size (names ++ name ∷ []) ≡ table_size names + (utf8_len name + 1)
+size_more : (names : List (List ℕ)) (name : List ℕ)
+    → table_size (names ++ name ∷ []) ≡ table_size names + (utf8_len name + 1)
 unfolding table_size
 size_more [] name = omega arith
 size_more (first ∷ names) name = let rest = size_more names name in omega arith
@@ -47,13 +50,16 @@ unfree_less true b name = omega arith
 unfree_less false true name = omega arith
 unfree_less false false name = omega arith
 
-unfree_grown : (names : List (List ℕ)) (more name : List ℕ) → unfree (among name (names ++ more ∷ [])) name ≤ unfree (among name names) name
+unfree_grown : (names : List (List ℕ)) (more name : List ℕ)
+    → unfree (among name (names ++ more ∷ [])) name ≤ unfree (among name names) name
 unfree_grown names more name =
-    let same = ap (λ (b : Bool). unfree b name) (list_any-append (is_same_text name) names (more ∷ [])) in
+    let same =
+    ap (λ (b : Bool). unfree b name) (list_any-append (is_same_text name) names (more ∷ [])) in
     let less = unfree_less (among name names) (is_same_text name more || false) name in
     omega arith
 
-free_grown : (names : List (List ℕ)) (more : List ℕ) (known : List (List ℕ)) → free (names ++ more ∷ []) known ≤ free names known
+free_grown : (names : List (List ℕ)) (more : List ℕ) (known : List (List ℕ))
+    → free (names ++ more ∷ []) known ≤ free names known
 unfolding free
 free_grown names more [] = omega arith
 free_grown names more (name ∷ known) =
@@ -65,9 +71,11 @@ or_last : (a : Bool) → (a || (true || false)) ≡ true
 or_last true = refl
 or_last false = refl
 
-free_by : (names : List (List ℕ)) (more : List ℕ) (b : Bool) (name : List ℕ) (known : List (List ℕ)) → is_same_text more name ≡ b
+free_by : (names : List (List ℕ)) (more : List ℕ) (b : Bool) (name : List ℕ) (known : List (List ℕ))
+    → is_same_text more name ≡ b
     → among more names ≡ false
-    → (among more known ≡ true → free (names ++ more ∷ []) known + (utf8_len more + 1) ≤ free names known)
+    → (among more known ≡ true
+    → free (names ++ more ∷ []) known + (utf8_len more + 1) ≤ free names known)
     → (b || among more known) ≡ true
     → free (names ++ more ∷ []) (name ∷ known) + (utf8_len more + 1) ≤ free names (name ∷ known)
 unfolding free unfree
@@ -79,8 +87,10 @@ free_by names more true name known same new rest is =
     ∙ ap (λ (b : Bool). among more names || (b || false)) (nat_list_eq_equiv.refl more)
     ∙ or_last (among more names) in
     let before : among name names ≡ false = ap (λ (n : List ℕ). among n names) (sym are) ∙ new in
-    let gone : unfree (among name (names ++ more ∷ [])) name ≡ 0 = ap (λ (b : Bool). unfree b name) now in
-    let was : unfree (among name names) name ≡ utf8_len name + 1 = ap (λ (b : Bool). unfree b name) before in
+    let gone : unfree (among name (names ++ more ∷ [])) name ≡ 0 =
+    ap (λ (b : Bool). unfree b name) now in
+    let was : unfree (among name names) name ≡ utf8_len name + 1 =
+    ap (λ (b : Bool). unfree b name) before in
     let long : utf8_len more ≡ utf8_len name = ap utf8_len are in
     let others = free_grown names more known in
     omega arith
@@ -89,13 +99,16 @@ free_by names more false name known same new rest is =
     let here = unfree_grown names more name in
     omega arith
 
-free_less : (names : List (List ℕ)) (more : List ℕ) (known : List (List ℕ)) → among more names ≡ false → among more known ≡ true
+free_less : (names : List (List ℕ)) (more : List ℕ) (known : List (List ℕ))
+    → among more names ≡ false → among more known ≡ true
     → free (names ++ more ∷ []) known + (utf8_len more + 1) ≤ free names known
 free_less names more [] new is = absurd cc
 free_less names more (name ∷ known) new is =
-    free_by names more (is_same_text more name) name known refl new (free_less names more known new) is
+    free_by names more (is_same_text more name) name known refl new
+    (free_less names more known new) is
 
-bounded_by : (known names : List (List ℕ)) (name : List ℕ) (b : Bool) → among name names ≡ b → among name known ≡ true
+bounded_by : (known names : List (List ℕ)) (name : List ℕ) (b : Bool) → among name names ≡ b
+    → among name known ≡ true
     → Bounded known names → Bounded known (cond b names (names ++ name ∷ []))
 bounded_by known names name true e is bounded = bounded
 bounded_by known names name false e is bounded =
@@ -104,6 +117,8 @@ bounded_by known names name false e is bounded =
     let bound = bounded.bound in
     record { bound = omega arith }
 
-pub bounded_with : (known names : List (List ℕ)) (name : List ℕ) → among name known ≡ true → Bounded known names
+pub bounded_with : (known names : List (List ℕ)) (name : List ℕ) → among name known ≡ true
+    → Bounded known names
     → Bounded known (with_name names name)
-bounded_with known names name is bounded = bounded_by known names name (among name names) refl is bounded
+bounded_with known names name is bounded =
+    bounded_by known names name (among name names) refl is bounded

@@ -1,9 +1,14 @@
 -- What bytes spell can be written: strings and parts of values.
-use Rattle.std.proofs.Common.{◌≡◌, ℕ, zero, suc, ◌+◌, ◌%◌, ◌^◌, ◌<◌, ◌≤◌, Bool, true, false, cond, eqb, ltb, List, [], ◌∷◌, ◌++◌, length, take, drop, Option, Some, None, refl, sym, ap, subst, ◌∙◌, arith, ltb-true}
+use Rattle.std.proofs.Common.{◌≡◌, ℕ, zero, suc, ◌+◌, ◌%◌, ◌^◌, ◌<◌, ◌≤◌, Bool, true, false, cond}
+use Rattle.std.proofs.Common.{eqb, ltb, List, [], ◌∷◌, ◌++◌, length, take, drop, Option, Some}
+use Rattle.std.proofs.Common.{None, refl, sym, ap, subst, ◌∙◌, arith, ltb-true}
 use Rattle.std.specs.Prelude.{not, ◌&&◌}
 use Rattle.std.specs.List.{fold, AllByRecursion, list_all, take_while, prefix_len}
 use Rattle.std.proofs.lemmas.Bool.{ltb-false}
-use Rattle.wap_markup.specs.declared.codes.TheConstants.{END, ENTITY, STR_I, LITERAL, EXT_I_0, EXT_I_1, EXT_I_2, EXT_T_0, EXT_T_1, EXT_T_2, STR_T, EXT_0, EXT_1, EXT_2, OPAQUE}
+use Rattle.wap_markup.specs.declared.codes.TheConstants.{END, ENTITY, STR_I, LITERAL, EXT_I_0}
+use Rattle.wap_markup.specs.declared.codes.TheConstants.{EXT_I_1, EXT_I_2, EXT_T_0, EXT_T_1}
+use Rattle.wap_markup.specs.declared.codes.TheConstants.{EXT_T_2, STR_T, EXT_0, EXT_1, EXT_2}
+use Rattle.wap_markup.specs.declared.codes.TheConstants.{OPAQUE}
 use Rattle.wap_base.specs.declared.name.Conv.TheVariants.{Escape, Unescape, Plain}
 use Rattle.wap_markup.specs.declared.document.Attr.{Attr}
 use Rattle.wap_markup.specs.declared.document.Token.{Token}
@@ -18,10 +23,12 @@ use Rattle.wap_markup.specs.declared.mark.Role.TheVariants.{Shown, Variable}
 use Rattle.wap_markup.specs.declared.mark.AttributeMark.{AttributeMark}
 use Rattle.wap_markup.specs.declared.mark.AttributeMark.TheVariants as attribute
 use Rattle.wap_markup.specs.Charsets.{is_character, IsText}
-use Rattle.wap_markup.specs.Codes.{leaf_mark, leaf_behind, is_extension, attribute_leaf, attribute_mark}
+use Rattle.wap_markup.specs.Codes.{leaf_mark, leaf_behind, is_extension}
+use Rattle.wap_markup.specs.Codes.{attribute_leaf, attribute_mark}
 use Rattle.wap_markup.specs.Spellings.{Many, none, more}
 use Rattle.wap_markup.specs.Strings.{Strings, IsInline, IsIndexed, is_not_zero, string_from}
-use Rattle.wap_markup.specs.Grammar.{State, on_attribute_page, counted, table_size, IsLeaf, IsName, IsStartBehind, IsPieceBehind, piece_of, IsPiece, IsAttribute}
+use Rattle.wap_markup.specs.Grammar.{State, on_attribute_page, counted, table_size, IsLeaf, IsName}
+use Rattle.wap_markup.specs.Grammar.{IsStartBehind, IsPieceBehind, piece_of, IsPiece, IsAttribute}
 use Rattle.wap_spelling.specs.Names.{with_token, with_attr}
 use Rattle.wap_spelling.specs.Spellable.{FitsStart, FitsPiece, FitsAttr}
 use Rattle.wap_spelling.proofs.Strings.{and_true}
@@ -38,14 +45,17 @@ same_either true names = refl
 same_either false names = refl
 
 pub went_same : (state : State) → Went (λ names. names) state state
-went_same state = record { in_root = refl; names = same_either state.in_root state.names; fits = λ fits. fits }
+went_same state =
+    record { in_root = refl; names = same_either state.in_root state.names; fits = λ fits. fits }
 
 both_steps : (b : Bool) (first next : List (List ℕ) → List (List ℕ)) (names : List (List ℕ))
-    → cond b (next (cond b (first names) names)) (cond b (first names) names) ≡ cond b (next (first names)) names
+    → cond b (next (cond b (first names) names)) (cond b (first names) names)
+    ≡ cond b (next (first names)) names
 both_steps true first next names = refl
 both_steps false first next names = refl
 
-pub went_on : (first next : List (List ℕ) → List (List ℕ)) (a b c : State) → Went first a b → Went next b c
+pub went_on : (first next : List (List ℕ) → List (List ℕ)) (a b c : State) → Went first a b
+    → Went next b c
     → Went (λ names. next (first names)) a c
 went_on first next a b c one two = record {
   in_root = two.in_root ∙ one.in_root;
@@ -59,14 +69,18 @@ went_on first next a b c one two = record {
 
 -- steps that give the same are the same
 pub went_as : (step other : List (List ℕ) → List (List ℕ)) (before after : State)
-    → ((names : List (List ℕ)) → step names ≡ other names) → Went step before after → Went other before after
+    → ((names : List (List ℕ)) → step names ≡ other names) → Went step before after
+    → Went other before after
 went_as step other before after same went = record {
   in_root = went.in_root;
-  names = went.names ∙ ap (λ (names : List (List ℕ)). cond before.in_root names before.names) (same before.names);
+  names =
+      went.names
+      ∙ ap (λ (names : List (List ℕ)). cond before.in_root names before.names) (same before.names);
   fits = went.fits;
 }
 
-pub went_to : (step : List (List ℕ) → List (List ℕ)) (before after other : State) → after ≡ other → Went step before other
+pub went_to : (step : List (List ℕ) → List (List ℕ)) (before after other : State) → after ≡ other
+    → Went step before other
     → Went step before after
 went_to step before after other same went = subst (Went step before) (sym same) went
 
@@ -84,30 +98,36 @@ module _ (Byte : ℕ → Type 0) where
       → AllByRecursion Byte front × AllByRecursion Byte rest
   split_of bytes front rest same all = split_all front rest (subst (AllByRecursion Byte) same all)
 
-  drop_all : (place : ℕ) (bytes : List ℕ) → AllByRecursion Byte bytes → AllByRecursion Byte (drop place bytes)
+  drop_all : (place : ℕ) (bytes : List ℕ) → AllByRecursion Byte bytes
+      → AllByRecursion Byte (drop place bytes)
   drop_all zero bytes all = all
   drop_all (suc place) [] all = tt
   drop_all (suc place) (byte ∷ bytes) all = drop_all place bytes all.1
 
-  take_all_of : (count : ℕ) (bytes : List ℕ) → AllByRecursion Byte bytes → AllByRecursion Byte (take count bytes)
+  take_all_of : (count : ℕ) (bytes : List ℕ) → AllByRecursion Byte bytes
+      → AllByRecursion Byte (take count bytes)
   take_all_of zero bytes all = tt
   take_all_of (suc count) [] all = tt
   take_all_of (suc count) (byte ∷ bytes) all = (all.0, take_all_of count bytes all.1)
 
   pub many_taken : {A : Type 0} (Is : State → List ℕ → A × State → Type 0) (Right : A → Type 0)
       (step : List (List ℕ) → A → List (List ℕ))
-      → ((before : State) (bytes : List ℕ) (x : A) (after : State) → AllByRecursion Byte bytes → Is before bytes (x, after)
+      → ((before : State) (bytes : List ℕ) (x : A) (after : State) → AllByRecursion Byte bytes
+      → Is before bytes (x, after)
       → Right x × Went (λ names. step names x) before after)
-      → (before : State) (bytes : List ℕ) (xs : List A) (after : State) → Many Is before bytes xs after
+      → (before : State) (bytes : List ℕ) (xs : List A) (after : State)
+      → Many Is before bytes xs after
       → AllByRecursion Byte bytes
       → AllByRecursion Right xs × Went (λ names. fold step names xs) before after
   many_taken Is Right step one before bytes xs after (none state) all = (tt, went_same state)
-  many_taken Is Right step one before bytes xs after (more first front item between rest items last is others) all =
+  many_taken Is Right step one before bytes xs after
+      (more first front item between rest items last is others) all =
       let parts = split_all front rest all in
       let here = one first front item between parts.0 is in
       let later = many_taken Is Right step one between rest items last others parts.1 in (
         (here.0, later.0),
-        went_on (λ names. step names item) (λ names. fold step names items) first between last here.1 later.1,
+        went_on (λ names. step names item)
+            (λ names. fold step names items) first between last here.1 later.1,
       )
 
 -- ---- marks
@@ -187,14 +207,17 @@ mark_small lead =
     let ends = eqb lead.byte END && not lead.switched in
     let small = small_leaf leaf (leaf_small lead.switched lead.byte) in
     let others = cond ends attribute.End (attribute_leaf leaf) in
-    either SmallMark (ltb LITERAL (lead.byte % 64)) (cond (ltb lead.byte 128) attribute.Coded attribute.Value)
+    either SmallMark (ltb LITERAL (lead.byte % 64))
+    (cond (ltb lead.byte 128) attribute.Coded attribute.Value)
     (cond (eqb lead.byte LITERAL) attribute.Named others)
     (either SmallMark (ltb lead.byte 128) attribute.Coded attribute.Value tt tt)
     (either SmallMark (eqb lead.byte LITERAL) attribute.Named others tt
     (either SmallMark ends attribute.End (attribute_leaf leaf) tt small))
 
 value_chain : (a b c d : Bool) (o : Option LeafMark)
-    → cond a (cond b attribute.Coded attribute.Value) (cond c attribute.Named (cond d attribute.End (attribute_leaf o))) ≡ attribute.Value
+    → cond a (cond b attribute.Coded attribute.Value)
+    (cond c attribute.Named (cond d attribute.End (attribute_leaf o)))
+    ≡ attribute.Value
     → (a ≡ true) × (b ≡ false)
 value_chain true true c d o e = absurd cc
 value_chain true false c d o e = (refl, refl)
@@ -204,7 +227,9 @@ value_chain false b false false (Some mark) e = absurd cc
 value_chain false b false false None e = absurd cc
 
 coded_chain : (a b c d : Bool) (o : Option LeafMark)
-    → cond a (cond b attribute.Coded attribute.Value) (cond c attribute.Named (cond d attribute.End (attribute_leaf o))) ≡ attribute.Coded
+    → cond a (cond b attribute.Coded attribute.Value)
+    (cond c attribute.Named (cond d attribute.End (attribute_leaf o)))
+    ≡ attribute.Coded
     → (a ≡ true) × (b ≡ true)
 coded_chain true true c d o e = (refl, refl)
 coded_chain true false c d o e = absurd cc
@@ -213,14 +238,16 @@ coded_chain false b false true o e = absurd cc
 coded_chain false b false false (Some mark) e = absurd cc
 coded_chain false b false false None e = absurd cc
 
-value_code : (lead : Lead) → attribute_mark lead ≡ attribute.Value → (LITERAL < lead.byte % 64) × (128 ≤ lead.byte)
+value_code : (lead : Lead) → attribute_mark lead ≡ attribute.Value
+    → (LITERAL < lead.byte % 64) × (128 ≤ lead.byte)
 unfolding attribute_mark
 value_code lead e =
     let way = value_chain (ltb LITERAL (lead.byte % 64)) (ltb lead.byte 128) (eqb lead.byte LITERAL)
     (eqb lead.byte END && not lead.switched) (leaf_behind lead.switched (leaf_mark lead.byte)) e in
     (ltb-true LITERAL (lead.byte % 64) way.0, ltb-false lead.byte 128 way.1)
 
-coded_code : (lead : Lead) → attribute_mark lead ≡ attribute.Coded → (LITERAL < lead.byte % 64) × (lead.byte < 128)
+coded_code : (lead : Lead) → attribute_mark lead ≡ attribute.Coded
+    → (LITERAL < lead.byte % 64) × (lead.byte < 128)
 unfolding attribute_mark
 coded_code lead e =
     let way = coded_chain (ltb LITERAL (lead.byte % 64)) (ltb lead.byte 128) (eqb lead.byte LITERAL)
@@ -231,29 +258,37 @@ coded_code lead e =
 
 no_zero_step : (byte : ℕ) (bytes : List ℕ) (b : Bool) → is_not_zero byte ≡ b
     → list_all is_not_zero (take_while is_not_zero bytes) ≡ true
-    → list_all is_not_zero (take (cond b (1 + prefix_len is_not_zero bytes) 0) (byte ∷ bytes)) ≡ true
+    → list_all is_not_zero (take (cond b (1 + prefix_len is_not_zero bytes) 0) (byte ∷ bytes))
+    ≡ true
 no_zero_step byte bytes true e rest =
-    let one_more : 1 + prefix_len is_not_zero bytes ≡ suc (prefix_len is_not_zero bytes) = omega arith in
+    let one_more : 1 + prefix_len is_not_zero bytes ≡ suc (prefix_len is_not_zero bytes) =
+    omega arith in
     ap (λ (n : ℕ). list_all is_not_zero (take n (byte ∷ bytes))) one_more
     ∙ and_true (is_not_zero byte) (list_all is_not_zero (take_while is_not_zero bytes)) e rest
 no_zero_step byte bytes false e rest = refl
 
 no_zero_before : (bytes : List ℕ) → list_all is_not_zero (take_while is_not_zero bytes) ≡ true
 no_zero_before [] = refl
-no_zero_before (byte ∷ bytes) = no_zero_step byte bytes (is_not_zero byte) refl (no_zero_before bytes)
+no_zero_before (byte ∷ bytes) =
+    no_zero_step byte bytes (is_not_zero byte) refl (no_zero_before bytes)
 
-module _ (Byte : ℕ → Type 0) (Is : List ℕ → Type 0) (strings : Strings) (in_table : AllByRecursion Byte strings.table)
-    (right : (string text : List ℕ) → AllByRecursion Byte string → list_all is_not_zero string ≡ true
+module _ (Byte : ℕ → Type 0) (Is : List ℕ → Type 0) (strings : Strings)
+    (in_table : AllByRecursion Byte strings.table)
+    (right : (string text : List ℕ) → AllByRecursion Byte string
+    → list_all is_not_zero string ≡ true
     → IsText strings.charset string text → Is text) where
-  inline_taken : (bytes text : List ℕ) → AllByRecursion Byte bytes → IsInline strings bytes text → Is text
+  inline_taken : (bytes text : List ℕ) → AllByRecursion Byte bytes
+      → IsInline strings bytes text → Is text
   inline_taken bytes text all is =
-      right is.string text (split_of Byte bytes is.string (0 ∷ []) is.spelled all).0 is.no_zero is.text_is
+      right is.string text
+      (split_of Byte bytes is.string (0 ∷ []) is.spelled all).0 is.no_zero is.text_is
 
   pub indexed_taken : (bytes text : List ℕ) → IsIndexed strings bytes text → Is text
   indexed_taken bytes text is =
       let there = drop is.index strings.table in
       right (string_from strings.table is.index) text
-      (take_all_of Byte (prefix_len is_not_zero there) there (drop_all Byte is.index strings.table in_table))
+      (take_all_of Byte (prefix_len is_not_zero there) there
+      (drop_all Byte is.index strings.table in_table))
       (no_zero_before there) is.text_is
 
   -- what a leaf that is written needs
@@ -264,13 +299,15 @@ module _ (Byte : ℕ → Type 0) (Is : List ℕ → Type 0) (strings : Strings) 
   FitsLeaf (leaf.Ext number) = number < 3
   FitsLeaf (leaf.Opaque bytes) = length bytes < 2 ^ 32
 
-  pub leaf_taken : (m : LeafMark) → SmallLeaf m → (bytes : List ℕ) (l : Leaf) → AllByRecursion Byte bytes
+  pub leaf_taken : (m : LeafMark) → SmallLeaf m → (bytes : List ℕ) (l : Leaf)
+      → AllByRecursion Byte bytes
       → IsLeaf strings m bytes l → FitsLeaf l
   leaf_taken (mark.Inline Shown) small bytes l all is =
       subst FitsLeaf (sym is.made) (inline_taken bytes is.a all is.is)
   leaf_taken (mark.Inline (Variable conv)) small bytes l all is =
       subst FitsLeaf (sym is.made) (inline_taken bytes is.a all is.is)
-  leaf_taken (mark.Indexed Shown) small bytes l all is = subst FitsLeaf (sym is.made) (indexed_taken bytes is.a is.is)
+  leaf_taken (mark.Indexed Shown) small bytes l all is =
+      subst FitsLeaf (sym is.made) (indexed_taken bytes is.a is.is)
   leaf_taken (mark.Indexed (Variable conv)) small bytes l all is =
       subst FitsLeaf (sym is.made) (indexed_taken bytes is.a is.is)
   leaf_taken mark.Entity small bytes l all is = subst FitsLeaf (sym is.made) is.is.1
@@ -278,7 +315,8 @@ module _ (Byte : ℕ → Type 0) (Is : List ℕ → Type 0) (strings : Strings) 
       let number = is.is.first.fits in
       let len = is.is.next.0 in
       let same = ap length is.is.next.1 in
-      subst FitsLeaf (sym is.made) (fits_opaque is.is.a (length is.is.rest) (length is.a) number len same)
+      subst FitsLeaf (sym is.made)
+      (fits_opaque is.is.a (length is.is.rest) (length is.a) number len same)
     where
       fits_opaque : (a b c : ℕ) → a < 2 ^ 32 → b ≡ a → c ≡ b → c < 2 ^ 32
       fits_opaque a b c few len same = omega arith
@@ -293,9 +331,11 @@ module _ (Byte : ℕ → Type 0) (Is : List ℕ → Type 0) (strings : Strings) 
   piece_of_leaf (leaf.Ext number) fits = fits
   piece_of_leaf (leaf.Opaque bytes) fits = fits
 
-  piece_behind : (lead : Lead) (m : AttributeMark) → attribute_mark lead ≡ m → (bytes : List ℕ) (p : Piece)
+  piece_behind : (lead : Lead) (m : AttributeMark) → attribute_mark lead ≡ m
+      → (bytes : List ℕ) (p : Piece)
       → AllByRecursion Byte bytes → IsPieceBehind strings lead m bytes p → FitsPiece Is p
-  piece_behind lead attribute.Value e bytes p all is = subst (FitsPiece Is) (sym is.1) (value_code lead e)
+  piece_behind lead attribute.Value e bytes p all is =
+      subst (FitsPiece Is) (sym is.1) (value_code lead e)
   piece_behind lead (attribute.Leaf m) e bytes p all is =
       subst (FitsPiece Is) (sym is.made)
       (piece_of_leaf is.a (leaf_taken m (subst SmallMark e (mark_small lead)) bytes is.a all is.is))
@@ -304,47 +344,66 @@ module _ (Byte : ℕ → Type 0) (Is : List ℕ → Type 0) (strings : Strings) 
   piece_behind lead attribute.Named e bytes p all is = absurd is
   piece_behind lead attribute.Nothing e bytes p all is = absurd is
 
-  on_page : (page : ℕ) (before : State) → Went (λ names. names) before (on_attribute_page page before)
-  on_page page before = record { in_root = refl; names = same_either before.in_root before.names; fits = λ fits. fits }
+  on_page : (page : ℕ) (before : State)
+      → Went (λ names. names) before (on_attribute_page page before)
+  on_page page before = record {
+    in_root = refl;
+    names = same_either before.in_root before.names;
+    fits = λ fits. fits;
+  }
 
-  piece_taken : (before : State) (bytes : List ℕ) (p : Piece) (after : State) → AllByRecursion Byte bytes
-      → IsPiece strings before bytes (p, after) → FitsPiece Is p × Went (λ names. names) before after
+  piece_taken : (before : State) (bytes : List ℕ) (p : Piece) (after : State)
+      → AllByRecursion Byte bytes
+      → IsPiece strings before bytes (p, after)
+      → FitsPiece Is p × Went (λ names. names) before after
   piece_taken before bytes p after all is =
       let parts = split_of Byte bytes is.front is.rest is.spelled all in
-      let fits = piece_behind is.a (attribute_mark is.a) refl is.rest is.next.a parts.1 is.next.is in (
+      let fits =
+      piece_behind is.a (attribute_mark is.a) refl is.rest is.next.a parts.1 is.next.is in (
         subst (FitsPiece Is) (sym (ap (λ (x : Piece × State). x.0) is.next.made)) fits,
         went_to (λ names. names) before after (on_attribute_page is.a.page before)
             (ap (λ (x : Piece × State). x.1) is.next.made) (on_page is.a.page before),
       )
 
   -- a name that counts
-  pub name_taken : (before : State) (bytes name : List ℕ) (after : State) → IsName strings before bytes (name, after)
+  pub name_taken : (before : State) (bytes name : List ℕ) (after : State)
+      → IsName strings before bytes (name, after)
       → Is name × Went (λ names. with_token names (Literal name)) before after
   name_taken before bytes name after is = (
     indexed_taken bytes name is.0,
-    went_to (λ names. with_token names (Literal name)) before after (counted name before) is.1.counts
-        (record { in_root = refl; names = refl; fits = λ fits. subst (λ (s : State). table_size s.names < 2 ^ 32) is.1.counts is.1.fits }),
+    went_to (λ names. with_token names (Literal name)) before after
+        (counted name before) is.1.counts
+        (record {
+          in_root = refl;
+          names = refl;
+          fits = λ fits. subst (λ (s : State). table_size s.names < 2 ^ 32) is.1.counts is.1.fits;
+        }),
   )
 
-  start_behind : (before : State) (lead : Lead) (m : AttributeMark) → attribute_mark lead ≡ m → (bytes : List ℕ) (token : Token)
+  start_behind : (before : State) (lead : Lead) (m : AttributeMark) → attribute_mark lead ≡ m
+      → (bytes : List ℕ) (token : Token)
       (after : State) → IsStartBehind strings before lead m bytes (token, after)
       → FitsStart Is token × Went (λ names. with_token names token) before after
   start_behind before lead attribute.Coded e bytes token after is =
-      subst (λ (x : Token × State). FitsStart Is x.0 × Went (λ names. with_token names x.0) before x.1) (sym is.1)
+      subst (λ (x : Token × State).
+      FitsStart Is x.0 × Went (λ names. with_token names x.0) before x.1) (sym is.1)
       (coded_code lead e, went_same before)
   start_behind before lead attribute.Named e bytes token after is =
-      subst (λ (x : Token × State). FitsStart Is x.0 × Went (λ names. with_token names x.0) before x.1) (sym is.made)
+      subst (λ (x : Token × State).
+      FitsStart Is x.0 × Went (λ names. with_token names x.0) before x.1) (sym is.made)
       (name_taken before bytes is.a.0 is.a.1 is.is)
   start_behind before lead attribute.End e bytes token after is = absurd is
   start_behind before lead attribute.Value e bytes token after is = absurd is
   start_behind before lead (attribute.Leaf m) e bytes token after is = absurd is
   start_behind before lead attribute.Nothing e bytes token after is = absurd is
 
-  keep_names : (names : List (List ℕ)) (pieces : List Piece) → fold (λ (n : List (List ℕ)) (p : Piece). n) names pieces ≡ names
+  keep_names : (names : List (List ℕ)) (pieces : List Piece)
+      → fold (λ (n : List (List ℕ)) (p : Piece). n) names pieces ≡ names
   keep_names names [] = refl
   keep_names names (p ∷ pieces) = keep_names names pieces
 
-  pub attribute_taken : (before : State) (bytes : List ℕ) (attr : Attr) (after : State) → AllByRecursion Byte bytes
+  pub attribute_taken : (before : State) (bytes : List ℕ) (attr : Attr) (after : State)
+      → AllByRecursion Byte bytes
       → IsAttribute strings before bytes (attr, after)
       → FitsAttr Is attr × Went (λ names. with_attr names attr) before after
   unfolding IsAttribute
@@ -354,14 +413,23 @@ module _ (Byte : ℕ → Type 0) (Is : List ℕ → Type 0) (strings : Strings) 
       let on = on_attribute_page lead.page before in
       let behind = is.next in
       let inside = split_of Byte is.rest behind.front behind.rest behind.spelled parts.1 in
-      let start = start_behind on lead (attribute_mark lead) refl behind.front behind.a.0 behind.a.1 behind.first in
+      let start =
+      start_behind on lead
+      (attribute_mark lead) refl behind.front behind.a.0 behind.a.1 behind.first in
       let value = behind.next.a in
-      let pieces = many_taken Byte (λ s b x. IsPiece strings s b x) (FitsPiece Is) (λ (n : List (List ℕ)) (p : Piece). n) piece_taken
+      let pieces =
+      many_taken Byte (λ s b x. IsPiece strings s b x) (FitsPiece Is)
+      (λ (n : List (List ℕ)) (p : Piece). n) piece_taken
       behind.a.1 behind.rest value.0 value.1 behind.next.is inside.1 in
-      let still = went_as (λ names. fold (λ (n : List (List ℕ)) (p : Piece). n) names value.0) (λ names. names) behind.a.1 value.1
+      let still =
+      went_as (λ names. fold (λ (n : List (List ℕ)) (p : Piece). n) names value.0)
+      (λ names. names) behind.a.1 value.1
       (λ names. keep_names names value.0) pieces.1 in
-      subst (λ (x : Attr × State). FitsAttr Is x.0 × Went (λ names. with_attr names x.0) before x.1) (sym behind.next.made) (
+      subst (λ (x : Attr × State). FitsAttr Is x.0 × Went (λ names. with_attr names x.0) before x.1)
+      (sym behind.next.made) (
         record { start = start.0; value = pieces.0 },
-        went_on (λ names. names) (λ names. with_token names behind.a.0) before on value.1 (on_page lead.page before)
-            (went_on (λ names. with_token names behind.a.0) (λ names. names) on behind.a.1 value.1 start.1 still),
+        went_on (λ names. names) (λ names. with_token names behind.a.0) before on value.1
+            (on_page lead.page before)
+            (went_on (λ names. with_token names behind.a.0)
+            (λ names. names) on behind.a.1 value.1 start.1 still),
       )

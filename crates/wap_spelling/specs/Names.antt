@@ -1,6 +1,7 @@
 -- The names that a document has in place of codes, and the string table that is written for them
 -- (WAP-192, section 5.7).
-use Rattle.std.specs.Prelude.{ℕ, zero, suc, List, [], ◌∷◌, ◌++◌, length, fold, flat_map, encode_utf8_all}
+use Rattle.std.specs.Prelude.{ℕ, zero, suc, List, [], ◌∷◌, ◌++◌, length}
+use Rattle.std.specs.Prelude.{fold, flat_map, encode_utf8_all}
 use Rattle.std.specs.List.{before_first}
 use Rattle.wap_base.specs.Texts.{is_same_text}
 use Rattle.wap_markup.specs.declared.document.TheConstants.{LEVEL_LIMIT}

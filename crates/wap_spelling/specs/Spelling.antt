@@ -6,7 +6,8 @@ use Rattle.std.specs.Prelude.{ℕ, zero, suc, ◌+◌, List, [], ◌∷◌, ◌+
 use Rattle.wap_base.specs.Numbers.{mb_spelling}
 use Rattle.wap_base.specs.declared.name.Conv.{Conv}
 use Rattle.wap_base.specs.declared.name.Conv.TheVariants.{Escape, Unescape, Plain}
-use Rattle.wap_markup.specs.declared.codes.TheConstants.{END, ENTITY, STR_I, LITERAL, EXT_I_0, EXT_I_1, EXT_I_2, PI, EXT_0, OPAQUE}
+use Rattle.wap_markup.specs.declared.codes.TheConstants.{END, ENTITY, STR_I, LITERAL, EXT_I_0}
+use Rattle.wap_markup.specs.declared.codes.TheConstants.{EXT_I_1, EXT_I_2, PI, EXT_0, OPAQUE}
 use Rattle.wap_markup.specs.declared.document.TheConstants.{LEVEL_LIMIT}
 use Rattle.wap_markup.specs.declared.document.Document.{Document}
 use Rattle.wap_markup.specs.declared.document.Element.{Element}
@@ -19,7 +20,8 @@ use Rattle.wap_markup.specs.declared.document.Kid.{Kid, out-Kid}
 use Rattle.wap_markup.specs.declared.document.Kid.TheOpen.{Kid-F}
 use Rattle.wap_spelling.specs.declared.documents.TheConstants.{VERSION, CHARSET}
 use Rattle.wap_spelling.specs.declared.output.Pages.{Pages}
-use Rattle.wap_spelling.specs.Writings.{Writing, plain, ◌⨾◌, each, ended, on_tag_page, on_attribute_page}
+use Rattle.wap_spelling.specs.Writings.{Writing, plain, ◌⨾◌, each, ended}
+use Rattle.wap_spelling.specs.Writings.{on_tag_page, on_attribute_page}
 use Rattle.wap_spelling.specs.Names.{KidLevel, string, table_of, place_of, names_of}
 
 -- ---- strings, characters, references to variables, extensions and opaque data

@@ -2,7 +2,8 @@
 ghost use Rattle.std.specs.Prelude.{◌≡◌, OnOk};
 ghost use Rattle.std.specs.List.{AllByRecursion};
 ghost use Rattle.wap_spelling.specs.Writings.{plain, each, ended};
-ghost use Rattle.wap_spelling.specs.Spelling.{start_spelling, piece_spelling, attr_spelling, instruction_spelling};
+ghost use Rattle.wap_spelling.specs.Spelling.{start_spelling, piece_spelling};
+ghost use Rattle.wap_spelling.specs.Spelling.{attr_spelling, instruction_spelling};
 ghost use Rattle.wap_spelling.specs.Spellable.{HasNoZero, FitsPiece, FitsAttr};
 ghost use Rattle.wap_spelling.specs.inside.Written.{written};
 

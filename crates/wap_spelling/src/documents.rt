@@ -42,7 +42,7 @@ pub fn encode(alloc: Global, document: &Document) -> Result<Bytes, NoMemory>
 }
 
 /// Writes what stands before the root.
-fn write_header(bytes: &mut Bytes, public: u32, table: &Table) -> Result<(), NoMemory>
+pub fn write_header(bytes: &mut Bytes, public: u32, table: &Table) -> Result<(), NoMemory>
     ensures { let header = header_spelling public table.now in
         OnOk result (bytes.new ≡ bytes.old ++ header) }
 {

@@ -8,4 +8,9 @@ mod names;
 mod output;
 mod table;
 
-pub use documents::{decks_are_spellable, documents_are_spellable, encode, spelling_is_read};
+pub use documents::{
+    decks_are_spellable, documents_are_spellable, encode, spelling_is_read, write_header,
+};
+pub use names::add_name;
+pub use output::{Output, Pages};
+pub use table::Table;

@@ -9,7 +9,7 @@ use wap_base::{NoMemory, Text};
 use wap_markup::{Attr, Document, Element, Kid, LEVEL_LIMIT, Token};
 
 /// Adds a name after the others, if it isn't one of them.
-fn add_name(alloc: Global, names: &mut IndexSet<Text>, name: &Text) -> Result<(), NoMemory>
+pub fn add_name(alloc: Global, names: &mut IndexSet<Text>, name: &Text) -> Result<(), NoMemory>
     ensures { OnOk result (names.new.keys ≡ with_name names.old.keys name.now) }
 {
     if names.contains(name) {

@@ -13,4 +13,5 @@ is_onevent kind node = is_same_tag node.tag tags.Onevent && is_text kind (type_o
 
 -- the first of a type among some items
 abbrev pub onevent_in : List ℕ → List Item → Option Node
-onevent_in kind items = find (λ one. is_text kind (type_of one)) (filter_map (node_with tags.Onevent) items)
+onevent_in kind items =
+    find (λ one. is_text kind (type_of one)) (filter_map (node_with tags.Onevent) items)

@@ -6,7 +6,9 @@ use Rattle.wap_markup.specs.declared.name.AttrName.{AttrName}
 use Rattle.wap_markup.specs.Good.{Rule, rule_or_none}
 
 abbrev pub LentRule : Type 0
-LentRule = Tag × Bor (List (Bor (List Tag))) × Bool × Bool × Bor (List (Bor (List Tag))) × Bor (List Tag) × Bor (List AttrName)
+LentRule =
+    Tag × Bor (List (Bor (List Tag))) × Bool × Bool × Bor (List (Bor (List Tag))) × Bor (List Tag)
+    × Bor (List AttrName)
 
 abbrev pub rule_row : LentRule → Tag × Rule
 rule_row row = (

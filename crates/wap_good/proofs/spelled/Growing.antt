@@ -1,5 +1,6 @@
 -- Names that come after others.
-use Rattle.std.proofs.Common.{◌≡◌, ℕ, zero, suc, ◌≤◌, Bool, true, false, cond, List, [], ◌∷◌, ◌++◌, refl, sym, ap, ◌∙◌, append_assoc, arith}
+use Rattle.std.proofs.Common.{◌≡◌, ℕ, zero, suc, ◌≤◌, Bool, true, false, cond, List, []}
+use Rattle.std.proofs.Common.{◌∷◌, ◌++◌, refl, sym, ap, ◌∙◌, append_assoc, arith}
 use Rattle.std.specs.Prelude.{◌||◌}
 use Rattle.std.specs.List.{fold, list_any}
 use Rattle.std.proofs.lemmas.List.{append-nil}
@@ -13,7 +14,8 @@ use Rattle.wap_markup.specs.declared.document.Token.TheVariants.{Code, Literal}
 use Rattle.wap_markup.specs.declared.document.Kid.{Kid, out-Kid}
 use Rattle.wap_markup.specs.declared.document.Kid.TheOpen.{Kid-F}
 use Rattle.wap_markup.specs.Grammar.{with_name, table_size}
-use Rattle.wap_spelling.specs.Names.{Naming, KidLevel, with_token, with_attr, with_opened, with_kid, with_element}
+use Rattle.wap_spelling.specs.Names.{Naming, KidLevel, with_token, with_attr}
+use Rattle.wap_spelling.specs.Names.{with_opened, with_kid, with_element}
 
 -- the same names, and more after them
 pub record Grows (names others : List (List ℕ)) : Type 0 where
@@ -26,7 +28,9 @@ grows_same names = record { more = []; are = sym (append-nil names) }
 pub grows_on : {a b c : List (List ℕ)} → Grows a b → Grows b c → Grows a c
 grows_on {a = a} one two = record {
   more = one.more ++ two.more;
-  are = two.are ∙ ap (λ (l : List (List ℕ)). l ++ two.more) one.are ∙ append_assoc a one.more two.more;
+  are =
+      two.are ∙ ap (λ (l : List (List ℕ)). l ++ two.more) one.are
+      ∙ append_assoc a one.more two.more;
 }
 
 size_append : (names more : List (List ℕ)) → table_size names ≤ table_size (names ++ more)
@@ -34,7 +38,8 @@ unfolding table_size
 size_append [] more = omega arith
 size_append (name ∷ names) more = let rest = size_append names more in omega arith
 
-pub grows-size : (names others : List (List ℕ)) → Grows names others → table_size names ≤ table_size others
+pub grows-size : (names others : List (List ℕ)) → Grows names others
+    → table_size names ≤ table_size others
 grows-size names others grown =
     let within = size_append names grown.more in
     let same = ap table_size grown.are in
@@ -51,7 +56,8 @@ or_right false b e = e
 pub grows-has : (names others : List (List ℕ)) (name : List ℕ) → Grows names others
     → list_any (is_same_text name) names ≡ true → list_any (is_same_text name) others ≡ true
 grows-has names others name grown among =
-    ap (list_any (is_same_text name)) grown.are ∙ list_any-append (is_same_text name) names grown.more
+    ap (list_any (is_same_text name)) grown.are
+    ∙ list_any-append (is_same_text name) names grown.more
     ∙ or_left (list_any (is_same_text name) names) (list_any (is_same_text name) grown.more) among
 
 -- ---- a name more
@@ -61,7 +67,8 @@ record Added (names : List (List ℕ)) (name : List ℕ) (others : List (List �
   grown : Grows names others
   among : list_any (is_same_text name) others ≡ true
 
-added_by : (names : List (List ℕ)) (name : List ℕ) (b : Bool) → list_any (is_same_text name) names ≡ b
+added_by : (names : List (List ℕ)) (name : List ℕ) (b : Bool)
+    → list_any (is_same_text name) names ≡ b
     → Added names name (cond b names (names ++ name ∷ []))
 added_by names name true e = record { grown = grows_same names; among = e }
 added_by names name false e = record {
@@ -75,12 +82,14 @@ added_by names name false e = record {
 pub grows-with_name : (names : List (List ℕ)) (name : List ℕ) → Grows names (with_name names name)
 grows-with_name names name = (added_by names name (list_any (is_same_text name) names) refl).grown
 
-pub with_name-has : (names : List (List ℕ)) (name : List ℕ) → list_any (is_same_text name) (with_name names name) ≡ true
+pub with_name-has : (names : List (List ℕ)) (name : List ℕ)
+    → list_any (is_same_text name) (with_name names name) ≡ true
 with_name-has names name = (added_by names name (list_any (is_same_text name) names) refl).among
 
 -- ---- the names of parts of documents
 
-pub grows-with_token : (names : List (List ℕ)) (token : Token) → Grows names (with_token names token)
+pub grows-with_token : (names : List (List ℕ)) (token : Token)
+    → Grows names (with_token names token)
 grows-with_token names (Code code) = grows_same names
 grows-with_token names (Literal name) = grows-with_name names name
 
@@ -118,4 +127,5 @@ grows-with_element (suc levels) names element =
     let attributes = fold with_attr tagged element.attrs in
     grows_on (grows-with_token names element.tag)
     (grows_on (grows-fold with_attr grows-with_attr tagged element.attrs)
-    (grows-fold (with_kid (with_element levels)) (grows-with_kid (with_element levels) (grows-with_element levels)) attributes element.kids))
+    (grows-fold (with_kid (with_element levels))
+    (grows-with_kid (with_element levels) (grows-with_element levels)) attributes element.kids))

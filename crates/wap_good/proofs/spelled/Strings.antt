@@ -1,7 +1,10 @@
 -- Strings that are written are read again, in place and in the table.
-use Rattle.std.proofs.Common.{◌≡◌, ℕ, zero, suc, ◌+◌, ◌^◌, ◌<◌, Bool, true, false, cond, ltb, ◌%◌, ◌/◌, List, [], ◌∷◌, ◌++◌, length, take, drop, refl, sym, ap, ◌∙◌, append_assoc, arith}
+use Rattle.std.proofs.Common.{◌≡◌, ℕ, zero, suc, ◌+◌, ◌^◌, ◌<◌, Bool, true, false, cond}
+use Rattle.std.proofs.Common.{ltb, ◌%◌, ◌/◌, List, [], ◌∷◌, ◌++◌, length, take, drop}
+use Rattle.std.proofs.Common.{refl, sym, ap, ◌∙◌, append_assoc, arith}
 use Rattle.std.specs.Prelude.{encode_utf8_all, not, ◌&&◌, ◌||◌}
-use Rattle.std.specs.List.{list_all, list_any, take_while, prefix_len, position_or_len, before_first}
+use Rattle.std.specs.List.{list_all, list_any, take_while, prefix_len}
+use Rattle.std.specs.List.{position_or_len, before_first}
 use Rattle.std.specs.Cmp.Lexicographic.{same_text}
 use Rattle.std.proofs.Math.Dec.{eqb-suc-zero}
 use Rattle.std.proofs.Math.Seq.{drop-append-add}
@@ -44,7 +47,8 @@ one_of false x y one two = two
 
 and_more : (byte : ℕ) (bytes : List ℕ) → 0 < byte → list_all is_not_zero bytes ≡ true
     → list_all is_not_zero (byte ∷ bytes) ≡ true
-and_more byte bytes some all = and_true (is_not_zero byte) (list_all is_not_zero bytes) (above_zero byte some) all
+and_more byte bytes some all =
+    and_true (is_not_zero byte) (list_all is_not_zero bytes) (above_zero byte some) all
 
 character_bytes : (c : ℕ) → is_not_zero c ≡ true → list_all is_not_zero (encode c) ≡ true
 unfolding encode
@@ -56,7 +60,8 @@ character_bytes c some =
     let three : List ℕ = (224 + c / 4096) ∷ third ∷ last ∷ [] in
     let four : List ℕ = (240 + c / 262144) ∷ second ∷ third ∷ last ∷ [] in
     let one_more : list_all is_not_zero (last ∷ []) ≡ true = and_more last [] (omega arith) refl in
-    let two_more : list_all is_not_zero (third ∷ last ∷ []) ≡ true = and_more third (last ∷ []) (omega arith) one_more in
+    let two_more : list_all is_not_zero (third ∷ last ∷ []) ≡ true =
+    and_more third (last ∷ []) (omega arith) one_more in
     let three_more : list_all is_not_zero (second ∷ third ∷ last ∷ []) ≡ true =
     and_more second (third ∷ last ∷ []) (omega arith) two_more in
     one_of (ltb c 128) (c ∷ []) (cond (ltb c 2048) two (cond (ltb c 65536) three four))
@@ -72,14 +77,16 @@ pub text_bytes : (text : List ℕ) → list_all is_not_zero text ≡ true
 text_bytes [] all = refl
 text_bytes (c ∷ text) all =
     let parts = and_parts (is_not_zero c) (list_all is_not_zero text) all in
-    all_append (encode c) (encode_utf8_all text) (character_bytes c parts.0) (text_bytes text parts.1)
+    all_append (encode c) (encode_utf8_all text) (character_bytes c parts.0)
+    (text_bytes text parts.1)
 
 -- ---- in place
 
 abbrev pub in_utf8 : List ℕ → Strings
 in_utf8 table = record { charset = Utf8; table = table }
 
-pub inline_read : (table text : List ℕ) → IsString text → IsInline (in_utf8 table) (string text) text
+pub inline_read : (table text : List ℕ) → IsString text
+    → IsInline (in_utf8 table) (string text) text
 inline_read table text is = record {
   string = encode_utf8_all text;
   spelled = refl;
@@ -95,7 +102,8 @@ up_to_zero [] rest all = refl
 up_to_zero (byte ∷ bytes) rest all =
     let parts = and_parts (is_not_zero byte) (list_all is_not_zero bytes) all in
     let others : List ℕ = bytes ++ 0 ∷ rest in
-    let one_more : 1 + prefix_len is_not_zero others ≡ suc (prefix_len is_not_zero others) = omega arith in
+    let one_more : 1 + prefix_len is_not_zero others ≡ suc (prefix_len is_not_zero others) =
+    omega arith in
     ap (λ (b : Bool). take (cond b (1 + prefix_len is_not_zero others) 0) (byte ∷ others)) parts.0
     ∙ ap (λ (n : ℕ). take n (byte ∷ others)) one_more
     ∙ ap (λ (l : List ℕ). byte ∷ l) (up_to_zero bytes rest parts.1)
@@ -105,14 +113,16 @@ pub record StandsAt (names : List (List ℕ)) (name : List ℕ) : Type 0 where
   pub rest : List ℕ
   pub there : drop (place_of names name) (table_of names) ≡ string name ++ rest
 
-stands_step : (b : Bool) (first : List ℕ) (names : List (List ℕ)) (name : List ℕ) → is_same_text name first ≡ b
+stands_step : (b : Bool) (first : List ℕ) (names : List (List ℕ)) (name : List ℕ)
+    → is_same_text name first ≡ b
     → (list_any (is_same_text name) names ≡ true → StandsAt names name)
     → (b || list_any (is_same_text name) names) ≡ true → StandsAt (first ∷ names) name
 unfolding place_of table_of
 stands_step true first names name same more among =
     let names_are : name ≡ first = same_text name first (sym same) in
     let none_before : place_of (first ∷ names) name ≡ 0 =
-    ap (λ (b : Bool). length (table_of (take (cond (not b) (1 + position_or_len (is_same_text name) names) 0) (first ∷ names)))) same in
+    ap (λ (b : Bool). length (table_of (take
+    (cond (not b) (1 + position_or_len (is_same_text name) names) 0) (first ∷ names)))) same in
     record {
       rest = table_of names;
       there =
@@ -122,9 +132,11 @@ stands_step true first names name same more among =
 stands_step false first names name other more among =
     let stands = more among in
     let before = before_first (is_same_text name) names in
-    let one_more : 1 + position_or_len (is_same_text name) names ≡ suc (position_or_len (is_same_text name) names) = omega arith in
+    let one_more : 1 + position_or_len (is_same_text name) names
+    ≡ suc (position_or_len (is_same_text name) names) = omega arith in
     let behind : place_of (first ∷ names) name ≡ length (string first) + place_of names name =
-    ap (λ (b : Bool). length (table_of (take (cond (not b) (1 + position_or_len (is_same_text name) names) 0) (first ∷ names)))) other
+    ap (λ (b : Bool). length (table_of
+    (take (cond (not b) (1 + position_or_len (is_same_text name) names) 0) (first ∷ names)))) other
     ∙ ap (λ (n : ℕ). length (table_of (take n (first ∷ names)))) one_more
     ∙ length-append (string first) (table_of before) in
     record {
@@ -141,7 +153,8 @@ stands_at [] name among = absurd cc
 stands_at (first ∷ names) name among =
     stands_step (is_same_text name first) first names name refl (stands_at names name) among
 
-within_step : (place : ℕ) (table text rest : List ℕ) → drop place table ≡ string text ++ rest → place < length table
+within_step : (place : ℕ) (table text rest : List ℕ) → drop place table ≡ string text ++ rest
+    → place < length table
 within_step zero [] text rest there =
     let len = ap length there in
     let more = length-append (string text) rest in
@@ -153,7 +166,9 @@ within_step (suc place) [] text rest there =
     let one = length-string text in
     absurd (omega arith)
 within_step zero (byte ∷ table) text rest there = omega arith
-within_step (suc place) (byte ∷ table) text rest there = let less = within_step place table text rest there in omega arith
+within_step (suc place) (byte ∷ table) text rest there =
+    let less = within_step place table text rest there in
+    omega arith
 
 pub number_read : (number : ℕ) → number < 2 ^ 32 → IsMb (mb_spelling number) number
 number_read number fits = (IsShortest-mb_spelling number fits).spells

@@ -13,4 +13,5 @@ decreases-add_kids l = 2 * l.levels + 1
 abbrev pub invariant-add_kids-loop-child : goal.invariant-add_kids-loop-child
 invariant-add_kids-loop-child l =
     map mark_of l.marks ++ left_marks (marks_in l.levels) l.may_have_text l.child-iterator
-    ≡ map mark_of l.initial.marks ++ left_marks (marks_in l.levels) l.may_have_text l.initial.child-iterator
+    ≡ map mark_of l.initial.marks
+    ++ left_marks (marks_in l.levels) l.may_have_text l.initial.child-iterator

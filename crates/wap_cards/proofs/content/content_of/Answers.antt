@@ -9,4 +9,5 @@ pub returns : goal.returns
 unfolding content_of
 returns c =
     c.in_ok-add_kids.ensures
-    ∙ ap (λ (marks : List Mark). map mark_of marks ++ kids_marks (marks_in LEVEL_LIMIT) c.args.view.now) c.new-marks.ensures
+    ∙ ap (λ (marks : List Mark).
+    map mark_of marks ++ kids_marks (marks_in LEVEL_LIMIT) c.args.view.now) c.new-marks.ensures

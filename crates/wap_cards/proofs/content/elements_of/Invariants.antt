@@ -5,4 +5,5 @@ use Rattle.wap_cards.specs.Lent.{mark_of}
 use Rattle.wap_cards.proofs.content.elements_of.Given as goal
 
 abbrev pub invariant-loop-mark : goal.invariant-loop-mark
-invariant-loop-mark l = l.elements ≡ filter_map begun_by (map mark_of (take l.mark-index l.mark-items))
+invariant-loop-mark l =
+    l.elements ≡ filter_map begun_by (map mark_of (take l.mark-index l.mark-items))

@@ -1,4 +1,3 @@
-use Rattle.std.proofs.Common.{rules}
 use Rattle.wap_markup.specs.Good.{rule_of, rules as the_rules}
 use Rattle.wap_cards.proofs.content.may_have_text.Goals as goal
 

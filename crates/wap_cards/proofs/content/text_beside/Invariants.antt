@@ -6,4 +6,6 @@ use Rattle.wap_cards.proofs.content.text_beside.Given as goal
 
 -- what is left has what all have
 abbrev pub invariant-loop-row : goal.invariant-loop-row
-invariant-loop-row l = lookup (is_same_tag l.tag) (rule_rows (drop l.row-index l.rows)) ≡ lookup (is_same_tag l.tag) (rule_rows l.rows)
+invariant-loop-row l =
+    lookup (is_same_tag l.tag) (rule_rows (drop l.row-index l.rows))
+    ≡ lookup (is_same_tag l.tag) (rule_rows l.rows)

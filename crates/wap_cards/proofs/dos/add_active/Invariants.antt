@@ -3,4 +3,5 @@ use Rattle.wap_markup.specs.Tasks.{task_of}
 use Rattle.wap_cards.proofs.dos.add_active.Given as goal
 
 abbrev pub invariant-loop-one : goal.invariant-loop-one
-invariant-loop-one l = l.active ≡ l.initial.active ++ filter (λ one. is_some (task_of one)) (take l.one-index l.dos)
+invariant-loop-one l =
+    l.active ≡ l.initial.active ++ filter (λ one. is_some (task_of one)) (take l.one-index l.dos)

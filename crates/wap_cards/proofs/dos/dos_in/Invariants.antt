@@ -4,4 +4,5 @@ use Rattle.wap_markup.specs.Tables.{is_same_tag}
 use Rattle.wap_cards.proofs.dos.dos_in.Given as goal
 
 abbrev pub invariant-loop-element : goal.invariant-loop-element
-invariant-loop-element l = l.dos ≡ filter (λ one. is_same_tag one.tag tags.Do) (take l.element-index l.element-items)
+invariant-loop-element l =
+    l.dos ≡ filter (λ one. is_same_tag one.tag tags.Do) (take l.element-index l.element-items)

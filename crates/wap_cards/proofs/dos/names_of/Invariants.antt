@@ -5,4 +5,7 @@ use Rattle.wap_cardrules.specs.Dos.{do_name}
 use Rattle.wap_cards.proofs.dos.names_of.Given as goal
 
 abbrev pub invariant-loop-one : goal.invariant-loop-one
-invariant-loop-one l = (name : List ℕ) → list_any (is_same_text name) l.names ≡ list_any (λ one. is_same_text name (do_name one)) (take l.one-index l.dos)
+invariant-loop-one l =
+    (name : List ℕ)
+    → list_any (is_same_text name) l.names
+    ≡ list_any (λ one. is_same_text name (do_name one)) (take l.one-index l.dos)

@@ -5,4 +5,6 @@ use Rattle.wap_cardrules.specs.Dos.{do_name}
 use Rattle.wap_cards.proofs.dos.others.Given as goal
 
 abbrev pub invariant-loop-one : goal.invariant-loop-one
-invariant-loop-one l = l.others ≡ filter (λ one. not (list_any (is_same_text (do_name one)) l.names)) (take l.one-index l.dos)
+invariant-loop-one l =
+    l.others
+    ≡ filter (λ one. not (list_any (is_same_text (do_name one)) l.names)) (take l.one-index l.dos)

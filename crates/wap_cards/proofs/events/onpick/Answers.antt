@@ -10,4 +10,7 @@ pub returns : goal.returns
 returns c =
     c.flatten.ensures
     ∙ ap (λ (bound : Option (Option Task)). option_flatten bound) c.in_ok-bound.ensures
-    ∙ ap (λ (word : List ℕ). option_flatten (bound_in c.args.vars.now (record { type = word; attribute = attrs.Onpick }) c.args.option.now)) word_onpick
+    ∙ ap (λ (word : List ℕ). option_flatten (bound_in c.args.vars.now (record {
+      type = word;
+      attribute = attrs.Onpick;
+    }) c.args.option.now)) word_onpick

@@ -5,10 +5,12 @@ use Rattle.wap_cards.proofs.Words.{word_onenterforward, word_onenterbackward, wo
 use Rattle.wap_cards.proofs.events.type_of.Goals as goal
 
 pub returns-in-Forward : goal.returns-in-Forward
-returns-in-Forward c = word_onenterforward ∙ ap (λ (event : Event). (named event).type) (sym c.in-Forward.is)
+returns-in-Forward c =
+    word_onenterforward ∙ ap (λ (event : Event). (named event).type) (sym c.in-Forward.is)
 
 pub returns-in-Backward : goal.returns-in-Backward
-returns-in-Backward c = word_onenterbackward ∙ ap (λ (event : Event). (named event).type) (sym c.in-Backward.is)
+returns-in-Backward c =
+    word_onenterbackward ∙ ap (λ (event : Event). (named event).type) (sym c.in-Backward.is)
 
 pub returns-in-Timer : goal.returns-in-Timer
 returns-in-Timer c = word_ontimer ∙ ap (λ (event : Event). (named event).type) (sym c.in-Timer.is)

@@ -6,4 +6,5 @@ use Rattle.wap_cards.proofs.tasks.first_with.Given as goal
 
 abbrev pub invariant-loop-child : goal.invariant-loop-child
 invariant-loop-child l =
-    find (λ _. true) (filter_map (node_with l.tag) l.child-iterator) ≡ find (λ _. true) (filter_map (node_with l.tag) l.view.kids)
+    find (λ _. true) (filter_map (node_with l.tag) l.child-iterator)
+    ≡ find (λ _. true) (filter_map (node_with l.tag) l.view.kids)

@@ -6,4 +6,5 @@ use Rattle.wap_cards.proofs.tasks.pairs_with.Given as goal
 
 abbrev pub invariant-loop-child : goal.invariant-loop-child
 invariant-loop-child l =
-    l.pairs ++ map (pair_in l.vars) (filter_map (node_with l.tag) l.child-iterator) ≡ map (pair_in l.vars) (filter_map (node_with l.tag) l.view.kids)
+    l.pairs ++ map (pair_in l.vars) (filter_map (node_with l.tag) l.child-iterator)
+    ≡ map (pair_in l.vars) (filter_map (node_with l.tag) l.view.kids)

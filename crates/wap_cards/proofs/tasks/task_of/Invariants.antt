@@ -7,4 +7,5 @@ use Rattle.wap_cards.proofs.tasks.task_of.Given as goal
 
 abbrev pub invariant-loop-child : goal.invariant-loop-child
 invariant-loop-child l =
-    find (λ task. is_task task.tag) (filter_map node_of l.child-iterator) ≡ find (λ task. is_task task.tag) (filter_map node_of l.view.kids)
+    find (λ task. is_task task.tag) (filter_map node_of l.child-iterator)
+    ≡ find (λ task. is_task task.tag) (filter_map node_of l.view.kids)

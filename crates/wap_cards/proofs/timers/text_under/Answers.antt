@@ -4,4 +4,6 @@ use Rattle.wap_cards.proofs.Names.{unset}
 use Rattle.wap_cards.proofs.timers.text_under.Goals as goal
 
 pub returns-in-Err-BadName : goal.returns-in-Err-BadName
-returns-in-Err-BadName c = sym (unset c.args.name.now (c.of.ensures.bad.0 (c.in-Err-BadName.is ∙ ap (λ (fault : NameFault). Err fault) c.in-Err-BadName.field-0-is)) c.args.vars.now c.keep_rules.ensures)
+returns-in-Err-BadName c =
+    sym (unset c.args.name.now (c.of.ensures.bad.0 (c.in-Err-BadName.is ∙ ap (λ (fault : NameFault).
+    Err fault) c.in-Err-BadName.field-0-is)) c.args.vars.now c.keep_rules.ensures)

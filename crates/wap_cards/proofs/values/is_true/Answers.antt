@@ -7,5 +7,6 @@ use Rattle.wap_cards.proofs.values.is_true.Goals as goal
 pub returns : goal.returns
 returns c =
     c.is_word.ensures
-    ∙ ap (λ (value : Option (List ℕ)). is_text (chars (codes "true")) value) (c.as_ref.ensures.value ∙ c.in_ok-value.ensures)
+    ∙ ap (λ (value : Option (List ℕ)). is_text (chars (codes "true")) value)
+    (c.as_ref.ensures.value ∙ c.in_ok-value.ensures)
     ∙ ap (λ (word : List ℕ). is_text word (plain_value c.args.name c.args.view.now)) word_true

@@ -4,4 +4,6 @@ use Rattle.wap_deck.specs.Adding.{marks_after}
 use Rattle.wap_deck.proofs.build.+content.Given as goal
 
 abbrev pub invariant-add_kids-loop-kid : goal.invariant-add_kids-loop-kid
-invariant-add_kids-loop-kid l = l.items ≡ marks_after l.initial.items (kids_marks (element_marks l.levels) (take l.kid-index l.kids))
+invariant-add_kids-loop-kid l =
+    l.items
+    ≡ marks_after l.initial.items (kids_marks (element_marks l.levels) (take l.kid-index l.kids))

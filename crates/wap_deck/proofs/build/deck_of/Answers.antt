@@ -16,11 +16,16 @@ returns-clause-deck c =
     deck_from c.args.document.now c.unwrap_or-tag.result c.in_ok-attrs.attrs c.add_kids.new.items
     (c.unwrap_or-tag.ensures ∙ ap (λ tag. unwrap_or tag tags.Other) c.tag_in.ensures)
     (c.in_ok-attrs.ensures ∙ ap (filter_map attribute) c.as_slice.ensures)
-    (c.in_ok-add_kids.ensures ∙ ap (λ (items : List Item). marks_after items (kids_marks (element_marks 63) c.as_slice-2.result.now)) c.new-kids.ensures ∙ ap (λ (kids : List Kid). marks_after [] (kids_marks (element_marks 63) kids)) c.as_slice-2.ensures)
+    (c.in_ok-add_kids.ensures ∙ ap (λ (items : List Item). marks_after items
+    (kids_marks (element_marks 63) c.as_slice-2.result.now)) c.in_ok-kids.ensures ∙ ap
+    (λ (kids : List Kid). marks_after [] (kids_marks (element_marks 63) kids)) c.as_slice-2.ensures)
 
 pub returns-clause-normal : goal.returns-clause-normal
 returns-clause-normal c = subst IsNormal (sym (
     deck_from c.args.document.now c.unwrap_or-tag.result c.in_ok-attrs.attrs c.add_kids.new.items
     (c.unwrap_or-tag.ensures ∙ ap (λ tag. unwrap_or tag tags.Other) c.tag_in.ensures)
     (c.in_ok-attrs.ensures ∙ ap (filter_map attribute) c.as_slice.ensures)
-    (c.in_ok-add_kids.ensures ∙ ap (λ (items : List Item). marks_after items (kids_marks (element_marks 63) c.as_slice-2.result.now)) c.new-kids.ensures ∙ ap (λ (kids : List Kid). marks_after [] (kids_marks (element_marks 63) kids)) c.as_slice-2.ensures))) (deck_is_normal c.args.document.now)
+    (c.in_ok-add_kids.ensures ∙ ap (λ (items : List Item).
+    marks_after items (kids_marks (element_marks 63) c.as_slice-2.result.now)) c.in_ok-kids.ensures
+    ∙ ap (λ (kids : List Kid). marks_after [] (kids_marks (element_marks 63) kids))
+    c.as_slice-2.ensures))) (deck_is_normal c.args.document.now)

@@ -4,4 +4,5 @@ use Rattle.wap_deck.proofs.runs.last_string.Goals as goal
 
 pub returns-in_ok-string_from-in-Some : goal.returns-in_ok-string_from-in-Some
 returns-in_ok-string_from-in-Some c = λ character.
-    string_after-any c.args.runs.now c.pop.new.self c.in-Some.last character c.in-Some.ensures ∙ c.in_ok-string_from-in-Some.ensures character
+    string_after-any c.args.runs.now c.pop.new.self c.in-Some.last character c.in-Some.ensures
+    ∙ c.in_ok-string_from-in-Some.ensures character

@@ -8,5 +8,8 @@ use Rattle.wap_deck.proofs.starts.attr_of.Goals as goal
 pub returns : goal.returns
 returns c =
     let one = c.args.attribute.now in
-    c.in_ok-attr.ensures ∙ ap (λ (parts : List Part). attr_with c.code_of_start-code.result one.0 parts) c.as_slice.ensures ∙
-    ap (λ (code : Option ℕ). attr_with code one.0 one.1) (c.code_of_start-code.ensures ∙ ap (λ (text : List ℕ). code_of_start (one.0, text)) chars-nil)
+    c.in_ok-attr.ensures
+    ∙ ap (λ (parts : List Part). attr_with c.code_of_start-code.result one.0 parts)
+    c.as_slice.ensures ∙
+    ap (λ (code : Option ℕ). attr_with code one.0 one.1)
+    (c.code_of_start-code.ensures ∙ ap (λ (text : List ℕ). code_of_start (one.0, text)) chars-nil)

@@ -6,4 +6,5 @@ use Rattle.wap_deck.proofs.starts.whole_code.Goals as goal
 
 pub returns-in-empty : goal.returns-in-empty
 returns-in-empty c =
-    c.code_of_start.ensures ∙ ap (λ (text : List ℕ). code_of_start (c.args.name, text)) chars-nil ∙ whole_code-none c.args.name c.args.parts.now c.in-empty.len_below
+    c.code_of_start.ensures ∙ ap (λ (text : List ℕ). code_of_start (c.args.name, text)) chars-nil
+    ∙ whole_code-none c.args.name c.args.parts.now c.in-empty.len_below

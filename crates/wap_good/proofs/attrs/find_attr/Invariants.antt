@@ -7,7 +7,8 @@ use Rattle.wap_good.proofs.attrs.find_attr.Given as goal
 -- no attribute passed has that name
 abbrev pub invariant-loop-found : goal.invariant-loop-found
 invariant-loop-found l = record {
-  value : value_in l.name (all_of (attr_at l.table) l.rest).0 ≡ value_in l.name (all_of (attr_at l.table) l.bytes).0;
+  value : value_in l.name (all_of (attr_at l.table) l.rest).0
+      ≡ value_in l.name (all_of (attr_at l.table) l.bytes).0;
   ends : Ends (attr_at l.table) l.rest;
 }
 

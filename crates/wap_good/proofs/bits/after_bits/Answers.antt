@@ -1,5 +1,6 @@
 use Rattle.std.proofs.Common.{refl}
-use Rattle.wap_good.proofs.Ending.{behind_all, behind_on, drop_behind, end_behind, end_shorter, value_on, value_done}
+use Rattle.wap_good.proofs.Ending.{behind_all, behind_on, drop_behind, end_behind}
+use Rattle.wap_good.proofs.Ending.{end_shorter, value_on, value_done}
 use Rattle.wap_good.proofs.bits.after_bits.Goals as goal
 
 pub loop-behind-init : goal.loop-behind-init
@@ -10,11 +11,19 @@ loop-behind-smaller c = end_shorter c.loop-behind.rest.now c.in-Some.behind.now 
 
 pub loop-behind-preserved : goal.loop-behind-preserved
 loop-behind-preserved c =
-    let here = drop_behind c.in-Some.behind.now c.loop-behind.rest.now (end_behind c.loop-behind.rest.now c.in-Some.behind.now c.in-Some.ensures) in
+    let here =
+    drop_behind c.in-Some.behind.now c.loop-behind.rest.now
+    (end_behind c.loop-behind.rest.now c.in-Some.behind.now c.in-Some.ensures) in
     record {
-      exact = λ none. value_on c.loop-behind.rest.now c.in-Some.behind.now _ c.in-Some.ensures none (c.loop-behind.invariant.exact none);
-      behind = behind_on c.in-Some.behind.now c.loop-behind.rest.now c.args.bytes.now here c.loop-behind.invariant.behind;
+      exact =
+          λ none. value_on c.loop-behind.rest.now c.in-Some.behind.now _ c.in-Some.ensures none
+          (c.loop-behind.invariant.exact none);
+      behind =
+          behind_on c.in-Some.behind.now c.loop-behind.rest.now c.args.bytes.now here
+          c.loop-behind.invariant.behind;
     }
 
 pub returns-clause-exact : goal.returns-clause-exact
-returns-clause-exact c = λ none. value_done c.loop-behind.rest.now _ c.in_default.ensures (c.loop-behind.invariant.exact none)
+returns-clause-exact c =
+    λ none.
+    value_done c.loop-behind.rest.now _ c.in_default.ensures (c.loop-behind.invariant.exact none)

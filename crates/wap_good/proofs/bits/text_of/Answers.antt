@@ -1,9 +1,5 @@
-use Rattle.std.proofs.lemmas.Str.{is_utf8-from_IsUtf8}
-use Rattle.wap_base.proofs.CharsetLaws.{is_utf8-no}
+use Rattle.std.proofs.lemmas.Str.{IsUtf8-from_is_utf8}
 use Rattle.wap_good.proofs.bits.text_of.Goals as goal
 
-pub returns-in-Ok : goal.returns-in-Ok
-returns-in-Ok c = (c.in-Ok.ensures.cases.0, is_utf8-from_IsUtf8 c.args.bytes.now c.in-Ok.ensures.cases.1)
-
-pub returns-in-Err : goal.returns-in-Err
-returns-in-Err c = is_utf8-no c.args.bytes.now c.in-Err.ensures.cases.0
+pub from_utf8_unchecked-requires : goal.from_utf8_unchecked-requires
+from_utf8_unchecked-requires c = IsUtf8-from_is_utf8 c.args.bytes.now c.requires

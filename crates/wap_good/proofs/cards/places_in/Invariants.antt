@@ -2,14 +2,15 @@ use Rattle.std.proofs.Common.{length}
 use Rattle.wap_good.specs.Readers.{all_of, IsBehind}
 use Rattle.wap_good.specs.Nodes.{item_at}
 use Rattle.wap_good.specs.Notes.{AreLent}
-use Rattle.wap_good.proofs.CardLaw.{levels_below, cards, Placed}
+use Rattle.wap_good.proofs.CardLaw.{levels_below, tagged_in, Placed}
 use Rattle.wap_good.proofs.cards.places_in.Given as goal
 
 abbrev pub invariant-loop-child : goal.invariant-loop-child
 invariant-loop-child l = record {
   behind : IsBehind l.rest l.bytes;
   lent : AreLent l.table levels_below l.rest l.left;
-  placed : Placed l.table l.bytes l.places (cards (all_of (item_at l.table levels_below) l.content).0) l.rest;
+  placed : Placed l.tag l.table l.bytes l.places
+      (tagged_in l.tag (all_of (item_at l.table levels_below) l.content).0) l.rest;
 }
 
 abbrev pub decreases-loop-child : goal.decreases-loop-child

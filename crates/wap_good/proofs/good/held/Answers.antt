@@ -1,40 +1,58 @@
 use Rattle.std.proofs.Common.{◌∙◌, ◌≤◌, sym, ap, subst, length, List, ℕ}
 use Rattle.wap_base.specs.Numbers.{mb_at}
-use Rattle.wap_spelling.specs.Spelling.{spelling}
-use Rattle.wap_spelling.specs.Spellable.{IsSpellable}
 use Rattle.wap_good.specs.Notes.{AreNotes}
 use Rattle.wap_good.specs.Held.{IsHeld, IsKept}
 use Rattle.wap_good.proofs.DeckLaw.{root_known}
 use Rattle.wap_good.proofs.good.held.Goals as goal
 
-pub encode-requires : goal.encode-requires
-encode-requires c =
-    subst IsSpellable (sym c.in_ok-document.ensures.document)
-    (c.decks_are_spellable.ensures.spellable c.args.deck.now c.requires.normal (root_known c.args.deck.now c.requires.good))
+pub spell-requires : goal.spell-requires
+spell-requires c =
+    c.decks_are_spellable.ensures.spellable c.args.deck.now c.requires.normal
+    (root_known c.args.deck.now c.requires.good)
 
 pub card_places-requires-clause-held : goal.card_places-requires-clause-held
 card_places-requires-clause-held c =
-    let spellable = c.decks_are_spellable.ensures.spellable c.args.deck.now c.requires.normal (root_known c.args.deck.now c.requires.good) in
-    let are = c.in_ok-bytes.ensures.spelled ∙ ap spelling c.in_ok-document.ensures.document in
-    let found = ap (λ (l : List ℕ). mb_at l 3) (sym c.as_slice-whole.ensures) ∙ c.in_ok-table.ensures.exact in
-    let within = subst (λ (l : List ℕ). c.in_ok-table.root ≤ length l) c.as_slice-whole.ensures c.in_ok-table.ensures.root in
-    let held = (c.decks_are_read.ensures c.args.deck.now c.in_ok-bytes.bytes c.in_ok-table.table c.in_ok-table.root
-    c.requires.good c.requires.normal c.tell_node.ensures spellable are found c.in_ok-table.ensures.table within).0 in
+    let spellable =
+    c.decks_are_spellable.ensures.spellable c.args.deck.now c.requires.normal
+    (root_known c.args.deck.now c.requires.good) in
+    let are = c.in_ok-bytes.ensures in
+    let found =
+    ap (λ (l : List ℕ). mb_at l 3) (sym c.as_slice-whole.ensures) ∙ c.in_ok-table.ensures.exact in
+    let within =
+    subst (λ (l : List ℕ). c.in_ok-table.root ≤ length l)
+    c.as_slice-whole.ensures c.in_ok-table.ensures.root in
+    let held =
+    (c.decks_are_read.ensures c.args.deck.now c.in_ok-bytes.bytes c.in_ok-table.table
+    c.in_ok-table.root
+    c.requires.good c.requires.normal c.tell_node.ensures spellable are found
+    c.in_ok-table.ensures.table within).0 in
     subst (IsHeld c.in_ok-table.table c.in_ok-table.root) (sym c.as_slice-whole.ensures) held
 
 pub card_places-requires-clause-noted : goal.card_places-requires-clause-noted
-card_places-requires-clause-noted c = subst (AreNotes c.as_slice-whole.result.now) (sym c.as_slice.ensures) c.in_ok-notes.ensures
+card_places-requires-clause-noted c =
+    subst (AreNotes c.as_slice-whole.result.now) (sym c.as_slice.ensures) c.in_ok-notes.ensures
 
 pub invariant_of-result : goal.invariant_of-result
 invariant_of-result c =
-    let kept = subst (λ (l : List ℕ). IsKept c.in_ok-table.table c.in_ok-table.root l c.in_ok-cards.cards c.as_slice.result.now) c.as_slice-whole.ensures c.in_ok-cards.ensures in
-    subst (IsKept c.in_ok-table.table c.in_ok-table.root c.in_ok-bytes.bytes c.in_ok-cards.cards) c.as_slice.ensures kept
+    let kept =
+    subst (λ (l : List ℕ).
+    IsKept c.in_ok-table.table c.in_ok-table.root l c.in_ok-cards.cards c.as_slice.result.now)
+    c.as_slice-whole.ensures c.in_ok-cards.ensures in
+    subst (IsKept c.in_ok-table.table c.in_ok-table.root c.in_ok-bytes.bytes c.in_ok-cards.cards)
+    c.as_slice.ensures kept
 
 pub returns : goal.returns
 returns c =
-    let spellable = c.decks_are_spellable.ensures.spellable c.args.deck.now c.requires.normal (root_known c.args.deck.now c.requires.good) in
-    let are = c.in_ok-bytes.ensures.spelled ∙ ap spelling c.in_ok-document.ensures.document in
-    let found = ap (λ (l : List ℕ). mb_at l 3) (sym c.as_slice-whole.ensures) ∙ c.in_ok-table.ensures.exact in
-    let within = subst (λ (l : List ℕ). c.in_ok-table.root ≤ length l) c.as_slice-whole.ensures c.in_ok-table.ensures.root in
-    (c.decks_are_read.ensures c.args.deck.now c.in_ok-bytes.bytes c.in_ok-table.table c.in_ok-table.root
-    c.requires.good c.requires.normal c.tell_node.ensures spellable are found c.in_ok-table.ensures.table within).1
+    let spellable =
+    c.decks_are_spellable.ensures.spellable c.args.deck.now c.requires.normal
+    (root_known c.args.deck.now c.requires.good) in
+    let are = c.in_ok-bytes.ensures in
+    let found =
+    ap (λ (l : List ℕ). mb_at l 3) (sym c.as_slice-whole.ensures) ∙ c.in_ok-table.ensures.exact in
+    let within =
+    subst (λ (l : List ℕ). c.in_ok-table.root ≤ length l)
+    c.as_slice-whole.ensures c.in_ok-table.ensures.root in
+    (c.decks_are_read.ensures c.args.deck.now c.in_ok-bytes.bytes c.in_ok-table.table
+    c.in_ok-table.root
+    c.requires.good c.requires.normal c.tell_node.ensures spellable are found
+    c.in_ok-table.ensures.table within).1

@@ -11,7 +11,12 @@ use Rattle.wap_good.proofs.run.behind.Goals as goal
 pub returns-in-Slice : goal.returns-in-Slice
 returns-in-Slice c =
     let bytes = c.as_bytes.result.now in
-    let cases = strip_prefix_is Decides-eqb c.args.text.now bytes c.strip_prefix.result c.strip_prefix.ensures.cases in
-    let taken = slice_taken bytes c.args.text.now c.strip_prefix.result c.as_bytes.ensures.utf8 cases in
-    subst (λ (bit : Bit). TakesPart (part_of bit) c.args.text.now c.strip_prefix.result) (sym c.in-Slice.is)
-    (subst (λ (l : List ℕ). TakesPart (Lit (chars l)) c.args.text.now c.strip_prefix.result) c.as_bytes.ensures.value taken)
+    let cases =
+    strip_prefix_is Decides-eqb c.args.text.now bytes c.strip_prefix.result
+    c.strip_prefix.ensures.cases in
+    let taken =
+    slice_taken bytes c.args.text.now c.strip_prefix.result c.as_bytes.ensures.utf8 cases in
+    subst (λ (bit : Bit). TakesPart (part_of bit) c.args.text.now c.strip_prefix.result)
+    (sym c.in-Slice.is)
+    (subst (λ (l : List ℕ). TakesPart (Lit (chars l)) c.args.text.now c.strip_prefix.result)
+    c.as_bytes.ensures.value taken)

@@ -19,7 +19,8 @@ decreases-after_kids l = 4 * l.levels + 3
 -- what is left has the end that all had
 abbrev pub invariant-after_kids-loop-rest : goal.invariant-after_kids-loop-rest
 invariant-after_kids-loop-rest l = record {
-  exact : (table : List ℕ) (below : ℕ) → below ≤ l.levels → (end : List ℕ) → Closes (item_at table below) l.bytes end → Closes (item_at table below) l.rest end;
+  exact : (table : List ℕ) (below : ℕ) → below ≤ l.levels → (end : List ℕ)
+      → Closes (item_at table below) l.bytes end → Closes (item_at table below) l.rest end;
   behind : IsBehind l.rest l.bytes;
 }
 

@@ -7,7 +7,8 @@ use Rattle.wap_good.proofs.skip.after_attrs.Given as goal
 -- what is left has the end that all had
 abbrev pub invariant-loop-rest : goal.invariant-loop-rest
 invariant-loop-rest l = record {
-  exact : (table end : List ℕ) → Closes (attr_at table) l.bytes end → Closes (attr_at table) l.rest end;
+  exact : (table end : List ℕ) → Closes (attr_at table) l.bytes end
+      → Closes (attr_at table) l.rest end;
   behind : IsBehind l.rest l.bytes;
 }
 

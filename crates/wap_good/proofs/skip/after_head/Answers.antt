@@ -6,8 +6,11 @@ use Rattle.wap_good.proofs.skip.after_head.Goals as goal
 
 pub returns-then-has_attributes-clause-exact : goal.returns-then-has_attributes-clause-exact
 returns-then-has_attributes-clause-exact c = λ table.
-    list_leaves (has_attributes c.args.mark) (attr_at table) c.args.bytes.now c.after_attrs.result.now (sym c.has_attributes.ensures ∙ c.if-has_attributes.true) (c.after_attrs.ensures.exact table)
+    list_leaves (has_attributes c.args.mark)
+    (attr_at table) c.args.bytes.now c.after_attrs.result.now
+    (sym c.has_attributes.ensures ∙ c.if-has_attributes.true) (c.after_attrs.ensures.exact table)
 
 pub returns-else-has_attributes-clause-exact : goal.returns-else-has_attributes-clause-exact
 returns-else-has_attributes-clause-exact c = λ table.
-    no_list_leaves (has_attributes c.args.mark) (attr_at table) c.args.bytes.now (sym c.has_attributes.ensures ∙ c.if-has_attributes.false)
+    no_list_leaves (has_attributes c.args.mark) (attr_at table) c.args.bytes.now
+    (sym c.has_attributes.ensures ∙ c.if-has_attributes.false)

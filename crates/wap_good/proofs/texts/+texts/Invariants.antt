@@ -15,4 +15,5 @@ decreases-tell_items l = 3 * l.levels + 2
 -- it is left to tell it of the items that are left
 abbrev pub invariant-tell_items-loop-item : goal.invariant-tell_items-loop-item
 invariant-tell_items-loop-item l =
-    AllByRecursion (OfOpened (OfNode l.levels)) (drop l.item-index l.items) → AllByRecursion (OfOpened (OfNode l.levels)) l.items
+    AllByRecursion (OfOpened (OfNode l.levels)) (drop l.item-index l.items)
+    → AllByRecursion (OfOpened (OfNode l.levels)) l.items

@@ -5,4 +5,5 @@ use Rattle.wap_good.proofs.texts.tell_attrs.Given as goal
 
 -- it is left to tell it of the attributes that are left
 abbrev pub invariant-loop-attr : goal.invariant-loop-attr
-invariant-loop-attr l = AllByRecursion OfAttr (drop l.attr-index l.attrs) → AllByRecursion OfAttr l.attrs
+invariant-loop-attr l =
+    AllByRecursion OfAttr (drop l.attr-index l.attrs) → AllByRecursion OfAttr l.attrs

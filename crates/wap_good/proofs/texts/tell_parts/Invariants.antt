@@ -5,4 +5,5 @@ use Rattle.wap_good.proofs.texts.tell_parts.Given as goal
 
 -- it is left to tell it of the parts that are left
 abbrev pub invariant-loop-part : goal.invariant-loop-part
-invariant-loop-part l = AllByRecursion OfPart (drop l.part-index l.parts) → AllByRecursion OfPart l.parts
+invariant-loop-part l =
+    AllByRecursion OfPart (drop l.part-index l.parts) → AllByRecursion OfPart l.parts

@@ -10,4 +10,5 @@ decreases-holds_tagged l = l.levels
 -- it is to be seen from the children that are left
 abbrev pub invariant-loop-child : goal.invariant-loop-child
 invariant-loop-child l =
-    list_any (λ node. is_same_tag node.tag l.tag) (nodes_in l.levels l.child-iterator) ≡ list_any (λ node. is_same_tag node.tag l.tag) (nodes_in l.levels l.view.kids)
+    list_any (λ node. is_same_tag node.tag l.tag) (nodes_in l.levels l.child-iterator)
+    ≡ list_any (λ node. is_same_tag node.tag l.tag) (nodes_in l.levels l.view.kids)

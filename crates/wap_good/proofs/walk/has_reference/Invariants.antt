@@ -4,4 +4,5 @@ use Rattle.wap_good.specs.Runs.{is_reference}
 use Rattle.wap_good.proofs.walk.has_reference.Given as goal
 
 abbrev pub invariant-loop-bit : goal.invariant-loop-bit
-invariant-loop-bit l = list_any is_reference l.bit-iterator ≡ list_any is_reference l.initial.bit-iterator
+invariant-loop-bit l =
+    list_any is_reference l.bit-iterator ≡ list_any is_reference l.initial.bit-iterator

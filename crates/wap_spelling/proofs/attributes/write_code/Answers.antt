@@ -5,5 +5,6 @@ use Rattle.wap_spelling.proofs.attributes.write_code.Goals as goal
 
 pub returns : goal.returns
 returns c =
-    in_turn (on_attribute_page c.args.page) (plain (c.args.code ∷ [])) c.args.output.now c.go_to_attribute_page.new.self
+    in_turn (on_attribute_page c.args.page)
+    (plain (c.args.code ∷ [])) c.args.output.now c.go_to_attribute_page.new.self
     c.push.new.self c.in_ok-go_to_attribute_page.ensures c.in_ok-push.ensures

@@ -5,4 +5,5 @@ use Rattle.wap_spelling.specs.inside.Written.{written}
 use Rattle.wap_spelling.proofs.attributes.write_pieces.Given as goal
 
 abbrev pub invariant-loop-piece : goal.invariant-loop-piece
-invariant-loop-piece l = l.output ≡ written (each piece_spelling (take l.piece-index l.pieces)) l.initial.output
+invariant-loop-piece l =
+    l.output ≡ written (each piece_spelling (take l.piece-index l.pieces)) l.initial.output

@@ -6,4 +6,5 @@ returns-clause-spellable c = spellable_taken c.args._bytes.now
 
 pub returns-clause-texts : goal.returns-clause-texts
 returns-clause-texts c = λ document.
-    texts_taken c.args._bytes.now document (all_bytes c.args._bytes.now (λ i. (c.type_inv._bytes i).fits))
+    texts_taken c.args._bytes.now document
+    (all_bytes c.args._bytes.now (λ i. (c.type_inv._bytes i).fits))

@@ -7,4 +7,5 @@ use Rattle.wap_spelling.proofs.elements.+elements.Given as goal
 abbrev pub invariant-write_kids-loop-kid : goal.invariant-write_kids-loop-kid
 invariant-write_kids-loop-kid l =
     l.output
-    ≡ written (each (kid_spelling l.table (element_spelling l.table l.levels)) (take l.kid-index l.kids)) l.initial.output
+    ≡ written (each (kid_spelling l.table (element_spelling l.table l.levels))
+    (take l.kid-index l.kids)) l.initial.output

@@ -5,4 +5,5 @@ use Rattle.wap_spelling.proofs.names.+elements.Given as goal
 
 abbrev pub invariant-add_kids-loop-kid : goal.invariant-add_kids-loop-kid
 invariant-add_kids-loop-kid l =
-    l.names.keys ≡ fold (with_kid (with_element l.levels)) l.initial.names.keys (take l.kid-index l.kids)
+    l.names.keys
+    ≡ fold (with_kid (with_element l.levels)) l.initial.names.keys (take l.kid-index l.kids)

@@ -4,4 +4,5 @@ use Rattle.wap_spelling.specs.Names.{with_attr}
 use Rattle.wap_spelling.proofs.names.add_attrs.Given as goal
 
 abbrev pub invariant-loop-attr : goal.invariant-loop-attr
-invariant-loop-attr l = l.names.keys ≡ fold with_attr l.initial.names.keys (take l.attr-index l.attrs)
+invariant-loop-attr l =
+    l.names.keys ≡ fold with_attr l.initial.names.keys (take l.attr-index l.attrs)

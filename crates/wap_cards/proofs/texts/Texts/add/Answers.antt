@@ -1,4 +1,4 @@
-use Rattle.std.proofs.Common.{List, ℕ, Bool, ap, ◌∙◌}
+use Rattle.std.proofs.Common.{List, ℕ, ap, ◌∙◌}
 use Rattle.std.specs.Prelude.{◌||◌}
 use Rattle.std.specs.List.{list_any}
 use Rattle.wap_base.specs.Texts.{is_same_text}
@@ -9,4 +9,5 @@ pub returns : goal.returns
 returns c = λ one.
     ap (λ (texts : List (List ℕ)). list_any (is_same_text one) texts) c.in_ok-insert.ensures.keys
     ∙ found_after one c.args.text c.self.inside.texts.keys
-    ∙ ap (λ (texts : List (List ℕ)). is_same_text one c.args.text || list_any (is_same_text one) texts) c.self.view_is
+    ∙ ap (λ (texts : List (List ℕ)).
+    is_same_text one c.args.text || list_any (is_same_text one) texts) c.self.view_is

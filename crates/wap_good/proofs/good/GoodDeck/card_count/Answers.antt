@@ -9,4 +9,7 @@ pub returns : goal.returns
 returns c =
     let table = table_in c.self.inside.table c.self.inside.root c.self.inside.bytes in
     let deck = deck_in c.self.inside.table c.self.inside.root c.self.inside.bytes in
-    c.len.ensures ∙ length-places table c.self.inside.bytes c.self.inside.cards (cards_of deck) c.self.invariant.placed ∙ ap (λ (d : Deck). length (cards_of d)) c.self.view_is
+    c.len.ensures
+    ∙ length-places table c.self.inside.bytes c.self.inside.cards.places
+    (cards_of deck) c.self.invariant.placed
+    ∙ ap (λ (d : Deck). length (cards_of d)) c.self.view_is

@@ -13,19 +13,29 @@ pub returns-clause-root : goal.returns-clause-root
 unfolding deck_in
 returns-clause-root c =
     c.of.ensures
-    ∙ ap (front_node (table_in c.self.inside.table c.self.inside.root c.as_slice-bytes.result.now) LEVEL_LIMIT) (take_rest c.as_slice-bytes.result.now c.self.inside.root)
-    ∙ ap (λ (l : List ℕ). front_node (table_in c.self.inside.table c.self.inside.root l) LEVEL_LIMIT (drop c.self.inside.root l)) c.as_slice-bytes.ensures
+    ∙ ap (front_node (table_in c.self.inside.table c.self.inside.root c.as_slice-bytes.result.now)
+    LEVEL_LIMIT) (take_rest c.as_slice-bytes.result.now c.self.inside.root)
+    ∙ ap (λ (l : List ℕ). front_node (table_in c.self.inside.table c.self.inside.root l) LEVEL_LIMIT
+    (drop c.self.inside.root l)) c.as_slice-bytes.ensures
     ∙ ap (λ (d : Deck). d.root) c.self.view_is
 
 pub of-requires : goal.of-requires
 of-requires c =
     let root = c.self.inside.root in
     let rest = take_rest c.as_slice-bytes.result.now root in
-    let P : List ℕ → Type 0 = λ l. IsRead (table_in c.self.inside.table root l) LEVEL_LIMIT (drop root l) in
+    let P : List ℕ → Type 0 =
+    λ l. IsRead (table_in c.self.inside.table root l) LEVEL_LIMIT (drop root l) in
     let Q : List ℕ → Type 0 = λ l. AreNotes (drop root l) c.self.inside.notes in
-    let noted = notes_behind (drop root c.self.inside.bytes) c.self.inside.bytes (behind_drop root c.self.inside.bytes) c.self.inside.notes c.self.invariant.noted in
+    let noted =
+    notes_behind (drop root c.self.inside.bytes) c.self.inside.bytes
+    (behind_drop root c.self.inside.bytes) c.self.inside.notes c.self.invariant.noted in
     record {
       few = omega arith;
-      read = subst (IsRead (table_in c.self.inside.table root c.as_slice-bytes.result.now) LEVEL_LIMIT) (sym rest) (subst P (sym c.as_slice-bytes.ensures) c.self.invariant.held.read);
-      noted = subst (AreNotes _) (sym c.as_slice.ensures) (subst (λ (l : List ℕ). AreNotes l c.self.inside.notes) (sym rest) (subst Q (sym c.as_slice-bytes.ensures) noted));
+      read =
+          subst (IsRead (table_in c.self.inside.table root c.as_slice-bytes.result.now) LEVEL_LIMIT)
+          (sym rest) (subst P (sym c.as_slice-bytes.ensures) c.self.invariant.held.read);
+      noted =
+          subst (AreNotes _) (sym c.as_slice.ensures)
+          (subst (λ (l : List ℕ). AreNotes l c.self.inside.notes) (sym rest)
+          (subst Q (sym c.as_slice-bytes.ensures) noted));
     }

@@ -16,7 +16,11 @@ returns-in_ok-deck-in-Ok c =
     let spellable = c.decks_are_spellable.ensures.spellable deck held.normal known in
     let texts = deck_fits deck held.normal known held.of in
     let written = c.spelling_is_read.ensures (document_of deck) spellable texts in
-    let here = subst (λ (l : List ℕ). IsDocument l (document_of deck)) (sym (c.as_slice.ensures ∙ held.spelled)) (subst (IsDocument _) (c.decks_are_spellable.ensures.same deck) written) in
+    let here =
+    subst (λ (l : List ℕ). IsDocument l (document_of deck))
+    (sym (c.as_slice.ensures ∙ held.spelled))
+    (subst (IsDocument _) (c.decks_are_spellable.ensures.same deck) written) in
     let read = c.in-Ok.ensures.only (document_of deck) here in
     let same : c.in-Ok.document ≡ document_of deck = cc in
-    c.in_ok-deck-in-Ok.ensures.deck ∙ ap deck_of same ∙ deck_read deck held.normal known ∙ c.self.view_is
+    c.in_ok-deck-in-Ok.ensures.deck ∙ ap deck_of same ∙ deck_read deck held.normal known
+    ∙ c.self.view_is

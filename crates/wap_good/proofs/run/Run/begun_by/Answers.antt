@@ -4,10 +4,16 @@ use Rattle.wap_base.specs.declared.name.Part.{Part}
 use Rattle.wap_good.specs.declared.bits.Bit.{Bit}
 use Rattle.wap_good.specs.Runs.{part_of}
 use Rattle.wap_good.proofs.Parted.{begun_value}
+use Rattle.wap_good.proofs.Spoken.{parts_on}
 use Rattle.wap_good.proofs.run.Run.begun_by.Goals as goal
+
+pub value-requires : goal.value-requires
+value-requires c =
+    parts_on c.args.bytes.now (part_of c.args.bit) c.args.rest.now c.requires.bit c.requires.parts
 
 pub returns-in-Slice : goal.returns-in-Slice
 returns-in-Slice c =
     c.value.ensures
     ∙ begun_value c.args.bytes.now (chars c.in-Slice.text.now) c.args.rest.now
-    (c.requires ∙ ap (λ (bit : Bit). let read : Option (Part × List ℕ) = Some (part_of bit, c.args.rest.now) in read) c.in-Slice.is)
+    (c.requires.bit ∙ ap (λ (bit : Bit).
+    let read : Option (Part × List ℕ) = Some (part_of bit, c.args.rest.now) in read) c.in-Slice.is)

@@ -9,14 +9,17 @@ pub loop-bit-init : goal.loop-bit-init
 loop-bit-init c =
     let same : c.into_iter-bit-iterator.result ≡ c.args.self.now = cc in
     by_bytes c.args.text.now (plain_text c.args.self.now)
-    ∙ ap (λ (l : List ℕ). is_utf8_of l (plain_text c.args.self.now)) (sym (c.as_bytes-left.ensures.value ∙ c.as_str.ensures.bytes))
+    ∙ ap (λ (l : List ℕ). is_utf8_of l (plain_text c.args.self.now))
+    (sym (c.as_bytes-left.ensures.value ∙ c.as_str.ensures.bytes))
     ∙ ap (λ (v : List Part). is_utf8_of c.as_bytes-left.result.now (plain_text v)) (sym same)
 
 pub loop-bit-preserved : goal.loop-bit-preserved
 loop-bit-preserved c =
     c.loop-bit.invariant
-    ∙ stepped (part_of c.in-Some.bit) c.loop-bit.left.now c.in-Some-behind.rest c.loop-bit.bit-iterator c.next.new.self c.in-Some.ensures.steps c.in-Some-behind.ensures
+    ∙ stepped (part_of c.in-Some.bit) c.loop-bit.left.now c.in-Some-behind.rest
+    c.loop-bit.bit-iterator c.next.new.self c.in-Some.ensures.steps c.in-Some-behind.ensures
 
 pub returns-in-None-behind : goal.returns-in-None-behind
 returns-in-None-behind c =
-    sym (c.loop-bit.invariant ∙ missed (part_of c.in-Some.bit) c.loop-bit.left.now c.loop-bit.bit-iterator c.next.new.self c.in-Some.ensures.steps c.in-None-behind.ensures)
+    sym (c.loop-bit.invariant ∙ missed (part_of c.in-Some.bit) c.loop-bit.left.now
+    c.loop-bit.bit-iterator c.next.new.self c.in-Some.ensures.steps c.in-None-behind.ensures)

@@ -8,7 +8,7 @@ use Rattle.wap_good.proofs.run.RunIterator.next.Goals as goal
 
 pub returns-in_err-bit-clause-steps : goal.returns-in_err-bit-clause-steps
 returns-in_err-bit-clause-steps c =
-    let none = sym c.self.view_is ∙ c.in_err-bit.ensures in
+    let none = sym c.self.view_is ∙ c.in_err-bit.ensures.bit in
     search rules
 
 pub returns-clause-steps : goal.returns-clause-steps
@@ -17,9 +17,13 @@ returns-clause-steps c =
     let old = value_at (chars c.self.inside.begun.now) c.self.inside.bytes.now in
     subst (λ (rest : List Part). IsFirstBit c.args.self.now part rest) (sym c.self-2.view_is)
     (subst (λ (parts : List Part). IsFirstBit parts part c.text.result) c.self.view_is
-    (subst (λ (rest : List Part). IsFirstBit old part rest) (sym c.text.ensures) c.in_ok-bit.ensures))
+    (subst (λ (rest : List Part). IsFirstBit old part rest)
+    (sym c.text.ensures) c.in_ok-bit.ensures.bit))
 
 pub returns-clause-goes : goal.returns-clause-goes
 returns-clause-goes c =
     let less = size_less c.args.self.now (part_of c.in_ok-bit.bit) _ (returns-clause-steps c) in
     search rules
+
+pub text-requires : goal.text-requires
+text-requires c = c.in_ok-bit.ensures.rest

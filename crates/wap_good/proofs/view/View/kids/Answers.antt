@@ -6,17 +6,25 @@ use Rattle.wap_good.proofs.view.View.kids.Goals as goal
 pub of-requires : goal.of-requires
 of-requires c = rw c.saturating_sub.ensures (record {
   few = let few = c.self.invariant.few in omega arith;
-  ends = kids_end c.self.inside.table.now c.self.inside.levels c.self.inside.bytes.now c.self.invariant.read c.kids_begin-bytes.result.now c.kids_begin-bytes.ensures.exact;
-  noted = c.notes_left-notes.ensures c.kids_begin-bytes.result.now
-      (notes_behind c.kids_begin-bytes.result.now c.self.inside.bytes.now c.kids_begin-bytes.ensures.behind c.self.inside.notes.now c.self.invariant.noted);
+  ends =
+      kids_end c.self.inside.table.now c.self.inside.levels c.self.inside.bytes.now
+      c.self.invariant.read c.content_of-bytes.result.now c.content_of-bytes.ensures.exact;
+  noted = c.notes_inside-notes.ensures c.content_of-bytes.result.now
+      (notes_behind c.content_of-bytes.result.now c.self.inside.bytes.now
+      c.content_of-bytes.ensures.behind c.self.inside.notes.now c.self.invariant.noted);
 })
 
 pub returns-clause-kids : goal.returns-clause-kids
 returns-clause-kids c =
     rw (c.of.ensures, c.saturating_sub.ensures)
-    (kids_seen c.self.inside.table.now c.self.inside.levels c.self.inside.bytes.now c.self.invariant.read c.args.self.now c.self.view_is c.kids_begin-bytes.result.now c.kids_begin-bytes.ensures.exact)
+    (kids_seen c.self.inside.table.now c.self.inside.levels c.self.inside.bytes.now
+    c.self.invariant.read c.args.self.now c.self.view_is c.content_of-bytes.result.now
+    c.content_of-bytes.ensures.exact)
 
 pub returns-clause-few : goal.returns-clause-few
 returns-clause-few c =
-    let few = few_kids c.self.inside.table.now c.self.inside.levels c.self.inside.bytes.now c.self.invariant.read c.args.self.now c.self.view_is c.kids_begin-bytes.result.now c.kids_begin-bytes.ensures.exact in
+    let few =
+    few_kids c.self.inside.table.now c.self.inside.levels c.self.inside.bytes.now
+    c.self.invariant.read c.args.self.now c.self.view_is c.content_of-bytes.result.now
+    c.content_of-bytes.ensures.exact in
     search rules

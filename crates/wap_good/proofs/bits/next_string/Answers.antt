@@ -1,0 +1,12 @@
+use Rattle.wap_good.proofs.Spoken.{string_utf8, string_read}
+use Rattle.wap_good.proofs.bits.next_string.Goals as goal
+
+pub text_of-requires : goal.text_of-requires
+text_of-requires c =
+    string_utf8 c.args.bytes.now c.in_ok-string.string.now c.in_ok-string.rest.now
+    c.in_ok-string.ensures c.requires
+
+pub returns : goal.returns
+returns c =
+    string_read c.args.bytes.now c.in_ok-string.string.now c.in_ok-string.rest.now
+    c.in_ok-string.ensures c.requires c.text_of.result.now c.text_of.ensures

@@ -1,0 +1,23 @@
+use Rattle.std.proofs.Common.{◌∙◌, sym, ap, List, ℕ, Some}
+use Rattle.wap_base.specs.declared.name.Part.{Part}
+use Rattle.wap_markup.specs.declared.name.AttrName.{AttrName}
+use Rattle.wap_good.specs.Texts.{value_at, behind_value}
+use Rattle.wap_good.proofs.Ending.{attr_read, attr_followed}
+use Rattle.wap_good.proofs.HeadLaw.{coded_start}
+use Rattle.wap_good.proofs.heads.next_name.Goals as goal
+
+pub returns : goal.returns
+returns c = λ table ends.
+    let start = c.in_ok-start.start in
+    let begin =
+    coded_start table c.args.bytes.now c.in_ok-mark.mark c.in_ok-mark.rest.now
+    (start.0, start.1.now) c.in_ok-mark.ensures c.if-mark-eq-LITERAL.false
+    (sym c.in_ok-start.ensures.start) in
+    let read = attr_read table c.args.bytes.now start.0 start.1.now c.in_ok-mark.rest.now begin in
+    let are =
+    attr_followed table c.args.bytes.now _ (behind_value c.in_ok-mark.rest.now) read ends in
+    let parts = value_at start.1.now c.in_ok-mark.rest.now in (
+      parts,
+      read ∙ ap (λ (l : List ℕ). let w : (AttrName × List Part) × List ℕ = ((start.0, parts), l) in
+          Some w) (sym (c.after_bits.ensures.exact are)),
+    )

@@ -1,0 +1,12 @@
+use Rattle.std.proofs.Common.{length}
+use Rattle.wap_good.specs.Notes.{AreNotes}
+use Rattle.wap_good.proofs.notes.with_inside.Given as goal
+
+abbrev pub invariant-loop-note : goal.invariant-loop-note
+invariant-loop-note l = record {
+  told : AreNotes l.bytes l.told;
+  left : AreNotes l.bytes l.left;
+}
+
+abbrev pub decreases-loop-note : goal.decreases-loop-note
+decreases-loop-note l = length l.left

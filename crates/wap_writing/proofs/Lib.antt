@@ -1,0 +1,6 @@
+mod Lists
+mod Parts
+mod Starts
+mod Content
+mod Emptiness
+mod Naming

@@ -1,0 +1,10 @@
+//! How decks are written as WBXML (WAP-192, section 5), without their documents.
+#![tactic(auto)]
+
+mod attributes;
+mod decks;
+mod names;
+mod nodes;
+mod texts;
+
+pub use decks::spell;
