@@ -1,6 +1,7 @@
 -- The nodes and texts below the root of a deck, each at its place, in the order of the document: a
 -- node comes before what is in it. This project's own words for WAP-191, section 11.
-use Rattle.std.specs.Prelude.{ℕ, zero, suc, Bool, ◌&&◌, if◌then◌else◌, List, [], ◌∷◌, ◌++◌, length, Option, Some, None}
+use Rattle.std.specs.Prelude.{ℕ, zero, suc, Bool, ◌&&◌, if◌then◌else◌, List, []}
+use Rattle.std.specs.Prelude.{◌∷◌, ◌++◌, length, Option, Some, None}
 use Rattle.std.specs.List.{filter_map}
 use Rattle.std.specs.Option.{option_and_then, option_to_list}
 use Rattle.wap_markup.specs.declared.document.TheConstants.{LEVEL_LIMIT}
@@ -51,7 +52,8 @@ pub record Level : Type 0 where
 
 abbrev pub inner_places : Level → List (List ℕ) → List ℕ → Option Node → List Place
 inner_places level others path None = []
-inner_places level others path (Some node) = level.inner (others ++ option_to_list (level.own node)) path node
+inner_places level others path (Some node) =
+    level.inner (others ++ option_to_list (level.own node)) path node
 
 -- the path of the child after these
 abbrev pub path_behind : List ℕ → List Item → List ℕ
@@ -77,7 +79,8 @@ items_places level path rule earlier (item ∷ items) =
 
 -- ---- in a card or a template, or whatever stands right under the root
 
-abbrev pub names_level : (List (List ℕ) → List ℕ → Node → List Place) → Bool → ℕ → List (List ℕ) → Level
+abbrev pub names_level : (List (List ℕ) → List ℕ → Node → List Place) → Bool → ℕ
+    → List (List ℕ) → Level
 names_level inner apart levels names = record {
   own = own_name apart;
   others = λ earlier. names ++ names_among apart levels earlier;

@@ -4,9 +4,9 @@ ghost use Rattle.std.specs.List.{list_any, list_all};
 ghost use Rattle.std.specs.Str.{bytes_eq};
 ghost use Rattle.wap_base.specs.Texts.{is_same_text};
 ghost use Rattle.wap_markup.specs.Trees.{plain_text};
-ghost use Rattle.wap_markup.specs.Tables.{is_same_tag, is_same_attr};
+ghost use Rattle.wap_markup.specs.Tables.{is_same_attr};
 ghost use Rattle.wap_markup.specs.Good.{text_has, value_has, all_have, names_of, has_forms};
-ghost use Rattle.wap_deckcheck.specs.inside.Rows.{words_of, has_plain_words, form_of, form_row};
+ghost use Rattle.wap_deckcheck.specs.inside.Rows.{words_of, has_plain_words, form_of, has_forms_as};
 ghost use Rattle.wap_deckcheck.specs.Faults.{has_twice};
 
 use wap_base::{Part, Rows, Text, is_name};
@@ -27,24 +27,60 @@ pub enum LentForm {
 
 const BOOLEANS: LentForm = LentForm::Words(&["true", "false"]);
 
-/// The attributes of elements that have a form.
-static FORMS: [(Tag, AttrName, LentForm); 15] = [
-    (Tag::Go, AttrName::Method, LentForm::Words(&["get", "post"])),
-    (Tag::Go, AttrName::Sendreferer, BOOLEANS),
-    (Tag::P, AttrName::Mode, LentForm::Words(&["wrap", "nowrap"])),
-    (Tag::Card, AttrName::Newcontext, BOOLEANS),
-    (Tag::Card, AttrName::Id, LentForm::Plain),
-    (Tag::Do, AttrName::Optional, BOOLEANS),
-    (Tag::Do, AttrName::Name, LentForm::Plain),
-    (Tag::Do, AttrName::Type, LentForm::Plain),
-    (Tag::Onevent, AttrName::Type, LentForm::Plain),
-    (Tag::Input, AttrName::Emptyok, BOOLEANS),
-    (Tag::Input, AttrName::Name, LentForm::Variable),
-    (Tag::Timer, AttrName::Name, LentForm::OptionalVariable),
-    (Tag::Select, AttrName::Multiple, BOOLEANS),
-    (Tag::Select, AttrName::Name, LentForm::OptionalVariable),
-    (Tag::Select, AttrName::Iname, LentForm::OptionalVariable),
+/// An attribute that has a form.
+type Row = (AttrName, LentForm);
+
+static GO: [Row; 2] = [
+    (AttrName::Method, LentForm::Words(&["get", "post"])),
+    (AttrName::Sendreferer, BOOLEANS),
 ];
+
+static P: [Row; 1] = [(AttrName::Mode, LentForm::Words(&["wrap", "nowrap"]))];
+
+static CARD: [Row; 2] = [
+    (AttrName::Newcontext, BOOLEANS),
+    (AttrName::Id, LentForm::Plain),
+];
+
+static DO: [Row; 3] = [
+    (AttrName::Optional, BOOLEANS),
+    (AttrName::Name, LentForm::Plain),
+    (AttrName::Type, LentForm::Plain),
+];
+
+static ONEVENT: [Row; 1] = [(AttrName::Type, LentForm::Plain)];
+
+static INPUT: [Row; 2] = [
+    (AttrName::Emptyok, BOOLEANS),
+    (AttrName::Name, LentForm::Variable),
+];
+
+static TIMER: [Row; 1] = [(AttrName::Name, LentForm::OptionalVariable)];
+
+static SELECT: [Row; 3] = [
+    (AttrName::Multiple, BOOLEANS),
+    (AttrName::Name, LentForm::OptionalVariable),
+    (AttrName::Iname, LentForm::OptionalVariable),
+];
+
+/// The attributes of an element that have a form.
+fn rows_of(tag: Tag) -> &'static [Row]
+    ensures plain { list_all (λ row. has_plain_words row.1) result.now ≡ true }
+    ensures all { (node : Node) → has_forms_as tag node
+        ≡ list_all (λ row. all_have row.0 (form_of row.1) node) result.now }
+{
+    match tag {
+        Tag::Go => &GO,
+        Tag::P => &P,
+        Tag::Card => &CARD,
+        Tag::Do => &DO,
+        Tag::Onevent => &ONEVENT,
+        Tag::Input => &INPUT,
+        Tag::Timer => &TIMER,
+        Tag::Select => &SELECT,
+        _ => &[],
+    }
+}
 
 /// Whether an attribute stands twice.
 pub fn has_twice(attrs: &[(AttrName, Rows<Part>)]) -> bool
@@ -148,14 +184,21 @@ fn all_have(name: AttrName, form: &LentForm, attrs: &[(AttrName, Rows<Part>)]) -
     true
 }
 
+/// Whether each attribute of a node that has a form in a row is of that form.
+fn has_row(row: &Row, node: &Node) -> bool
+    requires { has_plain_words row.now.1 ≡ true }
+    ensures { result ≡ all_have row.now.0 (form_of row.now.1) node.now }
+{
+    all_have(row.0, &row.1, node.attrs.as_slice())
+}
+
 /// Whether each attribute of a node that has a form in some rows is of that form.
-fn has_rows(rows: &[(Tag, AttrName, LentForm)], node: &Node) -> bool
-    requires { list_all (λ row. has_plain_words row.2) rows.now ≡ true }
-    ensures { result ≡ list_all (λ form. not (is_same_tag node.now.tag form.0)
-        || all_have form.1 form.2 node.now) (map form_row rows.now) }
+fn has_rows(rows: &[Row], node: &Node) -> bool
+    requires { list_all (λ row. has_plain_words row.1) rows.now ≡ true }
+    ensures { result ≡ list_all (λ row. all_have row.0 (form_of row.1) node.now) rows.now }
 {
     for row in rows {
-        if node.tag == row.0 && !all_have(row.1, &row.2, node.attrs.as_slice()) {
+        if !has_row(row, node) {
             return false;
         }
     }
@@ -166,5 +209,5 @@ fn has_rows(rows: &[(Tag, AttrName, LentForm)], node: &Node) -> bool
 pub fn has_forms(node: &Node) -> bool
     ensures { result ≡ has_forms node.now }
 {
-    has_rows(&FORMS, node)
+    has_rows(rows_of(node.tag), node)
 }

@@ -5,7 +5,7 @@ ghost use Rattle.wap_markup.specs.Normal.{IsNormal};
 ghost use Rattle.wap_deckcheck.specs.Faults.{faults, first_fault};
 
 use crate::DeckFault;
-use crate::walk::judge_deck;
+use crate::walk::walk_deck;
 use std::alloc::Global;
 use wap_base::NoMemory;
 use wap_good::GoodDeck;
@@ -31,12 +31,27 @@ pub fn check(alloc: Global, deck: Deck) -> Result<GoodDeck, (Deck, DeckFault)>
     }
 }
 
-/// A deck without faults, as a good one.
+/// Whether a deck is good, or else the first of its faults, in the order in which `check` tells
+/// them. Nothing is kept of the deck.
+pub fn judge_deck(alloc: Global, deck: &Deck) -> Result<(), DeckFault>
+    requires { IsNormal deck.now }
+    ensures good { OnOk result (IsGood deck.now) }
+    ensures faultless { OnOk result (faults deck.now ≡ []) }
+    ensures first { IfErr result (λ fault. fault ≢ DeckFault.NoMemory
+        → first_fault (faults deck.now) ≡ Some fault) }
+    ensures bad { IfErr result (λ fault. fault ≢ DeckFault.NoMemory → ¬ IsGood deck.now) }
+{
+    match walk_deck(alloc, deck) {
+        Ok(()) => Ok(()),
+        Err(fault) => Err(fault),
+    }
+}
+
+/// A good deck, kept.
 fn as_good(alloc: Global, deck: Deck) -> Result<GoodDeck, (Deck, DeckFault)>
     requires normal { IsNormal deck }
-    requires faultless { faults deck ≡ [] }
+    requires good { IsGood deck }
     ensures same { IfOk result (λ good. good ≡ deck) }
-    ensures good { OnOk result (IsGood deck) }
     ensures back { IfErr result (λ refused. refused.0 ≡ deck) }
     ensures memory { IfErr result (λ refused. refused.1 ≡ DeckFault.NoMemory) }
 {

@@ -1,6 +1,7 @@
 //! Whether a deck is good.
 #![tactic(auto)]
 
+mod cards;
 mod fault;
 mod forms;
 mod judge;
@@ -9,6 +10,7 @@ mod names;
 mod rules;
 mod walk;
 
+pub use cards::card_count;
 pub use fault::DeckFault;
-pub use judge::check;
+pub use judge::{check, judge_deck};
 pub use laws::{faults_ascend, good_is_faultless};

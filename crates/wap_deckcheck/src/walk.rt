@@ -14,18 +14,18 @@ ghost use Rattle.wap_deckcheck.specs.inside.Walks.{judged, inner_faults, item_fa
 use crate::DeckFault;
 use crate::fault::{Kind, fault_at};
 use crate::forms::{has_forms, has_twice};
-use crate::names::{Names, own_id, own_name};
+use crate::names::{Label, Names, own_id, own_name};
 use crate::rules::{Rule, has_needs, holds_dos};
 use std::alloc::Global;
 use std::mem::replace;
-use wap_base::{Rows, Text};
+use wap_base::Rows;
 use wap_markup::{Deck, Item, LEVEL_LIMIT, Node, Tag};
 
 /// Where a walk is, and the ids or names that are taken there.
 #[derive(Drop)]
-pub struct Walk {
+pub struct Walk<'a> {
     path: Rows<usize>,
-    names: Names,
+    names: Names<'a>,
 }
 
 /// Judges whether an item may stand after others, and tells what is reached with it.
@@ -48,14 +48,15 @@ fn judge_place(
     }
 }
 
-/// Judges a node by itself.
-fn judge_node(alloc: Global, path: &Rows<usize>, node: &Node) -> Result<(), DeckFault>
+/// Judges a node by itself, by its rule.
+fn judge_node(alloc: Global, path: &Rows<usize>, rule: &Rule, node: &Node) -> Result<(), DeckFault>
+    requires { rule.now ≡ rule_of node.now.tag }
     ensures { Judges result (own_faults path.now node.now) }
 {
     if has_twice(node.attrs.as_slice()) {
         return Err(fault_at(alloc, Kind::Attr, path));
     }
-    if !has_needs(&Rule::of(node.tag), node) {
+    if !has_needs(rule, node) {
         return Err(fault_at(alloc, Kind::Missing, path));
     }
     if !has_forms(node) {
@@ -65,13 +66,17 @@ fn judge_node(alloc: Global, path: &Rows<usize>, node: &Node) -> Result<(), Deck
 }
 
 /// Takes an id or a name, if there is one.
-fn take_name(alloc: Global, text: Option<Text>, walk: &mut Walk) -> Result<(), DeckFault>
+fn take_name<'a>(
+    alloc: Global,
+    label: Option<Label<'a>>,
+    walk: &mut Walk<'a>,
+) -> Result<(), DeckFault>
     ensures faults { Judges result
-        (fault_if (is_taken walk.old.names text) (DeckFault.DuplicateId walk.old.path)) }
+        (fault_if (is_taken walk.old.names label.entry) (DeckFault.DuplicateId walk.old.path)) }
     ensures taken { OnOk result (walk.new
-        ≡ record walk.old { names = walk.old.names ++ option_to_list text }) }
+        ≡ record walk.old { names = walk.old.names ++ option_to_list label.entry }) }
 {
-    if walk.names.take(text)? {
+    if walk.names.take(label)? {
         return Err(fault_at(alloc, Kind::DuplicateId, &walk.path));
     }
     Ok(())
@@ -80,12 +85,12 @@ fn take_name(alloc: Global, text: Option<Text>, walk: &mut Walk) -> Result<(), D
 /// Judges an item by what it is: a text has no faults, and a node is judged by what it has and by
 /// what is in it.
 #[cycle(walk)]
-fn judge_item(
+fn judge_item<'a>(
     alloc: Global,
     levels: u32,
     apart: bool,
-    walk: &mut Walk,
-    item: &Item,
+    walk: &mut Walk<'a>,
+    item: &'a Item,
 ) -> Result<(), DeckFault>
     ensures faults { Judges result
         (inner_faults (own_name apart) (node_places levels apart) walk.old.names walk.old.path
@@ -97,24 +102,25 @@ fn judge_item(
     match item {
         Item::Text(_) => Ok(()),
         Item::Node(node) => {
-            judge_node(alloc, &walk.path, node)?;
-            take_name(alloc, own_name(alloc, apart, node)?, walk)?;
-            judge_kids(alloc, levels, apart, walk, node)
+            let rule = Rule::of(node.tag);
+            judge_node(alloc, &walk.path, &rule, node)?;
+            take_name(alloc, own_name(apart, node), walk)?;
+            judge_kids(alloc, levels, apart, walk, &rule, node)
         }
     }
 }
 
 /// Judges a child after others, and tells what is reached with it.
 #[cycle(walk)]
-fn judge_child(
+fn judge_child<'a>(
     alloc: Global,
     levels: u32,
     apart: bool,
-    walk: &mut Walk,
+    walk: &mut Walk<'a>,
     rule: &Rule,
     reached: usize,
     earlier: &[Item],
-    item: &Item,
+    item: &'a Item,
 ) -> Result<usize, DeckFault>
     requires { HasReached rule.now earlier.now reached }
     ensures faults { Judges result
@@ -132,15 +138,17 @@ fn judge_child(
     Ok(next)
 }
 
-/// Judges what is in a node, of so many levels.
+/// Judges what is in a node, of so many levels, by the node's rule.
 #[cycle(walk)]
-fn judge_kids(
+fn judge_kids<'a>(
     alloc: Global,
     levels: u32,
     apart: bool,
-    walk: &mut Walk,
-    node: &Node,
+    walk: &mut Walk<'a>,
+    rule: &Rule,
+    node: &'a Node,
 ) -> Result<(), DeckFault>
+    requires { rule.now ≡ rule_of node.now.tag }
     ensures faults { Judges result
         (judged (node_places levels apart walk.old.names walk.old.path node.now)) }
     ensures walked { OnOk result (walk.new ≡ record walk.old {
@@ -150,27 +158,17 @@ fn judge_kids(
     if levels == 0 {
         return Ok(());
     }
-    let rule = Rule::of(node.tag);
     let kids = node.kids.as_slice();
     let mut reached = 0;
     for (number, item) in kids.iter().enumerate() {
         let earlier = &kids[..number];
-        reached = judge_child(
-            alloc,
-            levels - 1,
-            apart,
-            walk,
-            &rule,
-            reached,
-            earlier,
-            item,
-        )?;
+        reached = judge_child(alloc, levels - 1, apart, walk, rule, reached, earlier, item)?;
     }
     Ok(())
 }
 
 /// Judges whatever stands right under the root, its id among those before it.
-fn judge_top_item(alloc: Global, walk: &mut Walk, item: &Item) -> Result<(), DeckFault>
+fn judge_top_item<'a>(alloc: Global, walk: &mut Walk<'a>, item: &'a Item) -> Result<(), DeckFault>
     ensures faults { Judges result
         (inner_faults own_id top_places walk.old.names walk.old.path (node_of item.now)) }
     ensures walked { OnOk result (walk.new ≡ record walk.old {
@@ -180,12 +178,20 @@ fn judge_top_item(alloc: Global, walk: &mut Walk, item: &Item) -> Result<(), Dec
     match item {
         Item::Text(_) => Ok(()),
         Item::Node(node) => {
-            judge_node(alloc, &walk.path, node)?;
-            take_name(alloc, own_id(alloc, node)?, walk)?;
+            let rule = Rule::of(node.tag);
+            judge_node(alloc, &walk.path, &rule, node)?;
+            take_name(alloc, own_id(node), walk)?;
             let path = replace(&mut walk.path, Rows::new(alloc));
             let names = Names::new(alloc);
             let mut within = Walk { path, names };
-            judge_kids(alloc, LEVEL_LIMIT, holds_dos(node.tag), &mut within, node)?;
+            judge_kids(
+                alloc,
+                LEVEL_LIMIT,
+                holds_dos(node.tag),
+                &mut within,
+                &rule,
+                node,
+            )?;
             walk.path = within.path;
             Ok(())
         }
@@ -193,13 +199,13 @@ fn judge_top_item(alloc: Global, walk: &mut Walk, item: &Item) -> Result<(), Dec
 }
 
 /// Judges a child of the root after others, and tells what is reached with it.
-fn judge_top_child(
+fn judge_top_child<'a>(
     alloc: Global,
-    walk: &mut Walk,
+    walk: &mut Walk<'a>,
     rule: &Rule,
     reached: usize,
     earlier: &[Item],
-    item: &Item,
+    item: &'a Item,
 ) -> Result<usize, DeckFault>
     requires { HasReached rule.now earlier.now reached }
     ensures faults { Judges result
@@ -250,15 +256,15 @@ fn lacks_card(items: &[Item]) -> bool
     true
 }
 
-/// Judges a deck.
-pub fn judge_deck(alloc: Global, deck: &Deck) -> Result<(), DeckFault>
+/// Goes over a whole deck.
+pub fn walk_deck(alloc: Global, deck: &Deck) -> Result<(), DeckFault>
     ensures { Judges result (faults deck.now) }
 {
     let path = Rows::new(alloc);
     if deck.root.tag != Tag::Wml {
         return Err(DeckFault::Child { path });
     }
-    judge_node(alloc, &path, &deck.root)?;
+    judge_node(alloc, &path, &Rule::of(deck.root.tag), &deck.root)?;
     judge_top(alloc, &deck.root)?;
     if lacks_card(deck.root.kids.as_slice()) {
         return Err(DeckFault::NoCard);

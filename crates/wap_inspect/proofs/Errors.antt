@@ -1,6 +1,5 @@
 -- What an error says of the fault that it was made of.
-use Rattle.std.proofs.Common.{◌≡◌, ◌≢◌, ℕ, List, Result, Ok, Err, refl, sym, ap, subst, ◌∙◌}
-use Rattle.wap_base.specs.Outcome.{Meets}
+use Rattle.std.proofs.Common.{◌≡◌, ◌≢◌, ℕ, List, Result, Ok, Err, refl, subst}
 use Rattle.wap_markup.specs.declared.document.Document.{Document}
 use Rattle.wap_markup.specs.Documents.{IsDocument}
 use Rattle.wap_wbxml.specs.Refusal as documents
@@ -17,7 +16,6 @@ use Rattle.wap_unit.specs.Units.{IsUnit}
 use Rattle.wap_unit.specs.Refusal as units
 use Rattle.wap_unit.specs.declared.fault.UnitFault.{UnitFault}
 use Rattle.wap_unit.specs.declared.fault.UnitFault.TheVariants as unit
-use Rattle.wap_verify.specs.Sound.{IsVerified}
 use Rattle.wap_verify.specs.Faults.{IsFault}
 use Rattle.wap_verify.specs.declared.fault.VerifyFault.{VerifyFault}
 use Rattle.wap_verify.specs.declared.fault.VerifyFault.TheVariants as verify
@@ -27,8 +25,8 @@ use Rattle.wap_pages.specs.declared.fault.PageFault.{PageFault}
 use Rattle.wap_pages.specs.declared.fault.PageFault.TheVariants as page
 use Rattle.wap_pages.specs.Faults.{document_error, deck_error, unit_error, verify_error}
 use Rattle.wap_pages.proofs.Errors.{document_cases, deck_cases, unit_cases, verify_cases}
-use Rattle.wap_inspect.specs.Refusals.{RefusesUnit, RefusesVerify, RefusesDocument, IsDeckRefused, RefusesCheck}
-use Rattle.wap_inspect.specs.Units.{unit_line, IsVerifyLine}
+use Rattle.wap_inspect.specs.Refusals.{RefusesUnit, RefusesVerify, RefusesDocument}
+use Rattle.wap_inspect.specs.Refusals.{IsDeckRefused, RefusesCheck}
 
 -- ---- the bytes are no unit
 
@@ -37,25 +35,32 @@ abbrev pub Only : {X : Type 0} → X → PageErr → Type 0
 Only {X} x error = error ≢ NoMemory → ◌≡◌ {A = Result X PageErr} (Ok x) (Err error)
 
 module _ (bytes : List ℕ) (fault : UnitFault) where
-  pub unit_only : (one : Unit) → (fault ≢ unit.NoMemory → ◌≡◌ {A = Result Unit UnitFault} (Ok one) (Err fault)) → Only one (unit_error fault)
-  unit_only one is = unit_cases (Only one) fault (λ none e. absurd (e refl)) (λ some e. absurd (no_both (is some)))
+  pub unit_only : (one : Unit)
+      → (fault ≢ unit.NoMemory → ◌≡◌ {A = Result Unit UnitFault} (Ok one) (Err fault))
+      → Only one (unit_error fault)
+  unit_only one is =
+      unit_cases (Only one) fault (λ none e. absurd (e refl)) (λ some e. absurd (no_both (is some)))
     where
       no_both : ◌≡◌ {A = Result Unit UnitFault} (Ok one) (Err fault) → ⊥
       no_both e = cc
 
-  pub unit_refused : (why : PageFault) → (fault ≢ unit.NoMemory → units.IsRefused bytes fault) → unit_error fault ≡ Refused why → RefusesUnit bytes why
+  pub unit_refused : (why : PageFault) → (fault ≢ unit.NoMemory → units.IsRefused bytes fault)
+      → unit_error fault ≡ Refused why → RefusesUnit bytes why
   unit_refused why is = unit_cases (λ error. error ≡ Refused why → RefusesUnit bytes why) fault
       (λ none e. absurd cc)
-      (λ some e. subst (RefusesUnit bytes) (inner (page.Unit fault) e) (RefusesUnit.unit fault (is some)))
+      (λ some e.
+      subst (RefusesUnit bytes) (inner (page.Unit fault) e) (RefusesUnit.unit fault (is some)))
     where
       inner : (one : PageFault) → Refused one ≡ Refused why → one ≡ why
       inner one e = cc
 
   -- nor one that may be run
-  pub unit_refused_so : (why : PageFault) → (fault ≢ unit.NoMemory → units.IsRefused bytes fault) → unit_error fault ≡ Refused why → RefusesVerify bytes why
+  pub unit_refused_so : (why : PageFault) → (fault ≢ unit.NoMemory → units.IsRefused bytes fault)
+      → unit_error fault ≡ Refused why → RefusesVerify bytes why
   unit_refused_so why is = unit_cases (λ error. error ≡ Refused why → RefusesVerify bytes why) fault
       (λ none e. absurd cc)
-      (λ some e. subst (RefusesVerify bytes) (inner (page.Unit fault) e) (RefusesVerify.unit fault (is some)))
+      (λ some e.
+      subst (RefusesVerify bytes) (inner (page.Unit fault) e) (RefusesVerify.unit fault (is some)))
     where
       inner : (one : PageFault) → Refused one ≡ Refused why → one ≡ why
       inner one e = cc
@@ -63,16 +68,25 @@ module _ (bytes : List ℕ) (fault : UnitFault) where
 -- ---- the bytes are no document
 
 module _ (bytes : List ℕ) (fault : DocFault) where
-  pub document_only : (one : Document) → (fault ≢ document.NoMemory → ◌≡◌ {A = Result Document DocFault} (Ok one) (Err fault)) → Only one (document_error fault)
-  document_only one is = document_cases (Only one) fault (λ none e. absurd (e refl)) (λ some e. absurd (no_both (is some)))
+  pub document_only : (one : Document)
+      → (fault ≢ document.NoMemory → ◌≡◌ {A = Result Document DocFault} (Ok one) (Err fault))
+      → Only one (document_error fault)
+  document_only one is =
+      document_cases (Only one) fault (λ none e. absurd (e refl))
+      (λ some e. absurd (no_both (is some)))
     where
       no_both : ◌≡◌ {A = Result Document DocFault} (Ok one) (Err fault) → ⊥
       no_both e = cc
 
-  pub document_refused : (why : PageFault) → (fault ≢ document.NoMemory → documents.IsRefused bytes fault) → document_error fault ≡ Refused why → RefusesDocument bytes why
-  document_refused why is = document_cases (λ error. error ≡ Refused why → RefusesDocument bytes why) fault
+  pub document_refused : (why : PageFault)
+      → (fault ≢ document.NoMemory → documents.IsRefused bytes fault)
+      → document_error fault ≡ Refused why → RefusesDocument bytes why
+  document_refused why is =
+      document_cases (λ error. error ≡ Refused why → RefusesDocument bytes why) fault
       (λ none e. absurd cc)
-      (λ some e. subst (RefusesDocument bytes) (inner (page.Document fault) e) (RefusesDocument.document fault (is some)))
+      (λ some e.
+      subst (RefusesDocument bytes) (inner (page.Document fault) e)
+      (RefusesDocument.document fault (is some)))
     where
       inner : (one : PageFault) → Refused one ≡ Refused why → one ≡ why
       inner one e = cc
@@ -81,20 +95,26 @@ module _ (bytes : List ℕ) (fault : DocFault) where
 
 module _ (one : Document) (fault : DeckFault) where
   pub deck_only : {X : Type 0} (x : X) → (fault ≢ deck.NoMemory → ⊥) → Only x (deck_error fault)
-  deck_only x is = deck_cases (Only x) fault (λ none e. absurd (e refl)) (λ some e. absurd (is some))
+  deck_only x is =
+      deck_cases (Only x) fault (λ none e. absurd (e refl)) (λ some e. absurd (is some))
 
-  pub deck_refused : (why : PageFault) → (fault ≢ deck.NoMemory → first_fault (faults (deck_of one)) ≡ Some fault) → deck_error fault ≡ Refused why → IsDeckRefused one why
+  pub deck_refused : (why : PageFault)
+      → (fault ≢ deck.NoMemory → first_fault (faults (deck_of one)) ≡ Some fault)
+      → deck_error fault ≡ Refused why → IsDeckRefused one why
   deck_refused why is = deck_cases (λ error. error ≡ Refused why → IsDeckRefused one why) fault
       (λ none e. absurd cc)
-      (λ some e. subst (IsDeckRefused one) (inner (page.Deck fault) e) (IsDeckRefused.deck fault (is some)))
+      (λ some e.
+      subst (IsDeckRefused one) (inner (page.Deck fault) e) (IsDeckRefused.deck fault (is some)))
     where
       inner : (one : PageFault) → Refused one ≡ Refused why → one ≡ why
       inner one e = cc
 
-pub by_document : (bytes : List ℕ) (why : PageFault) → RefusesDocument bytes why → RefusesCheck bytes why
+pub by_document : (bytes : List ℕ) (why : PageFault) → RefusesDocument bytes why
+    → RefusesCheck bytes why
 by_document bytes why (RefusesDocument.document fault is) = RefusesCheck.document fault is
 
-pub by_deck : (bytes : List ℕ) (one : Document) (why : PageFault) → IsDocument bytes one → IsDeckRefused one why → RefusesCheck bytes why
+pub by_deck : (bytes : List ℕ) (one : Document) (why : PageFault) → IsDocument bytes one
+    → IsDeckRefused one why → RefusesCheck bytes why
 by_deck bytes one why spells (IsDeckRefused.deck fault is) = RefusesCheck.deck one fault spells is
 
 -- ---- the unit may not be run
@@ -103,13 +123,19 @@ pub by_unit : (bytes : List ℕ) (why : PageFault) → RefusesUnit bytes why →
 by_unit bytes why (RefusesUnit.unit fault is) = RefusesVerify.unit fault is
 
 module _ (bytes : List ℕ) (one : Unit) (spells : IsUnit bytes one) (fault : VerifyFault) where
-  pub verify_only : {X : Type 0} (x : X) → (fault ≢ verify.NoMemory → ⊥) → Only x (verify_error fault)
-  verify_only x is = verify_cases (Only x) fault (λ none e. absurd (e refl)) (λ some e. absurd (is some))
+  pub verify_only : {X : Type 0} (x : X) → (fault ≢ verify.NoMemory → ⊥)
+      → Only x (verify_error fault)
+  verify_only x is =
+      verify_cases (Only x) fault (λ none e. absurd (e refl)) (λ some e. absurd (is some))
 
-  pub verify_refused : (why : PageFault) → (fault ≢ verify.NoMemory → IsFault one fault) → verify_error fault ≡ Refused why → RefusesVerify bytes why
-  verify_refused why is = verify_cases (λ error. error ≡ Refused why → RefusesVerify bytes why) fault
+  pub verify_refused : (why : PageFault) → (fault ≢ verify.NoMemory → IsFault one fault)
+      → verify_error fault ≡ Refused why → RefusesVerify bytes why
+  verify_refused why is =
+      verify_cases (λ error. error ≡ Refused why → RefusesVerify bytes why) fault
       (λ none e. absurd cc)
-      (λ some e. subst (RefusesVerify bytes) (inner (page.Verify fault) e) (RefusesVerify.verify one fault spells (is some)))
+      (λ some e.
+      subst (RefusesVerify bytes) (inner (page.Verify fault) e)
+      (RefusesVerify.verify one fault spells (is some)))
     where
       inner : (one : PageFault) → Refused one ≡ Refused why → one ≡ why
       inner one e = cc

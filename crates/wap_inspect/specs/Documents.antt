@@ -10,7 +10,8 @@ use Rattle.wap_spelling.specs.Spelling.{spelling}
 
 -- the bytes are a document, and this is its one spelling
 abbrev pub IsCanonical : List ℕ → List ℕ → Type 0
-IsCanonical bytes text = (document : Document) × IsDocument bytes document × (text ≡ spelling document)
+IsCanonical bytes text =
+    (document : Document) × IsDocument bytes document × (text ≡ spelling document)
 
 -- the line of a good deck
 abbrev pub deck_line : Deck → List ℕ
@@ -18,9 +19,11 @@ deck_line deck = codes "ok deck cards=" ++ (decimal (length (cards_of deck)) ++ 
 
 -- the bytes are a document that means this deck, and it is good
 abbrev pub IsDeckOf : List ℕ → Deck → Type 0
-IsDeckOf bytes deck = (document : Document) × IsDocument bytes document × (deck ≡ deck_of document) × IsGood deck
+IsDeckOf bytes deck =
+    (document : Document) × IsDocument bytes document × (deck ≡ deck_of document) × IsGood deck
 
 -- the bytes are a document whose deck is good, and this is its line
 abbrev pub IsCheckLine : List ℕ → List ℕ → Type 0
 IsCheckLine bytes line =
-    (document : Document) × IsDocument bytes document × IsGood (deck_of document) × (line ≡ deck_line (deck_of document))
+    (document : Document) × IsDocument bytes document × IsGood (deck_of document)
+    × (line ≡ deck_line (deck_of document))

@@ -20,7 +20,8 @@ pub data RefusesUnit (bytes : List ℕ) : PageFault → Type 0 where
 -- or one that may not be run
 pub data RefusesVerify (bytes : List ℕ) : PageFault → Type 0 where
   unit : (why : _) → units.IsRefused bytes why → RefusesVerify bytes (page.Unit why)
-  verify : (unit : Unit) (why : _) → IsUnit bytes unit → IsFault unit why → RefusesVerify bytes (page.Verify why)
+  verify : (unit : Unit) (why : _) → IsUnit bytes unit → IsFault unit why
+      → RefusesVerify bytes (page.Verify why)
 
 -- the bytes are no document
 pub data RefusesDocument (bytes : List ℕ) : PageFault → Type 0 where
@@ -28,10 +29,12 @@ pub data RefusesDocument (bytes : List ℕ) : PageFault → Type 0 where
 
 -- the document's deck isn't good, for the first of its faults
 pub data IsDeckRefused (document : Document) : PageFault → Type 0 where
-  deck : (why : _) → first_fault (faults (deck_of document)) ≡ Some why → IsDeckRefused document (page.Deck why)
+  deck : (why : _) → first_fault (faults (deck_of document)) ≡ Some why
+      → IsDeckRefused document (page.Deck why)
 
 -- the bytes are no document, or one whose deck isn't good
 pub data RefusesCheck (bytes : List ℕ) : PageFault → Type 0 where
   document : (why : _) → documents.IsRefused bytes why → RefusesCheck bytes (page.Document why)
-  deck : (document : Document) (why : _) → IsDocument bytes document → first_fault (faults (deck_of document)) ≡ Some why
+  deck : (document : Document) (why : _) → IsDocument bytes document
+      → first_fault (faults (deck_of document)) ≡ Some why
       → RefusesCheck bytes (page.Deck why)

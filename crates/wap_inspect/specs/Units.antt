@@ -11,7 +11,8 @@ unit_line unit = codes "ok unit functions=" ++ (decimal (length unit.functions) 
 
 -- the bytes are a unit that may be run, and this is its line
 abbrev pub IsVerifyLine : List ℕ → List ℕ → Type 0
-IsVerifyLine bytes line = (unit : Unit) × IsUnit bytes unit × IsVerified unit × (line ≡ unit_line unit)
+IsVerifyLine bytes line =
+    (unit : Unit) × IsUnit bytes unit × IsVerified unit × (line ≡ unit_line unit)
 
 -- the bytes are a unit, and this is its listing
 abbrev pub IsListing : List ℕ → List ℕ → Type 0

@@ -15,9 +15,8 @@ use itoa::Buffer;
 use std::alloc::Global;
 use wap_base::{Bytes, NoMemory};
 use wap_deck::deck_of;
-use wap_deckcheck::check;
-use wap_good::GoodDeck;
-use wap_markup::Document;
+use wap_deckcheck::{card_count, judge_deck};
+use wap_markup::{Deck, Document};
 use wap_pages::PageErr;
 use wap_spelling::{documents_are_spellable, encode};
 use wap_wbxml::decode;
@@ -54,8 +53,8 @@ pub fn canonical(alloc: Global, bytes: &[u8]) -> Result<Bytes, PageErr>
     }
 }
 
-/// The good deck that a document means.
-fn good_deck_of(alloc: Global, document: &Document) -> Result<GoodDeck, PageErr>
+/// The deck that a document means, if it is good.
+fn good_deck_of(alloc: Global, document: &Document) -> Result<Deck, PageErr>
     ensures found { IfOk result (λ deck. deck ≡ deck_of document.now × IsGood deck) }
     ensures only { IsGood (deck_of document.now)
         → Meets error.NoMemory (λ deck. deck) result (Ok (deck_of document.now)) }
@@ -63,16 +62,16 @@ fn good_deck_of(alloc: Global, document: &Document) -> Result<GoodDeck, PageErr>
         → IsDeckRefused document.now fault }
 {
     match deck_of(alloc, document) {
-        Ok(deck) => match check(alloc, deck) {
-            Ok(deck) => Ok(deck),
-            Err((_, fault)) => Err(PageErr::from(fault)),
+        Ok(deck) => match judge_deck(alloc, &deck) {
+            Ok(()) => Ok(deck),
+            Err(fault) => Err(PageErr::from(fault)),
         },
         Err(NoMemory) => Err(PageErr::NoMemory),
     }
 }
 
-/// The good deck that a page is.
-fn deck_in(alloc: Global, bytes: &[u8]) -> Result<GoodDeck, PageErr>
+/// The deck of a page, if it is good.
+fn deck_in(alloc: Global, bytes: &[u8]) -> Result<Deck, PageErr>
     ensures found { IfOk result (λ deck. IsDeckOf bytes.now deck) }
     ensures only { (document : Document) → IsDocument bytes.now document
         → IsGood (deck_of document)
@@ -103,11 +102,11 @@ pub fn check_line(alloc: Global, bytes: &[u8]) -> Result<Bytes, PageErr>
     }
 }
 
-fn line_of(alloc: Global, deck: &GoodDeck) -> Result<Bytes, NoMemory>
+fn line_of(alloc: Global, deck: &Deck) -> Result<Bytes, NoMemory>
     ensures { IfOk result (λ line. line ≡ deck_line deck.now) }
 {
     let mut buffer = Buffer::new();
-    let count = buffer.format(deck.card_count());
+    let count = buffer.format(card_count(deck));
     let mut line = Bytes::of(alloc, b"ok deck cards=")?;
     line.add(count.as_bytes())?;
     line.add(b"\n")?;

@@ -1,10 +1,13 @@
 -- The tables' rows as a program has them, their lists lent.
-use Rattle.std.specs.Prelude.{ℕ, Bool, true, nat_lt, List, map}
+use Rattle.std.specs.Prelude.{ℕ, Bool, true, not, ◌||◌, nat_lt, List, map}
 use Rattle.std.specs.List.{list_all}
 use Rattle.std.specs.Borrow.{Bor}
 use Rattle.wap_markup.specs.declared.name.Tag.{Tag}
 use Rattle.wap_markup.specs.declared.name.AttrName.{AttrName}
-use Rattle.wap_markup.specs.Good.{Rule, Form, words, variable, optional_variable, plain}
+use Rattle.wap_markup.specs.declared.deck.Node.{Node}
+use Rattle.wap_markup.specs.Tables.{is_same_tag}
+use Rattle.wap_markup.specs.Good.{Rule, Form, words, variable, optional_variable}
+use Rattle.wap_markup.specs.Good.{plain, forms, all_have}
 use Rattle.wap_deckcheck.specs.declared.forms.LentForm.{LentForm}
 use Rattle.wap_deckcheck.specs.declared.forms.LentForm.TheVariants as lent
 
@@ -13,12 +16,20 @@ groups_of = map (λ group. group.now)
 
 abbrev pub LentRule : Type 0
 LentRule =
-    Tag × Bor (List (Bor (List Tag))) × Bool × Bool × Bor (List (Bor (List Tag))) × Bor (List Tag) × Bor (List AttrName)
+    Tag × Bor (List (Bor (List Tag))) × Bool × Bool × Bor (List (Bor (List Tag))) × Bor (List Tag)
+    × Bor (List AttrName)
 
 abbrev pub rule_row : LentRule → Tag × Rule
 rule_row row = (
   row.0,
-  record { groups = groups_of row.1.now; in_order = row.2; text = row.3; once = groups_of row.4.now; needs = row.5.now; attributes = row.6.now },
+  record {
+    groups = groups_of row.1.now;
+    in_order = row.2;
+    text = row.3;
+    once = groups_of row.4.now;
+    needs = row.5.now;
+    attributes = row.6.now;
+  },
 )
 
 abbrev pub words_of : List (Bor (List ℕ)) → List (List ℕ)
@@ -40,5 +51,7 @@ form_of lent.Variable = variable
 form_of lent.OptionalVariable = optional_variable
 form_of lent.Plain = plain
 
-abbrev pub form_row : Tag × AttrName × LentForm → Tag × AttrName × Form
-form_row row = (row.0, row.1, form_of row.2)
+-- whether the attributes of a node that have a form in elements of this tag are of that form
+abbrev pub has_forms_as : Tag → Node → Bool
+has_forms_as tag node =
+    list_all (λ form. not (is_same_tag tag form.0) || all_have form.1 form.2 node) forms

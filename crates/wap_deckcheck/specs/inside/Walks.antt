@@ -21,7 +21,8 @@ Inner = List (List ℕ) → List ℕ → Node → List Place
 
 -- the faults of a node at a path, and of what is in it, by what it is told apart and by the places
 -- in it
-abbrev pub inner_faults : (Node → Option (List ℕ)) → Inner → List (List ℕ) → List ℕ → Option Node → List DeckFault
+abbrev pub inner_faults : (Node → Option (List ℕ)) → Inner → List (List ℕ) → List ℕ → Option Node
+    → List DeckFault
 inner_faults own inner others path None = []
 inner_faults own inner others path (Some node) =
     own_faults path node ++
@@ -29,9 +30,11 @@ inner_faults own inner others path (Some node) =
     judged (inner (others ++ option_to_list (own node)) path node))
 
 -- the faults of an item at a path, and of what is in it
-abbrev pub item_faults : (Node → Option (List ℕ)) → Inner → List (List ℕ) → List ℕ → Rule → List Item → Item → List DeckFault
+abbrev pub item_faults : (Node → Option (List ℕ)) → Inner → List (List ℕ) → List ℕ → Rule
+    → List Item → Item → List DeckFault
 item_faults own inner others path rule earlier item =
-    fault_if (is_misplaced rule earlier item) (fault.Child path) ++ inner_faults own inner others path (node_of item)
+    fault_if (is_misplaced rule earlier item) (fault.Child path) ++
+    inner_faults own inner others path (node_of item)
 
 -- the places in whatever stands right under the root
 abbrev pub top_places : List (List ℕ) → List ℕ → Node → List Place

@@ -8,4 +8,8 @@ use Rattle.wap_deckcheck.proofs.forms.all_have.Given as goal
 
 -- what is left tells it
 abbrev pub invariant-loop-attr : goal.invariant-loop-attr
-invariant-loop-attr l = list_all (λ a. not (is_same_attr a.0 l.name) || value_has (form_of l.form) (plain_text a.1)) (drop l.attr-index l.attrs) ≡ list_all (λ a. not (is_same_attr a.0 l.name) || value_has (form_of l.form) (plain_text a.1)) l.attrs
+invariant-loop-attr l =
+    list_all (λ a. not (is_same_attr a.0 l.name) || value_has (form_of l.form) (plain_text a.1))
+    (drop l.attr-index l.attrs)
+    ≡ list_all
+    (λ a. not (is_same_attr a.0 l.name) || value_has (form_of l.form) (plain_text a.1)) l.attrs

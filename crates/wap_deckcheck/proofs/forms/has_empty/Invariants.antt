@@ -7,4 +7,6 @@ use Rattle.wap_deckcheck.proofs.forms.has_empty.Given as goal
 
 -- what is left tells it
 abbrev pub invariant-loop-word : goal.invariant-loop-word
-invariant-loop-word l = list_any (is_same_text []) (words_of (drop l.word-index l.words)) ≡ list_any (is_same_text []) (words_of l.words)
+invariant-loop-word l =
+    list_any (is_same_text []) (words_of (drop l.word-index l.words))
+    ≡ list_any (is_same_text []) (words_of l.words)

@@ -5,4 +5,6 @@ use Rattle.wap_deckcheck.proofs.rules.has_all.Given as goal
 
 -- what is left tells it
 abbrev pub invariant-loop-name : goal.invariant-loop-name
-invariant-loop-name l = list_all (has_attribute l.node) (drop l.name-index l.names) ≡ list_all (has_attribute l.node) l.names
+invariant-loop-name l =
+    list_all (has_attribute l.node) (drop l.name-index l.names)
+    ≡ list_all (has_attribute l.node) l.names

@@ -7,4 +7,7 @@ use Rattle.wap_deckcheck.proofs.rules.has_attribute.Given as goal
 
 -- what is left tells it
 abbrev pub invariant-loop-attr : goal.invariant-loop-attr
-invariant-loop-attr l = is_some (option_map (λ a. a.1) (find (λ a. is_same_attr a.0 l.name) (drop l.attr-index l.attr-items))) ≡ has_attribute l.node l.name
+invariant-loop-attr l =
+    is_some
+    (option_map (λ a. a.1) (find (λ a. is_same_attr a.0 l.name) (drop l.attr-index l.attr-items)))
+    ≡ has_attribute l.node l.name

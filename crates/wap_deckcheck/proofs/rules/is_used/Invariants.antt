@@ -5,4 +5,6 @@ use Rattle.wap_deckcheck.proofs.rules.is_used.Given as goal
 
 -- what is left tells it
 abbrev pub invariant-loop-item : goal.invariant-loop-item
-invariant-loop-item l = list_any (is_among l.group) (tags_of (drop l.item-index l.items)) ≡ list_any (is_among l.group) (tags_of l.items)
+invariant-loop-item l =
+    list_any (is_among l.group) (tags_of (drop l.item-index l.items))
+    ≡ list_any (is_among l.group) (tags_of l.items)

@@ -6,4 +6,8 @@ use Rattle.wap_deckcheck.proofs.rules.is_used_with.Given as goal
 
 -- what is left tells it
 abbrev pub invariant-loop-group : goal.invariant-loop-group
-invariant-loop-group l = list_any (λ group. is_among group l.tag && list_any (is_among group) (tags_of l.items)) (groups_of (drop l.group-index l.groups)) ≡ list_any (λ group. is_among group l.tag && list_any (is_among group) (tags_of l.items)) (groups_of l.groups)
+invariant-loop-group l =
+    list_any (λ group. is_among group l.tag && list_any (is_among group) (tags_of l.items))
+    (groups_of (drop l.group-index l.groups))
+    ≡ list_any (λ group. is_among group l.tag && list_any (is_among group) (tags_of l.items))
+    (groups_of l.groups)

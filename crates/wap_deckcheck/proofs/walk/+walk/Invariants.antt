@@ -17,8 +17,11 @@ decreases-judge_kids l = 3 * l.levels
 abbrev pub invariant-judge_kids-loop-number : goal.invariant-judge_kids-loop-number
 invariant-judge_kids-loop-number l = record {
   path : l.walk.path ≡ l.initial.walk.path;
-  names : l.walk.names ≡ l.initial.walk.names ++ names_among l.apart l.levels (take l.number l.kids);
+  names : l.walk.names
+      ≡ l.initial.walk.names ++ names_among l.apart l.levels (take l.number l.kids);
   reached : HasReached l.rule (take l.number l.kids) l.reached;
-  faults : judged (items_places (names_level (node_places (l.levels - 1) l.apart) l.apart l.levels l.initial.walk.names) l.initial.walk.path l.rule (take l.number l.kids) (drop l.number l.kids))
+  faults : judged (items_places
+      (names_level (node_places (l.levels - 1) l.apart) l.apart l.levels l.initial.walk.names)
+      l.initial.walk.path l.rule (take l.number l.kids) (drop l.number l.kids))
       ≡ judged (node_places l.levels l.apart l.initial.walk.names l.initial.walk.path l.node);
 }

@@ -11,5 +11,6 @@ invariant-loop-number l = record {
   path : l.walk.path ≡ [];
   names : l.walk.names ≡ ids_among (take l.number l.kids);
   reached : HasReached l.rule (take l.number l.kids) l.reached;
-  faults : judged (items_places ids_level [] l.rule (take l.number l.kids) (drop l.number l.kids)) ≡ judged (items_places ids_level [] (rule_of l.root.tag) [] l.root.kids);
+  faults : judged (items_places ids_level [] l.rule (take l.number l.kids) (drop l.number l.kids))
+      ≡ judged (items_places ids_level [] (rule_of l.root.tag) [] l.root.kids);
 }

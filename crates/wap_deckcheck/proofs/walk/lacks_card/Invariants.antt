@@ -7,4 +7,6 @@ use Rattle.wap_deckcheck.proofs.walk.lacks_card.Given as goal
 
 -- what is left tells it
 abbrev pub invariant-loop-item : goal.invariant-loop-item
-invariant-loop-item l = lacks_card (filter_map (node_with Card) (drop l.item-index l.items)) ≡ lacks_card (filter_map (node_with Card) l.items)
+invariant-loop-item l =
+    lacks_card (filter_map (node_with Card) (drop l.item-index l.items))
+    ≡ lacks_card (filter_map (node_with Card) l.items)

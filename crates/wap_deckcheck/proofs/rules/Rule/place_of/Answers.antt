@@ -6,4 +6,7 @@ use Rattle.wap_deckcheck.proofs.rules.Rule.place_of.Goals as goal
 
 pub returns : goal.returns
 returns c =
-    c.place_in.ensures ∙ sym (position_from-zero (λ group. is_among group c.args.tag) (groups_of c.self.inside.groups.now)) ∙ ap (λ (rule : Rule). place_in rule.groups c.args.tag) c.self.view_is
+    c.place_in.ensures
+    ∙ sym
+    (position_from-zero (λ group. is_among group c.args.tag) (groups_of c.self.inside.groups.now))
+    ∙ ap (λ (rule : Rule). place_in rule.groups c.args.tag) c.self.view_is
