@@ -1,5 +1,6 @@
 -- Entering cards.
-use Rattle.std.proofs.Common.{◌≡◌, ◌∙◌, Bool, true, false, List, [], ◌∷◌, ◌++◌, Option, Some, None, Ok, Err, refl, sym, ap, ap₂, subst, append_assoc, append-nil}
+use Rattle.std.proofs.Common.{◌≡◌, ◌∙◌, Bool, true, false, List, [], ◌∷◌, ◌++◌, Option, Some, None}
+use Rattle.std.proofs.Common.{Ok, Err, refl, sym, ap, ap₂, subst, append_assoc, append-nil}
 use Rattle.std.specs.Prelude.{Result, if◌then◌else◌, nat_lt, length, drop}
 use Rattle.wap_markup.specs.Cards.{cards_of}
 use Rattle.std.specs.Option.{option_and_then}
@@ -23,15 +24,19 @@ use Rattle.wap_world.specs.declared.refusal.Refusal.TheVariants as refusals
 use Rattle.wap_world.specs.History.{pushed, entry_of, in_deck, back_at, all_but_last}
 use Rattle.wap_world.specs.Tasks.{after_step, card_for, is_new_context, in_context}
 use Rattle.wap_context.specs.Browsers.{Browser, IsOver, place_held}
-use Rattle.wap_context.specs.inside.Held.{not_started, show_at, leave_and_set_at, event_at, entered_at, enter_at, arrive_at, arrive_if_at, return_at, refused_at, with_deck_at}
+use Rattle.wap_context.specs.inside.Held.{not_started, show_at, leave_and_set_at, event_at}
+use Rattle.wap_context.specs.inside.Held.{entered_at, enter_at, arrive_at, arrive_if_at}
+use Rattle.wap_context.specs.inside.Held.{return_at, refused_at, with_deck_at}
 use Rattle.wap_context.specs.inside.Moving.{Line, PlaysAt, Moves, HasDeck, Answers}
 use Rattle.wap_context.proofs.Places.{last_pushed}
 use Rattle.wap_context.proofs.Plays.{history_kept, turns_kept, over_kept}
 
 -- a scene that settles a navigation
-pub moves_settled : (rule : Option Place → World → Scene) (old new : Browser) (before after : List Line)
+pub moves_settled : (rule : Option Place → World → Scene) (old new : Browser)
+    (before after : List Line)
     → PlaysAt rule old new before after
-    → Moves (settled (quiet [] (rule (place_held old) old.world))) (λ pages. IsOver pages old) old new before after None
+    → Moves (settled (quiet [] (rule (place_held old) old.world)))
+    (λ pages. IsOver pages old) old new before after None
 moves_settled rule old new before after one =
     let scene = rule (place_held old) old.world in
     record {
@@ -41,16 +46,21 @@ moves_settled rule old new before after one =
       keys = refl;
       asked = refl;
       turns = turns_kept scene old.world new.world before after one.plays;
-      over = λ pages over. over_kept pages old new one.deck (history_kept scene old.world new.world before after one.plays) over;
+      over =
+          λ pages over. over_kept pages old new one.deck
+          (history_kept scene old.world new.world before after one.plays) over;
     }
 
-abbrev Entered : Event → Browser → Browser → List Line → List Line → Option Task → Option Task → Type 0
+abbrev Entered : Event → Browser → Browser → List Line → List Line → Option Task
+    → Option Task → Type 0
 Entered event old new before after next task =
-    Moves (entered_at (place_held old) (not_started old).world task) (λ pages. IsOver pages old) old new before after next
+    Moves (entered_at (place_held old) (not_started old).world task)
+    (λ pages. IsOver pages old) old new before after next
 
 pub enter_some : (event : Event) (old : Browser) (lines : List Line) (task : Task)
     → Some task ≡ event_at event (place_held old) (not_started old).world
-    → Moves (enter_at event (place_held old) old.world) (λ pages. IsOver pages old) old (not_started old) lines lines (Some task)
+    → Moves (enter_at event (place_held old) old.world) (λ pages. IsOver pages old) old
+    (not_started old) lines lines (Some task)
 enter_some event old lines task is =
     subst (Entered event old (not_started old) lines lines (Some task)) is
     (record {
@@ -66,7 +76,8 @@ enter_some event old lines task is =
 pub enter_none : (event : Event) (old new : Browser) (before after : List Line)
     → None ≡ event_at event (place_held old) (not_started old).world
     → PlaysAt show_at (not_started old) new before after
-    → Moves (enter_at event (place_held old) old.world) (λ pages. IsOver pages old) old new before after None
+    → Moves (enter_at event (place_held old) old.world)
+    (λ pages. IsOver pages old) old new before after None
 enter_none event old new before after is shown =
     let moves = moves_settled show_at (not_started old) new before after shown in
     subst (Entered event old new before after None) is
@@ -83,27 +94,36 @@ enter_none event old new before after is shown =
 abbrev EventIs : Event → Option Task → Browser → Type 0
 EventIs event task browser = task ≡ event_at event (place_held browser) browser.world
 
-pub enter_some_at : (event : Event) (old mid : Browser) (lines : List Line) (found : Option Task) (task : Task)
+pub enter_some_at : (event : Event) (old mid : Browser) (lines : List Line)
+    (found : Option Task) (task : Task)
     → mid ≡ not_started old → EventIs event found mid → found ≡ Some task
-    → Moves (enter_at event (place_held old) old.world) (λ pages. IsOver pages old) old mid lines lines (Some task)
+    → Moves (enter_at event (place_held old) old.world)
+    (λ pages. IsOver pages old) old mid lines lines (Some task)
 enter_some_at event old mid lines found task is here there =
-    subst (λ (b : Browser). Moves (enter_at event (place_held old) old.world) (λ pages. IsOver pages old) old b lines lines (Some task))
+    subst (λ (b : Browser).
+    Moves (enter_at event (place_held old) old.world)
+    (λ pages. IsOver pages old) old b lines lines (Some task))
     (sym is)
     (enter_some event old lines task (sym there ∙ subst (EventIs event found) is here))
 
-pub enter_none_at : (event : Event) (old mid new : Browser) (before after : List Line) (found : Option Task)
-    → mid ≡ not_started old → EventIs event found mid → found ≡ None → PlaysAt show_at mid new before after
-    → Moves (enter_at event (place_held old) old.world) (λ pages. IsOver pages old) old new before after None
+pub enter_none_at : (event : Event) (old mid new : Browser) (before after : List Line)
+    (found : Option Task)
+    → mid ≡ not_started old → EventIs event found mid → found ≡ None
+    → PlaysAt show_at mid new before after
+    → Moves (enter_at event (place_held old) old.world)
+    (λ pages. IsOver pages old) old new before after None
 enter_none_at event old mid new before after found is here there shown =
     enter_none event old new before after (sym there ∙ subst (EventIs event found) is here)
     (subst (λ (b : Browser). PlaysAt show_at b new before after) is shown)
 
 -- a card that is left, and another that is entered
-module _ (sets : Pairs) (event : Event) (old left mid new : Browser) (before shown after : List Line)
+module _ (sets : Pairs) (event : Event) (old left mid new : Browser)
+    (before shown after : List Line)
     (next : Option Task) (entry : Entry) (deck : Deck)
     (leaves : PlaysAt (leave_and_set_at sets) old left before shown)
     (there : place_held mid ≡ place_in entry deck)
-    (enters : Moves (enter_at event (place_held mid) mid.world) (λ pages. IsOver pages mid) mid new shown after next) where
+    (enters : Moves (enter_at event (place_held mid) mid.world)
+    (λ pages. IsOver pages mid) mid new shown after next) where
   abbrev scene : Scene
   scene = leave_and_set_at sets (place_held old) old.world
 
@@ -111,8 +131,10 @@ module _ (sets : Pairs) (event : Event) (old left mid new : Browser) (before sho
   entered world = enter_at event (place_in entry deck) world
 
   pub moves_on : (url : Url) (inside : World → World) → mid.world ≡ inside left.world
-      → mid.world.turns ≡ left.world.turns → ((pages : Pages) → HasDeck url deck pages → IsOver pages mid)
-      → Moves (after_step (quiet [] scene) (entered (inside scene.world))) (HasDeck url deck) old new before after next
+      → mid.world.turns ≡ left.world.turns
+      → ((pages : Pages) → HasDeck url deck pages → IsOver pages mid)
+      → Moves (after_step (quiet [] scene) (entered (inside scene.world)))
+      (HasDeck url deck) old new before after next
   moves_on url inside mid_is turns over =
       let world : mid.world ≡ inside scene.world = mid_is ∙ ap inside leaves.plays.world in
       let onces : enter_at event (place_held mid) mid.world ≡ entered (inside scene.world) =
@@ -120,29 +142,37 @@ module _ (sets : Pairs) (event : Event) (old left mid new : Browser) (before sho
       record {
         world = enters.world ∙ ap (λ (o : Once). o.step.world) onces;
         lines = enters.lines
-            ∙ ap₂ (λ (l m : List Line). l ++ m) leaves.plays.lines (ap (λ (o : Once). o.step.lines) onces)
+            ∙ ap₂ (λ (l m : List Line). l ++ m) leaves.plays.lines
+            (ap (λ (o : Once). o.step.lines) onces)
             ∙ append_assoc before scene.lines (entered (inside scene.world)).step.lines;
         leads = enters.leads ∙ ap (λ (o : Once). o.next) onces;
         keys = sym (ap (λ (o : Once). o.step.keys) onces) ∙ enters.keys;
         asked = sym (ap (λ (o : Once). o.step.asked) onces) ∙ enters.asked;
-        turns = enters.turns ∙ turns ∙ turns_kept scene old.world left.world before shown leaves.plays;
+        turns =
+            enters.turns ∙ turns ∙ turns_kept scene old.world left.world before shown leaves.plays;
         over = λ pages has. enters.over pages (over pages has);
       }
 
 -- ---- the place after a push
 
 pub place_pushed : (history : List Entry) (entry : Entry) (mid : Browser) (deck : Deck)
-    → mid.world.history ≡ history ++ entry ∷ [] → mid.deck ≡ Some deck → place_held mid ≡ place_in entry deck
+    → mid.world.history ≡ history ++ entry ∷ [] → mid.deck ≡ Some deck
+    → place_held mid ≡ place_in entry deck
 place_pushed history entry mid deck is held =
     let last : last_entry mid.world ≡ Some entry =
-    ap (λ (h : List Entry). last_entry (record mid.world { history = h })) is ∙ last_pushed None history entry in
-    ap₂ (λ (d : Option Deck) (e : Option Entry). option_and_then (λ (one : Entry). option_and_then (place_in one) d) e) held last
+    ap (λ (h : List Entry). last_entry (record mid.world { history = h })) is
+    ∙ last_pushed None history entry in
+    ap₂ (λ (d : Option Deck) (e : Option Entry).
+    option_and_then (λ (one : Entry). option_and_then (place_in one) d) e) held last
 
-pub over_pushed : (history : List Entry) (entry : Entry) (mid : Browser) (deck : Deck) (pages : Pages)
-    → mid.world.history ≡ history ++ entry ∷ [] → mid.deck ≡ Some deck → deck_at pages entry.url ≡ Some deck → IsOver pages mid
+pub over_pushed : (history : List Entry) (entry : Entry) (mid : Browser)
+    (deck : Deck) (pages : Pages)
+    → mid.world.history ≡ history ++ entry ∷ [] → mid.deck ≡ Some deck
+    → deck_at pages entry.url ≡ Some deck → IsOver pages mid
 over_pushed history entry mid deck pages is held has =
     let last : last_entry mid.world ≡ Some entry =
-    ap (λ (h : List Entry). last_entry (record mid.world { history = h })) is ∙ last_pushed None history entry in
+    ap (λ (h : List Entry). last_entry (record mid.world { history = h })) is
+    ∙ last_pushed None history entry in
     ap (option_and_then (λ (one : Entry). deck_at pages one.url)) last ∙ has ∙ sym held
 
 -- the deck that answers is the pages'
@@ -152,43 +182,62 @@ has_deck deck (page.Words text) is = absurd (cc)
 has_deck deck page.Refused is = absurd (cc)
 has_deck deck page.Missing is = absurd (cc)
 
-pub context_turns : (new : Bool) (w : World) → (if new then record w { vars = []; history = [] } else w).turns ≡ w.turns
+pub context_turns : (new : Bool) (w : World)
+    → (if new then record w { vars = []; history = [] } else w).turns ≡ w.turns
 context_turns true w = refl
 context_turns false w = refl
 
-pub in_deck_url : (b : Bool) (entry : Entry) → (if b then entry else record entry { card = 0 }).url ≡ entry.url
+pub in_deck_url : (b : Bool) (entry : Entry)
+    → (if b then entry else record entry { card = 0 }).url ≡ entry.url
 in_deck_url true entry = refl
 in_deck_url false entry = refl
 
-pub arrives : (sets : Pairs) (url : Url) (deck : Deck) (old left mid new : Browser) (before shown after : List Line) (next : Option Task)
+pub arrives : (sets : Pairs) (url : Url) (deck : Deck) (old left mid new : Browser)
+    (before shown after : List Line) (next : Option Task)
     → PlaysAt (leave_and_set_at sets) old left before shown
-    → mid ≡ record { world = pushed (in_context deck (card_for deck url) left.world) (entry_of url (card_for deck url)); deck = Some deck }
-    → Moves (enter_at Forward (place_held mid) mid.world) (λ pages. IsOver pages mid) mid new shown after next
-    → Moves (arrive_at sets url (place_held old) old.world deck) (HasDeck url deck) old new before after next
+    → mid ≡ record {
+      world =
+          pushed (in_context deck (card_for deck url) left.world)
+          (entry_of url (card_for deck url));
+      deck = Some deck;
+    }
+    → Moves (enter_at Forward (place_held mid) mid.world)
+    (λ pages. IsOver pages mid) mid new shown after next
+    → Moves (arrive_at sets url (place_held old) old.world deck)
+    (HasDeck url deck) old new before after next
 arrives sets url deck old left mid new before shown after next leaves mid_is enters =
     let number = card_for deck url in
     let entry = entry_of url number in
     let context = in_context deck number left.world in
-    let kept = if nat_lt (length context.history) context.limits.history then context.history else drop 1 context.history in
-    let history : mid.world.history ≡ kept ++ entry ∷ [] = ap (λ (b : Browser). b.world.history) mid_is in
+    let kept =
+    if nat_lt (length context.history) context.limits.history then context.history
+    else drop 1 context.history in
+    let history : mid.world.history ≡ kept ++ entry ∷ [] =
+    ap (λ (b : Browser). b.world.history) mid_is in
     let held : mid.deck ≡ Some deck = ap (λ (b : Browser). b.deck) mid_is in
     moves_on sets Forward old left mid new before shown after next entry deck leaves
     (place_pushed kept entry mid deck history held) enters url
     (λ w. pushed (in_context deck number w) entry) (ap (λ (b : Browser). b.world) mid_is)
-    (ap (λ (b : Browser). b.world.turns) mid_is ∙ context_turns (is_new_context deck number) left.world)
+    (ap (λ (b : Browser). b.world.turns) mid_is
+    ∙ context_turns (is_new_context deck number) left.world)
     (λ pages has. over_pushed kept entry mid deck pages history held has)
 
-pub returns_to : (sets : Pairs) (earlier : Entry) (deck : Deck) (old left mid new : Browser) (before shown after : List Line) (next : Option Task)
+pub returns_to : (sets : Pairs) (earlier : Entry) (deck : Deck) (old left mid new : Browser)
+    (before shown after : List Line) (next : Option Task)
     → PlaysAt (leave_and_set_at sets) old left before shown
     → mid ≡ record { world = back_at left.world (in_deck deck earlier); deck = Some deck }
-    → Moves (enter_at Backward (place_held mid) mid.world) (λ pages. IsOver pages mid) mid new shown after next
-    → Moves (return_at sets earlier (place_held old) old.world deck) (HasDeck earlier.url deck) old new before after next
+    → Moves (enter_at Backward (place_held mid) mid.world)
+    (λ pages. IsOver pages mid) mid new shown after next
+    → Moves (return_at sets earlier (place_held old) old.world deck)
+    (HasDeck earlier.url deck) old new before after next
 returns_to sets earlier deck old left mid new before shown after next leaves mid_is enters =
     let entry = in_deck deck earlier in
     let kept = all_but_last (all_but_last left.world.history) in
-    let history : mid.world.history ≡ kept ++ entry ∷ [] = ap (λ (b : Browser). b.world.history) mid_is in
+    let history : mid.world.history ≡ kept ++ entry ∷ [] =
+    ap (λ (b : Browser). b.world.history) mid_is in
     let held : mid.deck ≡ Some deck = ap (λ (b : Browser). b.deck) mid_is in
-    let url : entry.url ≡ earlier.url = in_deck_url (nat_lt earlier.card (length (cards_of deck))) earlier in
+    let url : entry.url ≡ earlier.url =
+    in_deck_url (nat_lt earlier.card (length (cards_of deck))) earlier in
     moves_on sets Backward old left mid new before shown after next entry deck leaves
     (place_pushed kept entry mid deck history held) enters earlier.url
     (λ w. back_at w entry) (ap (λ (b : Browser). b.world) mid_is)
@@ -197,8 +246,10 @@ returns_to sets earlier deck old left mid new before shown after next leaves mid
 
 -- ---- answers
 
-pub moves_where : (once : Once) (These Others : Pages → Type 0) (old new : Browser) (before after : List Line) (next : Option Task)
-    → ((pages : Pages) → Others pages → These pages) → Moves once These old new before after next → Moves once Others old new before after next
+pub moves_where : (once : Once) (These Others : Pages → Type 0) (old new : Browser)
+    (before after : List Line) (next : Option Task)
+    → ((pages : Pages) → Others pages → These pages) → Moves once These old new before after next
+    → Moves once Others old new before after next
 moves_where once These Others old new before after next onto moves = record {
   world = moves.world;
   lines = moves.lines;
@@ -209,10 +260,13 @@ moves_where once These Others old new before after next onto moves = record {
   over = λ pages so. moves.over pages (onto pages so);
 }
 
-module _ (rule : Deck → Once) (url : Url) (old new : Browser) (before after : List Line) (next : Option Task)
+module _ (rule : Deck → Once) (url : Url) (old new : Browser) (before after : List Line)
+    (next : Option Task)
     (answer : Result Deck Refusal) where
   abbrev MovesBy : Result Deck Refusal → Type 0
-  MovesBy one = Moves (with_deck_at (place_held old) old.world rule one) (Answers url one old) old new before after next
+  MovesBy one =
+      Moves (with_deck_at (place_held old) old.world rule one)
+      (Answers url one old) old new before after next
 
   pub moves_ok : (deck : Deck) (These : Pages → Type 0) → answer ≡ Ok deck
       → ((pages : Pages) → IsOver pages old → HasDeck url deck pages → These pages)
@@ -222,18 +276,25 @@ module _ (rule : Deck → Once) (url : Url) (old new : Browser) (before after : 
       (λ pages so. onto pages so.0 (has_deck deck (page_of (name_for url) pages) so.1)) moves)
 
   pub moves_no : (refusal : Refusal) → answer ≡ Err refusal
-      → Moves (refused_at refusal (place_held old) old.world) (λ pages. IsOver pages old) old new before after next → MovesBy answer
+      → Moves (refused_at refusal (place_held old) old.world)
+      (λ pages. IsOver pages old) old new before after next
+      → MovesBy answer
   moves_no refusal is moves = subst MovesBy (sym is)
-      (moves_where (refused_at refusal (place_held old) old.world) (λ pages. IsOver pages old) (Answers url (Err refusal) old) old new before after next
+      (moves_where (refused_at refusal (place_held old) old.world) (λ pages. IsOver pages old)
+      (Answers url (Err refusal) old) old new before after next
       (λ pages so. so.0) moves)
 
-module _ (sets : Pairs) (caller : Option Url) (url : Url) (deck : Deck) (old new : Browser) (before after : List Line) (next : Option Task) where
+module _ (sets : Pairs) (caller : Option Url) (url : Url) (deck : Deck) (old new : Browser)
+    (before after : List Line) (next : Option Task) where
   abbrev Tries : Bool → Type 0
-  Tries b = Moves (after_step (test [] (test_of url caller deck) old.world) (arrive_if_at sets url (place_held old) old.world deck b))
+  Tries b =
+      Moves (after_step (test [] (test_of url caller deck) old.world)
+      (arrive_if_at sets url (place_held old) old.world deck b))
       (λ pages. IsOver pages old × HasDeck url deck pages) old new before after next
 
   pub tries_allowed : may_enter url deck caller ≡ true
-      → Moves (arrive_at sets url (place_held old) old.world deck) (HasDeck url deck) old new before after next
+      → Moves (arrive_at sets url (place_held old) old.world deck)
+      (HasDeck url deck) old new before after next
       → Tries (may_enter url deck caller)
   tries_allowed is moves = subst Tries (sym is) (record {
     world = moves.world;
@@ -246,7 +307,8 @@ module _ (sets : Pairs) (caller : Option Url) (url : Url) (deck : Deck) (old new
   })
 
   pub tries_denied : may_enter url deck caller ≡ false
-      → Moves (refused_at refusals.Denied (place_held old) old.world) (λ pages. IsOver pages old) old new before after next
+      → Moves (refused_at refusals.Denied (place_held old) old.world)
+      (λ pages. IsOver pages old) old new before after next
       → Tries (may_enter url deck caller)
   tries_denied is moves = subst Tries (sym is) (record {
     world = moves.world;

@@ -1,5 +1,5 @@
 -- The deck at hand is the one that pages have under the URL of the place.
-use Rattle.std.proofs.Common.{◌≡◌, ◌∙◌, ℕ, Bool, true, false, List, Option, Some, None, refl, sym, ap, subst}
+use Rattle.std.proofs.Common.{◌≡◌, ◌∙◌, Bool, true, false, Option, Some, None, refl, sym, ap, subst}
 use Rattle.std.specs.Prelude.{if◌then◌else◌}
 use Rattle.std.specs.List.{slice_get}
 use Rattle.std.specs.Option.{option_map, option_and_then}
@@ -36,7 +36,8 @@ card_held told entry deck place (Some card) held has =
 
 entry_held : (told : Pages) (last : Option Entry) (deck : Option Deck) (place : Place)
     → option_and_then (λ (e : Entry). option_and_then (place_in e) deck) last ≡ Some place
-    → option_and_then (λ (e : Entry). deck_at told e.url) last ≡ deck → HasDeck place.url place.deck told
+    → option_and_then (λ (e : Entry). deck_at told e.url) last ≡ deck
+    → HasDeck place.url place.deck told
 entry_held told None deck place held over = absurd (cc)
 entry_held told (Some entry) None place held over = absurd (cc)
 entry_held told (Some entry) (Some deck) place held over =
@@ -57,20 +58,25 @@ found_if told place page true is has =
     subst (λ (one : Page). HasDeck one.0 one.1 told) same has
 found_if told place page false is has = absurd (cc)
 
-found_has : (told : Pages) (browser : Browser) (place : Option Place) (test : Place → Bool) (page : Page)
+found_has : (told : Pages) (browser : Browser) (place : Option Place)
+    (test : Place → Bool) (page : Page)
     → place_held browser ≡ place → IsOver told browser
-    → option_and_then (λ (p : Place). if test p then Some (page_of_place p) else None) place ≡ Some page
+    → option_and_then (λ (p : Place). if test p then Some (page_of_place p) else None) place
+    ≡ Some page
     → HasDeck page.0 page.1 told
 found_has told browser None test page held over is = absurd (cc)
 found_has told browser (Some place) test page held over is =
     found_if told place page (test place) is (held_has told browser place held over)
 
-pub under_has : (browser : Browser) (url : Url) (page : Page) → Some page ≡ page_under url (place_held browser)
+pub under_has : (browser : Browser) (url : Url) (page : Page)
+    → Some page ≡ page_under url (place_held browser)
     → (told : Pages) → IsOver told browser → HasDeck page.0 page.1 told
 under_has browser url page is told over =
-    found_has told browser (place_held browser) (λ p. is_same_page url p.url) page refl over (sym is)
+    found_has told browser (place_held browser)
+    (λ p. is_same_page url p.url) page refl over (sym is)
 
-pub here_has : (browser : Browser) (one : Request) (page : Page) → Some page ≡ page_here one (place_held browser)
+pub here_has : (browser : Browser) (one : Request) (page : Page)
+    → Some page ≡ page_here one (place_held browser)
     → (told : Pages) → IsOver told browser → HasDeck page.0 page.1 told
 here_has browser one page is told over =
     found_has told browser (place_held browser) (is_here one) page refl over (sym is)

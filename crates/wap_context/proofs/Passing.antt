@@ -1,5 +1,6 @@
 -- Time that passes: quiet steps, and a timer that runs out.
-use Rattle.std.proofs.Common.{◌≡◌, ◌∙◌, ℕ, ◌-◌, Bool, List, [], ◌∷◌, ◌++◌, Option, Some, None, Ok, Err, refl, sym, ap, ap₂, subst, append_assoc, append-nil}
+use Rattle.std.proofs.Common.{◌≡◌, ◌∙◌, ℕ, ◌-◌, Bool, List, [], ◌++◌, Option, Some, None, Ok}
+use Rattle.std.proofs.Common.{Err, refl, sym, ap, ap₂, subst, append_assoc, append-nil}
 use Rattle.std.specs.Prelude.{Result, IsErr, IsErrAnd, nat_lt, true, false, if◌then◌else◌}
 use Rattle.std.proofs.lemmas.Bool.{false≢true}
 use Rattle.wap_base.specs.declared.fault.RunErr.{RunErr}
@@ -32,17 +33,23 @@ Rule = Pages → World → Step
 -- ---- ends
 
 -- nothing was asked, and nothing follows
-pub pursues_quiet : (rule : Rule) (seen : Seen) (old new : Browser) (before shown : List Line) (scene : Scene)
+pub pursues_quiet : (rule : Rule) (seen : Seen) (old new : Browser)
+    (before shown : List Line) (scene : Scene)
     → ((pages : Pages) → IsOver pages old → rule pages old.world ≡ quiet [] scene)
     → new.world ≡ scene.world → shown ≡ before ++ scene.lines
     → ((pages : Pages) → IsOver pages old → IsOver pages new)
     → Pursues rule seen seen old new before shown (Ok tt)
 pursues_quiet rule seen old new before shown scene is world lines over = record {
-  leads = over_all seen.contents old (λ pages here. world ∙ ap (λ (s : Step). s.world) (sym (is pages here)));
-  lines = over_all seen.contents old (λ pages here. lines ∙ ap (λ (s : Step). before ++ s.lines) (sym (is pages here)));
+  leads =
+      over_all seen.contents old
+      (λ pages here. world ∙ ap (λ (s : Step). s.world) (sym (is pages here)));
+  lines =
+      over_all seen.contents old
+      (λ pages here. lines ∙ ap (λ (s : Step). before ++ s.lines) (sym (is pages here)));
   over = over_all seen.contents old over;
   asks = over_all seen.contents old (λ pages here.
-      subst (λ asked. Asks asked seen seen) (sym (ap (λ (s : Step). s.asked) (is pages here))) (Asks-nil seen));
+      subst (λ asked. Asks asked seen seen) (sym (ap (λ (s : Step). s.asked) (is pages here)))
+      (Asks-nil seen));
   steady = refl;
   failed = λ failed. absurd (cc);
   rose = λ failed. absurd (cc);
@@ -52,7 +59,8 @@ pursues_quiet rule seen old new before shown scene is world lines over = record 
 -- memory ran out
 pub pursues_rejected : (rule : Rule) (seen : Seen) (old new : Browser) (before shown : List Line)
     (result : Result (Unit {0}) RunErr)
-    → IsErr result → IsErrAnd result (λ err. err ≡ NoMemory) → Pursues rule seen seen old new before shown result
+    → IsErr result → IsErrAnd result (λ err. err ≡ NoMemory)
+    → Pursues rule seen seen old new before shown result
 pursues_rejected rule seen old new before shown (Ok x) err is = absurd (false≢true err)
 pursues_rejected rule seen old new before shown (Err fault) err is = record {
   leads = tt;
@@ -76,26 +84,31 @@ pub pursues_after : (rule next : Rule) (seen after : Seen) (old mid new : Browse
     (before middle shown extra : List Line) (result : Result (Unit {0}) RunErr)
     → middle ≡ before ++ extra
     → ((pages : Pages) → IsOver pages old → IsOver pages mid)
-    → ((pages : Pages) → IsOver pages old → Adds extra (next pages mid.world) (rule pages old.world))
+    → ((pages : Pages) → IsOver pages old
+    → Adds extra (next pages mid.world) (rule pages old.world))
     → Pursues next seen after mid new middle shown result
     → Pursues rule seen after old new before shown result
-pursues_after rule next seen after old mid new before middle shown extra result is onto adds so = record {
-  leads = on_ok result (over_map seen.contents old mid onto
-      (λ pages over one. one ∙ (adds pages over).world)) so.leads;
-  lines = on_ok result (over_map seen.contents old mid onto
-      (λ pages over one. one ∙ ap (λ (l : List Line). l ++ (next pages mid.world).lines) is
-      ∙ append_assoc before extra (next pages mid.world).lines
-      ∙ ap (λ (l : List Line). before ++ l) (adds pages over).lines)) so.lines;
-  over = on_ok result (over_map seen.contents old mid onto (λ pages over one. one)) so.over;
-  asks = on_ok result (over_map seen.contents old mid onto
-      (λ pages over one. subst (λ (a : List (List ℕ × Bool)). Asks a seen after) (adds pages over).asked one)) so.asks;
-  steady = so.steady;
-  failed = λ failed. over_map seen.contents old mid onto
-      (λ pages over one. subst (λ (a : List (List ℕ × Bool)). Fails a seen after) (adds pages over).asked one)
-      (so.failed failed);
-  rose = so.rose;
-  stays = so.stays;
-}
+pursues_after rule next seen after old mid new before middle shown extra result is onto adds so =
+    record {
+      leads = on_ok result (over_map seen.contents old mid onto
+          (λ pages over one. one ∙ (adds pages over).world)) so.leads;
+      lines = on_ok result (over_map seen.contents old mid onto
+          (λ pages over one. one ∙ ap (λ (l : List Line). l ++ (next pages mid.world).lines) is
+          ∙ append_assoc before extra (next pages mid.world).lines
+          ∙ ap (λ (l : List Line). before ++ l) (adds pages over).lines)) so.lines;
+      over = on_ok result (over_map seen.contents old mid onto (λ pages over one. one)) so.over;
+      asks = on_ok result (over_map seen.contents old mid onto
+          (λ pages over one.
+          subst (λ (a : List (List ℕ × Bool)). Asks a seen after) (adds pages over).asked one))
+          so.asks;
+      steady = so.steady;
+      failed = λ failed. over_map seen.contents old mid onto
+          (λ pages over one.
+          subst (λ (a : List (List ℕ × Bool)). Fails a seen after) (adds pages over).asked one)
+          (so.failed failed);
+      rose = so.rose;
+      stays = so.stays;
+    }
 
 -- ---- the timer has run out
 
@@ -123,28 +136,35 @@ module _ (old mid : Browser) (before middle : List Line) (task : Option Task)
       let same : scene ≡ here pages end_place old.world =
       ap (λ (p : Option Place). at_place end_place p old.world) (sym (held_now pages old over)) in
       let found : task ≡ event_task pages event.Timer mid.world =
-      is ∙ ap (λ (p : Option Place). event_at event.Timer p mid.world) (sym (held_now pages mid (over_ended pages over))) in
-      let next : pursued pages task mid.world ≡ after_end pages (here pages end_place old.world).world =
+      is ∙ ap (λ (p : Option Place). event_at event.Timer p mid.world)
+      (sym (held_now pages mid (over_ended pages over))) in
+      let next : pursued pages task mid.world
+      ≡ after_end pages (here pages end_place old.world).world =
       ap (λ (t : Option Task). pursued pages t mid.world) found
       ∙ acted_is pages mid.world (event_task pages event.Timer mid.world)
       ∙ ap (after_end pages) (ended.plays.world ∙ ap (λ (s : Scene). s.world) same) in
       record {
         world = ap (λ (s : Step). s.world) next;
-        lines = ap₂ (λ (l m : List Line). l ++ m) (ap (λ (s : Scene). s.lines) same) (ap (λ (s : Step). s.lines) next);
+        lines =
+            ap₂ (λ (l m : List Line). l ++ m) (ap (λ (s : Scene). s.lines) same)
+            (ap (λ (s : Step). s.lines) next);
         asked = ap (λ (s : Step). s.asked) next;
       }
 
-  pub runs_out : (seen after : Seen) (new : Browser) (shown : List Line) (result : Result (Unit {0}) RunErr)
+  pub runs_out : (seen after : Seen) (new : Browser) (shown : List Line)
+      (result : Result (Unit {0}) RunErr)
       → Pursues (Pursued task) seen after mid new middle shown result
       → Pursues run_out seen after old new before shown result
   runs_out seen after new shown result so =
-      pursues_after run_out (Pursued task) seen after old mid new before middle shown scene.lines result
+      pursues_after run_out
+      (Pursued task) seen after old mid new before middle shown scene.lines result
       ended.plays.lines over_ended run_adds so
 
 -- ---- time that passes
 
 abbrev passed : ℕ → Pages → Option Place → Timer → World → Step
-passed n pages place timer world = at_card [] world (λ one. pass_time pages [] n timer one world) place
+passed n pages place timer world =
+    at_card [] world (λ one. pass_time pages [] n timer one world) place
 
 abbrev run_out_at : Pages → Option Place → World → Step
 run_out_at pages place world =
@@ -161,7 +181,8 @@ ignored_by n pages (Some place) Off world is = refl
 
 runs_by : (n left : ℕ) (pages : Pages) (place : Option Place) (timer : Timer) (world : World)
     → left_at place timer ≡ Some left → nat_lt n left ≡ true
-    → passed n pages place timer world ≡ quiet [] (still (record world { timer = Running (left - n) }))
+    → passed n pages place timer world
+    ≡ quiet [] (still (record world { timer = Running (left - n) }))
 runs_by n left pages None timer world is fewer = absurd (cc)
 runs_by n left pages (Some place) NotStarted world is fewer = absurd (cc)
 runs_by n left pages (Some place) (Running time) world is fewer =
@@ -185,7 +206,8 @@ ends_by n left pages (Some place) Off world is all = absurd (cc)
 
 module _ (n : ℕ) (seen : Seen) (old : Browser) (before : List Line) where
   left_now : (pages : Pages) → IsOver pages old → (found : Option ℕ)
-      → left_at (place_held old) old.world.timer ≡ found → left_at (place_now pages old.world) old.world.timer ≡ found
+      → left_at (place_held old) old.world.timer ≡ found
+      → left_at (place_now pages old.world) old.world.timer ≡ found
   left_now pages over found is =
       ap (λ (p : Option Place). left_at p old.world.timer) (held_now pages old over) ∙ is
 
@@ -194,20 +216,27 @@ module _ (n : ℕ) (seen : Seen) (old : Browser) (before : List Line) where
       → Pursues (tick n) seen seen old old before shown (Ok tt)
   tick_ignored shown is lines =
       pursues_quiet (tick n) seen old old before shown (ignored old.world)
-      (λ pages over. ignored_by n pages (place_now pages old.world) old.world.timer old.world (left_now pages over None is))
+      (λ pages over.
+      ignored_by n pages (place_now pages old.world) old.world.timer old.world
+      (left_now pages over None is))
       refl lines (λ pages over. over)
 
-  pub tick_runs : (new : Browser) (left : ℕ) → left_at (place_held old) old.world.timer ≡ Some left → nat_lt n left ≡ true
+  pub tick_runs : (new : Browser) (left : ℕ) → left_at (place_held old) old.world.timer ≡ Some left
+      → nat_lt n left ≡ true
       → new ≡ record old { world = record old.world { timer = Running (left - n) } }
       → Pursues (tick n) seen seen old new before before (Ok tt)
   tick_runs new left is fewer new_is =
-      pursues_quiet (tick n) seen old new before before (still (record old.world { timer = Running (left - n) }))
-      (λ pages over. runs_by n left pages (place_now pages old.world) old.world.timer old.world (left_now pages over (Some left) is) fewer)
+      pursues_quiet (tick n) seen old new before before
+      (still (record old.world { timer = Running (left - n) }))
+      (λ pages over.
+      runs_by n left pages (place_now pages old.world) old.world.timer old.world
+      (left_now pages over (Some left) is) fewer)
       (ap (λ (b : Browser). b.world) new_is) (sym (append-nil before))
       (λ pages over. over_kept pages old new (ap (λ (b : Browser). b.deck) new_is)
       (ap (λ (b : Browser). b.world.history) new_is) over)
 
-  pub tick_ends : (after : Seen) (new : Browser) (shown : List Line) (result : Result (Unit {0}) RunErr) (left : ℕ)
+  pub tick_ends : (after : Seen) (new : Browser) (shown : List Line)
+      (result : Result (Unit {0}) RunErr) (left : ℕ)
       → left_at (place_held old) old.world.timer ≡ Some left → nat_lt n left ≡ false
       → Pursues run_out seen after old new before shown result
       → Pursues (tick n) seen after old new before shown result
@@ -215,7 +244,9 @@ module _ (n : ℕ) (seen : Seen) (old : Browser) (before : List Line) where
       pursues_after (tick n) run_out seen after old old new before before shown [] result
       (sym (append-nil before)) (λ pages over. over)
       (λ pages over.
-      let same = ends_by n left pages (place_now pages old.world) old.world.timer old.world (left_now pages over (Some left) is) all in
+      let same =
+      ends_by n left pages (place_now pages old.world) old.world.timer old.world
+      (left_now pages over (Some left) is) all in
       record {
         world = ap (λ (s : Step). s.world) (sym same);
         lines = ap (λ (s : Step). s.lines) (sym same);

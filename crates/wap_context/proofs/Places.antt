@@ -1,5 +1,6 @@
 -- The last entry of a history, and the place that a browser has at hand.
-use Rattle.std.proofs.Common.{◌≡◌, ◌∙◌, ◌-◌, ◌<◌, ◌≤◌, List, [], ◌∷◌, ◌++◌, length, take, length-take, Option, Some, None, refl, sym, ap, arith}
+use Rattle.std.proofs.Common.{◌≡◌, ◌∙◌, ◌-◌, ◌<◌, ◌≤◌, List, [], ◌∷◌, ◌++◌, length, take}
+use Rattle.std.proofs.Common.{length-take, Option, Some, None, refl, sym, ap, arith}
 use Rattle.std.specs.List.{last_or, slice_get}
 use Rattle.std.specs.Option.{option_map, option_and_then}
 use Rattle.std.proofs.lemmas.Option.{slice_get-get_or}
@@ -42,13 +43,15 @@ earlier_at (x ∷ y ∷ ys) some =
     ∙ ap Some (get_or-take (length xs - 1) xs (length xs - 2) x (omega arith))
     ∙ sym (slice_get-get_or xs (length xs - 2) x (omega arith))
 
-pub earlier_none : {X : Type 0} (xs : List X) → length xs < 2 → None ≡ last_or None (take (length xs - 1) xs)
+pub earlier_none : {X : Type 0} (xs : List X) → length xs < 2
+    → None ≡ last_or None (take (length xs - 1) xs)
 earlier_none [] few = refl
 earlier_none (x ∷ []) few = refl
 earlier_none (x ∷ y ∷ ys) few = absurd (omega arith)
 
 -- one that is pushed after others is the last
-pub last_pushed : {X : Type 0} (o : Option X) (xs : List X) (x : X) → last_or o (xs ++ x ∷ []) ≡ Some x
+pub last_pushed : {X : Type 0} (o : Option X) (xs : List X) (x : X)
+    → last_or o (xs ++ x ∷ []) ≡ Some x
 last_pushed o [] x = refl
 last_pushed o (y ∷ ys) x = last_pushed (Some y) ys x
 
@@ -80,13 +83,15 @@ pub record IsAt (browser : Browser) (one : Held) : Type 0 where
 record AtBy (last : Option Entry) (deck : Option Deck) (one : Held) : Type 0 where
   entry : Entry
   last_is : last ≡ Some entry
-  place : option_and_then (λ (e : Entry). option_and_then (place_in e) deck) last ≡ Some (place_by entry one)
+  place : option_and_then (λ (e : Entry). option_and_then (place_in e) deck) last
+      ≡ Some (place_by entry one)
   deck_is : deck ≡ Some one.deck
 
 abbrev cards_at : Deck → Option Node → Option Held
 cards_at deck card = option_map (λ found. record { deck = deck; card = found }) card
 
-by_card : (entry : Entry) (deck : Deck) (one : Held) (card : Option Node) → slice_get (cards_of deck) entry.card ≡ card
+by_card : (entry : Entry) (deck : Deck) (one : Held) (card : Option Node)
+    → slice_get (cards_of deck) entry.card ≡ card
     → cards_at deck card ≡ Some one → AtBy (Some entry) (Some deck) one
 by_card entry deck one None is at = absurd (cc)
 by_card entry deck one (Some card) is at =
@@ -104,7 +109,8 @@ by_entry : (last : Option Entry) (deck : Option Deck) (one : Held)
 by_entry None None one at = absurd (cc)
 by_entry None (Some deck) one at = absurd (cc)
 by_entry (Some entry) None one at = absurd (cc)
-by_entry (Some entry) (Some deck) one at = by_card entry deck one (slice_get (cards_of deck) entry.card) refl at
+by_entry (Some entry) (Some deck) one at =
+    by_card entry deck one (slice_get (cards_of deck) entry.card) refl at
 
 pub is_at : (browser : Browser) (one : Held) → held browser ≡ Some one → IsAt browser one
 is_at browser one at =
@@ -112,7 +118,8 @@ is_at browser one at =
     record { entry = found.entry; last = found.last_is; place = found.place; deck = found.deck_is }
 
 none_card : (entry : Entry) (deck : Deck) (card : Option Node) → cards_at deck card ≡ None
-    → option_map {U = Place} (λ found. record { url = entry.url; deck = deck; card = found }) card ≡ None
+    → option_map {U = Place} (λ found. record { url = entry.url; deck = deck; card = found }) card
+    ≡ None
 none_card entry deck None at = refl
 none_card entry deck (Some card) at = absurd (cc)
 
@@ -121,7 +128,8 @@ none_entry : (last : Option Entry) (deck : Option Deck)
     → option_and_then (λ (e : Entry). option_and_then (place_in e) deck) last ≡ None
 none_entry None deck at = refl
 none_entry (Some entry) None at = refl
-none_entry (Some entry) (Some deck) at = none_card entry deck (slice_get (cards_of deck) entry.card) at
+none_entry (Some entry) (Some deck) at =
+    none_card entry deck (slice_get (cards_of deck) entry.card) at
 
 -- where no card is at hand
 pub is_nowhere : (browser : Browser) → held browser ≡ None → place_held browser ≡ None

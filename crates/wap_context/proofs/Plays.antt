@@ -1,5 +1,6 @@
 -- Scenes, one after another, and where a card is at hand.
-use Rattle.std.proofs.Common.{◌≡◌, ◌∙◌, ℕ, List, [], ◌∷◌, ◌++◌, Option, Some, None, Ok, Err, true, refl, sym, ap, ap₂, subst, append_assoc, append-nil}
+use Rattle.std.proofs.Common.{◌≡◌, ◌∙◌, ℕ, List, [], ◌∷◌, ◌++◌, Option, Some, None, Ok, Err, true}
+use Rattle.std.proofs.Common.{refl, sym, ap, ap₂, subst, append_assoc, append-nil}
 use Rattle.std.specs.List.{last_or}
 use Rattle.std.specs.Prelude.{Result, OnOk, IfOk, is_some}
 use Rattle.std.specs.Option.{option_map, option_and_then}
@@ -14,15 +15,18 @@ use Rattle.wap_world.specs.World.{World, Place, place_in, deck_at, last_entry}
 use Rattle.wap_world.specs.Steps.{Scene, still, behind, and_then}
 use Rattle.wap_world.specs.Screens.{at_place, here}
 use Rattle.wap_context.specs.Browsers.{Browser, IsOver, place_held, Shows}
-use Rattle.wap_context.specs.inside.Held.{Held, held_in, held, event_at, leave_and_set_at, restart_place, refresh_at}
+use Rattle.wap_context.specs.inside.Held.{Held, held_in, held, event_at, leave_and_set_at}
+use Rattle.wap_context.specs.inside.Held.{restart_place, refresh_at}
 use Rattle.wap_context.specs.inside.Moving.{Line, Plays, PlaysAt}
 use Rattle.wap_context.proofs.Places.{place_by, is_at, is_nowhere, held_now}
 
 pub plays_still : (world : World) (lines : List Line) → Plays (still world) world world lines lines
 plays_still world lines = record { world = refl; lines = sym (append-nil lines); kept = refl }
 
-pub plays_then : (first : Scene) (next : World → Scene) (a b c : World) (before mid after : List Line)
-    → Plays first a b before mid → Plays (next b) b c mid after → Plays (and_then first next) a c before after
+pub plays_then : (first : Scene) (next : World → Scene) (a b c : World)
+    (before mid after : List Line)
+    → Plays first a b before mid → Plays (next b) b c mid after
+    → Plays (and_then first next) a c before after
 plays_then first next a b c before mid after one two = record {
   world = two.world ∙ ap (λ (w : World). (next w).world) one.world;
   lines = two.lines
@@ -50,21 +54,29 @@ place_kept old new deck history = ap₂
 pub over_kept : (pages : Pages) (old new : Browser) → new.deck ≡ old.deck
     → new.world.history ≡ old.world.history → IsOver pages old → IsOver pages new
 over_kept pages old new deck history over =
-    ap (λ (h : List Entry). option_and_then (λ (e : Entry). deck_at pages e.url) (last_or None h)) history
+    ap (λ (h : List Entry).
+    option_and_then (λ (e : Entry). deck_at pages e.url) (last_or None h)) history
     ∙ over ∙ sym deck
 
-pub plays_at_then : (first next : Option Place → World → Scene) (a b c : Browser) (before mid after : List Line)
+pub plays_at_then : (first next : Option Place → World → Scene) (a b c : Browser)
+    (before mid after : List Line)
     → PlaysAt first a b before mid → PlaysAt next b c mid after
     → PlaysAt (λ place world. and_then (first place world) (next place)) a c before after
 plays_at_then first next a b c before mid after one two =
-    let place = place_kept a b one.deck (history_kept (first (place_held a) a.world) a.world b.world before mid one.plays) in
+    let place =
+    place_kept a b one.deck
+    (history_kept (first (place_held a) a.world) a.world b.world before mid one.plays) in
     record {
-      plays = plays_then (first (place_held a) a.world) (next (place_held a)) a.world b.world c.world before mid after one.plays
-          (subst (λ (p : Option Place). Plays (next p b.world) b.world c.world mid after) place two.plays);
+      plays =
+          plays_then (first (place_held a) a.world)
+          (next (place_held a)) a.world b.world c.world before mid after one.plays
+          (subst (λ (p : Option Place). Plays (next p b.world) b.world c.world mid after)
+          place two.plays);
       deck = two.deck ∙ one.deck;
     }
 
-pub plays_at_card : (rule : Place → World → Scene) (scene : Scene) (old new : Browser) (one : Held) (before after : List Line)
+pub plays_at_card : (rule : Place → World → Scene) (scene : Scene) (old new : Browser) (one : Held)
+    (before after : List Line)
     → held old ≡ Some one → ((entry : Entry) → rule (place_by entry one) old.world ≡ scene)
     → Plays scene old.world new.world before after → new.deck ≡ old.deck
     → PlaysAt (at_place rule) old new before after
@@ -72,15 +84,18 @@ plays_at_card rule scene old new one before after at same plays deck =
     let here = is_at old one at in
     record {
       plays = subst (λ (s : Scene). Plays s old.world new.world before after)
-          (sym (ap (λ (p : Option Place). at_place rule p old.world) here.place ∙ same here.entry)) plays;
+          (sym (ap (λ (p : Option Place). at_place rule p old.world) here.place ∙ same here.entry))
+          plays;
       deck = deck;
     }
 
-pub plays_nowhere : (rule : Place → World → Scene) (old : Browser) (lines : List Line) → held old ≡ None
+pub plays_nowhere : (rule : Place → World → Scene) (old : Browser) (lines : List Line)
+    → held old ≡ None
     → PlaysAt (at_place rule) old old lines lines
 plays_nowhere rule old lines at = record {
   plays = subst (λ (s : Scene). Plays s old.world old.world lines lines)
-      (sym (ap (λ (p : Option Place). at_place rule p old.world) (is_nowhere old at))) (plays_still old.world lines);
+      (sym (ap (λ (p : Option Place). at_place rule p old.world) (is_nowhere old at)))
+      (plays_still old.world lines);
   deck = refl;
 }
 
@@ -92,19 +107,22 @@ on_ok (Err e) f so = tt
 
 pub plays_here : {X E : Type 0} (rule : Place → World → Scene) (scene : Held → World → Scene)
     → ((entry : Entry) (one : Held) (w : World) → rule (place_by entry one) w ≡ scene one w)
-    → (state : World) (deck : Option Deck) (now : Browser) → record { world = state; deck = deck } ≡ now
+    → (state : World) (deck : Option Deck) (now : Browser)
+    → record { world = state; deck = deck } ≡ now
     → (number : Option ℕ) → number ≡ option_map (λ (e : Entry). e.card) (last_entry state)
     → (found : Option Held) → found ≡ held_in deck number → (one : Held) → found ≡ Some one
     → (after : World) (before shown : List Line) (result : Result X E)
     → OnOk result (Plays (scene one state) state after before shown)
     → OnOk result (PlaysAt (at_place rule) now (record { world = after; deck = deck }) before shown)
-plays_here rule scene same state deck now view number is found here one there after before shown result plays =
+plays_here rule scene same state deck now view number is found here one there after before
+    shown result plays =
     let old : Browser = record { world = state; deck = deck } in
     let at : held old ≡ Some one = sym (here ∙ ap (held_in deck) is) ∙ there in
     let new : Browser = record { world = after; deck = deck } in
     on_ok result
     (λ one_plays. subst (λ (b : Browser). PlaysAt (at_place rule) b new before shown) view
-    (plays_at_card rule (scene one state) old new one before shown at (λ entry. same entry one state) one_plays refl))
+    (plays_at_card rule (scene one state) old new one before shown at
+    (λ entry. same entry one state) one_plays refl))
     plays
 
 pub plays_none : (rule : Place → World → Scene) (state : World) (deck : Option Deck) (now : Browser)
@@ -117,19 +135,24 @@ plays_none rule state deck now view number is found here there lines =
     subst (λ (b : Browser). PlaysAt (at_place rule) b b lines lines) view
     (plays_nowhere rule old lines (sym (here ∙ ap (held_in deck) is) ∙ there))
 
-pub plays_at_set : {X E : Type 0} (scene : World → Scene) (state : World) (deck : Option Deck) (now : Browser)
+pub plays_at_set : {X E : Type 0} (scene : World → Scene) (state : World)
+    (deck : Option Deck) (now : Browser)
     → record { world = state; deck = deck } ≡ now
     → (after : World) (before shown : List Line) (result : Result X E)
     → OnOk result (Plays (scene state) state after before shown)
-    → OnOk result (PlaysAt (λ place. scene) now (record { world = after; deck = deck }) before shown)
+    → OnOk result
+    (PlaysAt (λ place. scene) now (record { world = after; deck = deck }) before shown)
 plays_at_set scene state deck now view after before shown result plays =
     on_ok result
-    (λ one. subst (λ (b : Browser). PlaysAt (λ place. scene) b (record { world = after; deck = deck }) before shown) view
+    (λ one.
+    subst (λ (b : Browser).
+    PlaysAt (λ place. scene) b (record { world = after; deck = deck }) before shown) view
     (record { plays = one; deck = refl }))
     plays
 
 -- a line, and then a scene
-pub plays_behind : (line : Line) (rule : Option Place → World → Scene) (old new : Browser) (before mid after : List Line)
+pub plays_behind : (line : Line) (rule : Option Place → World → Scene) (old new : Browser)
+    (before mid after : List Line)
     → mid ≡ before ++ line ∷ [] → PlaysAt rule old new mid after
     → PlaysAt (λ place world. behind (line ∷ []) (rule place world)) old new before after
 plays_behind line rule old new before mid after is one = record {
@@ -142,7 +165,8 @@ plays_behind line rule old new before mid after is one = record {
   deck = one.deck;
 }
 
-pub if_ok : {X E : Type 0} {P Q : X → Type 0} (result : Result X E) → ((x : X) → P x → Q x) → IfOk result P → IfOk result Q
+pub if_ok : {X E : Type 0} {P Q : X → Type 0} (result : Result X E) → ((x : X) → P x → Q x)
+    → IfOk result P → IfOk result Q
 if_ok (Ok x) f so = f x so
 if_ok (Err e) f so = tt
 
@@ -154,38 +178,48 @@ some_held (Some one) so = (one, refl)
 
 pub plays_seen : {X E : Type 0} (rule : Place → World → Scene) (scene : Held → World → Scene)
     → ((entry : Entry) (one : Held) (w : World) → rule (place_by entry one) w ≡ scene one w)
-    → (state : World) (deck : Option Deck) (now : Browser) → record { world = state; deck = deck } ≡ now
+    → (state : World) (deck : Option Deck) (now : Browser)
+    → record { world = state; deck = deck } ≡ now
     → (one : Held) → held now ≡ Some one → (before shown : List Line) (result : Result X E)
     → OnOk result (Plays (scene one state) state state before shown)
     → OnOk result (PlaysAt (at_place rule) now now before shown)
 plays_seen rule scene same state deck now view one at before shown result plays =
     on_ok result
-    (λ one_plays. plays_at_card rule (scene one now.world) now now one before shown at (λ entry. same entry one now.world)
-    (subst (λ (b : Browser). Plays (scene one b.world) b.world b.world before shown) view one_plays) refl)
+    (λ one_plays.
+    plays_at_card rule (scene one now.world) now now one before shown at (λ entry.
+    same entry one now.world)
+    (subst (λ (b : Browser). Plays (scene one b.world) b.world b.world before shown) view one_plays)
+    refl)
     plays
 
 pub url_here : (now : Browser) (one : Held) → held now ≡ Some one
-    → option_map (λ (e : Entry). e.url) (last_entry now.world) ≡ option_map (λ (p : Place). p.url) (place_held now)
+    → option_map (λ (e : Entry). e.url) (last_entry now.world)
+    ≡ option_map (λ (p : Place). p.url) (place_held now)
 url_here now one at =
     let here = is_at now one at in
-    ap (option_map (λ (e : Entry). e.url)) here.last ∙ sym (ap (option_map (λ (p : Place). p.url)) here.place)
+    ap (option_map (λ (e : Entry). e.url)) here.last
+    ∙ sym (ap (option_map (λ (p : Place). p.url)) here.place)
 
 pub event_here : (event : Event) (now : Browser) (one : Held) → held now ≡ Some one
     → binding now.world.vars one.deck one.card event ≡ event_at event (place_held now) now.world
-event_here event now one at = sym (ap (λ (p : Option Place). event_at event p now.world) (is_at now one at).place)
+event_here event now one at =
+    sym (ap (λ (p : Option Place). event_at event p now.world) (is_at now one at).place)
 
 pub card_here : (now : Browser) (one : Held) → held now ≡ Some one
     → Some one.card ≡ option_map (λ (p : Place). p.card) (place_held now)
 card_here now one at = sym (ap (option_map (λ (p : Place). p.card)) (is_at now one at).place)
 
-pub refresh_joined : (sets : Pairs) (old new : Browser) (before after : List Line) (one : Held) → held old ≡ Some one
-    → PlaysAt (λ place w. and_then (leave_and_set_at sets place w) (at_place restart_place place)) old new before after
+pub refresh_joined : (sets : Pairs) (old new : Browser) (before after : List Line) (one : Held)
+    → held old ≡ Some one
+    → PlaysAt (λ place w. and_then (leave_and_set_at sets place w) (at_place restart_place place))
+    old new before after
     → PlaysAt (refresh_at sets) old new before after
 refresh_joined sets old new before after one at joined =
     let place = (is_at old one at).place in
     record {
       plays = subst (λ (s : Scene). Plays s old.world new.world before after)
-          (ap (λ (p : Option Place). and_then (leave_and_set_at sets p old.world) (at_place restart_place p)) place
+          (ap (λ (p : Option Place).
+          and_then (leave_and_set_at sets p old.world) (at_place restart_place p)) place
           ∙ sym (ap (λ (p : Option Place). refresh_at sets p old.world) place))
           joined.plays;
       deck = joined.deck;
@@ -193,13 +227,18 @@ refresh_joined sets old new before after one at joined =
 
 -- ---- a scene over pages that have the deck
 
-pub shows_of : (rule : Place → World → Scene) (old new : Browser) (before lines : List Line) → before ≡ []
-    → PlaysAt (at_place rule) old new before lines → Shows old new lines (λ pages world. here pages rule world)
+pub shows_of : (rule : Place → World → Scene) (old new : Browser) (before lines : List Line)
+    → before ≡ []
+    → PlaysAt (at_place rule) old new before lines
+    → Shows old new lines (λ pages world. here pages rule world)
 shows_of rule old new before lines none one = record {
   world = λ pages over. one.plays.world
-      ∙ ap (λ (p : Option Place). (at_place rule p old.world).world) (sym (held_now pages old over));
+      ∙ ap (λ (p : Option Place). (at_place rule p old.world).world)
+      (sym (held_now pages old over));
   tells = λ pages over. one.plays.lines
-      ∙ ap₂ (λ (l : List Line) (p : Option Place). l ++ (at_place rule p old.world).lines) none (sym (held_now pages old over));
+      ∙ ap₂ (λ (l : List Line) (p : Option Place). l ++ (at_place rule p old.world).lines) none
+      (sym (held_now pages old over));
   over = λ pages over. over_kept pages old new one.deck
-      (history_kept (at_place rule (place_held old) old.world) old.world new.world before lines one.plays) over;
+      (history_kept (at_place rule (place_held old) old.world)
+      old.world new.world before lines one.plays) over;
 }

@@ -1,5 +1,7 @@
 -- Tasks that lead to others, turn by turn.
-use Rattle.std.proofs.Common.{◌≡◌, ◌∙◌, ℕ, zero, suc, ◌+◌, ◌<◌, Bool, List, [], ◌++◌, Option, Some, None, Ok, Err, refl, sym, ap, ap₂, subst, append_assoc, append-nil, arith}
+use Rattle.std.proofs.Common.{◌≡◌, ◌∙◌, ℕ, zero, suc, ◌+◌, ◌<◌, Bool, List, [], ◌++◌}
+use Rattle.std.proofs.Common.{Option, Some, None, Ok, Err, refl, sym, ap, ap₂, subst}
+use Rattle.std.proofs.Common.{append_assoc, append-nil, arith}
 use Rattle.std.specs.Prelude.{Result, IfSome}
 use Rattle.wap_base.specs.declared.fault.RunErr.{RunErr}
 use Rattle.wap_base.specs.declared.fault.RunErr.TheVariants.{Store}
@@ -8,7 +10,8 @@ use Rattle.wap_input.specs.declared.key.Key.{Key}
 use Rattle.wap_cardrules.specs.declared.task.Task.{Task}
 use Rattle.wap_site.specs.Pages.{Pages}
 use Rattle.wap_site.specs.Asking.{Seen, Stays, Asks, Fails}
-use Rattle.wap_site.proofs.Asking.{Asks-nil, Asks-then, Asks-fails, Fails-more, Stays-same, Stays-then}
+use Rattle.wap_site.proofs.Asking.{Asks-nil, Asks-then, Asks-fails}
+use Rattle.wap_site.proofs.Asking.{Fails-more, Stays-same, Stays-then}
 use Rattle.wap_world.specs.World.{World}
 use Rattle.wap_world.specs.Steps.{Step, Once, followed}
 use Rattle.wap_world.specs.Tasks.{task_once, go_on, act_in, act}
@@ -30,12 +33,18 @@ led_on pages once = followed once.step (λ keys world. pursued pages once.next w
 
 led_by : (pages : Pages) (turns : ℕ) (step : Step) (next : Option Task) → step.keys ≡ []
     → IfSome next (λ one. step.world.turns ≡ turns)
-    → Same (go_on (act_in turns pages) step next) (followed step (λ keys world. pursued pages next world))
+    → Same (go_on (act_in turns pages) step next)
+    (followed step (λ keys world. pursued pages next world))
 unfolding act
 led_by pages turns step None keys fewer =
-    record { world = refl; lines = sym (append-nil step.lines); asked = sym (append-nil step.asked) }
+    record {
+      world = refl;
+      lines = sym (append-nil step.lines);
+      asked = sym (append-nil step.asked);
+    }
 led_by pages turns step (Some one) keys fewer =
-    let is : act_in turns pages step.keys step.world one ≡ act_in step.world.turns pages [] step.world one =
+    let is : act_in turns pages step.keys step.world one
+    ≡ act_in step.world.turns pages [] step.world one =
     ap₂ (λ (t : ℕ) (k : List Key). act_in t pages k step.world one) (sym fewer) keys in
     record {
       world = ap (λ (s : Step). s.world) is;
@@ -47,27 +56,35 @@ zero_by : (pages : Pages) (world : World) (step : Step) (next : Option Task) →
     → IfSome next (λ one. step.world.turns + 1 ≡ world.turns)
     → Same step (followed step (λ keys world. pursued pages next world))
 zero_by pages world step None none spent =
-    record { world = refl; lines = sym (append-nil step.lines); asked = sym (append-nil step.asked) }
+    record {
+      world = refl;
+      lines = sym (append-nil step.lines);
+      asked = sym (append-nil step.asked);
+    }
 zero_by pages world step (Some one) none spent = absurd (omega (arith, none, spent))
 
 fewer_by : (world : World) (turns : ℕ) (step : Step) (next : Option Task) → world.turns ≡ suc turns
-    → IfSome next (λ one. step.world.turns + 1 ≡ world.turns) → IfSome next (λ one. step.world.turns ≡ turns)
+    → IfSome next (λ one. step.world.turns + 1 ≡ world.turns)
+    → IfSome next (λ one. step.world.turns ≡ turns)
 fewer_by world turns step None is spent = tt
 fewer_by world turns step (Some one) is spent = omega (arith, is, spent)
 
 act_by : (pages : Pages) (world : World) (one : Task) (turns : ℕ) → world.turns ≡ turns
     → (task_once pages [] world one).step.keys ≡ []
-    → IfSome (task_once pages [] world one).next (λ next. (task_once pages [] world one).step.world.turns + 1 ≡ world.turns)
+    → IfSome (task_once pages [] world one).next
+    (λ next. (task_once pages [] world one).step.world.turns + 1 ≡ world.turns)
     → Same (act_in turns pages [] world one) (led_on pages (task_once pages [] world one))
 act_by pages world one zero is keys spent =
-    zero_by pages world (task_once pages [] world one).step (task_once pages [] world one).next is spent
+    zero_by pages world (task_once pages [] world one).step
+    (task_once pages [] world one).next is spent
 act_by pages world one (suc turns) is keys spent =
     let once = task_once pages [] world one in
     led_by pages turns once.step once.next keys (fewer_by world turns once.step once.next is spent)
 
 act_leads : (pages : Pages) (world : World) (one : Task)
     → (task_once pages [] world one).step.keys ≡ []
-    → IfSome (task_once pages [] world one).next (λ next. (task_once pages [] world one).step.world.turns + 1 ≡ world.turns)
+    → IfSome (task_once pages [] world one).next
+    (λ next. (task_once pages [] world one).step.world.turns + 1 ≡ world.turns)
     → Same (act pages [] world one) (led_on pages (task_once pages [] world one))
 unfolding act
 act_leads pages world one keys spent = act_by pages world one world.turns refl keys spent
@@ -79,19 +96,23 @@ asked_by next step None = ([], sym (append-nil step.asked))
 asked_by next step (Some one) = (_, refl)
 
 asked_in : (pages : Pages) (world : World) (one : Task) (turns : ℕ)
-    → (rest : List (List ℕ × Bool)) × ((act_in turns pages [] world one).asked ≡ (task_once pages [] world one).step.asked ++ rest)
+    → (rest : List (List ℕ × Bool))
+    × ((act_in turns pages [] world one).asked ≡ (task_once pages [] world one).step.asked ++ rest)
 asked_in pages world one zero = ([], sym (append-nil (task_once pages [] world one).step.asked))
 asked_in pages world one (suc turns) =
-    asked_by (act_in turns pages) (task_once pages [] world one).step (task_once pages [] world one).next
+    asked_by (act_in turns pages) (task_once pages [] world one).step
+    (task_once pages [] world one).next
 
 act_asks : (pages : Pages) (world : World) (one : Task)
-    → (rest : List (List ℕ × Bool)) × ((act pages [] world one).asked ≡ (task_once pages [] world one).step.asked ++ rest)
+    → (rest : List (List ℕ × Bool))
+    × ((act pages [] world one).asked ≡ (task_once pages [] world one).step.asked ++ rest)
 unfolding act
 act_asks pages world one = asked_in pages world one world.turns
 
 -- ---- a loop over tasks: what is left to do leads to the same
 
-pub record Behind (pages : Pages) (step : Step) (seen now : Seen) (browser : Browser) (before shown : List Line)
+pub record Behind (pages : Pages) (step : Step) (seen now : Seen) (browser : Browser)
+    (before shown : List Line)
     (next : Option Task) : Type 0 where
   pub over : IsOver pages browser
   pub world : (pursued pages next browser.world).world ≡ step.world
@@ -100,35 +121,49 @@ pub record Behind (pages : Pages) (step : Step) (seen now : Seen) (browser : Bro
   pub asks : Asks so_far seen now
   pub asked : so_far ++ (pursued pages next browser.world).asked ≡ step.asked
 
-pub record Goes (first : Option Task) (seen now : Seen) (old browser : Browser) (before shown : List Line)
+pub record Goes (first : Option Task) (seen now : Seen) (old browser : Browser)
+    (before shown : List Line)
     (next : Option Task) : Type 0 where
   pub follows : IfOver seen.contents old
       (λ pages. Behind pages (pursued pages first old.world) seen now browser before shown next)
   pub steady : now.faults ≡ seen.faults
   pub stays : Stays seen now
 
-pub begins : (first : Option Task) (seen : Seen) (old : Browser) (before : List Line) → Goes first seen seen old old before before first
+pub begins : (first : Option Task) (seen : Seen) (old : Browser) (before : List Line)
+    → Goes first seen seen old old before before first
 begins first seen old before = record {
   follows = over_all seen.contents old (λ pages over.
-      record { over = over; world = refl; lines = refl; so_far = []; asks = Asks-nil seen; asked = refl });
+      record {
+        over = over;
+        world = refl;
+        lines = refl;
+        so_far = [];
+        asks = Asks-nil seen;
+        asked = refl;
+      });
   steady = refl;
   stays = Stays-same seen;
 }
 
-spent_by : (old new : Browser) (world : World) (once : Once) (found : Option Task) → new.world ≡ once.step.world → found ≡ once.next
+spent_by : (old new : Browser) (world : World) (once : Once) (found : Option Task)
+    → new.world ≡ once.step.world → found ≡ once.next
     → Spends old new found → IfSome once.next (λ one. once.step.world.turns + 1 ≡ old.world.turns)
 spent_by old new world once found is leads spends =
     subst (λ (w : World). IfSome once.next (λ one. w.turns + 1 ≡ old.world.turns)) is
-    (subst (λ (n : Option Task). IfSome n (λ one. new.world.turns + 1 ≡ old.world.turns)) leads spends)
+    (subst (λ (n : Option Task). IfSome n (λ one. new.world.turns + 1 ≡ old.world.turns))
+    leads spends)
 
-behind_next : (pages : Pages) (step : Step) (seen now after : Seen) (b new : Browser) (before shown more : List Line) (one : Task) (next : Option Task)
+behind_next : (pages : Pages) (step : Step) (seen now after : Seen) (b new : Browser)
+    (before shown more : List Line) (one : Task) (next : Option Task)
     → Behind pages step seen now b before shown (Some one)
     → Leads pages (task_once pages [] b.world one) new shown more next → Spends b new next
     → Asks (task_once pages [] b.world one).step.asked now after
     → Behind pages step seen after new before more next
 behind_next pages step seen now after b new before shown more one next so_far leads spends asks =
     let once = task_once pages [] b.world one in
-    let law = act_leads pages b.world one leads.keys (spent_by b new b.world once next leads.world leads.leads spends) in
+    let law =
+    act_leads pages b.world one leads.keys
+    (spent_by b new b.world once next leads.world leads.leads spends) in
     let left : pursued pages next new.world ≡ pursued pages once.next once.step.world =
     ap₂ (λ (n : Option Task) (w : World). pursued pages n w) leads.leads leads.world in
     let rest = pursued pages once.next once.step.world in
@@ -146,32 +181,40 @@ behind_next pages step seen now after b new before shown more one next so_far le
     }
 
 -- facts of known pages, where both are of the same pages
-pub both_told : (contents here : Option Pages) (old b : Browser) {P Q G : Pages → Type 0} → here ≡ contents
+pub both_told : (contents here : Option Pages) (old b : Browser) {P Q G : Pages → Type 0}
+    → here ≡ contents
     → ((pages : Pages) → P pages → IsOver pages b)
     → ((pages : Pages) → P pages → Q pages → G pages)
     → IfOver contents old P → IfOver here b Q → IfOver contents old G
 both_told None here old b is onto f one two = tt
 both_told (Some pages) here old b {P} {Q} {G} is onto f one two =
-    λ over. f pages (one over) (subst (λ (o : Option Pages). IfOver o b Q) is two (onto pages (one over)))
+    λ over.
+    f pages (one over) (subst (λ (o : Option Pages). IfOver o b Q) is two (onto pages (one over)))
 
-pub goes_on : (first : Option Task) (seen now after : Seen) (old b new : Browser) (before shown more : List Line) (one : Task) (next : Option Task)
+pub goes_on : (first : Option Task) (seen now after : Seen) (old b new : Browser)
+    (before shown more : List Line) (one : Task) (next : Option Task)
     → Goes first seen now old b before shown (Some one)
     → Onces (λ told world. task_once told [] world one) now after b new shown more (Ok next)
     → Goes first seen after old new before more next
 goes_on first seen now after old b new before shown more one next so_far once =
     let step : Pages → Step = λ pages. pursued pages first old.world in
     let same = so_far.stays.contents in
-    let asked : IfOver seen.contents old (λ pages. Behind pages (step pages) seen now b before shown (Some one)
+    let asked : IfOver seen.contents old (λ pages.
+    Behind pages (step pages) seen now b before shown (Some one)
     × Asks (task_once pages [] b.world one).step.asked now after) =
-    both_told seen.contents now.contents old b {P = λ pages. Behind pages (step pages) seen now b before shown (Some one)}
+    both_told seen.contents now.contents old
+    b {P = λ pages. Behind pages (step pages) seen now b before shown (Some one)}
     {Q = λ pages. Asks (task_once pages [] b.world one).step.asked now after} same
     (λ pages behind. behind.over) (λ pages behind asks. (behind, asks)) so_far.follows once.asks in
     record {
       follows = both_told seen.contents now.contents old b
-          {P = λ pages. Behind pages (step pages) seen now b before shown (Some one) × Asks (task_once pages [] b.world one).step.asked now after}
+          {P = λ pages. Behind pages (step pages) seen now b before shown (Some one)
+          × Asks (task_once pages [] b.world one).step.asked now after}
           {Q = λ pages. Leads pages (task_once pages [] b.world one) new shown more next} same
           (λ pages both. both.0.over)
-          (λ pages both leads. behind_next pages (step pages) seen now after b new before shown more one next both.0 leads once.spends both.1)
+          (λ pages both leads.
+          behind_next pages (step pages)
+          seen now after b new before shown more one next both.0 leads once.spends both.1)
           asked once.follows;
       steady = once.steady ∙ so_far.steady;
       stays = Stays-then seen now after so_far.stays once.stays;
@@ -180,16 +223,25 @@ goes_on first seen now after old b new before shown more one next so_far once =
 abbrev pub Pursued : Option Task → Pages → World → Step
 Pursued first told world = pursued told first world
 
-pub ends : (first : Option Task) (seen now : Seen) (old b : Browser) (before shown : List Line) (next : Option Task) → next ≡ None
-    → Goes first seen now old b before shown next → Pursues (Pursued first) seen now old b before shown (Ok tt)
+pub ends : (first : Option Task) (seen now : Seen) (old b : Browser) (before shown : List Line)
+    (next : Option Task) → next ≡ None
+    → Goes first seen now old b before shown next
+    → Pursues (Pursued first) seen now old b before shown (Ok tt)
 ends first seen now old b before shown next is so_far =
     let done = subst (Goes first seen now old b before shown) is so_far in
     record {
-      leads = over_map seen.contents old old (λ pages over. over) (λ pages over behind. behind.world) done.follows;
-      lines = over_map seen.contents old old (λ pages over. over) (λ pages over behind. sym (append-nil shown) ∙ behind.lines) done.follows;
-      over = over_map seen.contents old old (λ pages over. over) (λ pages over behind. behind.over) done.follows;
+      leads =
+          over_map seen.contents old old (λ pages over. over)
+          (λ pages over behind. behind.world) done.follows;
+      lines =
+          over_map seen.contents old old (λ pages over. over)
+          (λ pages over behind. sym (append-nil shown) ∙ behind.lines) done.follows;
+      over =
+          over_map seen.contents old old (λ pages over. over)
+          (λ pages over behind. behind.over) done.follows;
       asks = over_map seen.contents old old (λ pages over. over)
-          (λ pages over behind. subst (λ (a : List (List ℕ × Bool)). Asks a seen now) (sym (append-nil behind.so_far) ∙ behind.asked) behind.asks) done.follows;
+          (λ pages over behind. subst (λ (a : List (List ℕ × Bool)). Asks a seen now)
+          (sym (append-nil behind.so_far) ∙ behind.asked) behind.asks) done.follows;
       steady = done.steady;
       failed = λ failed. absurd (cc);
       rose = λ failed. absurd (cc);
@@ -200,7 +252,8 @@ pub store_of : (err : RunErr) → ◌≡◌ {A = Result (Unit {0}) RunErr} (Err 
     → ◌≡◌ {A = Result (Option Task) RunErr} (Err err) (Err Store)
 store_of err is = cc
 
-fails_behind : (pages : Pages) (step : Step) (seen now after : Seen) (b : Browser) (before shown : List Line) (one : Task)
+fails_behind : (pages : Pages) (step : Step) (seen now after : Seen) (b : Browser)
+    (before shown : List Line) (one : Task)
     → Behind pages step seen now b before shown (Some one)
     → Fails (task_once pages [] b.world one).step.asked now after → Fails step.asked seen after
 fails_behind pages step seen now after b before shown one behind fails =
@@ -209,9 +262,11 @@ fails_behind pages step seen now after b before shown one behind fails =
     subst (λ (a : List (List ℕ × Bool)). Fails a seen after)
     (append_assoc behind.so_far asked rest.0
     ∙ ap (λ (a : List (List ℕ × Bool)). behind.so_far ++ a) (sym rest.1) ∙ behind.asked)
-    (Fails-more (behind.so_far ++ asked) rest.0 seen after (Asks-fails behind.so_far asked seen now after behind.asks fails))
+    (Fails-more (behind.so_far ++ asked) rest.0 seen after
+    (Asks-fails behind.so_far asked seen now after behind.asks fails))
 
-pub fails : (first : Option Task) (seen now after : Seen) (old b new : Browser) (before shown more : List Line) (one : Task) (next : Option Task) (err : RunErr)
+pub fails : (first : Option Task) (seen now after : Seen) (old b new : Browser)
+    (before shown more : List Line) (one : Task) (next : Option Task) (err : RunErr)
     → next ≡ Some one → Goes first seen now old b before shown next
     → Onces (λ told world. task_once told [] world one) now after b new shown more (Err err)
     → Pursues (Pursued first) seen after old new before more (Err err)
@@ -224,12 +279,17 @@ fails first seen now after old b new before shown more one next err is so_far on
       asks = tt;
       steady = tt;
       failed = λ failed. both_told seen.contents now.contents old b
-          {P = λ pages. Behind pages (pursued pages first old.world) seen now b before shown (Some one)}
+          {P = λ pages.
+          Behind pages (pursued pages first old.world) seen now b before shown (Some one)}
           {Q = λ pages. Fails (task_once pages [] b.world one).step.asked now after}
           done.stays.contents (λ pages behind. behind.over)
-          (λ pages behind found. fails_behind pages (pursued pages first old.world) seen now after b before shown one behind found)
+          (λ pages behind found.
+          fails_behind pages
+          (pursued pages first old.world) seen now after b before shown one behind found)
           done.follows (once.failed (store_of err failed));
-      rose = λ failed. subst (λ (k : ℕ). Rose k after.faults) done.steady (once.rose (store_of err failed));
+      rose =
+          λ failed.
+          subst (λ (k : ℕ). Rose k after.faults) done.steady (once.rose (store_of err failed));
       stays = Stays-then seen now after done.stays once.stays;
     }
 
@@ -238,34 +298,45 @@ abbrev pub turns_left : Browser → Option Task → ℕ
 turns_left b None = 0
 turns_left b (Some one) = b.world.turns + 1
 
-falls_by : (old new : Browser) (one : Task) (next : Option Task) → Spends old new next → turns_left new next < turns_left old (Some one)
+falls_by : (old new : Browser) (one : Task) (next : Option Task) → Spends old new next
+    → turns_left new next < turns_left old (Some one)
 falls_by old new one None spends = omega arith
 falls_by old new one (Some other) spends = omega (arith, spends)
 
-pub falls : (old new : Browser) (one : Task) (found next : Option Task) → found ≡ Some one → Spends old new next
+pub falls : (old new : Browser) (one : Task) (found next : Option Task) → found ≡ Some one
+    → Spends old new next
     → turns_left new next < turns_left old found
 falls old new one found next is spends =
-    subst (λ (o : Option Task). turns_left new next < turns_left old o) (sym is) (falls_by old new one next spends)
+    subst (λ (o : Option Task). turns_left new next < turns_left old o) (sym is)
+    (falls_by old new one next spends)
 
-pub goes_on_from : (first : Option Task) (seen now after : Seen) (old b new : Browser) (before shown more : List Line) (one : Task) (found next : Option Task)
+pub goes_on_from : (first : Option Task) (seen now after : Seen) (old b new : Browser)
+    (before shown more : List Line) (one : Task) (found next : Option Task)
     → found ≡ Some one → Goes first seen now old b before shown found
     → Onces (λ told world. task_once told [] world one) now after b new shown more (Ok next)
     → Goes first seen after old new before more next
 goes_on_from first seen now after old b new before shown more one found next is so_far once =
-    goes_on first seen now after old b new before shown more one next (subst (Goes first seen now old b before shown) is so_far) once
+    goes_on first seen now after old b new before shown more one next
+    (subst (Goes first seen now old b before shown) is so_far) once
 
 -- ---- a call's answer
 
-all_told : (contents : Option Pages) (old : Browser) {P Q R G : Pages → Type 0} → ((pages : Pages) → P pages → Q pages → R pages → G pages)
+all_told : (contents : Option Pages) (old : Browser) {P Q R G : Pages → Type 0}
+    → ((pages : Pages) → P pages → Q pages → R pages → G pages)
     → IfOver contents old P → IfOver contents old Q → IfOver contents old R → IfOver contents old G
 all_told None old f one two three = tt
 all_told (Some pages) old f one two three = λ over. f pages (one over) (two over) (three over)
 
-pub acts_ok : (rule : Pages → World → Step) (seen after : Seen) (old new : Browser) (before lines : List Line) → before ≡ []
+pub acts_ok : (rule : Pages → World → Step) (seen after : Seen) (old new : Browser)
+    (before lines : List Line) → before ≡ []
     → Pursues rule seen after old new before lines (Ok tt) → Acts rule seen after old new (Ok lines)
 acts_ok rule seen after old new before lines none so = record {
   follows = all_told seen.contents old
-      (λ pages leads told over. record { leads = leads; tells = told ∙ ap (λ (l : List Line). l ++ (rule pages old.world).lines) none; over = over })
+      (λ pages leads told over. record {
+        leads = leads;
+        tells = told ∙ ap (λ (l : List Line). l ++ (rule pages old.world).lines) none;
+        over = over;
+      })
       so.leads so.lines so.over;
   asks = so.asks;
   steady = so.steady;
@@ -278,8 +349,10 @@ unit_of : (err : RunErr) → ◌≡◌ {A = Result (List Line) RunErr} (Err err)
     → ◌≡◌ {A = Result (Unit {0}) RunErr} (Err err) (Err Store)
 unit_of err is = cc
 
-pub acts_err : (rule : Pages → World → Step) (seen after : Seen) (old new : Browser) (before lines : List Line) (err : RunErr)
-    → Pursues rule seen after old new before lines (Err err) → Acts rule seen after old new (Err err)
+pub acts_err : (rule : Pages → World → Step) (seen after : Seen) (old new : Browser)
+    (before lines : List Line) (err : RunErr)
+    → Pursues rule seen after old new before lines (Err err)
+    → Acts rule seen after old new (Err err)
 acts_err rule seen after old new before lines err so = record {
   follows = tt;
   asks = tt;

@@ -1,5 +1,6 @@
 -- The rules over pages are those over the place at hand.
-use Rattle.std.proofs.Common.{◌≡◌, ◌∙◌, Bool, true, false, List, [], ◌∷◌, ◌++◌, Option, Some, None, Ok, Err, refl, ap}
+use Rattle.std.proofs.Common.{◌≡◌, ◌∙◌, Bool, true, false, List, [], ◌∷◌, ◌++◌}
+use Rattle.std.proofs.Common.{Option, Some, None, Ok, Err, refl, ap}
 use Rattle.std.specs.Prelude.{Result, if◌then◌else◌, nat_lt, length, drop}
 use Rattle.std.specs.Option.{option_and_then}
 use Rattle.wap_url.specs.declared.url.Url.{Url}
@@ -20,9 +21,12 @@ use Rattle.wap_world.specs.Steps.{quiet}
 use Rattle.wap_world.specs.History.{pushed, entry_of, in_deck, back_at, all_but_last}
 use Rattle.wap_world.specs.Entering.{event_task, entered, enter}
 use Rattle.wap_world.specs.Requests.{test, test_of, deck_answer}
-use Rattle.wap_world.specs.Tasks.{after_step, refused, with_deck, card_for, in_context, arrive, arrive_if, try_deck, return}
+use Rattle.wap_world.specs.Tasks.{after_step, refused, with_deck, card_for, in_context}
+use Rattle.wap_world.specs.Tasks.{arrive, arrive_if, try_deck, return}
 use Rattle.wap_context.specs.Browsers.{Browser, IsOver, place_held}
-use Rattle.wap_context.specs.inside.Held.{leave_and_set_at, refused_at, entered_at, enter_at, arrive_at, arrive_if_at, return_at, answered_at, returned_at}
+use Rattle.wap_context.specs.inside.Held.{leave_and_set_at, refused_at, entered_at}
+use Rattle.wap_context.specs.inside.Held.{enter_at, arrive_at, arrive_if_at, return_at}
+use Rattle.wap_context.specs.inside.Held.{answered_at, returned_at}
 use Rattle.wap_context.proofs.Places.{held_now, last_pushed}
 use Rattle.wap_context.proofs.Arrivals.{has_deck, in_deck_url}
 
@@ -31,11 +35,13 @@ entered_is : (pages : Pages) (world : World) (next : Option Task)
 entered_is pages world None = refl
 entered_is pages world (Some task) = refl
 
-enter_is : (pages : Pages) (event : Event) (world : World) (place : Option Place) → place_now pages world ≡ place
+enter_is : (pages : Pages) (event : Event) (world : World) (place : Option Place)
+    → place_now pages world ≡ place
     → enter pages [] event world ≡ enter_at event place world
 enter_is pages event world place at =
     let inside = record world { timer = NotStarted } in
-    entered_is pages inside (event_task pages event inside) ∙ ap (λ (p : Option Place). enter_at event p world) at
+    entered_is pages inside (event_task pages event inside)
+    ∙ ap (λ (p : Option Place). enter_at event p world) at
 
 -- the place after a push
 place_behind : (pages : Pages) (world : World) (history : List Entry) (entry : Entry) (deck : Deck)
@@ -67,18 +73,23 @@ module _ (pages : Pages) (browser : Browser) (over : IsOver pages browser) where
       let left = leave_and_set_at sets (place_now pages w) w in
       let context = in_context deck number left.world in
       let inside = pushed context entry in
-      let kept = if nat_lt (length context.history) context.limits.history then context.history else drop 1 context.history in
-      ap (after_step (quiet [] left)) (enter_is pages Forward inside (place_in entry deck) (place_behind pages inside kept entry deck refl has))
+      let kept =
+      if nat_lt (length context.history) context.limits.history then context.history
+      else drop 1 context.history in
+      ap (after_step (quiet [] left)) (enter_is pages Forward inside (place_in entry deck)
+      (place_behind pages inside kept entry deck refl has))
       ∙ ap (λ (p : Option Place). arrive_at sets url p w deck) now
 
-  pub return_is : (sets : Pairs) (earlier : Entry) (deck : Deck) → deck_at pages earlier.url ≡ Some deck
+  pub return_is : (sets : Pairs) (earlier : Entry) (deck : Deck)
+      → deck_at pages earlier.url ≡ Some deck
       → return pages [] sets earlier w deck ≡ return_at sets earlier place w deck
   return_is sets earlier deck has =
       let entry = in_deck deck earlier in
       let left = leave_and_set_at sets (place_now pages w) w in
       let inside = back_at left.world entry in
       let kept = all_but_last (all_but_last left.world.history) in
-      let url : entry.url ≡ earlier.url = in_deck_url (nat_lt earlier.card (length (cards_of deck))) earlier in
+      let url : entry.url ≡ earlier.url =
+      in_deck_url (nat_lt earlier.card (length (cards_of deck))) earlier in
       ap (after_step (quiet [] left)) (enter_is pages Backward inside (place_in entry deck)
       (place_behind pages inside kept entry deck refl (ap (deck_at pages) url ∙ has)))
       ∙ ap (λ (p : Option Place). return_at sets earlier p w deck) now
@@ -92,14 +103,20 @@ module _ (pages : Pages) (browser : Browser) (over : IsOver pages browser) where
   abbrev AnswersSo : Url → Result Deck Refusal → Type 0
   AnswersSo url answer = answer ≡ deck_answer (page_of (name_for url) pages)
 
-  pub answered_is : (sets : Pairs) (caller : Option Url) (url : Url) (answer : Result Deck Refusal) → AnswersSo url answer
-      → with_deck pages [] w (try_deck pages [] sets caller url w) answer ≡ answered_at sets caller url place w answer
+  pub answered_is : (sets : Pairs) (caller : Option Url) (url : Url) (answer : Result Deck Refusal)
+      → AnswersSo url answer
+      → with_deck pages [] w (try_deck pages [] sets caller url w) answer
+      ≡ answered_at sets caller url place w answer
   answered_is sets caller url (Err refusal) is = refused_is refusal
   answered_is sets caller url (Ok deck) is =
       let one = test_of url caller deck in
-      ap (after_step (test [] one w)) (arrive_if_is sets url deck one.allowed (has_deck deck (page_of (name_for url) pages) is))
+      ap (after_step (test [] one w))
+      (arrive_if_is sets url deck one.allowed (has_deck deck (page_of (name_for url) pages) is))
 
-  pub returned_is : (sets : Pairs) (earlier : Entry) (answer : Result Deck Refusal) → AnswersSo earlier.url answer
-      → with_deck pages [] w (return pages [] sets earlier w) answer ≡ returned_at sets earlier place w answer
+  pub returned_is : (sets : Pairs) (earlier : Entry) (answer : Result Deck Refusal)
+      → AnswersSo earlier.url answer
+      → with_deck pages [] w (return pages [] sets earlier w) answer
+      ≡ returned_at sets earlier place w answer
   returned_is sets earlier (Err refusal) is = refused_is refusal
-  returned_is sets earlier (Ok deck) is = return_is sets earlier deck (has_deck deck (page_of (name_for earlier.url) pages) is)
+  returned_is sets earlier (Ok deck) is =
+      return_is sets earlier deck (has_deck deck (page_of (name_for earlier.url) pages) is)

@@ -1,5 +1,6 @@
 -- One navigation over pages: from what its parts come to.
-use Rattle.std.proofs.Common.{◌≡◌, ◌∙◌, ℕ, ◌+◌, Bool, List, [], ◌∷◌, ◌++◌, Option, Some, None, Ok, Err, refl, sym, ap, subst, append_assoc}
+use Rattle.std.proofs.Common.{◌≡◌, ◌∙◌, ℕ, ◌+◌, Bool, List, [], ◌∷◌, ◌++◌, Option, Some}
+use Rattle.std.proofs.Common.{None, Ok, Err, refl, sym, ap, subst, append_assoc}
 use Rattle.std.specs.Prelude.{Result, IfSome, IfOk, OnOk, IsErr, IsErrAnd}
 use Rattle.std.proofs.lemmas.Bool.{false≢true}
 use Rattle.wap_base.specs.declared.fault.RunErr.{RunErr}
@@ -16,7 +17,8 @@ use Rattle.wap_world.specs.Steps.{Once}
 use Rattle.wap_world.specs.Requests.{Request, request_line, ask, answer_to}
 use Rattle.wap_world.specs.Tasks.{after_step}
 use Rattle.wap_context.specs.Browsers.{Browser, IsOver, IfOver}
-use Rattle.wap_context.specs.inside.Moving.{Line, Moves, Answers, Asked, Leads, Takes, Spends, Onces}
+use Rattle.wap_context.specs.inside.Moving.{Line, Moves, Answers, Asked}
+use Rattle.wap_context.specs.inside.Moving.{Leads, Takes, Spends, Onces}
 
 abbrev Rule : Type 0
 Rule = Pages → World → Once
@@ -29,17 +31,20 @@ over_all None browser f = tt
 over_all (Some pages) browser f = f pages
 
 pub over_map : (contents : Option Pages) (old mid : Browser) {Fact Goal : Pages → Type 0}
-    → ((pages : Pages) → IsOver pages old → IsOver pages mid) → ((pages : Pages) → IsOver pages old → Fact pages → Goal pages)
+    → ((pages : Pages) → IsOver pages old → IsOver pages mid)
+    → ((pages : Pages) → IsOver pages old → Fact pages → Goal pages)
     → IfOver contents mid Fact → IfOver contents old Goal
 over_map None old mid onto f so = tt
 over_map (Some pages) old mid onto f so = λ over. f pages over (so (onto pages over))
 
 pub told_map : (contents : Option Pages) (old : Browser) {Told Goal : Pages → Type 0}
-    → ((pages : Pages) → IsOver pages old → Told pages → Goal pages) → IfSome contents Told → IfOver contents old Goal
+    → ((pages : Pages) → IsOver pages old → Told pages → Goal pages) → IfSome contents Told
+    → IfOver contents old Goal
 told_map None old f so = tt
 told_map (Some pages) old f so = λ over. f pages over so
 
-if_ok_both : {X E : Type 0} {P Q : X → Type 0} (result : Result X E) → ((x : X) → P x → Q x) → IfOk result P → IfOk result Q
+if_ok_both : {X E : Type 0} {P Q : X → Type 0} (result : Result X E) → ((x : X) → P x → Q x)
+    → IfOk result P → IfOk result Q
 if_ok_both (Ok x) f so = f x so
 if_ok_both (Err e) f so = tt
 
@@ -49,7 +54,8 @@ on_ok_both (Err e) f so = tt
 
 -- ---- ends
 
-pub takes_err : (rule : Rule) (seen after : Seen) (old new : Browser) (before shown : List Line) (err : RunErr)
+pub takes_err : (rule : Rule) (seen after : Seen) (old new : Browser)
+    (before shown : List Line) (err : RunErr)
     → Stays seen after → err ≡ NoMemory → Takes rule seen after old new before shown (Err err)
 takes_err rule seen after old new before shown err stays is = record {
   follows = tt;
@@ -61,7 +67,8 @@ takes_err rule seen after old new before shown err stays is = record {
   turns = tt;
 }
 
-pub takes_moves : (rule : Rule) (seen : Seen) (old new : Browser) (before shown : List Line) (next : Option Task)
+pub takes_moves : (rule : Rule) (seen : Seen) (old new : Browser) (before shown : List Line)
+    (next : Option Task)
     (once : Once) (AreThese : Pages → Type 0) → Moves once AreThese old new before shown next
     → ((pages : Pages) → IsOver pages old → AreThese pages × (rule pages old.world ≡ once))
     → Takes rule seen seen old new before shown (Ok next)
@@ -86,10 +93,12 @@ takes_moves rule seen old new before shown next once AreThese moves is = record 
 }
 
 -- by another rule
-pub takes_from : (rule other : Rule) (seen after : Seen) (old new : Browser) (before shown : List Line)
+pub takes_from : (rule other : Rule) (seen after : Seen) (old new : Browser)
+    (before shown : List Line)
     (result : Result (Option Task) RunErr)
     → ((pages : Pages) → IsOver pages old → other pages old.world ≡ rule pages old.world)
-    → Takes other seen after old new before shown result → Takes rule seen after old new before shown result
+    → Takes other seen after old new before shown result
+    → Takes rule seen after old new before shown result
 takes_from rule other seen after old new before shown result is so = record {
   follows = if_ok_both result
       (λ next. over_map seen.contents old old (λ pages over. over) (λ pages over leads.
@@ -111,17 +120,20 @@ spends_by : (old mid new : Browser) (next : Option Task) → mid.world.turns + 1
 spends_by old mid new None spent same = tt
 spends_by old mid new (Some task) spent same = ap (λ (n : ℕ). n + 1) same ∙ spent
 
-spends_in : (old mid new : Browser) (result : Result (Option Task) RunErr) → mid.world.turns + 1 ≡ old.world.turns
+spends_in : (old mid new : Browser) (result : Result (Option Task) RunErr)
+    → mid.world.turns + 1 ≡ old.world.turns
     → OnOk result (new.world.turns ≡ mid.world.turns) → IfOk result (Spends old new)
 spends_in old mid new (Ok next) spent same = spends_by old mid new next spent same
 spends_in old mid new (Err err) spent same = tt
 
-pub onces_from : (rule other : Rule) (seen after : Seen) (old mid new : Browser) (before shown : List Line)
+pub onces_from : (rule other : Rule) (seen after : Seen) (old mid new : Browser)
+    (before shown : List Line)
     (result : Result (Option Task) RunErr)
     → ((pages : Pages) → IsOver pages old → IsOver pages mid)
     → ((pages : Pages) → IsOver pages old → other pages mid.world ≡ rule pages old.world)
     → mid.world.turns + 1 ≡ old.world.turns
-    → Takes other seen after mid new before shown result → Onces rule seen after old new before shown result
+    → Takes other seen after mid new before shown result
+    → Onces rule seen after old new before shown result
 onces_from rule other seen after old mid new before shown result onto is spent so = record {
   follows = if_ok_both result
       (λ next. over_map seen.contents old mid onto (λ pages over leads.
@@ -138,8 +150,10 @@ onces_from rule other seen after old mid new before shown result onto is spent s
 }
 
 -- a navigation that is settled
-pub onces_settled : (rule : Rule) (seen : Seen) (old new : Browser) (before shown : List Line) (next : Option Task)
-    → next ≡ None → Takes rule seen seen old new before shown (Ok next) → Onces rule seen seen old new before shown (Ok next)
+pub onces_settled : (rule : Rule) (seen : Seen) (old new : Browser) (before shown : List Line)
+    (next : Option Task)
+    → next ≡ None → Takes rule seen seen old new before shown (Ok next)
+    → Onces rule seen seen old new before shown (Ok next)
 onces_settled rule seen old new before shown next is so = record {
   follows = so.follows;
   asks = so.asks;
@@ -150,12 +164,22 @@ onces_settled rule seen old new before shown next is so = record {
   spends = subst (Spends old new) (sym is) tt;
 }
 
-pub onces_rejected : (rule : Rule) (seen : Seen) (old new : Browser) (before shown : List Line) (result : Result (Option Task) RunErr)
-    → IsErr result → IsErrAnd result (λ err. err ≡ NoMemory) → Onces rule seen seen old new before shown result
+pub onces_rejected : (rule : Rule) (seen : Seen) (old new : Browser) (before shown : List Line)
+    (result : Result (Option Task) RunErr)
+    → IsErr result → IsErrAnd result (λ err. err ≡ NoMemory)
+    → Onces rule seen seen old new before shown result
 onces_rejected rule seen old new before shown (Ok next) is so = absurd (false≢true is)
 onces_rejected rule seen old new before shown (Err err) is so =
     let takes = takes_err rule seen seen old new before shown err (Stays-same seen) so in
-    record { follows = tt; asks = tt; steady = tt; failed = takes.failed; rose = takes.rose; stays = takes.stays; spends = tt }
+    record {
+      follows = tt;
+      asks = tt;
+      steady = tt;
+      failed = takes.failed;
+      rose = takes.rose;
+      stays = takes.stays;
+      spends = tt;
+    }
 
 -- ---- a page that was asked for
 
@@ -163,7 +187,8 @@ module _ (one : Request) where
   abbrev first : List (List ℕ × Bool)
   first = (name_for one.url, one.fresh) ∷ []
 
-  pub takes_asked : (rule : Rule) (seen after : Seen) (old new : Browser) (before mid shown : List Line) (next : Option Task)
+  pub takes_asked : (rule : Rule) (seen after : Seen) (old new : Browser)
+      (before mid shown : List Line) (next : Option Task)
       (answer : Result Deck Refusal) (once : Once)
       → Asked one seen after before mid (Ok answer)
       → Moves once (Answers one.url answer old) old new mid shown next
@@ -185,7 +210,8 @@ module _ (one : Request) where
         }) asked.answer;
     asks = told_map seen.contents old (λ pages over told.
         subst (λ (l : List (List ℕ × Bool)). Asks l seen after)
-        (sym (ap (λ (o : Once). o.step.asked) (is pages over told) ∙ ap (λ l. first ++ l) moves.asked)) asked.asks) asked.answer;
+        (sym (ap (λ (o : Once). o.step.asked) (is pages over told)
+        ∙ ap (λ l. first ++ l) moves.asked)) asked.asks) asked.answer;
     steady = asked.asks.steady;
     failed = λ failed. absurd (cc);
     rose = λ failed. absurd (cc);
@@ -194,7 +220,8 @@ module _ (one : Request) where
   }
 
   -- the store failed
-  pub takes_failed : (rule : Rule) (seen after : Seen) (old new : Browser) (before shown : List Line) (err : RunErr)
+  pub takes_failed : (rule : Rule) (seen after : Seen) (old new : Browser)
+      (before shown : List Line) (err : RunErr)
       → Asked one seen after before shown (Err err)
       → ((pages : Pages) → IsOver pages old
       → (rest : List (List ℕ × Bool)) × ((rule pages old.world).step.asked ≡ first ++ rest))
@@ -217,9 +244,13 @@ module _ (one : Request) where
 
 pub takes_no_memory : (rule : Rule) (seen : Seen) (old new : Browser) (before shown : List Line)
     → Takes rule seen seen old new before shown (Err NoMemory)
-takes_no_memory rule seen old new before shown = takes_err rule seen seen old new before shown NoMemory (Stays-same seen) refl
+takes_no_memory rule seen old new before shown =
+    takes_err rule seen seen old new before shown NoMemory (Stays-same seen) refl
 
-pub takes_rejected : (rule : Rule) (seen : Seen) (old new : Browser) (before shown : List Line) (result : Result (Option Task) RunErr)
-    → IsErr result → IsErrAnd result (λ err. err ≡ NoMemory) → Takes rule seen seen old new before shown result
+pub takes_rejected : (rule : Rule) (seen : Seen) (old new : Browser) (before shown : List Line)
+    (result : Result (Option Task) RunErr)
+    → IsErr result → IsErrAnd result (λ err. err ≡ NoMemory)
+    → Takes rule seen seen old new before shown result
 takes_rejected rule seen old new before shown (Ok next) is so = absurd (false≢true is)
-takes_rejected rule seen old new before shown (Err err) is so = takes_err rule seen seen old new before shown err (Stays-same seen) so
+takes_rejected rule seen old new before shown (Err err) is so =
+    takes_err rule seen seen old new before shown err (Stays-same seen) so

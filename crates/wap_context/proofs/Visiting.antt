@@ -1,5 +1,6 @@
 -- A URL that a user opens, and all that it leads to.
-use Rattle.std.proofs.Common.{◌≡◌, ◌∙◌, ℕ, Bool, List, [], ◌++◌, Option, Some, None, Ok, Err, refl, sym, ap, ap₂, subst, append_assoc, append-nil}
+use Rattle.std.proofs.Common.{◌≡◌, ◌∙◌, ℕ, Bool, List, [], ◌++◌, Option, Some, None, Ok, Err}
+use Rattle.std.proofs.Common.{refl, sym, ap, ap₂, subst, append_assoc, append-nil}
 use Rattle.wap_base.specs.declared.fault.RunErr.{RunErr}
 use Rattle.wap_base.specs.Count.{Rose}
 use Rattle.wap_cardrules.specs.declared.task.Task.{Task}
@@ -19,7 +20,11 @@ use Rattle.wap_context.proofs.Pursuing.{Same, Pursued, both_told, asked_by, stor
 onward_by : (pages : Pages) (step : Step) (next : Option Task) → step.keys ≡ []
     → Same (go_on (act pages) step next) (followed step (λ keys world. pursued pages next world))
 onward_by pages step None keys =
-    record { world = refl; lines = sym (append-nil step.lines); asked = sym (append-nil step.asked) }
+    record {
+      world = refl;
+      lines = sym (append-nil step.lines);
+      asked = sym (append-nil step.asked);
+    }
 onward_by pages step (Some one) keys =
     let is : act pages step.keys step.world one ≡ act pages [] step.world one =
     ap (λ k. act pages k step.world one) keys in
@@ -30,9 +35,11 @@ onward_by pages step (Some one) keys =
     }
 
 -- the navigation came to this, and so much is left to do
-onward_is : (pages : Pages) (once : Once) (mid : Browser) (before shown : List Line) (next : Option Task)
+onward_is : (pages : Pages) (once : Once) (mid : Browser) (before shown : List Line)
+    (next : Option Task)
     → Leads pages once mid before shown next
-    → Same (onward (act pages) once) (followed once.step (λ keys world. pursued pages next mid.world))
+    → Same (onward (act pages) once)
+    (followed once.step (λ keys world. pursued pages next mid.world))
 onward_is pages once mid before shown next leads =
     let law = onward_by pages once.step once.next leads.keys in
     let left : pursued pages once.next once.step.world ≡ pursued pages next mid.world =
@@ -43,14 +50,16 @@ onward_is pages once mid before shown next leads =
       asked = law.asked ∙ ap (λ (s : Step). once.step.asked ++ s.asked) left;
     }
 
-module _ (rule : Pages → World → Once) (seen now : Seen) (old mid : Browser) (before shown : List Line) where
+module _ (rule : Pages → World → Once) (seen now : Seen) (old mid : Browser)
+    (before shown : List Line) where
   abbrev Onward : Pages → World → Step
   Onward told world = onward (act told) (rule told world)
 
   -- a navigation over these pages, and what it asked for
   abbrev Led : Option Task → Pages → Type 0
   Led next pages =
-      Leads pages (rule pages old.world) mid before shown next × Asks (rule pages old.world).step.asked seen now
+      Leads pages (rule pages old.world) mid before shown next
+      × Asks (rule pages old.world).step.asked seen now
 
   led : (next : Option Task) → Onces rule seen now old mid before shown (Ok next)
       → IfOver seen.contents old (Led next)
@@ -59,7 +68,8 @@ module _ (rule : Pages → World → Once) (seen now : Seen) (old mid : Browser)
       {P = λ pages. IsOver pages old × Leads pages (rule pages old.world) mid before shown next}
       {Q = λ pages. Asks (rule pages old.world).step.asked seen now} refl
       (λ pages both. both.0) (λ pages both asks. (both.1, asks))
-      (over_map seen.contents old old (λ pages over. over) (λ pages over leads. (over, leads)) once.follows)
+      (over_map seen.contents old old (λ pages over. over)
+      (λ pages over leads. (over, leads)) once.follows)
       once.asks
 
   -- what is left to do comes to its end
@@ -72,25 +82,33 @@ module _ (rule : Pages → World → Once) (seen now : Seen) (old mid : Browser)
       let so = led next once in
       record {
         leads = both_told seen.contents now.contents old mid {P = Led next}
-            {Q = λ pages. new.world ≡ (pursued pages next mid.world).world} same (λ pages both. both.0.over)
+            {Q = λ pages. new.world ≡ (pursued pages next mid.world).world} same
+            (λ pages both. both.0.over)
             (λ pages both leads.
-            leads ∙ sym (onward_is pages (rule pages old.world) mid before shown next both.0).world) so rest.leads;
+            leads ∙ sym (onward_is pages (rule pages old.world) mid before shown next both.0).world)
+            so rest.leads;
         lines = both_told seen.contents now.contents old mid {P = Led next}
-            {Q = λ pages. more ≡ shown ++ (pursued pages next mid.world).lines} same (λ pages both. both.0.over)
+            {Q = λ pages. more ≡ shown ++ (pursued pages next mid.world).lines} same
+            (λ pages both. both.0.over)
             (λ pages both told.
             let left = (pursued pages next mid.world).lines in
             told ∙ ap (λ (l : List Line). l ++ left) both.0.lines
             ∙ append_assoc before (rule pages old.world).step.lines left
             ∙ ap (λ (l : List Line). before ++ l)
-            (sym (onward_is pages (rule pages old.world) mid before shown next both.0).lines)) so rest.lines;
-        over = both_told seen.contents now.contents old mid {P = Led next} {Q = λ pages. IsOver pages new}
+            (sym (onward_is pages (rule pages old.world) mid before shown next both.0).lines))
+            so rest.lines;
+        over =
+            both_told seen.contents now.contents old
+            mid {P = Led next} {Q = λ pages. IsOver pages new}
             same (λ pages both. both.0.over) (λ pages both over. over) so rest.over;
         asks = both_told seen.contents now.contents old mid {P = Led next}
-            {Q = λ pages. Asks (pursued pages next mid.world).asked now after} same (λ pages both. both.0.over)
+            {Q = λ pages. Asks (pursued pages next mid.world).asked now after} same
+            (λ pages both. both.0.over)
             (λ pages both asks.
             subst (λ (a : List (List ℕ × Bool)). Asks a seen after)
             (sym (onward_is pages (rule pages old.world) mid before shown next both.0).asked)
-            (Asks-then (rule pages old.world).step.asked (pursued pages next mid.world).asked seen now after both.1 asks))
+            (Asks-then (rule pages old.world).step.asked
+            (pursued pages next mid.world).asked seen now after both.1 asks))
             so rest.asks;
         steady = rest.steady ∙ once.steady;
         failed = λ failed. absurd (cc);
@@ -99,7 +117,8 @@ module _ (rule : Pages → World → Once) (seen now : Seen) (old mid : Browser)
       }
 
   -- it fails
-  pub onward_err : (after : Seen) (new : Browser) (more : List Line) (next : Option Task) (err : RunErr)
+  pub onward_err : (after : Seen) (new : Browser) (more : List Line)
+      (next : Option Task) (err : RunErr)
       → Onces rule seen now old mid before shown (Ok next)
       → Pursues (Pursued next) now after mid new shown more (Err err)
       → Pursues Onward seen after old new before more (Err err)
@@ -115,7 +134,8 @@ module _ (rule : Pages → World → Once) (seen now : Seen) (old mid : Browser)
         (λ pages both fails.
         subst (λ (a : List (List ℕ × Bool)). Fails a seen after)
         (sym (onward_is pages (rule pages old.world) mid before shown next both.0).asked)
-        (Asks-fails (rule pages old.world).step.asked (pursued pages next mid.world).asked seen now after both.1 fails))
+        (Asks-fails (rule pages old.world).step.asked
+        (pursued pages next mid.world).asked seen now after both.1 fails))
         (led next once) (rest.failed failed);
     rose = λ failed. subst (λ (k : ℕ). Rose k after.faults) once.steady (rest.rose failed);
     stays = Stays-then seen now after once.stays rest.stays;
@@ -145,7 +165,8 @@ module _ (rule : Pages → World → Once) (seen now : Seen) (old mid : Browser)
 abbrev pub Opens : List ℕ → Pages → World → Once
 Opens text told world = with_turn told [] world world.turns (open_url told [] text)
 
-pub visit_ok : (text : List ℕ) (seen now after : Seen) (old mid new : Browser) (before shown more : List Line) (next : Option Task)
+pub visit_ok : (text : List ℕ) (seen now after : Seen) (old mid new : Browser)
+    (before shown more : List Line) (next : Option Task)
     → Onces (Opens text) seen now old mid before shown (Ok next)
     → Pursues (Pursued next) now after mid new shown more (Ok tt)
     → Pursues (λ told world. visit told [] world text) seen after old new before more (Ok tt)
@@ -153,7 +174,8 @@ unfolding visit
 visit_ok text seen now after old mid new before shown more next once rest =
     onward_ok (Opens text) seen now old mid before shown after new more next once rest
 
-pub visit_err : (text : List ℕ) (seen now after : Seen) (old mid new : Browser) (before shown more : List Line) (next : Option Task) (err : RunErr)
+pub visit_err : (text : List ℕ) (seen now after : Seen) (old mid new : Browser)
+    (before shown more : List Line) (next : Option Task) (err : RunErr)
     → Onces (Opens text) seen now old mid before shown (Ok next)
     → Pursues (Pursued next) now after mid new shown more (Err err)
     → Pursues (λ told world. visit told [] world text) seen after old new before more (Err err)
@@ -161,7 +183,8 @@ unfolding visit
 visit_err text seen now after old mid new before shown more next err once rest =
     onward_err (Opens text) seen now old mid before shown after new more next err once rest
 
-pub opens_err : (text : List ℕ) (seen after : Seen) (old new : Browser) (before shown : List Line) (err : RunErr)
+pub opens_err : (text : List ℕ) (seen after : Seen) (old new : Browser)
+    (before shown : List Line) (err : RunErr)
     → Onces (Opens text) seen after old new before shown (Err err)
     → Pursues (λ told world. visit told [] world text) seen after old new before shown (Err err)
 unfolding visit

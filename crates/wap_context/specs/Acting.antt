@@ -11,7 +11,8 @@ use Rattle.wap_world.specs.Keys.{on_card, pass_time}
 use Rattle.wap_context.specs.Browsers.{Browser, IsOver, IfOver}
 
 -- the browser stands where a step leads, over the same pages, and these are the step's lines
-pub record Follows (pages : Pages) (step : Step) (browser : Browser) (lines : List (List ℕ)) : Type 0
+pub record Follows (pages : Pages) (step : Step) (browser : Browser)
+    (lines : List (List ℕ)) : Type 0
   where
     pub leads : browser.world ≡ step.world
     pub tells : lines ≡ step.lines

@@ -57,7 +57,8 @@ pub fn ask_for<P: Pages>(
     url: &Url,
     lines: &mut Rows<Text>,
 ) -> Result<Result<Shared<GoodDeck>, Refusal>, RunErr>
-    ensures { Asked (plain_get url.now) (P.seen pages.old) (P.seen pages.new) lines.old lines.new result }
+    ensures { Asked (plain_get url.now) (P.seen pages.old)
+        (P.seen pages.new) lines.old lines.new result }
 {
     let request = plain_get(url.copy(alloc)?);
     ask(alloc, pages, &request, lines)

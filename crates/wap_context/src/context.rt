@@ -51,7 +51,9 @@ impl Context {
 
     /// A key begins, which has so many turns.
     pub fn begin_key(&mut self, budget: u32)
-        ensures { self.new ≡ record self.old { world = record self.old.world { budget = budget; turns = budget } } }
+        ensures { self.new ≡ record self.old {
+          world = record self.old.world { budget = budget; turns = budget };
+        } }
     {
         self.state.budget = budget;
         self.state.turns = budget;
@@ -84,7 +86,8 @@ impl Context {
         pages: &mut P,
         task: Task,
     ) -> Result<Rows<Text>, RunErr>
-        ensures { Acts (λ told world. act told [] world task) (P.seen pages.old) (P.seen pages.new) self.old self.new result }
+        ensures { Acts (λ told world. act told [] world task) (P.seen pages.old)
+            (P.seen pages.new) self.old self.new result }
     {
         let mut lines = Rows::new(alloc);
         match self.follow(alloc, pages, Some(task), &mut lines) {
@@ -176,8 +179,10 @@ impl Context {
         number: u16,
         text: &Text,
     ) -> Result<Entered, NoMemory>
-        ensures vars { OnOk result (self.new ≡ with_vars (typed_in self.old number text.now).vars self.old) }
-        ensures answer { IfOk result (λ answer. answer ≡ (typed_in self.old number text.now).answer) }
+        ensures vars { OnOk result
+            (self.new ≡ with_vars (typed_in self.old number text.now).vars self.old) }
+        ensures answer { IfOk result
+            (λ answer. answer ≡ (typed_in self.old number text.now).answer) }
     {
         let current = self.state.card_number();
         match here(&self.deck, current) {
@@ -188,7 +193,8 @@ impl Context {
 
     /// Chooses an option in the field of a number, which shows nothing.
     pub fn choose(&mut self, alloc: Global, field: u16, option: u16) -> Result<Chosen, NoMemory>
-        ensures vars { OnOk result (self.new ≡ with_vars (chosen_in self.old field option).vars self.old) }
+        ensures vars { OnOk result
+            (self.new ≡ with_vars (chosen_in self.old field option).vars self.old) }
         ensures answer { IfOk result (λ answer. answer ≡ (chosen_in self.old field option).answer) }
     {
         let current = self.state.card_number();

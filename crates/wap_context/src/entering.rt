@@ -5,7 +5,9 @@ ghost use Rattle.wap_url.specs.Printing.{without_fragment};
 ghost use Rattle.wap_world.specs.Tasks.{card_for, is_new_context, in_context};
 ghost use Rattle.wap_world.specs.History.{pushed, entry_of, in_deck, back_at};
 ghost use Rattle.wap_context.specs.Browsers.{IsOver, place_held};
-ghost use Rattle.wap_context.specs.inside.Held.{not_started, event_at, enter_at, arrive_at, arrive_if_at, try_deck_at, return_at, refused_at, answered_at, returned_at};
+ghost use Rattle.wap_context.specs.inside.Held.{not_started, event_at, enter_at, arrive_at};
+ghost use Rattle.wap_context.specs.inside.Held.{arrive_if_at, try_deck_at, return_at, refused_at};
+ghost use Rattle.wap_context.specs.inside.Held.{answered_at, returned_at};
 ghost use Rattle.wap_context.specs.inside.Moving.{Moves, HasDeck, Answers};
 
 use crate::context::Context;
@@ -111,7 +113,8 @@ impl Context {
         refusal: Refusal,
         lines: &mut Rows<Text>,
     ) -> Result<Option<Task>, NoMemory>
-        ensures { IfOk result (λ next. Moves (refused_at refusal (place_held self.old) self.old.world)
+        ensures { IfOk result (λ next.
+            Moves (refused_at refusal (place_held self.old) self.old.world)
             (λ pages. IsOver pages self.old) self.old self.new lines.old lines.new next) }
     {
         self.add_refusal(alloc, refusal, lines)?;

@@ -3,7 +3,8 @@ ghost use Rattle.std.specs.Prelude.{◌≡◌, [], None, true, false, IfSome, If
 ghost use Rattle.wap_site.specs.Pages.{Pages as Told};
 ghost use Rattle.std.specs.Option.{option_map};
 ghost use Rattle.wap_world.specs.World.{place_now};
-ghost use Rattle.wap_world.specs.Tasks.{url_now, is_here, with_turn, go, open_url, prev, stay_or_ask, request, ask_back, back_from, task_once};
+ghost use Rattle.wap_world.specs.Tasks.{url_now, is_here, with_turn, go, open_url, prev};
+ghost use Rattle.wap_world.specs.Tasks.{stay_or_ask, request, ask_back, back_from, task_once};
 ghost use Rattle.wap_context.specs.Browsers.{IsOver, place_held};
 ghost use Rattle.wap_context.specs.inside.Held.{page_under, page_here};
 ghost use Rattle.wap_context.specs.inside.Moving.{Takes, Onces, SpendsOne, HasNone};

@@ -2,18 +2,19 @@
 ghost use Rattle.std.specs.Prelude.{◌≡◌};
 ghost use Rattle.wap_world.specs.World.{first_world};
 
+use crate::history::History;
 use std::alloc::Global;
 use std::marker::Model;
 use wap_base::Limits;
 use wap_libs::Gen;
 use wap_vars::Vars;
-use wap_world::{Entry, Timer};
+use wap_world::Timer;
 
 /// Variables, history, timer, turns and the generator. A contract sees the world.
 #[derive(Drop)]
 pub struct State {
     pub vars: Vars,
-    pub history: Vec<Entry>,
+    pub history: History,
     pub timer: Timer,
     pub budget: u32,
     pub turns: u32,
@@ -29,7 +30,7 @@ impl Model for State {
 
     ghost view = { λ state. record {
       vars = state.vars;
-      history = state.history.items;
+      history = state.history;
       timer = state.timer;
       pending = None;
       budget = state.budget;
@@ -46,7 +47,7 @@ impl State {
     {
         State {
             vars: Vars::new(alloc),
-            history: Vec::new(alloc),
+            history: History::new(alloc),
             timer: Timer::Off,
             budget: 0,
             turns: 0,

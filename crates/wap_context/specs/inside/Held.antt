@@ -1,6 +1,7 @@
 -- The rules over the place that a browser has at hand, in place of pages. It only carries proofs.
-use Rattle.std.specs.Prelude.{ℕ, Bool, true, false, if◌then◌else◌, slice_get, List, [], ◌∷◌, Option, Some, None, Result, Ok, Err}
-use Rattle.std.specs.Option.{option_map, option_map_or, option_and_then}
+use Rattle.std.specs.Prelude.{ℕ, Bool, true, false, if◌then◌else◌, slice_get, List, []}
+use Rattle.std.specs.Prelude.{◌∷◌, Option, Some, None, Result, Ok, Err}
+use Rattle.std.specs.Option.{option_map, option_and_then}
 use Rattle.std.specs.Fmt.{decimal}
 use Rattle.wap_url.specs.declared.url.Url.{Url}
 use Rattle.wap_markup.specs.declared.deck.Deck.{Deck}
@@ -38,7 +39,8 @@ pub record Held : Type 0 where
 
 abbrev pub held_in : Option Deck → Option ℕ → Option Held
 held_in deck number = option_and_then (λ one. option_and_then (λ n.
-    option_map (λ card. record { deck = one; card = card }) (slice_get (cards_of one) n)) number) deck
+    option_map (λ card. record { deck = one; card = card }) (slice_get (cards_of one) n)) number)
+    deck
 
 abbrev pub card_number : Browser → Option ℕ
 card_number browser = option_map (λ entry. entry.card) (last_entry browser.world)
@@ -133,7 +135,8 @@ abbrev pub with_deck_at : Option Place → World → (Deck → Once) → Result 
 with_deck_at place world next (Ok deck) = next deck
 with_deck_at place world next (Err refusal) = refused_at refusal place world
 
-abbrev pub answered_at : Pairs → Option Url → Url → Option Place → World → Result Deck Refusal → Once
+abbrev pub answered_at : Pairs → Option Url → Url → Option Place → World
+    → Result Deck Refusal → Once
 answered_at sets caller url place world answer =
     with_deck_at place world (try_deck_at sets caller url place world) answer
 

@@ -1,6 +1,6 @@
 -- What the parts of a navigation come to. It only carries proofs.
-use Rattle.std.specs.Prelude.{◌≡◌, ℕ, ◌+◌, List, [], ◌∷◌, ◌++◌, Option, Some, None, IfSome, IfOk, OnOk, Result, Err}
-use Rattle.std.specs.Option.{option_map}
+use Rattle.std.specs.Prelude.{◌≡◌, ℕ, ◌+◌, List, [], ◌∷◌, ◌++◌, Option, Some}
+use Rattle.std.specs.Prelude.{None, IfSome, IfOk, OnOk, Result, Err}
 use Rattle.wap_base.specs.declared.fault.RunErr.{RunErr}
 use Rattle.wap_base.specs.declared.fault.RunErr.TheVariants.{Store}
 use Rattle.wap_base.specs.Count.{Rose}
@@ -11,7 +11,7 @@ use Rattle.wap_cardrules.specs.declared.task.Task.{Task}
 use Rattle.wap_site.specs.Pages.{Pages, page_of}
 use Rattle.wap_site.specs.Asking.{Seen, Stays, Asks, Fails}
 use Rattle.wap_world.specs.declared.refusal.Refusal.{Refusal}
-use Rattle.wap_world.specs.World.{World, Place, deck_at, last_entry}
+use Rattle.wap_world.specs.World.{World, Place, deck_at}
 use Rattle.wap_world.specs.Steps.{Scene, Step, Once, still, quiet}
 use Rattle.wap_world.specs.Requests.{Request, request_line, deck_answer, answer_to}
 use Rattle.wap_world.specs.Tasks.{act}
@@ -59,7 +59,8 @@ Answers url answer browser pages =
 -- a page that was asked for: the answer, and the line
 pub record Asked (request : Request) (seen after : Seen) (before shown : List Line)
     (result : Result (Result Deck Refusal) RunErr) : Type 0 where
-  pub answer : IfOk result (λ answer. IfSome seen.contents (λ pages. answer ≡ answer_to pages request))
+  pub answer :
+      IfOk result (λ answer. IfSome seen.contents (λ pages. answer ≡ answer_to pages request))
   pub lines : OnOk result (shown ≡ before ++ request_line request ∷ [])
   pub asks : OnOk result (Asks ((name_for request.url, request.fresh) ∷ []) seen after)
   pub failed : result ≡ Err Store → Fails ((name_for request.url, request.fresh) ∷ []) seen after
@@ -124,7 +125,8 @@ pursued pages (Some task) world = act pages [] world task
 
 pub record Pursues (rule : Pages → World → Step) (seen after : Seen) (old new : Browser)
     (before shown : List Line) (result : Result (Unit {0}) RunErr) : Type 0 where
-  pub leads : OnOk result (IfOver seen.contents old (λ pages. new.world ≡ (rule pages old.world).world))
+  pub leads :
+      OnOk result (IfOver seen.contents old (λ pages. new.world ≡ (rule pages old.world).world))
   pub lines : OnOk result (IfOver seen.contents old
       (λ pages. shown ≡ before ++ (rule pages old.world).lines))
   pub over : OnOk result (IfOver seen.contents old (λ pages. IsOver pages new))

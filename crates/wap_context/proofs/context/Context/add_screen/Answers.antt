@@ -6,8 +6,11 @@ use Rattle.wap_context.proofs.context.Context.add_screen.Goals as goal
 
 pub returns-in-Some : goal.returns-in-Some
 returns-in-Some c =
-    plays_seen screen_lines screen_held (λ entry one w. refl) c.self.inside.state c.self.inside.deck c.args.self.now c.self.view_is
-    c.in-Some.here (sym c.here.ensures ∙ c.in-Some.is) c.args.lines.now c.add_screen.new.lines c.add_screen.result c.add_screen.ensures
+    plays_seen screen_lines screen_held
+    (λ entry one w. refl) c.self.inside.state c.self.inside.deck c.args.self.now c.self.view_is
+    c.in-Some.here (sym c.here.ensures ∙ c.in-Some.is)
+    c.args.lines.now c.add_screen.new.lines c.add_screen.result c.add_screen.ensures
 
 pub returns-in-None : goal.returns-in-None
-returns-in-None c = plays_nowhere screen_lines c.args.self.now c.args.lines.now (sym c.here.ensures ∙ c.in-None.is)
+returns-in-None c =
+    plays_nowhere screen_lines c.args.self.now c.args.lines.now (sym c.here.ensures ∙ c.in-None.is)

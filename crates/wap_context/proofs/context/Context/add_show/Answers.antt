@@ -6,11 +6,14 @@ use Rattle.wap_context.proofs.context.Context.add_show.Goals as goal
 
 pub returns-in-Some : goal.returns-in-Some
 returns-in-Some c =
-    plays_here show_place show_held (λ entry one w. refl) c.self.inside.state c.self.inside.deck c.args.self.now c.self.view_is
-    c.card_number-number.result c.card_number-number.ensures c.here.result c.here.ensures c.in-Some.here c.in-Some.is
+    plays_here show_place show_held
+    (λ entry one w. refl) c.self.inside.state c.self.inside.deck c.args.self.now c.self.view_is
+    c.card_number-number.result c.card_number-number.ensures c.here.result c.here.ensures
+    c.in-Some.here c.in-Some.is
     c.show.new.self c.args.lines.now c.show.new.lines c.show.result c.show.ensures
 
 pub returns-in-None : goal.returns-in-None
 returns-in-None c =
     plays_none show_place c.self.inside.state c.self.inside.deck c.args.self.now c.self.view_is
-    c.card_number-number.result c.card_number-number.ensures c.here.result c.here.ensures c.in-None.is c.args.lines.now
+    c.card_number-number.result c.card_number-number.ensures c.here.result c.here.ensures
+    c.in-None.is c.args.lines.now

@@ -12,7 +12,8 @@ pub returns-in-Some : goal.returns-in-Some
 returns-in-Some c =
     plays_here end_place (λ one w. end_timer one.card w) (λ entry one w. refl)
     c.self.inside.state c.self.inside.deck c.args.self.now c.self.view_is
-    c.card_number-number.result c.card_number-number.ensures c.here.result c.here.ensures c.in-Some.here c.in-Some.is
+    c.card_number-number.result c.card_number-number.ensures c.here.result c.here.ensures
+    c.in-Some.here c.in-Some.is
     c.end_timer.new.self c.args.lines.now c.end_timer.new.lines c.end_timer.result
     (subst (λ (card : Node). OnOk c.end_timer.result
     (Plays (end_timer card c.self.inside.state) c.self.inside.state c.end_timer.new.self
@@ -22,4 +23,5 @@ returns-in-Some c =
 pub returns-in-None : goal.returns-in-None
 returns-in-None c =
     plays_none end_place c.self.inside.state c.self.inside.deck c.args.self.now c.self.view_is
-    c.card_number-number.result c.card_number-number.ensures c.here.result c.here.ensures c.in-None.is c.args.lines.now
+    c.card_number-number.result c.card_number-number.ensures c.here.result c.here.ensures
+    c.in-None.is c.args.lines.now

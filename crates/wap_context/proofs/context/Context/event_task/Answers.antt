@@ -9,6 +9,7 @@ pub returns-in-Some : goal.returns-in-Some
 returns-in-Some c =
     if_ok c.binding.result
     (λ task is. is
-    ∙ ap₂ (λ (vars : Variables) (one : Held). binding vars one.deck one.card c.args.event) c.vars.ensures c.here-in-Some.view_is
+    ∙ ap₂ (λ (vars : Variables) (one : Held). binding vars one.deck one.card c.args.event)
+    c.vars.ensures c.here-in-Some.view_is
     ∙ event_here c.args.event c.args.self.now c.in-Some.here (sym c.here.ensures ∙ c.in-Some.is))
     c.binding.ensures

@@ -8,35 +8,50 @@ use Rattle.wap_context.proofs.context.Context.go.Goals as goal
 pub returns-in_ok-request-in-Ok : goal.returns-in_ok-request-in-Ok
 returns-in_ok-request-in-Ok g c =
     takes_from (λ told world. go told [] (url_now told world) c.args.one world)
-    (λ told world. stay_or_ask told [] c.args.one.sets c.in_ok-base.base c.in_ok-request-in-Ok.request world (place_now told world))
-    (g.P.Pages.seen c.args.pages.now) (g.P.Pages.seen c.stay_or_ask.new.pages) c.args.self.now c.stay_or_ask.new.self
+    (λ told world.
+    stay_or_ask told [] c.args.one.sets c.in_ok-base.base c.in_ok-request-in-Ok.request world
+    (place_now told world))
+    (g.P.Pages.seen c.args.pages.now)
+    (g.P.Pages.seen c.stay_or_ask.new.pages) c.args.self.now c.stay_or_ask.new.self
     c.args.lines.now c.stay_or_ask.new.lines c.stay_or_ask.result
-    (λ pages over. go_is pages c.args.self.now over c.in_ok-base.base c.args.one c.in-Ok.url c.in_ok-request-in-Ok.request
+    (λ pages over.
+    go_is pages c.args.self.now over c.in_ok-base.base c.args.one c.in-Ok.url
+    c.in_ok-request-in-Ok.request
     c.in_ok-base.ensures (sym c.in-Ok.is ∙ c.in_ok-url.ensures) c.in_ok-request-in-Ok.ensures)
     c.stay_or_ask.ensures
 
 pub returns-in_ok-refused-in-Err : goal.returns-in_ok-refused-in-Err
 returns-in_ok-refused-in-Err g c =
-    refused_takes (g.P.Pages.seen c.args.pages.now) c.args.self.now c.refused.new.self c.args.lines.now
-    (λ told world. go told [] (url_now told world) c.args.one world) c.refused.new.lines c.in_ok-refused-in-Err.field-0 c.in-Err.refusal
-    (λ pages over. go_refused pages c.args.self.now over c.in_ok-base.base c.args.one c.in-Err.refusal c.in_ok-base.ensures
+    refused_takes (g.P.Pages.seen c.args.pages.now)
+    c.args.self.now c.refused.new.self c.args.lines.now
+    (λ told world. go told [] (url_now told world) c.args.one world)
+    c.refused.new.lines c.in_ok-refused-in-Err.field-0 c.in-Err.refusal
+    (λ pages over.
+    go_refused pages c.args.self.now over c.in_ok-base.base c.args.one c.in-Err.refusal
+    c.in_ok-base.ensures
     (sym c.in-Err.is ∙ c.in_ok-url.ensures))
     c.in_ok-refused-in-Err.ensures
 
 pub returns-in_err-url : goal.returns-in_err-url
 returns-in_err-url g c =
     takes_rejected (λ told world. go told [] (url_now told world) c.args.one world)
-    (g.P.Pages.seen c.args.pages.now) c.args.self.now c.args.self.now c.args.lines.now c.args.lines.now
-    c.from_residual-in_err-url.result c.from_residual-in_err-url.ensures.0 c.from_residual-in_err-url.ensures.1
+    (g.P.Pages.seen c.args.pages.now)
+    c.args.self.now c.args.self.now c.args.lines.now c.args.lines.now
+    c.from_residual-in_err-url.result c.from_residual-in_err-url.ensures.0
+    c.from_residual-in_err-url.ensures.1
 
 pub returns-in_err-request-in-Ok : goal.returns-in_err-request-in-Ok
 returns-in_err-request-in-Ok g c =
     takes_rejected (λ told world. go told [] (url_now told world) c.args.one world)
-    (g.P.Pages.seen c.args.pages.now) c.args.self.now c.args.self.now c.args.lines.now c.args.lines.now
-    c.from_residual-in_err-request-in-Ok.result c.from_residual-in_err-request-in-Ok.ensures.0 c.from_residual-in_err-request-in-Ok.ensures.1
+    (g.P.Pages.seen c.args.pages.now)
+    c.args.self.now c.args.self.now c.args.lines.now c.args.lines.now
+    c.from_residual-in_err-request-in-Ok.result c.from_residual-in_err-request-in-Ok.ensures.0
+    c.from_residual-in_err-request-in-Ok.ensures.1
 
 pub returns-in_err-refused-in-Err : goal.returns-in_err-refused-in-Err
 returns-in_err-refused-in-Err g c =
     takes_rejected (λ told world. go told [] (url_now told world) c.args.one world)
-    (g.P.Pages.seen c.args.pages.now) c.args.self.now c.refused.new.self c.args.lines.now c.refused.new.lines
-    c.from_residual-in_err-refused-in-Err.result c.from_residual-in_err-refused-in-Err.ensures.0 c.from_residual-in_err-refused-in-Err.ensures.1
+    (g.P.Pages.seen c.args.pages.now)
+    c.args.self.now c.refused.new.self c.args.lines.now c.refused.new.lines
+    c.from_residual-in_err-refused-in-Err.result c.from_residual-in_err-refused-in-Err.ensures.0
+    c.from_residual-in_err-refused-in-Err.ensures.1

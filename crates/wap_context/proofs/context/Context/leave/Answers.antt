@@ -12,14 +12,17 @@ pub returns-in-Some : goal.returns-in-Some
 returns-in-Some c =
     plays_here leave_place (λ one w. store_left w.timer one.card w) (λ entry one w. refl)
     c.self.inside.state c.self.inside.deck c.args.self.now c.self.view_is
-    c.card_number-number.result c.card_number-number.ensures c.here.result c.here.ensures c.in-Some.here c.in-Some.is
+    c.card_number-number.result c.card_number-number.ensures c.here.result c.here.ensures
+    c.in-Some.here c.in-Some.is
     c.store_left.new.self c.args.lines.now c.store_left.new.lines c.store_left.result
     (subst (λ (card : Node). OnOk c.store_left.result
-    (Plays (store_left c.self.inside.state.timer card c.self.inside.state) c.self.inside.state c.store_left.new.self
+    (Plays (store_left c.self.inside.state.timer card c.self.inside.state)
+    c.self.inside.state c.store_left.new.self
     c.args.lines.now c.store_left.new.lines))
     (ap (λ (one : Held). one.card) c.here-in-Some.view_is) c.store_left.ensures)
 
 pub returns-in-None : goal.returns-in-None
 returns-in-None c =
     plays_none leave_place c.self.inside.state c.self.inside.deck c.args.self.now c.self.view_is
-    c.card_number-number.result c.card_number-number.ensures c.here.result c.here.ensures c.in-None.is c.args.lines.now
+    c.card_number-number.result c.card_number-number.ensures c.here.result c.here.ensures
+    c.in-None.is c.args.lines.now

@@ -12,16 +12,22 @@ pub returns-in-Some : goal.returns-in-Some
 returns-in-Some g c =
     takes_from (λ told world. prev told [] c.args.sets world)
     (λ told world. back_from told [] c.args.sets c.in-Some.earlier world (place_now told world))
-    (g.P.Pages.seen c.args.pages.now) (g.P.Pages.seen c.back_to.new.pages) c.args.self.now c.back_to.new.self
+    (g.P.Pages.seen c.args.pages.now)
+    (g.P.Pages.seen c.back_to.new.pages) c.args.self.now c.back_to.new.self
     c.args.lines.now c.back_to.new.lines c.back_to.result
-    (λ pages over. prev_some pages c.args.sets c.args.self.now.world c.in_ok-earlier.field-0 c.in-Some.earlier
-    (c.in_ok-earlier.ensures ∙ ap (λ (b : Browser). earlier_entry b.world) c.self.view_is) c.in-Some.is)
+    (λ pages over.
+    prev_some pages c.args.sets c.args.self.now.world c.in_ok-earlier.field-0 c.in-Some.earlier
+    (c.in_ok-earlier.ensures ∙ ap (λ (b : Browser). earlier_entry b.world) c.self.view_is)
+    c.in-Some.is)
     c.back_to.ensures
 
 pub returns-in_ok-refused-in-None : goal.returns-in_ok-refused-in-None
 returns-in_ok-refused-in-None g c =
-    refused_takes (g.P.Pages.seen c.args.pages.now) c.args.self.now c.refused.new.self c.args.lines.now
-    (λ told world. prev told [] c.args.sets world) c.refused.new.lines c.in_ok-refused-in-None.field-0 refusals.First
+    refused_takes (g.P.Pages.seen c.args.pages.now)
+    c.args.self.now c.refused.new.self c.args.lines.now
+    (λ told world. prev told [] c.args.sets world)
+    c.refused.new.lines c.in_ok-refused-in-None.field-0 refusals.First
     (λ pages over. prev_none pages c.args.sets c.args.self.now.world c.in_ok-earlier.field-0
-    (c.in_ok-earlier.ensures ∙ ap (λ (b : Browser). earlier_entry b.world) c.self.view_is) c.in-None.is)
+    (c.in_ok-earlier.ensures ∙ ap (λ (b : Browser). earlier_entry b.world) c.self.view_is)
+    c.in-None.is)
     c.in_ok-refused-in-None.ensures

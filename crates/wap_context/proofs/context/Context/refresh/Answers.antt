@@ -8,9 +8,12 @@ pub returns : goal.returns
 returns c =
     let found = some_held c.here.result c.if-is_none.ensures in
     on_ok c.restart.result
-    (λ two. refresh_joined c.args.sets c.args.self.now c.restart.new.self c.args.lines.now c.restart.new.lines found.0
+    (λ two.
+    refresh_joined c.args.sets c.args.self.now c.restart.new.self c.args.lines.now
+    c.restart.new.lines found.0
     (sym c.here.ensures ∙ found.1)
-    (plays_at_then (leave_and_set_at c.args.sets) (at_place restart_place) c.args.self.now c.leave_and_set.new.self
+    (plays_at_then (leave_and_set_at c.args.sets)
+    (at_place restart_place) c.args.self.now c.leave_and_set.new.self
     c.restart.new.self c.args.lines.now c.leave_and_set.new.lines c.restart.new.lines
     c.in_ok-leave_and_set.ensures two))
     c.restart.ensures

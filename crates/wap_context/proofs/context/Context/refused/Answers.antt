@@ -4,5 +4,6 @@ use Rattle.wap_context.proofs.context.Context.refused.Goals as goal
 
 pub returns : goal.returns
 returns c =
-    moves_settled (refuse_at c.args.refusal) c.args.self.now c.add_refusal.new.self c.args.lines.now c.add_refusal.new.lines
+    moves_settled (refuse_at c.args.refusal)
+    c.args.self.now c.add_refusal.new.self c.args.lines.now c.add_refusal.new.lines
     c.in_ok-add_refusal.ensures

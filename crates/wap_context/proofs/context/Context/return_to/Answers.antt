@@ -5,7 +5,9 @@ use Rattle.wap_context.proofs.context.Context.return_to.Goals as goal
 pub returns : goal.returns
 returns c =
     if_ok c.enter.result
-    (λ next enters. returns_to c.args.sets c.args.earlier c.args.deck c.args.self.now c.leave_and_set.new.self c.pop_card.new.self
+    (λ next enters.
+    returns_to c.args.sets c.args.earlier c.args.deck c.args.self.now c.leave_and_set.new.self
+    c.pop_card.new.self
     c.enter.new.self c.args.lines.now c.leave_and_set.new.lines c.enter.new.lines next
     c.in_ok-leave_and_set.ensures c.in_ok-pop_card.ensures enters)
     c.enter.ensures

@@ -8,7 +8,9 @@ use Rattle.wap_context.proofs.context.Context.returned.Goals as goal
 pub returns-in-Ok : goal.returns-in-Ok
 returns-in-Ok c =
     if_ok c.return_to.result
-    (λ next. moves_ok (return_at c.args.sets c.args.earlier (place_held c.args.self.now) c.args.self.now.world) c.args.earlier.url c.args.self.now
+    (λ next.
+    moves_ok (return_at c.args.sets c.args.earlier
+    (place_held c.args.self.now) c.args.self.now.world) c.args.earlier.url c.args.self.now
     c.return_to.new.self c.args.lines.now c.return_to.new.lines next c.args.answer c.in-Ok.deck
     (HasDeck c.args.earlier.url c.in-Ok.deck) c.in-Ok.is (λ pages over has. has))
     c.return_to.ensures
@@ -16,6 +18,9 @@ returns-in-Ok c =
 pub returns-in-Err : goal.returns-in-Err
 returns-in-Err c =
     if_ok c.refused.result
-    (λ next. moves_no (return_at c.args.sets c.args.earlier (place_held c.args.self.now) c.args.self.now.world) c.args.earlier.url c.args.self.now
-    c.refused.new.self c.args.lines.now c.refused.new.lines next c.args.answer c.in-Err.refusal c.in-Err.is)
+    (λ next.
+    moves_no (return_at c.args.sets c.args.earlier
+    (place_held c.args.self.now) c.args.self.now.world) c.args.earlier.url c.args.self.now
+    c.refused.new.self c.args.lines.now c.refused.new.lines next c.args.answer
+    c.in-Err.refusal c.in-Err.is)
     c.refused.ensures

@@ -4,4 +4,5 @@ use Rattle.wap_context.proofs.context.Context.show.Goals as goal
 
 pub returns : goal.returns
 returns c =
-    shows_of show_place c.args.self.now c.add_show.new.self c.new-lines.result c.add_show.new.lines c.new-lines.ensures c.in_ok-add_show.ensures
+    shows_of show_place c.args.self.now c.add_show.new.self c.new-lines.result c.add_show.new.lines
+    c.new-lines.ensures c.in_ok-add_show.ensures

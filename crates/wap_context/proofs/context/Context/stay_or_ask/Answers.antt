@@ -6,21 +6,28 @@ use Rattle.wap_context.proofs.context.Context.stay_or_ask.Goals as goal
 
 pub returns-in_ok-arrive-in-Some : goal.returns-in_ok-arrive-in-Some
 returns-in_ok-arrive-in-Some g c =
-    stay_arrives (g.P.Pages.seen c.args.pages.now) c.args.self.now c.arrive.new.self c.args.lines.now
-    c.args.sets c.args.caller.now c.args.one c.arrive.new.lines c.in_ok-arrive-in-Some.field-0 c.in_ok-here.field-0
+    stay_arrives (g.P.Pages.seen c.args.pages.now)
+    c.args.self.now c.arrive.new.self c.args.lines.now
+    c.args.sets c.args.caller.now c.args.one c.arrive.new.lines c.in_ok-arrive-in-Some.field-0
+    c.in_ok-here.field-0
     (c.in-Some.here, c.in-Some.deck) c.with_fragment_of-url.result
     c.in_ok-here.ensures c.in-Some.is
-    (c.with_fragment_of-url.ensures ∙ ap (λ (one : Request). record c.in-Some.here { fragment = one.url.fragment }) c.one.view_is)
+    (c.with_fragment_of-url.ensures
+    ∙ ap (λ (one : Request). record c.in-Some.here { fragment = one.url.fragment }) c.one.view_is)
     c.in_ok-arrive-in-Some.ensures
 
 pub returns-in_err-arrive-in-Some : goal.returns-in_err-arrive-in-Some
 returns-in_err-arrive-in-Some g c =
-    takes_rejected (Stays_or_asks (g.P.Pages.seen c.args.pages.now) c.args.self.now c.arrive.new.self c.args.lines.now c.args.sets c.args.caller.now c.args.one)
-    (g.P.Pages.seen c.args.pages.now) c.args.self.now c.arrive.new.self c.args.lines.now c.arrive.new.lines
-    c.from_residual-in_err-arrive-in-Some.result c.from_residual-in_err-arrive-in-Some.ensures.0 c.from_residual-in_err-arrive-in-Some.ensures.1
+    takes_rejected (Stays_or_asks (g.P.Pages.seen c.args.pages.now)
+    c.args.self.now c.arrive.new.self c.args.lines.now c.args.sets c.args.caller.now c.args.one)
+    (g.P.Pages.seen c.args.pages.now)
+    c.args.self.now c.arrive.new.self c.args.lines.now c.arrive.new.lines
+    c.from_residual-in_err-arrive-in-Some.result c.from_residual-in_err-arrive-in-Some.ensures.0
+    c.from_residual-in_err-arrive-in-Some.ensures.1
 
 pub returns-in-None : goal.returns-in-None
 returns-in-None g c =
     stay_asks (g.P.Pages.seen c.args.pages.now) c.args.self.now c.request.new.self c.args.lines.now
-    c.args.sets c.args.caller.now c.args.one (g.P.Pages.seen c.request.new.pages) c.request.new.lines c.in_ok-here.field-0
+    c.args.sets c.args.caller.now c.args.one
+    (g.P.Pages.seen c.request.new.pages) c.request.new.lines c.in_ok-here.field-0
     c.request.result c.in_ok-here.ensures c.in-None.is c.request.ensures

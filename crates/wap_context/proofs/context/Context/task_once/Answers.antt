@@ -7,8 +7,10 @@ use Rattle.wap_context.proofs.context.Context.task_once.Goals as goal
 pub returns-then-take_turn : goal.returns-then-take_turn
 returns-then-take_turn g c =
     let spent = c.take_turn.ensures.taken c.if-take_turn.true in
-    onces_from (λ told world. task_once told [] world c.args.task) (λ told world. go told [] (url_now told world) c.in-Go.one world)
-    (g.P.Pages.seen c.args.pages.now) (g.P.Pages.seen c.go.new.pages) c.args.self.now c.take_turn.new.self c.go.new.self
+    onces_from (λ told world. task_once told [] world c.args.task)
+    (λ told world. go told [] (url_now told world) c.in-Go.one world)
+    (g.P.Pages.seen c.args.pages.now)
+    (g.P.Pages.seen c.go.new.pages) c.args.self.now c.take_turn.new.self c.go.new.self
     c.args.lines.now c.go.new.lines c.go.result
     (λ pages. over_turn pages c.args.self.now c.take_turn.new.self spent.is)
     (λ pages over. go_turn pages c.args.self.now c.take_turn.new.self c.in-Go.one spent.is spent.one
@@ -18,10 +20,13 @@ returns-then-take_turn g c =
 pub returns-then-take_turn-2 : goal.returns-then-take_turn-2
 returns-then-take_turn-2 g c =
     let spent = c.take_turn-in-Prev.ensures.taken c.if-take_turn-2.true in
-    onces_from (λ told world. task_once told [] world c.args.task) (λ told world. prev told [] c.in-Prev.sets world)
-    (g.P.Pages.seen c.args.pages.now) (g.P.Pages.seen c.prev.new.pages) c.args.self.now c.take_turn-in-Prev.new.self c.prev.new.self
+    onces_from (λ told world. task_once told [] world c.args.task)
+    (λ told world. prev told [] c.in-Prev.sets world)
+    (g.P.Pages.seen c.args.pages.now)
+    (g.P.Pages.seen c.prev.new.pages) c.args.self.now c.take_turn-in-Prev.new.self c.prev.new.self
     c.args.lines.now c.prev.new.lines c.prev.result
     (λ pages. over_turn pages c.args.self.now c.take_turn-in-Prev.new.self spent.is)
-    (λ pages over. prev_turn pages c.args.self.now c.take_turn-in-Prev.new.self c.in-Prev.sets spent.is spent.one
+    (λ pages over.
+    prev_turn pages c.args.self.now c.take_turn-in-Prev.new.self c.in-Prev.sets spent.is spent.one
     ∙ ap (task_once pages [] c.args.self.now.world) (sym c.in-Prev.is))
     spent.one c.prev.ensures

@@ -8,15 +8,21 @@ use Rattle.wap_context.proofs.context.Context.try_deck.Goals as goal
 pub returns-then-is_allowed : goal.returns-then-is_allowed
 returns-then-is_allowed c =
     if_ok c.arrive.result
-    (λ next. tries_allowed c.args.sets c.args.caller.now c.args.url c.args.deck c.args.self.now c.arrive.new.self
-    c.args.lines.now c.arrive.new.lines next (ap (λ (d : Deck). may_enter c.args.url d c.args.caller.now) (sym c.deref.ensures)
+    (λ next.
+    tries_allowed c.args.sets c.args.caller.now c.args.url c.args.deck c.args.self.now
+    c.arrive.new.self
+    c.args.lines.now c.arrive.new.lines next
+    (ap (λ (d : Deck). may_enter c.args.url d c.args.caller.now) (sym c.deref.ensures)
     ∙ sym c.in_ok-is_allowed.ensures ∙ c.if-is_allowed.true))
     c.arrive.ensures
 
 pub returns-else-is_allowed : goal.returns-else-is_allowed
 returns-else-is_allowed c =
     if_ok c.refused.result
-    (λ next. tries_denied c.args.sets c.args.caller.now c.args.url c.args.deck c.args.self.now c.refused.new.self
-    c.args.lines.now c.refused.new.lines next (ap (λ (d : Deck). may_enter c.args.url d c.args.caller.now) (sym c.deref.ensures)
+    (λ next.
+    tries_denied c.args.sets c.args.caller.now c.args.url c.args.deck c.args.self.now
+    c.refused.new.self
+    c.args.lines.now c.refused.new.lines next
+    (ap (λ (d : Deck). may_enter c.args.url d c.args.caller.now) (sym c.deref.ensures)
     ∙ sym c.in_ok-is_allowed.ensures ∙ c.if-is_allowed.false))
     c.refused.ensures

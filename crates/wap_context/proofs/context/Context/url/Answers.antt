@@ -10,6 +10,7 @@ pub returns : goal.returns
 returns c =
     let found = some_held c.here.result c.if-is_none.ensures in
     if_ok c.deck_url.result
-    (λ url is. is ∙ ap (λ (b : Browser). option_map (λ (e : Entry). e.url) (last_entry b.world)) c.self.view_is
+    (λ url is.
+    is ∙ ap (λ (b : Browser). option_map (λ (e : Entry). e.url) (last_entry b.world)) c.self.view_is
     ∙ url_here c.args.self.now found.0 (sym c.here.ensures ∙ found.1))
     c.deck_url.ensures

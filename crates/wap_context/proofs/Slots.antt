@@ -1,0 +1,56 @@
+-- Slots of the history, each with an entry.
+use Rattle.std.proofs.Common.{◌≡◌, ◌∙◌, ℕ, List, [], ◌∷◌, ◌++◌, map, length, take}
+use Rattle.std.proofs.Common.{drop, Option, Some, refl, sym, ap}
+use Rattle.std.specs.List.{slice_get, remove}
+use Rattle.std.specs.Option.{option_map}
+use Rattle.std.proofs.lemmas.List.{map-append, length-map, take-map}
+use Rattle.std.proofs.lemmas.Option.{slice_get-map}
+use Rattle.wap_world.specs.declared.history.Entry.{Entry}
+use Rattle.wap_context.specs.inside.History.{entries_in, AreFilled}
+
+abbrev Slots : Type 0
+Slots = List (Option Entry)
+
+-- slots of some entries, and of no others
+entries_in-map : (entries : List Entry) → entries_in (map Some entries) ≡ entries
+entries_in-map [] = refl
+entries_in-map (entry ∷ entries) =
+    ap (λ (others : List Entry). entry ∷ others) (entries_in-map entries)
+
+pub entries_of : (slots : Slots) (entries : List Entry) → slots ≡ map Some entries
+    → entries_in slots ≡ entries
+entries_of slots entries is = ap entries_in is ∙ entries_in-map entries
+
+pub are_filled : (slots : Slots) (entries : List Entry) → slots ≡ map Some entries → AreFilled slots
+are_filled slots entries is = is ∙ ap (map Some) (sym (entries_of slots entries is))
+
+-- ---- what is done to slots that are filled
+
+pub filled_count : (slots : Slots) → AreFilled slots → length slots ≡ length (entries_in slots)
+filled_count slots is = ap length is ∙ length-map (entries_in slots) Some
+
+pub filled_get : (slots : Slots) (at : ℕ) → AreFilled slots
+    → slice_get slots at ≡ option_map Some (slice_get (entries_in slots) at)
+filled_get slots at is =
+    ap (λ (s : Slots). slice_get s at) is ∙ slice_get-map Some (entries_in slots) at
+
+pub filled_push : (slots after : Slots) (entry : Entry) → AreFilled slots
+    → after ≡ slots ++ Some entry ∷ [] → after ≡ map Some (entries_in slots ++ entry ∷ [])
+filled_push slots after entry is pushed =
+    pushed ∙ ap (λ (s : Slots). s ++ Some entry ∷ []) is
+    ∙ sym (map-append Some (entries_in slots) (entry ∷ []))
+
+pub filled_take : (slots after : Slots) (count : ℕ) → AreFilled slots
+    → after ≡ take count slots → after ≡ map Some (take count (entries_in slots))
+filled_take slots after count is taken =
+    taken ∙ ap (take count) is ∙ take-map Some count (entries_in slots)
+
+-- without the first
+rest : (entries : List Entry) → remove (map Some entries) 0 ≡ map Some (drop 1 entries)
+rest [] = refl
+rest (entry ∷ entries) = refl
+
+pub filled_rest : (slots after : Slots) → AreFilled slots
+    → after ≡ remove slots 0 → after ≡ map Some (drop 1 (entries_in slots))
+filled_rest slots after is removed =
+    removed ∙ ap (λ (s : Slots). remove s 0) is ∙ rest (entries_in slots)
