@@ -14,7 +14,8 @@ use Rattle.wap_pages.specs.declared.fault.PageErr.TheVariants.{Refused, NoMemory
 use Rattle.wap_pages.specs.declared.fault.PageFault.TheVariants as page
 use Rattle.wap_pages.specs.Faults.{document_error, deck_error, unit_error, verify_error}
 
-pub unit_cases : (P : PageErr → Type 0) (fault : UnitFault) → (fault ≡ unit.NoMemory → P NoMemory) → (fault ≢ unit.NoMemory → P (Refused (page.Unit fault))) → P (unit_error fault)
+pub unit_cases : (P : PageErr → Type 0) (fault : UnitFault) → (fault ≡ unit.NoMemory → P NoMemory)
+    → (fault ≢ unit.NoMemory → P (Refused (page.Unit fault))) → P (unit_error fault)
 unit_cases P (unit.Version at) none some = some (λ e. absurd cc)
 unit_cases P (unit.Short at) none some = some (λ e. absurd cc)
 unit_cases P (unit.Number at) none some = some (λ e. absurd cc)
@@ -27,7 +28,9 @@ unit_cases P (unit.NoFunction at) none some = some (λ e. absurd cc)
 unit_cases P (unit.NameIndex at) none some = some (λ e. absurd cc)
 unit_cases P unit.NoMemory none some = none refl
 
-pub verify_cases : (P : PageErr → Type 0) (fault : VerifyFault) → (fault ≡ verify.NoMemory → P NoMemory) → (fault ≢ verify.NoMemory → P (Refused (page.Verify fault))) → P (verify_error fault)
+pub verify_cases : (P : PageErr → Type 0) (fault : VerifyFault)
+    → (fault ≡ verify.NoMemory → P NoMemory)
+    → (fault ≢ verify.NoMemory → P (Refused (page.Verify fault))) → P (verify_error fault)
 verify_cases P (verify.Pragma index) none some = some (λ e. absurd cc)
 verify_cases P (verify.Opcode function at) none some = some (λ e. absurd cc)
 verify_cases P (verify.Operand function at) none some = some (λ e. absurd cc)
@@ -41,7 +44,9 @@ verify_cases P (verify.Underflow function at) none some = some (λ e. absurd cc)
 verify_cases P (verify.Depths function at found other) none some = some (λ e. absurd cc)
 verify_cases P verify.NoMemory none some = none refl
 
-pub document_cases : (P : PageErr → Type 0) (fault : DocFault) → (fault ≡ document.NoMemory → P NoMemory) → (fault ≢ document.NoMemory → P (Refused (page.Document fault))) → P (document_error fault)
+pub document_cases : (P : PageErr → Type 0) (fault : DocFault)
+    → (fault ≡ document.NoMemory → P NoMemory)
+    → (fault ≢ document.NoMemory → P (Refused (page.Document fault))) → P (document_error fault)
 document_cases P document.Version none some = some (λ e. absurd cc)
 document_cases P document.PublicId none some = some (λ e. absurd cc)
 document_cases P document.Charset none some = some (λ e. absurd cc)
@@ -55,7 +60,8 @@ document_cases P (document.Table at) none some = some (λ e. absurd cc)
 document_cases P (document.Rest at) none some = some (λ e. absurd cc)
 document_cases P document.NoMemory none some = none refl
 
-pub deck_cases : (P : PageErr → Type 0) (fault : DeckFault) → (fault ≡ deck.NoMemory → P NoMemory) → (fault ≢ deck.NoMemory → P (Refused (page.Deck fault))) → P (deck_error fault)
+pub deck_cases : (P : PageErr → Type 0) (fault : DeckFault) → (fault ≡ deck.NoMemory → P NoMemory)
+    → (fault ≢ deck.NoMemory → P (Refused (page.Deck fault))) → P (deck_error fault)
 deck_cases P (deck.Child path) none some = some (λ e. absurd cc)
 deck_cases P (deck.Attr path) none some = some (λ e. absurd cc)
 deck_cases P (deck.Missing path) none some = some (λ e. absurd cc)

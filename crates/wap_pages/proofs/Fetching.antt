@@ -10,7 +10,8 @@ use Rattle.wap_pages.specs.Judged.{page_of_bytes, page_where, Refuses}
 use Rattle.wap_pages.specs.inside.Keeping.{IsRight}
 use Rattle.wap_pages.proofs.Judgements.{page_of-judged, refused_page}
 
-was_found : (bytes : List ℕ) (found : Option (List ℕ)) → fetched.Found bytes ≡ answer_of found → found ≡ Some bytes
+was_found : (bytes : List ℕ) (found : Option (List ℕ)) → fetched.Found bytes ≡ answer_of found
+    → found ≡ Some bytes
 was_found bytes (Some other) is = ap (λ (b : List ℕ). Some b) (sym same)
   where
     same : bytes ≡ other
@@ -21,16 +22,25 @@ was_missing : (found : Option (List ℕ)) → fetched.Missing ≡ answer_of foun
 was_missing (Some other) is = absurd cc
 was_missing None is = refl
 
-pub found_right : (contents : Option Contents) (name bytes : List ℕ) (one : Page) → IfSome contents (λ pages. fetched.Found bytes ≡ answer_for name pages)
+pub found_right : (contents : Option Contents) (name bytes : List ℕ) (one : Page)
+    → IfSome contents (λ pages. fetched.Found bytes ≡ answer_for name pages)
     → one ≡ page_of_bytes name bytes → IsRight contents name one
 found_right None name bytes one found is = tt
 found_right (Some pages) name bytes one found is =
-    is ∙ sym (page_of-judged name pages ∙ ap (page_where name) (was_found bytes (page_named name pages) found))
+    is ∙ sym (page_of-judged name pages
+    ∙ ap (page_where name) (was_found bytes (page_named name pages) found))
 
-pub refused_right : (contents : Option Contents) (name bytes : List ℕ) (why : PageFault) → IfSome contents (λ pages. fetched.Found bytes ≡ answer_for name pages)
+pub refused_right : (contents : Option Contents) (name bytes : List ℕ) (why : PageFault)
+    → IfSome contents (λ pages. fetched.Found bytes ≡ answer_for name pages)
     → Refuses name bytes why → IsRight contents name page.Refused
-refused_right contents name bytes why found refused = found_right contents name bytes page.Refused found (sym ((refused_page name bytes).1 (why, refused)))
+refused_right contents name bytes why found refused =
+    found_right contents name bytes page.Refused found
+    (sym ((refused_page name bytes).1 (why, refused)))
 
-pub missing_right : (contents : Option Contents) (name : List ℕ) → IfSome contents (λ pages. fetched.Missing ≡ answer_for name pages) → IsRight contents name page.Missing
+pub missing_right : (contents : Option Contents) (name : List ℕ)
+    → IfSome contents (λ pages. fetched.Missing ≡ answer_for name pages)
+    → IsRight contents name page.Missing
 missing_right None name found = tt
-missing_right (Some pages) name found = sym (page_of-judged name pages ∙ ap (page_where name) (was_missing (page_named name pages) found))
+missing_right (Some pages) name found =
+    sym
+    (page_of-judged name pages ∙ ap (page_where name) (was_missing (page_named name pages) found))

@@ -1,5 +1,6 @@
 -- What is seen of a cache before and after one page is asked for.
-use Rattle.std.proofs.Common.{◌≡◌, ℕ, ◌+◌, ◌≤◌, Bool, true, false, if◌then◌else◌, List, [], ◌∷◌, Option, Some, None, refl, sym, ap, ◌∙◌, arith}
+use Rattle.std.proofs.Common.{◌≡◌, ℕ, ◌+◌, ◌≤◌, Bool, true, false, if◌then◌else◌, List, []}
+use Rattle.std.proofs.Common.{◌∷◌, Option, Some, None, refl, sym, ap, ◌∙◌, arith}
 use Rattle.std.specs.Prelude.{IfSome, option_map}
 use Rattle.wap_base.specs.Contents.{Contents}
 use Rattle.wap_base.specs.Count.{raised, Rose}
@@ -11,19 +12,25 @@ use Rattle.wap_pages.specs.Caches.{seen_over}
 use Rattle.wap_pages.specs.Judged.{judged}
 use Rattle.wap_pages.specs.inside.Keeping.{IsRight}
 
-none_missed : (asked : Asked) (cache : Cache) → is_miss asked cache ≡ false → misses (asked ∷ []) cache ≡ 0
+none_missed : (asked : Asked) (cache : Cache) → is_miss asked cache ≡ false
+    → misses (asked ∷ []) cache ≡ 0
 none_missed asked cache is = ap (λ (b : Bool). (if b then 1 else 0) + 0) is
 
-one_missed : (asked : Asked) (cache : Cache) → is_miss asked cache ≡ true → misses (asked ∷ []) cache ≡ 1
+one_missed : (asked : Asked) (cache : Cache) → is_miss asked cache ≡ true
+    → misses (asked ∷ []) cache ≡ 1
 one_missed asked cache is = ap (λ (b : Bool). (if b then 1 else 0) + 0) is
 
 -- a right page is the one that is seen
-pub right_seen : (contents : Option Contents) (name : List ℕ) (page : Page) → IsRight contents name page → IfSome (option_map judged contents) (λ pages. page ≡ page_of name pages)
+pub right_seen : (contents : Option Contents) (name : List ℕ) (page : Page)
+    → IsRight contents name page
+    → IfSome (option_map judged contents) (λ pages. page ≡ page_of name pages)
 right_seen None name page right = tt
 right_seen (Some contents) name page right = right
 
 module _ (behind : Option Contents) (before after : Cache) (faults fetches listings : ℕ) where
-  pub hit_stays : after.capacity ≡ before.capacity → Stays (seen_over behind before faults fetches listings) (seen_over behind after faults fetches listings)
+  pub hit_stays : after.capacity ≡ before.capacity
+      → Stays (seen_over behind before faults fetches listings)
+      (seen_over behind after faults fetches listings)
   hit_stays same = record {
     contents = refl;
     behind = refl;
@@ -33,21 +40,26 @@ module _ (behind : Option Contents) (before after : Cache) (faults fetches listi
     fetches = (0, refl);
   }
 
-  pub hit_asks : (asked : Asked) → is_miss asked before ≡ false → after ≡ after_asking asked before → Asks (asked ∷ []) (seen_over behind before faults fetches listings) (seen_over behind after faults fetches listings)
+  pub hit_asks : (asked : Asked) → is_miss asked before ≡ false → after ≡ after_asking asked before
+      → Asks (asked ∷ []) (seen_over behind before faults fetches listings)
+      (seen_over behind after faults fetches listings)
   hit_asks asked hit first = record {
     cache = ap Some first;
     fetches = ap (λ (more : ℕ). raised_by more fetches) (sym (none_missed asked before hit));
     steady = refl;
   }
 
-module _ (behind : Option Contents) (before : Cache) (faults fetches listings : ℕ) (behind_after : Option Contents) (after : Cache) (faults_after fetches_after listings_after : ℕ) where
+module _ (behind : Option Contents) (before : Cache) (faults fetches listings : ℕ)
+    (behind_after : Option Contents) (after : Cache)
+    (faults_after fetches_after listings_after : ℕ) where
   abbrev Old : Seen
   Old = seen_over behind before faults fetches listings
 
   abbrev New : Seen
   New = seen_over behind_after after faults_after fetches_after listings_after
 
-  pub miss_stays : behind_after ≡ behind → after.capacity ≡ before.capacity → faults ≤ faults_after → fetches_after ≡ raised fetches → listings_after ≡ listings → Stays Old New
+  pub miss_stays : behind_after ≡ behind → after.capacity ≡ before.capacity → faults ≤ faults_after
+      → fetches_after ≡ raised fetches → listings_after ≡ listings → Stays Old New
   miss_stays kept same rise count listed = record {
     contents = ap (option_map judged) kept;
     behind = kept;
@@ -57,15 +69,23 @@ module _ (behind : Option Contents) (before : Cache) (faults fetches listings : 
     fetches = (1, count);
   }
 
-  pub miss_asks : (asked : Asked) → is_miss asked before ≡ true → after ≡ after_asking asked before → fetches_after ≡ raised fetches → faults_after ≡ faults → Asks (asked ∷ []) Old New
+  pub miss_asks : (asked : Asked) → is_miss asked before ≡ true → after ≡ after_asking asked before
+      → fetches_after ≡ raised fetches → faults_after ≡ faults → Asks (asked ∷ []) Old New
   miss_asks asked miss first count steady = record {
     cache = ap Some first;
-    fetches = count ∙ ap (λ (more : ℕ). raised_by more fetches) (sym (one_missed asked before miss));
+    fetches =
+        count ∙ ap (λ (more : ℕ). raised_by more fetches) (sym (one_missed asked before miss));
     steady = steady;
   }
 
-  pub miss_fails : (asked : Asked) → is_miss asked before ≡ true → fetches_after ≡ raised fetches → Rose faults faults_after → Fails (asked ∷ []) Old New
+  pub miss_fails : (asked : Asked) → is_miss asked before ≡ true → fetches_after ≡ raised fetches
+      → Rose faults faults_after → Fails (asked ∷ []) Old New
   miss_fails asked miss count rose = record {
     rose = rose;
-    fetches = record { more = 1; some = omega arith; few = let one = one_missed asked before miss in omega (arith, one); count = count };
+    fetches = record {
+      more = 1;
+      some = omega arith;
+      few = let one = one_missed asked before miss in omega (arith, one);
+      count = count;
+    };
   }

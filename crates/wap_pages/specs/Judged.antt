@@ -1,7 +1,8 @@
 -- Pages as they are judged by their names and bytes. This project's own: the names' ends, and that
 -- scripts are refused, until they are read. What documents, their decks and good decks are stands
 -- in lower definitions.
-use Rattle.std.specs.Prelude.{◌≡◌, ℕ, Bool, ◌||◌, nat_eq, if◌then◌else◌, List, map, Option, Some, None, Result, Ok, Err, codes}
+use Rattle.std.specs.Prelude.{◌≡◌, ℕ, Bool, ◌||◌, nat_eq, if◌then◌else◌, List, map}
+use Rattle.std.specs.Prelude.{Option, Some, None, Result, Ok, Err, codes}
 use Rattle.std.specs.List.{ends_with}
 use Rattle.wap_base.specs.Contents.{Contents}
 use Rattle.wap_base.specs.Charsets.{text_in}
@@ -44,7 +45,8 @@ deck_or_fault deck None = Ok (page.Deck deck)
 deck_or_fault deck (Some why) = Err (fault.Deck why)
 
 abbrev pub judged_document : Result Document DocFault → Result Page PageFault
-judged_document (Ok document) = deck_or_fault (deck_of document) (first_fault (faults (deck_of document)))
+judged_document (Ok document) =
+    deck_or_fault (deck_of document) (first_fault (faults (deck_of document)))
 judged_document (Err why) = Err (fault.Document why)
 
 abbrev pub judged_text : Option (List ℕ) → Result Page PageFault
@@ -94,8 +96,11 @@ pub record IsTextPage (name bytes text : List ℕ) : Type 0 where
 -- the page is refused for this fault: the bytes are no document, or one whose deck has this fault
 -- first; they are no text; or scripts aren't read yet
 pub data Refuses (name bytes : List ℕ) : PageFault → Type 0 where
-  document : (why : DocFault) → kind_of name ≡ kind.Deck → IsRefused bytes why → Refuses name bytes (fault.Document why)
-  deck : (document : Document) (why : DeckFault) → kind_of name ≡ kind.Deck → IsDocument bytes document
+  document : (why : DocFault) → kind_of name ≡ kind.Deck → IsRefused bytes why
+      → Refuses name bytes (fault.Document why)
+  deck : (document : Document) (why : DeckFault) → kind_of name ≡ kind.Deck
+      → IsDocument bytes document
       → first_fault (faults (deck_of document)) ≡ Some why → Refuses name bytes (fault.Deck why)
-  not_text : kind_of name ≡ kind.Words → text_in Utf8 bytes ≡ None → Refuses name bytes fault.NotText
+  not_text : kind_of name ≡ kind.Words → text_in Utf8 bytes ≡ None
+      → Refuses name bytes fault.NotText
   unbuilt : kind_of name ≡ kind.Script → Refuses name bytes fault.Unbuilt

@@ -79,7 +79,8 @@ verify_text (verify.Library function at) = fault_text (codes "Library") (functio
 verify_text (verify.LoneShort function at) = fault_text (codes "LoneShort") (function ∷ at ∷ [])
 verify_text (verify.Target function at) = fault_text (codes "Target") (function ∷ at ∷ [])
 verify_text (verify.Underflow function at) = fault_text (codes "Underflow") (function ∷ at ∷ [])
-verify_text (verify.Depths function at found other) = fault_text (codes "Depths") (function ∷ at ∷ found ∷ other ∷ [])
+verify_text (verify.Depths function at found other) =
+    fault_text (codes "Depths") (function ∷ at ∷ found ∷ other ∷ [])
 verify_text verify.NoMemory = fault_text (codes "NoMemory") []
 
 -- the innermost fault

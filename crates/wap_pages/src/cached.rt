@@ -1,5 +1,6 @@
 //! A cache of judged pages.
-ghost use Rattle.std.specs.Prelude.{◌≡◌, ◌≤◌, [], ◌∷◌, IfOk, OnOk, IfErr, OnErr, IfSome, IsErrOf, IsSome, Option};
+ghost use Rattle.std.specs.Prelude.{◌≡◌, ◌≤◌, [], ◌∷◌, IfOk, OnOk, IfErr, OnErr};
+ghost use Rattle.std.specs.Prelude.{IfSome, IsErrOf, IsSome, Option};
 ghost use Rattle.lru.specs.LruCache.{lru_cache, promoted, put_entries};
 ghost use Rattle.std.specs.Map.{lookup};
 ghost use Rattle.wap_base.specs.Contents.{Contents};
@@ -10,7 +11,6 @@ ghost use Rattle.wap_site.specs.Asking.{Stays, Asks, Fails};
 ghost use Rattle.wap_pages.specs.Caches.{cache_of, seen_over, KeepsNoMore};
 ghost use Rattle.wap_pages.specs.inside.Keeping.{IsRight, IsSound, LooksUp, Keeps};
 
-use crate::sharing::share;
 use crate::{PageErr, judge};
 use lru::LruCache;
 use std::alloc::Global;
@@ -43,7 +43,8 @@ impl<S: Store> Model for Cached<S> {
 
     ghost coded = { Prim.hlevel (codes, item.the_row.coded, S.code) };
 
-    ghost view = { λ cached. record { store = cached.store; kept = cached.kept.entries; capacity = cached.kept.cap } };
+    ghost view = { λ cached.
+        record { store = cached.store; kept = cached.kept.entries; capacity = cached.kept.cap } };
 
     ghost invariant = { λ cached. IsSound (S.contents cached.store) cached.kept };
 }
@@ -85,7 +86,7 @@ fn recall(kept: &mut LruCache<Text, Page>, name: &Text) -> Result<Option<Page>, 
     ensures some { OnErr result (IsSome (lookup (is_same_text name.now) kept.old.entries)) }
 {
     match kept.get(name) {
-        Some(page) => Ok(Some(share(page)?)),
+        Some(page) => Ok(Some(page.share()?)),
         None => Ok(None),
     }
 }
@@ -119,7 +120,7 @@ fn keep(
         → Keeps contents name.now kept.old kept.new result }
 {
     let name = name.copy(alloc)?;
-    let page = share(page)?;
+    let page = page.share()?;
     kept.put(name, page)?;
     Ok(())
 }

@@ -1,7 +1,8 @@
 //! Judging a page by its name and bytes.
 ghost use Rattle.std.specs.Prelude.{◌≡◌, IfOk, Ok, Err};
 ghost use Rattle.wap_base.specs.Outcome.{Meets};
-ghost use Rattle.wap_pages.specs.Judged.{kind_of, judged_document, judgement, page_of_bytes, Refuses};
+ghost use Rattle.wap_pages.specs.Judged.{kind_of, judged_document, judgement};
+ghost use Rattle.wap_pages.specs.Judged.{page_of_bytes, Refuses};
 ghost use Rattle.wap_pages.specs.inside.Judging.{Judges};
 ghost use Rattle.wap_pages.specs.declared.fault.PageErr.TheVariants as error;
 

@@ -5,7 +5,8 @@ ghost use Rattle.wap_markup.specs.declared.deck.Deck.{Deck};
 ghost use Rattle.wap_site.specs.Pages.{page_of};
 ghost use Rattle.wap_site.specs.declared.page.Page.TheVariants as page;
 ghost use Rattle.wap_pages.specs.declared.fault.PageFault.{PageFault};
-ghost use Rattle.wap_pages.specs.Judged.{page_of_bytes, judged, page_where, IsDeckPage, IsTextPage, Refuses};
+ghost use Rattle.wap_pages.specs.Judged.{page_of_bytes, judged, page_where};
+ghost use Rattle.wap_pages.specs.Judged.{IsDeckPage, IsTextPage, Refuses};
 
 /// A law of `judged`, which does nothing when it is called. A name's page is that of its bytes, and
 /// missing where it has none. It is a deck where the bytes are a document that means this deck, and

@@ -7,7 +7,6 @@ mod judging;
 mod kind;
 mod law;
 mod printing;
-mod sharing;
 mod threads;
 
 pub use cached::{Cached, LEAST_CAPACITY, MOST_CAPACITY};

@@ -36,13 +36,13 @@ fn print_page_fault<O: Sink>(out: &mut O, fault: &PageFault) -> Result<(), Faile
         result (page_text fault.now) }
 {
     match fault {
-        PageFault::Missing => print_fault(out, b"Missing", &[]),
+        PageFault::Missing => print_name(out, "Missing"),
         PageFault::Document(fault) => print_document_fault(out, *fault),
         PageFault::Deck(fault) => print_deck_fault(out, fault),
         PageFault::Unit(fault) => print_unit_fault(out, *fault),
         PageFault::Verify(fault) => print_verify_fault(out, *fault),
-        PageFault::NotText => print_fault(out, b"NotText", &[]),
-        PageFault::Unbuilt => print_fault(out, b"Unbuilt", &[]),
+        PageFault::NotText => print_name(out, "NotText"),
+        PageFault::Unbuilt => print_name(out, "Unbuilt"),
     }
 }
 
@@ -51,18 +51,18 @@ fn print_document_fault<O: Sink>(out: &mut O, fault: DocFault) -> Result<(), Fai
         result (document_text fault) }
 {
     match fault {
-        DocFault::Version => print_fault(out, b"Version", &[]),
-        DocFault::PublicId => print_fault(out, b"PublicId", &[]),
-        DocFault::Charset => print_fault(out, b"Charset", &[]),
-        DocFault::Short { at } => print_fault(out, b"Short", &[at]),
-        DocFault::Number { at } => print_fault(out, b"Number", &[at]),
-        DocFault::Token { at } => print_fault(out, b"Token", &[at]),
-        DocFault::Index { at } => print_fault(out, b"Index", &[at]),
-        DocFault::Text { at } => print_fault(out, b"Text", &[at]),
-        DocFault::Depth { at } => print_fault(out, b"Depth", &[at]),
-        DocFault::Table { at } => print_fault(out, b"Table", &[at]),
-        DocFault::Rest { at } => print_fault(out, b"Rest", &[at]),
-        DocFault::NoMemory => print_fault(out, b"NoMemory", &[]),
+        DocFault::Version => print_name(out, "Version"),
+        DocFault::PublicId => print_name(out, "PublicId"),
+        DocFault::Charset => print_name(out, "Charset"),
+        DocFault::Short { at } => print_one(out, "Short", at),
+        DocFault::Number { at } => print_one(out, "Number", at),
+        DocFault::Token { at } => print_one(out, "Token", at),
+        DocFault::Index { at } => print_one(out, "Index", at),
+        DocFault::Text { at } => print_one(out, "Text", at),
+        DocFault::Depth { at } => print_one(out, "Depth", at),
+        DocFault::Table { at } => print_one(out, "Table", at),
+        DocFault::Rest { at } => print_one(out, "Rest", at),
+        DocFault::NoMemory => print_name(out, "NoMemory"),
     }
 }
 
@@ -76,8 +76,8 @@ fn print_deck_fault<O: Sink>(out: &mut O, fault: &DeckFault) -> Result<(), Faile
         DeckFault::Missing { path } => print_at(out, b"Missing", path.as_slice()),
         DeckFault::Value { path } => print_at(out, b"Value", path.as_slice()),
         DeckFault::DuplicateId { path } => print_at(out, b"DuplicateId", path.as_slice()),
-        DeckFault::NoCard => print_fault(out, b"NoCard", &[]),
-        DeckFault::NoMemory => print_fault(out, b"NoMemory", &[]),
+        DeckFault::NoCard => print_name(out, "NoCard"),
+        DeckFault::NoMemory => print_name(out, "NoMemory"),
     }
 }
 
@@ -86,17 +86,17 @@ fn print_unit_fault<O: Sink>(out: &mut O, fault: UnitFault) -> Result<(), Failed
         result (unit_text fault) }
 {
     match fault {
-        UnitFault::Version { at } => print_fault(out, b"Version", &[at]),
-        UnitFault::Short { at } => print_fault(out, b"Short", &[at]),
-        UnitFault::Number { at } => print_fault(out, b"Number", &[at]),
-        UnitFault::Size { at } => print_fault(out, b"Size", &[at]),
-        UnitFault::ConstantKind { at } => print_fault(out, b"ConstantKind", &[at]),
-        UnitFault::PragmaKind { at } => print_fault(out, b"PragmaKind", &[at]),
-        UnitFault::Text { at } => print_fault(out, b"Text", &[at]),
-        UnitFault::Charset { at } => print_fault(out, b"Charset", &[at]),
-        UnitFault::NoFunction { at } => print_fault(out, b"NoFunction", &[at]),
-        UnitFault::NameIndex { at } => print_fault(out, b"NameIndex", &[at]),
-        UnitFault::NoMemory => print_fault(out, b"NoMemory", &[]),
+        UnitFault::Version { at } => print_one(out, "Version", at),
+        UnitFault::Short { at } => print_one(out, "Short", at),
+        UnitFault::Number { at } => print_one(out, "Number", at),
+        UnitFault::Size { at } => print_one(out, "Size", at),
+        UnitFault::ConstantKind { at } => print_one(out, "ConstantKind", at),
+        UnitFault::PragmaKind { at } => print_one(out, "PragmaKind", at),
+        UnitFault::Text { at } => print_one(out, "Text", at),
+        UnitFault::Charset { at } => print_one(out, "Charset", at),
+        UnitFault::NoFunction { at } => print_one(out, "NoFunction", at),
+        UnitFault::NameIndex { at } => print_one(out, "NameIndex", at),
+        UnitFault::NoMemory => print_name(out, "NoMemory"),
     }
 }
 
@@ -105,16 +105,16 @@ fn print_verify_fault<O: Sink>(out: &mut O, fault: VerifyFault) -> Result<(), Fa
         result (verify_text fault) }
 {
     match fault {
-        VerifyFault::Pragma { index } => print_fault(out, b"Pragma", &[index as usize]),
-        VerifyFault::Opcode { function, at } => print_place(out, b"Opcode", function, at),
-        VerifyFault::Operand { function, at } => print_place(out, b"Operand", function, at),
-        VerifyFault::Variable { function, at } => print_place(out, b"Variable", function, at),
-        VerifyFault::Constant { function, at } => print_place(out, b"Constant", function, at),
-        VerifyFault::Function { function, at } => print_place(out, b"Function", function, at),
-        VerifyFault::Library { function, at } => print_place(out, b"Library", function, at),
-        VerifyFault::LoneShort { function, at } => print_place(out, b"LoneShort", function, at),
-        VerifyFault::Target { function, at } => print_place(out, b"Target", function, at),
-        VerifyFault::Underflow { function, at } => print_place(out, b"Underflow", function, at),
+        VerifyFault::Pragma { index } => print_one(out, "Pragma", index as usize),
+        VerifyFault::Opcode { function, at } => print_place(out, "Opcode", function, at),
+        VerifyFault::Operand { function, at } => print_place(out, "Operand", function, at),
+        VerifyFault::Variable { function, at } => print_place(out, "Variable", function, at),
+        VerifyFault::Constant { function, at } => print_place(out, "Constant", function, at),
+        VerifyFault::Function { function, at } => print_place(out, "Function", function, at),
+        VerifyFault::Library { function, at } => print_place(out, "Library", function, at),
+        VerifyFault::LoneShort { function, at } => print_place(out, "LoneShort", function, at),
+        VerifyFault::Target { function, at } => print_place(out, "Target", function, at),
+        VerifyFault::Underflow { function, at } => print_place(out, "Underflow", function, at),
         VerifyFault::Depths {
             function,
             at,
@@ -125,16 +125,32 @@ fn print_verify_fault<O: Sink>(out: &mut O, fault: VerifyFault) -> Result<(), Fa
             b"Depths",
             &[function as usize, at, found as usize, other as usize],
         ),
-        VerifyFault::NoMemory => print_fault(out, b"NoMemory", &[]),
+        VerifyFault::NoMemory => print_name(out, "NoMemory"),
     }
 }
 
+/// A fault without fields.
+fn print_name<O: Sink>(out: &mut O, name: &str) -> Result<(), Failed>
+    ensures { Wrote (O.written out.old) (O.written out.new) (O.faults out.old) (O.faults out.new)
+        result (fault_text name.now []) }
+{
+    print_fault(out, name.as_bytes(), &[])
+}
+
+/// A fault with one field.
+fn print_one<O: Sink>(out: &mut O, name: &str, field: usize) -> Result<(), Failed>
+    ensures { Wrote (O.written out.old) (O.written out.new) (O.faults out.old) (O.faults out.new)
+        result (fault_text name.now (field ∷ [])) }
+{
+    print_fault(out, name.as_bytes(), &[field])
+}
+
 /// A fault at a place of a function's code.
-fn print_place<O: Sink>(out: &mut O, name: &[u8], function: u8, at: usize) -> Result<(), Failed>
+fn print_place<O: Sink>(out: &mut O, name: &str, function: u8, at: usize) -> Result<(), Failed>
     ensures { Wrote (O.written out.old) (O.written out.new) (O.faults out.old) (O.faults out.new)
         result (fault_text name.now (function ∷ at ∷ [])) }
 {
-    print_fault(out, name, &[function as usize, at])
+    print_fault(out, name.as_bytes(), &[function as usize, at])
 }
 
 /// A name, and each field after a space.

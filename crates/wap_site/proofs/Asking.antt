@@ -1,5 +1,6 @@
 -- What is seen of pages before and after several calls.
-use Rattle.std.proofs.Common.{◌≡◌, ℕ, ◌+◌, List, [], ◌++◌, Option, Some, None, refl, sym, ap, subst, ◌∙◌, arith}
+use Rattle.std.proofs.Common.{◌≡◌, ℕ, ◌+◌, List, [], ◌++◌, Option, Some, None}
+use Rattle.std.proofs.Common.{refl, sym, ap, subst, ◌∙◌, arith}
 use Rattle.std.specs.Prelude.{IfSome, option_map}
 use Rattle.wap_base.specs.Count.{Rose}
 use Rattle.wap_site.specs.Misses.{Cache, Asked, after_all, misses}
@@ -12,7 +13,8 @@ cache-then : (asked others : List Asked) (x y z : Option Cache) → y ≡ option
     → z ≡ option_map (after_all others) y → z ≡ option_map (after_all (asked ++ others)) x
 cache-then asked others None y z first second = second ∙ ap (option_map (after_all others)) first
 cache-then asked others (Some cache) y z first second =
-    second ∙ ap (option_map (after_all others)) first ∙ ap Some (sym (after_all-then asked others cache))
+    second ∙ ap (option_map (after_all others)) first
+    ∙ ap Some (sym (after_all-then asked others cache))
 
 cache-nil : (x : Option Cache) → x ≡ option_map (after_all []) x
 cache-nil None = refl
@@ -31,7 +33,8 @@ Counts asked x before after = IfSome x (λ cache. after ≡ raised_by (misses as
 abbrev Within : List Asked → Option Cache → ℕ → ℕ → Type 0
 Within asked x before after = IfSome x (λ cache. RaisedWithin (misses asked cache) before after)
 
-counts-then : (asked others : List Asked) (x y : Option Cache) (k m n : ℕ) → y ≡ option_map (after_all asked) x
+counts-then : (asked others : List Asked) (x y : Option Cache) (k m n : ℕ)
+    → y ≡ option_map (after_all asked) x
     → Counts asked x k m → Counts others y m n → Counts (asked ++ others) x k n
 counts-then asked others None y k m n is first second = tt
 counts-then asked others (Some cache) y k m n is first second =
@@ -61,7 +64,8 @@ within_more m n k l so = record {
   count = so.count;
 }
 
-within-then : (asked others : List Asked) (x y : Option Cache) (k m n : ℕ) → y ≡ option_map (after_all asked) x
+within-then : (asked others : List Asked) (x y : Option Cache) (k m n : ℕ)
+    → y ≡ option_map (after_all asked) x
     → Counts asked x k m → Within others y m n → Within (asked ++ others) x k n
 within-then asked others None y k m n is first second = tt
 within-then asked others (Some cache) y k m n is first second =
@@ -85,22 +89,29 @@ Asks-nil x = record {
   steady = refl;
 }
 
-pub Asks-then : (asked others : List Asked) (x y z : Seen) → Asks asked x y → Asks others y z → Asks (asked ++ others) x z
+pub Asks-then : (asked others : List Asked) (x y z : Seen) → Asks asked x y → Asks others y z
+    → Asks (asked ++ others) x z
 Asks-then asked others x y z first second = record {
   cache = cache-then asked others x.cache y.cache z.cache first.cache second.cache;
-  fetches = counts-then asked others x.cache y.cache x.fetches y.fetches z.fetches first.cache first.fetches second.fetches;
+  fetches =
+      counts-then asked others x.cache y.cache x.fetches y.fetches z.fetches first.cache
+      first.fetches second.fetches;
   steady = second.steady ∙ first.steady;
 }
 
 -- all of these were asked for, and then the store failed at one of the others
-pub Asks-fails : (asked others : List Asked) (x y z : Seen) → Asks asked x y → Fails others y z → Fails (asked ++ others) x z
+pub Asks-fails : (asked others : List Asked) (x y z : Seen) → Asks asked x y → Fails others y z
+    → Fails (asked ++ others) x z
 Asks-fails asked others x y z first second = record {
   rose = subst (λ (count : ℕ). Rose count z.faults) first.steady second.rose;
-  fetches = within-then asked others x.cache y.cache x.fetches y.fetches z.fetches first.cache first.fetches second.fetches;
+  fetches =
+      within-then asked others x.cache y.cache x.fetches y.fetches z.fetches first.cache
+      first.fetches second.fetches;
 }
 
 -- more were to be asked for
-pub Fails-more : (asked others : List Asked) (x y : Seen) → Fails asked x y → Fails (asked ++ others) x y
+pub Fails-more : (asked others : List Asked) (x y : Seen) → Fails asked x y
+    → Fails (asked ++ others) x y
 Fails-more asked others x y so = record {
   rose = so.rose;
   fetches = within-more asked others x.cache x.fetches y.fetches so.fetches;

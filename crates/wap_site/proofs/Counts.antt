@@ -1,5 +1,6 @@
 -- How caches and counts go on, in parts.
-use Rattle.std.proofs.Common.{◌≡◌, ℕ, zero, suc, ◌+◌, List, [], ◌∷◌, ◌++◌, refl, ap, ◌∙◌, arith, zero-add, suc-add}
+use Rattle.std.proofs.Common.{◌≡◌, ℕ, zero, suc, ◌+◌, List, [], ◌∷◌, ◌++◌, refl}
+use Rattle.std.proofs.Common.{ap, ◌∙◌, arith, zero-add, suc-add}
 use Rattle.wap_base.specs.Count.{raised}
 use Rattle.wap_site.specs.Misses.{Cache, Asked, after_asking, after_all, misses}
 use Rattle.wap_site.specs.Asking.{raised_by}
@@ -20,4 +21,5 @@ pub raised_by-then : (more others count : ℕ)
     → raised_by (more + others) count ≡ raised_by others (raised_by more count)
 raised_by-then zero others count = ap (λ (more : ℕ). raised_by more count) (zero-add others)
 raised_by-then (suc more) others count =
-    ap (λ (all : ℕ). raised_by all count) (suc-add more others) ∙ raised_by-then more others (raised count)
+    ap (λ (all : ℕ). raised_by all count) (suc-add more others)
+    ∙ raised_by-then more others (raised count)

@@ -1,6 +1,8 @@
 //! What a page is.
+ghost use Rattle.std.specs.Prelude.{◌≡◌, IfOk};
+
 use crate::Shared;
-use wap_base::Text;
+use wap_base::{NoMemory, Text};
 use wap_good::GoodDeck;
 
 /// What a page is to a browser. A contract sees the deck or the text.
@@ -14,4 +16,18 @@ pub enum Page {
     Refused,
     /// There is no page of the name.
     Missing,
+}
+
+impl Page {
+    /// The page, with one owner more.
+    pub fn share(&self) -> Result<Page, NoMemory>
+        ensures { IfOk result (λ shared. shared ≡ self.now) }
+    {
+        match self {
+            Page::Deck(deck) => Ok(Page::Deck(deck.share()?)),
+            Page::Words(text) => Ok(Page::Words(text.share()?)),
+            Page::Refused => Ok(Page::Refused),
+            Page::Missing => Ok(Page::Missing),
+        }
+    }
 }

@@ -31,8 +31,11 @@ pub data Judged (bytes : List ℕ) : Kind → Result Page PageFault → Type 0 w
   good : (document : Document) → IsDocument bytes document → IsGood (deck_of document)
       → Judged bytes kind.Deck (Ok (page.Deck (deck_of document)))
   bad : (document : Document) (why : DeckFault) → IsDocument bytes document
-      → first_fault (faults (deck_of document)) ≡ Some why → Judged bytes kind.Deck (Err (fault.Deck why))
-  no_document : (why : DocFault) → IsRefused bytes why → Judged bytes kind.Deck (Err (fault.Document why))
-  text : (text : List ℕ) → text_in Utf8 bytes ≡ Some text → Judged bytes kind.Words (Ok (page.Words text))
+      → first_fault (faults (deck_of document)) ≡ Some why
+      → Judged bytes kind.Deck (Err (fault.Deck why))
+  no_document : (why : DocFault) → IsRefused bytes why
+      → Judged bytes kind.Deck (Err (fault.Document why))
+  text : (text : List ℕ) → text_in Utf8 bytes ≡ Some text
+      → Judged bytes kind.Words (Ok (page.Words text))
   no_text : text_in Utf8 bytes ≡ None → Judged bytes kind.Words (Err fault.NotText)
   script : Judged bytes kind.Script (Err fault.Unbuilt)

@@ -1,5 +1,6 @@
 -- What calls do with the pages that are kept.
-use Rattle.std.specs.Prelude.{◌≡◌, ℕ, ◌<◌, ◌≤◌, Bool, true, false, List, length, Option, None, IfSome, IfOk, OnOk, OnErr, Result, Ok}
+use Rattle.std.specs.Prelude.{◌≡◌, ℕ, ◌<◌, ◌≤◌, Bool, true, false, List, length, Option}
+use Rattle.std.specs.Prelude.{None, IfSome, IfOk, OnOk, OnErr, Result, Ok}
 use Rattle.std.specs.List.{AllByRecursion}
 use Rattle.std.specs.Map.{keys_of}
 use Rattle.lru.specs.LruCache.{LruCache}
@@ -33,19 +34,24 @@ pub record IsSound (contents : Option Contents) (kept : Kept) : Type 0 where
   pub some : 0 < kept.cap
 
 -- a look-up among the pages that are kept, unless the page is to be fresh
-pub record LooksUp (contents : Option Contents) (asked : Asked) (before after : Kept) (result : Result (Option Page) NoMemory) : Type 0 where
+pub record LooksUp (contents : Option Contents) (asked : Asked) (before after : Kept)
+    (result : Result (Option Page) NoMemory) : Type 0 where
   pub sound : IsSound contents after
   pub capacity : after.cap ≡ before.cap
   pub right : IfOk result (λ found. IfSome found (IsRight contents asked.0))
   pub hit : IfOk result (λ found. IfSome found (λ _. is_miss asked (names_in before) ≡ false))
-  pub first : IfOk result (λ found. IfSome found (λ _. names_in after ≡ after_asking asked (names_in before)))
-  pub miss : ◌≡◌ {A = Result (Option Page) NoMemory} result (Ok None) → is_miss asked (names_in before) ≡ true
+  pub first : IfOk result
+      (λ found. IfSome found (λ _. names_in after ≡ after_asking asked (names_in before)))
+  pub miss : ◌≡◌ {A = Result (Option Page) NoMemory} result (Ok None)
+      → is_miss asked (names_in before) ≡ true
   pub same : ◌≡◌ {A = Result (Option Page) NoMemory} result (Ok None) → after ≡ before
   pub no_more : KeepsNoMore (names_in before) (names_in after)
 
 -- a page is kept
-pub record Keeps (contents : Option Contents) (name : List ℕ) (before after : Kept) (result : Result (Unit {0}) NoMemory) : Type 0 where
+pub record Keeps (contents : Option Contents) (name : List ℕ) (before after : Kept)
+    (result : Result (Unit {0}) NoMemory) : Type 0 where
   pub sound : IsSound contents after
   pub capacity : after.cap ≡ before.cap
-  pub first : OnOk result ((fresh : Bool) → names_in after ≡ after_asking (name, fresh) (names_in before))
+  pub first :
+      OnOk result ((fresh : Bool) → names_in after ≡ after_asking (name, fresh) (names_in before))
   pub no_more : OnErr result (after ≡ before)

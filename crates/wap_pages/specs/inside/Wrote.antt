@@ -5,7 +5,8 @@ use Rattle.wap_base.specs.Transfer.{Appends, AppendsFront}
 
 -- the sink and its faults before and after: all of the text was written, or the sink failed after a
 -- prefix of it
-pub record Wrote {A E : Type 0} (before after : Option (List ℕ)) (faults rest : ℕ) (result : Result A E) (text : List ℕ) : Type 0 where
+pub record Wrote {A E : Type 0} (before after : Option (List ℕ)) (faults rest : ℕ)
+    (result : Result A E) (text : List ℕ) : Type 0 where
   pub whole : OnOk result (Appends before after text)
   pub prefix : OnErr result (AppendsFront before after text)
   pub steady : OnOk result (rest ≡ faults)

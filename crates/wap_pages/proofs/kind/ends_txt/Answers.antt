@@ -6,5 +6,6 @@ use Rattle.wap_pages.proofs.kind.ends_txt.Goals as goal
 
 pub returns : goal.returns
 returns c =
-    ends_named c.args.name.now (codes ".txt") c.as_str.result.now c.ends_with.result (omega arith, (omega arith, (omega arith, (omega arith, tt)))) c.as_str.ensures.bytes
+    ends_named c.args.name.now (codes ".txt") c.as_str.result.now c.ends_with.result
+    (omega arith, (omega arith, (omega arith, (omega arith, tt)))) c.as_str.ensures.bytes
     (ends_text c.ends_with.result (codes ".txt") c.as_str.result.now c.ends_with.ensures.cases)

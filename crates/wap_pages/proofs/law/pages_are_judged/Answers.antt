@@ -1,4 +1,5 @@
-use Rattle.wap_pages.proofs.Judgements.{deck_page, page_deck, text_page, page_text_is, neither_page, page_there, page_of-judged}
+use Rattle.wap_pages.proofs.Judgements.{deck_page, page_deck, text_page, page_text_is}
+use Rattle.wap_pages.proofs.Judgements.{neither_page, page_there, page_of-judged}
 use Rattle.wap_pages.proofs.law.pages_are_judged.Goals as goal
 
 pub returns-clause-pages : goal.returns-clause-pages
@@ -8,7 +9,8 @@ pub returns-clause-deck : goal.returns-clause-deck
 returns-clause-deck c = λ name bytes deck. (page_deck name bytes deck, deck_page name bytes deck)
 
 pub returns-clause-words : goal.returns-clause-words
-returns-clause-words c = λ name bytes text. (page_text_is name bytes text, text_page name bytes text)
+returns-clause-words c =
+    λ name bytes text. (page_text_is name bytes text, text_page name bytes text)
 
 pub returns-clause-refused : goal.returns-clause-refused
 returns-clause-refused c = neither_page

@@ -11,5 +11,8 @@ returns-in-DuplicateId g c =
     let faults = g.O.Sink.faults c.args.out.now in
     let rest = g.O.Sink.faults c.print_at-in-DuplicateId.new.out in
     let wrote = c.print_at-in-DuplicateId.result in
-    subst (λ (fault : DeckFault). Wrote before after faults rest wrote (deck_text fault)) (sym c.in-DuplicateId.is)
-    (subst (λ (path : List ℕ). Wrote before after faults rest wrote (at_path (codes "DuplicateId") path)) c.as_slice-in-DuplicateId.ensures c.print_at-in-DuplicateId.ensures)
+    subst (λ (fault : DeckFault). Wrote before after faults rest wrote (deck_text fault))
+    (sym c.in-DuplicateId.is)
+    (subst
+    (λ (path : List ℕ). Wrote before after faults rest wrote (at_path (codes "DuplicateId") path))
+    c.as_slice-in-DuplicateId.ensures c.print_at-in-DuplicateId.ensures)

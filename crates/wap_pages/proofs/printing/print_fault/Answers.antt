@@ -8,11 +8,16 @@ pub returns-in_err-write_all : goal.returns-in_err-write_all
 returns-in_err-write_all g c =
     let left = err_from_is_err_and c.from_residual.result c.from_residual.ensures.1 in
     let failed = c.in_err-write_all.ensures in
-    Wrote-stops (g.O.Sink.written c.args.out.now) (g.O.Sink.written c.write_all.new.out) (g.O.Sink.faults c.args.out.now) (g.O.Sink.faults c.write_all.new.out)
-    c.args.name.now (flat_map field_text c.args.fields.now) c.from_residual.result failed.front failed.faults failed.failed left.0 left.1
+    Wrote-stops (g.O.Sink.written c.args.out.now) (g.O.Sink.written c.write_all.new.out)
+    (g.O.Sink.faults c.args.out.now) (g.O.Sink.faults c.write_all.new.out)
+    c.args.name.now (flat_map field_text c.args.fields.now)
+    c.from_residual.result failed.front failed.faults failed.failed left.0 left.1
 
 pub returns : goal.returns
 returns g c =
-    Wrote-then (g.O.Sink.written c.args.out.now) (g.O.Sink.written c.write_all.new.out) (g.O.Sink.written c.print_fields.new.out)
-    (g.O.Sink.faults c.args.out.now) (g.O.Sink.faults c.write_all.new.out) (g.O.Sink.faults c.print_fields.new.out)
-    c.args.name.now (flat_map field_text c.args.fields.now) c.print_fields.result c.in_ok-write_all.ensures.whole c.in_ok-write_all.ensures.steady c.print_fields.ensures
+    Wrote-then (g.O.Sink.written c.args.out.now) (g.O.Sink.written c.write_all.new.out)
+    (g.O.Sink.written c.print_fields.new.out)
+    (g.O.Sink.faults c.args.out.now) (g.O.Sink.faults c.write_all.new.out)
+    (g.O.Sink.faults c.print_fields.new.out)
+    c.args.name.now (flat_map field_text c.args.fields.now) c.print_fields.result
+    c.in_ok-write_all.ensures.whole c.in_ok-write_all.ensures.steady c.print_fields.ensures

@@ -12,7 +12,9 @@ returns g c =
     let first = g.O.Sink.faults c.args.out.now in
     let second = g.O.Sink.faults c.write_all.new.out in
     let third = g.O.Sink.faults c.write_all-2.new.out in
-    let number = subst (λ (text : List ℕ). Wrote between after second third c.write_all-2.result text) (c.as_bytes.ensures.value ∙ c.format.ensures.text)
+    let number =
+    subst (λ (text : List ℕ). Wrote between after second third c.write_all-2.result text)
+    (c.as_bytes.ensures.value ∙ c.format.ensures.text)
     (record {
       whole = c.write_all-2.ensures.whole;
       prefix = c.write_all-2.ensures.front;
@@ -20,4 +22,5 @@ returns g c =
       counts = c.write_all-2.ensures.faults;
       failed = c.write_all-2.ensures.failed;
     }) in
-    Wrote-then before between after first second third (32 ∷ []) (decimal c.args.field) c.write_all-2.result c.in_ok-write_all.ensures.whole c.in_ok-write_all.ensures.steady number
+    Wrote-then before between after first second third (32 ∷ []) (decimal c.args.field)
+    c.write_all-2.result c.in_ok-write_all.ensures.whole c.in_ok-write_all.ensures.steady number

@@ -1,4 +1,5 @@
-use Rattle.std.proofs.Common.{ℕ, ◌+◌, ◌<◌, ◌≤◌, List, ◌++◌, drop, take, get_or, length, subst, arith}
+use Rattle.std.proofs.Common.{ℕ, ◌+◌, ◌<◌, ◌≤◌, List, ◌++◌, drop, take}
+use Rattle.std.proofs.Common.{get_or, length, subst, arith}
 use Rattle.std.specs.List.{flat_map}
 use Rattle.std.proofs.lemmas.Result.{err_from_is_err_and}
 use Rattle.wap_base.specs.Count.{Rose}
@@ -21,8 +22,10 @@ returns-in_err-print_field g c =
     let failed = c.in_err-print_field.ensures in
     let earlier = flat_map field_text (take i fields) in
     let one = field_text (get_or fields i 0) in
-    subst (λ (text : List ℕ). Wrote before after first last c.from_residual.result text) (with_rest field_text fields i 0 within)
-    (Wrote-stops before after first last (earlier ++ one) (flat_map field_text (drop (i + 1) fields)) c.from_residual.result
+    subst (λ (text : List ℕ). Wrote before after first last c.from_residual.result text)
+    (with_rest field_text fields i 0 within)
+    (Wrote-stops before after first last (earlier ++ one)
+    (flat_map field_text (drop (i + 1) fields)) c.from_residual.result
     (prefix_then before between after earlier one c.loop-field.invariant.whole failed.prefix)
     (subst (λ (n : ℕ). n ≤ last) c.loop-field.invariant.steady failed.counts)
     (subst (λ (n : ℕ). Rose n last) c.loop-field.invariant.steady failed.failed) left.0 left.1)

@@ -14,8 +14,12 @@ returns-in_err-print_field-in-Some g c =
     let rest = g.O.Sink.faults c.print_field.new.out in
     let left = err_from_is_err_and c.from_residual.result c.from_residual.ensures.1 in
     let failed = c.in_err-print_field-in-Some.ensures in
-    subst (λ (path : List ℕ). Wrote before after faults rest c.from_residual.result (32 ∷ path_text path)) (sym c.in-Some.ensures.cases.0)
-    (Wrote-stops before after faults rest (field_text c.in-Some.first.now) (flat_map step_text c.in-Some.rest.now) c.from_residual.result failed.prefix failed.counts failed.failed left.0 left.1)
+    subst
+    (λ (path : List ℕ). Wrote before after faults rest c.from_residual.result (32 ∷ path_text path))
+    (sym c.in-Some.ensures.cases.0)
+    (Wrote-stops before after faults rest (field_text c.in-Some.first.now)
+    (flat_map step_text c.in-Some.rest.now)
+    c.from_residual.result failed.prefix failed.counts failed.failed left.0 left.1)
 
 pub returns-in_ok-print_field-in-Some : goal.returns-in_ok-print_field-in-Some
 returns-in_ok-print_field-in-Some g c =
@@ -26,5 +30,9 @@ returns-in_ok-print_field-in-Some g c =
     let middle = g.O.Sink.faults c.print_field.new.out in
     let rest = g.O.Sink.faults c.print_steps.new.out in
     let first = c.in_ok-print_field-in-Some.ensures in
-    subst (λ (path : List ℕ). Wrote before after faults rest c.print_steps.result (32 ∷ path_text path)) (sym c.in-Some.ensures.cases.0)
-    (Wrote-then before between after faults middle rest (field_text c.in-Some.first.now) (flat_map step_text c.in-Some.rest.now) c.print_steps.result first.whole first.steady c.print_steps.ensures)
+    subst
+    (λ (path : List ℕ). Wrote before after faults rest c.print_steps.result (32 ∷ path_text path))
+    (sym c.in-Some.ensures.cases.0)
+    (Wrote-then before between after faults middle rest (field_text c.in-Some.first.now)
+    (flat_map step_text c.in-Some.rest.now)
+    c.print_steps.result first.whole first.steady c.print_steps.ensures)

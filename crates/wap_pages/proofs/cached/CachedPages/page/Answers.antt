@@ -6,32 +6,38 @@ use Rattle.wap_site.specs.Misses.{Asked, after_asking, is_miss}
 use Rattle.wap_site.specs.declared.page.Page.{Page}
 use Rattle.wap_pages.specs.Caches.{KeepsNoMore}
 use Rattle.wap_pages.specs.inside.Keeping.{Kept, names_in, IsRight, IsSound}
-use Rattle.wap_pages.proofs.Seeing.{right_seen, hit_stays, hit_asks, miss_stays, miss_asks, miss_fails}
+use Rattle.wap_pages.proofs.Seeing.{right_seen, hit_stays, hit_asks}
+use Rattle.wap_pages.proofs.Seeing.{miss_stays, miss_asks, miss_fails}
 use Rattle.wap_pages.proofs.Looking.{on_fault}
 use Rattle.wap_pages.proofs.cached.CachedPages.page.Goals as goal
 
 -- ---- out of memory at the look-up
 
 pub invariant_of-self : goal.invariant_of-self
-invariant_of-self g c = (c.look_up.ensures (g.S.Store.contents c.self.inside.store) c.self.invariant).sound
+invariant_of-self g c =
+    (c.look_up.ensures (g.S.Store.contents c.self.inside.store) c.self.invariant).sound
 
 pub returns-in_err-page-clause-stays : goal.returns-in_err-page-clause-stays
 returns-in_err-page-clause-stays g c =
     let looked = c.look_up.ensures (g.S.Store.contents c.self.inside.store) c.self.invariant in
     rw (← c.self.view_is)
-    (hit_stays (g.S.Store.contents c.self.inside.store) (names_in c.self.inside.kept) (names_in c.look_up.new.kept)
-    (g.S.Store.faults c.self.inside.store) (g.S.Store.fetches c.self.inside.store) (g.S.Store.listings c.self.inside.store) looked.capacity)
+    (hit_stays (g.S.Store.contents c.self.inside.store) (names_in c.self.inside.kept)
+    (names_in c.look_up.new.kept)
+    (g.S.Store.faults c.self.inside.store) (g.S.Store.fetches c.self.inside.store)
+    (g.S.Store.listings c.self.inside.store) looked.capacity)
 
 pub returns-in_err-page-clause-no_more : goal.returns-in_err-page-clause-no_more
 returns-in_err-page-clause-no_more g c =
     let looked = c.look_up.ensures (g.S.Store.contents c.self.inside.store) c.self.invariant in
     rw (← c.self.view_is)
-    (on_fault (KeepsNoMore (names_in c.self.inside.kept) (names_in c.look_up.new.kept)) c.from_residual.result looked.no_more)
+    (on_fault (KeepsNoMore (names_in c.self.inside.kept) (names_in c.look_up.new.kept))
+    c.from_residual.result looked.no_more)
 
 -- ---- a page that is kept
 
 pub invariant_of-self-in-Some : goal.invariant_of-self-in-Some
-invariant_of-self-in-Some g c = (c.look_up.ensures (g.S.Store.contents c.self.inside.store) c.self.invariant).sound
+invariant_of-self-in-Some g c =
+    (c.look_up.ensures (g.S.Store.contents c.self.inside.store) c.self.invariant).sound
 
 pub returns-in-Some-clause-found : goal.returns-in-Some-clause-found
 returns-in-Some-clause-found g c =
@@ -40,7 +46,8 @@ returns-in-Some-clause-found g c =
     let is = c.in_ok-page.was ∙ ap (λ (found : Option Page). Ok found) c.in-Some.is in
     rw (← c.self.view_is)
     (right_seen behind c.args.name.now c.in-Some.page
-    (subst (λ (r : Result (Option Page) NoMemory). IfOk r (λ found. IfSome found (IsRight behind c.args.name.now))) is looked.right))
+    (subst (λ (r : Result (Option Page) NoMemory).
+    IfOk r (λ found. IfSome found (IsRight behind c.args.name.now))) is looked.right))
 
 pub returns-in-Some-clause-asks : goal.returns-in-Some-clause-asks
 returns-in-Some-clause-asks g c =
@@ -51,23 +58,29 @@ returns-in-Some-clause-asks g c =
     let after = names_in c.look_up.new.kept in
     let is = c.in_ok-page.was ∙ ap (λ (found : Option Page). Ok found) c.in-Some.is in
     rw (← c.self.view_is)
-    (hit_asks behind before after (g.S.Store.faults c.self.inside.store) (g.S.Store.fetches c.self.inside.store) (g.S.Store.listings c.self.inside.store) asked
-    (subst (λ (r : Result (Option Page) NoMemory). IfOk r (λ found. IfSome found (λ _. is_miss asked before ≡ false))) is looked.hit)
-    (subst (λ (r : Result (Option Page) NoMemory). IfOk r (λ found. IfSome found (λ _. after ≡ after_asking asked before))) is looked.first))
+    (hit_asks behind before after (g.S.Store.faults c.self.inside.store)
+    (g.S.Store.fetches c.self.inside.store) (g.S.Store.listings c.self.inside.store) asked
+    (subst (λ (r : Result (Option Page) NoMemory).
+    IfOk r (λ found. IfSome found (λ _. is_miss asked before ≡ false))) is looked.hit)
+    (subst (λ (r : Result (Option Page) NoMemory).
+    IfOk r (λ found. IfSome found (λ _. after ≡ after_asking asked before))) is looked.first))
 
 pub returns-in-Some-clause-stays : goal.returns-in-Some-clause-stays
 returns-in-Some-clause-stays g c =
     let looked = c.look_up.ensures (g.S.Store.contents c.self.inside.store) c.self.invariant in
     rw (← c.self.view_is)
-    (hit_stays (g.S.Store.contents c.self.inside.store) (names_in c.self.inside.kept) (names_in c.look_up.new.kept)
-    (g.S.Store.faults c.self.inside.store) (g.S.Store.fetches c.self.inside.store) (g.S.Store.listings c.self.inside.store) looked.capacity)
+    (hit_stays (g.S.Store.contents c.self.inside.store) (names_in c.self.inside.kept)
+    (names_in c.look_up.new.kept)
+    (g.S.Store.faults c.self.inside.store) (g.S.Store.fetches c.self.inside.store)
+    (g.S.Store.listings c.self.inside.store) looked.capacity)
 
 -- ---- a page that couldn't be fetched
 
 pub invariant_of-self-in-Err : goal.invariant_of-self-in-Err
 invariant_of-self-in-Err g c =
     let looked = c.look_up.ensures (g.S.Store.contents c.self.inside.store) c.self.invariant in
-    subst (λ (behind : Option Contents). IsSound behind c.look_up.new.kept) (sym c.fetch.ensures.kept) looked.sound
+    subst (λ (behind : Option Contents). IsSound behind c.look_up.new.kept)
+    (sym c.fetch.ensures.kept) looked.sound
 
 pub returns-in-Err-clause-failed : goal.returns-in-Err-clause-failed
 returns-in-Err-clause-failed g c = λ why.
@@ -76,10 +89,13 @@ returns-in-Err-clause-failed g c = λ why.
     let none = c.in_ok-page.was ∙ ap (λ (found : Option Page). Ok found) c.in_default.is in
     rw (← c.self.view_is)
     (miss_fails behind (names_in c.self.inside.kept)
-    (g.S.Store.faults c.self.inside.store) (g.S.Store.fetches c.self.inside.store) (g.S.Store.listings c.self.inside.store)
+    (g.S.Store.faults c.self.inside.store) (g.S.Store.fetches c.self.inside.store)
+    (g.S.Store.listings c.self.inside.store)
     (g.S.Store.contents c.fetch.new.store) (names_in c.look_up.new.kept)
-    (g.S.Store.faults c.fetch.new.store) (g.S.Store.fetches c.fetch.new.store) (g.S.Store.listings c.fetch.new.store)
-    (c.args.name.now, c.args.fresh) (looked.miss none) c.fetch.ensures.counted (c.in-Err.ensures.failed why))
+    (g.S.Store.faults c.fetch.new.store) (g.S.Store.fetches c.fetch.new.store)
+    (g.S.Store.listings c.fetch.new.store)
+    (c.args.name.now, c.args.fresh) (looked.miss none) c.fetch.ensures.counted
+    (c.in-Err.ensures.failed why))
 
 pub returns-in-Err-clause-stays : goal.returns-in-Err-clause-stays
 returns-in-Err-clause-stays g c =
@@ -87,10 +103,13 @@ returns-in-Err-clause-stays g c =
     let looked = c.look_up.ensures behind c.self.invariant in
     rw (← c.self.view_is)
     (miss_stays behind (names_in c.self.inside.kept)
-    (g.S.Store.faults c.self.inside.store) (g.S.Store.fetches c.self.inside.store) (g.S.Store.listings c.self.inside.store)
+    (g.S.Store.faults c.self.inside.store) (g.S.Store.fetches c.self.inside.store)
+    (g.S.Store.listings c.self.inside.store)
     (g.S.Store.contents c.fetch.new.store) (names_in c.look_up.new.kept)
-    (g.S.Store.faults c.fetch.new.store) (g.S.Store.fetches c.fetch.new.store) (g.S.Store.listings c.fetch.new.store)
-    c.fetch.ensures.kept looked.capacity c.fetch.ensures.faults c.fetch.ensures.counted c.fetch.ensures.listings)
+    (g.S.Store.faults c.fetch.new.store) (g.S.Store.fetches c.fetch.new.store)
+    (g.S.Store.listings c.fetch.new.store)
+    c.fetch.ensures.kept looked.capacity c.fetch.ensures.faults c.fetch.ensures.counted
+    c.fetch.ensures.listings)
 
 pub returns-in-Err-clause-no_more : goal.returns-in-Err-clause-no_more
 returns-in-Err-clause-no_more g c =
@@ -103,35 +122,54 @@ pub invariant_of-self-in_err-keep-in-Ok : goal.invariant_of-self-in_err-keep-in-
 invariant_of-self-in_err-keep-in-Ok g c =
     let behind = g.S.Store.contents c.fetch.new.store in
     let looked = c.look_up.ensures (g.S.Store.contents c.self.inside.store) c.self.invariant in
-    let sound = subst (λ (b : Option Contents). IsSound b c.look_up.new.kept) (sym c.fetch.ensures.kept) looked.sound in
-    let right = subst (λ (b : Option Contents). IsRight b c.args.name.now c.in-Ok.page) (sym c.fetch.ensures.kept) c.in-Ok.ensures.found in
+    let sound =
+    subst (λ (b : Option Contents). IsSound b c.look_up.new.kept)
+    (sym c.fetch.ensures.kept) looked.sound in
+    let right =
+    subst (λ (b : Option Contents). IsRight b c.args.name.now c.in-Ok.page)
+    (sym c.fetch.ensures.kept) c.in-Ok.ensures.found in
     (c.keep.ensures behind sound right).sound
 
 pub returns-in_err-keep-in-Ok-clause-stays : goal.returns-in_err-keep-in-Ok-clause-stays
 returns-in_err-keep-in-Ok-clause-stays g c =
     let behind = g.S.Store.contents c.fetch.new.store in
     let looked = c.look_up.ensures (g.S.Store.contents c.self.inside.store) c.self.invariant in
-    let sound = subst (λ (b : Option Contents). IsSound b c.look_up.new.kept) (sym c.fetch.ensures.kept) looked.sound in
-    let right = subst (λ (b : Option Contents). IsRight b c.args.name.now c.in-Ok.page) (sym c.fetch.ensures.kept) c.in-Ok.ensures.found in
+    let sound =
+    subst (λ (b : Option Contents). IsSound b c.look_up.new.kept)
+    (sym c.fetch.ensures.kept) looked.sound in
+    let right =
+    subst (λ (b : Option Contents). IsRight b c.args.name.now c.in-Ok.page)
+    (sym c.fetch.ensures.kept) c.in-Ok.ensures.found in
     let kept = c.keep.ensures behind sound right in
     rw (← c.self.view_is)
     (miss_stays (g.S.Store.contents c.self.inside.store) (names_in c.self.inside.kept)
-    (g.S.Store.faults c.self.inside.store) (g.S.Store.fetches c.self.inside.store) (g.S.Store.listings c.self.inside.store)
+    (g.S.Store.faults c.self.inside.store) (g.S.Store.fetches c.self.inside.store)
+    (g.S.Store.listings c.self.inside.store)
     (g.S.Store.contents c.fetch.new.store) (names_in c.keep.new.kept)
-    (g.S.Store.faults c.fetch.new.store) (g.S.Store.fetches c.fetch.new.store) (g.S.Store.listings c.fetch.new.store)
-    c.fetch.ensures.kept (kept.capacity ∙ looked.capacity) c.fetch.ensures.faults c.fetch.ensures.counted c.fetch.ensures.listings)
+    (g.S.Store.faults c.fetch.new.store) (g.S.Store.fetches c.fetch.new.store)
+    (g.S.Store.listings c.fetch.new.store)
+    c.fetch.ensures.kept (kept.capacity ∙ looked.capacity)
+    c.fetch.ensures.faults c.fetch.ensures.counted c.fetch.ensures.listings)
 
 pub returns-in_err-keep-in-Ok-clause-no_more : goal.returns-in_err-keep-in-Ok-clause-no_more
 returns-in_err-keep-in-Ok-clause-no_more g c =
     let behind = g.S.Store.contents c.fetch.new.store in
     let looked = c.look_up.ensures (g.S.Store.contents c.self.inside.store) c.self.invariant in
-    let sound = subst (λ (b : Option Contents). IsSound b c.look_up.new.kept) (sym c.fetch.ensures.kept) looked.sound in
-    let right = subst (λ (b : Option Contents). IsRight b c.args.name.now c.in-Ok.page) (sym c.fetch.ensures.kept) c.in-Ok.ensures.found in
+    let sound =
+    subst (λ (b : Option Contents). IsSound b c.look_up.new.kept)
+    (sym c.fetch.ensures.kept) looked.sound in
+    let right =
+    subst (λ (b : Option Contents). IsRight b c.args.name.now c.in-Ok.page)
+    (sym c.fetch.ensures.kept) c.in-Ok.ensures.found in
     let kept = c.keep.ensures behind sound right in
-    let same = subst (λ (r : Result (Unit {0}) NoMemory). OnErr r (c.keep.new.kept ≡ c.look_up.new.kept)) c.in_err-keep-in-Ok.was kept.no_more in
+    let same =
+    subst (λ (r : Result (Unit {0}) NoMemory). OnErr r (c.keep.new.kept ≡ c.look_up.new.kept))
+    c.in_err-keep-in-Ok.was kept.no_more in
     rw (← c.self.view_is)
-    (on_fault (KeepsNoMore (names_in c.self.inside.kept) (names_in c.keep.new.kept)) c.from_residual-in_err-keep-in-Ok.result
-    (subst (λ (k : Kept). KeepsNoMore (names_in c.self.inside.kept) (names_in k)) (sym same) looked.no_more))
+    (on_fault (KeepsNoMore (names_in c.self.inside.kept) (names_in c.keep.new.kept))
+    c.from_residual-in_err-keep-in-Ok.result
+    (subst (λ (k : Kept). KeepsNoMore (names_in c.self.inside.kept) (names_in k))
+    (sym same) looked.no_more))
 
 -- ---- a page that was fetched
 
@@ -139,38 +177,61 @@ pub invariant_of-self-in-Ok : goal.invariant_of-self-in-Ok
 invariant_of-self-in-Ok g c =
     let behind = g.S.Store.contents c.fetch.new.store in
     let looked = c.look_up.ensures (g.S.Store.contents c.self.inside.store) c.self.invariant in
-    let sound = subst (λ (b : Option Contents). IsSound b c.look_up.new.kept) (sym c.fetch.ensures.kept) looked.sound in
-    let right = subst (λ (b : Option Contents). IsRight b c.args.name.now c.in-Ok.page) (sym c.fetch.ensures.kept) c.in-Ok.ensures.found in
+    let sound =
+    subst (λ (b : Option Contents). IsSound b c.look_up.new.kept)
+    (sym c.fetch.ensures.kept) looked.sound in
+    let right =
+    subst (λ (b : Option Contents). IsRight b c.args.name.now c.in-Ok.page)
+    (sym c.fetch.ensures.kept) c.in-Ok.ensures.found in
     (c.keep.ensures behind sound right).sound
 
 pub returns-in_ok-keep-in-Ok-clause-asks : goal.returns-in_ok-keep-in-Ok-clause-asks
 returns-in_ok-keep-in-Ok-clause-asks g c =
     let behind = g.S.Store.contents c.fetch.new.store in
     let looked = c.look_up.ensures (g.S.Store.contents c.self.inside.store) c.self.invariant in
-    let sound = subst (λ (b : Option Contents). IsSound b c.look_up.new.kept) (sym c.fetch.ensures.kept) looked.sound in
-    let right = subst (λ (b : Option Contents). IsRight b c.args.name.now c.in-Ok.page) (sym c.fetch.ensures.kept) c.in-Ok.ensures.found in
+    let sound =
+    subst (λ (b : Option Contents). IsSound b c.look_up.new.kept)
+    (sym c.fetch.ensures.kept) looked.sound in
+    let right =
+    subst (λ (b : Option Contents). IsRight b c.args.name.now c.in-Ok.page)
+    (sym c.fetch.ensures.kept) c.in-Ok.ensures.found in
     let kept = c.keep.ensures behind sound right in
     let none = c.in_ok-page.was ∙ ap (λ (found : Option Page). Ok found) c.in_default.is in
     let asked : Asked = (c.args.name.now, c.args.fresh) in
-    let first = subst (λ (r : Result (Unit {0}) NoMemory). OnOk r ((fresh : Bool) → names_in c.keep.new.kept ≡ after_asking (c.args.name.now, fresh) (names_in c.look_up.new.kept)))
+    let first =
+    subst (λ (r : Result (Unit {0}) NoMemory).
+    OnOk r ((fresh : Bool)
+    → names_in c.keep.new.kept
+    ≡ after_asking (c.args.name.now, fresh) (names_in c.look_up.new.kept)))
     c.in_ok-keep-in-Ok.was kept.first in
     rw (← c.self.view_is)
     (miss_asks (g.S.Store.contents c.self.inside.store) (names_in c.self.inside.kept)
-    (g.S.Store.faults c.self.inside.store) (g.S.Store.fetches c.self.inside.store) (g.S.Store.listings c.self.inside.store)
+    (g.S.Store.faults c.self.inside.store) (g.S.Store.fetches c.self.inside.store)
+    (g.S.Store.listings c.self.inside.store)
     (g.S.Store.contents c.fetch.new.store) (names_in c.keep.new.kept)
-    (g.S.Store.faults c.fetch.new.store) (g.S.Store.fetches c.fetch.new.store) (g.S.Store.listings c.fetch.new.store)
-    asked (looked.miss none) (first c.args.fresh ∙ ap (λ (k : Kept). after_asking asked (names_in k)) (looked.same none)) c.fetch.ensures.counted c.in-Ok.ensures.steady)
+    (g.S.Store.faults c.fetch.new.store) (g.S.Store.fetches c.fetch.new.store)
+    (g.S.Store.listings c.fetch.new.store)
+    asked (looked.miss none)
+    (first c.args.fresh ∙ ap (λ (k : Kept). after_asking asked (names_in k)) (looked.same none))
+    c.fetch.ensures.counted c.in-Ok.ensures.steady)
 
 pub returns-in_ok-keep-in-Ok-clause-stays : goal.returns-in_ok-keep-in-Ok-clause-stays
 returns-in_ok-keep-in-Ok-clause-stays g c =
     let behind = g.S.Store.contents c.fetch.new.store in
     let looked = c.look_up.ensures (g.S.Store.contents c.self.inside.store) c.self.invariant in
-    let sound = subst (λ (b : Option Contents). IsSound b c.look_up.new.kept) (sym c.fetch.ensures.kept) looked.sound in
-    let right = subst (λ (b : Option Contents). IsRight b c.args.name.now c.in-Ok.page) (sym c.fetch.ensures.kept) c.in-Ok.ensures.found in
+    let sound =
+    subst (λ (b : Option Contents). IsSound b c.look_up.new.kept)
+    (sym c.fetch.ensures.kept) looked.sound in
+    let right =
+    subst (λ (b : Option Contents). IsRight b c.args.name.now c.in-Ok.page)
+    (sym c.fetch.ensures.kept) c.in-Ok.ensures.found in
     let kept = c.keep.ensures behind sound right in
     rw (← c.self.view_is)
     (miss_stays (g.S.Store.contents c.self.inside.store) (names_in c.self.inside.kept)
-    (g.S.Store.faults c.self.inside.store) (g.S.Store.fetches c.self.inside.store) (g.S.Store.listings c.self.inside.store)
+    (g.S.Store.faults c.self.inside.store) (g.S.Store.fetches c.self.inside.store)
+    (g.S.Store.listings c.self.inside.store)
     (g.S.Store.contents c.fetch.new.store) (names_in c.keep.new.kept)
-    (g.S.Store.faults c.fetch.new.store) (g.S.Store.fetches c.fetch.new.store) (g.S.Store.listings c.fetch.new.store)
-    c.fetch.ensures.kept (kept.capacity ∙ looked.capacity) c.fetch.ensures.faults c.fetch.ensures.counted c.fetch.ensures.listings)
+    (g.S.Store.faults c.fetch.new.store) (g.S.Store.fetches c.fetch.new.store)
+    (g.S.Store.listings c.fetch.new.store)
+    c.fetch.ensures.kept (kept.capacity ∙ looked.capacity)
+    c.fetch.ensures.faults c.fetch.ensures.counted c.fetch.ensures.listings)

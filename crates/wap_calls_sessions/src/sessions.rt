@@ -1,0 +1,48 @@
+//! Sessions that are played by the keys of a call.
+use crate::keys::keys;
+use std::alloc::Global;
+use wap_base::{Limits, Rows, Text};
+use wap_casebook::{Call, CaseFault};
+use wap_session::{Session, SessionFault};
+use wap_site::Pages;
+
+/// How many turns each key has.
+const BUDGET: u32 = 100;
+
+fn beginning(alloc: Global) -> Session {
+    Session::new(alloc, 1, BUDGET, Limits::default())
+}
+
+/// Gives the lines that keys show, or why they show none.
+fn give(call: &mut Call, shown: Result<Rows<Text>, SessionFault>) -> Result<(), CaseFault> {
+    match shown {
+        Ok(lines) => {
+            for line in lines.as_slice() {
+                call.give_text(line);
+            }
+        }
+        Err(SessionFault::Store) => call.give_word("Store"),
+        Err(SessionFault::Ended) => call.give_word("Ended"),
+        Err(SessionFault::NoMemory) => return Err(CaseFault::NoMemory),
+    }
+    Ok(())
+}
+
+/// Feeds a session the keys, one after the other.
+pub fn feed<P: Pages>(call: &mut Call, pages: &mut P) -> Result<(), CaseFault> {
+    let alloc = call.alloc();
+    let mut session = beginning(alloc);
+    for key in &keys(call)? {
+        give(call, session.feed(alloc, key, pages))?;
+    }
+    Ok(())
+}
+
+/// Plays the keys in a session, and then plays none in it.
+pub fn play<P: Pages>(call: &mut Call, pages: &mut P) -> Result<(), CaseFault> {
+    let alloc = call.alloc();
+    let keys = keys(call)?;
+    let mut session = beginning(alloc);
+    give(call, session.play(alloc, keys.as_slice(), pages))?;
+    give(call, session.play(alloc, &[], pages))
+}

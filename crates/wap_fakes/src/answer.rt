@@ -1,0 +1,67 @@
+//! What pages in memory answer, and which pages they may be.
+ghost use Rattle.std.specs.Prelude.{◌≡◌, All, IfOk, IsTrue, ◌↔◌};
+ghost use Rattle.std.specs.Option.{option_copied};
+ghost use Rattle.std.specs.Map.{keys_of};
+ghost use Rattle.wap_site.specs.Pages.{page_of};
+ghost use Rattle.wap_fakes.specs.Fakes.{page_named, IsThere, ArePages};
+
+use std::alloc::Global;
+use wap_base::{NoMemory, Text, are_distinct};
+use wap_site::Page;
+
+/// The page of a name, if there is one.
+fn find<'a>(pages: &'a [(Text, Page)], name: &Text) -> Option<&'a Page>
+    ensures { option_copied result ≡ page_named name.now pages.now }
+{
+    for (page_name, page) in pages {
+        if page_name == name {
+            return Some(page);
+        }
+    }
+    None
+}
+
+/// What pages answer for a name.
+pub fn answer(pages: &[(Text, Page)], name: &Text) -> Result<Page, NoMemory>
+    ensures { IfOk result (λ page. page ≡ page_of name.now pages.now) }
+{
+    match find(pages, name) {
+        Some(page) => page.share(),
+        None => Ok(Page::Missing),
+    }
+}
+
+/// Whether there is a page.
+fn is_there(page: &Page) -> bool
+    ensures { IsTrue result ↔ IsThere page.now }
+{
+    match page {
+        Page::Deck(_) | Page::Words(_) | Page::Refused => true,
+        Page::Missing => false,
+    }
+}
+
+fn are_there(pages: &[(Text, Page)]) -> bool
+    ensures { IsTrue result ↔ All (λ page. IsThere page.1) pages.now }
+{
+    pages.iter().all(|page| is_there(&page.1))
+}
+
+/// A copy of each name, in order.
+fn names(alloc: Global, pages: &[(Text, Page)]) -> Result<Vec<Text>, NoMemory>
+    ensures { IfOk result (λ names. names.items ≡ keys_of pages.now) }
+{
+    let mut names = Vec::new(alloc);
+    for (name, _) in pages {
+        names.push(name.copy(alloc)?)?;
+    }
+    Ok(names)
+}
+
+/// Whether these may be the pages of a site: no name stands twice, and none of them is missing.
+pub fn are_site_pages(alloc: Global, pages: &[(Text, Page)]) -> Result<bool, NoMemory>
+    ensures { IfOk result (λ fit. IsTrue fit ↔ ArePages pages.now) }
+{
+    let distinct = are_distinct(names(alloc, pages)?);
+    Ok(distinct && are_there(pages))
+}
