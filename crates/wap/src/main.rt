@@ -1,21 +1,12 @@
 //! The program `wap`: a browser for the pages of a folder.
 #![tactic(auto)]
 
-mod folder;
-mod input;
-mod output;
-
-use folder::FolderStore;
-use input::StdinSource;
-use output::StdoutSink;
 use std::env;
 use std::io::ErrorKind;
 use std::process::ExitCode;
 use wap_base::{NoGate, NoMemory, Text};
 use wap_cli::{Status, run};
-
-#[cfg(test)]
-mod tests;
+use wap_system::{FolderStore, StdinSource, StdoutSink};
 
 /// The pages of the folder that is named first, and the words of the command after it, where there
 /// is a folder and each word is UTF-8.

@@ -1,7 +1,7 @@
 //! Standard output as a sink of what is shown.
 ghost use Rattle.std.specs.Prelude.{◌≡◌, ◌≤◌, ◌<◌, [], length, IfOk, OnOk};
 ghost use Rattle.std.specs.Io.KnownBytes.{WriteAppends};
-ghost use Rattle.wap.specs.Writes.{faults_after};
+ghost use Rattle.wap_system.specs.Writes.{faults_after};
 
 use std::io::Write;
 use wap_base::{Failed, Sink};
@@ -19,13 +19,6 @@ impl<O> StdoutSink<O> {
     pub fn new(writer: O) -> StdoutSink<O> {
         StdoutSink { writer, faults: 0 }
     }
-
-    /// The writer.
-    #[cfg(test)]
-    pub fn into_writer(self) -> O {
-        let StdoutSink { writer, faults: _ } = self;
-        writer
-    }
 }
 
 impl<O: Write> Sink for StdoutSink<O> {
@@ -38,7 +31,8 @@ impl<O: Write> Sink for StdoutSink<O> {
     fn write(&mut self, piece: &[u8]) -> Result<usize, Failed>
         ensures within { IfOk result (λ count. count ≤ length piece.now) }
         // The writer took what the sink answers that it took.
-        ensures writer { WriteAppends (O.contents self.old.writer) (O.contents self.new.writer) result piece.now }
+        ensures writer { WriteAppends (O.contents self.old.writer)
+            (O.contents self.new.writer) result piece.now }
         ensures faults { self.new.faults ≡ faults_after self.old.faults piece.now result }
         ensures steady { IfOk result (λ count. 0 < count → self.new.faults ≡ self.old.faults) }
         ensures nothing { piece.now ≡ [] → OnOk result (self.new.faults ≡ self.old.faults) }

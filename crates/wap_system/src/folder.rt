@@ -1,8 +1,9 @@
 //! A folder of files as a store of pages.
-ghost use Rattle.std.specs.Prelude.{◌≡◌, ◌≤◌, ◌↔◌, IsTrue, IfOk, is_err, if◌then◌else◌, encode_utf8_all};
+ghost use Rattle.std.specs.Prelude.{◌≡◌, ◌≤◌, ◌↔◌, IsTrue, IfOk, is_err};
+ghost use Rattle.std.specs.Prelude.{if◌then◌else◌, encode_utf8_all};
 ghost use Rattle.std.specs.IoError.{error_kind};
-ghost use Rattle.wap.specs.Inside.{IsFileName, IsInside, IsFoundInside};
-ghost use Rattle.wap.specs.Missing.{tells_nothing, fault_of, there};
+ghost use Rattle.wap_system.specs.Inside.{IsFileName, IsInside, IsFoundInside};
+ghost use Rattle.wap_system.specs.Missing.{tells_nothing, fault_of, there};
 ghost use Rattle.wap_base.specs.Count.{raised};
 ghost use Rattle.wap_base.specs.Texts.{AreAscending};
 ghost use Rattle.wap_base.specs.Pages.{IsSmall};
@@ -46,7 +47,8 @@ impl<R> FolderStore<R> {
 
     /// Counts a call that failed or didn't.
     fn count(&mut self, failed: bool)
-        ensures faults { self.new.faults ≡ (if failed then raised self.old.faults else self.old.faults) }
+        ensures faults { self.new.faults
+            ≡ (if failed then raised self.old.faults else self.old.faults) }
         ensures ordered { self.old.faults ≤ self.new.faults }
         ensures fetches { self.new.fetches ≡ self.old.fetches }
         ensures listings { self.new.listings ≡ self.old.listings }
@@ -76,7 +78,8 @@ impl<R: Files + AllocGlobal + Clone + Drop> Store for FolderStore<R> {
 
         ensures counted { self.new.fetches ≡ raised self.old.fetches }
         ensures listings { self.new.listings ≡ self.old.listings }
-        ensures faults { self.new.faults ≡ (if is_err result then raised self.old.faults else self.old.faults) }
+        ensures faults { self.new.faults
+            ≡ (if is_err result then raised self.old.faults else self.old.faults) }
         ensures ordered { self.old.faults ≤ self.new.faults }
     {
         self.fetches = self.fetches.saturating_add(1);
@@ -90,7 +93,8 @@ impl<R: Files + AllocGlobal + Clone + Drop> Store for FolderStore<R> {
 
         ensures counted { self.new.listings ≡ raised self.old.listings }
         ensures fetches { self.new.fetches ≡ self.old.fetches }
-        ensures faults { self.new.faults ≡ (if is_err result then raised self.old.faults else self.old.faults) }
+        ensures faults { self.new.faults
+            ≡ (if is_err result then raised self.old.faults else self.old.faults) }
         ensures ordered { self.old.faults ≤ self.new.faults }
     {
         self.listings = self.listings.saturating_add(1);

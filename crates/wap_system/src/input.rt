@@ -1,5 +1,6 @@
 //! Standard input as a source of key lines.
-ghost use Rattle.std.specs.Prelude.{◌≡◌, ◌<◌, ◌≤◌, length, drop, Ok, IfOk, OnErr, is_err, if◌then◌else◌};
+ghost use Rattle.std.specs.Prelude.{◌≡◌, ◌<◌, ◌≤◌, length, drop, Ok, IfOk};
+ghost use Rattle.std.specs.Prelude.{OnErr, is_err, if◌then◌else◌};
 ghost use Rattle.std.specs.Io.KnownBytes.{ReadConsumes};
 ghost use Rattle.wap_base.specs.Count.{raised};
 ghost use Rattle.wap_base.specs.Transfer.{ends_after};
@@ -54,11 +55,13 @@ impl<I: Read> Source for StdinSource<I> {
         requires { 0 < length buffer.old }
         ensures within { IfOk result (λ count. count ≤ length buffer.old) }
         // The reader gave what the source gives.
-        ensures reader { ReadConsumes (I.remaining self.old.reader) (I.remaining self.new.reader) result buffer.new }
+        ensures reader { ReadConsumes (I.remaining self.old.reader)
+            (I.remaining self.new.reader) result buffer.new }
         ensures rest { IfOk result (λ count. drop count buffer.new ≡ drop count buffer.old) }
         ensures buffer { OnErr result (buffer.new ≡ buffer.old) }
         ensures ends { self.new.ends ≡ ends_after self.old.ends result }
-        ensures faults { self.new.faults ≡ (if is_err result then raised self.old.faults else self.old.faults) }
+        ensures faults { self.new.faults
+            ≡ (if is_err result then raised self.old.faults else self.old.faults) }
         ensures ordered { self.old.faults ≤ self.new.faults }
     {
         // A piece of its own, since a read that fails may have written to what it was given.

@@ -4,7 +4,8 @@ use Rattle.std.specs.Prelude.{Bool, true, false, Option, Some, None, Result, Ok,
 use Rattle.std.specs.IoError.{error_kind}
 use Rattle.std.specs.declared.io.Error.{Error}
 use Rattle.std.specs.declared.io.ErrorKind.{ErrorKind}
-use Rattle.std.specs.declared.io.ErrorKind.TheVariants.{NotFound, NotADirectory, FilesystemLoop, InvalidFilename, InvalidInput, OutOfMemory}
+use Rattle.std.specs.declared.io.ErrorKind.TheVariants.{NotFound, NotADirectory, FilesystemLoop}
+use Rattle.std.specs.declared.io.ErrorKind.TheVariants.{InvalidFilename, InvalidInput, OutOfMemory}
 use Rattle.wap_base.specs.declared.store.StoreErr.{StoreErr}
 use Rattle.wap_base.specs.declared.store.StoreErr.TheVariants.{Failed, NoMemory}
 
