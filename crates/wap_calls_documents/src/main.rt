@@ -1,36 +1,40 @@
-//! Plays calls of documents and decks: files of lines `CALL ARGUMENTS = RESULT`.
+//! Plays calls of documents and decks, and calls on the cards of good decks: files of lines
+//! `CALL ARGUMENTS = RESULT`.
 #![tactic(auto)]
 
-mod calls;
+mod cards;
 mod decks;
 mod documents;
+mod events;
+mod fields;
+mod good_decks;
 mod parts;
+mod reading;
+mod screens;
+mod tasks;
+mod threads;
+mod trees;
+mod variables;
 
-use std::marker::{Send, Sync};
 use std::process::ExitCode;
 use wap_casebook::{Call, Calls, CaseFault, play_calls};
-use wap_markup::{Deck, Document};
-use wap_wbxml::DocFault;
 
-/// The calls of documents and decks.
-struct Trees;
+/// The calls of documents, decks and cards.
+struct Layers;
 
-impl Calls for Trees {
+impl Calls for Layers {
     fn make(&self, name: &[u8], call: &mut Call) -> Result<(), CaseFault> {
-        calls::make(name, call)
+        if let Some(known) = trees::find(name) {
+            trees::make(known, call)
+        } else if let Some(known) = cards::find(name) {
+            cards::make(known, call)
+        } else {
+            Err(CaseFault::Line)
+        }
     }
 }
 
-fn crosses<T: Send + Sync>() {}
-
-/// Stands only where each type that is named here may be sent to threads and shared by them.
-fn all_cross() {
-    crosses::<Document>();
-    crosses::<DocFault>();
-    crosses::<Deck>();
-}
-
 fn main(rt: HostRuntime) -> ExitCode {
-    all_cross();
-    play_calls(&rt, &Trees)
+    threads::all_cross();
+    play_calls(&rt, &Layers)
 }

@@ -4,94 +4,73 @@ use crate::statements::add_block;
 use crate::tokens::tokens_of;
 use wap_base::{Rows, Text};
 use wap_casebook::{Call, CaseFault};
-use wap_parse::{Function, Id, ParseFault, Program, Span, Use, parse};
+use wap_parse::{Function, Id, ParseFault, Program, Use, parse};
 
 /// The most levels of a tree that are shown: those of a program, each with all precedences.
 const LEVELS: u32 = 1024;
 
 /// Adds names with commas between them.
-fn add_names(shown: &mut Shown, names: &Rows<Id>) -> Result<(), CaseFault> {
+fn add_names(shown: &mut Shown, names: &Rows<Id>) {
     for (at, name) in names.as_slice().iter().enumerate() {
-        if at > 0 {
-            shown.add(", ")?;
-        }
-        shown.add_id(name)?;
+        shown.add_between(at, ", ");
+        shown.add_id(name);
     }
-    Ok(())
 }
 
 /// Adds a word and a text, where there is one.
-fn add_worded(shown: &mut Shown, word: &str, text: &Option<Text>) -> Result<(), CaseFault> {
-    match text {
-        Some(text) => {
-            shown.add(word)?;
-            shown.add_quoted(text.as_str())
-        }
-        None => Ok(()),
+fn add_worded(shown: &mut Shown, word: &str, text: &Option<Text>) {
+    if let Some(text) = text {
+        shown.add(word);
+        shown.add_quoted(text.as_str());
     }
-}
-
-/// Adds who may call the unit.
-fn add_access(
-    shown: &mut Shown,
-    domain: &Option<Text>,
-    path: &Option<Text>,
-    span: Span,
-) -> Result<(), CaseFault> {
-    shown.add("use access")?;
-    add_worded(shown, " domain ", domain)?;
-    add_worded(shown, " path ", path)?;
-    shown.add_place(span)?;
-    shown.add("; ")
 }
 
 /// Adds a pragma.
-fn add_use(shown: &mut Shown, pragma: &Use) -> Result<(), CaseFault> {
+fn add_use(shown: &mut Shown, pragma: &Use) {
     match pragma {
         Use::Url(unit, url) => {
-            shown.add("use url ")?;
-            shown.add_id(unit)?;
-            shown.add(" ")?;
-            shown.add_quoted(url.as_str())?;
-            shown.add("; ")
+            shown.add("use url ");
+            shown.add_id(unit);
+            shown.add(" ");
+            shown.add_quoted(url.as_str());
         }
-        Use::Access(domain, path, span) => add_access(shown, domain, path, *span),
+        Use::Access(domain, path, span) => {
+            shown.add("use access");
+            add_worded(shown, " domain ", domain);
+            add_worded(shown, " path ", path);
+            shown.add_place(*span);
+        }
         Use::Agent(name, content, scheme) => {
-            shown.add("use meta user agent ")?;
-            shown.add_quoted(name.as_str())?;
-            shown.add(" ")?;
-            shown.add_quoted(content.as_str())?;
-            add_worded(shown, " ", scheme)?;
-            shown.add("; ")
+            shown.add("use meta user agent ");
+            shown.add_quoted(name.as_str());
+            shown.add(" ");
+            shown.add_quoted(content.as_str());
+            add_worded(shown, " ", scheme);
         }
-        Use::Note => shown.add("use meta; "),
+        Use::Note => shown.add("use meta"),
     }
+    shown.add("; ");
 }
 
 /// Adds a function.
-fn add_function(shown: &mut Shown, function: &Function) -> Result<(), CaseFault> {
-    if function.external {
-        shown.add("extern ")?;
-    }
-    shown.add_id(&function.name)?;
-    shown.add("(")?;
-    add_names(shown, &function.params)?;
-    shown.add(") ")?;
-    add_block(shown, LEVELS, &function.body)
+fn add_function(shown: &mut Shown, function: &Function) {
+    shown.add(if function.external { "extern " } else { "" });
+    shown.add_id(&function.name);
+    shown.add("(");
+    add_names(shown, &function.params);
+    shown.add(") ");
+    add_block(shown, LEVELS, &function.body);
 }
 
 /// Adds a program: its pragmas and functions.
-fn add_program(shown: &mut Shown, program: &Program) -> Result<(), CaseFault> {
+fn add_program(shown: &mut Shown, program: &Program) {
     for pragma in program.uses.as_slice() {
-        add_use(shown, pragma)?;
+        add_use(shown, pragma);
     }
     for (at, function) in program.functions.as_slice().iter().enumerate() {
-        if at > 0 {
-            shown.add(" ")?;
-        }
-        add_function(shown, function)?;
+        shown.add_between(at, " ");
+        add_function(shown, function);
     }
-    Ok(())
 }
 
 /// Gives a fault and its place.
@@ -125,8 +104,8 @@ pub fn program_of(call: &mut Call) -> Result<Option<Program>, CaseFault> {
 /// Gives the tree of a program, with its places in the source or without.
 fn give_tree(call: &mut Call, program: &Program, has_places: bool) -> Result<(), CaseFault> {
     let mut shown = Shown::new(call.alloc(), has_places);
-    add_program(&mut shown, program)?;
-    call.give_text(&Text::from_string(shown.into_text()));
+    add_program(&mut shown, program);
+    call.give_text(&Text::from_string(shown.finish()?));
     Ok(())
 }
 

@@ -1,33 +1,64 @@
-//! Plays calls of the layers that units rest on: files of lines `CALL ARGUMENTS = RESULT`.
+//! Plays calls of the layers that units rest on, of units and of machines: files of lines
+//! `CALL ARGUMENTS = RESULT`.
 #![tactic(auto)]
 
-mod value;
+mod library;
+mod listing;
+mod names;
+mod operators;
+mod runs;
+mod small_host;
+mod threads;
+mod units;
+mod values;
+mod verifier;
 
-use std::marker::{Send, Sync};
 use std::process::ExitCode;
-use wap_casebook::{Call, Calls, CaseFault, play_calls};
-use wap_value::{BinOp, UnOp, Value, ValueFault};
+use wap_casebook::{Call, Calls, CaseFault, meaning_of, play_calls};
+
+/// A call of units or of machines.
+#[derive(Clone, Copy)]
+enum UnitCall {
+    Decode,
+    Verify,
+    List,
+    Run,
+}
+
+/// The calls of units and of machines, by their names.
+static CALLS: [(&str, UnitCall); 4] = [
+    ("decode", UnitCall::Decode),
+    ("verify", UnitCall::Verify),
+    ("list", UnitCall::List),
+    ("run", UnitCall::Run),
+];
+
+/// Makes a call of units or of machines.
+fn make_unit_call(known: UnitCall, call: &mut Call) -> Result<(), CaseFault> {
+    match known {
+        UnitCall::Decode => units::read_and_write(call),
+        UnitCall::Verify => verifier::read_and_verify(call),
+        UnitCall::List => listing::list(call),
+        UnitCall::Run => runs::run(call),
+    }
+}
 
 /// The calls of the layers.
 struct Layers;
 
 impl Calls for Layers {
     fn make(&self, name: &[u8], call: &mut Call) -> Result<(), CaseFault> {
-        value::make(name, call)
+        if let Some(known) = operators::find(name) {
+            operators::make(known, call)
+        } else if let Some(known) = meaning_of(&CALLS, name) {
+            make_unit_call(known, call)
+        } else {
+            library::make(name, call)
+        }
     }
 }
 
-fn crosses<T: Send + Sync>() {}
-
-/// Stands only where each type that is named here may be sent to threads and shared by them.
-fn all_cross() {
-    crosses::<Value>();
-    crosses::<UnOp>();
-    crosses::<BinOp>();
-    crosses::<ValueFault>();
-}
-
 fn main(rt: HostRuntime) -> ExitCode {
-    all_cross();
+    threads::all_cross();
     play_calls(&rt, &Layers)
 }

@@ -26,25 +26,58 @@ impl Tally {
             self.differing = self.differing.saturating_add(1);
         }
     }
+
+    /// Counts what counts as played only where it differs.
+    fn count_if(&mut self, differs: bool) {
+        if differs {
+            self.count(differs);
+        }
+    }
+}
+
+/// Whether a line that begins with this word gives a name to bytes.
+fn is_piece(name: &[u8]) -> bool {
+    name == b"piece".as_slice()
+}
+
+/// Notes why a line isn't played, if it isn't, and answers whether it differs.
+fn end_line(call: &mut Call, played: Result<(), CaseFault>) -> bool {
+    if let Err(fault) = played {
+        call.fail(fault);
+    }
+    call.differs()
+}
+
+/// Gives a name to bytes, and answers whether the line differs. Only then it counts as played.
+fn play_piece(call: &mut Call, tally: &mut Tally, line: &[u8]) -> bool {
+    let defined = call.define(line);
+    let differs = end_line(call, defined);
+    tally.count_if(differs);
+    differs
+}
+
+/// Makes the call of a name, and answers whether its line differs.
+fn play_call<C: Calls>(
+    calls: &C,
+    call: &mut Call,
+    tally: &mut Tally,
+    name: &[u8],
+    rest: &[u8],
+) -> bool {
+    let made = make(calls, call, name, rest);
+    let differs = end_line(call, made);
+    tally.count(differs);
+    differs
 }
 
 /// Plays a line, which gives a name to bytes or makes a call, and answers whether it differs.
 fn play_line<C: Calls>(calls: &C, call: &mut Call, tally: &mut Tally, line: &[u8]) -> bool {
     let (name, rest) = split_word(line);
-    let is_piece = name == b"piece".as_slice();
-    let played = if is_piece {
-        call.define(rest)
+    if is_piece(name) {
+        play_piece(call, tally, rest)
     } else {
-        make(calls, call, name, rest)
-    };
-    if let Err(fault) = played {
-        call.fail(fault);
+        play_call(calls, call, tally, name, rest)
     }
-    let differs = call.differs();
-    if differs || !is_piece {
-        tally.count(differs);
-    }
-    differs
 }
 
 /// Makes the call of a name, with the arguments and the results after it.

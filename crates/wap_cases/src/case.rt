@@ -73,16 +73,26 @@ impl Case {
         }
     }
 
-    /// Notes that the case has a line of this number, and why it can't be read, if it can't.
-    pub fn note(&mut self, number: usize, read: Result<(), CaseFault>) {
+    /// Notes that the case has a line of this number.
+    fn begin(&mut self, number: usize) {
         if !self.is_begun {
             self.is_begun = true;
             self.line = number;
         }
-        if let Err(fault) = read
-            && self.fault.is_none()
-        {
+    }
+
+    /// Keeps why the line of a number can't be read, if it is the first.
+    fn fail(&mut self, number: usize, fault: CaseFault) {
+        if self.fault.is_none() {
             self.fault = Some((number, fault));
+        }
+    }
+
+    /// Notes that the case has a line of this number, and why it can't be read, if it can't.
+    pub fn note(&mut self, number: usize, read: Result<(), CaseFault>) {
+        self.begin(number);
+        if let Err(fault) = read {
+            self.fail(number, fault);
         }
     }
 
@@ -92,6 +102,20 @@ impl Case {
             return Err(CaseFault::Line);
         }
         self.name = Bytes::of(alloc, line)?;
+        Ok(())
+    }
+
+    /// Adds the page of these names and bytes, as they are spelled, under a number.
+    fn add_numbered(
+        &mut self,
+        alloc: Global,
+        pieces: &Pieces,
+        spelled: (&[u8], &[u8]),
+        number: u32,
+    ) -> Result<(), CaseFault> {
+        let (name, bytes) = spelled;
+        self.pages
+            .push(numbered_page(alloc, pieces, name, bytes, number)?)?;
         Ok(())
     }
 
@@ -117,11 +141,9 @@ impl Case {
         line: &[u8],
     ) -> Result<(), CaseFault> {
         let (numbers, rest) = split_word(line);
-        let (name, bytes) = split_value(rest);
         let (from, to) = range(numbers)?;
         for number in from..to {
-            self.pages
-                .push(numbered_page(alloc, pieces, name, bytes, number)?)?;
+            self.add_numbered(alloc, pieces, split_value(rest), number)?;
         }
         Ok(())
     }

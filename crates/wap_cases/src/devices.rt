@@ -12,7 +12,7 @@ pub fn one_number(line: &[u8]) -> Result<u64, CaseFault> {
 }
 
 /// The numbers that a line has, from 0 on.
-pub fn numbers(alloc: Global, line: &[u8]) -> Result<Vec<u64>, CaseFault> {
+fn numbers(alloc: Global, line: &[u8]) -> Result<Vec<u64>, CaseFault> {
     let mut numbers = Vec::new(alloc);
     let mut rest = line;
     for _ in 0..line.len() {
@@ -34,11 +34,42 @@ fn size(line: &[u8]) -> Result<usize, CaseFault> {
     }
 }
 
+/// Reads the numbers that a line has.
+fn read_numbers(read: &mut Vec<u64>, alloc: Global, line: &[u8]) -> Result<(), CaseFault> {
+    *read = numbers(alloc, line)?;
+    Ok(())
+}
+
+/// Reads the one number that a line has, which counts bytes.
+fn read_size(read: &mut usize, line: &[u8]) -> Result<(), CaseFault> {
+    *read = size(line)?;
+    Ok(())
+}
+
 /// The most bytes that a call moves, where a case says nothing of it.
 const PIECE: u64 = 4096;
 
 /// How many bytes a sink holds, where a case says nothing of it.
 const ROOM: usize = 1 << 24;
+
+/// What a line says of the devices.
+#[derive(Clone, Copy)]
+pub enum DeviceLine {
+    /// Which calls of the store fail.
+    StoreFails,
+    /// Which reads of keys fail.
+    SourceFails,
+    /// The most bytes that a read gives.
+    SourceGives,
+    /// Which writes fail.
+    SinkFails,
+    /// The most bytes that a write takes.
+    SinkTakes,
+    /// For how many bytes the sink has room.
+    SinkHolds,
+    /// Which writes of the line of the status fail.
+    ErrorFails,
+}
 
 /// Which calls of the devices fail, and how much they move and hold.
 #[derive(Drop)]
@@ -75,46 +106,17 @@ impl Devices {
         Ok(Vec::from_slice(alloc, self.source_gives.as_slice())?)
     }
 
-    /// Reads which calls of the store fail.
-    pub fn read_store_fails(&mut self, alloc: Global, line: &[u8]) -> Result<(), CaseFault> {
-        self.store_fails = numbers(alloc, line)?;
-        Ok(())
-    }
-
-    /// Reads which reads of keys fail.
-    pub fn read_source_fails(&mut self, alloc: Global, line: &[u8]) -> Result<(), CaseFault> {
-        self.source_fails = numbers(alloc, line)?;
-        Ok(())
-    }
-
-    /// Reads the most bytes that a read gives.
-    pub fn read_source_gives(&mut self, alloc: Global, line: &[u8]) -> Result<(), CaseFault> {
-        self.source_gives = numbers(alloc, line)?;
-        Ok(())
-    }
-
-    /// Reads which writes fail.
-    pub fn read_sink_fails(&mut self, alloc: Global, line: &[u8]) -> Result<(), CaseFault> {
-        self.sink_fails = numbers(alloc, line)?;
-        Ok(())
-    }
-
-    /// Reads the most bytes that a write takes.
-    pub fn read_sink_takes(&mut self, line: &[u8]) -> Result<(), CaseFault> {
-        self.sink_takes = size(line)?;
-        Ok(())
-    }
-
-    /// Reads for how many bytes the sink has room.
-    pub fn read_sink_holds(&mut self, line: &[u8]) -> Result<(), CaseFault> {
-        self.sink_holds = size(line)?;
-        Ok(())
-    }
-
-    /// Reads which writes of the line of the status fail.
-    pub fn read_error_fails(&mut self, alloc: Global, line: &[u8]) -> Result<(), CaseFault> {
-        self.error_fails = numbers(alloc, line)?;
-        Ok(())
+    /// Reads what stands after the words of a line.
+    pub fn read(&mut self, alloc: Global, known: DeviceLine, line: &[u8]) -> Result<(), CaseFault> {
+        match known {
+            DeviceLine::StoreFails => read_numbers(&mut self.store_fails, alloc, line),
+            DeviceLine::SourceFails => read_numbers(&mut self.source_fails, alloc, line),
+            DeviceLine::SourceGives => read_numbers(&mut self.source_gives, alloc, line),
+            DeviceLine::SinkFails => read_numbers(&mut self.sink_fails, alloc, line),
+            DeviceLine::SinkTakes => read_size(&mut self.sink_takes, line),
+            DeviceLine::SinkHolds => read_size(&mut self.sink_holds, line),
+            DeviceLine::ErrorFails => read_numbers(&mut self.error_fails, alloc, line),
+        }
     }
 
     /// The sink to which the line of the status is written.

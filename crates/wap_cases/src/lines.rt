@@ -1,5 +1,7 @@
 //! The lines of a case.
 use crate::case::{Case, add_line, add_spelled};
+use crate::devices::DeviceLine;
+use crate::wanted::WantedLine;
 use std::alloc::Global;
 use wap_casebook::{CaseFault, Pieces, split_word};
 
@@ -13,21 +15,9 @@ enum Line {
     Argument,
     Key,
     Keys,
-    Out,
-    Bytes,
     Ended,
-    StoreFails,
-    SourceFails,
-    SourceGives,
-    SinkFails,
-    SinkTakes,
-    SinkHolds,
-    ErrorFails,
-    Status,
-    Asked,
-    Reads,
-    Left,
-    Unprinted,
+    Device(DeviceLine),
+    Wanted(WantedLine),
 }
 
 /// What lines begin with.
@@ -39,21 +29,21 @@ static LINES: [(&str, Line); 22] = [
     ("argument", Line::Argument),
     ("key", Line::Key),
     ("keys", Line::Keys),
-    ("out", Line::Out),
-    ("bytes", Line::Bytes),
     ("ended", Line::Ended),
-    ("store fails", Line::StoreFails),
-    ("source fails", Line::SourceFails),
-    ("source gives", Line::SourceGives),
-    ("sink fails", Line::SinkFails),
-    ("sink takes", Line::SinkTakes),
-    ("sink holds", Line::SinkHolds),
-    ("error fails", Line::ErrorFails),
-    ("status", Line::Status),
-    ("asked", Line::Asked),
-    ("reads", Line::Reads),
-    ("left", Line::Left),
-    ("unprinted", Line::Unprinted),
+    ("store fails", Line::Device(DeviceLine::StoreFails)),
+    ("source fails", Line::Device(DeviceLine::SourceFails)),
+    ("source gives", Line::Device(DeviceLine::SourceGives)),
+    ("sink fails", Line::Device(DeviceLine::SinkFails)),
+    ("sink takes", Line::Device(DeviceLine::SinkTakes)),
+    ("sink holds", Line::Device(DeviceLine::SinkHolds)),
+    ("error fails", Line::Device(DeviceLine::ErrorFails)),
+    ("out", Line::Wanted(WantedLine::Out)),
+    ("bytes", Line::Wanted(WantedLine::Bytes)),
+    ("status", Line::Wanted(WantedLine::Status)),
+    ("asked", Line::Wanted(WantedLine::Asked)),
+    ("reads", Line::Wanted(WantedLine::Reads)),
+    ("left", Line::Wanted(WantedLine::Left)),
+    ("unprinted", Line::Wanted(WantedLine::Unprinted)),
 ];
 
 /// What stands after the words that a line begins with, where they are these.
@@ -75,14 +65,14 @@ fn split_line(line: &[u8]) -> Result<(Line, &[u8]), CaseFault> {
     Err(CaseFault::Line)
 }
 
-/// Reads a line of a case.
-fn read_line(
+/// Reads what stands after the words that a line of a case begins with.
+fn read_rest(
     case: &mut Case,
     alloc: Global,
     pieces: &Pieces,
-    line: &[u8],
+    known: Line,
+    rest: &[u8],
 ) -> Result<(), CaseFault> {
-    let (known, rest) = split_line(line)?;
     match known {
         Line::Case => case.read_name(alloc, rest),
         Line::Page => case.read_page(alloc, pieces, rest),
@@ -91,22 +81,21 @@ fn read_line(
         Line::Argument => case.read_argument(alloc, pieces, rest),
         Line::Key => add_line(&mut case.keys, rest),
         Line::Keys => add_spelled(&mut case.keys, alloc, pieces, rest),
-        Line::Out => add_line(&mut case.wanted.shown, rest),
-        Line::Bytes => add_spelled(&mut case.wanted.shown, alloc, pieces, rest),
         Line::Ended => case.read_ended(rest),
-        Line::StoreFails => case.devices.read_store_fails(alloc, rest),
-        Line::SourceFails => case.devices.read_source_fails(alloc, rest),
-        Line::SourceGives => case.devices.read_source_gives(alloc, rest),
-        Line::SinkFails => case.devices.read_sink_fails(alloc, rest),
-        Line::SinkTakes => case.devices.read_sink_takes(rest),
-        Line::SinkHolds => case.devices.read_sink_holds(rest),
-        Line::ErrorFails => case.devices.read_error_fails(alloc, rest),
-        Line::Status => case.wanted.read_status(alloc, rest),
-        Line::Asked => case.wanted.read_asked(rest),
-        Line::Reads => case.wanted.read_reads(rest),
-        Line::Left => case.wanted.read_left(rest),
-        Line::Unprinted => case.wanted.read_unprinted(rest),
+        Line::Device(known) => case.devices.read(alloc, known, rest),
+        Line::Wanted(known) => case.wanted.read(alloc, pieces, known, rest),
     }
+}
+
+/// Reads a line of a case.
+fn read_line(
+    case: &mut Case,
+    alloc: Global,
+    pieces: &Pieces,
+    line: &[u8],
+) -> Result<(), CaseFault> {
+    let (known, rest) = split_line(line)?;
+    read_rest(case, alloc, pieces, known, rest)
 }
 
 /// Reads a line that gives a name to bytes.
@@ -116,16 +105,35 @@ fn read_piece(case: &mut Case, alloc: Global, pieces: &mut Pieces, line: &[u8], 
     }
 }
 
+/// Reads a line of a case, and notes it.
+fn read_noted(case: &mut Case, alloc: Global, pieces: &Pieces, line: &[u8], number: usize) {
+    let read = read_line(case, alloc, pieces, line);
+    case.note(number, read);
+}
+
+/// Whether a line is a comment.
+fn is_comment(line: &[u8]) -> bool {
+    line.starts_with(b"#")
+}
+
+/// What of a line stands after the word `piece`, where it begins with that.
+fn piece_in(line: &[u8]) -> Option<&[u8]> {
+    let (word, rest) = split_word(line);
+    if word == b"piece".as_slice() {
+        Some(rest)
+    } else {
+        None
+    }
+}
+
 /// Reads a line into the case that it belongs to, or a piece, or a comment. A line that can't be
 /// read is kept as the case's fault.
 pub fn read(case: &mut Case, alloc: Global, pieces: &mut Pieces, line: &[u8], number: usize) {
-    if line.starts_with(b"#") {
+    if is_comment(line) {
         return;
     }
-    let (word, rest) = split_word(line);
-    if word == b"piece".as_slice() {
-        return read_piece(case, alloc, pieces, rest, number);
+    match piece_in(line) {
+        Some(piece) => read_piece(case, alloc, pieces, piece, number),
+        None => read_noted(case, alloc, pieces, line, number),
     }
-    let read = read_line(case, alloc, pieces, line);
-    case.note(number, read);
 }

@@ -11,21 +11,26 @@ mod telling;
 mod threads;
 mod wanted;
 
-use playing::play_all;
+use playing::{Played, play_all};
 use std::io;
 use std::io::Read;
 use std::process::ExitCode;
 use std::thread::Threads;
 use wap_casebook::Tally;
 
+/// Tells of the cases that were played, and answers whether none differs.
+fn tell<R: Print>(rt: &R, played: &Played) -> io::Result<bool> {
+    let told = played.told.as_str();
+    let Tally { played, differing } = played.tally;
+    println!(rt; "{told}{played} cases, {differing} differ")?;
+    Ok(differing == 0)
+}
+
 /// Plays the cases of standard input, tells of those that differ, and counts them.
 fn play<R: Input + Print + AllocGlobal + Threads + Sync>(rt: &R) -> io::Result<bool> {
     let mut lines = Vec::new(rt.alloc());
     rt.reader().read_to_end(&mut lines)?;
-    let (tally, told) = play_all(rt, rt.alloc(), lines.as_slice())?;
-    let Tally { played, differing } = tally;
-    println!(rt; "{told}{played} cases, {differing} differ")?;
-    Ok(differing == 0)
+    tell(rt, &play_all(rt, rt.alloc(), lines.as_slice())?)
 }
 
 fn main(rt: HostRuntime) -> ExitCode {

@@ -104,27 +104,42 @@ fn ended(alloc: Global, case: &Case, status: Status, shown: &[u8]) -> Result<Out
     })
 }
 
-/// The devices of a case, whose source gives so many bytes at a time.
-fn devices(
-    alloc: Global,
-    case: &Case,
-    piece: u64,
-) -> Result<(MemStore, MemSource, MemSink), CaseFault> {
-    let store = store(alloc, case)?;
-    let keys = source(alloc, case, piece)?;
-    Ok((store, keys, sink(alloc, case)?))
+/// Whether the store was called as often as is wanted: where that is said, the next call fails.
+fn is_asked(wanted: Option<u64>, store: &mut MemStore) -> bool {
+    wanted.is_none() || matches!(store.list(), Err(StoreErr::Failed))
 }
 
-/// Looks at the store and the source, where it is wanted how often they are called: the next call
-/// fails.
-fn look_at(case: &Case, store: &mut MemStore, keys: &mut MemSource, outcome: &mut Outcome) {
-    if case.wanted.asked.is_some() {
-        outcome.is_asked = matches!(store.list(), Err(StoreErr::Failed));
-    }
-    if case.wanted.reads.is_some() {
-        outcome.is_read = keys.read(&mut [0; 1]).is_err();
-    }
-    outcome.left = count_left(keys);
+/// Whether the source was called as often as is wanted: where that is said, the next call fails.
+fn is_read(wanted: Option<u64>, source: &mut MemSource) -> bool {
+    wanted.is_none() || source.read(&mut [0; 1]).is_err()
+}
+
+/// Runs the program over the store and the source of a case, and gives the store back.
+fn run_over<R: Threads + Sync>(
+    rt: &R,
+    alloc: Global,
+    case: &Case,
+    store: MemStore,
+    source: &mut MemSource,
+) -> Result<(Outcome, MemStore), CaseFault> {
+    let mut out = sink(alloc, case)?;
+    let words = case.words.as_slice();
+    let (status, store) = run(rt, alloc, words, store, source, &mut out, &NoGate);
+    Ok((ended(alloc, case, status, out.bytes())?, store))
+}
+
+/// Runs the program over the devices of a case, and looks at the store and the source afterwards.
+fn run_devices<R: Threads + Sync>(
+    rt: &R,
+    alloc: Global,
+    case: &Case,
+    source: &mut MemSource,
+) -> Result<Outcome, CaseFault> {
+    let (mut outcome, mut store) = run_over(rt, alloc, case, store(alloc, case)?, source)?;
+    outcome.is_asked = is_asked(case.wanted.asked, &mut store);
+    outcome.is_read = is_read(case.wanted.reads, source);
+    outcome.left = count_left(source);
+    Ok(outcome)
 }
 
 /// Runs the program over the devices of a case, whose source gives so many bytes at a time.
@@ -137,10 +152,6 @@ pub fn run_case<R: Threads + Sync>(
     if case.is_without_memory {
         return ended(alloc, case, Status::NoMemory, b"");
     }
-    let (store, mut keys, mut out) = devices(alloc, case, piece)?;
-    let words = case.words.as_slice();
-    let (status, mut store) = run(rt, alloc, words, store, &mut keys, &mut out, &NoGate);
-    let mut outcome = ended(alloc, case, status, out.bytes())?;
-    look_at(case, &mut store, &mut keys, &mut outcome);
-    Ok(outcome)
+    let mut source = source(alloc, case, piece)?;
+    run_devices(rt, alloc, case, &mut source)
 }

@@ -67,24 +67,39 @@ fn add_status(
     out.push('\n')
 }
 
-/// Appends in what the devices differ.
-fn add_devices(out: &mut String, wanted: &Wanted, came: &Outcome) -> Result<(), AllocError> {
-    if wanted.is_unprinted != came.is_unprinted {
-        out.push_str("    the line of the status is written, or isn't\n")?;
-    }
-    if !came.is_asked {
-        out.push_str("    the store was not called as often\n")?;
-    }
-    if !came.is_read {
-        out.push_str("    the source was not called as often\n")?;
-    }
-    let left = came.left;
-    match wanted.left {
+/// Appends a line that tells of a difference, if there is one.
+fn add_if(out: &mut String, differs: bool, told: &str) -> Result<(), AllocError> {
+    if differs { out.push_str(told) } else { Ok(()) }
+}
+
+/// Appends in what the bytes differ that the source has left, where a number is wanted.
+fn add_left(out: &mut String, wanted: Option<u64>, left: u64) -> Result<(), AllocError> {
+    match wanted {
         Some(wanted) if wanted != left => {
             write!(out, "    left: wanted {wanted}, came {left}\n")
         }
         _ => Ok(()),
     }
+}
+
+/// Appends in what the devices differ.
+fn add_devices(out: &mut String, wanted: &Wanted, came: &Outcome) -> Result<(), AllocError> {
+    add_if(
+        out,
+        wanted.is_unprinted != came.is_unprinted,
+        "    the line of the status is written, or isn't\n",
+    )?;
+    add_if(
+        out,
+        !came.is_asked,
+        "    the store was not called as often\n",
+    )?;
+    add_if(
+        out,
+        !came.is_read,
+        "    the source was not called as often\n",
+    )?;
+    add_left(out, wanted.left, came.left)
 }
 
 /// Appends in what the status that came differs from the one that is wanted.

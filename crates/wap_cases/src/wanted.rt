@@ -1,9 +1,28 @@
 //! What is wanted of a run.
-use crate::case::add_line;
+use crate::case::{add_line, add_spelled};
 use crate::devices::one_number;
 use std::alloc::Global;
 use wap_base::Bytes;
-use wap_casebook::{CaseFault, number, split_word};
+use wap_casebook::{CaseFault, Pieces, number, split_word};
+
+/// What a line says that is wanted.
+#[derive(Clone, Copy)]
+pub enum WantedLine {
+    /// A line that is written.
+    Out,
+    /// Bytes that are written.
+    Bytes,
+    /// The number of the status, and its line.
+    Status,
+    /// How often the store is called.
+    Asked,
+    /// How often the source is called.
+    Reads,
+    /// How many bytes the source has left.
+    Left,
+    /// That the line of the status can't be written.
+    Unprinted,
+}
 
 /// What is wanted of a run.
 #[derive(Drop)]
@@ -31,6 +50,12 @@ fn printed(alloc: Global, line: &[u8]) -> Result<Bytes, CaseFault> {
     Ok(printed)
 }
 
+/// Reads the one number that a line has.
+fn read_count(read: &mut Option<u64>, line: &[u8]) -> Result<(), CaseFault> {
+    *read = Some(one_number(line)?);
+    Ok(())
+}
+
 impl Wanted {
     /// Nothing is wanted yet, and nothing written.
     pub fn new(alloc: Global) -> Wanted {
@@ -44,34 +69,35 @@ impl Wanted {
         }
     }
 
+    /// Reads what stands after the words of a line.
+    pub fn read(
+        &mut self,
+        alloc: Global,
+        pieces: &Pieces,
+        known: WantedLine,
+        line: &[u8],
+    ) -> Result<(), CaseFault> {
+        match known {
+            WantedLine::Out => add_line(&mut self.shown, line),
+            WantedLine::Bytes => add_spelled(&mut self.shown, alloc, pieces, line),
+            WantedLine::Status => self.read_status(alloc, line),
+            WantedLine::Asked => read_count(&mut self.asked, line),
+            WantedLine::Reads => read_count(&mut self.reads, line),
+            WantedLine::Left => read_count(&mut self.left, line),
+            WantedLine::Unprinted => self.read_unprinted(line),
+        }
+    }
+
     /// Reads the line of the status.
-    pub fn read_status(&mut self, alloc: Global, line: &[u8]) -> Result<(), CaseFault> {
+    fn read_status(&mut self, alloc: Global, line: &[u8]) -> Result<(), CaseFault> {
         let (digits, rest) = split_word(line);
         let number = number(digits)?;
         self.status = Some((number, printed(alloc, rest)?));
         Ok(())
     }
 
-    /// Reads a line that says how often the store is called.
-    pub fn read_asked(&mut self, line: &[u8]) -> Result<(), CaseFault> {
-        self.asked = Some(one_number(line)?);
-        Ok(())
-    }
-
-    /// Reads a line that says how often the source is called.
-    pub fn read_reads(&mut self, line: &[u8]) -> Result<(), CaseFault> {
-        self.reads = Some(one_number(line)?);
-        Ok(())
-    }
-
-    /// Reads a line that says how many bytes the source has left.
-    pub fn read_left(&mut self, line: &[u8]) -> Result<(), CaseFault> {
-        self.left = Some(one_number(line)?);
-        Ok(())
-    }
-
     /// Reads the line that says that the line of the status can't be written.
-    pub fn read_unprinted(&mut self, line: &[u8]) -> Result<(), CaseFault> {
+    fn read_unprinted(&mut self, line: &[u8]) -> Result<(), CaseFault> {
         if !line.is_empty() {
             return Err(CaseFault::Line);
         }

@@ -1,22 +1,11 @@
 //! Good decks and their cards.
 ghost use Rattle.wap_markup.specs.Normal.{IsNormal};
 
+use crate::reading::deck;
 use wap_casebook::{Call, CaseFault};
-use wap_deck::deck_of;
 use wap_deckcheck::{DeckFault, check};
 use wap_good::{GoodDeck, View};
-use wap_markup::{Deck, Document};
-use wap_wbxml::{DocFault, decode};
-
-/// The next argument, the bytes of a document.
-fn document(call: &mut Call) -> Result<Document, CaseFault> {
-    let bytes = call.bytes();
-    match decode(call.alloc(), bytes.as_slice()) {
-        Ok(document) => Ok(document),
-        Err(DocFault::NoMemory) => Err(CaseFault::NoMemory),
-        Err(_) => Err(CaseFault::Argument),
-    }
-}
+use wap_markup::Deck;
 
 /// A deck as a good one.
 fn good(call: &Call, deck: Deck) -> Result<GoodDeck, CaseFault>
@@ -30,9 +19,8 @@ fn good(call: &Call, deck: Deck) -> Result<GoodDeck, CaseFault>
 }
 
 /// The next argument, the bytes of a document, which means a good deck.
-pub fn deck(call: &mut Call) -> Result<GoodDeck, CaseFault> {
-    let document = document(call)?;
-    let deck = deck_of(call.alloc(), &document)?;
+pub fn good_deck(call: &mut Call) -> Result<GoodDeck, CaseFault> {
+    let deck = deck(call)?;
     good(call, deck)
 }
 

@@ -1,11 +1,12 @@
 //! Calls of values and operators.
+use crate::values::{give_condition, give_value, value};
 use wap_base::{DEFAULT_STRING, LEAST_STRING, MOST_STRING};
 use wap_casebook::{Call, CaseFault, meaning_of};
 use wap_value::{BinOp, UnOp, Value, ValueFault, binary, to_bool, to_int, to_str, unary};
 
 /// A call of a value or an operator.
 #[derive(Clone, Copy)]
-enum ValueCall {
+pub enum ValueCall {
     Binary,
     BinaryWithin,
     Unary,
@@ -25,6 +26,11 @@ static CALLS: [(&str, ValueCall); 7] = [
     ("to_str", ValueCall::ToStr),
     ("copy", ValueCall::Copy),
 ];
+
+/// The call of a name.
+pub fn find(name: &[u8]) -> Option<ValueCall> {
+    meaning_of(&CALLS, name)
+}
 
 /// The operators of two operands, as WMLScript spells them.
 static OPERATORS: [(&str, BinOp); 21] = [
@@ -63,47 +69,6 @@ static OPERATORS_OF_ONE: [(&str, UnOp); 9] = [
     ("++", UnOp::Incr),
     ("--", UnOp::Decr),
 ];
-
-/// The next argument, a number of 32 bits with a sign.
-fn integer(call: &mut Call) -> Value {
-    match i32::try_from(call.number()) {
-        Ok(number) => Value::Int(number),
-        Err(_) => {
-            call.fail(CaseFault::Argument);
-            Value::Invalid
-        }
-    }
-}
-
-/// The next argument, a value: a number, a text, `true`, `false` or `invalid`.
-fn value(call: &mut Call) -> Value {
-    if call.is_text_next() {
-        Value::Str(call.text())
-    } else if call.takes("true") {
-        Value::Bool(true)
-    } else if call.takes("false") {
-        Value::Bool(false)
-    } else if call.takes("invalid") {
-        Value::Invalid
-    } else {
-        integer(call)
-    }
-}
-
-/// Gives a value.
-fn give_value(call: &mut Call, value: &Value) {
-    match value {
-        Value::Int(number) => call.give_number(i64::from(*number)),
-        Value::Bool(is_true) => give_truth(call, *is_true),
-        Value::Str(text) => call.give_text(text),
-        Value::Invalid => call.give_word("invalid"),
-    }
-}
-
-/// Gives `true` or `false`.
-fn give_truth(call: &mut Call, is_true: bool) {
-    call.give_word(if is_true { "true" } else { "false" });
-}
 
 /// Gives the value that an operator makes, or why it makes none.
 fn give_made(call: &mut Call, made: Result<Value, ValueFault>) -> Result<(), CaseFault> {
@@ -157,9 +122,9 @@ fn give_integer(call: &mut Call) {
 }
 
 /// The truth that a value is converted to.
-fn give_condition(call: &mut Call) {
+fn give_truth(call: &mut Call) {
     match to_bool(&value(call)) {
-        Some(is_true) => give_truth(call, is_true),
+        Some(is_true) => give_condition(call, is_true),
         None => call.give_word("none"),
     }
 }
@@ -181,14 +146,14 @@ fn give_copy(call: &mut Call) -> Result<(), CaseFault> {
     Ok(())
 }
 
-/// Makes the call of this name.
-pub fn make(name: &[u8], call: &mut Call) -> Result<(), CaseFault> {
-    match meaning_of(&CALLS, name).ok_or(CaseFault::Line)? {
+/// Makes a call.
+pub fn make(known: ValueCall, call: &mut Call) -> Result<(), CaseFault> {
+    match known {
         ValueCall::Binary => of_two(call, DEFAULT_STRING)?,
         ValueCall::BinaryWithin => of_two_within(call)?,
         ValueCall::Unary => of_one(call)?,
         ValueCall::ToInt => give_integer(call),
-        ValueCall::ToBool => give_condition(call),
+        ValueCall::ToBool => give_truth(call),
         ValueCall::ToStr => give_string(call)?,
         ValueCall::Copy => give_copy(call)?,
     }

@@ -1,5 +1,6 @@
 //! Calls of functions, alone or one after the other.
 use crate::names::numbers_of;
+use crate::values::{give_value, value};
 use wap_casebook::{Call, CaseFault, meaning_of};
 use wap_libs::{Gen, LibFault, LibOut, arguments_of, call_pure};
 use wap_value::Value;
@@ -32,32 +33,6 @@ static CALLS: [(&str, SessionCall); 4] = [
     ("arguments", SessionCall::Arguments),
 ];
 
-/// The next argument, a number of 32 bits with a sign.
-fn integer(call: &mut Call) -> Value {
-    match i32::try_from(call.number()) {
-        Ok(number) => Value::Int(number),
-        Err(_) => {
-            call.fail(CaseFault::Argument);
-            Value::Invalid
-        }
-    }
-}
-
-/// The next argument, a value: a number, a text, `true`, `false` or `invalid`.
-fn value(call: &mut Call) -> Value {
-    if call.is_text_next() {
-        Value::Str(call.text())
-    } else if call.takes("true") {
-        Value::Bool(true)
-    } else if call.takes("false") {
-        Value::Bool(false)
-    } else if call.takes("invalid") {
-        Value::Invalid
-    } else {
-        integer(call)
-    }
-}
-
 /// The values that are left.
 fn values(call: &mut Call) -> Result<Vec<Value>, CaseFault> {
     let mut values = Vec::new(call.alloc());
@@ -68,17 +43,6 @@ fn values(call: &mut Call) -> Result<Vec<Value>, CaseFault> {
         values.push(value(call))?;
     }
     Ok(values)
-}
-
-/// Gives a value.
-fn give_value(call: &mut Call, value: &Value) {
-    match value {
-        Value::Int(number) => call.give_number(i64::from(*number)),
-        Value::Bool(true) => call.give_word("true"),
-        Value::Bool(false) => call.give_word("false"),
-        Value::Str(text) => call.give_text(text),
-        Value::Invalid => call.give_word("invalid"),
-    }
 }
 
 /// Gives what a function comes to: a value, `exit` and a value, or `abort` and a text.

@@ -89,6 +89,12 @@ pub fn numbers_of(name: &[u8]) -> Option<(u16, u8)> {
 
 /// The numbers of a library and of a function among its own.
 fn numbers_in(library: u16, functions: &[&str], name: &str) -> Option<(u16, u8)> {
-    let at = functions.iter().position(|function| *function == name)?;
-    Some((library, u8::try_from(at).ok()?))
+    let mut number: u8 = 0;
+    for function in functions {
+        if *function == name {
+            return Some((library, number));
+        }
+        number = number.saturating_add(1);
+    }
+    None
 }

@@ -1,13 +1,14 @@
 //! Calls of documents and decks.
+use crate::reading::{deck, document};
 use crate::{decks, documents};
 use wap_casebook::{Call, CaseFault, meaning_of};
-use wap_deck::{deck_of, document_of};
+use wap_deck::document_of;
 use wap_markup::{Deck, Document};
 use wap_wbxml::{DocFault, decode};
 
 /// A call of a document or a deck.
 #[derive(Clone, Copy)]
-enum TreeCall {
+pub enum TreeCall {
     Decode,
     Deck,
     Document,
@@ -21,6 +22,11 @@ static CALLS: [(&str, TreeCall); 4] = [
     ("document", TreeCall::Document),
     ("again", TreeCall::Again),
 ];
+
+/// The call of a name.
+pub fn find(name: &[u8]) -> Option<TreeCall> {
+    meaning_of(&CALLS, name)
+}
 
 /// Gives a fault and its place.
 fn give_fault(call: &mut Call, fault: DocFault) -> Result<(), CaseFault> {
@@ -45,22 +51,6 @@ fn give_fault(call: &mut Call, fault: DocFault) -> Result<(), CaseFault> {
 fn give_place(call: &mut Call, word: &str, at: usize) {
     call.give_word(word);
     call.give_count(at);
-}
-
-/// The next argument, the bytes of a document.
-fn document(call: &mut Call) -> Result<Document, CaseFault> {
-    let bytes = call.bytes();
-    match decode(call.alloc(), bytes.as_slice()) {
-        Ok(document) => Ok(document),
-        Err(DocFault::NoMemory) => Err(CaseFault::NoMemory),
-        Err(_) => Err(CaseFault::Argument),
-    }
-}
-
-/// The next argument, the bytes of a document, which means a deck.
-fn deck(call: &mut Call) -> Result<Deck, CaseFault> {
-    let document = document(call)?;
-    Ok(deck_of(call.alloc(), &document)?)
 }
 
 /// Gives a document's numbers and its root.
@@ -122,8 +112,8 @@ fn compare_decks(call: &mut Call) -> Result<(), CaseFault> {
 
 /// Makes one of the calls `decode BYTES`, `deck BYTES`, `document BYTES BYTES` and
 /// `again BYTES BYTES`.
-pub fn make(name: &[u8], call: &mut Call) -> Result<(), CaseFault> {
-    match meaning_of(&CALLS, name).ok_or(CaseFault::Line)? {
+pub fn make(known: TreeCall, call: &mut Call) -> Result<(), CaseFault> {
+    match known {
         TreeCall::Decode => give_decoded(call),
         TreeCall::Deck => give_deck(call),
         TreeCall::Document => compare_documents(call),

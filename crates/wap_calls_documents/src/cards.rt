@@ -1,12 +1,12 @@
-//! Calls by their names.
-use crate::decks::{card, deck};
+//! Calls on the cards of good decks.
+use crate::good_decks::{card, good_deck};
 use crate::{events, fields, screens};
 use wap_casebook::{Call, CaseFault, meaning_of};
 use wap_good::{GoodDeck, View};
 
 /// A call on a card.
 #[derive(Clone, Copy)]
-enum CardCall {
+pub enum CardCall {
     Flow,
     Lines,
     Title,
@@ -35,6 +35,11 @@ static CALLS: [(&str, CardCall); 11] = [
     ("choose", CardCall::Choose),
 ];
 
+/// The call of a name.
+pub fn find(name: &[u8]) -> Option<CardCall> {
+    meaning_of(&CALLS, name)
+}
+
 /// Makes a call on a card, which is one of the deck.
 fn make_on(
     known: CardCall,
@@ -57,10 +62,9 @@ fn make_on(
     }
 }
 
-/// Makes the call of this name on the card that the arguments begin with.
-pub fn make(name: &[u8], call: &mut Call) -> Result<(), CaseFault> {
-    let known = meaning_of(&CALLS, name).ok_or(CaseFault::Line)?;
-    let deck = deck(call)?;
+/// Makes a call on the card that the arguments begin with.
+pub fn make(known: CardCall, call: &mut Call) -> Result<(), CaseFault> {
+    let deck = good_deck(call)?;
     let card = card(call, &deck)?;
     make_on(known, call, &deck, &card)
 }

@@ -1,7 +1,7 @@
 //! Runs of machines.
 use crate::small_host::{FailingPages, SmallHost};
-use crate::units::verified_of;
-use crate::values::{give_value, values};
+use crate::values::{give_value, value};
+use crate::verifier::verified_of;
 use std::alloc::Global;
 use std::sync::Arc;
 use wap_base::{Limits, RunErr, Text};
@@ -60,10 +60,10 @@ fn give_dialog(call: &mut Call, dialog: Dialog) {
 /// Gives what a run came to.
 fn give_outcome(call: &mut Call, outcome: Outcome) {
     match outcome {
-        Outcome::Done(value) => give_value(call, value),
+        Outcome::Done(value) => give_value(call, &value),
         Outcome::Exited(value) => {
             call.give_word("exit");
-            give_value(call, value);
+            give_value(call, &value);
         }
         Outcome::Fatal(why) => give_fatal(call, why),
         Outcome::Asks(dialog, _) => give_dialog(call, dialog),
@@ -170,6 +170,18 @@ fn next_unit(call: &mut Call) -> Result<Option<Arc<Verified, Global>>, CaseFault
     Ok(Some(verified_of(call.alloc(), &bytes)?))
 }
 
+/// The values up to the word `answers` or to the end.
+fn values(call: &mut Call) -> Result<Vec<Value>, CaseFault> {
+    let mut values = Vec::new(call.alloc());
+    for _ in 0..u64::MAX {
+        if !call.has_more() || call.takes("answers") {
+            break;
+        }
+        values.push(value(call))?;
+    }
+    Ok(values)
+}
+
 /// Runs a function of the first of two units, and gives what it comes to and the turns that are
 /// left.
 pub fn run(call: &mut Call) -> Result<(), CaseFault> {
@@ -181,8 +193,8 @@ pub fn run(call: &mut Call) -> Result<(), CaseFault> {
     let depth = byte(call);
     let turns = call.count() as u64;
     let function = byte(call);
-    let arguments = values(alloc, call)?;
-    let answers = values(alloc, call)?;
+    let arguments = values(call)?;
+    let answers = values(call)?;
     let machine = started(alloc, Arc::try_clone(&first)?, function, arguments, depth)?;
     let mut host = SmallHost {
         alloc,

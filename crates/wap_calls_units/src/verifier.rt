@@ -1,10 +1,13 @@
 //! Calls of the verifier.
 ghost use Rattle.wap_unit.specs.Spelling.{HasSpelling};
 
-use crate::units::read_unit;
+use crate::units::{read_unit, unit_of};
+use std::alloc::Global;
+use std::sync::Arc;
+use wap_base::Bytes;
 use wap_casebook::{Call, CaseFault};
 use wap_code::Unit;
-use wap_verify::{VerifyFault, verify};
+use wap_verify::{Verified, VerifyFault, verify};
 
 /// Gives the name of a fault and its place.
 fn give_place(call: &mut Call, name: &str, function: u8, at: usize) {
@@ -64,5 +67,14 @@ pub fn read_and_verify(call: &mut Call) -> Result<(), CaseFault> {
     match read_unit(call, &bytes)? {
         Some(unit) => give_verified(call, unit),
         None => Ok(()),
+    }
+}
+
+/// The unit that bytes spell, where it may be run.
+pub fn verified_of(alloc: Global, bytes: &Bytes) -> Result<Arc<Verified, Global>, CaseFault> {
+    match verify(alloc, unit_of(alloc, bytes)?) {
+        Ok(verified) => Ok(Arc::new(alloc, verified)?),
+        Err((_, VerifyFault::NoMemory)) => Err(CaseFault::NoMemory),
+        Err(_) => Err(CaseFault::Argument),
     }
 }

@@ -2,6 +2,7 @@
 ghost use Rattle.std.specs.Prelude.{IfOk, IfSome};
 ghost use Rattle.wap_unit.specs.Spelling.{HasSpelling};
 
+use std::alloc::Global;
 use wap_base::Bytes;
 use wap_casebook::{Call, CaseFault};
 use wap_code::Unit;
@@ -71,5 +72,19 @@ pub fn read_and_write(call: &mut Call) -> Result<(), CaseFault> {
             give_again(call, &written)
         }
         None => Ok(()),
+    }
+}
+
+/// The unit that bytes spell.
+pub fn unit_of(alloc: Global, bytes: &Bytes) -> Result<Unit, CaseFault>
+    ensures { IfOk result (λ unit. HasSpelling unit) }
+{
+    if bytes.len() > u32::MAX as usize {
+        return Err(CaseFault::Argument);
+    }
+    match decode(alloc, bytes.as_slice()) {
+        Ok(unit) => Ok(unit),
+        Err(UnitFault::NoMemory) => Err(CaseFault::NoMemory),
+        Err(_) => Err(CaseFault::Argument),
     }
 }

@@ -108,8 +108,9 @@ fn given(library: u16, function: u8, arguments: Vec<Value>) -> Option<HostOut>
 }
 
 impl Host<FailingPages> for SmallHost {
-    ghost use Rattle.std.specs.Prelude.{⊤, ◌≡◌, ◌-◌, ◌<◌, ◌≤◌, IsTrue, ◌↔◌, None, IfOk, IfSome, IsErrOf};
-    ghost use Rattle.wap_calls_machine.specs.Silent.{silent};
+    ghost use Rattle.std.specs.Prelude.{⊤, ◌≡◌, ◌-◌, ◌<◌, ◌≤◌, IsTrue, ◌↔◌};
+    ghost use Rattle.std.specs.Prelude.{None, IfOk, IfSome, IsErrOf};
+    ghost use Rattle.wap_calls_units.specs.Silent.{silent};
 
     ghost State = { ⊤ };
 
