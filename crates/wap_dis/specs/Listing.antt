@@ -1,12 +1,15 @@
 -- The listing of a unit. This project's own.
-use Rattle.std.specs.Prelude.{ℕ, zero, suc, ◌+◌, ◌/◌, ◌%◌, ◌||◌, ◌==◌, nat_lt, if◌then◌else◌, List, [], ◌∷◌, ◌++◌, length, map, take, drop, slice_index, codes, decimal, encode_utf8_all, Option, Some, None, Result, Ok, Err}
+use Rattle.std.specs.Prelude.{ℕ, zero, suc, ◌+◌, ◌/◌, ◌%◌, ◌||◌, ◌==◌, nat_lt, if◌then◌else◌, List}
+use Rattle.std.specs.Prelude.{[], ◌∷◌, ◌++◌, length, map, take, drop, slice_index, codes, decimal}
+use Rattle.std.specs.Prelude.{encode_utf8_all, Option, Some, None, Result, Ok, Err}
 use Rattle.std.specs.Int.{w32, to_be_bytes}
 use Rattle.std.specs.Fmt.{signed_decimal}
 use Rattle.std.specs.List.{flat_map, enumerate_from}
 use Rattle.std.specs.Map.{lookup}
 use Rattle.wap_code.specs.declared.unit.Unit.{Unit}
 use Rattle.wap_code.specs.declared.unit.Constant.{Constant}
-use Rattle.wap_code.specs.declared.unit.Constant.TheVariants.{Int8, Int16, Int32, Float, Utf8, Empty, Coded}
+use Rattle.wap_code.specs.declared.unit.Constant.TheVariants.{Int8, Int16, Int32, Float, Utf8}
+use Rattle.wap_code.specs.declared.unit.Constant.TheVariants.{Empty, Coded}
 use Rattle.wap_code.specs.declared.unit.Pragma.{Pragma}
 use Rattle.wap_code.specs.declared.unit.Pragma.TheVariants.{Domain, Path, Property, Scheme}
 use Rattle.wap_code.specs.declared.unit.Code.{Code}
@@ -62,7 +65,8 @@ abbrev pub pragma_words : Pragma → List (List ℕ)
 pragma_words (Domain text) = codes "domain" ∷ decimal text ∷ []
 pragma_words (Path text) = codes "path" ∷ decimal text ∷ []
 pragma_words (Property name content) = codes "property" ∷ decimal name ∷ decimal content ∷ []
-pragma_words (Scheme name content scheme) = codes "scheme" ∷ decimal name ∷ decimal content ∷ decimal scheme ∷ []
+pragma_words (Scheme name content scheme) =
+    codes "scheme" ∷ decimal name ∷ decimal content ∷ decimal scheme ∷ []
 
 abbrev pub pragma_line : ℕ × Pragma → List ℕ
 pragma_line (index, pragma) = line (codes "pragma") (decimal index ∷ pragma_words pragma)
@@ -80,7 +84,8 @@ first_name names index = lookup (λ other. other == index) names
 abbrev pub head_line : Unit → ℕ → Code → List ℕ
 head_line unit index function = line (codes "function") (
     decimal index ∷ name_word (first_name unit.names index) ∷
-    codes "args" ∷ decimal function.args ∷ codes "locals" ∷ decimal function.locals ∷ codes "size" ∷ decimal (length function.code) ∷ []
+    codes "args" ∷ decimal function.args ∷ codes "locals" ∷ decimal function.locals
+    ∷ codes "size" ∷ decimal (length function.code) ∷ []
     )
 
 abbrev pub is_there : Slot → ℕ
@@ -94,7 +99,9 @@ abbrev pub operand_count : Row → ℕ
 operand_count row = is_there row.a + is_there row.b + is_there row.c
 
 abbrev pub instr_words : Row → Instr → List (List ℕ)
-instr_words row instr = take (1 + operand_count row) (name_of instr.name ∷ decimal instr.a ∷ decimal instr.b ∷ decimal instr.c ∷ [])
+instr_words row instr =
+    take (1 + operand_count row)
+    (name_of instr.name ∷ decimal instr.a ∷ decimal instr.b ∷ decimal instr.c ∷ [])
 
 abbrev pub instr_line : ℕ → Row → Instr → List ℕ
 instr_line at row instr = line (decimal at) (instr_words row instr)
@@ -126,15 +133,20 @@ then_more code at more (Some found) = instr_line at found.0 found.1 ++ more foun
 -- so many instructions at most, from a place on; from the first byte that is none on, each byte
 unfoldable pub code_from : ℕ → List ℕ → ℕ → List ℕ
 code_from zero code at = []
-code_from (suc left) code at = if nat_lt at (length code) then then_more code at (code_from left code) (whole_at code at) else []
+code_from (suc left) code at =
+    if nat_lt at (length code) then then_more code at (code_from left code) (whole_at code at)
+    else []
 
 abbrev pub function_lines : Unit → ℕ × Code → List ℕ
-function_lines unit (index, function) = head_line unit index function ++ code_from (length function.code) function.code 0
+function_lines unit (index, function) =
+    head_line unit index function ++ code_from (length function.code) function.code 0
 
 -- ---- units
 
 abbrev pub unit_line : Unit → List ℕ
-unit_line unit = line (codes "unit") (codes "version" ∷ decimal unit.version ∷ codes "charset" ∷ decimal unit.charset ∷ [])
+unit_line unit =
+    line (codes "unit")
+    (codes "version" ∷ decimal unit.version ∷ codes "charset" ∷ decimal unit.charset ∷ [])
 
 unfoldable pub listing : Unit → List ℕ
 listing unit =

@@ -7,7 +7,7 @@ use arrayvec::ArrayVec;
 use wap_base::{Failed, Sink, write_all};
 
 /// What is written next, and whether an earlier write failed; then nothing more is written.
-#[derive(Debug, Drop)]
+#[derive(Drop)]
 pub struct Held {
     pub bytes: ArrayVec<u8, 512>,
     pub failed: bool,
@@ -26,7 +26,8 @@ pub fn nothing_held() -> Held
 
 /// Puts bytes after what is held, and writes where there is no room.
 pub fn put<O: Sink>(out: &mut O, held: &mut Held, piece: &[u8])
-    ensures { Puts (O.written out.old) (O.written out.new) (O.faults out.old) (O.faults out.new) (state held.old) (state held.new) piece.now }
+    ensures { Puts (O.written out.old) (O.written out.new) (O.faults out.old) (O.faults out.new)
+        (state held.old) (state held.new) piece.now }
 {
     if held.failed {
         return;
@@ -40,7 +41,8 @@ pub fn put<O: Sink>(out: &mut O, held: &mut Held, piece: &[u8])
 /// Writes what is held, and this after it.
 fn write_out<O: Sink>(out: &mut O, held: &mut Held, piece: &[u8])
     requires { held.old.failed ≡ false }
-    ensures puts { Puts (O.written out.old) (O.written out.new) (O.faults out.old) (O.faults out.new) (state held.old) (state held.new) piece.now }
+    ensures puts { Puts (O.written out.old) (O.written out.new) (O.faults out.old)
+        (O.faults out.new) (state held.old) (state held.new) piece.now }
     ensures empty { (held.new.failed ≡ true) ⊎ (held.new.bytes.items ≡ []) }
 {
     match write_all(out, held.bytes.as_slice()) {
@@ -54,7 +56,8 @@ fn write_out<O: Sink>(out: &mut O, held: &mut Held, piece: &[u8])
 
 /// Writes what is held, if nothing failed before.
 pub fn write_held<O: Sink>(out: &mut O, held: &mut Held)
-    ensures puts { Puts (O.written out.old) (O.written out.new) (O.faults out.old) (O.faults out.new) (state held.old) (state held.new) [] }
+    ensures puts { Puts (O.written out.old) (O.written out.new) (O.faults out.old)
+        (O.faults out.new) (state held.old) (state held.new) [] }
     ensures empty { (held.new.failed ≡ true) ⊎ (held.new.bytes.items ≡ []) }
 {
     if held.failed {

@@ -1,9 +1,12 @@
 //! The lines of a listing.
-ghost use Rattle.std.specs.Prelude.{◌≡◌, ◌≤◌};
+ghost use Rattle.std.specs.Prelude.{◌≡◌, ◌≤◌, [], ◌∷◌, codes, decimal};
 ghost use Rattle.std.specs.Option.{option_copied};
-ghost use Rattle.wap_dis.specs.Listing.{unit_line, constant_line, pragma_line, first_name, head_line, is_there, operand_count, instr_line, byte_line};
+ghost use Rattle.wap_dis.specs.Listing.{unit_line, constant_line, pragma_line, first_name};
+ghost use Rattle.wap_dis.specs.Listing.{head_line, is_there, operand_count, instr_line, byte_line};
+ghost use Rattle.wap_dis.specs.Listing.{line};
 ghost use Rattle.wap_dis.specs.inside.Puts.{Puts};
 ghost use Rattle.wap_dis.specs.inside.Held.{state};
+ghost use Rattle.wap_dis.specs.inside.Words.{word_bytes};
 
 use crate::held::Held;
 use crate::names::name_of;
@@ -12,7 +15,8 @@ use wap_base::{Sink, Text};
 use wap_code::{Code, Constant, Instr, Pragma, Row, Slot, Unit};
 
 pub fn put_unit_line<O: Sink>(out: &mut O, held: &mut Held, unit: &Unit)
-    ensures { Puts (O.written out.old) (O.written out.new) (O.faults out.old) (O.faults out.new) (state held.old) (state held.new) (unit_line unit.now) }
+    ensures { Puts (O.written out.old) (O.written out.new) (O.faults out.old) (O.faults out.new)
+        (state held.old) (state held.new) (unit_line unit.now) }
 {
     put_line(
         out,
@@ -28,46 +32,54 @@ pub fn put_unit_line<O: Sink>(out: &mut O, held: &mut Held, unit: &Unit)
 }
 
 pub fn put_constant_line<O: Sink>(out: &mut O, held: &mut Held, index: u64, constant: &Constant)
-    ensures { Puts (O.written out.old) (O.written out.new) (O.faults out.old) (O.faults out.new) (state held.old) (state held.new) (constant_line (index, constant.now)) }
+    ensures { Puts (O.written out.old) (O.written out.new) (O.faults out.old) (O.faults out.new)
+        (state held.old) (state held.new) (constant_line (index, constant.now)) }
 {
-    let index = Word::Number(index);
-    let first = Word::Name("const");
     match constant {
         Constant::Int8(number) => {
-            let value = Word::Signed(i32::from(*number));
-            put_line(out, held, first, &[index, Word::Name("int8"), value]);
+            put_value_line(out, held, index, "int8", Word::Signed(i32::from(*number)));
         }
         Constant::Int16(number) => {
-            let value = Word::Signed(i32::from(*number));
-            put_line(out, held, first, &[index, Word::Name("int16"), value]);
+            put_value_line(out, held, index, "int16", Word::Signed(i32::from(*number)));
         }
         Constant::Int32(number) => {
-            let value = Word::Signed(*number);
-            put_line(out, held, first, &[index, Word::Name("int32"), value]);
+            put_value_line(out, held, index, "int32", Word::Signed(*number));
         }
         Constant::Float(bits) => {
-            let bytes = bits.to_be_bytes();
-            put_line(
-                out,
-                held,
-                first,
-                &[index, Word::Name("float"), Word::Hex(&bytes)],
-            );
+            put_value_line(out, held, index, "float", Word::Hex(&bits.to_be_bytes()));
         }
         Constant::Utf8(text) => {
-            let value = Word::Shown(text.as_str());
-            put_line(out, held, first, &[index, Word::Name("utf8"), value]);
+            put_value_line(out, held, index, "utf8", Word::Shown(text.as_str()));
         }
-        Constant::Empty => put_line(out, held, first, &[index, Word::Name("empty")]),
+        Constant::Empty => {
+            let words = [Word::Number(index), Word::Name("empty")];
+            put_line(out, held, Word::Name("const"), &words);
+        }
         Constant::Coded(text) => {
-            let value = Word::Hex(text.as_slice());
-            put_line(out, held, first, &[index, Word::Name("coded"), value]);
+            put_value_line(out, held, index, "coded", Word::Hex(text.as_slice()));
         }
     }
 }
 
+/// The line of a constant that has a value.
+fn put_value_line<'a, O: Sink>(
+    out: &mut O,
+    held: &mut Held,
+    index: u64,
+    kind: &'a str,
+    value: Word<'a>,
+)
+    ensures { Puts (O.written out.old) (O.written out.new) (O.faults out.old) (O.faults out.new)
+        (state held.old) (state held.new)
+        (line (codes "const") (decimal index ∷ kind.now ∷ word_bytes value.entry ∷ [])) }
+{
+    let words = [Word::Number(index), Word::Name(kind), value];
+    put_line(out, held, Word::Name("const"), &words);
+}
+
 pub fn put_pragma_line<O: Sink>(out: &mut O, held: &mut Held, index: u64, pragma: Pragma)
-    ensures { Puts (O.written out.old) (O.written out.new) (O.faults out.old) (O.faults out.new) (state held.old) (state held.new) (pragma_line (index, pragma)) }
+    ensures { Puts (O.written out.old) (O.written out.new) (O.faults out.old) (O.faults out.new)
+        (state held.old) (state held.new) (pragma_line (index, pragma)) }
 {
     let index = Word::Number(index);
     let first = Word::Name("pragma");
@@ -123,7 +135,8 @@ pub fn put_head_line<O: Sink>(
     index: u64,
     function: &Code,
 )
-    ensures { Puts (O.written out.old) (O.written out.new) (O.faults out.old) (O.faults out.new) (state held.old) (state held.new) (head_line unit.now index function.now) }
+    ensures { Puts (O.written out.old) (O.written out.new) (O.faults out.old) (O.faults out.new)
+        (state held.old) (state held.new) (head_line unit.now index function.now) }
 {
     let name = match first_name(unit.names.as_slice(), index) {
         None => Word::Name("-"),
@@ -166,7 +179,8 @@ fn operand_count(row: Row) -> usize
 }
 
 pub fn put_instr_line<O: Sink>(out: &mut O, held: &mut Held, at: u64, row: Row, instr: Instr)
-    ensures { Puts (O.written out.old) (O.written out.new) (O.faults out.old) (O.faults out.new) (state held.old) (state held.new) (instr_line at row instr) }
+    ensures { Puts (O.written out.old) (O.written out.new) (O.faults out.old) (O.faults out.new)
+        (state held.old) (state held.new) (instr_line at row instr) }
 {
     let words = [
         Word::Name(name_of(instr.name)),
@@ -183,7 +197,8 @@ pub fn put_instr_line<O: Sink>(out: &mut O, held: &mut Held, at: u64, row: Row, 
 }
 
 pub fn put_byte_line<O: Sink>(out: &mut O, held: &mut Held, at: u64, byte: u8)
-    ensures { Puts (O.written out.old) (O.written out.new) (O.faults out.old) (O.faults out.new) (state held.old) (state held.new) (byte_line (at, byte)) }
+    ensures { Puts (O.written out.old) (O.written out.new) (O.faults out.old) (O.faults out.new)
+        (state held.old) (state held.new) (byte_line (at, byte)) }
 {
     put_line(
         out,

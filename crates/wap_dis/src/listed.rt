@@ -3,7 +3,8 @@ ghost use Rattle.std.specs.Prelude.{◌≡◌, ◌≤◌, ◌<◌, length, OnOk,
 ghost use Rattle.std.specs.List.{flat_map, enumerate_from};
 ghost use Rattle.wap_base.specs.Count.{Rose};
 ghost use Rattle.wap_base.specs.Transfer.{Appends, AppendsFront};
-ghost use Rattle.wap_dis.specs.Listing.{whole_at, constant_line, pragma_line, byte_lines, code_from, function_lines, listing};
+ghost use Rattle.wap_dis.specs.Listing.{whole_at, constant_line, pragma_line, byte_lines};
+ghost use Rattle.wap_dis.specs.Listing.{code_from, function_lines, listing};
 ghost use Rattle.wap_dis.specs.inside.Puts.{Puts};
 ghost use Rattle.wap_dis.specs.inside.Held.{state};
 
@@ -17,8 +18,10 @@ use wap_code::{Code, Constant, Instr, Pragma, Row, Unit};
 
 /// Writes the listing of a unit, some lines at a time. After a fault a prefix of it was written.
 pub fn listing<O: Sink>(unit: &Unit, out: &mut O) -> Result<(), Failed>
-    ensures whole { OnOk result (Appends (O.written out.old) (O.written out.new) (listing unit.now)) }
-    ensures front { OnErr result (AppendsFront (O.written out.old) (O.written out.new) (listing unit.now)) }
+    ensures whole { OnOk result
+        (Appends (O.written out.old) (O.written out.new) (listing unit.now)) }
+    ensures front { OnErr result
+        (AppendsFront (O.written out.old) (O.written out.new) (listing unit.now)) }
     ensures steady { OnOk result (O.faults out.new ≡ O.faults out.old) }
     ensures faults { O.faults out.old ≤ O.faults out.new }
     ensures failed { OnErr result (Rose (O.faults out.old) (O.faults out.new)) }
@@ -31,7 +34,8 @@ pub fn listing<O: Sink>(unit: &Unit, out: &mut O) -> Result<(), Failed>
 
 #[tactic(auto, unfolding(crate::specs::Listing::listing))]
 fn put_listing<O: Sink>(out: &mut O, held: &mut Held, unit: &Unit)
-    ensures { Puts (O.written out.old) (O.written out.new) (O.faults out.old) (O.faults out.new) (state held.old) (state held.new) (listing unit.now) }
+    ensures { Puts (O.written out.old) (O.written out.new) (O.faults out.old) (O.faults out.new)
+        (state held.old) (state held.new) (listing unit.now) }
 {
     put_unit_line(out, held, unit);
     put_constants(out, held, unit.constants.as_slice());
@@ -40,7 +44,9 @@ fn put_listing<O: Sink>(out: &mut O, held: &mut Held, unit: &Unit)
 }
 
 fn put_constants<O: Sink>(out: &mut O, held: &mut Held, constants: &[Constant])
-    ensures { Puts (O.written out.old) (O.written out.new) (O.faults out.old) (O.faults out.new) (state held.old) (state held.new) (flat_map constant_line (enumerate_from 0 constants.now)) }
+    ensures { Puts (O.written out.old) (O.written out.new) (O.faults out.old) (O.faults out.new)
+        (state held.old) (state held.new)
+        (flat_map constant_line (enumerate_from 0 constants.now)) }
 {
     for (index, constant) in constants.iter().enumerate() {
         put_constant_line(out, held, index as u64, constant);
@@ -48,7 +54,8 @@ fn put_constants<O: Sink>(out: &mut O, held: &mut Held, constants: &[Constant])
 }
 
 fn put_pragmas<O: Sink>(out: &mut O, held: &mut Held, pragmas: &[Pragma])
-    ensures { Puts (O.written out.old) (O.written out.new) (O.faults out.old) (O.faults out.new) (state held.old) (state held.new) (flat_map pragma_line (enumerate_from 0 pragmas.now)) }
+    ensures { Puts (O.written out.old) (O.written out.new) (O.faults out.old) (O.faults out.new)
+        (state held.old) (state held.new) (flat_map pragma_line (enumerate_from 0 pragmas.now)) }
 {
     for (index, pragma) in pragmas.iter().enumerate() {
         put_pragma_line(out, held, index as u64, *pragma);
@@ -56,7 +63,9 @@ fn put_pragmas<O: Sink>(out: &mut O, held: &mut Held, pragmas: &[Pragma])
 }
 
 fn put_functions<O: Sink>(out: &mut O, held: &mut Held, unit: &Unit)
-    ensures { Puts (O.written out.old) (O.written out.new) (O.faults out.old) (O.faults out.new) (state held.old) (state held.new) (flat_map (function_lines unit.now) (enumerate_from 0 unit.now.functions)) }
+    ensures { Puts (O.written out.old) (O.written out.new) (O.faults out.old) (O.faults out.new)
+        (state held.old) (state held.new)
+        (flat_map (function_lines unit.now) (enumerate_from 0 unit.now.functions)) }
 {
     for (index, function) in unit.functions.as_slice().iter().enumerate() {
         put_function(out, held, unit, index as u64, function);
@@ -64,7 +73,8 @@ fn put_functions<O: Sink>(out: &mut O, held: &mut Held, unit: &Unit)
 }
 
 fn put_function<O: Sink>(out: &mut O, held: &mut Held, unit: &Unit, index: u64, function: &Code)
-    ensures { Puts (O.written out.old) (O.written out.new) (O.faults out.old) (O.faults out.new) (state held.old) (state held.new) (function_lines unit.now (index, function.now)) }
+    ensures { Puts (O.written out.old) (O.written out.new) (O.faults out.old) (O.faults out.new)
+        (state held.old) (state held.new) (function_lines unit.now (index, function.now)) }
 {
     put_head_line(out, held, unit, index, function);
     put_code(out, held, function.code.as_slice());
@@ -72,7 +82,8 @@ fn put_function<O: Sink>(out: &mut O, held: &mut Held, unit: &Unit, index: u64, 
 
 /// The instructions, and each byte from the first one on that is none.
 fn put_code<O: Sink>(out: &mut O, held: &mut Held, code: &[u8])
-    ensures { Puts (O.written out.old) (O.written out.new) (O.faults out.old) (O.faults out.new) (state held.old) (state held.new) (code_from (length code.now) code.now 0) }
+    ensures { Puts (O.written out.old) (O.written out.new) (O.faults out.old) (O.faults out.new)
+        (state held.old) (state held.new) (code_from (length code.now) code.now 0) }
 {
     let mut at = 0;
     for _ in 0..code.len() {
@@ -110,7 +121,8 @@ fn instr_at(code: &[u8], at: usize) -> Option<(Row, Instr)>
 /// Each byte from a place on.
 fn put_bytes<O: Sink>(out: &mut O, held: &mut Held, code: &[u8], at: usize)
     requires { at ≤ length code.now }
-    ensures { Puts (O.written out.old) (O.written out.new) (O.faults out.old) (O.faults out.new) (state held.old) (state held.new) (byte_lines code.now at) }
+    ensures { Puts (O.written out.old) (O.written out.new) (O.faults out.old) (O.faults out.new)
+        (state held.old) (state held.new) (byte_lines code.now at) }
 {
     for place in at..code.len() {
         put_byte_line(out, held, place as u64, code[place]);

@@ -11,7 +11,7 @@ use itoa::Buffer;
 use wap_base::Sink;
 
 /// A word of a line.
-#[derive(Clone, Copy, Debug)]
+#[derive(Clone, Copy)]
 pub enum Word<'a> {
     /// As it stands.
     Name(&'a str),
@@ -25,7 +25,9 @@ pub enum Word<'a> {
 
 /// Puts a line: a word, more words with a space before each, and its end.
 pub fn put_line<O: Sink>(out: &mut O, held: &mut Held, first: Word<'_>, words: &[Word<'_>])
-    ensures { Puts (O.written out.old) (O.written out.new) (O.faults out.old) (O.faults out.new) (state held.old) (state held.new) (line (word_bytes first.entry) (map word_bytes words.now)) }
+    ensures { Puts (O.written out.old) (O.written out.new) (O.faults out.old) (O.faults out.new)
+        (state held.old) (state held.new)
+        (line (word_bytes first.entry) (map word_bytes words.now)) }
 {
     put_word(out, held, first);
     put_words(out, held, words);
@@ -34,7 +36,8 @@ pub fn put_line<O: Sink>(out: &mut O, held: &mut Held, first: Word<'_>, words: &
 
 /// Puts words, with a space before each.
 fn put_words<O: Sink>(out: &mut O, held: &mut Held, words: &[Word<'_>])
-    ensures { Puts (O.written out.old) (O.written out.new) (O.faults out.old) (O.faults out.new) (state held.old) (state held.new) (flat_map spaced (map word_bytes words.now)) }
+    ensures { Puts (O.written out.old) (O.written out.new) (O.faults out.old) (O.faults out.new)
+        (state held.old) (state held.new) (flat_map spaced (map word_bytes words.now)) }
 {
     for word in words {
         put(out, held, b" ");
@@ -43,7 +46,8 @@ fn put_words<O: Sink>(out: &mut O, held: &mut Held, words: &[Word<'_>])
 }
 
 fn put_word<O: Sink>(out: &mut O, held: &mut Held, word: Word<'_>)
-    ensures { Puts (O.written out.old) (O.written out.new) (O.faults out.old) (O.faults out.new) (state held.old) (state held.new) (word_bytes word.entry) }
+    ensures { Puts (O.written out.old) (O.written out.new) (O.faults out.old) (O.faults out.new)
+        (state held.old) (state held.new) (word_bytes word.entry) }
 {
     match word {
         Word::Name(text) => put(out, held, text.as_bytes()),
@@ -68,7 +72,8 @@ fn hex_digit(value: u8) -> u8
 }
 
 fn put_hex<O: Sink>(out: &mut O, held: &mut Held, bytes: &[u8])
-    ensures { Puts (O.written out.old) (O.written out.new) (O.faults out.old) (O.faults out.new) (state held.old) (state held.new) (hex bytes.now) }
+    ensures { Puts (O.written out.old) (O.written out.new) (O.faults out.old) (O.faults out.new)
+        (state held.old) (state held.new) (hex bytes.now) }
 {
     for byte in bytes {
         put(out, held, &[hex_digit(*byte / 16), hex_digit(*byte % 16)]);
@@ -83,7 +88,8 @@ fn shown_byte(byte: u8) -> u8
 }
 
 fn put_shown<O: Sink>(out: &mut O, held: &mut Held, bytes: &[u8])
-    ensures { Puts (O.written out.old) (O.written out.new) (O.faults out.old) (O.faults out.new) (state held.old) (state held.new) (map shown_byte bytes.now) }
+    ensures { Puts (O.written out.old) (O.written out.new) (O.faults out.old) (O.faults out.new)
+        (state held.old) (state held.new) (map shown_byte bytes.now) }
 {
     for byte in bytes {
         put(out, held, &[shown_byte(*byte)]);

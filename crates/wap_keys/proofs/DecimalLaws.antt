@@ -9,5 +9,7 @@ use Rattle.std.proofs.lemmas.List.Sums.{AllPass-from_list_all}
 digit_in_range : (c : ℕ) → is_ascii_digit c ≡ true → IsInRange 48 57 c
 digit_in_range c h = grind (arith, nat_tests)
 
-pub digit_at : (ds : List ℕ) (i : ℕ) → list_all is_ascii_digit ds ≡ true → i < length ds → IsInRange 48 57 (get_or ds i 0)
-digit_at ds i digits within = digit_in_range (get_or ds i 0) (AllPass-from_list_all is_ascii_digit ds digits i 0 within)
+pub digit_at : (ds : List ℕ) (i : ℕ) → list_all is_ascii_digit ds ≡ true → i < length ds
+    → IsInRange 48 57 (get_or ds i 0)
+digit_at ds i digits within =
+    digit_in_range (get_or ds i 0) (AllPass-from_list_all is_ascii_digit ds digits i 0 within)

@@ -1,5 +1,6 @@
 -- What a line says, by its length and its text.
-use Rattle.std.proofs.Common.{◌≡◌, ℕ, ◌<◌, ◌≤◌, Bool, true, false, cond, List, length, Result, Err, refl, sym, ap, subst, ◌∙◌}
+use Rattle.std.proofs.Common.{◌≡◌, ℕ, ◌<◌, ◌≤◌, Bool, true, false, cond, List}
+use Rattle.std.proofs.Common.{length, Result, Err, refl, sym, ap, subst, ◌∙◌}
 use Rattle.std.specs.Str.{IsUtf8, is_utf8}
 use Rattle.std.proofs.lemmas.Bool.{lt-ltb, le-ltb}
 use Rattle.std.proofs.lemmas.Str.{is_utf8-from_IsUtf8, IsUtf8-from_is_utf8}
@@ -15,22 +16,35 @@ said line = key_of_word (word_named (front_of line)) (rest_of line)
 
 pub long_key : (line : List ℕ) → LINE_LIMIT < length line → key_at line ≡ Err TooLong
 unfolding key_at
-long_key line long = ap (λ (b : Bool). cond b (Err TooLong) (cond (is_utf8 line) (said line) (Err NotText))) (lt-ltb LINE_LIMIT (length line) long)
+long_key line long =
+    ap (λ (b : Bool). cond b (Err TooLong) (cond (is_utf8 line) (said line) (Err NotText)))
+    (lt-ltb LINE_LIMIT (length line) long)
 
-short_key : (line : List ℕ) → length line ≤ LINE_LIMIT → key_at line ≡ cond (is_utf8 line) (said line) (Err NotText)
+short_key : (line : List ℕ) → length line ≤ LINE_LIMIT
+    → key_at line ≡ cond (is_utf8 line) (said line) (Err NotText)
 unfolding key_at
-short_key line short = ap (λ (b : Bool). cond b (Err TooLong) (cond (is_utf8 line) (said line) (Err NotText))) (le-ltb LINE_LIMIT (length line) short)
+short_key line short =
+    ap (λ (b : Bool). cond b (Err TooLong) (cond (is_utf8 line) (said line) (Err NotText)))
+    (le-ltb LINE_LIMIT (length line) short)
 
 pub no_text : (line : List ℕ) (b : Bool) → is_utf8 line ≡ b → ¬ (IsUtf8 line) → b ≡ false
 no_text line true is none = absurd (none (IsUtf8-from_is_utf8 line is))
 no_text line false is none = refl
 
-pub bad_text : (line : List ℕ) → length line ≤ LINE_LIMIT → ¬ (IsUtf8 line) → key_at line ≡ Err NotText
-bad_text line short none = short_key line short ∙ ap (λ (b : Bool). cond b (said line) (Err NotText)) (no_text line (is_utf8 line) refl none)
+pub bad_text : (line : List ℕ) → length line ≤ LINE_LIMIT → ¬ (IsUtf8 line)
+    → key_at line ≡ Err NotText
+bad_text line short none =
+    short_key line short
+    ∙ ap (λ (b : Bool). cond b (said line) (Err NotText)) (no_text line (is_utf8 line) refl none)
 
 pub good_text : (line : List ℕ) → length line ≤ LINE_LIMIT → IsUtf8 line → key_at line ≡ said line
-good_text line short text = short_key line short ∙ ap (λ (b : Bool). cond b (said line) (Err NotText)) (is_utf8-from_IsUtf8 line text)
+good_text line short text =
+    short_key line short
+    ∙ ap (λ (b : Bool). cond b (said line) (Err NotText)) (is_utf8-from_IsUtf8 line text)
 
-pub text_key : (result : Result Key KeyFault) (line text : List ℕ) → length line ≤ LINE_LIMIT → text ≡ line → IsUtf8 line → Meets NoMemory (λ (key : Key). key) result (said text) → Meets NoMemory (λ (key : Key). key) result (key_at line)
+pub text_key : (result : Result Key KeyFault) (line text : List ℕ) → length line ≤ LINE_LIMIT
+    → text ≡ line → IsUtf8 line → Meets NoMemory (λ (key : Key). key) result (said text)
+    → Meets NoMemory (λ (key : Key). key) result (key_at line)
 text_key result line text short same utf8 meets =
-    subst (λ (reading : Result Key KeyFault). Meets NoMemory (λ (key : Key). key) result reading) (ap said same ∙ sym (good_text line short utf8)) meets
+    subst (λ (reading : Result Key KeyFault). Meets NoMemory (λ (key : Key). key) result reading)
+    (ap said same ∙ sym (good_text line short utf8)) meets

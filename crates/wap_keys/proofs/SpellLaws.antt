@@ -1,11 +1,16 @@
 -- What a line says is what it spells.
-use Rattle.std.proofs.Common.{◌≡◌, ◌≢◌, ◌⊎◌, ℕ, ◌+◌, ◌<◌, ◌≤◌, Bool, true, false, cond, List, [], ◌∷◌, ◌++◌, length, take, drop, get_or, Option, Some, None, Result, Ok, Err, refl, sym, ap, subst, ◌∙◌, inl, inr, eqb-true, arith}
+use Rattle.std.proofs.Common.{◌≡◌, ◌≢◌, ◌⊎◌, ℕ, ◌+◌, ◌<◌, ◌≤◌, Bool, true, false, cond, List, []}
+use Rattle.std.proofs.Common.{◌∷◌, ◌++◌, length, take, drop, get_or, Option, Some, None, Result, Ok}
+use Rattle.std.proofs.Common.{Err, refl, sym, ap, subst, ◌∙◌, inl, inr, eqb-true, arith}
 use Rattle.std.specs.Prelude.{not, find}
 use Rattle.std.specs.List.{position_or_len, after_first}
 use Rattle.std.specs.Str.{IsUtf8, is_utf8}
 use Rattle.std.proofs.lemmas.Bool.{lt-ltb, le-ltb, cases_lt}
-use Rattle.std.proofs.lemmas.List.{length-append, length-take, get_or-take, take_all, get_or_append_left, take-append-le}
-use Rattle.std.proofs.lemmas.List.Sums.{split_at_first, position_or_len_is, passes_at_first, fails_before_first, AllPass-from_list_all, list_all-from_AllPass}
+use Rattle.std.proofs.lemmas.List.{length-append, length-take, get_or-take, take_all}
+use Rattle.std.proofs.lemmas.List.{get_or_append_left, take-append-le}
+use Rattle.std.proofs.lemmas.List.Sums.{split_at_first, position_or_len_is}
+use Rattle.std.proofs.lemmas.List.Sums.{passes_at_first, fails_before_first}
+use Rattle.std.proofs.lemmas.List.Sums.{AllPass-from_list_all, list_all-from_AllPass}
 use Rattle.std.proofs.Math.Seq.{take-length, drop-append-add, get_or-append_seam}
 use Rattle.std.specs.Cmp.Lexicographic.{bytes_decides}
 use Rattle.std.specs.Prelude.{IfOk, IfErr}
@@ -15,42 +20,63 @@ use Rattle.wap_base.specs.Texts.{is_same_text}
 use Rattle.wap_input.specs.declared.key.Key.{Key}
 use Rattle.wap_keys.specs.declared.limits.TheConstants.{LINE_LIMIT}
 use Rattle.wap_keys.specs.declared.fault.KeyFault.{KeyFault}
-use Rattle.wap_keys.specs.declared.fault.KeyFault.TheVariants.{TooLong, NotText, UnknownWord, Missing, BadNumber, Surplus, NoMemory}
+use Rattle.wap_keys.specs.declared.fault.KeyFault.TheVariants.{TooLong, NotText, UnknownWord}
+use Rattle.wap_keys.specs.declared.fault.KeyFault.TheVariants.{Missing, BadNumber, Surplus}
+use Rattle.wap_keys.specs.declared.fault.KeyFault.TheVariants.{NoMemory}
 use Rattle.wap_keys.specs.declared.word.Word.{Word}
 use Rattle.wap_keys.specs.declared.word.Word.TheVariants as word
 use Rattle.wap_keys.specs.Decimal.{decimal_of}
-use Rattle.wap_keys.specs.Forms.{Form, nothing, text, text_or_none, number, form_of, name_of, words, word_named, is_space, front_of, rest_of, number_of, number_in, nothing_at, key_by, key_of_word, key_at}
-use Rattle.wap_keys.specs.Spelling.{spaced, HasNoSpace, Spells, Misspells, IsTextLine, IsKeyLine, IsUnknown, MisspellsLine, IsNoKeyLine}
+use Rattle.wap_keys.specs.Forms.{Form, nothing, text, text_or_none, number, form_of, name_of}
+use Rattle.wap_keys.specs.Forms.{words, word_named, is_space, front_of, rest_of, number_of}
+use Rattle.wap_keys.specs.Forms.{number_in, nothing_at, key_by, key_of_word, key_at}
+use Rattle.wap_keys.specs.Spelling.{spaced, HasNoSpace, Spells, Misspells, IsTextLine}
+use Rattle.wap_keys.specs.Spelling.{IsKeyLine, IsUnknown, MisspellsLine, IsNoKeyLine}
 use Rattle.wap_keys.proofs.KeyLaws.{long_key, bad_text, good_text}
 
 -- ---- words and what follows them
 
-no_space_at : (front : List ℕ) (k : ℕ) → HasNoSpace front → k < length front → is_space (get_or front k 0) ≡ false
-no_space_at front k none within = not_true (is_space (get_or front k 0)) (AllPass-from_list_all (λ (c : ℕ). not (is_space c)) front none k 0 within)
+no_space_at : (front : List ℕ) (k : ℕ) → HasNoSpace front → k < length front
+    → is_space (get_or front k 0) ≡ false
+no_space_at front k none within =
+    not_true (is_space (get_or front k 0))
+    (AllPass-from_list_all (λ (c : ℕ). not (is_space c)) front none k 0 within)
   where
     not_true : (b : Bool) → not b ≡ true → b ≡ false
     not_true true e = absurd cc
     not_true false e = refl
 
-first_space : (front rest : List ℕ) → HasNoSpace front → position_or_len is_space (front ++ 32 ∷ rest) ≡ length front
+first_space : (front rest : List ℕ) → HasNoSpace front
+    → position_or_len is_space (front ++ 32 ∷ rest) ≡ length front
 first_space front rest none =
-    position_or_len_is is_space (front ++ 32 ∷ rest) (length front) 0 (omega (arith, length-append front (32 ∷ rest)))
-    (λ k within. ap is_space (get_or_append_left front (32 ∷ rest) 0 k within) ∙ no_space_at front k none within)
+    position_or_len_is is_space (front ++ 32 ∷ rest) (length front) 0
+    (omega (arith, length-append front (32 ∷ rest)))
+    (λ k within.
+    ap is_space (get_or_append_left front (32 ∷ rest) 0 k within) ∙ no_space_at front k none within)
     (λ _. ap is_space (get_or-append_seam front 32 rest 0))
 
 no_first : (front : List ℕ) → HasNoSpace front → position_or_len is_space front ≡ length front
-no_first front none = position_or_len_is is_space front (length front) 0 (omega arith) (λ k within. no_space_at front k none within) (λ within. absurd (omega arith))
+no_first front none =
+    position_or_len_is is_space front (length front) 0 (omega arith)
+    (λ k within. no_space_at front k none within) (λ within. absurd (omega arith))
 
-pub front_spaced : (front : List ℕ) (rest : Option (List ℕ)) → HasNoSpace front → front_of (spaced front rest) ≡ front
-front_spaced front None none = ap (λ (n : ℕ). take n front) (no_first front none) ∙ take-length front
+pub front_spaced : (front : List ℕ) (rest : Option (List ℕ)) → HasNoSpace front
+    → front_of (spaced front rest) ≡ front
+front_spaced front None none =
+    ap (λ (n : ℕ). take n front) (no_first front none) ∙ take-length front
 front_spaced front (Some rest) none =
-    ap (λ (n : ℕ). take n (front ++ 32 ∷ rest)) (first_space front rest none) ∙ take-append-le (length front) front (32 ∷ rest) (omega arith) ∙ take-length front
+    ap (λ (n : ℕ). take n (front ++ 32 ∷ rest)) (first_space front rest none)
+    ∙ take-append-le (length front) front (32 ∷ rest) (omega arith) ∙ take-length front
 
-pub rest_spaced : (front : List ℕ) (rest : Option (List ℕ)) → HasNoSpace front → rest_of (spaced front rest) ≡ rest
-rest_spaced front None none = ap (λ (b : Bool). cond b (Some (after_first is_space front)) None) (le-ltb (position_or_len is_space front) (length front) (omega (arith, no_first front none)))
+pub rest_spaced : (front : List ℕ) (rest : Option (List ℕ)) → HasNoSpace front
+    → rest_of (spaced front rest) ≡ rest
+rest_spaced front None none =
+    ap (λ (b : Bool). cond b (Some (after_first is_space front)) None)
+    (le-ltb (position_or_len is_space front) (length front) (omega (arith, no_first front none)))
 rest_spaced front (Some rest) none =
     let bytes = front ++ 32 ∷ rest in
-    ap (λ (b : Bool). cond b (Some (after_first is_space bytes)) None) (lt-ltb (position_or_len is_space bytes) (length bytes) (omega (arith, first_space front rest none, length-append front (32 ∷ rest))))
+    ap (λ (b : Bool). cond b (Some (after_first is_space bytes)) None)
+    (lt-ltb (position_or_len is_space bytes) (length bytes)
+    (omega (arith, first_space front rest none, length-append front (32 ∷ rest))))
     ∙ ap (λ (n : ℕ). Some (drop (n + 1) bytes)) (first_space front rest none)
     ∙ ap (λ (l : List ℕ). Some l) (drop-append-add front (32 ∷ rest) 1)
 
@@ -60,19 +86,26 @@ front_none bytes =
     list_all-from_AllPass (λ (c : ℕ). not (is_space c)) (front_of bytes)
     (λ k d within.
     let before : k < place = omega (arith, within, length-take place bytes) in
-    ap (λ (c : ℕ). not (is_space c)) (get_or-take place bytes k d before) ∙ ap not (fails_before_first is_space bytes k d before))
+    ap (λ (c : ℕ). not (is_space c)) (get_or-take place bytes k d before)
+    ∙ ap not (fails_before_first is_space bytes k d before))
 
-parts_by : (bytes : List ℕ) → (position_or_len is_space bytes < length bytes) ⊎ (length bytes ≤ position_or_len is_space bytes) → bytes ≡ spaced (front_of bytes) (rest_of bytes)
+parts_by : (bytes : List ℕ)
+    → (position_or_len is_space bytes < length bytes)
+    ⊎ (length bytes ≤ position_or_len is_space bytes)
+    → bytes ≡ spaced (front_of bytes) (rest_of bytes)
 parts_by bytes (inl within) =
     let place = position_or_len is_space bytes in
     let after = after_first is_space bytes in
     split_at_first is_space bytes 0 within
-    ∙ ap (λ (c : ℕ). front_of bytes ++ c ∷ after) (eqb-true (get_or bytes place 0) 32 (passes_at_first is_space bytes 0 within))
-    ∙ ap (spaced (front_of bytes)) (sym (ap (λ (b : Bool). cond b (Some after) None) (lt-ltb place (length bytes) within)))
+    ∙ ap (λ (c : ℕ). front_of bytes ++ c ∷ after)
+    (eqb-true (get_or bytes place 0) 32 (passes_at_first is_space bytes 0 within))
+    ∙ ap (spaced (front_of bytes))
+    (sym (ap (λ (b : Bool). cond b (Some after) None) (lt-ltb place (length bytes) within)))
 parts_by bytes (inr past) =
     let place = position_or_len is_space bytes in
     sym (take_all place bytes past)
-    ∙ ap (spaced (front_of bytes)) (sym (ap (λ (b : Bool). cond b (Some (after_first is_space bytes)) None) (le-ltb place (length bytes) past)))
+    ∙ ap (spaced (front_of bytes)) (sym (ap (λ (b : Bool).
+    cond b (Some (after_first is_space bytes)) None) (le-ltb place (length bytes) past)))
 
 pub parts : (bytes : List ℕ) → bytes ≡ spaced (front_of bytes) (rest_of bytes)
 parts bytes = parts_by bytes (cases_lt (position_or_len is_space bytes) (length bytes))
@@ -89,10 +122,14 @@ with_rest rest n = Ok (n, rest)
 abbrev goes_on : (ℕ → Form) → ℕ × Option (List ℕ) → Result Key KeyFault
 goes_on form got = key_by (form got.0) got.1
 
-more_said : (greatest : ℕ) (form : ℕ → Form) (digits : List ℕ) (others rest : Option (List ℕ)) (n : ℕ) (read : Result Key KeyFault) → rest ≡ Some (spaced digits others) → HasNoSpace digits → decimal_of greatest digits ≡ Some n → Said (form n) others read
+more_said : (greatest : ℕ) (form : ℕ → Form) (digits : List ℕ) (others rest : Option (List ℕ))
+    (n : ℕ) (read : Result Key KeyFault) → rest ≡ Some (spaced digits others) → HasNoSpace digits
+    → decimal_of greatest digits ≡ Some n → Said (form n) others read
     → Said (number greatest form) rest read
-more_said greatest form digits others rest n (Ok key) is none decimal said = (digits, others, n, is, none, decimal, said)
-more_said greatest form digits others rest n (Err fault) is none decimal said = inr (inr (digits, others, n, is, none, decimal, said))
+more_said greatest form digits others rest n (Ok key) is none decimal said =
+    (digits, others, n, is, none, decimal, said)
+more_said greatest form digits others rest n (Err fault) is none decimal said =
+    inr (inr (digits, others, n, is, none, decimal, said))
 
 some_front : (c : ℕ) (cs : List ℕ) → c ∷ cs ≡ [] → ⊥
 some_front c cs e = cc
@@ -100,17 +137,34 @@ some_front c cs e = cc
 split_is : (bytes front : List ℕ) → front_of bytes ≡ front → bytes ≡ spaced front (rest_of bytes)
 split_is bytes front is = parts bytes ∙ ap (λ (l : List ℕ). spaced l (rest_of bytes)) is
 
-decimal_said : (greatest : ℕ) (form : ℕ → Form) (bytes : List ℕ) (c : ℕ) (cs : List ℕ) (n : Option ℕ) → front_of bytes ≡ c ∷ cs → decimal_of greatest (c ∷ cs) ≡ n → ((n : ℕ) → Said (form n) (rest_of bytes) (key_by (form n) (rest_of bytes)))
-    → Said (number greatest form) (Some bytes) ((number_of n >>= with_rest (rest_of bytes)) >>= goes_on form)
+decimal_said : (greatest : ℕ) (form : ℕ → Form) (bytes : List ℕ) (c : ℕ) (cs : List ℕ)
+    (n : Option ℕ) → front_of bytes ≡ c ∷ cs → decimal_of greatest (c ∷ cs) ≡ n
+    → ((n : ℕ) → Said (form n) (rest_of bytes) (key_by (form n) (rest_of bytes)))
+    → Said (number greatest form) (Some bytes)
+    ((number_of n >>= with_rest (rest_of bytes)) >>= goes_on form)
 decimal_said greatest form bytes c cs None front decimal said =
-    inr (inl (c ∷ cs, rest_of bytes, ap Some (split_is bytes (c ∷ cs) front), subst HasNoSpace front (front_none bytes), some_front c cs, decimal, refl))
+    inr (inl (
+      c ∷ cs,
+      rest_of bytes,
+      ap Some (split_is bytes (c ∷ cs) front),
+      subst HasNoSpace front (front_none bytes),
+      some_front c cs,
+      decimal,
+      refl,
+    ))
 decimal_said greatest form bytes c cs (Some n) front decimal said =
-    more_said greatest form (c ∷ cs) (rest_of bytes) (Some bytes) n (key_by (form n) (rest_of bytes)) (ap Some (split_is bytes (c ∷ cs) front)) (subst HasNoSpace front (front_none bytes)) decimal (said n)
+    more_said greatest form (c ∷ cs) (rest_of bytes) (Some bytes) n
+    (key_by (form n) (rest_of bytes)) (ap Some (split_is bytes (c ∷ cs) front))
+    (subst HasNoSpace front (front_none bytes)) decimal (said n)
 
-front_said : (greatest : ℕ) (form : ℕ → Form) (bytes front : List ℕ) → front_of bytes ≡ front → ((n : ℕ) → Said (form n) (rest_of bytes) (key_by (form n) (rest_of bytes)))
-    → Said (number greatest form) (Some bytes) ((number_in greatest front >>= with_rest (rest_of bytes)) >>= goes_on form)
-front_said greatest form bytes [] front said = inl (inr (rest_of bytes, ap Some (split_is bytes [] front)), refl)
-front_said greatest form bytes (c ∷ cs) front said = decimal_said greatest form bytes c cs (decimal_of greatest (c ∷ cs)) front refl said
+front_said : (greatest : ℕ) (form : ℕ → Form) (bytes front : List ℕ) → front_of bytes ≡ front
+    → ((n : ℕ) → Said (form n) (rest_of bytes) (key_by (form n) (rest_of bytes)))
+    → Said (number greatest form) (Some bytes)
+    ((number_in greatest front >>= with_rest (rest_of bytes)) >>= goes_on form)
+front_said greatest form bytes [] front said =
+    inl (inr (rest_of bytes, ap Some (split_is bytes [] front)), refl)
+front_said greatest form bytes (c ∷ cs) front said =
+    decimal_said greatest form bytes c cs (decimal_of greatest (c ∷ cs)) front refl said
 
 form_said : (form : Form) (rest : Option (List ℕ)) → Said form rest (key_by form rest)
 form_said (nothing key) None = (refl, refl)
@@ -121,55 +175,77 @@ form_said (text make) (Some (c ∷ cs)) = (c, cs, refl, refl)
 form_said (text_or_none make) None = inl (refl, refl)
 form_said (text_or_none make) (Some t) = inr (t, refl, refl)
 form_said (number greatest form) None = inl (inl refl, refl)
-form_said (number greatest form) (Some bytes) = front_said greatest form bytes (front_of bytes) refl (λ n. form_said (form n) (rest_of bytes))
+form_said (number greatest form) (Some bytes) =
+    front_said greatest form bytes (front_of bytes) refl (λ n. form_said (form n) (rest_of bytes))
 
 -- ---- and the other way
 
-then_reads : (form : ℕ → Form) (others : Option (List ℕ)) (read : Result ℕ KeyFault) → ((read >>= with_rest others) >>= goes_on form) ≡ (read >>= λ n. key_by (form n) others)
+then_reads : (form : ℕ → Form) (others : Option (List ℕ)) (read : Result ℕ KeyFault)
+    → ((read >>= with_rest others) >>= goes_on form) ≡ (read >>= λ n. key_by (form n) others)
 then_reads form others (Ok n) = refl
 then_reads form others (Err fault) = refl
 
-number_reads : (greatest : ℕ) (form : ℕ → Form) (argument : List ℕ) (others : Option (List ℕ)) → HasNoSpace argument → key_by (number greatest form) (Some (spaced argument others)) ≡ (number_in greatest argument >>= λ n. key_by (form n) others)
+number_reads : (greatest : ℕ) (form : ℕ → Form) (argument : List ℕ) (others : Option (List ℕ))
+    → HasNoSpace argument
+    → key_by (number greatest form) (Some (spaced argument others))
+    ≡ (number_in greatest argument >>= λ n. key_by (form n) others)
 number_reads greatest form argument others none =
-    ap (λ (l : List ℕ). (number_in greatest l >>= with_rest (rest_of (spaced argument others))) >>= goes_on form) (front_spaced argument others none)
-    ∙ ap (λ (rest : Option (List ℕ)). (number_in greatest argument >>= with_rest rest) >>= goes_on form) (rest_spaced argument others none)
+    ap (λ (l : List ℕ). (number_in greatest l >>= with_rest (rest_of (spaced argument others)))
+    >>= goes_on form) (front_spaced argument others none)
+    ∙ ap
+    (λ (rest : Option (List ℕ)). (number_in greatest argument >>= with_rest rest) >>= goes_on form)
+    (rest_spaced argument others none)
     ∙ then_reads form others (number_in greatest argument)
 
 no_digits : (greatest n : ℕ) → decimal_of greatest [] ≡ Some n → ⊥
 no_digits greatest n e = cc
 
-number_is : (greatest : ℕ) (digits : List ℕ) (n : ℕ) → decimal_of greatest digits ≡ Some n → number_in greatest digits ≡ Ok n
+number_is : (greatest : ℕ) (digits : List ℕ) (n : ℕ) → decimal_of greatest digits ≡ Some n
+    → number_in greatest digits ≡ Ok n
 number_is greatest [] n decimal = absurd (no_digits greatest n decimal)
 number_is greatest (c ∷ cs) n decimal = ap number_of decimal
 
-bad_is : (greatest : ℕ) (argument : List ℕ) → argument ≢ [] → decimal_of greatest argument ≡ None → number_in greatest argument ≡ Err BadNumber
+bad_is : (greatest : ℕ) (argument : List ℕ) → argument ≢ [] → decimal_of greatest argument ≡ None
+    → number_in greatest argument ≡ Err BadNumber
 bad_is greatest [] some decimal = absurd (some refl)
 bad_is greatest (c ∷ cs) some decimal = ap number_of decimal
 
-form_spelt : (form : Form) (rest : Option (List ℕ)) (said : Key) → Spells form rest said → key_by form rest ≡ Ok said
+form_spelt : (form : Form) (rest : Option (List ℕ)) (said : Key) → Spells form rest said
+    → key_by form rest ≡ Ok said
 form_spelt (nothing key) rest said (none, is) = ap (nothing_at key) none ∙ ap Ok (sym is)
 form_spelt (text make) rest said (c, cs, some, is) = ap (key_by (text make)) some ∙ ap Ok (sym is)
-form_spelt (text_or_none make) rest said (inl (none, is)) = ap (key_by (text_or_none make)) none ∙ ap Ok (sym is)
-form_spelt (text_or_none make) rest said (inr (t, some, is)) = ap (key_by (text_or_none make)) some ∙ ap Ok (sym is)
+form_spelt (text_or_none make) rest said (inl (none, is)) =
+    ap (key_by (text_or_none make)) none ∙ ap Ok (sym is)
+form_spelt (text_or_none make) rest said (inr (t, some, is)) =
+    ap (key_by (text_or_none make)) some ∙ ap Ok (sym is)
 form_spelt (number greatest form) rest said (digits, others, n, some, none, decimal, spells) =
     ap (key_by (number greatest form)) some ∙ number_reads greatest form digits others none
-    ∙ ap (λ (read : Result ℕ KeyFault). read >>= λ n. key_by (form n) others) (number_is greatest digits n decimal)
+    ∙ ap (λ (read : Result ℕ KeyFault). read >>= λ n. key_by (form n) others)
+    (number_is greatest digits n decimal)
     ∙ form_spelt (form n) others said spells
 
-form_misspelt : (form : Form) (rest : Option (List ℕ)) (fault : KeyFault) → Misspells form rest fault → key_by form rest ≡ Err fault
+form_misspelt : (form : Form) (rest : Option (List ℕ)) (fault : KeyFault)
+    → Misspells form rest fault → key_by form rest ≡ Err fault
 form_misspelt (nothing key) rest fault (t, some, is) = ap (nothing_at key) some ∙ ap Err (sym is)
 form_misspelt (text make) rest fault (inl none, is) = ap (key_by (text make)) none ∙ ap Err (sym is)
 form_misspelt (text make) rest fault (inr none, is) = ap (key_by (text make)) none ∙ ap Err (sym is)
 form_misspelt (text_or_none make) rest fault no_way = absurd no_way
-form_misspelt (number greatest form) rest fault (inl (inl none, is)) = ap (key_by (number greatest form)) none ∙ ap Err (sym is)
+form_misspelt (number greatest form) rest fault (inl (inl none, is)) =
+    ap (key_by (number greatest form)) none ∙ ap Err (sym is)
 form_misspelt (number greatest form) rest fault (inl (inr (others, some), is)) =
-    ap (key_by (number greatest form)) some ∙ number_reads greatest form [] others refl ∙ ap Err (sym is)
-form_misspelt (number greatest form) rest fault (inr (inl (argument, others, some, none, filled, decimal, is))) =
+    ap (key_by (number greatest form)) some ∙ number_reads greatest form [] others refl
+    ∙ ap Err (sym is)
+form_misspelt (number greatest form) rest fault
+    (inr (inl (argument, others, some, none, filled, decimal, is))) =
     ap (key_by (number greatest form)) some ∙ number_reads greatest form argument others none
-    ∙ ap (λ (read : Result ℕ KeyFault). read >>= λ n. key_by (form n) others) (bad_is greatest argument filled decimal) ∙ ap Err (sym is)
-form_misspelt (number greatest form) rest fault (inr (inr (digits, others, n, some, none, decimal, misspells))) =
+    ∙ ap (λ (read : Result ℕ KeyFault). read >>= λ n. key_by (form n) others)
+    (bad_is greatest argument filled decimal)
+    ∙ ap Err (sym is)
+form_misspelt (number greatest form) rest fault
+    (inr (inr (digits, others, n, some, none, decimal, misspells))) =
     ap (key_by (number greatest form)) some ∙ number_reads greatest form digits others none
-    ∙ ap (λ (read : Result ℕ KeyFault). read >>= λ n. key_by (form n) others) (number_is greatest digits n decimal)
+    ∙ ap (λ (read : Result ℕ KeyFault). read >>= λ n. key_by (form n) others)
+    (number_is greatest digits n decimal)
     ∙ form_misspelt (form n) others fault misspells
 
 -- ---- words
@@ -208,8 +284,10 @@ same_word v w e = cc
 no_word : (w : Word) → None ≡ Some w → ⊥
 no_word w e = cc
 
-passes_by : (p : Word → Bool) (v : Word) (vs : List Word) (w : Word) (b : Bool) → p v ≡ b → cond b (Some v) (find p vs) ≡ Some w → (find p vs ≡ Some w → p w ≡ true) → p w ≡ true
-passes_by p v vs w true passes found others = subst (λ (w : Word). p w ≡ true) (same_word v w found) passes
+passes_by : (p : Word → Bool) (v : Word) (vs : List Word) (w : Word) (b : Bool) → p v ≡ b
+    → cond b (Some v) (find p vs) ≡ Some w → (find p vs ≡ Some w → p w ≡ true) → p w ≡ true
+passes_by p v vs w true passes found others =
+    subst (λ (w : Word). p w ≡ true) (same_word v w found) passes
 passes_by p v vs w false passes found others = others found
 
 passes : (p : Word → Bool) (vs : List Word) (w : Word) → find p vs ≡ Some w → p w ≡ true
@@ -217,33 +295,45 @@ passes p [] w found = absurd (no_word w found)
 passes p (v ∷ vs) w found = passes_by p v vs w (p v) refl found (passes p vs w)
 
 pub name_is : (front : List ℕ) (w : Word) → word_named front ≡ Some w → front ≡ name_of w
-name_is front w found = (bytes_decides front (name_of w)).0 (passes (λ (w : Word). is_same_text front (name_of w)) words w found)
+name_is front w found =
+    (bytes_decides front (name_of w)).0
+    (passes (λ (w : Word). is_same_text front (name_of w)) words w found)
 
 -- ---- lines
 
-pub word_reads : (line : List ℕ) (w : Word) (rest : Option (List ℕ)) → line ≡ spaced (name_of w) rest → key_of_word (word_named (front_of line)) (rest_of line) ≡ key_by (form_of w) rest
+pub word_reads : (line : List ℕ) (w : Word) (rest : Option (List ℕ))
+    → line ≡ spaced (name_of w) rest
+    → key_of_word (word_named (front_of line)) (rest_of line) ≡ key_by (form_of w) rest
 word_reads line w rest is =
     ap (λ (l : List ℕ). key_of_word (word_named (front_of l)) (rest_of l)) is
-    ∙ ap (λ (l : List ℕ). key_of_word (word_named l) (rest_of (spaced (name_of w) rest))) (front_spaced (name_of w) rest (unspaced w))
+    ∙ ap (λ (l : List ℕ). key_of_word (word_named l) (rest_of (spaced (name_of w) rest)))
+    (front_spaced (name_of w) rest (unspaced w))
     ∙ ap (λ (word : Option Word). key_of_word word (rest_of (spaced (name_of w) rest))) (named w)
     ∙ ap (key_by (form_of w)) (rest_spaced (name_of w) rest (unspaced w))
 
 pub spelt : (line : List ℕ) (key : Key) → IsKeyLine line key → key_at line ≡ Ok key
 spelt line key (is_text, spells) =
     let (w, rest, is, said) = spells in
-    good_text line is_text.0 is_text.1 ∙ word_reads line w rest is ∙ form_spelt (form_of w) rest key said
+    good_text line is_text.0 is_text.1 ∙ word_reads line w rest is
+    ∙ form_spelt (form_of w) rest key said
 
-misspelt_line : (line : List ℕ) (fault : KeyFault) → IsTextLine line → MisspellsLine line fault → key_at line ≡ Err fault
-misspelt_line line fault is_text (w, rest, is, misspells) = good_text line is_text.0 is_text.1 ∙ word_reads line w rest is ∙ form_misspelt (form_of w) rest fault misspells
+misspelt_line : (line : List ℕ) (fault : KeyFault) → IsTextLine line → MisspellsLine line fault
+    → key_at line ≡ Err fault
+misspelt_line line fault is_text (w, rest, is, misspells) =
+    good_text line is_text.0 is_text.1 ∙ word_reads line w rest is
+    ∙ form_misspelt (form_of w) rest fault misspells
 
-unknown_by : (line : List ℕ) (w : Option Word) → word_named (front_of line) ≡ w → IsUnknown line → key_of_word w (rest_of line) ≡ Err UnknownWord
+unknown_by : (line : List ℕ) (w : Option Word) → word_named (front_of line) ≡ w → IsUnknown line
+    → key_of_word w (rest_of line) ≡ Err UnknownWord
 unknown_by line None found unknown = refl
-unknown_by line (Some w) found unknown = absurd (unknown w (rest_of line) (split_is line (name_of w) (name_is (front_of line) w found)))
+unknown_by line (Some w) found unknown =
+    absurd (unknown w (rest_of line) (split_is line (name_of w) (name_is (front_of line) w found)))
 
 pub misspelt : (line : List ℕ) (fault : KeyFault) → IsNoKeyLine line fault → key_at line ≡ Err fault
 misspelt line TooLong long = long_key line long
 misspelt line NotText (short, none) = bad_text line short none
-misspelt line UnknownWord (is_text, unknown) = good_text line is_text.0 is_text.1 ∙ unknown_by line (word_named (front_of line)) refl unknown
+misspelt line UnknownWord (is_text, unknown) =
+    good_text line is_text.0 is_text.1 ∙ unknown_by line (word_named (front_of line)) refl unknown
 misspelt line Missing (is_text, misspells) = misspelt_line line Missing is_text misspells
 misspelt line BadNumber (is_text, misspells) = misspelt_line line BadNumber is_text misspells
 misspelt line Surplus (is_text, misspells) = misspelt_line line Surplus is_text misspells
@@ -259,59 +349,87 @@ Judged line (Err fault) = IsNoKeyLine line fault
 abbrev IsOfArgument : KeyFault → Type 0
 IsOfArgument fault = (fault ≡ Missing) ⊎ ((fault ≡ BadNumber) ⊎ (fault ≡ Surplus))
 
-of_argument : (form : Form) (rest : Option (List ℕ)) (fault : KeyFault) → Misspells form rest fault → IsOfArgument fault
+of_argument : (form : Form) (rest : Option (List ℕ)) (fault : KeyFault) → Misspells form rest fault
+    → IsOfArgument fault
 of_argument (nothing key) rest fault (t, some, is) = inr (inr is)
 of_argument (text make) rest fault (none, is) = inl is
 of_argument (text_or_none make) rest fault no_way = absurd no_way
 of_argument (number greatest form) rest fault (inl (none, is)) = inl is
-of_argument (number greatest form) rest fault (inr (inl (argument, others, some, none, filled, decimal, is))) = inr (inl is)
-of_argument (number greatest form) rest fault (inr (inr (digits, others, n, some, none, decimal, misspells))) = of_argument (form n) others fault misspells
+of_argument (number greatest form) rest fault
+    (inr (inl (argument, others, some, none, filled, decimal, is))) = inr (inl is)
+of_argument (number greatest form) rest fault
+    (inr (inr (digits, others, n, some, none, decimal, misspells))) =
+    of_argument (form n) others fault misspells
 
-no_line : (line : List ℕ) (fault : KeyFault) → IsTextLine line → MisspellsLine line fault → IsOfArgument fault → IsNoKeyLine line fault
-no_line line fault is_text misspells (inl is) = subst (IsNoKeyLine line) (sym is) (is_text, subst (MisspellsLine line) is misspells)
-no_line line fault is_text misspells (inr (inl is)) = subst (IsNoKeyLine line) (sym is) (is_text, subst (MisspellsLine line) is misspells)
-no_line line fault is_text misspells (inr (inr is)) = subst (IsNoKeyLine line) (sym is) (is_text, subst (MisspellsLine line) is misspells)
+no_line : (line : List ℕ) (fault : KeyFault) → IsTextLine line → MisspellsLine line fault
+    → IsOfArgument fault → IsNoKeyLine line fault
+no_line line fault is_text misspells (inl is) =
+    subst (IsNoKeyLine line) (sym is) (is_text, subst (MisspellsLine line) is misspells)
+no_line line fault is_text misspells (inr (inl is)) =
+    subst (IsNoKeyLine line) (sym is) (is_text, subst (MisspellsLine line) is misspells)
+no_line line fault is_text misspells (inr (inr is)) =
+    subst (IsNoKeyLine line) (sym is) (is_text, subst (MisspellsLine line) is misspells)
 
-judged_form : (line : List ℕ) (w : Word) (read : Result Key KeyFault) → IsTextLine line → line ≡ spaced (name_of w) (rest_of line) → Said (form_of w) (rest_of line) read → Judged line read
+judged_form : (line : List ℕ) (w : Word) (read : Result Key KeyFault) → IsTextLine line
+    → line ≡ spaced (name_of w) (rest_of line)
+    → Said (form_of w) (rest_of line) read → Judged line read
 judged_form line w (Ok key) is_text is said = (is_text, (w, rest_of line, is, said))
-judged_form line w (Err fault) is_text is said = no_line line fault is_text (w, rest_of line, is, said) (of_argument (form_of w) (rest_of line) fault said)
+judged_form line w (Err fault) is_text is said =
+    no_line line fault is_text (w, rest_of line, is, said)
+    (of_argument (form_of w) (rest_of line) fault said)
 
-judged_word : (line : List ℕ) (w : Option Word) → word_named (front_of line) ≡ w → IsTextLine line → Judged line (key_of_word w (rest_of line))
+judged_word : (line : List ℕ) (w : Option Word) → word_named (front_of line) ≡ w → IsTextLine line
+    → Judged line (key_of_word w (rest_of line))
 judged_word line None found is_text = (
   is_text,
-  λ w rest is. no_word w (sym found ∙ ap (λ (l : List ℕ). word_named (front_of l)) is ∙ ap word_named (front_spaced (name_of w) rest (unspaced w)) ∙ named w),
+  λ w rest is. no_word w (sym found ∙ ap (λ (l : List ℕ). word_named (front_of l)) is
+      ∙ ap word_named (front_spaced (name_of w) rest (unspaced w)) ∙ named w),
 )
 judged_word line (Some w) found is_text =
-    judged_form line w (key_by (form_of w) (rest_of line)) is_text (split_is line (name_of w) (name_is (front_of line) w found)) (form_said (form_of w) (rest_of line))
+    judged_form line w (key_by (form_of w) (rest_of line)) is_text (split_is line (name_of w)
+    (name_is (front_of line) w found)) (form_said (form_of w) (rest_of line))
 
-judged_text : (line : List ℕ) (b : Bool) → is_utf8 line ≡ b → length line ≤ LINE_LIMIT → Judged line (key_at line)
+judged_text : (line : List ℕ) (b : Bool) → is_utf8 line ≡ b → length line ≤ LINE_LIMIT
+    → Judged line (key_at line)
 judged_text line true good short =
     let is_text : IsTextLine line = (short, IsUtf8-from_is_utf8 line good) in
-    subst (Judged line) (sym (good_text line short is_text.1)) (judged_word line (word_named (front_of line)) refl is_text)
+    subst (Judged line) (sym (good_text line short is_text.1))
+    (judged_word line (word_named (front_of line)) refl is_text)
 judged_text line false none_is short =
-    let none : IsUtf8 line → ⊥ = λ utf8. not_both (is_utf8 line) (is_utf8-from_IsUtf8 line utf8) none_is in
+    let none : IsUtf8 line → ⊥ =
+    λ utf8. not_both (is_utf8 line) (is_utf8-from_IsUtf8 line utf8) none_is in
     subst (Judged line) (sym (bad_text line short none)) (short, none)
   where
     not_both : (b : Bool) → b ≡ true → b ≡ false → ⊥
     not_both b is other = cc
 
-judged_by : (line : List ℕ) → (LINE_LIMIT < length line) ⊎ (length line ≤ LINE_LIMIT) → Judged line (key_at line)
+judged_by : (line : List ℕ) → (LINE_LIMIT < length line) ⊎ (length line ≤ LINE_LIMIT)
+    → Judged line (key_at line)
 judged_by line (inl long) = subst (Judged line) (sym (long_key line long)) long
 judged_by line (inr short) = judged_text line (is_utf8 line) refl short
 
 pub judged : (line : List ℕ) → Judged line (key_at line)
 judged line = judged_by line (cases_lt LINE_LIMIT (length line))
 
-pub found_of : (result : Result Key KeyFault) (line : List ℕ) → Meets NoMemory (λ (key : Key). key) result (key_at line) → IfOk result (IsKeyLine line)
+pub found_of : (result : Result Key KeyFault) (line : List ℕ)
+    → Meets NoMemory (λ (key : Key). key) result (key_at line) → IfOk result (IsKeyLine line)
 found_of (Ok key) line meets = subst (Judged line) meets (judged line)
 found_of (Err fault) line meets = tt
 
-pub refused_of : (result : Result Key KeyFault) (line : List ℕ) → Meets NoMemory (λ (key : Key). key) result (key_at line) → IfErr result (λ fault. fault ≢ NoMemory → IsNoKeyLine line fault)
+pub refused_of : (result : Result Key KeyFault) (line : List ℕ)
+    → Meets NoMemory (λ (key : Key). key) result (key_at line)
+    → IfErr result (λ fault. fault ≢ NoMemory → IsNoKeyLine line fault)
 refused_of (Ok key) line meets = tt
 refused_of (Err fault) line meets = λ other. subst (Judged line) (meets other) (judged line)
 
-pub only_of : (result : Result Key KeyFault) (line : List ℕ) → Meets NoMemory (λ (key : Key). key) result (key_at line) → (key : Key) → IsKeyLine line key → Meets NoMemory (λ (key : Key). key) result (Ok key)
-only_of result line meets key spells = subst (Meets NoMemory (λ (key : Key). key) result) (spelt line key spells) meets
+pub only_of : (result : Result Key KeyFault) (line : List ℕ)
+    → Meets NoMemory (λ (key : Key). key) result (key_at line) → (key : Key) → IsKeyLine line key
+    → Meets NoMemory (λ (key : Key). key) result (Ok key)
+only_of result line meets key spells =
+    subst (Meets NoMemory (λ (key : Key). key) result) (spelt line key spells) meets
 
-pub first_of : (result : Result Key KeyFault) (line : List ℕ) → Meets NoMemory (λ (key : Key). key) result (key_at line) → (fault : KeyFault) → IsNoKeyLine line fault → Meets NoMemory (λ (key : Key). key) result (Err fault)
-first_of result line meets fault misspells = subst (Meets NoMemory (λ (key : Key). key) result) (misspelt line fault misspells) meets
+pub first_of : (result : Result Key KeyFault) (line : List ℕ)
+    → Meets NoMemory (λ (key : Key). key) result (key_at line) → (fault : KeyFault)
+    → IsNoKeyLine line fault → Meets NoMemory (λ (key : Key). key) result (Err fault)
+first_of result line meets fault misspells =
+    subst (Meets NoMemory (λ (key : Key). key) result) (misspelt line fault misspells) meets

@@ -1,5 +1,6 @@
 -- Key lines: the forms, each a word and its arguments, and what one line says. This project's own.
-use Rattle.std.specs.Prelude.{◌≡◌, ℕ, ◌==◌, nat_lt, if◌then◌else◌, Bool, List, [], ◌∷◌, length, Option, Some, None, Result, Ok, Err, codes, find}
+use Rattle.std.specs.Prelude.{◌≡◌, ℕ, ◌==◌, nat_lt, if◌then◌else◌, Bool, List, [], ◌∷◌}
+use Rattle.std.specs.Prelude.{length, Option, Some, None, Result, Ok, Err, codes, find}
 use Rattle.std.specs.Borrow.{Bor}
 use Rattle.std.specs.Option.{option_map}
 use Rattle.std.specs.List.{position_or_len, before_first, after_first}
@@ -11,7 +12,8 @@ use Rattle.wap_input.specs.declared.key.Key.{Key}
 use Rattle.wap_input.specs.declared.key.Key.TheVariants as key
 use Rattle.wap_keys.specs.declared.limits.TheConstants.{LINE_LIMIT}
 use Rattle.wap_keys.specs.declared.fault.KeyFault.{KeyFault}
-use Rattle.wap_keys.specs.declared.fault.KeyFault.TheVariants.{TooLong, NotText, UnknownWord, Missing, BadNumber, Surplus}
+use Rattle.wap_keys.specs.declared.fault.KeyFault.TheVariants.{TooLong, NotText, UnknownWord}
+use Rattle.wap_keys.specs.declared.fault.KeyFault.TheVariants.{Missing, BadNumber, Surplus}
 use Rattle.wap_keys.specs.declared.word.Word.{Word}
 use Rattle.wap_keys.specs.declared.word.Word.TheVariants as word
 use Rattle.wap_keys.specs.Decimal.{decimal_of}
@@ -27,7 +29,9 @@ front_of = before_first is_space
 
 -- and what stands after it, if there is one
 abbrev pub rest_of : List ℕ → Option (List ℕ)
-rest_of bytes = if nat_lt (position_or_len is_space bytes) (length bytes) then Some (after_first is_space bytes) else None
+rest_of bytes =
+    if nat_lt (position_or_len is_space bytes) (length bytes) then Some (after_first is_space bytes)
+    else None
 
 -- ---- forms
 
@@ -75,7 +79,8 @@ name_of word.Vars = codes "vars"
 
 abbrev pub words : List Word
 words =
-    word.Open ∷ word.Do ∷ word.Pick ∷ word.Type ∷ word.Choose ∷ word.Back ∷ word.Tick ∷ word.Ok ∷ word.Cancel ∷ word.Answer ∷ word.Stop ∷ word.Vars ∷ []
+    word.Open ∷ word.Do ∷ word.Pick ∷ word.Type ∷ word.Choose ∷ word.Back ∷ word.Tick ∷ word.Ok
+    ∷ word.Cancel ∷ word.Answer ∷ word.Stop ∷ word.Vars ∷ []
 
 abbrev pub word_named : List ℕ → Option Word
 word_named name = find (λ word. is_same_text name (name_of word)) words
@@ -109,7 +114,8 @@ number_at greatest None = Err Missing
 number_at greatest (Some bytes) = number_in greatest (front_of bytes) >>= λ n. Ok (n, rest_of bytes)
 
 -- a call read this number, and has what follows it
-abbrev pub ReadsNumber : Result (ℕ × Option (Bor (List ℕ))) KeyFault → Result (ℕ × Option (List ℕ)) KeyFault → Type 0
+abbrev pub ReadsNumber : Result (ℕ × Option (Bor (List ℕ))) KeyFault
+    → Result (ℕ × Option (List ℕ)) KeyFault → Type 0
 ReadsNumber (Ok read) at = at ≡ Ok (read.0, option_map (λ rest. rest.now) read.1)
 ReadsNumber (Err fault) at = at ≡ Err fault
 

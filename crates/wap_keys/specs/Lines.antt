@@ -1,5 +1,7 @@
 -- The lines of bytes, and the keys that they say. This project's own.
-use Rattle.std.specs.Prelude.{ℕ, ◌+◌, ◌-◌, nat_eq, Bool, true, false, ◌||◌, ◌==◌, nat_lt, if◌then◌else◌, List, [], ◌∷◌, length, take, Option, Some, None, Result, Ok, Err}
+use Rattle.std.specs.Prelude.{ℕ, ◌+◌, ◌-◌, nat_eq, Bool, true, false, ◌||◌, ◌==◌}
+use Rattle.std.specs.Prelude.{nat_lt, if◌then◌else◌, List, [], ◌∷◌, length, take}
+use Rattle.std.specs.Prelude.{Option, Some, None, Result, Ok, Err}
 use Rattle.std.specs.List.{ends_with}
 use Rattle.wap_base.specs.Ascii.{line_feed, carriage_return, number_sign}
 use Rattle.wap_input.specs.declared.key.Key.{Key}
@@ -24,11 +26,14 @@ led c (line ∷ lines) = record { bytes = c ∷ line.bytes; ended = line.ended }
 -- what stands between line feeds, but for nothing at the end
 abbrev pub lines_of : List ℕ → List Line
 lines_of [] = []
-lines_of (c ∷ cs) = if c == line_feed then record { bytes = []; ended = true } ∷ lines_of cs else led c (lines_of cs)
+lines_of (c ∷ cs) =
+    if c == line_feed then record { bytes = []; ended = true } ∷ lines_of cs
+    else led c (lines_of cs)
 
 -- one carriage return before a line feed is no part of the line
 abbrev pub without_return : List ℕ → List ℕ
-without_return line = if ends_with nat_eq line (carriage_return ∷ []) then take (length line - 1) line else line
+without_return line =
+    if ends_with nat_eq line (carriage_return ∷ []) then take (length line - 1) line else line
 
 abbrev pub content : Line → List ℕ
 content line = if line.ended then without_return line.bytes else line.bytes
@@ -53,7 +58,10 @@ is_end ReadFault = false
 
 -- a line is refused where it is too long already; else one that is cut off says no key
 abbrev pub line_key : Ending → Line → Result (Option Key) KeyFault
-line_key ending line = if nat_lt LINE_LIMIT (length line.bytes) then Err TooLong else if line.ended || is_end ending then content_key (content line) else Ok None
+line_key ending line =
+    if nat_lt LINE_LIMIT (length line.bytes) then Err TooLong
+    else if line.ended || is_end ending then content_key (content line)
+    else Ok None
 
 -- ---- keys
 
@@ -65,12 +73,14 @@ pub record Keys : Type 0 where
 abbrev pub key_before : ℕ → Result (Option Key) KeyFault → Keys → Keys
 key_before number (Err fault) others = record { keys = []; ending = BadKey number fault }
 key_before number (Ok None) others = others
-key_before number (Ok (Some key)) others = record { keys = key ∷ others.keys; ending = others.ending }
+key_before number (Ok (Some key)) others =
+    record { keys = key ∷ others.keys; ending = others.ending }
 
 -- the keys of lines that are counted from a number on, up to the first line that is no key line
 abbrev pub keys_from : Ending → ℕ → List Line → Keys
 keys_from ending number [] = record { keys = []; ending = ending }
-keys_from ending number (line ∷ lines) = key_before number (line_key ending line) (keys_from ending (number + 1) lines)
+keys_from ending number (line ∷ lines) =
+    key_before number (line_key ending line) (keys_from ending (number + 1) lines)
 
 -- the keys of bytes after which there is this ending
 unfoldable pub keys_at : Ending → List ℕ → Keys
@@ -78,4 +88,5 @@ keys_at ending bytes = keys_from ending 1 (lines_of bytes)
 
 -- the keys of bytes; of too many bytes the first ones count
 unfoldable pub keys_of : List ℕ → Keys
-keys_of bytes = keys_at (if nat_lt KEYS_LIMIT (length bytes) then TooManyKeys else End) (take KEYS_LIMIT bytes)
+keys_of bytes =
+    keys_at (if nat_lt KEYS_LIMIT (length bytes) then TooManyKeys else End) (take KEYS_LIMIT bytes)

@@ -1,5 +1,6 @@
 -- Keys whose bytes are taken from a source. This project's own.
-use Rattle.std.specs.Prelude.{◌≡◌, ◌≢◌, ◌⊎◌, ℕ, ◌+◌, ◌≤◌, List, [], ◌∷◌, ◌++◌, length, take, Option, Some, IfSome}
+use Rattle.std.specs.Prelude.{◌≡◌, ◌≢◌, ◌⊎◌, ℕ, ◌+◌, ◌≤◌, List, [], ◌∷◌, ◌++◌}
+use Rattle.std.specs.Prelude.{length, take, Option, Some, IfSome}
 use Rattle.wap_base.specs.Count.{raised}
 use Rattle.wap_base.specs.Transfer.{TakesFrom, IsAtEnd}
 use Rattle.wap_input.specs.declared.key.Key.{Key}
@@ -15,7 +16,8 @@ AreFirst keys all = (others : List Key) × (all ≡ keys ++ others)
 
 -- of the bytes that the source had, at most so many were taken
 abbrev pub TakesAtMost : ℕ → Option (List ℕ) → Option (List ℕ) → Type 0
-TakesAtMost most before after = (taken : List ℕ) × (length taken ≤ most) × TakesFrom before after taken
+TakesAtMost most before after =
+    (taken : List ℕ) × (length taken ≤ most) × TakesFrom before after taken
 
 -- of a source with these bytes this is left, and the keys are those of the whole lines that it gave
 pub record IsReadBefore (keys : List Key) (left : Option (List ℕ)) (bytes : List ℕ) : Type 0 where
@@ -60,18 +62,29 @@ pub record HasGiven (start left : Option (List ℕ)) (taken : List ℕ) (keys : 
 -- a line among the bytes is no key line, whatever follows; or their last line is none, which no
 -- line feed ends
 abbrev pub IsBad : Option (List ℕ) → List ℕ → Keys → Type 0
-IsBad left taken bad = ((ending : Ending) (rest : List ℕ) → keys_at ending (taken ++ rest) ≡ bad) ⊎ (IsAtEnd left × (keys_at End taken ≡ bad))
+IsBad left taken bad =
+    ((ending : Ending) (rest : List ℕ) → keys_at ending (taken ++ rest) ≡ bad)
+    ⊎ (IsAtEnd left × (keys_at End taken ≡ bad))
 
 -- how the keys of bytes that were taken came to an end: with the source, by a bad line, by one byte
 -- past the limit, or as the source failed
 abbrev pub EndsBy : Option (List ℕ) → List ℕ → List Key → Ending → Type 0
-EndsBy left taken keys End = IsAtEnd left × (length taken ≤ KEYS_LIMIT) × (keys_at End taken ≡ record { keys = keys; ending = End })
-EndsBy left taken keys (BadKey line fault) = (fault ≢ NoMemory) × (length taken ≤ KEYS_LIMIT) × IsBad left taken (record { keys = keys; ending = BadKey line fault })
-EndsBy left taken keys TooManyKeys = (length taken ≡ KEYS_LIMIT + 1) × (keys_at TooManyKeys (take KEYS_LIMIT taken) ≡ record { keys = keys; ending = TooManyKeys })
-EndsBy left taken keys ReadFault = (length taken ≤ KEYS_LIMIT) × (keys_at ReadFault taken ≡ record { keys = keys; ending = ReadFault })
+EndsBy left taken keys End =
+    IsAtEnd left × (length taken ≤ KEYS_LIMIT)
+    × (keys_at End taken ≡ record { keys = keys; ending = End })
+EndsBy left taken keys (BadKey line fault) =
+    (fault ≢ NoMemory) × (length taken ≤ KEYS_LIMIT)
+    × IsBad left taken (record { keys = keys; ending = BadKey line fault })
+EndsBy left taken keys TooManyKeys =
+    (length taken ≡ KEYS_LIMIT + 1)
+    × (keys_at TooManyKeys (take KEYS_LIMIT taken) ≡ record { keys = keys; ending = TooManyKeys })
+EndsBy left taken keys ReadFault =
+    (length taken ≤ KEYS_LIMIT)
+    × (keys_at ReadFault taken ≡ record { keys = keys; ending = ReadFault })
 
 -- the keys were read to their end
-pub record IsRead (start left : Option (List ℕ)) (taken : List ℕ) (keys : List Key) (ending : Ending) : Type 0 where
+pub record IsRead (start left : Option (List ℕ)) (taken : List ℕ) (keys : List Key)
+    (ending : Ending) : Type 0 where
   pub given : HasGiven start left taken keys
   pub ends : EndsBy left taken keys ending
 

@@ -1,5 +1,6 @@
 -- A reader of keys, call by call. This project's own.
-use Rattle.std.specs.Prelude.{◌≡◌, ℕ, ◌+◌, ◌-◌, ◌≤◌, ◌<◌, Bool, true, if◌then◌else◌, List, [], ◌∷◌, ◌++◌, length, Option}
+use Rattle.std.specs.Prelude.{◌≡◌, ℕ, ◌+◌, ◌-◌, ◌≤◌, ◌<◌, Bool, true, if◌then◌else◌}
+use Rattle.std.specs.Prelude.{List, [], ◌∷◌, ◌++◌, length, Option}
 use Rattle.wap_base.specs.Count.{raised}
 use Rattle.wap_base.specs.Transfer.{TakesFrom, IsAtEnd}
 use Rattle.wap_input.specs.declared.key.Key.{Key}
@@ -28,32 +29,39 @@ abbrev pub said_yet : Reading → Ending → List ℕ → Keys
 said_yet reader ending rest = keys_from ending reader.number (lines_of (reader.unread ++ rest))
 
 abbrev pub said_then : Reading → Ending → List ℕ → Keys
-said_then reader ending rest = if reader.over then record { keys = []; ending = ending } else said_yet reader ending rest
+said_then reader ending rest =
+    if reader.over then record { keys = []; ending = ending } else said_yet reader ending rest
 
 -- these bytes were taken from a source, and the reader has said these keys of them: with what it is
 -- still to say they are all
-pub record HasRead (start left : Option (List ℕ)) (taken : List ℕ) (keys : List Key) (reader : Reading) : Type 0 where
+pub record HasRead (start left : Option (List ℕ)) (taken : List ℕ) (keys : List Key)
+    (reader : Reading) : Type 0 where
   pub takes : TakesFrom start left taken
   pub counted : length taken ≡ reader.count
   pub few : reader.count ≤ KEYS_LIMIT
   pub prompt : IsPrompt taken keys
-  pub says : (ending : Ending) (rest : List ℕ) → (reader.over ≡ true → (ending ≡ End) × (rest ≡ [])) → keys_at ending (taken ++ rest) ≡ behind_keys keys (said_then reader ending rest)
+  pub says : (ending : Ending) (rest : List ℕ) → (reader.over ≡ true → (ending ≡ End) × (rest ≡ []))
+      → keys_at ending (taken ++ rest) ≡ behind_keys keys (said_then reader ending rest)
   pub ended : reader.over ≡ true → IsAtEnd left
 
-abbrev pub AnswersAt : Option (List ℕ) → Option (List ℕ) → List ℕ → List Key → Reading → Next → Type 0
-AnswersAt start left taken keys reader (next.Key key) = HasRead start left taken (keys ++ key ∷ []) reader
+abbrev pub AnswersAt : Option (List ℕ) → Option (List ℕ) → List ℕ → List Key
+    → Reading → Next → Type 0
+AnswersAt start left taken keys reader (next.Key key) =
+    HasRead start left taken (keys ++ key ∷ []) reader
 AnswersAt start left taken keys reader (next.Ended ending) = IsRead start left taken keys ending
 
 -- whatever was read before, a call goes on from it
 abbrev pub Answers : Option (List ℕ) → Option (List ℕ) → Reading → Reading → Next → Type 0
 Answers before after old new answer =
-    (start : Option (List ℕ)) (taken : List ℕ) (keys : List Key) → HasRead start before taken keys old
+    (start : Option (List ℕ)) (taken : List ℕ) (keys : List Key)
+    → HasRead start before taken keys old
     → (more : List ℕ) × AnswersAt start after (taken ++ more) keys new answer
 
 -- or a call gives up
 abbrev pub GivesUp : Option (List ℕ) → Option (List ℕ) → Reading → Type 0
 GivesUp before after old =
-    (start : Option (List ℕ)) (taken : List ℕ) (keys : List Key) → HasRead start before taken keys old
+    (start : Option (List ℕ)) (taken : List ℕ) (keys : List Key)
+    → HasRead start before taken keys old
     → (more : List ℕ) × HasGiven start after (taken ++ more) keys
 
 -- how often a source has reported its end that had reported it so often when it was begun
@@ -62,7 +70,8 @@ ends_told reader ends = if reader.over then raised ends else ends
 
 -- its end isn't reported again
 abbrev pub KeepsEnds : Reading → Reading → ℕ → ℕ → Type 0
-KeepsEnds old new before after = (ends : ℕ) → before ≡ ends_told old ends → after ≡ ends_told new ends
+KeepsEnds old new before after =
+    (ends : ℕ) → before ≡ ends_told old ends → after ≡ ends_told new ends
 
 -- or a call gives up, and the end was reported once at most
 abbrev pub GivesUpEnds : Reading → ℕ → ℕ → Type 0

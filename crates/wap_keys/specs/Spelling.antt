@@ -1,15 +1,19 @@
 -- Key lines as they are spelled: what spells a key, and why a line spells none. This project's own.
-use Rattle.std.specs.Prelude.{◌≡◌, ◌≢◌, ◌⊎◌, ◌<◌, ◌≤◌, ℕ, List, [], ◌∷◌, ◌++◌, length, not, true, Option, Some, None}
+use Rattle.std.specs.Prelude.{◌≡◌, ◌≢◌, ◌⊎◌, ◌<◌, ◌≤◌, ℕ, List, [], ◌∷◌, ◌++◌}
+use Rattle.std.specs.Prelude.{length, not, true, Option, Some, None}
 use Rattle.std.specs.List.{list_all}
 use Rattle.std.specs.Str.{chars, IsUtf8}
 use Rattle.wap_base.specs.Ascii.{space}
 use Rattle.wap_input.specs.declared.key.Key.{Key}
 use Rattle.wap_keys.specs.declared.limits.TheConstants.{LINE_LIMIT}
 use Rattle.wap_keys.specs.declared.fault.KeyFault.{KeyFault}
-use Rattle.wap_keys.specs.declared.fault.KeyFault.TheVariants.{TooLong, NotText, UnknownWord, Missing, BadNumber, Surplus, NoMemory}
+use Rattle.wap_keys.specs.declared.fault.KeyFault.TheVariants.{TooLong, NotText, UnknownWord}
+use Rattle.wap_keys.specs.declared.fault.KeyFault.TheVariants.{Missing, BadNumber, Surplus}
+use Rattle.wap_keys.specs.declared.fault.KeyFault.TheVariants.{NoMemory}
 use Rattle.wap_keys.specs.declared.word.Word.{Word}
 use Rattle.wap_keys.specs.Decimal.{decimal_of}
-use Rattle.wap_keys.specs.Forms.{Form, nothing, text, text_or_none, number, form_of, name_of, is_space}
+use Rattle.wap_keys.specs.Forms.{Form, nothing, text, text_or_none}
+use Rattle.wap_keys.specs.Forms.{number, form_of, name_of, is_space}
 
 -- a word or an argument that has no space, and one space before what follows it, if something does
 abbrev pub spaced : List ℕ → Option (List ℕ) → List ℕ
@@ -24,10 +28,13 @@ HasNoSpace bytes = list_all (λ c. not (is_space c)) bytes ≡ true
 -- what follows a form's word spells the key
 abbrev pub Spells : Form → Option (List ℕ) → Key → Type 0
 Spells (nothing key) rest said = (rest ≡ None) × (said ≡ key)
-Spells (text make) rest said = (c : ℕ) × (cs : List ℕ) × (rest ≡ Some (c ∷ cs)) × (said ≡ make (chars (c ∷ cs)))
-Spells (text_or_none make) rest said = ((rest ≡ None) × (said ≡ make [])) ⊎ ((t : List ℕ) × (rest ≡ Some t) × (said ≡ make (chars t)))
+Spells (text make) rest said =
+    (c : ℕ) × (cs : List ℕ) × (rest ≡ Some (c ∷ cs)) × (said ≡ make (chars (c ∷ cs)))
+Spells (text_or_none make) rest said =
+    ((rest ≡ None) × (said ≡ make [])) ⊎ ((t : List ℕ) × (rest ≡ Some t) × (said ≡ make (chars t)))
 Spells (number greatest form) rest said =
-    (digits : List ℕ) × (others : Option (List ℕ)) × (n : ℕ) × (rest ≡ Some (spaced digits others)) × HasNoSpace digits × (decimal_of greatest digits ≡ Some n) × Spells (form n) others said
+    (digits : List ℕ) × (others : Option (List ℕ)) × (n : ℕ) × (rest ≡ Some (spaced digits others))
+    × HasNoSpace digits × (decimal_of greatest digits ≡ Some n) × Spells (form n) others said
 
 -- or it doesn't, for a fault: arguments are looked at from the left
 abbrev pub Misspells : Form → Option (List ℕ) → KeyFault → Type 0
@@ -35,9 +42,14 @@ Misspells (nothing key) rest fault = (t : List ℕ) × (rest ≡ Some t) × (fau
 Misspells (text make) rest fault = ((rest ≡ None) ⊎ (rest ≡ Some [])) × (fault ≡ Missing)
 Misspells (text_or_none make) rest fault = ⊥
 Misspells (number greatest form) rest fault =
-    (((rest ≡ None) ⊎ ((others : Option (List ℕ)) × (rest ≡ Some (spaced [] others)))) × (fault ≡ Missing))
-    ⊎ (((argument : List ℕ) × (others : Option (List ℕ)) × (rest ≡ Some (spaced argument others)) × HasNoSpace argument × (argument ≢ []) × (decimal_of greatest argument ≡ None) × (fault ≡ BadNumber))
-    ⊎ ((digits : List ℕ) × (others : Option (List ℕ)) × (n : ℕ) × (rest ≡ Some (spaced digits others)) × HasNoSpace digits × (decimal_of greatest digits ≡ Some n) × Misspells (form n) others fault))
+    (((rest ≡ None) ⊎ ((others : Option (List ℕ)) × (rest ≡ Some (spaced [] others))))
+    × (fault ≡ Missing))
+    ⊎ (((argument : List ℕ) × (others : Option (List ℕ)) × (rest ≡ Some (spaced argument others))
+    × HasNoSpace argument × (argument ≢ []) × (decimal_of greatest argument ≡ None)
+    × (fault ≡ BadNumber))
+    ⊎ ((digits : List ℕ) × (others : Option (List ℕ)) × (n : ℕ)
+    × (rest ≡ Some (spaced digits others)) × HasNoSpace digits
+    × (decimal_of greatest digits ≡ Some n) × Misspells (form n) others fault))
 
 -- ---- lines
 
@@ -47,7 +59,10 @@ IsTextLine line = (length line ≤ LINE_LIMIT) × IsUtf8 line
 
 -- it spells a key
 abbrev pub IsKeyLine : List ℕ → Key → Type 0
-IsKeyLine line key = IsTextLine line × ((word : Word) × (rest : Option (List ℕ)) × (line ≡ spaced (name_of word) rest) × Spells (form_of word) rest key)
+IsKeyLine line key =
+    IsTextLine line
+    × ((word : Word) × (rest : Option (List ℕ)) × (line ≡ spaced (name_of word) rest)
+    × Spells (form_of word) rest key)
 
 -- it begins with no word of a form
 abbrev pub IsUnknown : List ℕ → Type 0
@@ -55,7 +70,9 @@ IsUnknown line = (word : Word) (rest : Option (List ℕ)) → line ≢ spaced (n
 
 -- it begins with a word of a form, and misspells its arguments
 abbrev pub MisspellsLine : List ℕ → KeyFault → Type 0
-MisspellsLine line fault = (word : Word) × (rest : Option (List ℕ)) × (line ≡ spaced (name_of word) rest) × Misspells (form_of word) rest fault
+MisspellsLine line fault =
+    (word : Word) × (rest : Option (List ℕ)) × (line ≡ spaced (name_of word) rest)
+    × Misspells (form_of word) rest fault
 
 -- it is no key line, for a fault
 abbrev pub IsNoKeyLine : List ℕ → KeyFault → Type 0

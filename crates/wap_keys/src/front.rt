@@ -9,7 +9,7 @@ use crate::LINE_LIMIT;
 use wap_base::NoMemory;
 
 /// What follows a line that is begun.
-#[derive(Clone, Copy, Debug, PartialEq, Eq)]
+#[derive(Clone, Copy)]
 pub(crate) enum Front {
     /// There is no line feed yet.
     Begun,

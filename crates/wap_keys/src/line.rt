@@ -10,7 +10,7 @@ use std::alloc::Global;
 use wap_base::NoMemory;
 
 /// What a line says.
-#[derive(Debug, Drop)]
+#[derive(Drop)]
 pub(crate) enum Said {
     /// It is empty, or a comment.
     Nothing,

@@ -21,7 +21,7 @@ use std::marker::Model;
 use wap_base::{Failed, NoMemory, Source};
 
 /// What a line comes to.
-#[derive(Debug, Drop)]
+#[derive(Drop)]
 pub(crate) enum Taken {
     /// It isn't whole yet.
     Begun,
@@ -29,7 +29,7 @@ pub(crate) enum Taken {
 }
 
 /// What a read comes to.
-#[derive(Clone, Copy, Debug, PartialEq, Eq)]
+#[derive(Clone, Copy)]
 pub(crate) enum More {
     Piece,
     AtEnd,

@@ -1,9 +1,10 @@
 //! The words that key lines begin with.
 ghost use Rattle.std.specs.Prelude.{◌≡◌};
+ghost use Rattle.wap_base.specs.Texts.{is_same_text};
 ghost use Rattle.wap_keys.specs.Forms.{word_named};
 
 /// The word of a form.
-#[derive(Clone, Copy, Debug, PartialEq, Eq)]
+#[derive(Clone, Copy)]
 pub(crate) enum Word {
     Open,
     Do,
@@ -19,45 +20,52 @@ pub(crate) enum Word {
     Vars,
 }
 
+/// Whether a name is that of a word.
+fn is_word(name: &[u8], word: &str) -> bool
+    ensures { result ≡ is_same_text name.now word.now }
+{
+    name == word.as_bytes()
+}
+
 impl Word {
     /// The word of a name.
     pub(crate) fn named(name: &[u8]) -> Option<Word>
         ensures { result ≡ word_named name.now }
     {
-        if name == b"open".as_slice() {
+        if is_word(name, "open") {
             return Some(Word::Open);
         }
-        if name == b"do".as_slice() {
+        if is_word(name, "do") {
             return Some(Word::Do);
         }
-        if name == b"pick".as_slice() {
+        if is_word(name, "pick") {
             return Some(Word::Pick);
         }
-        if name == b"type".as_slice() {
+        if is_word(name, "type") {
             return Some(Word::Type);
         }
-        if name == b"choose".as_slice() {
+        if is_word(name, "choose") {
             return Some(Word::Choose);
         }
-        if name == b"back".as_slice() {
+        if is_word(name, "back") {
             return Some(Word::Back);
         }
-        if name == b"tick".as_slice() {
+        if is_word(name, "tick") {
             return Some(Word::Tick);
         }
-        if name == b"ok".as_slice() {
+        if is_word(name, "ok") {
             return Some(Word::Ok);
         }
-        if name == b"cancel".as_slice() {
+        if is_word(name, "cancel") {
             return Some(Word::Cancel);
         }
-        if name == b"answer".as_slice() {
+        if is_word(name, "answer") {
             return Some(Word::Answer);
         }
-        if name == b"stop".as_slice() {
+        if is_word(name, "stop") {
             return Some(Word::Stop);
         }
-        if name == b"vars".as_slice() {
+        if is_word(name, "vars") {
             return Some(Word::Vars);
         }
         None

@@ -1,7 +1,9 @@
 -- A draft that grows is the draft of the longer text.
-use Rattle.std.proofs.Common.{◌≡◌, ℕ, ◌+◌, ◌^◌, ◌<◌, ◌≤◌, List, ◌++◌, Option, Some, None, Result, Ok, Err, refl, ap, ap₂, sym, ◌∙◌, inl, inr, arith}
+use Rattle.std.proofs.Common.{◌≡◌, ℕ, ◌+◌, ◌^◌, ◌<◌, ◌≤◌, List, ◌++◌, Option, Some, None}
+use Rattle.std.proofs.Common.{Result, Ok, Err, refl, ap, ap₂, sym, ◌∙◌, inl, inr, arith}
 use Rattle.std.specs.Prelude.{nat_le, nat_lt, MatchOption, option_map, if◌then◌else◌}
-use Rattle.std.proofs.lemmas.Bool.{cases_Bool, cases_lt, cond-true, cond-false, leb-true, le-leb, lt-leb, lt-ltb, le-ltb}
+use Rattle.std.proofs.lemmas.Bool.{cases_Bool, cases_lt, cond-true, cond-false}
+use Rattle.std.proofs.lemmas.Bool.{leb-true, le-leb, lt-leb, lt-ltb, le-ltb}
 use Rattle.wap_base.specs.Outcome.{Meets}
 use Rattle.wap_base.specs.Utf8.{utf8_len}
 use Rattle.wap_base.proofs.Utf8Lengths.{utf8_len-append}
@@ -14,35 +16,51 @@ counted-more : (a b : ℕ) → counted (counted a + b) ≡ counted (a + b)
 counted-more a b = omega arith
 
 text-grown : (limit a b : ℕ) (s more : List ℕ) → a ≤ b
-    → (if nat_le b limit then option_map (λ t. t ++ more) (if nat_le a limit then Some s else None) else None) ≡ (if nat_le b limit then Some (s ++ more) else None)
+    → (if nat_le b limit
+    then option_map (λ t. t ++ more) (if nat_le a limit then Some s else None) else None)
+    ≡ (if nat_le b limit then Some (s ++ more) else None)
 text-grown limit a b s more below = elim (cases_Bool (nat_le b limit)) [
   | inl fits ↦
-      rw fits (ap (option_map (λ t. t ++ more)) (cond-true (nat_le a limit) (Some s) None (le-leb a limit (omega (arith, leb-true b limit fits)))))
+      rw fits (ap (option_map (λ t. t ++ more)) (cond-true (nat_le a limit) (Some s) None
+      (le-leb a limit (omega (arith, leb-true b limit fits)))))
   | inr past ↦ rw past refl
 ]
 
-pub grown-draft_of : (limit : ℕ) (s more : List ℕ) → grown (draft_of limit s) more ≡ draft_of limit (s ++ more)
+pub grown-draft_of : (limit : ℕ) (s more : List ℕ)
+    → grown (draft_of limit s) more ≡ draft_of limit (s ++ more)
 grown-draft_of limit s more =
-    let bytes : counted (counted (utf8_len s) + utf8_len more) ≡ counted (utf8_len (s ++ more)) = counted-more (utf8_len s) (utf8_len more) ∙ ap counted (sym (utf8_len-append s more)) in
-    let longer : counted (utf8_len s) ≤ counted (counted (utf8_len s) + utf8_len more) = omega arith in
+    let bytes : counted (counted (utf8_len s) + utf8_len more) ≡ counted (utf8_len (s ++ more)) =
+    counted-more (utf8_len s) (utf8_len more) ∙ ap counted (sym (utf8_len-append s more)) in
+    let longer : counted (utf8_len s) ≤ counted (counted (utf8_len s) + utf8_len more) =
+    omega arith in
     ap₂ (λ (t : Option (List ℕ)) (b : ℕ). record { text = t; bytes = b; limit = limit })
-    (text-grown limit (counted (utf8_len s)) (counted (counted (utf8_len s) + utf8_len more)) s more longer
+    (text-grown limit (counted (utf8_len s))
+    (counted (counted (utf8_len s) + utf8_len more)) s more longer
     ∙ ap (λ (b : ℕ). if nat_le b limit then Some (s ++ more) else None) bytes)
     bytes
 
 -- a draft within a limit of 32 bits is the text, and one past it counts its bytes
-pub finished : (limit : ℕ) (s : List ℕ) → limit < 2 ^ 32 → (t : Option (List ℕ)) → t ≡ (draft_of limit s).text
-    → MatchOption t (kept_within limit (Str s) ≡ Err (TooLong (counted (utf8_len s)))) (λ kept. kept_within limit (Str s) ≡ Ok (Str kept))
+pub finished : (limit : ℕ) (s : List ℕ) → limit < 2 ^ 32 → (t : Option (List ℕ))
+    → t ≡ (draft_of limit s).text
+    → MatchOption t (kept_within limit (Str s) ≡ Err (TooLong (counted (utf8_len s))))
+    (λ kept. kept_within limit (Str s) ≡ Ok (Str kept))
 finished limit s small t is = elim (cases_lt limit (utf8_len s)) [
   | inl past ↦
-      let none : t ≡ None = is ∙ cond-false (nat_le (counted (utf8_len s)) limit) (Some s) None (lt-leb (counted (utf8_len s)) limit (omega arith)) in
-      rw none (cond-true (nat_lt limit (utf8_len s)) (Err (TooLong (counted (utf8_len s)))) (Ok (Str s)) (lt-ltb limit (utf8_len s) past))
+      let none : t ≡ None =
+      is ∙ cond-false (nat_le (counted (utf8_len s)) limit) (Some s) None
+      (lt-leb (counted (utf8_len s)) limit (omega arith)) in
+      rw none (cond-true (nat_lt limit (utf8_len s)) (Err (TooLong (counted (utf8_len s))))
+      (Ok (Str s)) (lt-ltb limit (utf8_len s) past))
   | inr within ↦
-      let some : t ≡ Some s = is ∙ cond-true (nat_le (counted (utf8_len s)) limit) (Some s) None (le-leb (counted (utf8_len s)) limit (omega arith)) in
-      rw some (cond-false (nat_lt limit (utf8_len s)) (Err (TooLong (counted (utf8_len s)))) (Ok (Str s)) (le-ltb limit (utf8_len s) within))
+      let some : t ≡ Some s =
+      is ∙ cond-true (nat_le (counted (utf8_len s)) limit) (Some s) None
+      (le-leb (counted (utf8_len s)) limit (omega arith)) in
+      rw some (cond-false (nat_lt limit (utf8_len s)) (Err (TooLong (counted (utf8_len s))))
+      (Ok (Str s)) (le-ltb limit (utf8_len s) within))
 ]
 
 -- an answer that is the reading's meets it
-pub meets_same : {A E : Type 0} (want : E) (r reading : Result A E) → r ≡ reading → Meets want (λ (v : A). v) r reading
+pub meets_same : {A E : Type 0} (want : E) (r reading : Result A E) → r ≡ reading
+    → Meets want (λ (v : A). v) r reading
 meets_same want (Ok x) reading same = sym same
 meets_same want (Err fault) reading same = λ _. sym same

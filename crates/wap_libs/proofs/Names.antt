@@ -1,5 +1,6 @@
 -- Texts of ASCII are their own bytes, and what bytes spell.
-use Rattle.std.proofs.Common.{◌≡◌, ◌≢◌, ℕ, zero, suc, ◌^◌, ◌<◌, List, Some, None, Result, Ok, Err, refl, inl, inr}
+use Rattle.std.proofs.Common.{◌≡◌, ◌≢◌, ℕ, zero, suc, ◌^◌, ◌<◌, List, Some}
+use Rattle.std.proofs.Common.{None, Result, Ok, Err, refl, inl, inr}
 use Rattle.std.specs.Prelude.{codes, is_some, is_ok, decimal}
 use Rattle.std.specs.Result.{result_ok}
 use Rattle.std.specs.Str.{chars, is_utf8, IsUtf8}
@@ -26,7 +27,8 @@ is_some_of_ok (Ok x) = refl
 is_some_of_ok (Err e) = refl
 
 pub text_of_utf8 : (bytes : List ℕ) → IsUtf8 bytes → text_of_bytes bytes ≡ Some (chars bytes)
-text_of_utf8 bytes spelled = cond-true (is_utf8 bytes) (Some (chars bytes)) None (is_utf8-from_IsUtf8 bytes spelled)
+text_of_utf8 bytes spelled =
+    cond-true (is_utf8 bytes) (Some (chars bytes)) None (is_utf8-from_IsUtf8 bytes spelled)
 
 pub text_of_no_utf8 : (bytes : List ℕ) → (IsUtf8 bytes → ⊥) → text_of_bytes bytes ≡ None
 text_of_no_utf8 bytes never = elim (cases_Bool (is_utf8 bytes)) [

@@ -1,5 +1,6 @@
 -- A text that is parted into elements, and elements that are joined.
-use Rattle.std.proofs.Common.{◌≡◌, ℕ, ◌<◌, Bool, true, false, List, [], ◌∷◌, ◌++◌, length, refl, ap, sym, ◌∙◌, inl, inr, append_assoc, append-nil, arith}
+use Rattle.std.proofs.Common.{◌≡◌, ℕ, ◌<◌, Bool, true, false, List, [], ◌∷◌, ◌++◌, length, refl}
+use Rattle.std.proofs.Common.{ap, sym, ◌∙◌, inl, inr, append_assoc, append-nil, arith}
 use Rattle.std.specs.List.{slice_split, onto_first, join_with_byte}
 use Rattle.std.proofs.lemmas.Bool.{cases_Bool}
 
@@ -18,7 +19,8 @@ onto-nil p (x ∷ s) = elim (cases_Bool (p x)) [
   same [] = refl
   same (part ∷ parts) = refl
 
-onto-push : (e : List ℕ) (x : ℕ) (parts : List (List ℕ)) → onto e (onto_first x parts) ≡ onto (e ++ x ∷ []) parts
+onto-push : (e : List ℕ) (x : ℕ) (parts : List (List ℕ))
+    → onto e (onto_first x parts) ≡ onto (e ++ x ∷ []) parts
 onto-push e x [] = refl
 onto-push e x (part ∷ parts) = ap (λ first. first ∷ parts) (sym (append_assoc e (x ∷ []) part))
 
@@ -27,15 +29,19 @@ pub parted_end : (p : ℕ → Bool) (es : List (List ℕ)) (e : List ℕ) (x : �
     → es ++ onto e (slice_split p (x ∷ s)) ≡ (es ++ e ∷ []) ++ onto [] (slice_split p s)
 parted_end p es e x s holds =
     rw holds (ap (λ first. es ++ first ∷ slice_split p s) (append-nil e))
-    ∙ sym (ap (λ parts. (es ++ e ∷ []) ++ parts) (onto-nil p s) ∙ append_assoc es (e ∷ []) (slice_split p s))
+    ∙ sym (ap (λ parts. (es ++ e ∷ []) ++ parts) (onto-nil p s)
+    ∙ append_assoc es (e ∷ []) (slice_split p s))
 
 -- any other character goes to its end
-pub parted_more : (p : ℕ → Bool) (es : List (List ℕ)) (e : List ℕ) (x : ℕ) (s : List ℕ) → p x ≡ false
+pub parted_more : (p : ℕ → Bool) (es : List (List ℕ)) (e : List ℕ) (x : ℕ) (s : List ℕ)
+    → p x ≡ false
     → es ++ onto e (slice_split p (x ∷ s)) ≡ es ++ onto (e ++ x ∷ []) (slice_split p s)
-parted_more p es e x s fails = rw fails (ap (λ parts. es ++ parts) (onto-push e x (slice_split p s)))
+parted_more p es e x s fails =
+    rw fails (ap (λ parts. es ++ parts) (onto-push e x (slice_split p s)))
 
 -- one element more
-pub join-push : (c : ℕ) (es : List (List ℕ)) (e : List ℕ) → 0 < length es → join_with_byte c (es ++ e ∷ []) ≡ join_with_byte c es ++ (c ∷ e)
+pub join-push : (c : ℕ) (es : List (List ℕ)) (e : List ℕ) → 0 < length es
+    → join_with_byte c (es ++ e ∷ []) ≡ join_with_byte c es ++ (c ∷ e)
 join-push c [] e some = absurd (omega arith)
 join-push c (x ∷ []) e some = refl
 join-push c (x ∷ y ∷ es) e some =

@@ -37,7 +37,6 @@ pub fn characters(alloc: Global, text: &Text) -> Result<Rows<char>, NoMemory>
     Ok(Rows::from_vec(collected(alloc, text.as_str())?))
 }
 
-#[tactic(auto, using(std::proofs::lemmas::Str::chars_from_encodes))]
 fn collected(alloc: Global, text: &str) -> Result<Vec<char>, NoMemory>
     ensures { IfOk result (λ characters. characters.items ≡ chars text.now) }
 {

@@ -37,38 +37,38 @@ pub fn call_string(
 {
     let first = argument(args, 0);
     let value = match function {
-        StringFunction::Length => string_length(alloc, first)?,
-        StringFunction::IsEmpty => string_is_empty(alloc, first)?,
-        StringFunction::CharAt => string_char_at(alloc, first, argument(args, 1))?,
-        StringFunction::Find => string_find(alloc, first, argument(args, 1))?,
+        StringFunction::Length => string_length(alloc, first),
+        StringFunction::IsEmpty => string_is_empty(alloc, first),
+        StringFunction::CharAt => string_char_at(alloc, first, argument(args, 1)),
+        StringFunction::Find => string_find(alloc, first, argument(args, 1)),
         StringFunction::Replace => {
             return string_replace(alloc, first, argument(args, 1), argument(args, 2), limit);
         }
-        StringFunction::Squeeze => string_squeeze(alloc, first)?,
-        StringFunction::Trim => string_trim(alloc, first)?,
-        StringFunction::Compare => string_compare(alloc, first, argument(args, 1))?,
-        StringFunction::ToString => Value::Str(shown(alloc, first)?),
-        StringFunction::Format => string_format(alloc, first, argument(args, 1))?,
+        StringFunction::Squeeze => string_squeeze(alloc, first),
+        StringFunction::Trim => string_trim(alloc, first),
+        StringFunction::Compare => string_compare(alloc, first, argument(args, 1)),
+        StringFunction::ToString => string_to_string(alloc, first),
+        StringFunction::Format => string_format(alloc, first, argument(args, 1)),
         StringFunction::SubString => {
-            string_sub_string(alloc, first, argument(args, 1), argument(args, 2))?
+            string_sub_string(alloc, first, argument(args, 1), argument(args, 2))
         }
-        StringFunction::Elements => string_elements(alloc, first, argument(args, 1))?,
+        StringFunction::Elements => string_elements(alloc, first, argument(args, 1)),
         StringFunction::ElementAt => {
-            string_element_at(alloc, first, argument(args, 1), argument(args, 2))?
+            string_element_at(alloc, first, argument(args, 1), argument(args, 2))
         }
         StringFunction::RemoveAt => {
-            string_remove_at(alloc, first, argument(args, 1), argument(args, 2))?
+            string_remove_at(alloc, first, argument(args, 1), argument(args, 2))
         }
         StringFunction::ReplaceAt => {
             let (new, place) = (argument(args, 1), argument(args, 2));
-            string_replace_at(alloc, first, new, place, argument(args, 3))?
+            string_replace_at(alloc, first, new, place, argument(args, 3))
         }
         StringFunction::InsertAt => {
             let (new, place) = (argument(args, 1), argument(args, 2));
-            string_insert_at(alloc, first, new, place, argument(args, 3))?
+            string_insert_at(alloc, first, new, place, argument(args, 3))
         }
     };
-    kept(value, limit)
+    kept(value?, limit)
 }
 
 fn string_length(alloc: Global, value: &Value) -> Result<Value, NoMemory>
@@ -92,12 +92,15 @@ fn string_is_empty(alloc: Global, value: &Value) -> Result<Value, NoMemory>
 fn string_char_at(alloc: Global, value: &Value, place: &Value) -> Result<Value, NoMemory>
     ensures { IfOk result (λ answer. answer ≡ string_char_at value.now place.now) }
 {
-    match (characters_of(alloc, value)?, to_int(place)) {
-        (Some(characters), Some(place)) => {
+    let Some(characters) = characters_of(alloc, value)? else {
+        return Ok(Value::Invalid);
+    };
+    match to_int(place) {
+        Some(place) => {
             let found = character_at(characters.as_slice(), place);
-            Ok(Value::Str(text(alloc, found)?))
+            text(alloc, found).map(Value::Str)
         }
-        _ => Ok(Value::Invalid),
+        None => Ok(Value::Invalid),
     }
 }
 
@@ -119,10 +122,13 @@ fn string_sub_string(
 ) -> Result<Value, NoMemory>
     ensures { IfOk result (λ answer. answer ≡ string_sub_string value.now start.now count.now) }
 {
-    match (characters_of(alloc, value)?, to_int(start), to_int(count)) {
-        (Some(characters), Some(start), Some(count)) => {
+    let Some(characters) = characters_of(alloc, value)? else {
+        return Ok(Value::Invalid);
+    };
+    match (to_int(start), to_int(count)) {
+        (Some(start), Some(count)) => {
             let found = part(characters.as_slice(), from_zero(start), from_zero(count));
-            Ok(Value::Str(text(alloc, found)?))
+            text(alloc, found).map(Value::Str)
         }
         _ => Ok(Value::Invalid),
     }
@@ -142,9 +148,12 @@ fn some_text_of(alloc: Global, value: &Value) -> Result<Option<Text>, NoMemory>
 fn string_find(alloc: Global, value: &Value, part: &Value) -> Result<Value, NoMemory>
     ensures { IfOk result (λ answer. answer ≡ string_find value.now part.now) }
 {
-    match (to_str(alloc, value)?, some_text_of(alloc, part)?) {
-        (Some(text), Some(part)) => { Ok(place_value(place_of(part.as_str(), text.as_str()))) }
-        _ => Ok(Value::Invalid),
+    let Some(text) = to_str(alloc, value)? else {
+        return Ok(Value::Invalid);
+    };
+    match some_text_of(alloc, part)? {
+        Some(part) => Ok(place_value(place_of(part.as_str(), text.as_str()))),
+        None => Ok(Value::Invalid),
     }
 }
 
@@ -168,16 +177,16 @@ fn string_replace(
     ensures { Meets LibFault.NoMemory (λ value. value) result
         (kept_within limit (string_replace value.now old.now new.now)) }
 {
-    match (
-        to_str(alloc, value)?,
-        some_text_of(alloc, old)?,
-        to_str(alloc, new)?,
-    ) {
-        (Some(text), Some(old), Some(new)) => {
-            replaced(alloc, old.as_str(), new.as_str(), text.as_str(), limit)
-        }
-        _ => Ok(Value::Invalid),
-    }
+    let Some(text) = to_str(alloc, value)? else {
+        return Ok(Value::Invalid);
+    };
+    let Some(old) = some_text_of(alloc, old)? else {
+        return Ok(Value::Invalid);
+    };
+    let Some(new) = to_str(alloc, new)? else {
+        return Ok(Value::Invalid);
+    };
+    replaced(alloc, old.as_str(), new.as_str(), text.as_str(), limit)
 }
 
 /// The separator that a value gives: the first character of its String.
@@ -193,15 +202,15 @@ fn separator_of(alloc: Global, value: &Value) -> Result<Option<char>, NoMemory>
 fn string_elements(alloc: Global, value: &Value, separator: &Value) -> Result<Value, NoMemory>
     ensures { IfOk result (λ answer. answer ≡ string_elements value.now separator.now) }
 {
-    match (
-        characters_of(alloc, value)?,
-        separator_of(alloc, separator)?,
-    ) {
-        (Some(characters), Some(separator)) => {
+    let Some(characters) = characters_of(alloc, value)? else {
+        return Ok(Value::Invalid);
+    };
+    match separator_of(alloc, separator)? {
+        Some(separator) => {
             let elements = elements(alloc, separator, characters.as_slice())?;
             Ok(number(elements.len()))
         }
-        _ => Ok(Value::Invalid),
+        None => Ok(Value::Invalid),
     }
 }
 
@@ -213,12 +222,13 @@ fn string_element_at(
 ) -> Result<Value, NoMemory>
     ensures { IfOk result (λ answer. answer ≡ string_element_at value.now place.now separator.now) }
 {
-    let separator = separator_of(alloc, separator)?;
-    match (characters_of(alloc, value)?, to_int(place), separator) {
-        (Some(characters), Some(place), Some(separator)) => {
+    let Some(characters) = characters_of(alloc, value)? else {
+        return Ok(Value::Invalid);
+    };
+    match (to_int(place), separator_of(alloc, separator)?) {
+        (Some(place), Some(separator)) => {
             let place = from_zero(place);
-            let found = element_at(alloc, separator, place, characters.as_slice())?;
-            Ok(Value::Str(found))
+            element_at(alloc, separator, place, characters.as_slice()).map(Value::Str)
         }
         _ => Ok(Value::Invalid),
     }
@@ -232,12 +242,13 @@ fn string_remove_at(
 ) -> Result<Value, NoMemory>
     ensures { IfOk result (λ answer. answer ≡ string_remove_at value.now place.now separator.now) }
 {
-    let separator = separator_of(alloc, separator)?;
-    match (characters_of(alloc, value)?, to_int(place), separator) {
-        (Some(characters), Some(place), Some(separator)) => {
+    let Some(characters) = characters_of(alloc, value)? else {
+        return Ok(Value::Invalid);
+    };
+    match (to_int(place), separator_of(alloc, separator)?) {
+        (Some(place), Some(separator)) => {
             let place = from_zero(place);
-            let text = without_element(alloc, separator, place, characters.as_slice())?;
-            Ok(Value::Str(text))
+            without_element(alloc, separator, place, characters.as_slice()).map(Value::Str)
         }
         _ => Ok(Value::Invalid),
     }
@@ -253,12 +264,16 @@ fn string_replace_at(
     ensures { IfOk result (λ answer.
         answer ≡ string_replace_at value.now new.now place.now separator.now) }
 {
-    let (new, separator) = (to_str(alloc, new)?, separator_of(alloc, separator)?);
-    match (characters_of(alloc, value)?, new, to_int(place), separator) {
-        (Some(characters), Some(new), Some(place), Some(separator)) => {
+    let Some(characters) = characters_of(alloc, value)? else {
+        return Ok(Value::Invalid);
+    };
+    let Some(new) = to_str(alloc, new)? else {
+        return Ok(Value::Invalid);
+    };
+    match (to_int(place), separator_of(alloc, separator)?) {
+        (Some(place), Some(separator)) => {
             let place = from_zero(place);
-            let text = with_element(alloc, separator, place, new, characters.as_slice())?;
-            Ok(Value::Str(text))
+            with_element(alloc, separator, place, new, characters.as_slice()).map(Value::Str)
         }
         _ => Ok(Value::Invalid),
     }
@@ -274,12 +289,16 @@ fn string_insert_at(
     ensures { IfOk result (λ answer.
         answer ≡ string_insert_at value.now new.now place.now separator.now) }
 {
-    let (new, separator) = (to_str(alloc, new)?, separator_of(alloc, separator)?);
-    match (characters_of(alloc, value)?, new, to_int(place), separator) {
-        (Some(characters), Some(new), Some(place), Some(separator)) => {
+    let Some(characters) = characters_of(alloc, value)? else {
+        return Ok(Value::Invalid);
+    };
+    let Some(new) = to_str(alloc, new)? else {
+        return Ok(Value::Invalid);
+    };
+    match (to_int(place), separator_of(alloc, separator)?) {
+        (Some(place), Some(separator)) => {
             let place = from_zero(place);
-            let text = with_element_before(alloc, separator, place, new, characters.as_slice())?;
-            Ok(Value::Str(text))
+            with_element_before(alloc, separator, place, new, characters.as_slice()).map(Value::Str)
         }
         _ => Ok(Value::Invalid),
     }
@@ -289,7 +308,7 @@ fn string_squeeze(alloc: Global, value: &Value) -> Result<Value, NoMemory>
     ensures { IfOk result (λ answer. answer ≡ string_squeeze value.now) }
 {
     match characters_of(alloc, value)? {
-        Some(characters) => Ok(Value::Str(squeezed(alloc, characters.as_slice())?)),
+        Some(characters) => squeezed(alloc, characters.as_slice()).map(Value::Str),
         None => Ok(Value::Invalid),
     }
 }
@@ -298,7 +317,7 @@ fn string_trim(alloc: Global, value: &Value) -> Result<Value, NoMemory>
     ensures { IfOk result (λ answer. answer ≡ string_trim value.now) }
 {
     match characters_of(alloc, value)? {
-        Some(characters) => Ok(Value::Str(text(alloc, trimmed(characters.as_slice()))?)),
+        Some(characters) => text(alloc, trimmed(characters.as_slice())).map(Value::Str),
         None => Ok(Value::Invalid),
     }
 }
@@ -306,9 +325,12 @@ fn string_trim(alloc: Global, value: &Value) -> Result<Value, NoMemory>
 fn string_compare(alloc: Global, left: &Value, right: &Value) -> Result<Value, NoMemory>
     ensures { IfOk result (λ answer. answer ≡ string_compare left.now right.now) }
 {
-    match (to_str(alloc, left)?, to_str(alloc, right)?) {
-        (Some(left), Some(right)) => Ok(order_value(left.cmp(&right))),
-        _ => Ok(Value::Invalid),
+    let Some(left) = to_str(alloc, left)? else {
+        return Ok(Value::Invalid);
+    };
+    match to_str(alloc, right)? {
+        Some(right) => Ok(order_value(left.cmp(&right))),
+        None => Ok(Value::Invalid),
     }
 }
 
@@ -320,6 +342,12 @@ fn order_value(order: Ordering) -> Value
         Ordering::Equal => Value::Int(0),
         Ordering::Greater => Value::Int(1),
     }
+}
+
+fn string_to_string(alloc: Global, value: &Value) -> Result<Value, NoMemory>
+    ensures { IfOk result (λ answer. answer ≡ string_to_string value.now) }
+{
+    shown(alloc, value).map(Value::Str)
 }
 
 fn string_format(alloc: Global, format: &Value, value: &Value) -> Result<Value, NoMemory>

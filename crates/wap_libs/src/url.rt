@@ -7,7 +7,7 @@ ghost use Rattle.wap_library.specs.Elements.{elements};
 ghost use Rattle.wap_url.specs.Reading.{url_at};
 ghost use Rattle.wap_library.specs.Outcome.{kept_within};
 ghost use Rattle.wap_library.specs.Row.{value_given, values_taken};
-ghost use Rattle.wap_library.specs.Url.{formula_of_url, url_of, part_value, parameters};
+ghost use Rattle.wap_library.specs.Url.{formula_of_url, url_of, on_url, part_value, parameters};
 ghost use Rattle.wap_library.specs.Url.{without_parameters, is_base, resolved, text_of_bytes};
 ghost use Rattle.wap_library.specs.Url.{last_segment, url_is_valid, url_get_scheme, url_get_host};
 ghost use Rattle.wap_library.specs.Url.{url_get_port, url_get_path, url_get_parameters};
@@ -35,19 +35,19 @@ pub fn call_url(
 {
     let first = argument(args, 0);
     let value = match function {
-        UrlFunction::IsValid => url_is_valid(alloc, first)?,
-        UrlFunction::GetScheme => url_get_scheme(alloc, first)?,
-        UrlFunction::GetHost => url_get_host(alloc, first)?,
-        UrlFunction::GetPort => url_get_port(alloc, first)?,
-        UrlFunction::GetPath => url_get_path(alloc, first)?,
-        UrlFunction::GetParameters => url_get_parameters(alloc, first)?,
-        UrlFunction::GetQuery => url_get_query(alloc, first)?,
-        UrlFunction::GetFragment => url_get_fragment(alloc, first)?,
-        UrlFunction::Resolve => url_resolve(alloc, first, argument(args, 1))?,
-        UrlFunction::EscapeString => url_escape_string(alloc, first)?,
-        UrlFunction::UnescapeString => url_unescape_string(alloc, first)?,
+        UrlFunction::IsValid => url_is_valid(alloc, first),
+        UrlFunction::GetScheme => url_get_scheme(alloc, first),
+        UrlFunction::GetHost => url_get_host(alloc, first),
+        UrlFunction::GetPort => url_get_port(alloc, first),
+        UrlFunction::GetPath => url_get_path(alloc, first),
+        UrlFunction::GetParameters => url_get_parameters(alloc, first),
+        UrlFunction::GetQuery => url_get_query(alloc, first),
+        UrlFunction::GetFragment => url_get_fragment(alloc, first),
+        UrlFunction::Resolve => url_resolve(alloc, first, argument(args, 1)),
+        UrlFunction::EscapeString => url_escape_string(alloc, first),
+        UrlFunction::UnescapeString => url_unescape_string(alloc, first),
     };
-    kept(value, limit)
+    kept(value?, limit)
 }
 
 /// The URL that a value spells.
@@ -118,7 +118,7 @@ fn url_get_path(alloc: Global, value: &Value) -> Result<Value, NoMemory>
     ensures { IfOk result (λ answer. answer ≡ url_get_path value.now) }
 {
     match url_of(alloc, value)? {
-        Some(url) => Ok(Value::Str(without_parameters(alloc, &url.path)?)),
+        Some(url) => without_parameters(alloc, &url.path).map(Value::Str),
         None => Ok(Value::Invalid),
     }
 }
@@ -127,7 +127,7 @@ fn url_get_parameters(alloc: Global, value: &Value) -> Result<Value, NoMemory>
     ensures { IfOk result (λ answer. answer ≡ url_get_parameters value.now) }
 {
     match url_of(alloc, value)? {
-        Some(url) => Ok(Value::Str(parameters(alloc, &url.path)?)),
+        Some(url) => parameters(alloc, &url.path).map(Value::Str),
         None => Ok(Value::Invalid),
     }
 }
@@ -196,9 +196,18 @@ fn without_parameters(alloc: Global, path: &Text) -> Result<Text, NoMemory>
 fn url_resolve(alloc: Global, base: &Value, reference: &Value) -> Result<Value, NoMemory>
     ensures { IfOk result (λ answer. answer ≡ url_resolve base.now reference.now) }
 {
-    match (url_of(alloc, base)?, url_of(alloc, reference)?) {
-        (Some(base), Some(reference)) => resolved(alloc, &base, &reference),
-        _ => Ok(Value::Invalid),
+    match url_of(alloc, base)? {
+        Some(base) => resolve_on(alloc, &base, reference),
+        None => Ok(Value::Invalid),
+    }
+}
+
+fn resolve_on(alloc: Global, base: &Url, reference: &Value) -> Result<Value, NoMemory>
+    ensures { IfOk result (λ answer. answer ≡ on_url reference.now (λ u. resolved base.now u)) }
+{
+    match url_of(alloc, reference)? {
+        Some(reference) => resolved(alloc, base, &reference),
+        None => Ok(Value::Invalid),
     }
 }
 
@@ -210,7 +219,7 @@ fn resolved(alloc: Global, base: &Url, reference: &Url) -> Result<Value, NoMemor
         return Ok(Value::Invalid);
     }
     let joined = join(alloc, base, reference)?;
-    Ok(Value::Str(print(alloc, &joined)?))
+    print(alloc, &joined).map(Value::Str)
 }
 
 fn is_base(url: &Url) -> bool
@@ -223,7 +232,7 @@ fn url_escape_string(alloc: Global, value: &Value) -> Result<Value, NoMemory>
     ensures { IfOk result (λ answer. answer ≡ url_escape_string value.now) }
 {
     match to_str(alloc, value)? {
-        Some(text) => Ok(Value::Str(escape(alloc, &text)?)),
+        Some(text) => escape(alloc, &text).map(Value::Str),
         None => Ok(Value::Invalid),
     }
 }

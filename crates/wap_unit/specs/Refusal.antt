@@ -2,7 +2,8 @@
 -- refusal speaks of the length of the whole input, of the bytes that are left of it after whole
 -- items, and of a fault; the place of the first byte that is left is the difference of the lengths.
 -- This project's own.
-use Rattle.std.specs.Prelude.{◌≡◌, ◌≢◌, ℕ, ◌-◌, ◌<◌, ◌≤◌, ◌⊎◌, Bool, true, false, nat_lt, List, [], ◌∷◌, ◌++◌, length, Option, Some, None}
+use Rattle.std.specs.Prelude.{◌≡◌, ◌≢◌, ℕ, ◌-◌, ◌<◌, ◌≤◌, ◌⊎◌, Bool, true, false, nat_lt}
+use Rattle.std.specs.Prelude.{List, [], ◌∷◌, ◌++◌, length, Option, Some, None}
 use Rattle.std.specs.Str.{is_utf8}
 use Rattle.wap_base.specs.Numbers.{IsMb, EndsInside, IsTooLong}
 use Rattle.wap_base.specs.declared.charset.Charset.{Charset}
@@ -17,7 +18,8 @@ use Rattle.wap_unit.specs.declared.kind.PragmaKind.{PragmaKind}
 use Rattle.wap_unit.specs.declared.kind.PragmaKind.TheVariants as pragma
 use Rattle.wap_unit.specs.Kinds.{constant_kind, pragma_kind}
 use Rattle.wap_unit.specs.Sequences.{IsByte, IsSized, IsRow, IsCounted}
-use Rattle.wap_unit.specs.Units.{IsConstant, AreConstants, IsPragma, IsName, IsFunction, IsHead, IsBody}
+use Rattle.wap_unit.specs.Units.{IsConstant, AreConstants, IsPragma}
+use Rattle.wap_unit.specs.Units.{IsName, IsFunction, IsHead, IsBody}
 
 -- the length of the input, what is left of it, and the fault
 abbrev pub Refusal : Type 1
@@ -39,12 +41,14 @@ LacksBytes size end left found = (length left < size) × (found ≡ fault.Short 
 -- no number stands here: the input ends inside it, or it is too long
 abbrev pub RefusesNumber : Refusal
 RefusesNumber end left found =
-    (EndsInside left × (found ≡ fault.Short end)) ⊎ (IsTooLong left × (found ≡ fault.Number (end - length left)))
+    (EndsInside left × (found ≡ fault.Short end))
+    ⊎ (IsTooLong left × (found ≡ fault.Number (end - length left)))
 
 -- ---- one item after the other
 
 -- a whole item, after which the next one is refused
-pub record Behind {A : Type 0} (Is : List ℕ → A → Type 0) (Next : A → Refusal) (end : ℕ) (left : List ℕ) (found : UnitFault) : Type 0 where
+pub record Behind {A : Type 0} (Is : List ℕ → A → Type 0) (Next : A → Refusal) (end : ℕ)
+    (left : List ℕ) (found : UnitFault) : Type 0 where
   pub value : A
   pub front : List ℕ
   pub rest : List ℕ
@@ -58,10 +62,12 @@ RefusesInTurn First Is Next end left found = First end left found ⊎ Behind Is 
 
 -- a test isn't passed, or it is and what follows is refused
 abbrev pub RefusesUnless : Bool → UnitFault → Refusal → Refusal
-RefusesUnless test failed Next end left found = ((test ≡ false) × (found ≡ failed)) ⊎ ((test ≡ true) × Next end left found)
+RefusesUnless test failed Next end left found =
+    ((test ≡ false) × (found ≡ failed)) ⊎ ((test ≡ true) × Next end left found)
 
 -- some whole things, fewer than there have to be, and then one that is refused
-pub record RefusesRow {A : Type 0} (count : ℕ) (Is : List ℕ → A → Type 0) (Refuses : Refusal) (end : ℕ) (left : List ℕ) (found : UnitFault) : Type 0 where
+pub record RefusesRow {A : Type 0} (count : ℕ) (Is : List ℕ → A → Type 0) (Refuses : Refusal)
+    (end : ℕ) (left : List ℕ) (found : UnitFault) : Type 0 where
   pub whole : List A
   pub front : List ℕ
   pub rest : List ℕ
@@ -82,7 +88,8 @@ abbrev pub RefusesSized : Refusal
 RefusesSized = RefusesInTurn RefusesNumber IsMb (λ size. LacksBytes size)
 
 abbrev pub RefusesText : (List ℕ → Bool) → UnitFault → Refusal
-RefusesText test failed = RefusesInTurn RefusesSized IsSized (λ content. RefusesUnless (test content) failed Never)
+RefusesText test failed =
+    RefusesInTurn RefusesSized IsSized (λ content. RefusesUnless (test content) failed Never)
 
 -- ---- constants
 
@@ -98,17 +105,22 @@ RefusesValue charset at (Some constant.Int8) end left found = LacksBytes 1 end l
 RefusesValue charset at (Some constant.Int16) end left found = LacksBytes 2 end left found
 RefusesValue charset at (Some constant.Int32) end left found = LacksBytes 4 end left found
 RefusesValue charset at (Some constant.Float) end left found = LacksBytes 4 end left found
-RefusesValue charset at (Some constant.Utf8) end left found = RefusesText is_utf8 (fault.Text at) end left found
+RefusesValue charset at (Some constant.Utf8) end left found =
+    RefusesText is_utf8 (fault.Text at) end left found
 RefusesValue charset at (Some constant.Empty) end left found = ⊥
-RefusesValue charset at (Some constant.Coded) end left found = RefusesCoded at (charset_of charset) end left found
+RefusesValue charset at (Some constant.Coded) end left found =
+    RefusesCoded at (charset_of charset) end left found
 
 abbrev pub RefusesConstant : ℕ → Refusal
 RefusesConstant charset end left found =
-    RefusesInTurn LacksByte IsByte (λ byte. RefusesValue charset (end - length left) (constant_kind byte)) end left found
+    RefusesInTurn LacksByte IsByte
+    (λ byte. RefusesValue charset (end - length left) (constant_kind byte)) end left found
 
 abbrev pub RefusesConstants : Refusal
 RefusesConstants =
-    RefusesInTurn RefusesNumber IsMb (λ count. RefusesInTurn RefusesNumber IsMb (λ charset. RefusesRow count (IsConstant charset) (RefusesConstant charset)))
+    RefusesInTurn RefusesNumber IsMb (λ count.
+    RefusesInTurn RefusesNumber IsMb (λ charset.
+    RefusesRow count (IsConstant charset) (RefusesConstant charset)))
 
 -- ---- pragmas
 
@@ -121,23 +133,29 @@ RefusesIndexes at None end left found = found ≡ fault.PragmaKind at
 RefusesIndexes at (Some pragma.Domain) end left found = RefusesNumber end left found
 RefusesIndexes at (Some pragma.Path) end left found = RefusesNumber end left found
 RefusesIndexes at (Some pragma.Property) end left found = RefusesPair end left found
-RefusesIndexes at (Some pragma.Scheme) end left found = RefusesInTurn RefusesNumber IsMb (λ name. RefusesPair) end left found
+RefusesIndexes at (Some pragma.Scheme) end left found =
+    RefusesInTurn RefusesNumber IsMb (λ name. RefusesPair) end left found
 
 abbrev pub RefusesPragma : Refusal
 RefusesPragma end left found =
-    RefusesInTurn LacksByte IsByte (λ byte. RefusesIndexes (end - length left) (pragma_kind byte)) end left found
+    RefusesInTurn LacksByte IsByte
+    (λ byte. RefusesIndexes (end - length left) (pragma_kind byte)) end left found
 
 -- ---- functions
 
 -- what follows the index of a name at this place
 abbrev pub RefusesNameText : ℕ → Refusal
 RefusesNameText at =
-    RefusesInTurn LacksByte IsByte (λ size. RefusesInTurn (LacksBytes size) (IsTaken size) (λ content. RefusesUnless (is_utf8 content) (fault.Text at) Never))
+    RefusesInTurn LacksByte IsByte (λ size.
+    RefusesInTurn (LacksBytes size) (IsTaken size) (λ content.
+    RefusesUnless (is_utf8 content) (fault.Text at) Never))
 
 -- the name of one of so many functions
 abbrev pub RefusesName : ℕ → Refusal
 RefusesName count end left found =
-    RefusesInTurn LacksByte IsByte (λ index. RefusesUnless (nat_lt index count) (fault.NameIndex (end - length left)) (RefusesNameText (end - length left))) end left found
+    RefusesInTurn LacksByte IsByte (λ index.
+    RefusesUnless (nat_lt index count) (fault.NameIndex (end - length left))
+    (RefusesNameText (end - length left))) end left found
 
 abbrev pub RefusesFunction : Refusal
 RefusesFunction =
@@ -146,27 +164,39 @@ RefusesFunction =
 -- what follows the number of functions
 abbrev pub RefusesNamesAndFunctions : ℕ → Refusal
 RefusesNamesAndFunctions count =
-    RefusesInTurn LacksByte IsByte (λ names. RefusesInTurn (RefusesRow names (IsName count) (RefusesName count)) (λ bytes row. IsRow (IsName count) bytes row × (length row ≡ names))
+    RefusesInTurn LacksByte IsByte (λ names.
+    RefusesInTurn (RefusesRow names (IsName count) (RefusesName count)) (λ bytes row.
+    IsRow (IsName count) bytes row × (length row ≡ names))
     (λ row. RefusesRow count IsFunction RefusesFunction))
 
 abbrev pub RefusesFunctions : Refusal
 RefusesFunctions end left found =
-    RefusesInTurn LacksByte IsByte (λ count. RefusesUnless (nat_lt 0 count) (fault.NoFunction (end - length left)) (RefusesNamesAndFunctions count)) end left found
+    RefusesInTurn LacksByte IsByte (λ count.
+    RefusesUnless (nat_lt 0 count) (fault.NoFunction (end - length left))
+    (RefusesNamesAndFunctions count)) end left found
 
 -- ---- units
 
 abbrev pub RefusesBody : Refusal
 RefusesBody =
-    RefusesInTurn {A = ℕ × List Constant} RefusesConstants (λ bytes pool. AreConstants bytes pool.0 pool.1)
-    (λ pool. RefusesInTurn (RefusesCounted IsPragma RefusesPragma) (IsCounted IsPragma) (λ pragmas. RefusesFunctions))
+    RefusesInTurn {A = ℕ × List Constant} RefusesConstants
+    (λ bytes pool. AreConstants bytes pool.0 pool.1)
+    (λ pool.
+    RefusesInTurn (RefusesCounted IsPragma RefusesPragma) (IsCounted IsPragma) (λ pragmas.
+    RefusesFunctions))
 
 -- the first thing in the bytes that no unit can have there, and its place
 pub data IsRefused (bytes : List ℕ) (found : UnitFault) : Type 0 where
   no_version : bytes ≡ [] → found ≡ fault.Short 0 → IsRefused bytes found
-  other_version : (version : ℕ) (rest : List ℕ) → bytes ≡ version ∷ rest → 0x0F < version → found ≡ fault.Version 0 → IsRefused bytes found
-  no_size : (version : ℕ) (rest : List ℕ) → bytes ≡ version ∷ rest → version ≤ 0x0F → RefusesNumber (length bytes) rest found → IsRefused bytes found
-  other_size : (version number : ℕ) (size rest : List ℕ) → bytes ≡ version ∷ (size ++ rest) → version ≤ 0x0F → IsMb size number → number ≢ length rest → found ≡ fault.Size 1
+  other_version : (version : ℕ) (rest : List ℕ) → bytes ≡ version ∷ rest → 0x0F < version
+      → found ≡ fault.Version 0 → IsRefused bytes found
+  no_size : (version : ℕ) (rest : List ℕ) → bytes ≡ version ∷ rest → version ≤ 0x0F
+      → RefusesNumber (length bytes) rest found → IsRefused bytes found
+  other_size : (version number : ℕ) (size rest : List ℕ) → bytes ≡ version ∷ (size ++ rest)
+      → version ≤ 0x0F → IsMb size number → number ≢ length rest → found ≡ fault.Size 1
       → IsRefused bytes found
-  inside : (version : ℕ) (body : List ℕ) → IsHead bytes version body → RefusesBody (length bytes) body found → IsRefused bytes found
-  behind : (unit : Unit) (body front rest : List ℕ) → IsHead bytes unit.version body → body ≡ front ++ rest → IsBody front unit → 0 < length rest
+  inside : (version : ℕ) (body : List ℕ) → IsHead bytes version body
+      → RefusesBody (length bytes) body found → IsRefused bytes found
+  behind : (unit : Unit) (body front rest : List ℕ) → IsHead bytes unit.version body
+      → body ≡ front ++ rest → IsBody front unit → 0 < length rest
       → found ≡ fault.Size (length bytes - length rest) → IsRefused bytes found

@@ -8,7 +8,8 @@ use Rattle.wap_base.specs.Numbers.{IsMb}
 use Rattle.wap_base.specs.declared.charset.Charset.{Charset}
 use Rattle.wap_code.specs.declared.unit.Unit.{Unit}
 use Rattle.wap_code.specs.declared.unit.Constant.{Constant}
-use Rattle.wap_code.specs.declared.unit.Constant.TheVariants.{Int8, Int16, Int32, Float, Utf8, Empty, Coded}
+use Rattle.wap_code.specs.declared.unit.Constant.TheVariants.{Int8, Int16, Int32, Float, Utf8}
+use Rattle.wap_code.specs.declared.unit.Constant.TheVariants.{Empty, Coded}
 use Rattle.wap_code.specs.declared.unit.Pragma.{Pragma}
 use Rattle.wap_code.specs.declared.unit.Pragma.TheVariants.{Domain, Path, Property, Scheme}
 use Rattle.wap_code.specs.declared.unit.Code.{Code}
@@ -32,18 +33,24 @@ IsBits size Is value = (length value ≡ size) × Is value
 
 -- a constant of a pool whose strings are in this character set
 abbrev pub IsConstant : ℕ → List ℕ → Constant → Type 0
-IsConstant charset bytes (Int8 number) = After 0 (IsBits 1 (λ value. number ≡ cast_signed w8 (from_be_bytes w8 value))) bytes
-IsConstant charset bytes (Int16 number) = After 1 (IsBits 2 (λ value. number ≡ cast_signed w16 (from_be_bytes w16 value))) bytes
-IsConstant charset bytes (Int32 number) = After 2 (IsBits 4 (λ value. number ≡ cast_signed w32 (from_be_bytes w32 value))) bytes
-IsConstant charset bytes (Float number) = After 3 (IsBits 4 (λ value. number ≡ from_be_bytes w32 value)) bytes
+IsConstant charset bytes (Int8 number) =
+    After 0 (IsBits 1 (λ value. number ≡ cast_signed w8 (from_be_bytes w8 value))) bytes
+IsConstant charset bytes (Int16 number) =
+    After 1 (IsBits 2 (λ value. number ≡ cast_signed w16 (from_be_bytes w16 value))) bytes
+IsConstant charset bytes (Int32 number) =
+    After 2 (IsBits 4 (λ value. number ≡ cast_signed w32 (from_be_bytes w32 value))) bytes
+IsConstant charset bytes (Float number) =
+    After 3 (IsBits 4 (λ value. number ≡ from_be_bytes w32 value)) bytes
 IsConstant charset bytes (Utf8 text) = After 4 (Sized (λ content. IsUtf8Text content text)) bytes
 IsConstant charset bytes Empty = bytes ≡ 5 ∷ []
-IsConstant charset bytes (Coded text) = After 6 (Sized (λ content. (content ≡ text) × IsCodedText charset content)) bytes
+IsConstant charset bytes (Coded text) =
+    After 6 (Sized (λ content. (content ≡ text) × IsCodedText charset content)) bytes
 
 -- how many constants there are, the number of the character set, and the constants
 abbrev pub AreConstants : List ℕ → ℕ → List Constant → Type 0
 AreConstants bytes charset constants =
-    InTurn (λ count. IsMb count (length constants)) (InTurn (λ set. IsMb set charset) (λ row. IsRow (IsConstant charset) row constants)) bytes
+    InTurn (λ count. IsMb count (length constants))
+    (InTurn (λ set. IsMb set charset) (λ row. IsRow (IsConstant charset) row constants)) bytes
 
 -- two numbers
 abbrev pub IsPair : List ℕ → ℕ → ℕ → Type 0
@@ -53,7 +60,8 @@ abbrev pub IsPragma : List ℕ → Pragma → Type 0
 IsPragma bytes (Domain text) = After 0 (λ rest. IsMb rest text) bytes
 IsPragma bytes (Path text) = After 1 (λ rest. IsMb rest text) bytes
 IsPragma bytes (Property name content) = After 2 (λ rest. IsPair rest name content) bytes
-IsPragma bytes (Scheme name content scheme) = After 3 (InTurn (λ front. IsMb front name) (λ back. IsPair back content scheme)) bytes
+IsPragma bytes (Scheme name content scheme) =
+    After 3 (InTurn (λ front. IsMb front name) (λ back. IsPair back content scheme)) bytes
 
 -- the index of one of so many functions, and its name: one byte for the length, and a text
 pub record IsName (count : ℕ) (bytes : List ℕ) (name : ℕ × List ℕ) : Type 0 where
@@ -69,17 +77,20 @@ pub record IsFunction (bytes : List ℕ) (function : Code) : Type 0 where
   pub code : IsSized rest function.code
 
 -- how many functions and names there are, the names, and the functions
-pub record AreFunctions (bytes : List ℕ) (names : List (ℕ × List ℕ)) (functions : List Code) : Type 0 where
+pub record AreFunctions (bytes : List ℕ) (names : List (ℕ × List ℕ))
+    (functions : List Code) : Type 0 where
   pub rows : List ℕ
   pub spelled : bytes ≡ length functions ∷ length names ∷ rows
   pub some : 0 < length functions
-  pub each : InTurn (λ front. IsRow (IsName (length functions)) front names) (λ back. IsRow IsFunction back functions) rows
+  pub each : InTurn (λ front. IsRow (IsName (length functions)) front names)
+      (λ back. IsRow IsFunction back functions) rows
 
 -- what follows the number of the bytes that follow
 abbrev pub IsBody : List ℕ → Unit → Type 0
 IsBody bytes unit =
     InTurn (λ pool. AreConstants pool unit.charset unit.constants)
-    (InTurn (λ front. IsCounted IsPragma front unit.pragmas) (λ back. AreFunctions back unit.names unit.functions)) bytes
+    (InTurn (λ front. IsCounted IsPragma front unit.pragmas)
+    (λ back. AreFunctions back unit.names unit.functions)) bytes
 
 -- a version that is read, and the number of the bytes that follow
 pub record IsHead (bytes : List ℕ) (version : ℕ) (body : List ℕ) : Type 0 where

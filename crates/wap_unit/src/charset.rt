@@ -17,7 +17,8 @@ pub fn utf8_text<'a>(
     end: usize,
     rest: &'a [u8],
 ) -> Result<(Text, &'a [u8]), UnitFault>
-    ensures { Meets NoMemory (λ read. (read.0, read.1.now)) result (utf8_text at content.now end rest.now) }
+    ensures { Meets NoMemory (λ read. (read.0, read.1.now)) result
+        (utf8_text at content.now end rest.now) }
 {
     match str::from_utf8(content) {
         Ok(text) => Ok((Text::of(alloc, text)?, rest)),
@@ -35,7 +36,8 @@ pub fn coded_text<'a>(
     end: usize,
     rest: &'a [u8],
 ) -> Result<(Bytes, &'a [u8]), UnitFault>
-    ensures { Meets NoMemory (λ read. (read.0, read.1.now)) result (coded_text set at content.now end rest.now) }
+    ensures { Meets NoMemory (λ read. (read.0, read.1.now)) result
+        (coded_text set at content.now end rest.now) }
 {
     if !set.is_text(content) {
         return Err(UnitFault::Text { at });

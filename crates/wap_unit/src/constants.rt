@@ -2,7 +2,8 @@
 ghost use Rattle.wap_base.specs.Outcome.{Meets};
 ghost use Rattle.wap_unit.specs.declared.fault.UnitFault.TheVariants.{NoMemory};
 ghost use Rattle.wap_unit.specs.inside.Steps.{many};
-ghost use Rattle.wap_unit.specs.inside.Reading.{coded_at, utf8_at, value_at, constant_at, constants_at};
+ghost use Rattle.wap_unit.specs.inside.Reading.{coded_at, utf8_at, value_at};
+ghost use Rattle.wap_unit.specs.inside.Reading.{constant_at, constants_at};
 
 use crate::UnitFault;
 use crate::charset::{coded_text, utf8_text};
@@ -19,7 +20,8 @@ pub fn read_constants(
     end: usize,
     bytes: &[u8],
 ) -> Result<(u32, Rows<Constant>, &[u8]), UnitFault>
-    ensures { Meets NoMemory (λ read. ((read.0, read.1), read.2.now)) result (constants_at end bytes.now) }
+    ensures { Meets NoMemory (λ read. ((read.0, read.1), read.2.now)) result
+        (constants_at end bytes.now) }
 {
     let (count, rest) = number(end, bytes)?;
     let (charset, rest) = number(end, rest)?;
@@ -35,7 +37,8 @@ fn read_pool(
     end: usize,
     bytes: &[u8],
 ) -> Result<(Rows<Constant>, &[u8]), UnitFault>
-    ensures { Meets NoMemory (λ read. (read.0, read.1.now)) result (many (constant_at set) count end bytes.now) }
+    ensures { Meets NoMemory (λ read. (read.0, read.1.now)) result
+        (many (constant_at set) count end bytes.now) }
 {
     let mut constants = Rows::new(alloc);
     let mut rest = bytes;
@@ -75,7 +78,8 @@ fn read_value(
     end: usize,
     bytes: &[u8],
 ) -> Result<(Constant, &[u8]), UnitFault>
-    ensures { Meets NoMemory (λ read. (read.0, read.1.now)) result (value_at set at kind end bytes.now) }
+    ensures { Meets NoMemory (λ read. (read.0, read.1.now)) result
+        (value_at set at kind end bytes.now) }
 {
     match kind {
         ConstantKind::Int8 => {

@@ -27,7 +27,8 @@ pub fn byte(end: usize, bytes: &[u8]) -> Result<(u8, &[u8]), UnitFault>
 
 /// So many bytes.
 pub fn taken(size: usize, end: usize, bytes: &[u8]) -> Result<(&[u8], &[u8]), UnitFault>
-    ensures read { Meets NoMemory (λ read. (read.0.now, read.1.now)) result (taken_at size end bytes.now) }
+    ensures read { Meets NoMemory (λ read. (read.0.now, read.1.now)) result
+        (taken_at size end bytes.now) }
     ensures size { IfOk result (λ read. length read.0.now ≡ size) }
 {
     if bytes.len() < size {

@@ -2,7 +2,8 @@
 ghost use Rattle.wap_base.specs.Outcome.{Meets};
 ghost use Rattle.wap_unit.specs.declared.fault.UnitFault.TheVariants.{NoMemory};
 ghost use Rattle.wap_unit.specs.inside.Steps.{many};
-ghost use Rattle.wap_unit.specs.inside.Reading.{name_text_at, name_at, function_at, named_functions_at, functions_at};
+ghost use Rattle.wap_unit.specs.inside.Reading.{name_text_at, name_at, function_at};
+ghost use Rattle.wap_unit.specs.inside.Reading.{named_functions_at, functions_at};
 
 use crate::UnitFault;
 use crate::charset::utf8_text;
@@ -18,7 +19,8 @@ pub fn read_functions(
     end: usize,
     bytes: &[u8],
 ) -> Result<(Rows<(u8, Text)>, Rows<Code>, &[u8]), UnitFault>
-    ensures { Meets NoMemory (λ read. ((read.0, read.1), read.2.now)) result (functions_at end bytes.now) }
+    ensures { Meets NoMemory (λ read. ((read.0, read.1), read.2.now)) result
+        (functions_at end bytes.now) }
 {
     let at = place(end, bytes);
     let (count, rest) = byte(end, bytes)?;
@@ -36,7 +38,8 @@ fn read_named_functions(
     end: usize,
     bytes: &[u8],
 ) -> Result<(Rows<(u8, Text)>, Rows<Code>, &[u8]), UnitFault>
-    ensures { Meets NoMemory (λ read. ((read.0, read.1), read.2.now)) result (named_functions_at count end bytes.now) }
+    ensures { Meets NoMemory (λ read. ((read.0, read.1), read.2.now)) result
+        (named_functions_at count end bytes.now) }
 {
     let (names, rest) = byte(end, bytes)?;
     let (names, rest) = read_names(alloc, count, names, end, rest)?;
@@ -52,7 +55,8 @@ fn read_names(
     end: usize,
     bytes: &[u8],
 ) -> Result<(Rows<(u8, Text)>, &[u8]), UnitFault>
-    ensures { Meets NoMemory (λ read. (read.0, read.1.now)) result (many (name_at functions) count end bytes.now) }
+    ensures { Meets NoMemory (λ read. (read.0, read.1.now)) result
+        (many (name_at functions) count end bytes.now) }
 {
     let mut names = Rows::new(alloc);
     let mut rest = bytes;
@@ -72,7 +76,8 @@ fn read_name(
     end: usize,
     bytes: &[u8],
 ) -> Result<((u8, Text), &[u8]), UnitFault>
-    ensures { Meets NoMemory (λ read. (read.0, read.1.now)) result (name_at functions end bytes.now) }
+    ensures { Meets NoMemory (λ read. (read.0, read.1.now)) result
+        (name_at functions end bytes.now) }
 {
     let at = place(end, bytes);
     let (index, rest) = byte(end, bytes)?;
@@ -105,7 +110,8 @@ fn read_bodies(
     end: usize,
     bytes: &[u8],
 ) -> Result<(Rows<Code>, &[u8]), UnitFault>
-    ensures { Meets NoMemory (λ read. (read.0, read.1.now)) result (many function_at count end bytes.now) }
+    ensures { Meets NoMemory (λ read. (read.0, read.1.now)) result
+        (many function_at count end bytes.now) }
 {
     let mut functions = Rows::new(alloc);
     let mut rest = bytes;

@@ -3,7 +3,7 @@ ghost use Rattle.std.specs.Prelude.{◌≡◌};
 ghost use Rattle.wap_unit.specs.Kinds.{constant_kind, pragma_kind};
 
 /// What a constant is.
-#[derive(Clone, Copy, Debug, PartialEq, Eq)]
+#[derive(Clone, Copy)]
 pub enum ConstantKind {
     Int8,
     Int16,
@@ -15,7 +15,7 @@ pub enum ConstantKind {
 }
 
 /// What a pragma is.
-#[derive(Clone, Copy, Debug, PartialEq, Eq)]
+#[derive(Clone, Copy)]
 pub enum PragmaKind {
     Domain,
     Path,

@@ -31,7 +31,8 @@ fn read_row(
     end: usize,
     bytes: &[u8],
 ) -> Result<(Rows<Pragma>, &[u8]), UnitFault>
-    ensures { Meets NoMemory (λ read. (read.0, read.1.now)) result (many pragma_at count end bytes.now) }
+    ensures { Meets NoMemory (λ read. (read.0, read.1.now)) result
+        (many pragma_at count end bytes.now) }
 {
     let mut pragmas = Rows::new(alloc);
     let mut rest = bytes;

@@ -21,10 +21,12 @@ pub fn decode(alloc: Global, bytes: &[u8]) -> Result<Unit, UnitFault>
     requires { length bytes.now < 2 ^ 32 }
     // What is read is spelled so, and what is spelled so is read.
     ensures found { IfOk result (λ unit. IsUnit bytes.now unit) }
-    ensures only { (unit : Unit) → IsUnit bytes.now unit → Meets NoMemory (λ u. u) result (Ok unit) }
+    ensures only { (unit : Unit) → IsUnit bytes.now unit
+        → Meets NoMemory (λ u. u) result (Ok unit) }
     // A fault is the first one from the left, and the first one from the left is found.
     ensures refused { IfErr result (λ fault. fault ≢ NoMemory → IsRefused bytes.now fault) }
-    ensures first { (fault : UnitFault) → IsRefused bytes.now fault → Meets {Y = Unit} NoMemory (λ u. u) result (Err fault) }
+    ensures first { (fault : UnitFault) → IsRefused bytes.now fault
+        → Meets {Y = Unit} NoMemory (λ u. u) result (Err fault) }
     ensures exact { Meets NoMemory (λ u. u) result (unit_at bytes.now) }
 {
     read_unit(alloc, bytes)

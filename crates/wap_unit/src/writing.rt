@@ -3,8 +3,11 @@ ghost use Rattle.std.specs.Prelude.{◌≡◌, ◌<◌, ◌^◌, ◌∷◌, ◌+
 ghost use Rattle.std.specs.List.{flat_map, AllByRecursion};
 ghost use Rattle.wap_base.specs.Numbers.{mb_spelling};
 ghost use Rattle.wap_unit.specs.Units.{IsUnit};
-ghost use Rattle.wap_unit.specs.Spelling.{sized, counted, constant_spelling, pragma_spelling, name_spelling, function_spelling, constants_spelling, functions_spelling, body_spelling, spelling, HasSpelling};
-ghost use Rattle.wap_unit.specs.inside.Fitting.{FitsConstant, FitsConstants, FitsName, FitsFunction, FitsFunctions, FitsUnit};
+ghost use Rattle.wap_unit.specs.Spelling.{sized, counted, constant_spelling, pragma_spelling};
+ghost use Rattle.wap_unit.specs.Spelling.{name_spelling, function_spelling, constants_spelling};
+ghost use Rattle.wap_unit.specs.Spelling.{functions_spelling, body_spelling, spelling, HasSpelling};
+ghost use Rattle.wap_unit.specs.inside.Fitting.{FitsConstant, FitsConstants, FitsName};
+ghost use Rattle.wap_unit.specs.inside.Fitting.{FitsFunction, FitsFunctions, FitsUnit};
 
 use std::alloc::Global;
 use wap_base::{Bytes, NoMemory, Text, write_mb};
@@ -40,8 +43,7 @@ fn write_body(out: &mut Bytes, unit: &Unit) -> Result<(), NoMemory>
 {
     write_constants(out, unit.charset, unit.constants.as_slice())?;
     write_pragmas(out, unit.pragmas.as_slice())?;
-    write_functions(out, unit.names.as_slice(), unit.functions.as_slice())?;
-    Ok(())
+    write_functions(out, unit.names.as_slice(), unit.functions.as_slice())
 }
 
 /// Bytes after their number.
@@ -50,8 +52,7 @@ fn write_sized(out: &mut Bytes, content: &[u8]) -> Result<(), NoMemory>
     ensures { OnOk result (out.new ≡ out.old ++ sized content.now) }
 {
     write_mb(out, content.len() as u32)?;
-    out.add(content)?;
-    Ok(())
+    out.add(content)
 }
 
 fn write_constants(out: &mut Bytes, charset: u32, constants: &[Constant]) -> Result<(), NoMemory>
@@ -60,8 +61,7 @@ fn write_constants(out: &mut Bytes, charset: u32, constants: &[Constant]) -> Res
 {
     write_mb(out, constants.len() as u32)?;
     write_mb(out, charset)?;
-    write_pool(out, constants)?;
-    Ok(())
+    write_pool(out, constants)
 }
 
 fn write_pool(out: &mut Bytes, constants: &[Constant]) -> Result<(), NoMemory>
@@ -94,8 +94,7 @@ fn write_kind(out: &mut Bytes, kind: u8, rest: &[u8]) -> Result<(), NoMemory>
     ensures { OnOk result (out.new ≡ out.old ++ kind ∷ rest.now) }
 {
     out.add(&[kind])?;
-    out.add(rest)?;
-    Ok(())
+    out.add(rest)
 }
 
 /// The first byte of an item, and the bytes after it, which stand after their number.
@@ -104,8 +103,7 @@ fn write_text(out: &mut Bytes, kind: u8, content: &[u8]) -> Result<(), NoMemory>
     ensures { OnOk result (out.new ≡ out.old ++ kind ∷ sized content.now) }
 {
     out.add(&[kind])?;
-    write_sized(out, content)?;
-    Ok(())
+    write_sized(out, content)
 }
 
 fn write_pragmas(out: &mut Bytes, pragmas: &[Pragma]) -> Result<(), NoMemory>
@@ -113,8 +111,7 @@ fn write_pragmas(out: &mut Bytes, pragmas: &[Pragma]) -> Result<(), NoMemory>
     ensures { OnOk result (out.new ≡ out.old ++ counted pragma_spelling pragmas.now) }
 {
     write_mb(out, pragmas.len() as u32)?;
-    write_row(out, pragmas)?;
-    Ok(())
+    write_row(out, pragmas)
 }
 
 fn write_row(out: &mut Bytes, pragmas: &[Pragma]) -> Result<(), NoMemory>
@@ -134,14 +131,12 @@ fn write_pragma(out: &mut Bytes, pragma: Pragma) -> Result<(), NoMemory>
         Pragma::Path(text) => write_index(out, 1, text),
         Pragma::Property(name, content) => {
             write_index(out, 2, name)?;
-            write_mb(out, content)?;
-            Ok(())
+            write_mb(out, content)
         }
         Pragma::Scheme(name, content, scheme) => {
             write_index(out, 3, name)?;
             write_mb(out, content)?;
-            write_mb(out, scheme)?;
-            Ok(())
+            write_mb(out, scheme)
         }
     }
 }
@@ -151,8 +146,7 @@ fn write_index(out: &mut Bytes, kind: u8, index: u32) -> Result<(), NoMemory>
     ensures { OnOk result (out.new ≡ out.old ++ kind ∷ mb_spelling index) }
 {
     out.add(&[kind])?;
-    write_mb(out, index)?;
-    Ok(())
+    write_mb(out, index)
 }
 
 fn write_functions(
@@ -165,8 +159,7 @@ fn write_functions(
 {
     out.add(&[functions.len() as u8, names.len() as u8])?;
     write_names(out, names)?;
-    write_bodies(out, functions)?;
-    Ok(())
+    write_bodies(out, functions)
 }
 
 fn write_names(out: &mut Bytes, names: &[(u8, Text)]) -> Result<(), NoMemory>
@@ -184,8 +177,7 @@ fn write_name(out: &mut Bytes, index: u8, content: &[u8]) -> Result<(), NoMemory
     ensures { OnOk result (out.new ≡ out.old ++ index ∷ length content.now ∷ content.now) }
 {
     out.add(&[index, content.len() as u8])?;
-    out.add(content)?;
-    Ok(())
+    out.add(content)
 }
 
 fn write_bodies(out: &mut Bytes, functions: &[Code]) -> Result<(), NoMemory>
@@ -203,6 +195,5 @@ fn write_function(out: &mut Bytes, function: &Code) -> Result<(), NoMemory>
     ensures { OnOk result (out.new ≡ out.old ++ function_spelling function.now) }
 {
     out.add(&[function.args, function.locals])?;
-    write_sized(out, function.code.as_slice())?;
-    Ok(())
+    write_sized(out, function.code.as_slice())
 }

@@ -1,5 +1,6 @@
 -- Numbers of at most five digits.
-use Rattle.std.proofs.Common.{◌≡◌, ℕ, zero, suc, ◌^◌, ◌<◌, ◌≤◌, true, List, length, get_or, arith, lit≤}
+use Rattle.std.proofs.Common.{◌≡◌, ℕ, zero, suc, ◌^◌, ◌<◌, ◌≤◌, true, List}
+use Rattle.std.proofs.Common.{length, get_or, arith, lit≤}
 use Rattle.std.specs.List.{list_all}
 use Rattle.std.specs.Char.{is_ascii_digit}
 use Rattle.std.specs.Int.{IsInRange}
@@ -17,5 +18,7 @@ ten_pow (suc (suc (suc (suc (suc i))))) h = absurd (omega arith)
 pub digit_in_range : (c : ℕ) → is_ascii_digit c ≡ true → IsInRange 48 57 c
 digit_in_range c h = grind (arith, nat_tests)
 
-pub digit_at : (ds : List ℕ) (i : ℕ) → list_all is_ascii_digit ds ≡ true → i < length ds → IsInRange 48 57 (get_or ds i 0)
-digit_at ds i digits within = digit_in_range (get_or ds i 0) (AllPass-from_list_all is_ascii_digit ds digits i 0 within)
+pub digit_at : (ds : List ℕ) (i : ℕ) → list_all is_ascii_digit ds ≡ true → i < length ds
+    → IsInRange 48 57 (get_or ds i 0)
+digit_at ds i digits within =
+    digit_in_range (get_or ds i 0) (AllPass-from_list_all is_ascii_digit ds digits i 0 within)

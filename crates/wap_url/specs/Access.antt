@@ -14,7 +14,8 @@ below_root path = if begins_with is_slash path then drop 1 path else path
 
 -- the segments, an empty last one dropped
 abbrev pub without_empty_last : List (List ℕ) → List (List ℕ)
-without_empty_last segments = if length (last_segment segments) == 0 then all_but_last segments else segments
+without_empty_last segments =
+    if length (last_segment segments) == 0 then all_but_last segments else segments
 
 abbrev pub access_segments : List ℕ → List (List ℕ)
 access_segments path = without_empty_last (segments (below_root path))
@@ -23,5 +24,6 @@ access_segments path = without_empty_last (segments (below_root path))
 -- segments of the access path
 abbrev pub IsAllowed : Access → Url → Type 0
 IsAllowed access caller =
-    IsSomeAnd caller.host (λ host. IsSuffix (labels (map to_ascii_lowercase access.domain)) (labels host))
+    IsSomeAnd caller.host
+    (λ host. IsSuffix (labels (map to_ascii_lowercase access.domain)) (labels host))
     × IsPrefix (access_segments access.path) (segments (below_root caller.path))

@@ -1,5 +1,6 @@
 -- A reference joined to a base (RFC 2396, section 5.2).
-use Rattle.std.specs.Prelude.{ℕ, Bool, ◌||◌, ◌&&◌, if◌then◌else◌, is_some, is_none, List, [], ◌∷◌, ◌++◌, ◌==◌, length}
+use Rattle.std.specs.Prelude.{ℕ, Bool, ◌||◌, ◌&&◌, if◌then◌else◌, is_some}
+use Rattle.std.specs.Prelude.{is_none, List, [], ◌∷◌, ◌++◌, ◌==◌, length}
 use Rattle.std.specs.List.{fold}
 use Rattle.std.specs.Str.{bytes_eq}
 use Rattle.wap_url.specs.declared.url.Url.{Url}
@@ -21,7 +22,8 @@ is_dot_segment s = is_here s || is_above s
 -- One more segment after those that are kept: `.` goes, and `..` takes the one before it, if there
 -- is one.
 abbrev pub kept_with : List (List ℕ) → List ℕ → List (List ℕ)
-kept_with kept s = if is_here s then kept else if is_above s then all_but_last kept else kept ++ s ∷ []
+kept_with kept s =
+    if is_here s then kept else if is_above s then all_but_last kept else kept ++ s ∷ []
 
 -- a last dot segment leaves a slash at the end
 abbrev pub end_of : List (List ℕ) → List (List ℕ)
@@ -34,15 +36,19 @@ without_dots segments = fold kept_with [] segments ++ end_of segments
 abbrev pub resolved : List (List ℕ) → List (List ℕ)
 resolved [] = []
 resolved (s ∷ []) = without_dots (s ∷ [])
-resolved (s ∷ t ∷ more) = if length s == 0 then [] ∷ without_dots (t ∷ more) else without_dots (s ∷ t ∷ more)
+resolved (s ∷ t ∷ more) =
+    if length s == 0 then [] ∷ without_dots (t ∷ more) else without_dots (s ∷ t ∷ more)
 
 -- The base's segments but for its last. Under a host an empty path is the root.
 abbrev pub lead_segments : Url → List (List ℕ)
-lead_segments base = if is_some base.host && length base.path == 0 then [] ∷ [] else all_but_last (segments base.path)
+lead_segments base =
+    if is_some base.host && length base.path == 0 then [] ∷ []
+    else all_but_last (segments base.path)
 
 -- the reference's path, or the base's up to its last slash and then the reference's
 abbrev pub merged_path : Url → Url → List ℕ
-merged_path base r = if begins_with is_slash r.path then r.path else path_of (lead_segments base ++ segments r.path)
+merged_path base r =
+    if begins_with is_slash r.path then r.path else path_of (lead_segments base ++ segments r.path)
 
 -- The reference, with what it takes from the base.
 abbrev pub target : Url → Url → Url
@@ -50,7 +56,12 @@ target base r =
     if is_some r.scheme then r
     else if is_some r.host then record r { scheme = base.scheme }
     else if length r.path == 0 && is_none r.query then record base { fragment = r.fragment }
-    else record r { scheme = base.scheme; host = base.host; port = base.port; path = merged_path base r }
+    else record r {
+      scheme = base.scheme;
+      host = base.host;
+      port = base.port;
+      path = merged_path base r;
+    }
 
 -- under a host an empty path is the root
 abbrev pub rooted : Bool → List ℕ → List ℕ

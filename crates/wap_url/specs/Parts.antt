@@ -1,11 +1,13 @@
 -- The parts of a URL as they are spelled (RFC 2396, appendix B), and the URL that they stand for.
-use Rattle.std.specs.Prelude.{◌≡◌, ◌≢◌, ℕ, ◌&&◌, ◌||◌, ◌⊎◌, not, nat_le, Bool, true, false, IsSome, IfSome, List, [], ◌∷◌, ◌++◌, map, length, Option, Some, None}
+use Rattle.std.specs.Prelude.{◌≡◌, ◌≢◌, ℕ, ◌&&◌, ◌||◌, ◌⊎◌, not, nat_le, Bool, true, false, IsSome}
+use Rattle.std.specs.Prelude.{IfSome, List, [], ◌∷◌, ◌++◌, map, length, Option, Some, None}
 use Rattle.std.specs.Option.{option_map, option_and_then}
 use Rattle.std.specs.List.{list_all}
 use Rattle.std.specs.Char.{is_ascii_digit, to_ascii_lowercase}
 use Rattle.std.specs.Str.Parse.{digits_value}
 use Rattle.wap_url.specs.declared.url.Url.{Url}
-use Rattle.wap_url.specs.Characters.{is_allowed, is_colon, is_question, is_slash, ends_scheme, ends_authority, is_scheme, is_host}
+use Rattle.wap_url.specs.Characters.{is_allowed, is_colon, is_question, is_slash}
+use Rattle.wap_url.specs.Characters.{ends_scheme, ends_authority, is_scheme, is_host}
 use Rattle.wap_base.specs.Cuts.{onward, begins_with}
 use Rattle.wap_base.specs.Ascii.{slash, colon, question_mark, number_sign}
 
@@ -32,11 +34,15 @@ authority (Some host) port = slash ∷ slash ∷ host ++ led_by (colon ∷ []) p
 
 -- the parts in a row, as section 5.2 puts them together
 abbrev pub spelled : Parts → List ℕ
-spelled p = followed_by colon p.scheme ++ (authority p.host p.port ++ (p.path ++ (led_by (question_mark ∷ []) p.query ++ led_by (number_sign ∷ []) p.fragment)))
+spelled p =
+    followed_by colon p.scheme
+    ++ (authority p.host p.port
+    ++ (p.path ++ (led_by (question_mark ∷ []) p.query ++ led_by (number_sign ∷ []) p.fragment)))
 
 -- an empty port, or one to five digits up to 65535
 abbrev pub is_port : List ℕ → Bool
-is_port ds = list_all is_ascii_digit ds && (nat_le (length ds) 5 && nat_le (digits_value 10 ds) 65535)
+is_port ds =
+    list_all is_ascii_digit ds && (nat_le (length ds) 5 && nat_le (digits_value 10 ds) 65535)
 
 -- an empty port is none
 abbrev pub port_number : List ℕ → Option ℕ
@@ -83,7 +89,8 @@ pub record IsSplit (text : List ℕ) (p : Parts) : Type 0 where
   pub path : list_all may_be_path p.path ≡ true
   pub query : IfSome p.query (λ query. list_all is_allowed query ≡ true)
   -- without a scheme no colon stands in the first segment
-  pub no_scheme : p.scheme ≡ None → p.host ≡ None → begins_with is_colon (onward ends_word p.path) ≡ false
+  pub no_scheme : p.scheme ≡ None → p.host ≡ None
+      → begins_with is_colon (onward ends_word p.path) ≡ false
   -- after a host the path is empty or begins with a slash, and without one it does not begin with
   -- two
   pub rooted : IsSome p.host → (p.path ≡ []) ⊎ (begins_with is_slash p.path ≡ true)

@@ -1,5 +1,6 @@
 -- A URL as text (RFC 2396, section 5.2, step 7), and the name of its page.
-use Rattle.std.specs.Prelude.{◌≡◌, ℕ, ◌≤◌, IfSome, ◌==◌, if◌then◌else◌, Bool, false, List, [], ◌∷◌, ◌++◌, map, Option, Some, None, codes}
+use Rattle.std.specs.Prelude.{◌≡◌, ℕ, ◌≤◌, IfSome, ◌==◌, if◌then◌else◌, Bool, false, List}
+use Rattle.std.specs.Prelude.{[], ◌∷◌, ◌++◌, map, Option, Some, None, codes}
 use Rattle.std.specs.Option.{option_map, unwrap_or}
 use Rattle.std.specs.Char.{to_ascii_lowercase}
 use Rattle.std.specs.Fmt.{decimal}

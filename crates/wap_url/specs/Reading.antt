@@ -1,10 +1,12 @@
 -- What a text is read as: the split of RFC 2396, appendix B, or the first fault.
-use Rattle.std.specs.Prelude.{ℕ, Bool, true, false, ◌&&◌, not, if◌then◌else◌, List, [], ◌∷◌, length, drop, Option, Some, None, Result, Ok, Err}
+use Rattle.std.specs.Prelude.{ℕ, Bool, true, false, ◌&&◌, not, if◌then◌else◌, List, [], ◌∷◌}
+use Rattle.std.specs.Prelude.{length, drop, Option, Some, None, Result, Ok, Err}
 use Rattle.std.specs.Option.{option_map, option_and_then, option_map_or}
 use Rattle.wap_url.specs.declared.url.Url.{Url}
 use Rattle.wap_url.specs.declared.fault.UrlFault.{UrlFault}
 use Rattle.wap_url.specs.declared.fault.UrlFault.TheVariants.{BadChar, BadScheme, BadHost, BadPort}
-use Rattle.wap_url.specs.Characters.{is_hash, is_slash, is_colon, is_question, is_allowed, ends_scheme, ends_authority, is_scheme, is_host}
+use Rattle.wap_url.specs.Characters.{is_hash, is_slash, is_colon, is_question, is_allowed}
+use Rattle.wap_url.specs.Characters.{ends_scheme, ends_authority, is_scheme, is_host}
 use Rattle.wap_base.specs.Cuts.{until, onward, after_one, begins_with}
 use Rattle.wap_url.specs.Parts.{Parts, url_of, is_port}
 
@@ -36,10 +38,12 @@ begins_with_slashes (c ∷ []) = false
 begins_with_slashes (c ∷ d ∷ rest) = is_slash c && is_slash d
 
 abbrev pub authority_of : List ℕ → Option (List ℕ)
-authority_of rest = if begins_with_slashes rest then Some (until ends_authority (drop 2 rest)) else None
+authority_of rest =
+    if begins_with_slashes rest then Some (until ends_authority (drop 2 rest)) else None
 
 abbrev pub after_authority : List ℕ → List ℕ
-after_authority rest = if begins_with_slashes rest then onward ends_authority (drop 2 rest) else rest
+after_authority rest =
+    if begins_with_slashes rest then onward ends_authority (drop 2 rest) else rest
 
 -- the port is what follows the authority's first `:`
 abbrev pub host_in : List ℕ → List ℕ

@@ -2,7 +2,8 @@
 use Rattle.std.specs.Prelude.{◌≡◌, ℕ, Some, true, false, List, ◌∷◌, ◌++◌, length}
 use Rattle.std.specs.List.{list_all}
 use Rattle.wap_url.specs.declared.fault.UrlFault.{UrlFault}
-use Rattle.wap_url.specs.declared.fault.UrlFault.TheVariants.{BadChar, BadScheme, BadHost, BadPort, NoMemory}
+use Rattle.wap_url.specs.declared.fault.UrlFault.TheVariants.{BadChar, BadScheme, BadHost}
+use Rattle.wap_url.specs.declared.fault.UrlFault.TheVariants.{BadPort, NoMemory}
 use Rattle.wap_url.specs.Parts.{Parts, IsSplit}
 use Rattle.wap_url.specs.Reading.{fault_of}
 use Rattle.wap_url.specs.Characters.{is_allowed, is_hash}

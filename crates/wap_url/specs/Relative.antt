@@ -1,6 +1,7 @@
 -- A URL as seen from another (this project's own, for the header of a request), and the law that
 -- leads back.
-use Rattle.std.specs.Prelude.{◌≡◌, ℕ, Bool, true, false, ◌&&◌, ◌||◌, not, ◌==◌, if◌then◌else◌, IsSome, List, [], ◌∷◌, ◌++◌, length, Option, Some, None}
+use Rattle.std.specs.Prelude.{◌≡◌, ℕ, Bool, true, false, ◌&&◌, ◌||◌, not, ◌==◌, if◌then◌else◌}
+use Rattle.std.specs.Prelude.{IsSome, List, [], ◌∷◌, ◌++◌, length, Option, Some, None}
 use Rattle.std.specs.List.{list_any}
 use Rattle.std.specs.Str.{bytes_eq}
 use Rattle.wap_url.specs.declared.url.Url.{Url}
@@ -33,7 +34,8 @@ same_segments (s ∷ ss) (t ∷ ts) = bytes_eq s t && same_segments ss ts
 
 -- scheme, host and port are the same
 abbrev pub same_site : Url → Url → Bool
-same_site base u = same_text base.scheme u.scheme && (same_text base.host u.host && same_port base.port u.port)
+same_site base u =
+    same_text base.scheme u.scheme && (same_text base.host u.host && same_port base.port u.port)
 
 -- the paths agree up to their last slash
 abbrev pub same_folder : List ℕ → List ℕ → Bool

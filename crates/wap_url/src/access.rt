@@ -33,13 +33,15 @@ impl Access {
 }
 
 fn allows_host(domain: &Text, host: &Text) -> bool
-    ensures { IsTrue result ↔ IsSuffix (labels (map to_ascii_lowercase domain.now)) (labels host.now) }
+    ensures { IsTrue result
+        ↔ IsSuffix (labels (map to_ascii_lowercase domain.now)) (labels host.now) }
 {
     ends_in_labels(host.as_str().as_bytes(), domain.as_str().as_bytes())
 }
 
 fn allows_path(access: &Text, path: &Text) -> bool
-    ensures { IsTrue result ↔ IsPrefix (access_segments access.now) (segments (below_root path.now)) }
+    ensures { IsTrue result
+        ↔ IsPrefix (access_segments access.now) (segments (below_root path.now)) }
 {
     begins_in_segments(
         after_root(path.as_str().as_bytes()),
@@ -49,7 +51,8 @@ fn allows_path(access: &Text, path: &Text) -> bool
 
 /// Compares from the right: the bytes of the domain, and before them a dot or nothing.
 fn ends_in_labels(host: &[u8], domain: &[u8]) -> bool
-    ensures { IsTrue result ↔ IsSuffix (labels (map to_ascii_lowercase domain.now)) (labels host.now) }
+    ensures { IsTrue result
+        ↔ IsSuffix (labels (map to_ascii_lowercase domain.now)) (labels host.now) }
 {
     if host.len() < domain.len() {
         return false;
@@ -88,7 +91,8 @@ fn after_root(path: &[u8]) -> &[u8]
 
 /// Both stand without their leading slash.
 fn begins_in_segments(path: &[u8], access: &[u8]) -> bool
-    ensures { IsTrue result ↔ IsPrefix (without_empty_last (segments access.now)) (segments path.now) }
+    ensures { IsTrue result
+        ↔ IsPrefix (without_empty_last (segments access.now)) (segments path.now) }
 {
     if access.is_empty() {
         return true;

@@ -22,7 +22,8 @@ pub fn resolved_path(alloc: Global, path: &Text) -> Result<Text, NoMemory>
 }
 
 fn add_without_dots(alloc: Global, out: &mut Text, path: &str) -> Result<(), NoMemory>
-    ensures { OnOk result (out.new ≡ out.old ++ path_of (without_dots (segments (chars path.now)))) }
+    ensures { OnOk result
+        (out.new ≡ out.old ++ path_of (without_dots (segments (chars path.now)))) }
 {
     let kept = kept_segments(alloc, path)?;
     add_joined(out, &kept)
@@ -47,7 +48,9 @@ fn kept_segments<'a>(alloc: Global, path: &'a str) -> Result<Vec<&'a str>, NoMem
 
 /// One more segment: `..` takes the one before it.
 fn keep<'a>(kept: &mut Vec<&'a str>, segment: &'a str) -> Result<(), NoMemory>
-    ensures { OnOk result (map (λ s. s.now) kept.new.items ≡ kept_with (map (λ s. s.now) kept.old.items) segment.now) }
+    ensures { OnOk result
+        (map (λ s. s.now) kept.new.items
+        ≡ kept_with (map (λ s. s.now) kept.old.items) segment.now) }
 {
     if segment == ".." {
         kept.pop();

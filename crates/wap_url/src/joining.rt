@@ -1,6 +1,7 @@
 //! Joining a reference to a base (RFC 2396, section 5.2).
-ghost use Rattle.std.specs.Prelude.{◌≡◌, ◌++◌, IfOk, OnOk};
+ghost use Rattle.std.specs.Prelude.{◌≡◌, ◌++◌, IfOk, OnOk, is_some};
 ghost use Rattle.wap_url.specs.Joining.{target, merged_path, lead_segments, rooted, joined};
+ghost use Rattle.wap_url.specs.Joining.{resolved_path};
 ghost use Rattle.wap_url.specs.Segments.{segments, all_but_last};
 ghost use Rattle.wap_url.specs.inside.Segments.{folder_of};
 ghost use Rattle.wap_base.specs.Cuts.{begins_with};
@@ -18,10 +19,18 @@ use wap_base::{NoMemory, Text};
 pub fn join(alloc: Global, base: &Url, reference: &Url) -> Result<Url, NoMemory>
     ensures exact { IfOk result (λ url. url ≡ joined base.now reference.now) }
 {
-    let mut url = target(alloc, base, reference)?;
+    let url = target(alloc, base, reference)?;
+    let path = plain_path(alloc, &url)?;
+    Ok(Url { path, ..url })
+}
+
+/// The path without dot segments. Under a host an empty path is the root.
+fn plain_path(alloc: Global, url: &Url) -> Result<Text, NoMemory>
+    ensures { IfOk result (λ path. path
+        ≡ rooted (is_some url.now.host) (resolved_path url.now.path)) }
+{
     let path = resolved_path(alloc, &url.path)?;
-    url.path = rooted(alloc, path, url.host.is_some())?;
-    Ok(url)
+    rooted(alloc, path, url.host.is_some())
 }
 
 /// The reference with what it takes from the base.
@@ -32,15 +41,31 @@ fn target(alloc: Global, base: &Url, reference: &Url) -> Result<Url, NoMemory>
         return reference.copy(alloc);
     }
     if reference.host.is_some() {
-        let mut url = reference.copy(alloc)?;
-        url.scheme = copy_of(alloc, &base.scheme)?;
-        return Ok(url);
+        let scheme = copy_of(alloc, &base.scheme)?;
+        return Ok(Url {
+            scheme,
+            ..reference.copy(alloc)?
+        });
     }
     if reference.path.is_empty() && reference.query.is_none() {
-        let mut url = base.copy(alloc)?;
-        url.fragment = copy_of(alloc, &reference.fragment)?;
-        return Ok(url);
+        let fragment = copy_of(alloc, &reference.fragment)?;
+        return Ok(Url {
+            fragment,
+            ..base.copy(alloc)?
+        });
     }
+    on_host_of(alloc, base, reference)
+}
+
+/// The reference on the scheme, host and port of the base, with the path merged with the base's.
+fn on_host_of(alloc: Global, base: &Url, reference: &Url) -> Result<Url, NoMemory>
+    ensures { IfOk result (λ url. url ≡ record reference.now {
+      scheme = base.now.scheme;
+      host = base.now.host;
+      port = base.now.port;
+      path = merged_path base.now reference.now;
+    }) }
+{
     Ok(Url {
         scheme: copy_of(alloc, &base.scheme)?,
         host: copy_of(alloc, &base.host)?,

@@ -2,7 +2,8 @@
 ghost use Rattle.std.specs.Prelude.{◌≡◌, ◌++◌, ◌∷◌, [], IfOk, OnOk, IsSome};
 ghost use Rattle.std.specs.Fmt.{decimal};
 ghost use Rattle.wap_url.specs.Parts.{followed_by, led_by, authority, IsUrl};
-ghost use Rattle.wap_url.specs.Printing.{printed, text_without_fragment, parts_for, named_port, named_page, ends_in_slash, name_for, IsNormal};
+ghost use Rattle.wap_url.specs.Printing.{printed, text_without_fragment, parts_for, named_port};
+ghost use Rattle.wap_url.specs.Printing.{named_page, ends_in_slash, name_for, IsNormal};
 ghost use Rattle.std.specs.Option.{option_map, unwrap_or};
 ghost use Rattle.wap_base.specs.Ascii.{colon};
 

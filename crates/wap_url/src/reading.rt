@@ -1,11 +1,13 @@
 //! Reading a text as a URL.
-ghost use Rattle.std.specs.Prelude.{◌≡◌, ◌≢◌, not, false, true, None, IfOk, IfErr, Ok, Err, encode_utf8_all};
+ghost use Rattle.std.specs.Prelude.{◌≡◌, ◌≢◌, not, false, true, None, IfOk};
+ghost use Rattle.std.specs.Prelude.{IfErr, Ok, Err, encode_utf8_all};
 ghost use Rattle.std.specs.Option.{option_and_then, option_copied};
 ghost use Rattle.wap_base.specs.Outcome.{Meets};
 ghost use Rattle.wap_base.specs.Cuts.{begins_with, until, onward};
 ghost use Rattle.wap_url.specs.Characters.{is_hash};
 ghost use Rattle.wap_url.specs.Parts.{url_of, port_number, is_port};
-ghost use Rattle.wap_url.specs.Reading.{url_at, is_stop, has_bad_char, fragment_of, fault_of, passes_if_there};
+ghost use Rattle.wap_url.specs.Reading.{url_at, is_stop, has_bad_char, fragment_of};
+ghost use Rattle.wap_url.specs.Reading.{fault_of, passes_if_there};
 ghost use Rattle.wap_url.specs.inside.Slices.{parts_in};
 
 use crate::checks::{fault_in, number_of};
@@ -30,11 +32,14 @@ impl Url {
 
         // The URL is the text's, and a text that has one is read.
         ensures found { IfOk result (IsUrl text.now) }
-        ensures only { (url : Url) → IsUrl text.now url → Meets UrlFault.NoMemory (λ url. url) result (Ok url) }
+        ensures only { (url : Url) → IsUrl text.now url
+            → Meets UrlFault.NoMemory (λ url. url) result (Ok url) }
 
         // The fault is the text's first, and a text that has one is refused by it.
-        ensures refused { IfErr result (λ fault. fault ≢ UrlFault.NoMemory → IsRefused text.now fault) }
-        ensures first { (fault : UrlFault) → IsRefused text.now fault → Meets UrlFault.NoMemory (λ url. url) result (Err fault) }
+        ensures refused { IfErr result
+            (λ fault. fault ≢ UrlFault.NoMemory → IsRefused text.now fault) }
+        ensures first { (fault : UrlFault) → IsRefused text.now fault
+            → Meets UrlFault.NoMemory (λ url. url) result (Err fault) }
 
         // So its text is read as the same URL again.
         ensures normal { IfOk result IsNormal }

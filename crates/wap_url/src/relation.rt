@@ -3,7 +3,8 @@ ghost use Rattle.std.specs.Prelude.{◌≡◌, IfOk, MatchOption, [], IsTrue, �
 ghost use Rattle.std.specs.Str.{chars};
 ghost use Rattle.wap_url.specs.Reading.{begins_with_slashes};
 ghost use Rattle.wap_url.specs.Segments.{segments, all_but_last, last_segment};
-ghost use Rattle.wap_url.specs.Relative.{relative_form, local_path, same_folder, same_site, stands_alone, same_text, IsPage, LeadsBack};
+ghost use Rattle.wap_url.specs.Relative.{relative_form, local_path, same_folder, same_site};
+ghost use Rattle.wap_url.specs.Relative.{stands_alone, same_text, IsPage, LeadsBack};
 ghost use Rattle.std.specs.Option.{option_copied};
 
 use crate::Url;
@@ -68,7 +69,8 @@ fn is_same(folder: Option<&str>, other: Option<&str>) -> bool
 
 /// The path before its last slash.
 fn folder_of(path: &str) -> Option<&str>
-    ensures { MatchOption result (all_but_last (segments path.now) ≡ []) (λ folder. all_but_last (segments path.now) ≡ segments folder.now) }
+    ensures { MatchOption result (all_but_last (segments path.now) ≡ [])
+        (λ folder. all_but_last (segments path.now) ≡ segments folder.now) }
 {
     let (folder, _) = path.rsplit_once('/')?;
     Some(folder)

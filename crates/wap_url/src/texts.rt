@@ -43,7 +43,8 @@ pub fn text_of_part(alloc: Global, part: Option<&[u8]>) -> Result<Option<Text>, 
 }
 
 pub fn lowered_part(alloc: Global, part: Option<&[u8]>) -> Result<Option<Text>, NoMemory>
-    ensures { IfOk result (λ text. text ≡ option_map (map to_ascii_lowercase) (option_copied part.entry)) }
+    ensures { IfOk result
+        (λ text. text ≡ option_map (map to_ascii_lowercase) (option_copied part.entry)) }
 {
     match part {
         Some(bytes) => Ok(Some(lowered_text(alloc, bytes)?)),

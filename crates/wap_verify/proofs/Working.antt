@@ -1,5 +1,7 @@
 -- What the verifier keeps about numbers of values, from step to step.
-use Rattle.std.proofs.Common.{◌≡◌, ◌≢◌, ℕ, zero, suc, ◌+◌, ◌-◌, ◌<◌, ◌≤◌, max, Bool, true, false, eqb, List, [], ◌∷◌, ◌++◌, length, set, replicate, Option, Some, None, Ok, refl, sym, ap, subst, ◌∙◌, ◌⊎◌, inl, inr, arith}
+use Rattle.std.proofs.Common.{◌≡◌, ◌≢◌, ℕ, zero, suc, ◌+◌, ◌-◌, ◌<◌, ◌≤◌, max, Bool, true, false}
+use Rattle.std.proofs.Common.{eqb, List, [], ◌∷◌, ◌++◌, length, set, replicate, Option, Some, None}
+use Rattle.std.proofs.Common.{Ok, refl, sym, ap, subst, ◌∙◌, ◌⊎◌, inl, inr, arith}
 use Rattle.std.specs.Prelude.{not, ◌||◌, IfSome, slice_get}
 use Rattle.std.specs.List.{list_all}
 use Rattle.std.proofs.lemmas.Bool.{cases_eq, cases_lt, cases_Bool, and_parts, eqb-true}
@@ -15,26 +17,32 @@ use Rattle.wap_verify.specs.declared.fault.VerifyFault.{VerifyFault}
 use Rattle.wap_verify.specs.declared.fault.VerifyFault.TheVariants as fault
 use Rattle.wap_verify.specs.Steps.{way_behind, way_on, step_at}
 use Rattle.wap_verify.specs.Paths.{Stand, HasWay, Leads, IsPath, Reaches}
-use Rattle.wap_verify.specs.Sound.{Runs, leads_within, has_target, is_aimed, IsSplit, IsSound, IsRoom}
+use Rattle.wap_verify.specs.Sound.{Runs, leads_within, has_target, is_aimed}
+use Rattle.wap_verify.specs.Sound.{IsSplit, IsSound, IsRoom}
 use Rattle.wap_verify.specs.Faults.{IsFunctionFault, underflow, depths}
-use Rattle.wap_verify.specs.inside.Work.{GoesOn, is_place, State, depth_of, noted, arrived, Agrees, followed, AgreesWith, unseen, effort, Among, Sane, Arrived, Settled, Grows, Works, Visits}
+use Rattle.wap_verify.specs.inside.Work.{GoesOn, is_place, State, depth_of, noted, arrived, Agrees}
+use Rattle.wap_verify.specs.inside.Work.{followed, AgreesWith, unseen, effort, Among, Sane}
+use Rattle.wap_verify.specs.inside.Work.{Arrived, Settled, Grows, Works, Visits}
 use Rattle.wap_verify.specs.inside.Kept.{IsConflictOn}
 
 -- ---- lists
 
-get_set_same : {A : Type 0} (xs : List A) (i : ℕ) (x : A) → i < length xs → slice_get (set xs i x) i ≡ Some x
+get_set_same : {A : Type 0} (xs : List A) (i : ℕ) (x : A) → i < length xs
+    → slice_get (set xs i x) i ≡ Some x
 get_set_same [] i x within = absurd (omega arith)
 get_set_same (y ∷ xs) zero x within = refl
 get_set_same (y ∷ xs) (suc i) x within = get_set_same xs i x (omega arith)
 
-get_set_other : {A : Type 0} (xs : List A) (i j : ℕ) (x : A) → j ≢ i → slice_get (set xs i x) j ≡ slice_get xs j
+get_set_other : {A : Type 0} (xs : List A) (i j : ℕ) (x : A) → j ≢ i
+    → slice_get (set xs i x) j ≡ slice_get xs j
 get_set_other [] i j x apart = refl
 get_set_other (y ∷ xs) zero zero x apart = absurd (apart refl)
 get_set_other (y ∷ xs) zero (suc j) x apart = refl
 get_set_other (y ∷ xs) (suc i) zero x apart = refl
 get_set_other (y ∷ xs) (suc i) (suc j) x apart = get_set_other xs i j x (λ e. apart (ap suc e))
 
-unseen-set : (xs : List (Option ℕ)) (i values : ℕ) → slice_get xs i ≡ Some None → 1 + unseen (set xs i (Some values)) ≡ unseen xs
+unseen-set : (xs : List (Option ℕ)) (i values : ℕ) → slice_get xs i ≡ Some None
+    → 1 + unseen (set xs i (Some values)) ≡ unseen xs
 unseen-set [] i values e = absurd cc
 unseen-set (None ∷ xs) zero values e = refl
 unseen-set (Some other ∷ xs) zero values e = absurd cc
@@ -54,7 +62,8 @@ pub among_pop : {A : Type 0} (x y : A) (xs : List A) → Among x (xs ++ y ∷ []
 among_pop x y [] (inl same) = inr same
 among_pop x y [] (inr none) = absurd none
 among_pop x y (z ∷ xs) (inl same) = inl (inl same)
-among_pop x y (z ∷ xs) (inr later) = elim (among_pop x y xs later) [ inl before ↦ inl (inr before) | inr last ↦ inr last ]
+among_pop x y (z ∷ xs) (inr later) =
+    elim (among_pop x y xs later) [ inl before ↦ inl (inr before) | inr last ↦ inr last ]
 
 abbrev kept : ℕ → Option (Option ℕ)
 kept values = Some (Some values)
@@ -71,44 +80,68 @@ eqb-same n = grind (arith, nat_tests)
 
 -- ---- each place that is reached has an instruction
 
-pub is_here : (places : List ℕ) (at : ℕ) → is_place places at ≡ true → (test : ℕ → Bool) → list_all test places ≡ true → test at ≡ true
+pub is_here : (places : List ℕ) (at : ℕ) → is_place places at ≡ true
+    → (test : ℕ → Bool) → list_all test places ≡ true → test at ≡ true
 is_here [] at among test all = absurd (cc among)
 is_here (place ∷ places) at among test all =
     let parts = and_parts (test place) (list_all test places) all in
     elim (cases_Bool (eqb place at)) [
       | inl same ↦ subst (λ (n : ℕ). test n ≡ true) (eqb-true place at same) parts.0
-      | inr other ↦ is_here places at (sym (ap (λ (b : Bool). b || is_place places at) other) ∙ among) test parts.1
+      | inr other ↦
+          is_here places at
+          (sym (ap (λ (b : Bool). b || is_place places at) other) ∙ among) test parts.1
     ]
 
 module _ (unit : Unit) (index : ℕ) (function : Code) where
   -- a place up to which the code runs is among all places
-  pub runs_has : (from : ℕ) (front places : List ℕ) (at : ℕ) → Runs unit index function from front at → Runs unit index function from places (length function.code) → at < length function.code → is_place places at ≡ true
+  pub runs_has : (from : ℕ) (front places : List ℕ) (at : ℕ)
+      → Runs unit index function from front at
+      → Runs unit index function from places (length function.code) → at < length function.code
+      → is_place places at ≡ true
   runs_has from [] [] at one all within = absurd (omega arith)
-  runs_has from [] (place ∷ places) at one all within = ap (λ (b : Bool). b || is_place places at) (ap (λ (n : ℕ). eqb n at) (all.0 ∙ one) ∙ eqb-same at)
+  runs_has from [] (place ∷ places) at one all within =
+      ap (λ (b : Bool). b || is_place places at)
+      (ap (λ (n : ℕ). eqb n at) (all.0 ∙ one) ∙ eqb-same at)
   runs_has from (first ∷ front) [] at one all within = let inside = one.1 in absurd (omega arith)
   runs_has from (first ∷ front) (place ∷ places) at one all within =
       let step_same : one.2.0 ≡ all.2.0 = ok_same one.2.0 all.2.0 (sym one.2.1.0 ∙ all.2.1.0) in
-      let rest : Runs unit index function all.2.0.next front at = subst (λ (s : Step). Runs unit index function s.next front at) step_same one.2.1.1 in
-      or_right (eqb place at) (is_place places at) (runs_has all.2.0.next front places at rest all.2.1.1 within)
+      let rest : Runs unit index function all.2.0.next front at =
+      subst (λ (s : Step). Runs unit index function s.next front at) step_same one.2.1.1 in
+      or_right (eqb place at) (is_place places at)
+      (runs_has all.2.0.next front places at rest all.2.1.1 within)
 
   -- every place is before the end
-  place_below : (from : ℕ) (places : List ℕ) (end at : ℕ) → Runs unit index function from places end → is_place places at ≡ true → at < length function.code
+  place_below : (from : ℕ) (places : List ℕ) (end at : ℕ) → Runs unit index function from places end
+      → is_place places at ≡ true → at < length function.code
   place_below from [] end at runs among = absurd (cc among)
   place_below from (place ∷ places) end at runs among = elim (cases_Bool (eqb place at)) [
-    | inl same ↦ subst (λ (n : ℕ). n < length function.code) (sym runs.0 ∙ eqb-true place at same) runs.1
-    | inr other ↦ place_below runs.2.0.next places end at runs.2.1.1 (sym (ap (λ (b : Bool). b || is_place places at) other) ∙ among)
+    | inl same ↦
+        subst (λ (n : ℕ). n < length function.code) (sym runs.0 ∙ eqb-true place at same) runs.1
+    | inr other ↦
+        place_below runs.2.0.next places end at runs.2.1.1
+        (sym (ap (λ (b : Bool). b || is_place places at) other) ∙ among)
   ]
 
-  pub stands_at : (from : ℕ) (places : List ℕ) (end at : ℕ) → Runs unit index function from places end → is_place places at ≡ true → (step : Step) × (step_at unit index function at ≡ Ok step)
+  pub stands_at : (from : ℕ) (places : List ℕ) (end at : ℕ)
+      → Runs unit index function from places end → is_place places at ≡ true
+      → (step : Step) × (step_at unit index function at ≡ Ok step)
   stands_at from [] end at runs among = absurd (cc among)
   stands_at from (place ∷ places) end at runs among = elim (cases_Bool (eqb place at)) [
-    | inl same ↦ (runs.2.0, ap (step_at unit index function) (sym (eqb-true place at same) ∙ runs.0) ∙ runs.2.1.0)
-    | inr other ↦ stands_at runs.2.0.next places end at runs.2.1.1 (sym (ap (λ (b : Bool). b || is_place places at) other) ∙ among)
+    | inl same ↦ (
+      runs.2.0,
+      ap (step_at unit index function) (sym (eqb-true place at same) ∙ runs.0) ∙ runs.2.1.0,
+    )
+    | inr other ↦
+        stands_at runs.2.0.next places end at runs.2.1.1
+        (sym (ap (λ (b : Bool). b || is_place places at) other) ∙ among)
   ]
 
-  runs_end : (from : ℕ) (places : List ℕ) (end : ℕ) → Runs unit index function from places end → end ≤ length function.code → (from ≡ end) ⊎ (is_place places from ≡ true)
+  runs_end : (from : ℕ) (places : List ℕ) (end : ℕ) → Runs unit index function from places end
+      → end ≤ length function.code → (from ≡ end) ⊎ (is_place places from ≡ true)
   runs_end from [] end runs within = inl runs
-  runs_end from (place ∷ places) end runs within = inr (ap (λ (b : Bool). b || is_place places from) (ap (λ (n : ℕ). eqb n from) runs.0 ∙ eqb-same from))
+  runs_end from (place ∷ places) end runs within =
+      inr (ap (λ (b : Bool). b || is_place places from)
+      (ap (λ (n : ℕ). eqb n from) runs.0 ∙ eqb-same from))
 
   -- what is reached is the end or a place
   abbrev IsPlaced : List ℕ → ℕ → Type 0
@@ -116,77 +149,132 @@ module _ (unit : Unit) (index : ℕ) (function : Code) where
 
   behind : (next : ℕ) (on : Option ℕ) (way : Way) → way_behind next on ≡ Some way → way.to ≡ next
   behind next None way is = absurd (cc is)
-  behind next (Some gives) way is = ap (λ (w : Way). w.to) (sym (some_same (record { to = next; gives = gives }) way is))
+  behind next (Some gives) way is =
+      ap (λ (w : Way). w.to) (sym (some_same (record { to = next; gives = gives }) way is))
 
-  after_place : (from : ℕ) (places : List ℕ) (at : ℕ) (step : Step) → Runs unit index function from places (length function.code) → is_place places at ≡ true → step_at unit index function at ≡ Ok step → IsPlaced places step.next
+  after_place : (from : ℕ) (places : List ℕ) (at : ℕ) (step : Step)
+      → Runs unit index function from places (length function.code) → is_place places at ≡ true
+      → step_at unit index function at ≡ Ok step → IsPlaced places step.next
   after_place from [] at step runs among is = absurd (cc among)
   after_place from (place ∷ places) at step runs among is = elim (cases_Bool (eqb place at)) [
     | inl same ↦
-        let here : step_at unit index function from ≡ Ok step = ap (step_at unit index function) (sym runs.0 ∙ eqb-true place at same) ∙ is in
+        let here : step_at unit index function from ≡ Ok step =
+        ap (step_at unit index function) (sym runs.0 ∙ eqb-true place at same) ∙ is in
         let step_same : runs.2.0 ≡ step = ok_same runs.2.0 step (sym runs.2.1.0 ∙ here) in
-        let rest : Runs unit index function step.next places (length function.code) = subst (λ (s : Step). Runs unit index function s.next places (length function.code)) step_same runs.2.1.1 in
-        elim (runs_end step.next places (length function.code) rest (omega arith)) [ inl ends ↦ inl ends | inr among ↦ inr (or_right (eqb place step.next) (is_place places step.next) among) ]
-    | inr other ↦ elim (after_place runs.2.0.next places at step runs.2.1.1 (sym (ap (λ (b : Bool). b || is_place places at) other) ∙ among) is) [
-      | inl ends ↦ inl ends
-      | inr among ↦ inr (or_right (eqb place step.next) (is_place places step.next) among)
-    ]
+        let rest : Runs unit index function step.next places (length function.code) =
+        subst (λ (s : Step). Runs unit index function s.next places (length function.code))
+        step_same runs.2.1.1 in
+        elim (runs_end step.next places (length function.code) rest (omega arith)) [
+          | inl ends ↦ inl ends
+          | inr among ↦ inr (or_right (eqb place step.next) (is_place places step.next) among)
+        ]
+    | inr other ↦
+        elim (after_place runs.2.0.next places at step runs.2.1.1
+        (sym (ap (λ (b : Bool). b || is_place places at) other) ∙ among) is) [
+          | inl ends ↦ inl ends
+          | inr among ↦ inr (or_right (eqb place step.next) (is_place places step.next) among)
+        ]
   ]
 
-  jump_place : (places : List ℕ) (at : ℕ) (step : Step) (way : Way) → is_aimed unit index function places at ≡ true → step_at unit index function at ≡ Ok step → step.jump ≡ Some way → IsPlaced places way.to
+  jump_place : (places : List ℕ) (at : ℕ) (step : Step) (way : Way)
+      → is_aimed unit index function places at ≡ true → step_at unit index function at ≡ Ok step
+      → step.jump ≡ Some way → IsPlaced places way.to
   jump_place places at step way aimed is jump =
-      let target : has_target places (length function.code) (Ok step) ≡ true = sym (ap (has_target places (length function.code)) is) ∙ aimed in
-      let leads = (and_parts (not step.strays) (leads_within places (length function.code) step.jump) target).1 in
-      let within : leads_within places (length function.code) (Some way) ≡ true = sym (ap (leads_within places (length function.code)) jump) ∙ leads in
+      let target : has_target places (length function.code) (Ok step) ≡ true =
+      sym (ap (has_target places (length function.code)) is) ∙ aimed in
+      let leads =
+      (and_parts (not step.strays)
+      (leads_within places (length function.code) step.jump) target).1 in
+      let within : leads_within places (length function.code) (Some way) ≡ true =
+      sym (ap (leads_within places (length function.code)) jump) ∙ leads in
       elim (cases_Bool (eqb way.to (length function.code))) [
         | inl ends ↦ inl (eqb-true way.to (length function.code) ends)
         | inr other ↦ inr (sym (ap (λ (b : Bool). b || is_place places way.to) other) ∙ within)
       ]
 
-  reached_place : (split : IsSplit unit index function) (before : List Stand) (at values : ℕ) → IsPath unit index function ((at, values) ∷ before) → IsPlaced split.places at
-  reached_place split [] at values path = subst (IsPlaced split.places) (sym path.0) (elim (runs_end 0 split.places (length function.code) split.runs (omega arith)) [ inl ends ↦ inl ends | inr among ↦ inr among ])
+  reached_place : (split : IsSplit unit index function) (before : List Stand) (at values : ℕ)
+      → IsPath unit index function ((at, values) ∷ before) → IsPlaced split.places at
+  reached_place split [] at values path =
+      subst (IsPlaced split.places) (sym path.0)
+      (elim (runs_end 0 split.places (length function.code) split.runs (omega arith)) [
+        | inl ends ↦ inl ends
+        | inr among ↦ inr among
+      ])
   reached_place split (here ∷ before) at values path =
       let leads = path.0 in
       let within = leads.within in
-      let among : is_place split.places here.0 ≡ true = elim (reached_place split before here.0 here.1 path.1) [ inl ends ↦ absurd (omega arith) | inr among ↦ among ] in
+      let among : is_place split.places here.0 ≡ true =
+      elim (reached_place split before here.0 here.1 path.1) [
+        | inl ends ↦ absurd (omega arith)
+        | inr among ↦ among
+      ] in
       subst (IsPlaced split.places) (sym leads.to) (elim leads.has [
-        | inl on ↦ subst (IsPlaced split.places) (sym (behind leads.step.next leads.step.on leads.way on)) (after_place 0 split.places here.0 leads.step split.runs among leads.stands)
-        | inr jump ↦ jump_place split.places here.0 leads.step leads.way (is_here split.places here.0 among (is_aimed unit index function split.places) split.aimed) leads.stands jump
+        | inl on ↦
+            subst (IsPlaced split.places) (sym (behind leads.step.next leads.step.on leads.way on))
+            (after_place 0 split.places here.0 leads.step split.runs among leads.stands)
+        | inr jump ↦
+            jump_place split.places here.0 leads.step leads.way (is_here split.places here.0 among
+            (is_aimed unit index function split.places) split.aimed) leads.stands jump
       ])
 
-  placed_within : (split : IsSplit unit index function) (at : ℕ) → IsPlaced split.places at → at ≤ length function.code
+  placed_within : (split : IsSplit unit index function) (at : ℕ) → IsPlaced split.places at
+      → at ≤ length function.code
   placed_within split at (inl ends) = omega arith
-  placed_within split at (inr among) = let below = place_below 0 split.places (length function.code) at split.runs among in omega arith
+  placed_within split at (inr among) =
+      let below = place_below 0 split.places (length function.code) at split.runs among in
+      omega arith
 
   -- a place that is reached before the end is among all places
-  pub reached_among : (split : IsSplit unit index function) (at values : ℕ) → Reaches unit index function at values → at < length function.code → is_place split.places at ≡ true
-  reached_among split at values reached within = elim (reached_place split reached.before at values reached.path) [ inl ends ↦ absurd (omega arith) | inr among ↦ among ]
+  pub reached_among : (split : IsSplit unit index function) (at values : ℕ)
+      → Reaches unit index function at values → at < length function.code
+      → is_place split.places at ≡ true
+  reached_among split at values reached within =
+      elim (reached_place split reached.before at values reached.path) [
+        | inl ends ↦ absurd (omega arith)
+        | inr among ↦ among
+      ]
 
   -- no jump from there strays, and each way leads to within the code or to its end
-  pub stays_reached : (split : IsSplit unit index function) (at values : ℕ) (step : Step) → Reaches unit index function at values → at < length function.code → step_at unit index function at ≡ Ok step → step.strays ≡ false
+  pub stays_reached : (split : IsSplit unit index function) (at values : ℕ) (step : Step)
+      → Reaches unit index function at values → at < length function.code
+      → step_at unit index function at ≡ Ok step → step.strays ≡ false
   stays_reached split at values step reached within is =
-      let aimed = is_here split.places at (reached_among split at values reached within) (is_aimed unit index function split.places) split.aimed in
-      let target : has_target split.places (length function.code) (Ok step) ≡ true = sym (ap (has_target split.places (length function.code)) is) ∙ aimed in
-      unstray step.strays (and_parts (not step.strays) (leads_within split.places (length function.code) step.jump) target).0
+      let aimed =
+      is_here split.places at (reached_among split at values reached within)
+      (is_aimed unit index function split.places) split.aimed in
+      let target : has_target split.places (length function.code) (Ok step) ≡ true =
+      sym (ap (has_target split.places (length function.code)) is) ∙ aimed in
+      unstray step.strays (and_parts (not step.strays)
+      (leads_within split.places (length function.code) step.jump) target).0
     where
       unstray : (b : Bool) → not b ≡ true → b ≡ false
       unstray true e = absurd (cc e)
       unstray false e = refl
 
-  pub ways_reached : (split : IsSplit unit index function) (at values : ℕ) (step : Step) → Reaches unit index function at values → at < length function.code → step_at unit index function at ≡ Ok step
+  pub ways_reached : (split : IsSplit unit index function) (at values : ℕ) (step : Step)
+      → Reaches unit index function at values → at < length function.code
+      → step_at unit index function at ≡ Ok step
       → (way : Way) → HasWay step way → way.to ≤ length function.code
   ways_reached split at values step reached within is way has =
       let among = reached_among split at values reached within in
       placed_within split way.to (elim has [
-        | inl on ↦ subst (IsPlaced split.places) (sym (behind step.next step.on way on)) (after_place 0 split.places at step split.runs among is)
-        | inr jump ↦ jump_place split.places at step way (is_here split.places at among (is_aimed unit index function split.places) split.aimed) is jump
+        | inl on ↦
+            subst (IsPlaced split.places) (sym (behind step.next step.on way on))
+            (after_place 0 split.places at step split.runs among is)
+        | inr jump ↦
+            jump_place split.places at step way (is_here split.places at among
+            (is_aimed unit index function split.places) split.aimed) is jump
       ])
 
   -- an instruction stands where the code is reached before its end
-  pub stands_reached : (split : IsSplit unit index function) (at values : ℕ) → Reaches unit index function at values → at < length function.code → (step : Step) × (step_at unit index function at ≡ Ok step)
-  stands_reached split at values reached within = elim (reached_place split reached.before at values reached.path) [
-    | inl ends ↦ absurd (omega arith)
-    | inr among ↦ stands_at 0 split.places (length function.code) at split.runs among
-  ]
+  pub stands_reached : (split : IsSplit unit index function) (at values : ℕ)
+      → Reaches unit index function at values → at < length function.code
+      → (step : Step) × (step_at unit index function at ≡ Ok step)
+  stands_reached split at values reached within =
+      elim (reached_place split reached.before at values reached.path) [
+        | inl ends ↦ absurd (omega arith)
+        | inr among ↦ stands_at 0 split.places (length function.code) at split.runs among
+      ]
 
 -- ---- coming to a place
 
@@ -196,7 +284,8 @@ room_old r v = omega arith
 room_new : (r v : ℕ) → v ≤ max r v
 room_new r v = omega arith
 
-same_grows : (state : State) (room : ℕ) → state.room ≤ room → Grows state (record { depths = state.depths; pending = state.pending; room = room })
+same_grows : (state : State) (room : ℕ) → state.room ≤ room
+    → Grows state (record { depths = state.depths; pending = state.pending; room = room })
 same_grows state room more = record {
   long = refl;
   kept = λ at values e. e;
@@ -207,23 +296,30 @@ same_grows state room more = record {
   less = omega arith;
 }
 
-grows_noted : (state : State) (to values : ℕ) (d : Option (Option ℕ)) → depth_of state to ≡ d → Grows state (noted state to values d)
-grows_noted state to values None is = same_grows state (max state.room values) (room_old state.room values)
-grows_noted state to values (Some (Some other)) is = same_grows state (max state.room values) (room_old state.room values)
+grows_noted : (state : State) (to values : ℕ) (d : Option (Option ℕ)) → depth_of state to ≡ d
+    → Grows state (noted state to values d)
+grows_noted state to values None is =
+    same_grows state (max state.room values) (room_old state.room values)
+grows_noted state to values (Some (Some other)) is =
+    same_grows state (max state.room values) (room_old state.room values)
 grows_noted state to values (Some None) is =
     let within = slice_get_within state.depths to None is in
     let one = unseen-set state.depths to values is in
     record {
       long = length-set state.depths to (Some values);
       kept = λ at v e. elim (cases_eq at to) [
-        | inl same ↦ absurd (none_kept v (sym is ∙ ap (λ (n : ℕ). slice_get state.depths n) (sym same) ∙ e))
+        | inl same ↦
+            absurd (none_kept v (sym is ∙ ap (λ (n : ℕ). slice_get state.depths n) (sym same) ∙ e))
         | inr apart ↦ get_set_other state.depths to at (Some values) apart ∙ e
       ];
       waits = λ stand among. among_push stand (to, values) state.pending among;
       fresh = λ at v e. elim (cases_eq at to) [
         | inl same ↦
-            let v_is : values ≡ v = kept_same values v (sym (get_set_same state.depths to (Some values) within) ∙ ap (λ (n : ℕ). slice_get (set state.depths to (Some values)) n) (sym same) ∙ e) in
-            inr (subst (λ (s : Stand). Among s (state.pending ++ (to, values) ∷ [])) (stands_same to at values v (sym same) v_is) (among_last (to, values) state.pending))
+            let v_is : values ≡ v =
+            kept_same values v (sym (get_set_same state.depths to (Some values) within)
+            ∙ ap (λ (n : ℕ). slice_get (set state.depths to (Some values)) n) (sym same) ∙ e) in
+            inr (subst (λ (s : Stand). Among s (state.pending ++ (to, values) ∷ []))
+            (stands_same to at values v (sym same) v_is) (among_last (to, values) state.pending))
         | inr apart ↦ inl (sym (get_set_other state.depths to at (Some values) apart) ∙ e)
       ];
       room = room_old state.room values;
@@ -237,16 +333,26 @@ grows_noted state to values (Some None) is =
     stands_same : (m n v w : ℕ) → m ≡ n → v ≡ w → ◌≡◌ {A = Stand} (m, v) (n, w)
     stands_same m n v w first second = ap (λ (k : ℕ). (k, v)) first ∙ ap (λ (k : ℕ). (n, k)) second
 
-arrived_noted : (state : State) (to values : ℕ) (d : Option (Option ℕ)) → depth_of state to ≡ d → Agrees state to values → Arrived (noted state to values d) to values
-arrived_noted state to values None is agrees = record { covered = room_new state.room values; kept = λ within. absurd (past state.depths to within is) }
+arrived_noted : (state : State) (to values : ℕ) (d : Option (Option ℕ)) → depth_of state to ≡ d
+    → Agrees state to values → Arrived (noted state to values d) to values
+arrived_noted state to values None is agrees = record {
+  covered = room_new state.room values;
+  kept = λ within. absurd (past state.depths to within is);
+}
   where
     past : (xs : List (Option ℕ)) (i : ℕ) → i < length xs → slice_get xs i ≡ None → ⊥
     past [] i within e = absurd (omega arith)
     past (x ∷ xs) zero within e = cc
     past (x ∷ xs) (suc i) within e = past xs i (omega arith) e
-arrived_noted state to values (Some (Some other)) is agrees = record { covered = room_new state.room values; kept = λ within. is ∙ ap kept (agrees other is) }
+arrived_noted state to values (Some (Some other)) is agrees =
+    record { covered = room_new state.room values; kept = λ within. is ∙ ap kept (agrees other is) }
 arrived_noted state to values (Some None) is agrees =
-    record { covered = room_new state.room values; kept = λ within. get_set_same state.depths to (Some values) (slice_get_within state.depths to None is) }
+    record {
+      covered = room_new state.room values;
+      kept =
+          λ within.
+          get_set_same state.depths to (Some values) (slice_get_within state.depths to None is);
+    }
 
 module _ (unit : Unit) (index : ℕ) (function : Code) where
   -- so many values may be there
@@ -254,18 +360,35 @@ module _ (unit : Unit) (index : ℕ) (function : Code) where
     pub reached : Reaches unit index function to values
     pub bound : values + unseen state.depths ≤ length function.code
 
-  room_reached : (state : State) (to values : ℕ) → Sane unit index function state → Reaches unit index function to values → (at : ℕ) × Reaches unit index function at (max state.room values)
+  room_reached : (state : State) (to values : ℕ) → Sane unit index function state
+      → Reaches unit index function to values
+      → (at : ℕ) × Reaches unit index function at (max state.room values)
   room_reached state to values sane reached = elim (cases_lt state.room values) [
-    | inl less ↦ let most : values ≡ max state.room values = omega arith in (to, subst (Reaches unit index function to) most reached)
-    | inr more ↦ let most : state.room ≡ max state.room values = omega arith in (sane.room_at, subst (Reaches unit index function sane.room_at) most sane.room_reached)
+    | inl less ↦
+        let most : values ≡ max state.room values = omega arith in
+        (to, subst (Reaches unit index function to) most reached)
+    | inr more ↦
+        let most : state.room ≡ max state.room values = omega arith in
+        (sane.room_at, subst (Reaches unit index function sane.room_at) most sane.room_reached)
   ]
 
-  same_sane : (state : State) (to values : ℕ) → Sane unit index function state → CanArrive state to values → Sane unit index function (record { depths = state.depths; pending = state.pending; room = max state.room values })
+  same_sane : (state : State) (to values : ℕ) → Sane unit index function state
+      → CanArrive state to values → Sane unit index function
+      (record { depths = state.depths; pending = state.pending; room = max state.room values })
   same_sane state to values sane can =
       let room = room_reached state to values sane can.reached in
-      record { long = sane.long; reached = sane.reached; waiting = sane.waiting; bounded = sane.bounded; room_at = room.0; room_reached = room.1 }
+      record {
+        long = sane.long;
+        reached = sane.reached;
+        waiting = sane.waiting;
+        bounded = sane.bounded;
+        room_at = room.0;
+        room_reached = room.1;
+      }
 
-  sane_noted : (state : State) (to values : ℕ) (d : Option (Option ℕ)) → depth_of state to ≡ d → Sane unit index function state → CanArrive state to values → Sane unit index function (noted state to values d)
+  sane_noted : (state : State) (to values : ℕ) (d : Option (Option ℕ)) → depth_of state to ≡ d
+      → Sane unit index function state → CanArrive state to values
+      → Sane unit index function (noted state to values d)
   sane_noted state to values None is sane can = same_sane state to values sane can
   sane_noted state to values (Some (Some other)) is sane can = same_sane state to values sane can
   sane_noted state to values (Some None) is sane can =
@@ -274,57 +397,84 @@ module _ (unit : Unit) (index : ℕ) (function : Code) where
       let bound = can.bound in
       let room = room_reached state to values sane can.reached in
       let new : List (Option ℕ) = set state.depths to (Some values) in
-      let there : slice_get new to ≡ kept values = get_set_same state.depths to (Some values) within in
+      let there : slice_get new to ≡ kept values =
+      get_set_same state.depths to (Some values) within in
       record {
         long = length-set state.depths to (Some values) ∙ sane.long;
         reached = λ at v e. elim (cases_eq at to) [
           | inl same ↦
-              let v_is : values ≡ v = kept_same values v (sym there ∙ ap (slice_get new) (sym same) ∙ e) in
-              subst (Reaches unit index function at) v_is (subst (λ (n : ℕ). Reaches unit index function n values) (sym same) can.reached)
-          | inr apart ↦ sane.reached at v (sym (get_set_other state.depths to at (Some values) apart) ∙ e)
+              let v_is : values ≡ v =
+              kept_same values v (sym there ∙ ap (slice_get new) (sym same) ∙ e) in
+              subst (Reaches unit index function at) v_is
+              (subst (λ (n : ℕ). Reaches unit index function n values) (sym same) can.reached)
+          | inr apart ↦
+              sane.reached at v (sym (get_set_other state.depths to at (Some values) apart) ∙ e)
         ];
         waiting = λ stand among. elim (among_pop stand (to, values) state.pending among) [
-          | inl before ↦ (grows_noted state to values (Some None) is).kept stand.0 stand.1 (sane.waiting stand before)
+          | inl before ↦
+              (grows_noted state to values (Some None) is).kept stand.0 stand.1
+              (sane.waiting stand before)
           | inr last ↦ subst (λ (s : Stand). slice_get new s.0 ≡ kept s.1) (sym last) there
         ];
         bounded = λ at v e. elim (cases_eq at to) [
-          | inl same ↦ let v_is : values ≡ v = kept_same values v (sym there ∙ ap (slice_get new) (sym same) ∙ e) in omega arith
-          | inr apart ↦ let before = sane.bounded at v (sym (get_set_other state.depths to at (Some values) apart) ∙ e) in omega arith
+          | inl same ↦
+              let v_is : values ≡ v =
+              kept_same values v (sym there ∙ ap (slice_get new) (sym same) ∙ e) in
+              omega arith
+          | inr apart ↦
+              let before =
+              sane.bounded at v (sym (get_set_other state.depths to at (Some values) apart) ∙ e) in
+              omega arith
         ];
         room_at = room.0;
         room_reached = room.1;
       }
 
   -- a way that is followed, if there is one
-  pub sane_followed : (state : State) (left : ℕ) (way : Option Way) → Sane unit index function state → ((w : Way) → way ≡ Some w → CanArrive state w.to (left + w.gives)) → Sane unit index function (followed state left way)
+  pub sane_followed : (state : State) (left : ℕ) (way : Option Way) → Sane unit index function state
+      → ((w : Way) → way ≡ Some w → CanArrive state w.to (left + w.gives))
+      → Sane unit index function (followed state left way)
   sane_followed state left None sane can = sane
-  sane_followed state left (Some way) sane can = sane_noted state way.to (left + way.gives) (depth_of state way.to) refl sane (can way refl)
+  sane_followed state left (Some way) sane can =
+      sane_noted state way.to (left + way.gives) (depth_of state way.to) refl sane (can way refl)
 
   -- two numbers at one place
-  pub conflict_fault : (state : State) (left : ℕ) (way : Option Way) (found : VerifyFault) → IsSplit unit index function → Sane unit index function state
-      → ((w : Way) → way ≡ Some w → CanArrive state w.to (left + w.gives)) → IsConflictOn state index left way found → IsFunctionFault unit index function found
+  pub conflict_fault : (state : State) (left : ℕ) (way : Option Way) (found : VerifyFault)
+      → IsSplit unit index function → Sane unit index function state
+      → ((w : Way) → way ≡ Some w → CanArrive state w.to (left + w.gives))
+      → IsConflictOn state index left way found → IsFunctionFault unit index function found
   conflict_fault state left None found split sane can conflict = absurd conflict
   conflict_fault state left (Some way) found split sane can conflict =
       let inside = slice_get_within state.depths way.to (Some conflict.other) conflict.kept in
       let long = sane.long in
       let within : way.to < length function.code = omega arith in
-      depths way.to (left + way.gives) conflict.other split within (can way refl).reached (sane.reached way.to conflict.other conflict.kept) conflict.apart conflict.fault
+      depths way.to (left + way.gives) conflict.other split within (can way refl).reached
+      (sane.reached way.to conflict.other conflict.kept) conflict.apart conflict.fault
 
-pub grows_followed : (state : State) (left : ℕ) (way : Option Way) → Grows state (followed state left way)
+pub grows_followed : (state : State) (left : ℕ) (way : Option Way)
+    → Grows state (followed state left way)
 grows_followed state left None = same_grows state state.room (omega arith)
-grows_followed state left (Some way) = grows_noted state way.to (left + way.gives) (depth_of state way.to) refl
+grows_followed state left (Some way) =
+    grows_noted state way.to (left + way.gives) (depth_of state way.to) refl
 
-arrived_followed : (state : State) (left : ℕ) (way : Option Way) → AgreesWith state left way → (w : Way) → way ≡ Some w → Arrived (followed state left way) w.to (left + w.gives)
+arrived_followed : (state : State) (left : ℕ) (way : Option Way) → AgreesWith state left way
+    → (w : Way) → way ≡ Some w → Arrived (followed state left way) w.to (left + w.gives)
 arrived_followed state left None agrees w is = absurd cc
 arrived_followed state left (Some way) agrees w is =
-    subst (λ (v : Way). Arrived (followed state left (Some way)) v.to (left + v.gives)) (some_same way w is) (arrived_noted state way.to (left + way.gives) (depth_of state way.to) refl agrees)
+    subst (λ (v : Way). Arrived (followed state left (Some way)) v.to (left + v.gives))
+    (some_same way w is)
+    (arrived_noted state way.to (left + way.gives) (depth_of state way.to) refl agrees)
 
-arrived_grows : (old new : State) (to values : ℕ) → Grows old new → Arrived old to values → Arrived new to values
+arrived_grows : (old new : State) (to values : ℕ) → Grows old new → Arrived old to values
+    → Arrived new to values
 arrived_grows old new to values grows arrived =
     let covered = arrived.covered in
     let room = grows.room in
     let long = grows.long in
-    record { covered = omega arith; kept = λ within. grows.kept to values (arrived.kept (omega arith)) }
+    record {
+      covered = omega arith;
+      kept = λ within. grows.kept to values (arrived.kept (omega arith));
+    }
 
 grows_both : (a b c : State) → Grows a b → Grows b c → Grows a c
 grows_both a b c one two =
@@ -339,7 +489,10 @@ grows_both a b c one two =
       kept = λ at values e. two.kept at values (one.kept at values e);
       waits = λ stand among. two.waits stand (one.waits stand among);
       fresh = λ at values e. elim (two.fresh at values e) [
-        | inl before ↦ elim (one.fresh at values before) [ inl first ↦ inl first | inr among ↦ inr (two.waits (at, values) among) ]
+        | inl before ↦ elim (one.fresh at values before) [
+          | inl first ↦ inl first
+          | inr among ↦ inr (two.waits (at, values) among)
+        ]
         | inr among ↦ inr among
       ];
       room = omega arith;
@@ -348,7 +501,9 @@ grows_both a b c one two =
     }
 
 -- a number is kept only within the code
-pub kept_within : (unit : Unit) (index : ℕ) (function : Code) (state : State) (at values : ℕ) → Sane unit index function state → depth_of state at ≡ Some (Some values) → at < length function.code
+pub kept_within : (unit : Unit) (index : ℕ) (function : Code) (state : State) (at values : ℕ)
+    → Sane unit index function state → depth_of state at ≡ Some (Some values)
+    → at < length function.code
 kept_within unit index function state at values sane is =
     let inside = slice_get_within state.depths at (Some values) is in
     let long = sane.long in
@@ -359,7 +514,8 @@ kept_within unit index function state at values sane is =
 if_some : (P : Way → Type 0) (way : Option Way) (w : Way) → IfSome way P → way ≡ Some w → P w
 if_some P way w holds is = subst (λ (o : Option Way). IfSome o P) is holds
 
-module _ (unit : Unit) (index : ℕ) (function : Code) (state : State) (at values : ℕ) (step : Step) where
+module _ (unit : Unit) (index : ℕ) (function : Code) (state : State) (at values : ℕ)
+    (step : Step) where
   -- what is known when a place is visited
   pub record Here : Type 0 where
     pub split : IsSplit unit index function
@@ -374,21 +530,37 @@ module _ (unit : Unit) (index : ℕ) (function : Code) (state : State) (at value
       let long = here.sane.long in
       omega arith
 
-  pub too_few : Here → values < step.takes → IsFunctionFault unit index function (fault.Underflow index at)
-  too_few here few = underflow at values step here.split (within_here here) (here.sane.reached at values here.kept_here) here.stands few refl
+  pub too_few : Here → values < step.takes
+      → IsFunctionFault unit index function (fault.Underflow index at)
+  too_few here few =
+      underflow at values step here.split (within_here here)
+      (here.sane.reached at values here.kept_here) here.stands few refl
 
-  way_reached : Here → step.takes ≤ values → (way : Way) → HasWay step way → Reaches unit index function way.to (values - step.takes + way.gives)
+  way_reached : Here → step.takes ≤ values → (way : Way) → HasWay step way
+      → Reaches unit index function way.to (values - step.takes + way.gives)
   way_reached here enough way has =
       let before = here.sane.reached at values here.kept_here in
       let leads : Leads unit index function (at, values) (way.to, values - step.takes + way.gives) =
-      record { within = within_here here; step = step; stands = here.stands; enough = enough; way = way; has = has; to = refl; values = refl } in
+      record {
+        within = within_here here;
+        step = step;
+        stands = here.stands;
+        enough = enough;
+        way = way;
+        has = has;
+        to = refl;
+        values = refl;
+      } in
       record { before = (at, values) ∷ before.before; path = (leads, before.path) }
 
   gives_one : Here → (way : Way) → HasWay step way → way.gives ≤ 1
   gives_one here way (inl on) = if_some (λ way. way.gives ≤ 1) (way_on step) way here.goes_on.on on
-  gives_one here way (inr jump) = if_some (λ way. way.gives ≤ 1) step.jump way here.goes_on.jump jump
+  gives_one here way (inr jump) =
+      if_some (λ way. way.gives ≤ 1) step.jump way here.goes_on.jump jump
 
-  can_arrive : Here → step.takes ≤ values → (later : State) → unseen later.depths ≤ unseen state.depths → (way : Way) → HasWay step way → CanArrive unit index function later way.to (values - step.takes + way.gives)
+  can_arrive : Here → step.takes ≤ values
+      → (later : State) → unseen later.depths ≤ unseen state.depths → (way : Way) → HasWay step way
+      → CanArrive unit index function later way.to (values - step.takes + way.gives)
   can_arrive here enough later fewer way has =
       let one = gives_one here way has in
       let bound = here.sane.bounded at values here.kept_here in
@@ -397,30 +569,44 @@ module _ (unit : Unit) (index : ℕ) (function : Code) (state : State) (at value
   abbrev left : ℕ
   left = values - step.takes
 
-  pub can_on : Here → step.takes ≤ values → (w : Way) → (way_on step) ≡ Some w → CanArrive unit index function state w.to (left + w.gives)
+  pub can_on : Here → step.takes ≤ values → (w : Way) → (way_on step) ≡ Some w
+      → CanArrive unit index function state w.to (left + w.gives)
   can_on here enough w is = can_arrive here enough state (omega arith) w (inl is)
 
-  pub can_jump : Here → step.takes ≤ values → (w : Way) → step.jump ≡ Some w → CanArrive unit index function (followed state left (way_on step)) w.to (left + w.gives)
-  can_jump here enough w is = can_arrive here enough (followed state left (way_on step)) (grows_followed state left (way_on step)).fewer w (inr is)
+  pub can_jump : Here → step.takes ≤ values → (w : Way) → step.jump ≡ Some w
+      → CanArrive unit index function (followed state left (way_on step)) w.to (left + w.gives)
+  can_jump here enough w is =
+      can_arrive here enough (followed state left (way_on step))
+      (grows_followed state left (way_on step)).fewer w (inr is)
 
-  pub sane_on : Here → step.takes ≤ values → Sane unit index function (followed state left (way_on step))
-  sane_on here enough = sane_followed unit index function state left (way_on step) here.sane (can_on here enough)
+  pub sane_on : Here → step.takes ≤ values
+      → Sane unit index function (followed state left (way_on step))
+  sane_on here enough =
+      sane_followed unit index function state left (way_on step) here.sane (can_on here enough)
 
   -- both ways are followed
-  pub visited : Here → step.takes ≤ values → AgreesWith state left (way_on step) → AgreesWith (followed state left (way_on step)) left step.jump
-      → Visits unit index function state (followed (followed state left (way_on step)) left step.jump) at values
+  pub visited : Here → step.takes ≤ values → AgreesWith state left (way_on step)
+      → AgreesWith (followed state left (way_on step)) left step.jump
+      → Visits unit index function state
+      (followed (followed state left (way_on step)) left step.jump) at values
   visited here enough on jump =
       let middle : State = followed state left (way_on step) in
       let second = grows_followed middle left step.jump in
       record {
-        sane = sane_followed unit index function middle left step.jump (sane_on here enough) (can_jump here enough);
-        grows = grows_both state middle (followed middle left step.jump) (grows_followed state left (way_on step)) second;
+        sane =
+            sane_followed unit index function middle left step.jump (sane_on here enough)
+            (can_jump here enough);
+        grows =
+            grows_both state middle (followed middle left step.jump)
+            (grows_followed state left (way_on step)) second;
         settled = record {
           step = step;
           stands = here.stands;
           enough = enough;
           each = λ way has. elim has [
-            | inl is ↦ arrived_grows middle (followed middle left step.jump) way.to (left + way.gives) second (arrived_followed state left (way_on step) on way is)
+            | inl is ↦
+                arrived_grows middle (followed middle left step.jump) way.to
+                (left + way.gives) second (arrived_followed state left (way_on step) on way is)
             | inr is ↦ arrived_followed middle left step.jump jump way is
           ];
         };
@@ -428,77 +614,122 @@ module _ (unit : Unit) (index : ℕ) (function : Code) (state : State) (at value
 
 -- ---- the loop
 
-settled_grows : (unit : Unit) (index : ℕ) (function : Code) (old new : State) (at values : ℕ) → Grows old new → Settled unit index function old at values → Settled unit index function new at values
+settled_grows : (unit : Unit) (index : ℕ) (function : Code) (old new : State) (at values : ℕ)
+    → Grows old new → Settled unit index function old at values
+    → Settled unit index function new at values
 settled_grows unit index function old new at values grows settled =
-    record { step = settled.step; stands = settled.stands; enough = settled.enough; each = λ way has. arrived_grows old new way.to (values - settled.step.takes + way.gives) grows (settled.each way has) }
+    record {
+      step = settled.step;
+      stands = settled.stands;
+      enough = settled.enough;
+      each =
+          λ way has. arrived_grows old new way.to (values - settled.step.takes + way.gives) grows
+          (settled.each way has);
+    }
 
 abbrev popped : State → List Stand → State
 popped state pending = record { depths = state.depths; pending = pending; room = state.room }
 
-settled_popped : (unit : Unit) (index : ℕ) (function : Code) (state : State) (pending : List Stand) (at values : ℕ) → Settled unit index function state at values → Settled unit index function (popped state pending) at values
+settled_popped : (unit : Unit) (index : ℕ) (function : Code) (state : State) (pending : List Stand)
+    (at values : ℕ) → Settled unit index function state at values
+    → Settled unit index function (popped state pending) at values
 settled_popped unit index function state pending at values settled = record {
   step = settled.step;
   stands = settled.stands;
   enough = settled.enough;
-  each = λ way has. let arrived = settled.each way has in record { covered = arrived.covered; kept = arrived.kept };
+  each =
+      λ way has. let arrived = settled.each way has in
+      record { covered = arrived.covered; kept = arrived.kept };
 }
 
-module _ (unit : Unit) (index : ℕ) (function : Code) (state : State) (rest : List Stand) (at values : ℕ) where
-  pub popped_sane : Works unit index function state → state.pending ≡ rest ++ (at, values) ∷ [] → Sane unit index function (popped state rest)
+module _ (unit : Unit) (index : ℕ) (function : Code) (state : State) (rest : List Stand)
+    (at values : ℕ) where
+  pub popped_sane : Works unit index function state → state.pending ≡ rest ++ (at, values) ∷ []
+      → Sane unit index function (popped state rest)
   popped_sane works pops =
       let sane = works.sane in
       record {
         long = sane.long;
         reached = sane.reached;
-        waiting = λ stand among. sane.waiting stand (subst (Among stand) (sym pops) (among_push stand (at, values) rest among));
+        waiting =
+            λ stand among. sane.waiting stand
+            (subst (Among stand) (sym pops) (among_push stand (at, values) rest among));
         bounded = sane.bounded;
         room_at = sane.room_at;
         room_reached = sane.room_reached;
       }
 
-  pub popped_here : Works unit index function state → state.pending ≡ rest ++ (at, values) ∷ [] → depth_of (popped state rest) at ≡ Some (Some values)
-  popped_here works pops = works.sane.waiting (at, values) (subst (Among (at, values)) (sym pops) (among_last (at, values) rest))
+  pub popped_here : Works unit index function state → state.pending ≡ rest ++ (at, values) ∷ []
+      → depth_of (popped state rest) at ≡ Some (Some values)
+  popped_here works pops =
+      works.sane.waiting (at, values)
+      (subst (Among (at, values)) (sym pops) (among_last (at, values) rest))
 
-  pub works_on : (new : State) → Works unit index function state → state.pending ≡ rest ++ (at, values) ∷ [] → Visits unit index function (popped state rest) new at values → Works unit index function new
+  pub works_on : (new : State) → Works unit index function state
+      → state.pending ≡ rest ++ (at, values) ∷ []
+      → Visits unit index function (popped state rest) new at values → Works unit index function new
   works_on new works pops visits = record {
     sane = visits.sane;
     start = λ some. visits.grows.kept 0 0 (works.start some);
     each = λ i v e. elim (visits.grows.fresh i v e) [
       | inr among ↦ inl among
       | inl before ↦ elim (works.each i v before) [
-        | inr settled ↦ inr (settled_grows unit index function (popped state rest) new i v visits.grows (settled_popped unit index function state rest i v settled))
+        | inr settled ↦
+            inr (settled_grows unit index function (popped state rest) new i v visits.grows
+            (settled_popped unit index function state rest i v settled))
         | inl among ↦ elim (among_pop (i, v) (at, values) rest (subst (Among (i, v)) pops among)) [
           | inl still ↦ inl (visits.grows.waits (i, v) still)
-          | inr this ↦ inr (subst (λ (s : Stand). Settled unit index function new s.0 s.1) (sym this) visits.settled)
+          | inr this ↦
+              inr (subst (λ (s : Stand). Settled unit index function new s.0 s.1)
+              (sym this) visits.settled)
         ]
       ]
     ];
   }
 
-  pub less_work : (new : State) → state.pending ≡ rest ++ (at, values) ∷ [] → Grows (popped state rest) new → effort new < effort state
+  pub less_work : (new : State) → state.pending ≡ rest ++ (at, values) ∷ []
+      → Grows (popped state rest) new → effort new < effort state
   less_work new pops grows =
       let less = grows.less in
-      let longer : length state.pending ≡ length rest + 1 = ap (λ (l : List Stand). length l) pops ∙ omega (arith, length-append rest ((at, values) ∷ [])) in
+      let longer : length state.pending ≡ length rest + 1 =
+      ap (λ (l : List Stand). length l) pops
+      ∙ omega (arith, length-append rest ((at, values) ∷ [])) in
       omega arith
 
 -- ---- at the end
 
-module _ (unit : Unit) (index : ℕ) (function : Code) (state : State) (works : Works unit index function state) (none : state.pending ≡ []) where
-  settled_at : (at values : ℕ) → depth_of state at ≡ Some (Some values) → Settled unit index function state at values
-  settled_at at values e = elim (works.each at values e) [ inl among ↦ absurd (subst (Among (at, values)) none among) | inr settled ↦ settled ]
+module _ (unit : Unit) (index : ℕ) (function : Code) (state : State)
+    (works : Works unit index function state) (none : state.pending ≡ []) where
+  settled_at : (at values : ℕ) → depth_of state at ≡ Some (Some values)
+      → Settled unit index function state at values
+  settled_at at values e = elim (works.each at values e) [
+    | inl among ↦ absurd (subst (Among (at, values)) none among)
+    | inr settled ↦ settled
+  ]
 
-  covered : (before : List Stand) (at values : ℕ) → IsPath unit index function ((at, values) ∷ before) → (values ≤ state.room) × (at < length function.code → depth_of state at ≡ Some (Some values))
+  covered : (before : List Stand) (at values : ℕ)
+      → IsPath unit index function ((at, values) ∷ before)
+      → (values ≤ state.room) × (at < length function.code → depth_of state at ≡ Some (Some values))
   covered [] at values path =
-      let no_values = path.1 in
-      (omega arith, λ within. subst (λ (n : ℕ). depth_of state n ≡ Some (Some values)) (sym path.0) (subst (λ (n : ℕ). depth_of state 0 ≡ Some (Some n)) (sym path.1) (works.start (subst (λ (n : ℕ). n < length function.code) path.0 within))))
+      let no_values = path.1 in (
+        omega arith,
+        λ within. subst (λ (n : ℕ). depth_of state n ≡ Some (Some values)) (sym path.0)
+            (subst (λ (n : ℕ). depth_of state 0 ≡ Some (Some n)) (sym path.1)
+            (works.start (subst (λ (n : ℕ). n < length function.code) path.0 within))),
+      )
   covered (here ∷ before) at values path =
       let leads = path.0 in
       let known = (covered before here.0 here.1 path.1).1 leads.within in
       let settled = settled_at here.0 here.1 known in
-      let same : leads.step ≡ settled.step = ok_same leads.step settled.step (sym leads.stands ∙ settled.stands) in
-      let arrives : Arrived state leads.way.to (here.1 - settled.step.takes + leads.way.gives) = settled.each leads.way (subst (λ (s : Step). HasWay s leads.way) same leads.has) in
-      let values_is : here.1 - settled.step.takes + leads.way.gives ≡ values = ap (λ (s : Step). here.1 - s.takes + leads.way.gives) (sym same) ∙ sym leads.values in
-      let there : Arrived state at values = subst (Arrived state at) values_is (subst (λ (n : ℕ). Arrived state n (here.1 - settled.step.takes + leads.way.gives)) (sym leads.to) arrives) in
+      let same : leads.step ≡ settled.step =
+      ok_same leads.step settled.step (sym leads.stands ∙ settled.stands) in
+      let arrives : Arrived state leads.way.to (here.1 - settled.step.takes + leads.way.gives) =
+      settled.each leads.way (subst (λ (s : Step). HasWay s leads.way) same leads.has) in
+      let values_is : here.1 - settled.step.takes + leads.way.gives ≡ values =
+      ap (λ (s : Step). here.1 - s.takes + leads.way.gives) (sym same) ∙ sym leads.values in
+      let there : Arrived state at values =
+      subst (Arrived state at) values_is (subst (λ (n : ℕ).
+      Arrived state n (here.1 - settled.step.takes + leads.way.gives)) (sym leads.to) arrives) in
       let long = works.sane.long in
       (there.covered, λ within. there.kept (omega arith))
 
@@ -506,9 +737,11 @@ module _ (unit : Unit) (index : ℕ) (function : Code) (state : State) (works : 
   sound_at_end split = record {
     split = split;
     one = λ at some other within first second.
-        kept_same some other (sym ((covered first.before at some first.path).1 within) ∙ (covered second.before at other second.path).1 within);
+        kept_same some other (sym ((covered first.before at some first.path).1 within)
+        ∙ (covered second.before at other second.path).1 within);
     enough = λ at values step within reached stands.
-        let settled = settled_at at values ((covered reached.before at values reached.path).1 within) in
+        let settled =
+        settled_at at values ((covered reached.before at values reached.path).1 within) in
         let same : settled.step ≡ step = ok_same settled.step step (sym settled.stands ∙ stands) in
         subst (λ (s : Step). s.takes ≤ values) same settled.enough;
   }
@@ -540,7 +773,8 @@ unseen-replicate zero = refl
 unseen-replicate (suc count) = ap (λ (n : ℕ). 1 + n) (unseen-replicate count) ∙ omega arith
 
 abbrev pub first_state : ℕ → State
-first_state count = record { depths = set (replicate count None) 0 (Some 0); pending = (0, 0) ∷ []; room = 0 }
+first_state count =
+    record { depths = set (replicate count None) 0 (Some 0); pending = (0, 0) ∷ []; room = 0 }
 
 abbrev empty_state : State
 empty_state = record { depths = []; pending = []; room = 0 }
@@ -549,40 +783,61 @@ get_first : (count : ℕ) → 0 < count → slice_get (replicate count none_yet)
 get_first zero some = absurd (omega arith)
 get_first (suc count) some = refl
 
-pub works_first : (unit : Unit) (index : ℕ) (function : Code) → 0 < length function.code → Works unit index function (first_state (length function.code))
+pub works_first : (unit : Unit) (index : ℕ) (function : Code) → 0 < length function.code
+    → Works unit index function (first_state (length function.code))
 works_first unit index function some =
     let count : ℕ = length function.code in
     let plain : List (Option ℕ) = replicate count none_yet in
     let inside : 0 < length plain = omega (arith, length-replicate count none_yet) in
-    let there : slice_get (set plain 0 (Some 0)) 0 ≡ kept 0 = get_set_same plain 0 (Some 0) inside in
+    let there : slice_get (set plain 0 (Some 0)) 0 ≡ kept 0 =
+    get_set_same plain 0 (Some 0) inside in
     let one = unseen-set plain 0 0 (get_first count some) in
     let all = unseen-replicate count in
     record {
       sane = record {
         long = length-set plain 0 (Some 0) ∙ length-replicate count none_yet;
         reached = λ at v e. elim (cases_eq at 0) [
-          | inl same ↦ subst (Reaches unit index function at) (kept_same 0 v (sym there ∙ ap (slice_get (set plain 0 (Some 0))) (sym same) ∙ e)) (subst (λ (n : ℕ). Reaches unit index function n 0) (sym same) (starts unit index function))
-          | inr apart ↦ absurd (get_none count at v (sym (get_set_other plain 0 at (Some 0) apart) ∙ e))
+          | inl same ↦
+              subst (Reaches unit index function at)
+              (kept_same 0 v (sym there ∙ ap (slice_get (set plain 0 (Some 0))) (sym same) ∙ e))
+              (subst (λ (n : ℕ). Reaches unit index function n 0) (sym same)
+              (starts unit index function))
+          | inr apart ↦
+              absurd (get_none count at v (sym (get_set_other plain 0 at (Some 0) apart) ∙ e))
         ];
-        waiting = λ stand among. elim among [ inl same ↦ subst (λ (s : Stand). slice_get (set plain 0 (Some 0)) s.0 ≡ kept s.1) (sym same) there | inr none ↦ absurd none ];
+        waiting = λ stand among. elim among [
+          | inl same ↦
+              subst (λ (s : Stand). slice_get (set plain 0 (Some 0)) s.0 ≡ kept s.1)
+              (sym same) there
+          | inr none ↦ absurd none
+        ];
         bounded = λ at v e. elim (cases_eq at 0) [
-          | inl same ↦ let v_is : 0 ≡ v = kept_same 0 v (sym there ∙ ap (slice_get (set plain 0 (Some 0))) (sym same) ∙ e) in omega arith
-          | inr apart ↦ absurd (get_none count at v (sym (get_set_other plain 0 at (Some 0) apart) ∙ e))
+          | inl same ↦
+              let v_is : 0 ≡ v =
+              kept_same 0 v (sym there ∙ ap (slice_get (set plain 0 (Some 0))) (sym same) ∙ e) in
+              omega arith
+          | inr apart ↦
+              absurd (get_none count at v (sym (get_set_other plain 0 at (Some 0) apart) ∙ e))
         ];
         room_at = 0;
         room_reached = starts unit index function;
       };
       start = λ more. there;
       each = λ at v e. elim (cases_eq at 0) [
-        | inl same ↦ inl (inl (first_stand at v same (kept_same 0 v (sym there ∙ ap (slice_get (set plain 0 (Some 0))) (sym same) ∙ e))))
-        | inr apart ↦ absurd (get_none count at v (sym (get_set_other plain 0 at (Some 0) apart) ∙ e))
+        | inl same ↦
+            inl (inl (first_stand at v same
+            (kept_same 0 v (sym there ∙ ap (slice_get (set plain 0 (Some 0))) (sym same) ∙ e))))
+        | inr apart ↦
+            absurd (get_none count at v (sym (get_set_other plain 0 at (Some 0) apart) ∙ e))
       ];
     }
   where
     first_stand : (at v : ℕ) → at ≡ 0 → 0 ≡ v → ◌≡◌ {A = Stand} (at, v) (0, 0)
-    first_stand at v first second = ap (λ (n : ℕ). (n, v)) first ∙ ap (λ (n : ℕ). (0, n)) (sym second)
+    first_stand at v first second =
+        ap (λ (n : ℕ). (n, v)) first ∙ ap (λ (n : ℕ). (0, n)) (sym second)
 
-pub works_empty : (unit : Unit) (index : ℕ) (function : Code) → length function.code ≡ 0 → Works unit index function empty_state
+pub works_empty : (unit : Unit) (index : ℕ) (function : Code) → length function.code ≡ 0
+    → Works unit index function empty_state
 works_empty unit index function empty = record {
   sane = record {
     long = sym empty;

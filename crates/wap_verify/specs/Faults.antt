@@ -1,6 +1,7 @@
 -- Why a unit may not be run: the pragmas come first, then the functions in order, each in three
 -- passes. This project's own.
-use Rattle.std.specs.Prelude.{◌≡◌, ◌≢◌, ℕ, ◌<◌, true, false, List, length, Some, None, slice_get, Ok, Err}
+use Rattle.std.specs.Prelude.{◌≡◌, ◌≢◌, ℕ, ◌<◌, true, false, List, length}
+use Rattle.std.specs.Prelude.{Some, None, slice_get, Ok, Err}
 use Rattle.std.specs.List.{list_all}
 use Rattle.wap_code.specs.declared.unit.Unit.{Unit}
 use Rattle.wap_code.specs.declared.unit.Code.{Code}
@@ -11,21 +12,32 @@ use Rattle.wap_verify.specs.Steps.{step_at}
 use Rattle.wap_verify.specs.Paths.{Reaches}
 use Rattle.wap_verify.specs.Sound.{Runs, is_aimed, IsSplit, stray_pragma, AreSound}
 
-pub data IsFunctionFault (unit : Unit) (index : ℕ) (function : Code) (found : VerifyFault) : Type 0 where
+pub data IsFunctionFault (unit : Unit) (index : ℕ) (function : Code)
+    (found : VerifyFault) : Type 0 where
   -- first: after whole instructions an item that is none, or an operand that names nothing
-  item : (places : List ℕ) (at : ℕ) → Runs unit index function 0 places at → at < length function.code → step_at unit index function at ≡ Err found
+  item : (places : List ℕ) (at : ℕ) → Runs unit index function 0 places at
+      → at < length function.code → step_at unit index function at ≡ Err found
       → IsFunctionFault unit index function found
   -- then: the first jump with no target
-  target : (places front : List ℕ) (at : ℕ) (step : Step) → Runs unit index function 0 places (length function.code) → Runs unit index function 0 front at → at < length function.code
-      → list_all (is_aimed unit index function places) front ≡ true → step_at unit index function at ≡ Ok step → is_aimed unit index function places at ≡ false
+  target : (places front : List ℕ) (at : ℕ) (step : Step)
+      → Runs unit index function 0 places (length function.code)
+      → Runs unit index function 0 front at → at < length function.code
+      → list_all (is_aimed unit index function places) front ≡ true
+      → step_at unit index function at ≡ Ok step → is_aimed unit index function places at ≡ false
       → found ≡ fault.Target index step.jump_at → IsFunctionFault unit index function found
   -- then: a place that is reached with too few values
-  underflow : (at values : ℕ) (step : Step) → IsSplit unit index function → at < length function.code → Reaches unit index function at values
-      → step_at unit index function at ≡ Ok step → values < step.takes → found ≡ fault.Underflow index at → IsFunctionFault unit index function found
+  underflow : (at values : ℕ) (step : Step) → IsSplit unit index function
+      → at < length function.code → Reaches unit index function at values
+      → step_at unit index function at ≡ Ok step → values < step.takes
+      → found ≡ fault.Underflow index at → IsFunctionFault unit index function found
   -- or one that is reached with two numbers of values
-  depths : (at some other : ℕ) → IsSplit unit index function → at < length function.code → Reaches unit index function at some → Reaches unit index function at other → some ≢ other
+  depths : (at some other : ℕ) → IsSplit unit index function → at < length function.code
+      → Reaches unit index function at some → Reaches unit index function at other → some ≢ other
       → found ≡ fault.Depths index at some other → IsFunctionFault unit index function found
 
 pub data IsFault (unit : Unit) (found : VerifyFault) : Type 0 where
-  pragma : (index : ℕ) → stray_pragma unit ≡ Some index → found ≡ fault.Pragma index → IsFault unit found
-  function : (index : ℕ) (code : Code) → stray_pragma unit ≡ None → slice_get unit.functions index ≡ Some code → AreSound unit index → IsFunctionFault unit index code found → IsFault unit found
+  pragma : (index : ℕ) → stray_pragma unit ≡ Some index → found ≡ fault.Pragma index
+      → IsFault unit found
+  function : (index : ℕ) (code : Code) → stray_pragma unit ≡ None
+      → slice_get unit.functions index ≡ Some code
+      → AreSound unit index → IsFunctionFault unit index code found → IsFault unit found

@@ -1,6 +1,7 @@
 -- What is kept of a unit that may be run: room for the values of each function, and the texts of
 -- its coded strings.
-use Rattle.std.specs.Prelude.{◌≡◌, ⊤, ℕ, ◌<◌, true, List, length, map, slice_get, slice_index, Option, Some, None}
+use Rattle.std.specs.Prelude.{◌≡◌, ⊤, ℕ, ◌<◌, true, List, length, map}
+use Rattle.std.specs.Prelude.{slice_get, slice_index, Option, Some, None}
 use Rattle.std.specs.Map.{lookup}
 use Rattle.std.specs.Option.{option_map}
 use Rattle.wap_base.specs.Texts.{is_same_text}
@@ -8,7 +9,8 @@ use Rattle.wap_base.specs.declared.charset.Charset.{Charset}
 use Rattle.wap_code.specs.declared.unit.Unit.{Unit}
 use Rattle.wap_code.specs.declared.unit.Code.{Code}
 use Rattle.wap_code.specs.declared.unit.Constant.{Constant}
-use Rattle.wap_code.specs.declared.unit.Constant.TheVariants.{Int8, Int16, Int32, Float, Utf8, Empty, Coded}
+use Rattle.wap_code.specs.declared.unit.Constant.TheVariants.{Int8, Int16, Int32, Float, Utf8}
+use Rattle.wap_code.specs.declared.unit.Constant.TheVariants.{Empty, Coded}
 use Rattle.wap_base.specs.Charsets.{charset_of, is_text, characters_of}
 use Rattle.wap_unit.specs.Spelling.{HasSpelling}
 use Rattle.wap_verify.specs.Sound.{IsRoom, AreSound, IsVerified}
@@ -51,7 +53,9 @@ IsReadable set (Coded bytes) = IsReadableText set bytes
 pub record AreRooms (unit : Unit) (count : ℕ) (rooms : List ℕ) : Type 0 where
   pub long : length rooms ≡ count
   pub sound : AreSound unit count
-  pub each : (index : ℕ) (function : Code) → index < count → slice_get unit.functions index ≡ Some function → IsRoom unit index function (slice_index rooms index)
+  pub each : (index : ℕ) (function : Code) → index < count
+      → slice_get unit.functions index ≡ Some function
+      → IsRoom unit index function (slice_index rooms index)
 
 pub record IsKept (unit : Unit) (texts : List (Option (List ℕ))) (rooms : List ℕ) : Type 0 where
   pub spelled : HasSpelling unit

@@ -29,7 +29,8 @@ pub record Leads (unit : Unit) (index : ℕ) (function : Code) (here there : Sta
 abbrev pub IsPath : Unit → ℕ → Code → List Stand → Type 0
 IsPath unit index function [] = ⊥
 IsPath unit index function (stand ∷ []) = (stand.0 ≡ 0) × (stand.1 ≡ 0)
-IsPath unit index function (there ∷ here ∷ before) = Leads unit index function here there × IsPath unit index function (here ∷ before)
+IsPath unit index function (there ∷ here ∷ before) =
+    Leads unit index function here there × IsPath unit index function (here ∷ before)
 
 pub record Reaches (unit : Unit) (index : ℕ) (function : Code) (at values : ℕ) : Type 0 where
   pub before : List Stand

@@ -1,6 +1,7 @@
 -- What a verified unit means for who runs it: wherever a function is reached, what its instruction
 -- needs is there.
-use Rattle.std.specs.Prelude.{◌≡◌, ℕ, ◌<◌, ◌≤◌, false, length, slice_get, slice_index, Some, None, Ok}
+use Rattle.std.specs.Prelude.{◌≡◌, ℕ, ◌<◌, ◌≤◌, false, length, slice_get}
+use Rattle.std.specs.Prelude.{slice_index, Some, None, Ok}
 use Rattle.wap_code.specs.declared.unit.Unit.{Unit}
 use Rattle.wap_code.specs.declared.unit.Code.{Code}
 use Rattle.wap_code.specs.declared.row.Row.{Row}
@@ -30,5 +31,7 @@ pub record IsReady (unit : Unit) (index : ℕ) (function : Code) (at values : �
   pub ways : (way : Way) → HasWay step way → way.to ≤ length function.code
 
 pub record NeverStuck : Type 0 where
-  pub ready : (unit : Unit) (index : ℕ) (function : Code) (at values : ℕ) → IsVerified unit → slice_get unit.functions index ≡ Some function
-      → Reaches unit index function at values → at < length function.code → IsReady unit index function at values
+  pub ready : (unit : Unit) (index : ℕ) (function : Code) (at values : ℕ) → IsVerified unit
+      → slice_get unit.functions index ≡ Some function
+      → Reaches unit index function at values → at < length function.code
+      → IsReady unit index function at values

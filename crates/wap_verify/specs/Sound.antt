@@ -1,5 +1,6 @@
 -- Units that may be run.
-use Rattle.std.specs.Prelude.{◌≡◌, ℕ, ◌+◌, ◌<◌, ◌≤◌, Bool, true, false, not, ◌&&◌, ◌||◌, ◌==◌, List, [], ◌∷◌, length, find, Option, Some, None, slice_get, Result, Ok, Err}
+use Rattle.std.specs.Prelude.{◌≡◌, ℕ, ◌+◌, ◌<◌, ◌≤◌, Bool, true, false, not, ◌&&◌, ◌||◌, ◌==◌, List}
+use Rattle.std.specs.Prelude.{[], ◌∷◌, length, find, Option, Some, None, slice_get, Result, Ok, Err}
 use Rattle.std.specs.List.{list_any, list_all, flat_map}
 use Rattle.wap_code.specs.declared.unit.Unit.{Unit}
 use Rattle.wap_code.specs.declared.unit.Code.{Code}
@@ -17,7 +18,9 @@ use Rattle.wap_verify.specs.Paths.{Reaches}
 abbrev pub Runs : Unit → ℕ → Code → ℕ → List ℕ → ℕ → Type 0
 Runs unit index function from [] to = from ≡ to
 Runs unit index function from (place ∷ places) to =
-    (place ≡ from) × (from < length function.code) × ((step : Step) × ((step_at unit index function from ≡ Ok step) × Runs unit index function step.next places to))
+    (place ≡ from) × (from < length function.code)
+    × ((step : Step)
+    × ((step_at unit index function from ≡ Ok step) × Runs unit index function step.next places to))
 
 -- a jump leads to one of these places or to the end
 abbrev pub leads_within : List ℕ → ℕ → Option Way → Bool
@@ -30,7 +33,8 @@ has_target places end (Err fault) = false
 
 -- the jump of the instruction at this place has its target among these places, or at the end
 abbrev pub is_aimed : Unit → ℕ → Code → List ℕ → ℕ → Bool
-is_aimed unit index function places at = has_target places (length function.code) (step_at unit index function at)
+is_aimed unit index function places at =
+    has_target places (length function.code) (step_at unit index function at)
 
 -- the code is whole instructions, and each jump has a target
 pub record IsSplit (unit : Unit) (index : ℕ) (function : Code) : Type 0 where
@@ -42,8 +46,11 @@ pub record IsSplit (unit : Unit) (index : ℕ) (function : Code) : Type 0 where
 -- taken there
 pub record IsSound (unit : Unit) (index : ℕ) (function : Code) : Type 0 where
   pub split : IsSplit unit index function
-  pub one : (at some other : ℕ) → at < length function.code → Reaches unit index function at some → Reaches unit index function at other → some ≡ other
-  pub enough : (at values : ℕ) (step : Step) → at < length function.code → Reaches unit index function at values → step_at unit index function at ≡ Ok step → step.takes ≤ values
+  pub one : (at some other : ℕ) → at < length function.code → Reaches unit index function at some
+      → Reaches unit index function at other → some ≡ other
+  pub enough : (at values : ℕ) (step : Step) → at < length function.code
+      → Reaches unit index function at values → step_at unit index function at ≡ Ok step
+      → step.takes ≤ values
 
 -- the constants that a pragma names
 abbrev pub indexes : Pragma → List ℕ
@@ -58,7 +65,9 @@ stray_pragma unit = find (λ index. not (is_string unit index)) (flat_map indexe
 
 -- the functions before this index are sound
 abbrev pub AreSound : Unit → ℕ → Type 0
-AreSound unit count = (index : ℕ) (function : Code) → index < count → slice_get unit.functions index ≡ Some function → IsSound unit index function
+AreSound unit count =
+    (index : ℕ) (function : Code) → index < count → slice_get unit.functions index ≡ Some function
+    → IsSound unit index function
 
 -- the unit may be run
 pub record IsVerified (unit : Unit) : Type 0 where

@@ -1,7 +1,9 @@
 -- What stands at a place of a function's code: one instruction, or a short-circuit and the jump
 -- after it, with every operand in range; or the first fault there. This project's own rules over
 -- the table of instructions.
-use Rattle.std.specs.Prelude.{ℕ, ◌+◌, ◌-◌, Bool, true, false, ◌&&◌, nat_lt, is_some, if◌then◌else◌, List, length, slice_get, slice_index, Option, Some, None, unwrap_or, Result, Ok, Err}
+use Rattle.std.specs.Prelude.{ℕ, ◌+◌, ◌-◌, Bool, true, false, ◌&&◌, nat_lt, is_some}
+use Rattle.std.specs.Prelude.{if◌then◌else◌, List, length, slice_get, slice_index, Option}
+use Rattle.std.specs.Prelude.{Some, None, unwrap_or, Result, Ok, Err}
 use Rattle.std.specs.Option.{option_map_or}
 use Rattle.wap_code.specs.declared.unit.Unit.{Unit}
 use Rattle.wap_code.specs.declared.unit.Code.{Code}
@@ -9,11 +11,13 @@ use Rattle.wap_code.specs.declared.instr.Instr.{Instr}
 use Rattle.wap_code.specs.declared.instr.InstrFault.{InstrFault}
 use Rattle.wap_code.specs.declared.row.Row.{Row}
 use Rattle.wap_code.specs.declared.row.Operands.{Operands}
-use Rattle.wap_code.specs.declared.row.Operands.TheVariants.{Plain, Variable, Constant, Function, Library, Address}
+use Rattle.wap_code.specs.declared.row.Operands.TheVariants.{Plain, Variable, Constant}
+use Rattle.wap_code.specs.declared.row.Operands.TheVariants.{Function, Library, Address}
 use Rattle.wap_code.specs.declared.row.Takes.{Takes}
 use Rattle.wap_code.specs.declared.row.Takes.TheVariants.{Values, Arguments}
 use Rattle.wap_code.specs.declared.row.After.{After}
-use Rattle.wap_code.specs.declared.row.After.TheVariants.{On, Forward, Backward, ForwardOrOn, BackwardOrOn, Pair, Leave}
+use Rattle.wap_code.specs.declared.row.After.TheVariants.{On, Forward, Backward, ForwardOrOn}
+use Rattle.wap_code.specs.declared.row.After.TheVariants.{BackwardOrOn, Pair, Leave}
 use Rattle.wap_code.specs.Instructions.{row_of, read_row}
 use Rattle.wap_code.specs.Libraries.{lib_args}
 use Rattle.wap_code.specs.Strings.{is_string}
@@ -27,7 +31,8 @@ abbrev pub arguments : Unit → Operands → Instr → ℕ
 arguments unit Plain instr = 0
 arguments unit Variable instr = 0
 arguments unit Constant instr = 0
-arguments unit Function instr = option_map_or (λ function. function.args) (slice_get unit.functions instr.a) 0
+arguments unit Function instr =
+    option_map_or (λ function. function.args) (slice_get unit.functions instr.a) 0
 arguments unit Library instr = unwrap_or (lib_args instr.b instr.a) 0
 arguments unit Address instr = instr.c
 
@@ -40,12 +45,17 @@ values_taken unit Arguments operands instr = arguments unit operands instr
 abbrev pub operand_fault : Unit → ℕ → Code → ℕ → Operands → Instr → Option VerifyFault
 operand_fault unit index function at Plain instr = None
 operand_fault unit index function at Variable instr =
-    if nat_lt instr.a (function.args + function.locals) then None else Some (fault.Variable index at)
-operand_fault unit index function at Constant instr = if nat_lt instr.a (length unit.constants) then None else Some (fault.Constant index at)
-operand_fault unit index function at Function instr = if nat_lt instr.a (length unit.functions) then None else Some (fault.Function index at)
-operand_fault unit index function at Library instr = if is_some (lib_args instr.b instr.a) then None else Some (fault.Library index at)
+    if nat_lt instr.a (function.args + function.locals) then None
+    else Some (fault.Variable index at)
+operand_fault unit index function at Constant instr =
+    if nat_lt instr.a (length unit.constants) then None else Some (fault.Constant index at)
+operand_fault unit index function at Function instr =
+    if nat_lt instr.a (length unit.functions) then None else Some (fault.Function index at)
+operand_fault unit index function at Library instr =
+    if is_some (lib_args instr.b instr.a) then None else Some (fault.Library index at)
 operand_fault unit index function at Address instr =
-    if is_string unit instr.a && is_string unit instr.b then None else Some (fault.Constant index at)
+    if is_string unit instr.a && is_string unit instr.b then None
+    else Some (fault.Constant index at)
 
 abbrev pub way_to : ℕ → ℕ → Option Way
 way_to to gives = Some (record { to = to; gives = gives })
@@ -60,21 +70,77 @@ way_on step = way_behind step.next step.on
 
 -- where it goes on after an instruction that takes and gives so many values
 abbrev pub step_of : After → ℕ → Instr → ℕ → ℕ → Step
-step_of On at instr takes gives = record { takes = takes; next = instr.next; on = Some gives; jump = None; jump_at = at; strays = false }
+step_of On at instr takes gives = record {
+  takes = takes;
+  next = instr.next;
+  on = Some gives;
+  jump = None;
+  jump_at = at;
+  strays = false;
+}
 step_of Forward at instr takes gives =
-    record { takes = takes; next = instr.next; on = None; jump = way_to (instr.next + instr.a) gives; jump_at = at; strays = false }
+    record {
+      takes = takes;
+      next = instr.next;
+      on = None;
+      jump = way_to (instr.next + instr.a) gives;
+      jump_at = at;
+      strays = false;
+    }
 step_of Backward at instr takes gives =
-    record { takes = takes; next = instr.next; on = None; jump = way_to (at - instr.a) gives; jump_at = at; strays = nat_lt at instr.a }
+    record {
+      takes = takes;
+      next = instr.next;
+      on = None;
+      jump = way_to (at - instr.a) gives;
+      jump_at = at;
+      strays = nat_lt at instr.a;
+    }
 step_of ForwardOrOn at instr takes gives =
-    record { takes = takes; next = instr.next; on = Some gives; jump = way_to (instr.next + instr.a) gives; jump_at = at; strays = false }
+    record {
+      takes = takes;
+      next = instr.next;
+      on = Some gives;
+      jump = way_to (instr.next + instr.a) gives;
+      jump_at = at;
+      strays = false;
+    }
 step_of BackwardOrOn at instr takes gives =
-    record { takes = takes; next = instr.next; on = Some gives; jump = way_to (at - instr.a) gives; jump_at = at; strays = nat_lt at instr.a }
-step_of Pair at instr takes gives = record { takes = takes; next = instr.next; on = None; jump = None; jump_at = at; strays = false }
-step_of Leave at instr takes gives = record { takes = takes; next = instr.next; on = None; jump = None; jump_at = at; strays = false }
+    record {
+      takes = takes;
+      next = instr.next;
+      on = Some gives;
+      jump = way_to (at - instr.a) gives;
+      jump_at = at;
+      strays = nat_lt at instr.a;
+    }
+step_of Pair at instr takes gives = record {
+  takes = takes;
+  next = instr.next;
+  on = None;
+  jump = None;
+  jump_at = at;
+  strays = false;
+}
+step_of Leave at instr takes gives = record {
+  takes = takes;
+  next = instr.next;
+  on = None;
+  jump = None;
+  jump_at = at;
+  strays = false;
+}
 
 -- a short-circuit and its jump are one: it goes on after the jump with none, or jumps with one
 abbrev pub pair : ℕ → ℕ → Instr → Step
-pair takes at jump = record { takes = takes; next = jump.next; on = Some 0; jump = way_to (jump.next + jump.a) 1; jump_at = at; strays = false }
+pair takes at jump = record {
+  takes = takes;
+  next = jump.next;
+  on = Some 0;
+  jump = way_to (jump.next + jump.a) 1;
+  jump_at = at;
+  strays = false;
+}
 
 abbrev pub is_conditional_forward : After → Bool
 is_conditional_forward On = false
@@ -93,11 +159,15 @@ jump_read index code next takes (Err short) = Err (fault.Operand index next)
 abbrev pub jump_by : ℕ → List ℕ → ℕ → ℕ → ℕ → Option Row → Result Step VerifyFault
 jump_by index code at next takes None = Err (fault.LoneShort index at)
 jump_by index code at next takes (Some row) =
-    if is_conditional_forward row.after then jump_read index code next takes (read_row row code next) else Err (fault.LoneShort index at)
+    if is_conditional_forward row.after
+    then jump_read index code next takes (read_row row code next)
+    else Err (fault.LoneShort index at)
 
 unfoldable pub pair_at : ℕ → List ℕ → ℕ → ℕ → ℕ → Result Step VerifyFault
 pair_at index code at next takes =
-    if nat_lt next (length code) then jump_by index code at next takes (row_of (slice_index code next)) else Err (fault.LoneShort index at)
+    if nat_lt next (length code)
+    then jump_by index code at next takes (row_of (slice_index code next))
+    else Err (fault.LoneShort index at)
 
 abbrev pub is_pair : After → Bool
 is_pair On = false
@@ -112,20 +182,27 @@ is_pair Leave = false
 unfoldable pub fine_at : Unit → ℕ → Code → ℕ → Row → Instr → Result Step VerifyFault
 fine_at unit index function at row instr =
     let takes = values_taken unit row.takes row.operands instr in
-    if is_pair row.after then pair_at index function.code at instr.next takes else Ok (step_of row.after at instr takes row.gives)
+    if is_pair row.after then pair_at index function.code at instr.next takes
+    else Ok (step_of row.after at instr takes row.gives)
 
-abbrev pub checked : Unit → ℕ → Code → ℕ → Row → Instr → Option VerifyFault → Result Step VerifyFault
+abbrev pub checked : Unit → ℕ → Code → ℕ → Row → Instr → Option VerifyFault
+    → Result Step VerifyFault
 checked unit index function at row instr (Some found) = Err found
 checked unit index function at row instr None = fine_at unit index function at row instr
 
-abbrev pub instr_read : Unit → ℕ → Code → ℕ → Row → Result Instr InstrFault → Result Step VerifyFault
-instr_read unit index function at row (Ok instr) = checked unit index function at row instr (operand_fault unit index function at row.operands instr)
+abbrev pub instr_read : Unit → ℕ → Code → ℕ → Row → Result Instr InstrFault
+    → Result Step VerifyFault
+instr_read unit index function at row (Ok instr) =
+    checked unit index function at row instr
+    (operand_fault unit index function at row.operands instr)
 instr_read unit index function at row (Err short) = Err (fault.Operand index at)
 
 abbrev pub step_by : Unit → ℕ → Code → ℕ → Option Row → Result Step VerifyFault
 step_by unit index function at None = Err (fault.Opcode index at)
-step_by unit index function at (Some row) = instr_read unit index function at row (read_row row function.code at)
+step_by unit index function at (Some row) =
+    instr_read unit index function at row (read_row row function.code at)
 
 -- what stands at a place of the function with this index
 unfoldable pub step_at : Unit → ℕ → Code → ℕ → Result Step VerifyFault
-step_at unit index function at = step_by unit index function at (row_of (slice_index function.code at))
+step_at unit index function at =
+    step_by unit index function at (row_of (slice_index function.code at))

@@ -1,9 +1,11 @@
 //! The third pass: how many values there are at each place.
-ghost use Rattle.std.specs.Prelude.{◌≡◌, ◌≢◌, ◌+◌, ◌<◌, ◌≤◌, ◌^◌, length, replicate, Some, None, IfSome, IfOk, IfErr, OnOk};
+ghost use Rattle.std.specs.Prelude.{◌≡◌, ◌≢◌, ◌+◌, ◌<◌, ◌≤◌, ◌^◌, length, replicate, Some};
+ghost use Rattle.std.specs.Prelude.{None, IfSome, IfOk, IfErr, OnOk};
 ghost use Rattle.wap_verify.specs.declared.fault.VerifyFault.TheVariants.{NoMemory};
 ghost use Rattle.wap_verify.specs.Sound.{IsSplit, IsSound, IsRoom};
 ghost use Rattle.wap_verify.specs.Faults.{IsFunctionFault};
-ghost use Rattle.wap_verify.specs.inside.Work.{depth_of, arrived, Agrees, followed, AgreesWith, unseen, Sane, Works, Visits};
+ghost use Rattle.wap_verify.specs.inside.Work.{depth_of, arrived, Agrees, followed};
+ghost use Rattle.wap_verify.specs.inside.Work.{AgreesWith, unseen, Sane, Works, Visits};
 ghost use Rattle.wap_verify.specs.inside.Kept.{state, IsConflict, IsConflictOn};
 
 use crate::VerifyFault;
@@ -13,7 +15,7 @@ use wap_code::{Code, Unit};
 
 /// One number of values for each place that was reached, the places whose ways aren't followed yet,
 /// and the greatest number.
-#[derive(Debug, Drop)]
+#[derive(Drop)]
 pub struct Work {
     pub depths: Vec<Option<u32>>,
     pub pending: Vec<(usize, u32)>,
@@ -31,7 +33,8 @@ pub fn greatest_depth(
     requires split { IsSplit unit.now index function.now }
     ensures sound { OnOk result (IsSound unit.now index function.now) }
     ensures room { IfOk result (IsRoom unit.now index function.now) }
-    ensures fault { IfErr result (λ fault. fault ≢ NoMemory → IsFunctionFault unit.now index function.now fault) }
+    ensures fault { IfErr result
+        (λ fault. fault ≢ NoMemory → IsFunctionFault unit.now index function.now fault) }
 {
     let mut work = start(alloc, unit, index, function)?;
     while let Some((at, values)) = work.pending.pop() {
@@ -84,8 +87,10 @@ fn visit(
     requires split { IsSplit unit.now index function.now }
     requires sane { Sane unit.now index function.now (state work.old) }
     requires here { depth_of (state work.old) at ≡ Some (Some values) }
-    ensures visits { OnOk result (Visits unit.now index function.now (state work.old) (state work.new) at values) }
-    ensures fault { IfErr result (λ fault. fault ≢ NoMemory → IsFunctionFault unit.now index function.now fault) }
+    ensures visits { OnOk result
+        (Visits unit.now index function.now (state work.old) (state work.new) at values) }
+    ensures fault { IfErr result
+        (λ fault. fault ≢ NoMemory → IsFunctionFault unit.now index function.now fault) }
 {
     let step = step_at(unit, index, function, at)?;
     if values < step.takes {
@@ -104,8 +109,11 @@ fn visit(
 fn follow(work: &mut Work, index: u8, way: Option<Way>, left: u32) -> Result<(), VerifyFault>
     requires room { left + 1 < 2 ^ 32 }
     requires gives { IfSome way (λ way. way.gives ≤ 1) }
-    ensures ok { OnOk result ((state work.new ≡ followed (state work.old) left way) × AgreesWith (state work.old) left way) }
-    ensures fault { IfErr result (λ fault. fault ≢ NoMemory → IsConflictOn (state work.old) index left way fault) }
+    ensures ok { OnOk result
+        ((state work.new ≡ followed (state work.old) left way)
+        × AgreesWith (state work.old) left way) }
+    ensures fault { IfErr result
+        (λ fault. fault ≢ NoMemory → IsConflictOn (state work.old) index left way fault) }
 {
     match way {
         None => Ok(()),
@@ -115,8 +123,11 @@ fn follow(work: &mut Work, index: u8, way: Option<Way>, left: u32) -> Result<(),
 
 /// Comes to a place with so many values.
 fn arrive(work: &mut Work, index: u8, to: usize, values: u32) -> Result<(), VerifyFault>
-    ensures ok { OnOk result ((state work.new ≡ arrived (state work.old) to values) × Agrees (state work.old) to values) }
-    ensures fault { IfErr result (λ fault. fault ≢ NoMemory → IsConflict (state work.old) index to values fault) }
+    ensures ok { OnOk result
+        ((state work.new ≡ arrived (state work.old) to values)
+        × Agrees (state work.old) to values) }
+    ensures fault { IfErr result
+        (λ fault. fault ≢ NoMemory → IsConflict (state work.old) index to values fault) }
 {
     work.room = work.room.max(values);
     if to >= work.depths.len() {

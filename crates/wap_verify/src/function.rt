@@ -36,7 +36,8 @@ fn function_room(alloc: Global, unit: &Unit, index: u8, function: &Code) -> Resu
     requires { length function.now.code < 2 ^ 32 }
     ensures sound { OnOk result (IsSound unit.now index function.now) }
     ensures room { IfOk result (IsRoom unit.now index function.now) }
-    ensures fault { IfErr result (λ fault. fault ≢ NoMemory → IsFunctionFault unit.now index function.now fault) }
+    ensures fault { IfErr result
+        (λ fault. fault ≢ NoMemory → IsFunctionFault unit.now index function.now fault) }
 {
     let marks = marks(alloc, unit, index, function)?;
     check_targets(unit, index, function, &marks)?;

@@ -17,8 +17,10 @@ pub fn marks(
     function: &Code,
 ) -> Result<Vec<bool>, VerifyFault>
     requires { length function.now.code < 2 ^ 32 }
-    ensures found { IfOk result (λ marks. Marks unit.now index function.now (length function.now.code) marks.items) }
-    ensures fault { IfErr result (λ fault. fault ≢ NoMemory → IsFunctionFault unit.now index function.now fault) }
+    ensures found { IfOk result
+        (λ marks. Marks unit.now index function.now (length function.now.code) marks.items) }
+    ensures fault { IfErr result
+        (λ fault. fault ≢ NoMemory → IsFunctionFault unit.now index function.now fault) }
 {
     let end = function.code.len();
     let mut marks = vec![in alloc; false; end]?;

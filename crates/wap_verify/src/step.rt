@@ -1,7 +1,9 @@
 //! What stands at a place of a function's code, with its operands looked at.
 ghost use Rattle.std.specs.Prelude.{◌≡◌, ◌+◌, ◌<◌, ◌≤◌, ◌^◌, length, slice_index, IfOk, IfSome};
 ghost use Rattle.wap_code.specs.Instructions.{row_of, read_row};
-ghost use Rattle.wap_verify.specs.Steps.{arguments, values_taken, operand_fault, way_to, way_on, step_of, pair, is_conditional_forward, jump_by, pair_at, is_pair, fine_at, step_at};
+ghost use Rattle.wap_verify.specs.Steps.{arguments, values_taken, operand_fault, way_to};
+ghost use Rattle.wap_verify.specs.Steps.{way_on, step_of, pair, is_conditional_forward};
+ghost use Rattle.wap_verify.specs.Steps.{jump_by, pair_at, is_pair, fine_at, step_at};
 ghost use Rattle.wap_verify.specs.inside.Work.{GoesOn};
 
 use crate::VerifyFault;

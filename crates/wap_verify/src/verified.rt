@@ -88,7 +88,8 @@ impl Verified {
     /// most the greatest of them and one more.
     pub fn room(&self, function: u8) -> usize
         requires { function < length self.now.functions }
-        ensures { (code : Code) → slice_get self.now.functions function ≡ Some code → IsRoom self.now function code result }
+        ensures { (code : Code) → slice_get self.now.functions function ≡ Some code
+            → IsRoom self.now function code result }
     {
         match self.rooms.get(function as usize) {
             Some(room) => *room as usize,

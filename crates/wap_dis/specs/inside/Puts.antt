@@ -14,9 +14,12 @@ pub record Moves (before after : Option (List ℕ)) (held left text : List ℕ) 
   pub same : held ++ text ≡ moved ++ left
 
 -- the sink before and after, its faults, and what is held
-pub record Puts (before after : Option (List ℕ)) (faults rest : ℕ) (old new : State) (text : List ℕ) : Type 0 where
+pub record Puts (before after : Option (List ℕ)) (faults rest : ℕ) (old new : State)
+    (text : List ℕ) : Type 0 where
   pub counts : faults ≤ rest
   pub steady : new.failed ≡ false → rest ≡ faults
-  pub whole : new.failed ≡ false → (old.failed ≡ false) × Moves before after old.bytes new.bytes text
-  pub broken : new.failed ≡ true → old.failed ≡ false → AppendsFront before after (old.bytes ++ text) × Rose faults rest
+  pub whole : new.failed ≡ false
+      → (old.failed ≡ false) × Moves before after old.bytes new.bytes text
+  pub broken : new.failed ≡ true → old.failed ≡ false
+      → AppendsFront before after (old.bytes ++ text) × Rose faults rest
   pub stays : old.failed ≡ true → (new.failed ≡ true) × (after ≡ before)

@@ -3,7 +3,8 @@ use Rattle.std.specs.Prelude.{⊤, ℕ, ◌<◌, ◌^◌, List, length, encode_u
 use Rattle.std.specs.List.{AllByRecursion}
 use Rattle.wap_code.specs.declared.unit.Unit.{Unit}
 use Rattle.wap_code.specs.declared.unit.Constant.{Constant}
-use Rattle.wap_code.specs.declared.unit.Constant.TheVariants.{Int8, Int16, Int32, Float, Utf8, Empty, Coded}
+use Rattle.wap_code.specs.declared.unit.Constant.TheVariants.{Int8, Int16, Int32, Float, Utf8}
+use Rattle.wap_code.specs.declared.unit.Constant.TheVariants.{Empty, Coded}
 use Rattle.wap_code.specs.declared.unit.Code.{Code}
 use Rattle.wap_unit.specs.Spelling.{body_spelling}
 

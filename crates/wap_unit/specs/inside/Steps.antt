@@ -1,5 +1,6 @@
 -- Reading from the left, step by step: what bytes begin with, and what follows it.
-use Rattle.std.specs.Prelude.{ℕ, zero, suc, ◌-◌, Bool, nat_lt, if◌then◌else◌, List, [], ◌∷◌, length, take, drop, Result, Ok, Err}
+use Rattle.std.specs.Prelude.{ℕ, zero, suc, ◌-◌, Bool, nat_lt, if◌then◌else◌, List, []}
+use Rattle.std.specs.Prelude.{◌∷◌, length, take, drop, Result, Ok, Err}
 use Rattle.wap_base.specs.Outcome.{◌>>=◌}
 use Rattle.wap_base.specs.Numbers.{mb_at}
 use Rattle.wap_base.specs.declared.number.ReadFault.{ReadFault}
@@ -16,7 +17,9 @@ byte_at end [] = Err (fault.Short end)
 byte_at end (byte ∷ rest) = Ok (byte, rest)
 
 abbrev pub taken_at : ℕ → Reader (List ℕ)
-taken_at size end bytes = if nat_lt (length bytes) size then Err (fault.Short end) else Ok (take size bytes, drop size bytes)
+taken_at size end bytes =
+    if nat_lt (length bytes) size then Err (fault.Short end)
+    else Ok (take size bytes, drop size bytes)
 
 abbrev pub numbered : ℕ → List ℕ → Result (ℕ × ℕ) ReadFault → Result (ℕ × List ℕ) UnitFault
 numbered end bytes (Ok read) = Ok (read.0, drop read.1 bytes)
@@ -48,4 +51,5 @@ told made read end bytes = read end bytes >>= λ x. Ok (made x.0, x.1)
 -- so many things, one after the other
 abbrev pub many : {A : Type 0} → Reader A → ℕ → Reader (List A)
 many read zero end bytes = Ok ([], bytes)
-many read (suc count) end bytes = read end bytes >>= λ x. many read count end x.1 >>= λ xs. Ok (x.0 ∷ xs.0, xs.1)
+many read (suc count) end bytes =
+    read end bytes >>= λ x. many read count end x.1 >>= λ xs. Ok (x.0 ∷ xs.0, xs.1)

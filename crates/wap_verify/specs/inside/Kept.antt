@@ -18,4 +18,5 @@ pub record IsConflict (state : State) (index to values : ℕ) (found : VerifyFau
 
 abbrev pub IsConflictOn : State → ℕ → ℕ → Option Way → VerifyFault → Type 0
 IsConflictOn state index left None found = ⊥
-IsConflictOn state index left (Some way) found = IsConflict state index way.to (left + way.gives) found
+IsConflictOn state index left (Some way) found =
+    IsConflict state index way.to (left + way.gives) found

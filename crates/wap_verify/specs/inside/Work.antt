@@ -1,5 +1,7 @@
 -- What the verifier keeps while it works on a function.
-use Rattle.std.specs.Prelude.{⊤, ◌≡◌, ℕ, ◌+◌, ◌-◌, ◌<◌, ◌≤◌, ◌==◌, ◌||◌, ◌&&◌, ◌⊎◌, max, not, Bool, true, false, List, [], ◌∷◌, ◌++◌, length, slice_get, slice_set, slice_index_or, Option, Some, None, IfSome, Ok}
+use Rattle.std.specs.Prelude.{⊤, ◌≡◌, ℕ, ◌+◌, ◌-◌, ◌<◌, ◌≤◌, ◌==◌, ◌||◌, ◌&&◌, ◌⊎◌, max, not, Bool}
+use Rattle.std.specs.Prelude.{true, false, List, [], ◌∷◌, ◌++◌, length, slice_get, slice_set}
+use Rattle.std.specs.Prelude.{slice_index_or, Option, Some, None, IfSome, Ok}
 use Rattle.std.specs.List.{list_any, list_all}
 use Rattle.wap_code.specs.declared.unit.Unit.{Unit}
 use Rattle.wap_code.specs.declared.unit.Code.{Code}
@@ -22,7 +24,8 @@ abbrev pub is_place : List ℕ → ℕ → Bool
 is_place places at = list_any (λ place. place == at) places
 
 -- up to this place the marks say where instructions begin
-pub record Marks (unit : Unit) (index : ℕ) (function : Code) (at : ℕ) (marks : List Bool) : Type 0 where
+pub record Marks (unit : Unit) (index : ℕ) (function : Code) (at : ℕ)
+    (marks : List Bool) : Type 0 where
   pub places : List ℕ
   pub runs : Runs unit index function 0 places at
   pub within : at ≤ length function.code
@@ -39,7 +42,8 @@ abbrev pub is_marked_step : List Bool → ℕ → Step → Bool
 is_marked_step marks end step = not step.strays && leads_to_mark marks end step.jump
 
 -- up to this place each jump has a target among the places
-pub record Aimed (unit : Unit) (index : ℕ) (function : Code) (places : List ℕ) (at : ℕ) : Type 0 where
+pub record Aimed (unit : Unit) (index : ℕ) (function : Code) (places : List ℕ)
+    (at : ℕ) : Type 0 where
   pub front : List ℕ
   pub runs : Runs unit index function 0 front at
   pub aimed : list_all (is_aimed unit index function places) front ≡ true
@@ -58,10 +62,16 @@ depth_of state at = slice_get state.depths at
 
 -- when a way ends at a place with so many values
 abbrev pub noted : State → ℕ → ℕ → Option (Option ℕ) → State
-noted state to values None = record { depths = state.depths; pending = state.pending; room = max state.room values }
-noted state to values (Some (Some other)) = record { depths = state.depths; pending = state.pending; room = max state.room values }
+noted state to values None =
+    record { depths = state.depths; pending = state.pending; room = max state.room values }
+noted state to values (Some (Some other)) =
+    record { depths = state.depths; pending = state.pending; room = max state.room values }
 noted state to values (Some None) =
-    record { depths = slice_set state.depths to (Some values); pending = state.pending ++ (to, values) ∷ []; room = max state.room values }
+    record {
+      depths = slice_set state.depths to (Some values);
+      pending = state.pending ++ (to, values) ∷ [];
+      room = max state.room values;
+    }
 
 abbrev pub arrived : State → ℕ → ℕ → State
 arrived state to values = noted state to values (depth_of state to)
@@ -93,9 +103,12 @@ Among x (y ∷ ys) = (x ≡ y) ⊎ Among x ys
 
 pub record Sane (unit : Unit) (index : ℕ) (function : Code) (state : State) : Type 0 where
   pub long : length state.depths ≡ length function.code
-  pub reached : (at values : ℕ) → depth_of state at ≡ Some (Some values) → Reaches unit index function at values
-  pub waiting : (stand : Stand) → Among stand state.pending → depth_of state stand.0 ≡ Some (Some stand.1)
-  pub bounded : (at values : ℕ) → depth_of state at ≡ Some (Some values) → values + 1 + unseen state.depths ≤ length function.code
+  pub reached : (at values : ℕ) → depth_of state at ≡ Some (Some values)
+      → Reaches unit index function at values
+  pub waiting : (stand : Stand) → Among stand state.pending
+      → depth_of state stand.0 ≡ Some (Some stand.1)
+  pub bounded : (at values : ℕ) → depth_of state at ≡ Some (Some values)
+      → values + 1 + unseen state.depths ≤ length function.code
   pub room_at : ℕ
   pub room_reached : Reaches unit index function room_at state.room
 
@@ -105,7 +118,8 @@ pub record Arrived (state : State) (to values : ℕ) : Type 0 where
   pub kept : to < length state.depths → depth_of state to ≡ Some (Some values)
 
 -- all ways from there were followed
-pub record Settled (unit : Unit) (index : ℕ) (function : Code) (state : State) (at values : ℕ) : Type 0 where
+pub record Settled (unit : Unit) (index : ℕ) (function : Code) (state : State)
+    (at values : ℕ) : Type 0 where
   pub step : Step
   pub stands : step_at unit index function at ≡ Ok step
   pub enough : step.takes ≤ values
@@ -114,21 +128,26 @@ pub record Settled (unit : Unit) (index : ℕ) (function : Code) (state : State)
 -- what was known stays known, and what is new is pending
 pub record Grows (old new : State) : Type 0 where
   pub long : length new.depths ≡ length old.depths
-  pub kept : (at values : ℕ) → depth_of old at ≡ Some (Some values) → depth_of new at ≡ Some (Some values)
+  pub kept : (at values : ℕ) → depth_of old at ≡ Some (Some values)
+      → depth_of new at ≡ Some (Some values)
   pub waits : (stand : Stand) → Among stand old.pending → Among stand new.pending
-  pub fresh : (at values : ℕ) → depth_of new at ≡ Some (Some values) → (depth_of old at ≡ Some (Some values)) ⊎ Among (at, values) new.pending
+  pub fresh : (at values : ℕ) → depth_of new at ≡ Some (Some values)
+      → (depth_of old at ≡ Some (Some values)) ⊎ Among (at, values) new.pending
   pub room : old.room ≤ new.room
   pub fewer : unseen new.depths ≤ unseen old.depths
-  pub less : unseen new.depths + unseen new.depths + length new.pending ≤ unseen old.depths + unseen old.depths + length old.pending
+  pub less : unseen new.depths + unseen new.depths + length new.pending
+      ≤ unseen old.depths + unseen old.depths + length old.pending
 
 -- every place that has a number is pending or settled
 pub record Works (unit : Unit) (index : ℕ) (function : Code) (state : State) : Type 0 where
   pub sane : Sane unit index function state
   pub start : 0 < length function.code → depth_of state 0 ≡ Some (Some 0)
-  pub each : (at values : ℕ) → depth_of state at ≡ Some (Some values) → Among (at, values) state.pending ⊎ Settled unit index function state at values
+  pub each : (at values : ℕ) → depth_of state at ≡ Some (Some values)
+      → Among (at, values) state.pending ⊎ Settled unit index function state at values
 
 -- the place was pending, and its ways aren't followed yet
-pub record Visits (unit : Unit) (index : ℕ) (function : Code) (old new : State) (at values : ℕ) : Type 0 where
+pub record Visits (unit : Unit) (index : ℕ) (function : Code) (old new : State)
+    (at values : ℕ) : Type 0 where
   pub sane : Sane unit index function new
   pub grows : Grows old new
   pub settled : Settled unit index function new at values

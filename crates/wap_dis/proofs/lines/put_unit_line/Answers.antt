@@ -7,6 +7,12 @@ use Rattle.wap_dis.proofs.lines.put_unit_line.Goals as goal
 
 pub returns : goal.returns
 returns g c =
-    let text : ℕ → ℕ → List ℕ = λ version charset. line (codes "unit") (codes "version" ∷ decimal version ∷ codes "charset" ∷ decimal charset ∷ []) in
-    let puts : List ℕ → Type 0 = Puts (g.O.Sink.written c.args.out.now) (g.O.Sink.written c.put_line.new.out) (g.O.Sink.faults c.args.out.now) (g.O.Sink.faults c.put_line.new.out) (state c.args.held.now) (state c.put_line.new.held) in
-    subst (λ (version : ℕ). puts (text version c.args.unit.now.charset)) c.from.ensures (subst (λ (charset : ℕ). puts (text c.from.result charset)) c.from-2.ensures c.put_line.ensures)
+    let text : ℕ → ℕ → List ℕ =
+    λ version charset. line (codes "unit")
+    (codes "version" ∷ decimal version ∷ codes "charset" ∷ decimal charset ∷ []) in
+    let puts : List ℕ → Type 0 =
+    Puts (g.O.Sink.written c.args.out.now) (g.O.Sink.written c.put_line.new.out)
+    (g.O.Sink.faults c.args.out.now) (g.O.Sink.faults c.put_line.new.out) (state c.args.held.now)
+    (state c.put_line.new.held) in
+    subst (λ (version : ℕ). puts (text version c.args.unit.now.charset)) c.from.ensures
+    (subst (λ (charset : ℕ). puts (text c.from.result charset)) c.from-2.ensures c.put_line.ensures)

@@ -11,7 +11,12 @@ returns-then-held-clause-front g c =
     let written = g.O.Sink.written in
     let faults = g.O.Sink.faults in
     let whole : List ℕ = listing c.args.unit.now in
-    let all = Puts-then (written c.args.out.now) (written c.put_listing.new.out) (written c.write_held.new.out) (faults c.args.out.now) (faults c.put_listing.new.out) (faults c.write_held.new.out)
-    (state c.nothing_held-held.result) (state c.put_listing.new.held) (state c.write_held.new.held) whole [] c.put_listing.ensures c.write_held.ensures.puts in
-    subst (AppendsFront (written c.args.out.now) (written c.write_held.new.out)) (ap (λ (l : List ℕ). l ++ (whole ++ [])) c.nothing_held-held.ensures.bytes ∙ append-nil whole)
+    let all =
+    Puts-then (written c.args.out.now) (written c.put_listing.new.out)
+    (written c.write_held.new.out) (faults c.args.out.now) (faults c.put_listing.new.out)
+    (faults c.write_held.new.out)
+    (state c.nothing_held-held.result) (state c.put_listing.new.held)
+    (state c.write_held.new.held) whole [] c.put_listing.ensures c.write_held.ensures.puts in
+    subst (AppendsFront (written c.args.out.now) (written c.write_held.new.out))
+    (ap (λ (l : List ℕ). l ++ (whole ++ [])) c.nothing_held-held.ensures.bytes ∙ append-nil whole)
     (all.broken c.if-held.true c.nothing_held-held.ensures.failed).0

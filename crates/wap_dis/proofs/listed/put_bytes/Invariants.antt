@@ -7,5 +7,6 @@ use Rattle.wap_dis.proofs.listed.put_bytes.Given as goal
 
 abbrev pub invariant-loop-place : goal.invariant-loop-place
 invariant-loop-place g l =
-    Puts (g.O.Sink.written l.fn.out) (g.O.Sink.written l.out) (g.O.Sink.faults l.fn.out) (g.O.Sink.faults l.out) (state l.fn.held) (state l.held)
+    Puts (g.O.Sink.written l.fn.out) (g.O.Sink.written l.out) (g.O.Sink.faults l.fn.out)
+    (g.O.Sink.faults l.out) (state l.fn.held) (state l.held)
     (flat_map byte_line (enumerate_from l.at (take (l.place - l.at) (drop l.at l.code))))

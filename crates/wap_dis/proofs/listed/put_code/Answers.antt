@@ -1,4 +1,5 @@
-use Rattle.std.proofs.Common.{◌≡◌, ℕ, suc, ◌+◌, ◌-◌, ◌<◌, List, ◌++◌, length, Some, None, sym, ap, subst, ◌∙◌, append_assoc, arith}
+use Rattle.std.proofs.Common.{◌≡◌, ℕ, suc, ◌+◌, ◌-◌, ◌<◌, List, ◌++◌, length, Some, None}
+use Rattle.std.proofs.Common.{sym, ap, subst, ◌∙◌, append_assoc, arith}
 use Rattle.std.proofs.lemmas.List.{append-nil}
 use Rattle.wap_dis.specs.Listing.{byte_lines, instr_line, code_from}
 use Rattle.wap_dis.specs.inside.Puts.{Puts}
@@ -12,8 +13,13 @@ returns-then-at-code g c =
     let code : List ℕ = c.args.code.now in
     let so_far = c.loop.invariant in
     let whole : so_far.text ≡ code_from (length code) code 0 =
-    sym (append-nil so_far.text) ∙ ap (λ (l : List ℕ). so_far.text ++ l) (sym (code_end (length code - c.loop.counter) code c.loop.at (omega arith))) ∙ so_far.goes_on in
-    subst (λ (l : List ℕ). Puts (g.O.Sink.written c.args.out.now) (g.O.Sink.written c.loop.out) (g.O.Sink.faults c.args.out.now) (g.O.Sink.faults c.loop.out) (state c.args.held.now) (state c.loop.held) l) whole so_far.puts
+    sym (append-nil so_far.text)
+    ∙ ap (λ (l : List ℕ). so_far.text ++ l)
+    (sym (code_end (length code - c.loop.counter) code c.loop.at (omega arith)))
+    ∙ so_far.goes_on in
+    subst (λ (l : List ℕ). Puts (g.O.Sink.written c.args.out.now) (g.O.Sink.written c.loop.out)
+    (g.O.Sink.faults c.args.out.now) (g.O.Sink.faults c.loop.out) (state c.args.held.now)
+    (state c.loop.held) l) whole so_far.puts
 
 pub returns-in-None : goal.returns-in-None
 returns-in-None g c =
@@ -23,10 +29,18 @@ returns-in-None g c =
     let turns : length code - c.loop.counter ≡ suc left = omega arith in
     let within : c.loop.at < length code = omega arith in
     let rest : code_from (length code - c.loop.counter) code c.loop.at ≡ byte_lines code c.loop.at =
-    ap (λ (k : ℕ). code_from k code c.loop.at) turns ∙ code_step left code c.loop.at None within (sym c.in-None.ensures) in
-    subst (λ (l : List ℕ). Puts (g.O.Sink.written c.args.out.now) (g.O.Sink.written c.put_bytes.new.out) (g.O.Sink.faults c.args.out.now) (g.O.Sink.faults c.put_bytes.new.out) (state c.args.held.now) (state c.put_bytes.new.held) l)
+    ap (λ (k : ℕ). code_from k code c.loop.at) turns
+    ∙ code_step left code c.loop.at None within (sym c.in-None.ensures) in
+    subst (λ (l : List ℕ).
+    Puts (g.O.Sink.written c.args.out.now) (g.O.Sink.written c.put_bytes.new.out)
+    (g.O.Sink.faults c.args.out.now) (g.O.Sink.faults c.put_bytes.new.out) (state c.args.held.now)
+    (state c.put_bytes.new.held) l)
     (ap (λ (l : List ℕ). so_far.text ++ l) (sym rest) ∙ so_far.goes_on)
-    (Puts-then (g.O.Sink.written c.args.out.now) (g.O.Sink.written c.loop.out) (g.O.Sink.written c.put_bytes.new.out) (g.O.Sink.faults c.args.out.now) (g.O.Sink.faults c.loop.out) (g.O.Sink.faults c.put_bytes.new.out) (state c.args.held.now) (state c.loop.held) (state c.put_bytes.new.held) so_far.text (byte_lines code c.loop.at) so_far.puts c.put_bytes.ensures)
+    (Puts-then (g.O.Sink.written c.args.out.now) (g.O.Sink.written c.loop.out)
+    (g.O.Sink.written c.put_bytes.new.out) (g.O.Sink.faults c.args.out.now)
+    (g.O.Sink.faults c.loop.out) (g.O.Sink.faults c.put_bytes.new.out) (state c.args.held.now)
+    (state c.loop.held) (state c.put_bytes.new.held) so_far.text
+    (byte_lines code c.loop.at) so_far.puts c.put_bytes.ensures)
 
 pub loop-preserved : goal.loop-preserved
 loop-preserved g c =
@@ -36,12 +50,21 @@ loop-preserved g c =
     let turns : length code - c.loop.counter ≡ suc left = omega arith in
     let within : c.loop.at < length code = omega arith in
     let line : List ℕ = instr_line c.loop.at c.in-Some.row c.in-Some.instr in
-    let rest : code_from (length code - c.loop.counter) code c.loop.at ≡ line ++ code_from left code c.in-Some.instr.next =
-    ap (λ (k : ℕ). code_from k code c.loop.at) turns ∙ code_step left code c.loop.at (Some (c.in-Some.row, c.in-Some.instr)) within (sym c.in-Some.ensures) in
+    let rest : code_from (length code - c.loop.counter) code c.loop.at
+    ≡ line ++ code_from left code c.in-Some.instr.next =
+    ap (λ (k : ℕ). code_from k code c.loop.at) turns ∙ code_step left code c.loop.at
+    (Some (c.in-Some.row, c.in-Some.instr)) within (sym c.in-Some.ensures) in
     record {
       text = so_far.text ++ line;
-      puts = Puts-then (g.O.Sink.written c.args.out.now) (g.O.Sink.written c.loop.out) (g.O.Sink.written c.put_instr_line.new.out) (g.O.Sink.faults c.args.out.now) (g.O.Sink.faults c.loop.out) (g.O.Sink.faults c.put_instr_line.new.out) (state c.args.held.now) (state c.loop.held) (state c.put_instr_line.new.held) so_far.text line so_far.puts c.put_instr_line.ensures;
-      goes_on = append_assoc so_far.text line (code_from left code c.in-Some.instr.next) ∙ ap (λ (l : List ℕ). so_far.text ++ l) (sym rest) ∙ so_far.goes_on;
+      puts =
+          Puts-then (g.O.Sink.written c.args.out.now) (g.O.Sink.written c.loop.out)
+          (g.O.Sink.written c.put_instr_line.new.out) (g.O.Sink.faults c.args.out.now)
+          (g.O.Sink.faults c.loop.out) (g.O.Sink.faults c.put_instr_line.new.out)
+          (state c.args.held.now) (state c.loop.held)
+          (state c.put_instr_line.new.held) so_far.text line so_far.puts c.put_instr_line.ensures;
+      goes_on =
+          append_assoc so_far.text line (code_from left code c.in-Some.instr.next)
+          ∙ ap (λ (l : List ℕ). so_far.text ++ l) (sym rest) ∙ so_far.goes_on;
     }
 
 pub returns : goal.returns
@@ -50,5 +73,10 @@ returns g c =
     let so_far = c.loop.invariant in
     let turns : length code - c.loop.counter ≡ 0 = omega arith in
     let whole : so_far.text ≡ code_from (length code) code 0 =
-    sym (append-nil so_far.text) ∙ ap (λ (l : List ℕ). so_far.text ++ l) (sym (ap (λ (k : ℕ). code_from k code c.loop.at) turns ∙ code_none code c.loop.at)) ∙ so_far.goes_on in
-    subst (λ (l : List ℕ). Puts (g.O.Sink.written c.args.out.now) (g.O.Sink.written c.loop.out) (g.O.Sink.faults c.args.out.now) (g.O.Sink.faults c.loop.out) (state c.args.held.now) (state c.loop.held) l) whole so_far.puts
+    sym (append-nil so_far.text)
+    ∙ ap (λ (l : List ℕ). so_far.text ++ l)
+    (sym (ap (λ (k : ℕ). code_from k code c.loop.at) turns ∙ code_none code c.loop.at))
+    ∙ so_far.goes_on in
+    subst (λ (l : List ℕ). Puts (g.O.Sink.written c.args.out.now) (g.O.Sink.written c.loop.out)
+    (g.O.Sink.faults c.args.out.now) (g.O.Sink.faults c.loop.out) (state c.args.held.now)
+    (state c.loop.held) l) whole so_far.puts

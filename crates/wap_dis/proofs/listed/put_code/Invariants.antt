@@ -8,6 +8,8 @@ use Rattle.wap_dis.proofs.listed.put_code.Given as goal
 abbrev pub invariant-loop : goal.invariant-loop
 invariant-loop g l = record {
   text : List ℕ;
-  puts : Puts (g.O.Sink.written l.fn.out) (g.O.Sink.written l.out) (g.O.Sink.faults l.fn.out) (g.O.Sink.faults l.out) (state l.fn.held) (state l.held) text;
-  goes_on : text ++ code_from (length l.code - l.counter) l.code l.at ≡ code_from (length l.code) l.code 0;
+  puts : Puts (g.O.Sink.written l.fn.out) (g.O.Sink.written l.out) (g.O.Sink.faults l.fn.out)
+      (g.O.Sink.faults l.out) (state l.fn.held) (state l.held) text;
+  goes_on : text ++ code_from (length l.code - l.counter) l.code l.at
+      ≡ code_from (length l.code) l.code 0;
 }

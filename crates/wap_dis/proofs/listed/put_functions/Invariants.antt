@@ -7,5 +7,6 @@ use Rattle.wap_dis.proofs.listed.put_functions.Given as goal
 
 abbrev pub invariant-loop-index : goal.invariant-loop-index
 invariant-loop-index g l =
-    Puts (g.O.Sink.written l.fn.out) (g.O.Sink.written l.out) (g.O.Sink.faults l.fn.out) (g.O.Sink.faults l.out) (state l.fn.held) (state l.held)
+    Puts (g.O.Sink.written l.fn.out) (g.O.Sink.written l.out) (g.O.Sink.faults l.fn.out)
+    (g.O.Sink.faults l.out) (state l.fn.held) (state l.held)
     (flat_map (function_lines l.unit) (enumerate_from 0 (take l.index l.unit.functions)))

@@ -11,7 +11,11 @@ returns g c =
     let written = g.O.Sink.written in
     let faults = g.O.Sink.faults in
     let words : List ℕ = flat_map spaced (map word_bytes c.args.words.now) in
-    Puts-then (written c.args.out.now) (written c.put_word.new.out) (written c.put.new.out) (faults c.args.out.now) (faults c.put_word.new.out) (faults c.put.new.out)
-    (state c.args.held.now) (state c.put_word.new.held) (state c.put.new.held) (word_bytes c.args.first) (words ++ (10 ∷ [])) c.put_word.ensures
-    (Puts-then (written c.put_word.new.out) (written c.put_words.new.out) (written c.put.new.out) (faults c.put_word.new.out) (faults c.put_words.new.out) (faults c.put.new.out)
-    (state c.put_word.new.held) (state c.put_words.new.held) (state c.put.new.held) words (10 ∷ []) c.put_words.ensures c.put.ensures)
+    Puts-then (written c.args.out.now) (written c.put_word.new.out) (written c.put.new.out)
+    (faults c.args.out.now) (faults c.put_word.new.out) (faults c.put.new.out)
+    (state c.args.held.now) (state c.put_word.new.held) (state c.put.new.held)
+    (word_bytes c.args.first) (words ++ (10 ∷ [])) c.put_word.ensures
+    (Puts-then (written c.put_word.new.out) (written c.put_words.new.out) (written c.put.new.out)
+    (faults c.put_word.new.out) (faults c.put_words.new.out) (faults c.put.new.out)
+    (state c.put_word.new.held) (state c.put_words.new.held) (state c.put.new.held) words
+    (10 ∷ []) c.put_words.ensures c.put.ensures)

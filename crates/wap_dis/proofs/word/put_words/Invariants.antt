@@ -8,5 +8,6 @@ use Rattle.wap_dis.proofs.word.put_words.Given as goal
 
 abbrev pub invariant-loop-word : goal.invariant-loop-word
 invariant-loop-word g l =
-    Puts (g.O.Sink.written l.fn.out) (g.O.Sink.written l.out) (g.O.Sink.faults l.fn.out) (g.O.Sink.faults l.out) (state l.fn.held) (state l.held)
+    Puts (g.O.Sink.written l.fn.out) (g.O.Sink.written l.out) (g.O.Sink.faults l.fn.out)
+    (g.O.Sink.faults l.out) (state l.fn.held) (state l.held)
     (flat_map spaced (map word_bytes (take l.word-index l.words)))

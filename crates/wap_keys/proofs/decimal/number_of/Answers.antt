@@ -9,9 +9,14 @@ use Rattle.wap_keys.proofs.decimal.number_of.Goals as goal
 pub loop-digit-preserved : goal.loop-digit-preserved
 loop-digit-preserved c =
     let i = c.loop-digit.digit-index in
-    let digit = digit_at c.args.digits.now c.loop-digit.digit-index c.requires.digits c.loop-digit-test.true in
+    let digit =
+    digit_at c.args.digits.now c.loop-digit.digit-index c.requires.digits c.loop-digit-test.true in
     let value = digit_value_digit (get_or c.args.digits.now c.loop-digit.digit-index 0) digit in
     record {
-      value = ap₂ (λ n d. n * 10 + d) c.loop-digit.invariant.value (let same : c.from.result ≡ digit_value (get_or c.args.digits.now c.loop-digit.digit-index 0) = omega arith in same) ∙ sym (digits_value_more 10 c.args.digits.now c.loop-digit.digit-index c.loop-digit-test.true);
+      value =
+          ap₂ (λ n d. n * 10 + d) c.loop-digit.invariant.value (let same : c.from.result
+          ≡ digit_value (get_or c.args.digits.now c.loop-digit.digit-index 0) = omega arith in same)
+          ∙ sym
+          (digits_value_more 10 c.args.digits.now c.loop-digit.digit-index c.loop-digit-test.true);
       small = omega (arith, pow_more 10 c.loop-digit.digit-index, digit);
     }

@@ -13,11 +13,16 @@ returns-then-line-gt-LINE_LIMIT c = λ _. long_key c.args.line.now c.if-line-gt-
 
 pub returns-in-Some : goal.returns-in-Some
 returns-in-Some c =
-    subst (λ (reading : Result Key KeyFault). Meets NoMemory (λ (key : Key). key) c.read_rest.result reading)
-    (sym (word_key c.args.line.now c.split_word.result.0.now (option_map (λ rest. rest.now) c.split_word.result.1) c.in-Some.word c.if-line-gt-LINE_LIMIT.false c.split_word.ensures.is (sym c.named.ensures ∙ c.in-Some.is)))
+    subst (λ (reading : Result Key KeyFault).
+    Meets NoMemory (λ (key : Key). key) c.read_rest.result reading)
+    (sym (word_key c.args.line.now c.split_word.result.0.now
+    (option_map (λ rest. rest.now) c.split_word.result.1) c.in-Some.word
+    c.if-line-gt-LINE_LIMIT.false c.split_word.ensures.is (sym c.named.ensures ∙ c.in-Some.is)))
     c.read_rest.ensures
 
 pub returns-in-None : goal.returns-in-None
 returns-in-None c = λ _.
-    unknown_key c.args.line.now c.split_word.result.0.now (option_map (λ rest. rest.now) c.split_word.result.1) c.if-line-gt-LINE_LIMIT.false c.split_word.ensures.is c.split_word.ensures.word (sym c.named.ensures ∙ c.in-None.is)
+    unknown_key c.args.line.now c.split_word.result.0.now
+    (option_map (λ rest. rest.now) c.split_word.result.1) c.if-line-gt-LINE_LIMIT.false
+    c.split_word.ensures.is c.split_word.ensures.word (sym c.named.ensures ∙ c.in-None.is)
     ∙ ap Err (sym c.unknown_fault.ensures)

@@ -8,10 +8,15 @@ use Rattle.wap_keys.proofs.key.read_rest.Goals as goal
 pub returns-in-Ok : goal.returns-in-Ok
 returns-in-Ok c =
     let rest = option_map (λ rest. rest.now) c.args.rest in
-    let text = subst (λ (read : Result (Option (Bor (List ℕ))) KeyFault). IsRestText rest read) c.in-Ok.is c.rest_text.ensures in
-    good_rest c.read_form.result c.args.word rest (option_map (λ text. text.now) c.in-Ok.text) text.0 text.1 c.read_form.ensures
+    let text =
+    subst (λ (read : Result (Option (Bor (List ℕ))) KeyFault). IsRestText rest read)
+    c.in-Ok.is c.rest_text.ensures in
+    good_rest c.read_form.result c.args.word rest
+    (option_map (λ text. text.now) c.in-Ok.text) text.0 text.1 c.read_form.ensures
 
 pub returns-in-Err : goal.returns-in-Err
 returns-in-Err c = λ _.
     let rest = option_map (λ rest. rest.now) c.args.rest in
-    other_rest c.args.word rest c.in-Err.fault (subst (λ (read : Result (Option (Bor (List ℕ))) KeyFault). IsRestText rest read) c.in-Err.is c.rest_text.ensures)
+    other_rest c.args.word rest c.in-Err.fault
+    (subst (λ (read : Result (Option (Bor (List ℕ))) KeyFault). IsRestText rest read)
+    c.in-Err.is c.rest_text.ensures)

@@ -8,5 +8,7 @@ use Rattle.wap_libs.proofs.draft.bytes_with.Goals as goal
 
 pub returns : goal.returns
 returns c =
-    let same : length c.args.more.now ≡ utf8_len (chars c.args.more.now) = ap length (sym (encodes-chars c.args.more.now c.utf8.more)) ∙ length-encode_utf8_all (chars c.args.more.now) in
+    let same : length c.args.more.now ≡ utf8_len (chars c.args.more.now) =
+    ap length (sym (encodes-chars c.args.more.now c.utf8.more))
+    ∙ length-encode_utf8_all (chars c.args.more.now) in
     c.saturating_add.ensures ∙ ap (λ n. counted (c.args.bytes + n)) same

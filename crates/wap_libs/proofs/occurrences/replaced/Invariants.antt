@@ -8,8 +8,10 @@ use Rattle.wap_libs.proofs.occurrences.replaced.Given as goal
 
 -- what was made so far, and what is made of the rest, are what is made of the text
 abbrev pub invariant-loop-before : goal.invariant-loop-before
-invariant-loop-before l = shadow (Utf8 l.rest) × ((made : List ℕ) × (l.draft ≡ draft_of l.limit made)
-    × (made ++ replaced (chars l.old) (chars l.new) (chars l.rest) ≡ replaced (chars l.old) (chars l.new) (chars l.text)))
+invariant-loop-before l =
+    shadow (Utf8 l.rest) × ((made : List ℕ) × (l.draft ≡ draft_of l.limit made)
+    × (made ++ replaced (chars l.old) (chars l.new) (chars l.rest)
+    ≡ replaced (chars l.old) (chars l.new) (chars l.text)))
 
 abbrev pub decreases-loop-before : goal.decreases-loop-before
 decreases-loop-before l = length l.rest

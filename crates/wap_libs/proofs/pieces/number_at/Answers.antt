@@ -9,4 +9,5 @@ number_of-requires c = λ k d below.
     let s = c.args.text.now in
     let n = c.digits.result in
     let inside : k < n = omega (arith, length-take n s) in
-    ap is_ascii_digit (get_or-take n s k d inside) ∙ prefix_len_passes is_ascii_digit s k d (omega (arith, c.digits.ensures.exact))
+    ap is_ascii_digit (get_or-take n s k d inside)
+    ∙ prefix_len_passes is_ascii_digit s k d (omega (arith, c.digits.ensures.exact))

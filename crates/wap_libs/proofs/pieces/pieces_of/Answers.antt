@@ -13,11 +13,15 @@ loop-rest-smaller c =
 pub loop-rest-preserved : goal.loop-rest-preserved
 loop-rest-preserved c =
     let some : 0 < length c.loop-rest.rest.now = search rules in
-    ap (λ (pieces : List Piece). option_map (λ more. pieces ++ more) (pieces_of c.in-Some.behind.now)) c.in_ok-add-in-Some.ensures.ok
-    ∙ next-push c.loop-rest.pieces c.loop-rest.rest.now c.in-Some.behind.now c.in-Some.piece some c.in-Some.ensures
+    ap
+    (λ (pieces : List Piece). option_map (λ more. pieces ++ more) (pieces_of c.in-Some.behind.now))
+    c.in_ok-add-in-Some.ensures.ok
+    ∙ next-push c.loop-rest.pieces c.loop-rest.rest.now c.in-Some.behind.now c.in-Some.piece some
+    c.in-Some.ensures
     ∙ c.loop-rest.invariant
 
 pub returns-in-None : goal.returns-in-None
 returns-in-None c =
     let some : 0 < length c.loop-rest.rest.now = search rules in
-    sym (next-None c.loop-rest.pieces c.loop-rest.rest.now some c.in-None.ensures) ∙ c.loop-rest.invariant
+    sym (next-None c.loop-rest.pieces c.loop-rest.rest.now some c.in-None.ensures)
+    ∙ c.loop-rest.invariant

@@ -4,4 +4,6 @@ use Rattle.wap_unit.proofs.Loops.{Continues}
 use Rattle.wap_unit.proofs.constants.read_pool.Given as goal
 
 abbrev pub invariant-loop : goal.invariant-loop
-invariant-loop l = Continues (constant_at l.set) l.end l.count l.counter l.constants l.rest (many (constant_at l.set) l.count l.end l.bytes)
+invariant-loop l =
+    Continues (constant_at l.set) l.end l.count l.counter l.constants l.rest
+    (many (constant_at l.set) l.count l.end l.bytes)

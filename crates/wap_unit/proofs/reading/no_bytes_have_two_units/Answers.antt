@@ -4,4 +4,6 @@ use Rattle.wap_unit.proofs.UnitLaws.{unit_again}
 use Rattle.wap_unit.proofs.reading.no_bytes_have_two_units.Goals as goal
 
 pub returns : goal.returns
-returns c = λ bytes one two first second. ok_same one two (sym (unit_again bytes one first) ∙ unit_again bytes two second)
+returns c =
+    λ bytes one two first second.
+    ok_same one two (sym (unit_again bytes one first) ∙ unit_again bytes two second)

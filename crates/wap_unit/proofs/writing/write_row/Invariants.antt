@@ -4,4 +4,5 @@ use Rattle.wap_unit.specs.Spelling.{pragma_spelling}
 use Rattle.wap_unit.proofs.writing.write_row.Given as goal
 
 abbrev pub invariant-loop-pragma : goal.invariant-loop-pragma
-invariant-loop-pragma l = l.out ≡ l.initial.out ++ flat_map pragma_spelling (take l.pragma-index l.pragmas)
+invariant-loop-pragma l =
+    l.out ≡ l.initial.out ++ flat_map pragma_spelling (take l.pragma-index l.pragmas)

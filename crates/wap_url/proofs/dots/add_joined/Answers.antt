@@ -10,9 +10,14 @@ loop-i-preserved c =
     let d : Bor (List ℕ) = record { ref_ptr = (0, 0); now = [] } in
     elim c.if-i-gt0.branch [
       | then-i-gt0+in_ok-push w ↦
-          c.in_ok-add.ensures.ok ∙ ap (λ out. out ++ chars (get_or c.args.segments.now c.loop-i.i d).now) (w.out-is ∙ w.in_ok-push.ensures.ok)
-          ∙ joined_next f c.args.segments.now c.loop-i.i d c.args.out.now c.loop-i.out c.loop-i-test.true w.if-i-gt0.true c.loop-i.invariant
+          c.in_ok-add.ensures.ok
+          ∙ ap (λ out. out ++ chars (get_or c.args.segments.now c.loop-i.i d).now)
+          (w.out-is ∙ w.in_ok-push.ensures.ok)
+          ∙ joined_next f c.args.segments.now c.loop-i.i d c.args.out.now c.loop-i.out
+          c.loop-i-test.true w.if-i-gt0.true c.loop-i.invariant
       | else-i-gt0 w ↦
-          c.in_ok-add.ensures.ok ∙ ap (λ out. out ++ chars (get_or c.args.segments.now c.loop-i.i d).now) w.out-is
-          ∙ joined_first f c.args.segments.now c.loop-i.i d c.args.out.now c.loop-i.out c.loop-i-test.true (omega (arith, w.if-i-gt0.false)) c.loop-i.invariant
+          c.in_ok-add.ensures.ok
+          ∙ ap (λ out. out ++ chars (get_or c.args.segments.now c.loop-i.i d).now) w.out-is
+          ∙ joined_first f c.args.segments.now c.loop-i.i d c.args.out.now c.loop-i.out
+          c.loop-i-test.true (omega (arith, w.if-i-gt0.false)) c.loop-i.invariant
     ]

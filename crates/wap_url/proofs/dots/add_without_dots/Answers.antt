@@ -6,5 +6,8 @@ use Rattle.wap_url.proofs.dots.add_without_dots.Goals as goal
 
 pub returns : goal.returns
 returns c =
-    let P : List (List ℕ) → Type 0 = λ ss. OnOk c.add_joined.result (c.add_joined.new.out ≡ c.args.out.now ++ path_of ss) in
-    subst P (ap (map (λ (s : Bor (List ℕ)). chars s.now)) c.deref.ensures.value ∙ map-now c.in_ok-kept.kept.items ∙ ap (map chars) c.in_ok-kept.ensures ∙ chars-without c.args.path.now c.utf8.path) c.add_joined.ensures
+    let P : List (List ℕ) → Type 0 =
+    λ ss. OnOk c.add_joined.result (c.add_joined.new.out ≡ c.args.out.now ++ path_of ss) in
+    subst P (ap (map (λ (s : Bor (List ℕ)). chars s.now)) c.deref.ensures.value
+    ∙ map-now c.in_ok-kept.kept.items ∙ ap (map chars) c.in_ok-kept.ensures
+    ∙ chars-without c.args.path.now c.utf8.path) c.add_joined.ensures

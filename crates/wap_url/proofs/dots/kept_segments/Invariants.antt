@@ -9,7 +9,8 @@ use Rattle.wap_url.proofs.dots.kept_segments.Given as goal
 abbrev pub invariant-loop-segment : goal.invariant-loop-segment
 invariant-loop-segment l =
     shadow (Utf8 l.rest)
-    × (fold kept_with (map (λ s. s.now) l.kept.items) (segments l.rest) ≡ fold kept_with [] (segments l.path))
+    × (fold kept_with (map (λ s. s.now) l.kept.items) (segments l.rest)
+    ≡ fold kept_with [] (segments l.path))
     × (last_segment (segments l.rest) ≡ last_segment (segments l.path))
 
 abbrev pub decreases-loop-segment : goal.decreases-loop-segment

@@ -5,4 +5,7 @@ use Rattle.wap_url.proofs.JoinLaws.{begins-encodes}
 use Rattle.wap_url.proofs.joining.begins_at_root.Goals as goal
 
 pub returns : goal.returns
-returns c = c.begins_with_byte.ensures ∙ ap (begins_with is_slash) (c.as_bytes.ensures.value ∙ c.as_str.ensures.bytes) ∙ begins-encodes c.args.path.now
+returns c =
+    c.begins_with_byte.ensures
+    ∙ ap (begins_with is_slash) (c.as_bytes.ensures.value ∙ c.as_str.ensures.bytes)
+    ∙ begins-encodes c.args.path.now

@@ -6,6 +6,7 @@ use Rattle.wap_url.proofs.relation.is_same_folder.Goals as goal
 pub returns : goal.returns
 returns c =
     c.is_same.ensures
-    ∙ same_folders c.as_str.result.now c.as_str-2.result.now c.folder_of.result c.folder_of-2.result c.folder_of.ensures c.folder_of-2.ensures
+    ∙ same_folders c.as_str.result.now c.as_str-2.result.now c.folder_of.result c.folder_of-2.result
+    c.folder_of.ensures c.folder_of-2.ensures
     ∙ ap₂ same_folder c.as_str.ensures.bytes c.as_str-2.ensures.bytes
     ∙ same_folder-encodes c.args.base.now c.args.path.now

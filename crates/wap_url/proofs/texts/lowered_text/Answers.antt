@@ -1,4 +1,4 @@
-use Rattle.std.proofs.Common.{◌≡◌, ◌<◌, ℕ, map, subst, sym, ◌∙◌, ap, arith}
+use Rattle.std.proofs.Common.{◌<◌, ℕ, map, ◌∙◌, ap, arith}
 use Rattle.std.specs.Char.{to_ascii_lowercase}
 use Rattle.std.specs.Str.{chars}
 use Rattle.std.proofs.lemmas.Bool.Decides.{nat_tests}
@@ -13,5 +13,7 @@ pub returns-then-is_ascii : goal.returns-then-is_ascii
 returns-then-is_ascii c =
     let ascii = c.if-is_ascii.ensures.cases in
     c.from_string.ensures
-    ∙ ap chars (c.make_ascii_lowercase.ensures.bytes ∙ ap (map to_ascii_lowercase) (c.in_ok-lowered.ensures.ok (IsUtf8-from_ascii c.args.bytes.now ascii)))
-    ∙ chars-IsAscii (map to_ascii_lowercase c.args.bytes.now) (IsAscii-map to_ascii_lowercase c.args.bytes.now lowered_ascii ascii)
+    ∙ ap chars (c.make_ascii_lowercase.ensures.bytes ∙ ap (map to_ascii_lowercase)
+    (c.in_ok-lowered.ensures.ok (IsUtf8-from_ascii c.args.bytes.now ascii)))
+    ∙ chars-IsAscii (map to_ascii_lowercase c.args.bytes.now)
+    (IsAscii-map to_ascii_lowercase c.args.bytes.now lowered_ascii ascii)

@@ -5,4 +5,6 @@ use Rattle.wap_verify.proofs.pragmas.stray_of.Given as goal
 
 -- what is left has what all have
 abbrev pub invariant-loop-index : goal.invariant-loop-index
-invariant-loop-index l = find (λ index. not (is_string l.unit index)) (drop l.index-index l.indexes) ≡ find (λ index. not (is_string l.unit index)) l.indexes
+invariant-loop-index l =
+    find (λ index. not (is_string l.unit index)) (drop l.index-index l.indexes)
+    ≡ find (λ index. not (is_string l.unit index)) l.indexes

@@ -16,10 +16,16 @@ returns-in_ok-said-in-Whole c =
     let unread : c.split_at.result.1.now ≡ drop c.self.inside.at piece = cc in
     let takes : TakesFront line whole (drop c.self.inside.at piece) (front.Whole c.in-Whole.place) =
     subst (λ (l : List ℕ). TakesFront line whole l (front.Whole c.in-Whole.place)) unread
-    (subst (λ (front : Front). TakesFront line whole c.split_at.result.1.now front) c.in-Whole.is c.in_ok-take_front.ensures.takes) in
-    let content : c.without_return.result.now ≡ without_return whole = c.without_return.ensures ∙ ap without_return (let same : c.deref.result.now ≡ whole = cc in same) in
-    let says : c.in_ok-said-in-Whole.said ≡ said_of (content_key (without_return whole)) = c.in_ok-said-in-Whole.ensures ∙ ap (λ (l : List ℕ). said_of (content_key l)) content in
-    takes_whole c.args.self.now line piece whole c.clear-in-Whole.new.self.items c.self.inside.at c.in-Whole.place c.self.inside.number c.self.inside.count c.self.inside.over c.in_ok-said-in-Whole.said
+    (subst (λ (front : Front). TakesFront line whole c.split_at.result.1.now front)
+    c.in-Whole.is c.in_ok-take_front.ensures.takes) in
+    let content : c.without_return.result.now ≡ without_return whole =
+    c.without_return.ensures
+    ∙ ap without_return (let same : c.deref.result.now ≡ whole = cc in same) in
+    let says : c.in_ok-said-in-Whole.said ≡ said_of (content_key (without_return whole)) =
+    c.in_ok-said-in-Whole.ensures ∙ ap (λ (l : List ℕ). said_of (content_key l)) content in
+    takes_whole c.args.self.now line piece whole c.clear-in-Whole.new.self.items c.self.inside.at
+    c.in-Whole.place c.self.inside.number c.self.inside.count c.self.inside.over
+    c.in_ok-said-in-Whole.said
     c.self.view_is c.self.invariant.1 takes says c.clear-in-Whole.ensures.items
 
 pub returns-in-TooLong : goal.returns-in-TooLong
@@ -27,10 +33,16 @@ returns-in-TooLong c =
     let line = c.self.inside.line.items in
     let piece = c.self.inside.piece.items in
     let whole = c.take_front.new.line.items in
-    let view : line ++ drop c.self.inside.at piece ≡ c.args.self.now.unread = ap (λ (r : Reading). r.unread) c.self.view_is in
+    let view : line ++ drop c.self.inside.at piece ≡ c.args.self.now.unread =
+    ap (λ (r : Reading). r.unread) c.self.view_is in
     let unread : c.split_at.result.1.now ≡ drop c.self.inside.at piece = cc in
     let takes : TakesFront line whole (drop c.self.inside.at piece) front.TooLong =
     subst (λ (l : List ℕ). TakesFront line whole l front.TooLong) unread
-    (subst (λ (front : Front). TakesFront line whole c.split_at.result.1.now front) c.in-TooLong.is c.in_ok-take_front.ensures.takes) in
-    let no_want : TooLong ≢ NoMemory = λ e. absurd (let none : ⊥ = cc in none) in
-    (no_want, ap (λ (r : Reading). r.over) c.self.view_is, takes_long c.args.self.now line (drop c.self.inside.at piece) whole view c.self.invariant.1 takes)
+    (subst (λ (front : Front). TakesFront line whole c.split_at.result.1.now front)
+    c.in-TooLong.is c.in_ok-take_front.ensures.takes) in
+    let no_want : TooLong ≢ NoMemory = λ e. absurd (let none : ⊥ = cc in none) in (
+      no_want,
+      ap (λ (r : Reading). r.over) c.self.view_is,
+      takes_long c.args.self.now line
+          (drop c.self.inside.at piece) whole view c.self.invariant.1 takes,
+    )

@@ -17,8 +17,10 @@ returns c =
     let unread : c.split_at.result.1.now ≡ drop c.self.inside.at piece = cc in
     let takes : TakesFront line whole (drop c.self.inside.at piece) (front.Whole (length whole)) =
     subst (λ (l : List ℕ). TakesFront line whole l (front.Whole (length whole))) unread
-    (subst (λ (l : List ℕ). TakesFront l whole c.split_at.result.1.now (front.Whole (length whole))) (sym empty) c.in-Some.ensures.takes) in
+    (subst (λ (l : List ℕ). TakesFront l whole c.split_at.result.1.now (front.Whole (length whole)))
+    (sym empty) c.in-Some.ensures.takes) in
     let says : c.in_ok-said.said ≡ said_of (content_key (without_return whole)) =
     c.in_ok-said.ensures ∙ ap (λ (l : List ℕ). said_of (content_key l)) c.without_return.ensures in
-    takes_whole c.args.self.now line piece whole line c.self.inside.at (length whole) c.self.inside.number c.self.inside.count c.self.inside.over c.in_ok-said.said
+    takes_whole c.args.self.now line piece whole line c.self.inside.at
+    (length whole) c.self.inside.number c.self.inside.count c.self.inside.over c.in_ok-said.said
     c.self.view_is c.self.invariant.1 takes says empty

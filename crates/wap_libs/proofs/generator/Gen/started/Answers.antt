@@ -5,4 +5,6 @@ use Rattle.wap_libs.proofs.Draws.{advance-none}
 use Rattle.wap_libs.proofs.generator.Gen.started.Goals as goal
 
 pub invariant_of-result : goal.invariant_of-result
-invariant_of-result c = λ _. c.seed_from_u64.ensures ∙ ap seeded c.from.ensures ∙ advance-none 64 multiplier_64 (seeded c.args.start)
+invariant_of-result c =
+    λ _. c.seed_from_u64.ensures ∙ ap seeded c.from.ensures
+    ∙ advance-none 64 multiplier_64 (seeded c.args.start)
