@@ -1,5 +1,6 @@
 -- What is found in a list, where a test by pairs holds of it.
-use Rattle.std.proofs.Common.{◌≡◌, Bool, true, ◌&&◌, List, [], ◌∷◌, Some, None, ◌⊎◌, inl, inr, sym, ◌∙◌, ap, subst, find, arith}
+use Rattle.std.proofs.Common.{◌≡◌, Bool, true, ◌&&◌, List, [], ◌∷◌, Some, None, ◌⊎◌}
+use Rattle.std.proofs.Common.{inl, inr, sym, ◌∙◌, ap, subst, find, arith}
 use Rattle.std.specs.List.{list_all}
 use Rattle.std.proofs.lemmas.Bool.{cases_Bool, and_parts, cond-true, cond-false, both_ways}
 use Rattle.std.proofs.lemmas.Option.{same_Some}
@@ -13,23 +14,34 @@ each_pair q (x ∷ xs) = list_all (q x) xs && each_pair q xs
 none_some : {A : Type 0} (x : A) → None ≡ Some x → ⊥
 none_some x e = grind arith
 
-pub all_among : {X : Type 0} (p : X → Bool) (xs : List X) (x : X) → list_all p xs ≡ true → Among x xs → p x ≡ true
+pub all_among : {X : Type 0} (p : X → Bool) (xs : List X) (x : X) → list_all p xs ≡ true
+    → Among x xs → p x ≡ true
 all_among p [] x all among = absurd among
-all_among p (y ∷ ys) x all (inl same) = subst (λ z. p z ≡ true) (sym same) (and_parts (p y) (list_all p ys) all).0
-all_among p (y ∷ ys) x all (inr later) = all_among p ys x (and_parts (p y) (list_all p ys) all).1 later
+all_among p (y ∷ ys) x all (inl same) =
+    subst (λ z. p z ≡ true) (sym same) (and_parts (p y) (list_all p ys) all).0
+all_among p (y ∷ ys) x all (inr later) =
+    all_among p ys x (and_parts (p y) (list_all p ys) all).1 later
 
-pub found : {X : Type 0} (p : X → Bool) (xs : List X) (x : X) → find p xs ≡ Some x → (p x ≡ true) × Among x xs
+pub found : {X : Type 0} (p : X → Bool) (xs : List X) (x : X) → find p xs ≡ Some x
+    → (p x ≡ true) × Among x xs
 found p [] x e = absurd (none_some x e)
 found p (y ∷ ys) x e =
     elim (cases_Bool (p y)) [
-      | inl is ↦ let same = same_Some y x (sym (cond-true (p y) _ _ is) ∙ e) in (subst (λ z. p z ≡ true) same is, inl (sym same))
-      | inr isnt ↦ let later = found p ys x (sym (cond-false (p y) _ _ isnt) ∙ e) in (later.0, inr later.1)
+      | inl is ↦
+          let same = same_Some y x (sym (cond-true (p y) _ _ is) ∙ e) in
+          (subst (λ z. p z ≡ true) same is, inl (sym same))
+      | inr isnt ↦
+          let later = found p ys x (sym (cond-false (p y) _ _ isnt) ∙ e) in
+          (later.0, inr later.1)
     ]
 
 -- where no two pass, the one that passes is found
-pub finds : {X : Type 0} (p : X → Bool) (apart : X → X → Bool) → ((x y : X) → apart x y ≡ true → p x ≡ true → p y ≡ true → ⊥) → (xs : List X) (x : X) → each_pair apart xs ≡ true → Among x xs → p x ≡ true → find p xs ≡ Some x
+pub finds : {X : Type 0} (p : X → Bool) (apart : X → X → Bool)
+    → ((x y : X) → apart x y ≡ true → p x ≡ true → p y ≡ true → ⊥) → (xs : List X) (x : X)
+    → each_pair apart xs ≡ true → Among x xs → p x ≡ true → find p xs ≡ Some x
 finds p apart only [] x all among is = absurd among
-finds p apart only (y ∷ ys) x all (inl same) is = cond-true (p y) _ _ (subst (λ z. p z ≡ true) same is) ∙ ap Some (sym same)
+finds p apart only (y ∷ ys) x all (inl same) is =
+    cond-true (p y) _ _ (subst (λ z. p z ≡ true) same is) ∙ ap Some (sym same)
 finds p apart only (y ∷ ys) x all (inr later) is =
     let parts = and_parts (list_all (apart y) ys) (each_pair apart ys) all in
     elim (cases_Bool (p y)) [
@@ -38,7 +50,9 @@ finds p apart only (y ∷ ys) x all (inr later) is =
     ]
 
 -- the one that is found has q to each other that passes
-pub found_first : {X : Type 0} (p : X → Bool) (q : X → X → Bool) (xs : List X) (x y : X) → each_pair q xs ≡ true → find p xs ≡ Some x → Among y xs → p y ≡ true → (y ≡ x) ⊎ (q x y ≡ true)
+pub found_first : {X : Type 0} (p : X → Bool) (q : X → X → Bool) (xs : List X) (x y : X)
+    → each_pair q xs ≡ true → find p xs ≡ Some x → Among y xs → p y ≡ true
+    → (y ≡ x) ⊎ (q x y ≡ true)
 found_first p q [] x y all e among is = absurd among
 found_first p q (z ∷ zs) x y all e among is =
     let parts = and_parts (list_all (q z) zs) (each_pair q zs) all in
@@ -52,6 +66,7 @@ found_first p q (z ∷ zs) x y all e among is =
       | inr isnt ↦
           elim among [
             | inl head ↦ absurd (both_ways (p z) isnt (subst (λ w. p w ≡ true) head is))
-            | inr later ↦ found_first p q zs x y parts.1 (sym (cond-false (p z) _ _ isnt) ∙ e) later is
+            | inr later ↦
+                found_first p q zs x y parts.1 (sym (cond-false (p z) _ _ isnt) ∙ e) later is
           ]
     ]

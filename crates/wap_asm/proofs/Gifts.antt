@@ -18,9 +18,13 @@ rows_give_few = refl
 pub gives-row : (code : ℕ) (r : Option Row) → r ≡ row_of code → IfSome r (λ row. row.gives ≤ 1)
 unfolding row_of
 gives-row code None is = tt
-gives-row code (Some row) is = leb-true row.gives 1 (all_among gives_few rows row rows_give_few (found (has_code code) rows row (sym is)).1)
+gives-row code (Some row) is =
+    leb-true row.gives 1
+    (all_among gives_few rows row rows_give_few (found (has_code code) rows row (sym is)).1)
 
 pub first-row : (code : ℕ) (r : Option Row) → r ≡ row_of code → IfSome r (λ row. row.first ≤ code)
 unfolding row_of
 first-row code None is = tt
-first-row code (Some row) is = leb-true row.first code (and_parts (nat_le row.first code) _ (found (has_code code) rows row (sym is)).0).0
+first-row code (Some row) is =
+    leb-true row.first code
+    (and_parts (nat_le row.first code) _ (found (has_code code) rows row (sym is)).0).0

@@ -1,5 +1,6 @@
 -- The numbers of rows by code, computed: each gives the first row that the code is of.
-use Rattle.std.proofs.Common.{◌≡◌, ℕ, ◌<◌, map, find, slice_index, get_or, Option, None, refl, sym, ◌∙◌, ap, arith}
+use Rattle.std.proofs.Common.{◌≡◌, ℕ, ◌<◌, map, find, slice_index, get_or}
+use Rattle.std.proofs.Common.{Option, None, refl, sym, ◌∙◌, ap, arith}
 use Rattle.std.specs.List.{slice_get, range_with_len}
 use Rattle.std.proofs.lemmas.List.FromFn.{get_or-map-range_with_len}
 use Rattle.wap_code.specs.declared.row.Row.{Row}

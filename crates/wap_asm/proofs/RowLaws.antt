@@ -1,5 +1,7 @@
 -- The table, computed, and what follows for each row.
-use Rattle.std.proofs.Common.{◌≡◌, ℕ, ◌+◌, ◌-◌, ◌<◌, ◌≤◌, Bool, true, false, nat_lt, nat_le, ◌&&◌, ◌||◌, List, [], ◌∷◌, ◌++◌, length, slice_index, Some, Ok, inl, inr, refl, sym, ◌∙◌, ap, append_assoc, arith, length-append}
+use Rattle.std.proofs.Common.{◌≡◌, ℕ, ◌+◌, ◌-◌, ◌<◌, ◌≤◌, Bool, true, false, nat_lt, nat_le, ◌&&◌}
+use Rattle.std.proofs.Common.{◌||◌, List, [], ◌∷◌, ◌++◌, length, slice_index, Some, Ok, inl, inr}
+use Rattle.std.proofs.Common.{refl, sym, ◌∙◌, ap, append_assoc, arith, length-append}
 use Rattle.std.specs.List.{list_all}
 use Rattle.std.proofs.lemmas.Bool.{and_parts, ltb-true, leb-true, le-ltb, true≢false, cond-false}
 use Rattle.wap_code.specs.declared.instr.Instr.{Instr}
@@ -18,7 +20,8 @@ use Rattle.wap_code.specs.Instructions.{value, read_by, instr_at}
 use Rattle.wap_asm.specs.Spelling.{low_part, slot_bytes, spelling}
 use Rattle.wap_asm.specs.Exact.{Among}
 use Rattle.wap_asm.proofs.Finding.{each_pair, all_among, found, finds, found_first}
-use Rattle.wap_asm.proofs.SlotLaws.{length-slot_bytes, value-slot_bytes, low_part-below, low_part-low}
+use Rattle.wap_asm.proofs.SlotLaws.{length-slot_bytes, value-slot_bytes}
+use Rattle.wap_asm.proofs.SlotLaws.{low_part-below, low_part-low}
 use denote.Enum.Bare.{sameb, same_true, true_same}
 
 -- ---- what is computed
@@ -34,7 +37,9 @@ is_after_code Byte = true
 is_after_code Word = true
 
 abbrev is_formed : Row → Bool
-is_formed row = nat_lt 0 row.count && (nat_le (row.first + row.count) 256 && (is_after_code row.b && is_after_code row.c))
+is_formed row =
+    nat_lt 0 row.count
+    && (nat_le (row.first + row.count) 256 && (is_after_code row.b && is_after_code row.c))
 
 -- an operation's shorter row stands first
 abbrev is_in_order : Row → Row → Bool
@@ -60,41 +65,65 @@ add_sub m n = omega arith
 or_second : (x y : Bool) → x ≡ false → (x || y) ≡ true → y ≡ true
 or_second x y e h = sym (ap (λ z. z || y) e) ∙ h
 
-split_a : (before : List ℕ) (x : ℕ) (sa sb sc rest : List ℕ) → before ++ (x ∷ ((sa ++ (sb ++ sc)) ++ rest)) ≡ (before ++ x ∷ []) ++ (sa ++ (sb ++ (sc ++ rest)))
+split_a : (before : List ℕ) (x : ℕ) (sa sb sc rest : List ℕ)
+    → before ++ (x ∷ ((sa ++ (sb ++ sc)) ++ rest))
+    ≡ (before ++ x ∷ []) ++ (sa ++ (sb ++ (sc ++ rest)))
 split_a before x sa sb sc rest = simp append_assoc refl
 
-split_b : (before : List ℕ) (x : ℕ) (sa sb sc rest : List ℕ) → before ++ (x ∷ ((sa ++ (sb ++ sc)) ++ rest)) ≡ (before ++ x ∷ [] ++ sa) ++ (sb ++ (sc ++ rest))
+split_b : (before : List ℕ) (x : ℕ) (sa sb sc rest : List ℕ)
+    → before ++ (x ∷ ((sa ++ (sb ++ sc)) ++ rest))
+    ≡ (before ++ x ∷ [] ++ sa) ++ (sb ++ (sc ++ rest))
 split_b before x sa sb sc rest = simp append_assoc refl
 
-split_c : (before : List ℕ) (x : ℕ) (sa sb sc rest : List ℕ) → before ++ (x ∷ ((sa ++ (sb ++ sc)) ++ rest)) ≡ (before ++ x ∷ [] ++ sa ++ sb) ++ (sc ++ rest)
+split_c : (before : List ℕ) (x : ℕ) (sa sb sc rest : List ℕ)
+    → before ++ (x ∷ ((sa ++ (sb ++ sc)) ++ rest)) ≡ (before ++ x ∷ [] ++ sa ++ sb) ++ (sc ++ rest)
 split_c before x sa sb sc rest = simp append_assoc refl
 
-long_enough : (before xs rest : List ℕ) (n : ℕ) → length xs ≡ n → n ≤ length (before ++ (xs ++ rest)) - length before
-long_enough before xs rest n e = omega (arith, length-append before (xs ++ rest), length-append xs rest, e)
+long_enough : (before xs rest : List ℕ) (n : ℕ) → length xs ≡ n
+    → n ≤ length (before ++ (xs ++ rest)) - length before
+long_enough before xs rest n e =
+    omega (arith, length-append before (xs ++ rest), length-append xs rest, e)
 
-own_code : (first n count : ℕ) → n < count → (nat_le first (first + n) && nat_lt (first + n - first) count) ≡ true
+own_code : (first n count : ℕ) → n < count
+    → (nat_le first (first + n) && nat_lt (first + n - first) count) ≡ true
 own_code first n count h = grind (arith, nat_tests)
 
-one_row : (code f c g d : ℕ) → (nat_le (f + c) g || nat_le (g + d) f) ≡ true → (nat_le f code && nat_lt (code - f) c) ≡ true → (nat_le g code && nat_lt (code - g) d) ≡ true → ⊥
+one_row : (code f c g d : ℕ) → (nat_le (f + c) g || nat_le (g + d) f) ≡ true
+    → (nat_le f code && nat_lt (code - f) c) ≡ true
+    → (nat_le g code && nat_lt (code - g) d) ≡ true → ⊥
 one_row code f c g d either in_f in_g = grind (arith, nat_tests)
 
-row_spelled : (row : Row) (n : ℕ) → Among row rows → n < row.count → row_of (row.first + n) ≡ Some row
+row_spelled : (row : Row) (n : ℕ) → Among row rows → n < row.count
+    → row_of (row.first + n) ≡ Some row
 unfolding row_of
 row_spelled row n among h =
-    finds (has_code (row.first + n)) apart (λ x y. one_row (row.first + n) x.first x.count y.first y.count) rows row rows_apart among (own_code row.first n row.count h)
+    finds (has_code (row.first + n)) apart
+    (λ x y. one_row (row.first + n) x.first x.count y.first y.count) rows row rows_apart among
+    (own_code row.first n row.count h)
 
 is_not_low : (slot : Slot) → is_after_code slot ≡ true → slot ≡ Low → ⊥
 is_not_low slot h e = true≢false (sym h ∙ ap is_after_code e)
 
 pub length-spelling : (row : Row) (a b c : ℕ) → length (spelling row a b c) ≡ size row
 length-spelling row a b c =
-    omega (arith, length-append (slot_bytes row.a a) (slot_bytes row.b b ++ slot_bytes row.c c), length-append (slot_bytes row.b b) (slot_bytes row.c c), length-slot_bytes row.a a, length-slot_bytes row.b b, length-slot_bytes row.c c)
+    omega (
+      arith,
+      length-append (slot_bytes row.a a) (slot_bytes row.b b ++ slot_bytes row.c c),
+      length-append (slot_bytes row.b b) (slot_bytes row.c c),
+      length-slot_bytes row.a a,
+      length-slot_bytes row.b b,
+      length-slot_bytes row.c c,
+    )
 
-same_instr : (name : OpName) (a a' b b' c c' next : ℕ) → a ≡ a' → b ≡ b' → c ≡ c' → record-of name a b c next ≡ record-of name a' b' c' next
+same_instr : (name : OpName) (a a' b b' c c' next : ℕ) → a ≡ a' → b ≡ b' → c ≡ c'
+    → record-of name a b c next ≡ record-of name a' b' c' next
 same_instr name a a' b b' c c' next ea eb ec = rw (ea, eb, ec) refl
 
 -- what a row spells is read back
-pub instr_at-spelling : (row : Row) (a b c : ℕ) (before rest : List ℕ) → Among row rows → a < limit row.count row.a → b < limit row.count row.b → c < limit row.count row.c → instr_at (before ++ (spelling row a b c ++ rest)) (length before) ≡ Ok (record-of row.name a b c (length before + size row))
+pub instr_at-spelling : (row : Row) (a b c : ℕ) (before rest : List ℕ) → Among row rows
+    → a < limit row.count row.a → b < limit row.count row.b → c < limit row.count row.c
+    → instr_at (before ++ (spelling row a b c ++ rest)) (length before)
+    ≡ Ok (record-of row.name a b c (length before + size row))
 instr_at-spelling row a b c before rest among a_fits b_fits c_fits =
     let formed = all_among is_formed rows row rows_formed among in
     let some = and_parts (nat_lt 0 row.count) _ formed in
@@ -106,51 +135,99 @@ instr_at-spelling row a b c before rest among a_fits b_fits c_fits =
     let op = row.first + low_part row.a a in
     let code = before ++ (spelling row a b c ++ rest) in
     let at = length before in
-    let here : slice_index code at ≡ op = get_or-append_seam before op ((sa ++ (sb ++ sc)) ++ rest) 0 in
-    let low : slice_index code at - row.first ≡ low_part row.a a = ap (λ n. n - row.first) here ∙ add_sub row.first (low_part row.a a) in
-    let row_is : row_of (slice_index code at) ≡ Some row = ap row_of here ∙ row_spelled row (low_part row.a a) among (low_part-below row.count row.a a (ltb-true 0 row.count some.0) a_fits) in
-    let enough : size row ≤ length code - at = long_enough before (spelling row a b c) rest (size row) (length-spelling row a b c) in
+    let here : slice_index code at ≡ op =
+    get_or-append_seam before op ((sa ++ (sb ++ sc)) ++ rest) 0 in
+    let low : slice_index code at - row.first ≡ low_part row.a a =
+    ap (λ n. n - row.first) here ∙ add_sub row.first (low_part row.a a) in
+    let row_is : row_of (slice_index code at) ≡ Some row =
+    ap row_of here ∙ row_spelled row (low_part row.a a) among
+    (low_part-below row.count row.a a (ltb-true 0 row.count some.0) a_fits) in
+    let enough : size row ≤ length code - at =
+    long_enough before (spelling row a b c) rest (size row) (length-spelling row a b c) in
     let a_is : value code (at + 1) row.a (slice_index code at - row.first) ≡ a =
-    ap (λ l. value l (at + 1) row.a (slice_index code at - row.first)) (split_a before op sa sb sc rest)
-    ∙ value-slot_bytes (before ++ op ∷ []) (sb ++ (sc ++ rest)) row.count row.a (slice_index code at - row.first) a (at + 1) (omega (arith, length-append before (op ∷ []))) a_fits (λ e. low ∙ low_part-low row.a a e) in
+    ap (λ l. value l (at + 1) row.a (slice_index code at - row.first))
+    (split_a before op sa sb sc rest)
+    ∙ value-slot_bytes (before ++ op ∷ []) (sb ++ (sc ++ rest)) row.count row.a
+    (slice_index code at - row.first) a (at + 1)
+    (omega (arith, length-append before (op ∷ []))) a_fits (λ e. low ∙ low_part-low row.a a e) in
     let b_is : value code (at + 1 + width row.a) row.b (slice_index code at - row.first) ≡ b =
-    ap (λ l. value l (at + 1 + width row.a) row.b (slice_index code at - row.first)) (split_b before op sa sb sc rest)
-    ∙ value-slot_bytes (before ++ op ∷ [] ++ sa) (sc ++ rest) row.count row.b (slice_index code at - row.first) b (at + 1 + width row.a) (omega (arith, length-append before (op ∷ []), length-append (before ++ op ∷ []) sa, length-slot_bytes row.a a)) b_fits (λ e. absurd (is_not_low row.b plain.0 e)) in
-    let c_is : value code (at + 1 + width row.a + width row.b) row.c (slice_index code at - row.first) ≡ c =
-    ap (λ l. value l (at + 1 + width row.a + width row.b) row.c (slice_index code at - row.first)) (split_c before op sa sb sc rest)
-    ∙ value-slot_bytes (before ++ op ∷ [] ++ sa ++ sb) rest row.count row.c (slice_index code at - row.first) c (at + 1 + width row.a + width row.b) (omega (arith, length-append before (op ∷ []), length-append (before ++ op ∷ []) sa, length-append (before ++ op ∷ [] ++ sa) sb, length-slot_bytes row.a a, length-slot_bytes row.b b)) c_fits (λ e. absurd (is_not_low row.c plain.1 e)) in
+    ap (λ l. value l (at + 1 + width row.a) row.b (slice_index code at - row.first))
+    (split_b before op sa sb sc rest)
+    ∙ value-slot_bytes (before ++ op ∷ [] ++ sa) (sc ++ rest) row.count row.b
+    (slice_index code at - row.first) b (at + 1 + width row.a) (omega (
+      arith,
+      length-append before (op ∷ []),
+      length-append (before ++ op ∷ []) sa,
+      length-slot_bytes row.a a,
+    )) b_fits (λ e. absurd (is_not_low row.b plain.0 e)) in
+    let c_is : value code (at + 1 + width row.a + width row.b) row.c
+    (slice_index code at - row.first)
+    ≡ c =
+    ap (λ l. value l (at + 1 + width row.a + width row.b) row.c (slice_index code at - row.first))
+    (split_c before op sa sb sc rest)
+    ∙ value-slot_bytes (before ++ op ∷ [] ++ sa ++ sb) rest row.count row.c
+    (slice_index code at - row.first) c (at + 1 + width row.a + width row.b) (omega (
+      arith,
+      length-append before (op ∷ []),
+      length-append (before ++ op ∷ []) sa,
+      length-append (before ++ op ∷ [] ++ sa) sb,
+      length-slot_bytes row.a a,
+      length-slot_bytes row.b b,
+    )) c_fits (λ e. absurd (is_not_low row.c plain.1 e)) in
     ap (λ o. read_by o code at) row_is
-    ∙ (cond-false (nat_lt (length code - at) (size row)) _ _ (le-ltb (length code - at) (size row) enough)
+    ∙ (cond-false (nat_lt (length code - at) (size row)) _ _
+    (le-ltb (length code - at) (size row) enough)
     ∙ ap Ok (same_instr row.name _ a _ b _ c (at + size row) a_is b_is c_is))
 
-pub read_back : (operation : OpName) (a b c : ℕ) (row : Row) (before rest : List ℕ) → shortest operation a b c ≡ Some row → instr_at (before ++ (spelling row a b c ++ rest)) (length before) ≡ Ok (record-of row.name a b c (length before + size row))
+pub read_back : (operation : OpName) (a b c : ℕ) (row : Row) (before rest : List ℕ)
+    → shortest operation a b c ≡ Some row
+    → instr_at (before ++ (spelling row a b c ++ rest)) (length before)
+    ≡ Ok (record-of row.name a b c (length before + size row))
 unfolding shortest
 read_back operation a b c row before rest e =
     let it = found (is_spelling operation a b c) rows row e in
     let fits = and_parts (sameb the_type row.operation operation) (holds row a b c) it.0 in
     let a_fits = and_parts (nat_lt a (limit row.count row.a)) _ fits.1 in
-    let bc_fit = and_parts (nat_lt b (limit row.count row.b)) (nat_lt c (limit row.count row.c)) a_fits.1 in
-    instr_at-spelling row a b c before rest it.1 (ltb-true a _ a_fits.0) (ltb-true b _ bc_fit.0) (ltb-true c _ bc_fit.1)
+    let bc_fit =
+    and_parts (nat_lt b (limit row.count row.b)) (nat_lt c (limit row.count row.c)) a_fits.1 in
+    instr_at-spelling row a b c before rest it.1 (ltb-true a _ a_fits.0) (ltb-true b _ bc_fit.0)
+    (ltb-true c _ bc_fit.1)
 
-pub none_shorter : (operation : OpName) (a b c : ℕ) (row other : Row) → shortest operation a b c ≡ Some row → Among other rows → is_spelling operation a b c other ≡ true → size row ≤ size other
+pub none_shorter : (operation : OpName) (a b c : ℕ) (row other : Row)
+    → shortest operation a b c ≡ Some row
+    → Among other rows → is_spelling operation a b c other ≡ true → size row ≤ size other
 unfolding shortest
 none_shorter operation a b c row other e among is =
     let it = found (is_spelling operation a b c) rows row e in
-    let row_op = same_true the_type tt row.operation operation (and_parts _ (holds row a b c) it.0).0 in
-    let other_op = same_true the_type tt other.operation operation (and_parts _ (holds other a b c) is).0 in
-    elim (found_first (is_spelling operation a b c) is_in_order rows row other rows_in_order e among is) [
+    let row_op =
+    same_true the_type tt row.operation operation (and_parts _ (holds row a b c) it.0).0 in
+    let other_op =
+    same_true the_type tt other.operation operation (and_parts _ (holds other a b c) is).0 in
+    elim (found_first (is_spelling operation a b c)
+    is_in_order rows row other rows_in_order e among is) [
       | inl same ↦ omega (arith, ap size same)
-      | inr order ↦ leb-true (size row) (size other) (or_second _ _ (ap not (true_same the_type row.operation other.operation (row_op ∙ sym other_op))) order)
+      | inr order ↦
+          leb-true (size row) (size other) (or_second _ _
+          (ap not (true_same the_type row.operation other.operation (row_op ∙ sym other_op))) order)
     ]
 
 -- the row that is taken has room
-pub shortest_fits : (operation : OpName) (a b c : ℕ) (row : Row) → shortest operation a b c ≡ Some row → (row.first + row.count ≤ 256) × (a < limit row.count row.a) × (b < limit row.count row.b) × (c < limit row.count row.c)
+pub shortest_fits : (operation : OpName) (a b c : ℕ) (row : Row)
+    → shortest operation a b c ≡ Some row
+    → (row.first + row.count ≤ 256) × (a < limit row.count row.a) × (b < limit row.count row.b)
+    × (c < limit row.count row.c)
 unfolding shortest
 shortest_fits operation a b c row e =
     let it = found (is_spelling operation a b c) rows row e in
     let formed = all_among is_formed rows row rows_formed it.1 in
-    let last = and_parts (nat_le (row.first + row.count) 256) _ (and_parts (nat_lt 0 row.count) _ formed).1 in
+    let last =
+    and_parts (nat_le (row.first + row.count) 256) _ (and_parts (nat_lt 0 row.count) _ formed).1 in
     let fits = and_parts (sameb the_type row.operation operation) (holds row a b c) it.0 in
     let a_fits = and_parts (nat_lt a (limit row.count row.a)) _ fits.1 in
-    let bc_fit = and_parts (nat_lt b (limit row.count row.b)) (nat_lt c (limit row.count row.c)) a_fits.1 in
-    (leb-true (row.first + row.count) 256 last.0, ltb-true a _ a_fits.0, ltb-true b _ bc_fit.0, ltb-true c _ bc_fit.1)
+    let bc_fit =
+    and_parts (nat_lt b (limit row.count row.b)) (nat_lt c (limit row.count row.c)) a_fits.1 in (
+      leb-true (row.first + row.count) 256 last.0,
+      ltb-true a _ a_fits.0,
+      ltb-true b _ bc_fit.0,
+      ltb-true c _ bc_fit.1,
+    )

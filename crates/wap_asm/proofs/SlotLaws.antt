@@ -1,5 +1,6 @@
 -- One operand: what is written is read, in as many bytes.
-use Rattle.std.proofs.Common.{◌≡◌, ℕ, ◌+◌, ◌/◌, ◌%◌, ◌<◌, List, ◌∷◌, ◌++◌, length, slice_index, refl, ◌∙◌, ap, arith}
+use Rattle.std.proofs.Common.{◌≡◌, ℕ, ◌+◌, ◌/◌, ◌%◌, ◌<◌, List, ◌∷◌, ◌++◌}
+use Rattle.std.proofs.Common.{length, slice_index, refl, ◌∙◌, ap, arith}
 use Rattle.std.proofs.Math.Nat.{div-add-mod}
 use Rattle.std.proofs.Math.Seq.{get_or-append_seam}
 use Rattle.std.proofs.lemmas.List.{get_or-append-add}
@@ -17,16 +18,24 @@ length-slot_bytes Byte n = refl
 length-slot_bytes Word n = refl
 
 -- where the code has the low bits that the operand gives, it is read as it was
-pub value-slot_bytes : (before rest : List ℕ) (count : ℕ) (slot : Slot) (low n at : ℕ) → at ≡ length before → n < limit count slot → (slot ≡ Low → low ≡ n) → value (before ++ (slot_bytes slot n ++ rest)) at slot low ≡ n
+pub value-slot_bytes : (before rest : List ℕ) (count : ℕ) (slot : Slot) (low n at : ℕ)
+    → at ≡ length before → n < limit count slot → (slot ≡ Low → low ≡ n)
+    → value (before ++ (slot_bytes slot n ++ rest)) at slot low ≡ n
 value-slot_bytes before rest count Absent low n at e h same = omega (arith, h)
 value-slot_bytes before rest count Low low n at e h same = same refl
-value-slot_bytes before rest count Byte low n at e h same = ap (λ k. slice_index (before ++ (n ∷ rest)) k) e ∙ get_or-append_seam before n rest 0
+value-slot_bytes before rest count Byte low n at e h same =
+    ap (λ k. slice_index (before ++ (n ∷ rest)) k) e ∙ get_or-append_seam before n rest 0
 value-slot_bytes before rest count Word low n at e h same =
-    let high : slice_index (before ++ (n / 256 ∷ (n % 256 ∷ rest))) at ≡ n / 256 = ap (λ k. slice_index (before ++ (n / 256 ∷ (n % 256 ∷ rest))) k) e ∙ get_or-append_seam before (n / 256) (n % 256 ∷ rest) 0 in
-    let low : slice_index (before ++ (n / 256 ∷ (n % 256 ∷ rest))) (at + 1) ≡ n % 256 = ap (λ k. slice_index (before ++ (n / 256 ∷ (n % 256 ∷ rest))) (k + 1)) e ∙ get_or-append-add before (n / 256 ∷ (n % 256 ∷ rest)) 1 0 in
+    let high : slice_index (before ++ (n / 256 ∷ (n % 256 ∷ rest))) at ≡ n / 256 =
+    ap (λ k. slice_index (before ++ (n / 256 ∷ (n % 256 ∷ rest))) k) e
+    ∙ get_or-append_seam before (n / 256) (n % 256 ∷ rest) 0 in
+    let low : slice_index (before ++ (n / 256 ∷ (n % 256 ∷ rest))) (at + 1) ≡ n % 256 =
+    ap (λ k. slice_index (before ++ (n / 256 ∷ (n % 256 ∷ rest))) (k + 1)) e
+    ∙ get_or-append-add before (n / 256 ∷ (n % 256 ∷ rest)) 1 0 in
     rw (high, low) (div-add-mod n 256)
 
-pub low_part-below : (count : ℕ) (slot : Slot) (n : ℕ) → 0 < count → n < limit count slot → low_part slot n < count
+pub low_part-below : (count : ℕ) (slot : Slot) (n : ℕ) → 0 < count → n < limit count slot
+    → low_part slot n < count
 low_part-below count Absent n some h = some
 low_part-below count Low n some h = h
 low_part-below count Byte n some h = some

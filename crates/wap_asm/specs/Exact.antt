@@ -1,5 +1,6 @@
 -- What the table keeps: what is spelled is read, and the row that is taken is the shortest.
-use Rattle.std.specs.Prelude.{take, drop, slice_index, ◌<◌, ◌≡◌, ℕ, ◌+◌, ◌≤◌, true, List, [], ◌∷◌, ◌++◌, ◌⊎◌, length, Some, Ok}
+use Rattle.std.specs.Prelude.{take, drop, slice_index, ◌<◌, ◌≡◌, ℕ, ◌+◌, ◌≤◌, true}
+use Rattle.std.specs.Prelude.{List, [], ◌∷◌, ◌++◌, ◌⊎◌, length, Some, Ok}
 use Rattle.wap_code.specs.declared.row.OpName.{OpName}
 use Rattle.wap_code.specs.declared.row.Row.{Row}
 use Rattle.wap_code.specs.declared.instr.Instr.{Instr}
@@ -15,13 +16,21 @@ Among x (y ∷ ys) = (x ≡ y) ⊎ Among x ys
 
 -- the bytes at a place are what a row of the table spells
 abbrev pub IsSpelled : List ℕ → ℕ → Instr → Type 0
-IsSpelled code at i = (row : Row) × Among row rows × (row.name ≡ i.name) × (take (size row) (drop at code) ≡ spelling row i.a i.b i.c)
+IsSpelled code at i =
+    (row : Row) × Among row rows × (row.name ≡ i.name)
+    × (take (size row) (drop at code) ≡ spelling row i.a i.b i.c)
 
 pub record IsExact : Type 0 where
   -- what a row spells is read back, whatever stands before and after it
-  pub read : (operation : OpName) (a b c : ℕ) (row : Row) (before rest : List ℕ) → shortest operation a b c ≡ Some row → instr_at (before ++ (spelling row a b c ++ rest)) (length before) ≡ Ok (record { name = row.name; a = a; b = b; c = c; next = length before + size row })
+  pub read : (operation : OpName) (a b c : ℕ) (row : Row) (before rest : List ℕ)
+      → shortest operation a b c ≡ Some row
+      → instr_at (before ++ (spelling row a b c ++ rest)) (length before)
+      ≡ Ok (record { name = row.name; a = a; b = b; c = c; next = length before + size row })
   -- no other row that spells it is shorter
-  pub short : (operation : OpName) (a b c : ℕ) (row other : Row) → shortest operation a b c ≡ Some row → Among other rows → is_spelling operation a b c other ≡ true → size row ≤ size other
+  pub short : (operation : OpName) (a b c : ℕ) (row other : Row)
+      → shortest operation a b c ≡ Some row → Among other rows
+      → is_spelling operation a b c other ≡ true → size row ≤ size other
   pub long : (row : Row) (a b c : ℕ) → length (spelling row a b c) ≡ size row
   -- what is read is spelled so
-  pub spelled : (code : List ℕ) (at : ℕ) (i : Instr) → at < length code → ((j : ℕ) → slice_index code j < 256) → instr_at code at ≡ Ok i → IsSpelled code at i
+  pub spelled : (code : List ℕ) (at : ℕ) (i : Instr) → at < length code
+      → ((j : ℕ) → slice_index code j < 256) → instr_at code at ≡ Ok i → IsSpelled code at i

@@ -1,5 +1,6 @@
 -- The bytes of an instruction, and the shortest spelling of an operation.
-use Rattle.std.specs.Prelude.{ℕ, ◌+◌, ◌/◌, ◌%◌, nat_lt, Bool, ◌&&◌, List, [], ◌∷◌, ◌++◌, Option, find}
+use Rattle.std.specs.Prelude.{ℕ, ◌+◌, ◌/◌, ◌%◌, nat_lt, Bool, ◌&&◌, List}
+use Rattle.std.specs.Prelude.{[], ◌∷◌, ◌++◌, Option, find}
 use Rattle.wap_code.specs.declared.row.OpName.{OpName}
 use Rattle.wap_code.specs.contracts.row.OpName.{the_type}
 use Rattle.wap_code.specs.declared.row.Slot.{Slot}
@@ -17,7 +18,9 @@ limit count Word = 65536
 
 -- whether a row has room for these operands
 abbrev pub holds : Row → ℕ → ℕ → ℕ → Bool
-holds row a b c = nat_lt a (limit row.count row.a) && (nat_lt b (limit row.count row.b) && nat_lt c (limit row.count row.c))
+holds row a b c =
+    nat_lt a (limit row.count row.a)
+    && (nat_lt b (limit row.count row.b) && nat_lt c (limit row.count row.c))
 
 abbrev pub is_spelling : OpName → ℕ → ℕ → ℕ → Row → Bool
 is_spelling operation a b c row = sameb the_type row.operation operation && holds row a b c
@@ -41,4 +44,6 @@ slot_bytes Byte n = n ∷ []
 slot_bytes Word n = n / 256 ∷ n % 256 ∷ []
 
 abbrev pub spelling : Row → ℕ → ℕ → ℕ → List ℕ
-spelling row a b c = (row.first + low_part row.a a) ∷ (slot_bytes row.a a ++ (slot_bytes row.b b ++ slot_bytes row.c c))
+spelling row a b c =
+    (row.first + low_part row.a a)
+    ∷ (slot_bytes row.a a ++ (slot_bytes row.b b ++ slot_bytes row.c c))

@@ -1,5 +1,6 @@
 //! Reading an instruction.
-ghost use Rattle.std.specs.Prelude.{◌≡◌, ◌+◌, ◌<◌, ◌≤◌, length, slice_index, slice_get, IfOk, IfSome};
+ghost use Rattle.std.specs.Prelude.{◌≡◌, ◌+◌, ◌<◌, ◌≤◌, length, slice_index};
+ghost use Rattle.std.specs.Prelude.{slice_get, IfOk, IfSome};
 ghost use Rattle.wap_code.specs.Instructions.{width, size, row_of, value, read_row, instr_at};
 ghost use Rattle.wap_asm.specs.Spelling.{limit};
 ghost use Rattle.wap_asm.specs.Operands.{Holds};

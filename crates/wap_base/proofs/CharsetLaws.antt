@@ -12,9 +12,12 @@ not_utf8 bytes false is none = refl
 pub is_utf8-no : (bytes : List ℕ) → ¬ (IsUtf8 bytes) → is_utf8 bytes ≡ false
 is_utf8-no bytes none = not_utf8 bytes (is_utf8 bytes) refl none
 
-pub text_in-utf8 : (bytes text : List ℕ) → IsUtf8 bytes → text ≡ chars bytes → Some text ≡ text_in Utf8 bytes
+pub text_in-utf8 : (bytes text : List ℕ) → IsUtf8 bytes → text ≡ chars bytes
+    → Some text ≡ text_in Utf8 bytes
 text_in-utf8 bytes text utf8 is =
-    ap (λ (t : List ℕ). Some t) is ∙ ap (λ (b : Bool). cond b (Some (chars bytes)) None) (sym (is_utf8-from_IsUtf8 bytes utf8))
+    ap (λ (t : List ℕ). Some t) is
+    ∙ ap (λ (b : Bool). cond b (Some (chars bytes)) None) (sym (is_utf8-from_IsUtf8 bytes utf8))
 
 pub text_in-none : (bytes : List ℕ) → ¬ (IsUtf8 bytes) → None ≡ text_in Utf8 bytes
-text_in-none bytes none = ap (λ (b : Bool). cond b (Some (chars bytes)) None) (sym (is_utf8-no bytes none))
+text_in-none bytes none =
+    ap (λ (b : Bool). cond b (Some (chars bytes)) None) (sym (is_utf8-no bytes none))

@@ -1,5 +1,7 @@
 -- Reading a multi-byte integer byte by byte, as a loop does.
-use Rattle.std.proofs.Common.{◌≡◌, ℕ, suc, ◌+◌, ◌*◌, ◌-◌, ◌%◌, ◌^◌, ◌<◌, ◌≤◌, cond, ltb, List, length, drop, get_or, Result, Ok, Err, refl, sym, ap, ◌∙◌, add-one, arith}
+use Rattle.std.proofs.Common.{◌≡◌, ℕ, suc, ◌+◌, ◌*◌, ◌-◌, ◌%◌, ◌^◌, ◌<◌, ◌≤◌, cond}
+use Rattle.std.proofs.Common.{ltb, List, length, drop, get_or, Result, Ok, Err}
+use Rattle.std.proofs.Common.{refl, sym, ap, ◌∙◌, add-one, arith}
 use Rattle.std.proofs.Math.Seq.{drop-cons, drop-length}
 use Rattle.std.proofs.lemmas.Bool.{lt-ltb, le-ltb}
 use Rattle.wap_base.specs.declared.number.ReadFault.{ReadFault}
@@ -13,45 +15,65 @@ Reading = Result (ℕ × ℕ) ReadFault
 step : (input : List ℕ) (start allowed before place : ℕ) → place < length input
     → let value = 128 * before + get_or input place 0 % 128 in
     mb_after start (length input) (suc allowed) before place (drop place input)
-    ≡ cond (ltb value (2 ^ 32)) (cond (ltb (get_or input place 0) 128) (Ok (value, place + 1)) (mb_after start (length input) allowed value (place + 1) (drop (place + 1) input))) (Err (TooLong start))
+    ≡ cond (ltb value (2 ^ 32)) (cond (ltb (get_or input place 0) 128) (Ok (value, place + 1))
+    (mb_after start (length input) allowed value (place + 1) (drop (place + 1) input)))
+    (Err (TooLong start))
 step input start allowed before place within = rw (drop-cons input place 0 within, add-one) refl
 
-pub ends_short : (input : List ℕ) (start counter before place : ℕ) (whole : Reading) → counter < 5 → place ≡ length input
-    → mb_after start (length input) (5 - counter) before place (drop place input) ≡ whole → whole ≡ Err (Short (length input))
+pub ends_short : (input : List ℕ) (start counter before place : ℕ) (whole : Reading) → counter < 5
+    → place ≡ length input
+    → mb_after start (length input) (5 - counter) before place (drop place input) ≡ whole
+    → whole ≡ Err (Short (length input))
 ends_short input start counter before place whole turns at_end so_far =
     let left : 5 - counter ≡ suc (4 - counter) = omega arith in
     sym so_far ∙ rw (left, at_end, drop-length input) refl
 
-pub ends_over : (input : List ℕ) (start counter before place : ℕ) (whole : Reading) → counter < 5 → place < length input → 33554431 < before
-    → mb_after start (length input) (5 - counter) before place (drop place input) ≡ whole → whole ≡ Err (TooLong start)
+pub ends_over : (input : List ℕ) (start counter before place : ℕ) (whole : Reading) → counter < 5
+    → place < length input → 33554431 < before
+    → mb_after start (length input) (5 - counter) before place (drop place input) ≡ whole
+    → whole ≡ Err (TooLong start)
 ends_over input start counter before place whole turns within over so_far =
     let left : 5 - counter ≡ suc (4 - counter) = omega arith in
     let big : 2 ^ 32 ≤ 128 * before + get_or input place 0 % 128 = omega arith in
-    sym so_far ∙ rw left (step input start (4 - counter) before place within ∙ rw (le-ltb _ _ big) refl)
+    sym so_far
+    ∙ rw left (step input start (4 - counter) before place within ∙ rw (le-ltb _ _ big) refl)
 
-pub ends_whole : (input : List ℕ) (start counter before place byte : ℕ) (whole : Reading) → counter < 5 → place < length input → before ≤ 33554431 → byte ≡ get_or input place 0 → byte < 128
-    → mb_after start (length input) (5 - counter) before place (drop place input) ≡ whole → whole ≡ Ok (before * 128 + byte % 128, place + 1)
+pub ends_whole : (input : List ℕ) (start counter before place byte : ℕ) (whole : Reading)
+    → counter < 5
+    → place < length input → before ≤ 33554431 → byte ≡ get_or input place 0 → byte < 128
+    → mb_after start (length input) (5 - counter) before place (drop place input) ≡ whole
+    → whole ≡ Ok (before * 128 + byte % 128, place + 1)
 ends_whole input start counter before place byte whole turns within fits byte_is last so_far =
     let left : 5 - counter ≡ suc (4 - counter) = omega arith in
     let small : 128 * before + get_or input place 0 % 128 < 2 ^ 32 = omega arith in
     let lone : get_or input place 0 < 128 = omega arith in
-    let value_is : 128 * before + get_or input place 0 % 128 ≡ before * 128 + byte % 128 = omega (arith, ap (λ (b : ℕ). b % 128) byte_is) in
-    sym so_far ∙ rw left (step input start (4 - counter) before place within ∙ rw (lt-ltb _ _ small, lt-ltb _ _ lone, value_is) refl)
+    let value_is : 128 * before + get_or input place 0 % 128 ≡ before * 128 + byte % 128 =
+    omega (arith, ap (λ (b : ℕ). b % 128) byte_is) in
+    sym so_far ∙ rw left (step input start (4 - counter) before place within
+    ∙ rw (lt-ltb _ _ small, lt-ltb _ _ lone, value_is) refl)
 
-pub goes_on : (input : List ℕ) (start counter before place byte : ℕ) (whole : Reading) → counter < 5 → place < length input → before ≤ 33554431 → byte ≡ get_or input place 0 → 128 ≤ byte
+pub goes_on : (input : List ℕ) (start counter before place byte : ℕ) (whole : Reading) → counter < 5
+    → place < length input → before ≤ 33554431 → byte ≡ get_or input place 0 → 128 ≤ byte
     → mb_after start (length input) (5 - counter) before place (drop place input) ≡ whole
-    → mb_after start (length input) (5 - (counter + 1)) (before * 128 + byte % 128) (place + 1) (drop (place + 1) input) ≡ whole
+    → mb_after start (length input) (5 - (counter + 1)) (before * 128 + byte % 128) (place + 1)
+    (drop (place + 1) input)
+    ≡ whole
 goes_on input start counter before place byte whole turns within fits byte_is carries so_far =
     let left : 5 - counter ≡ suc (5 - (counter + 1)) = omega arith in
     let small : 128 * before + get_or input place 0 % 128 < 2 ^ 32 = omega arith in
     let more : 128 ≤ get_or input place 0 = omega arith in
-    let value_is : 128 * before + get_or input place 0 % 128 ≡ before * 128 + byte % 128 = omega (arith, ap (λ (b : ℕ). b % 128) byte_is) in
-    let one : mb_after start (length input) (5 - counter) before place (drop place input) ≡ mb_after start (length input) (5 - (counter + 1)) (before * 128 + byte % 128) (place + 1) (drop (place + 1) input) =
-    rw left (step input start (5 - (counter + 1)) before place within ∙ rw (lt-ltb _ _ small, le-ltb _ _ more, value_is) refl) in
+    let value_is : 128 * before + get_or input place 0 % 128 ≡ before * 128 + byte % 128 =
+    omega (arith, ap (λ (b : ℕ). b % 128) byte_is) in
+    let one : mb_after start (length input) (5 - counter) before place (drop place input)
+    ≡ mb_after start (length input) (5 - (counter + 1)) (before * 128 + byte % 128) (place + 1)
+    (drop (place + 1) input) =
+    rw left (step input start (5 - (counter + 1)) before place within
+    ∙ rw (lt-ltb _ _ small, le-ltb _ _ more, value_is) refl) in
     sym one ∙ so_far
 
 pub ends_long : (input : List ℕ) (start counter before place : ℕ) (whole : Reading) → 5 ≤ counter
-    → mb_after start (length input) (5 - counter) before place (drop place input) ≡ whole → whole ≡ Err (TooLong start)
+    → mb_after start (length input) (5 - counter) before place (drop place input) ≡ whole
+    → whole ≡ Err (TooLong start)
 ends_long input start counter before place whole turns so_far =
     let left : 5 - counter ≡ 0 = omega arith in
     sym so_far ∙ rw left refl

@@ -1,13 +1,16 @@
 -- What moves between a buffer and a device, piece by piece.
-use Rattle.std.proofs.Common.{◌≡◌, ℕ, ◌+◌, ◌≤◌, List, [], ◌++◌, length, take, drop, Option, Some, None, refl, sym, ap, ◌∙◌, append_assoc, arith}
+use Rattle.std.proofs.Common.{◌≡◌, ℕ, ◌+◌, ◌≤◌, List, [], ◌++◌, length, take, drop, Option}
+use Rattle.std.proofs.Common.{Some, None, refl, sym, ap, ◌∙◌, append_assoc, arith}
 use Rattle.std.specs.Option.{option_map}
 use Rattle.std.proofs.lemmas.List.{take_at, take-append-drop, length-take, drop-drop, append-nil}
 use Rattle.wap_base.specs.Transfer.{Appends}
 
 -- one piece after another is the two together
-pub Appends-then : (a b c : Option (List ℕ)) (x y : List ℕ) → Appends a b x → Appends b c y → Appends a c (x ++ y)
+pub Appends-then : (a b c : Option (List ℕ)) (x y : List ℕ) → Appends a b x → Appends b c y
+    → Appends a c (x ++ y)
 Appends-then None b c x y first second = second ∙ ap (option_map (λ w. w ++ y)) first
-Appends-then (Some w) b c x y first second = second ∙ ap (option_map (λ w. w ++ y)) first ∙ ap Some (append_assoc w x y)
+Appends-then (Some w) b c x y first second =
+    second ∙ ap (option_map (λ w. w ++ y)) first ∙ ap Some (append_assoc w x y)
 
 pub Appends-nil : (a : Option (List ℕ)) → Appends a a []
 Appends-nil None = refl

@@ -12,7 +12,12 @@ utf8_len-append (c ∷ a) b = omega (arith, utf8_len-append a b)
 
 pub length-encode_utf8_all : (cs : List ℕ) → length (encode_utf8_all cs) ≡ utf8_len cs
 length-encode_utf8_all [] = refl
-length-encode_utf8_all (c ∷ cs) = omega (arith, length-append (encode_utf8 c) (encode_utf8_all cs), length-encode c, length-encode_utf8_all cs)
+length-encode_utf8_all (c ∷ cs) = omega (
+  arith,
+  length-append (encode_utf8 c) (encode_utf8_all cs),
+  length-encode c,
+  length-encode_utf8_all cs,
+)
 
 -- a character takes one to four bytes
 pub utf8_len-bounds : (cs : List ℕ) → (length cs ≤ utf8_len cs) × (utf8_len cs ≤ 4 * length cs)

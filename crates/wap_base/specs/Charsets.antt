@@ -1,6 +1,7 @@
 -- Strings in a character set (the numbers are IANA's MIBenum): which sets are read, when bytes
 -- spell a text in one, and which.
-use Rattle.std.specs.Prelude.{ℕ, Bool, true, nat_lt, ◌==◌, ◌||◌, if◌then◌else◌, List, Option, Some, None}
+use Rattle.std.specs.Prelude.{ℕ, Bool, true, nat_lt, ◌==◌, ◌||◌}
+use Rattle.std.specs.Prelude.{if◌then◌else◌, List, Option, Some, None}
 use Rattle.std.specs.List.{list_all}
 use Rattle.std.specs.Str.{is_utf8, chars}
 use Rattle.wap_base.specs.declared.charset.Charset.{Charset}

@@ -1,6 +1,7 @@
 -- Stores, sources and sinks in memory, which fail at the calls that a list names. This project's
 -- own.
-use Rattle.std.specs.Prelude.{ℕ, ◌-◌, All, Bool, not, ◌==◌, ◌||◌, ◌&&◌, nat_lt, List, ◌++◌, length, take, drop, min, if◌then◌else◌}
+use Rattle.std.specs.Prelude.{ℕ, ◌-◌, All, Bool, not, ◌==◌, ◌||◌, ◌&&◌, nat_lt, List}
+use Rattle.std.specs.Prelude.{◌++◌, length, take, drop, min, if◌then◌else◌}
 use Rattle.std.specs.List.{list_any}
 use Rattle.wap_base.specs.Count.{raised}
 use Rattle.wap_base.specs.Texts.{AreDistinct}
@@ -23,7 +24,11 @@ fails_next calls = list_any (λ number. number == raised calls.made) calls.fail
 
 -- after a call that fails or doesn't
 abbrev pub called : Schedule → Bool → Schedule
-called calls failed = record { fail = calls.fail; made = raised calls.made; faults = if failed then raised calls.faults else calls.faults }
+called calls failed = record {
+  fail = calls.fail;
+  made = raised calls.made;
+  faults = if failed then raised calls.faults else calls.faults;
+}
 
 -- pages that a store may hold: no name stands twice, and each page is small
 pub record ArePages (pages : Contents) : Type 0 where
@@ -72,7 +77,9 @@ after_read source room = record {
   left = if fails_next source.calls then source.left else drop (read_count source room) source.left;
   piece = source.piece;
   calls = called source.calls (fails_next source.calls);
-  ends = if not (fails_next source.calls) && (read_count source room == 0) then raised source.ends else source.ends;
+  ends =
+      if not (fails_next source.calls) && (read_count source room == 0) then raised source.ends
+      else source.ends;
 }
 
 -- a sink: what was written, how many bytes it holds, and how many one call moves at most
@@ -84,7 +91,8 @@ pub record SinkState : Type 0 where
 
 -- the next write fails: it is one that the list names, or there is no room for any of it
 abbrev pub fails_write : SinkState → List ℕ → Bool
-fails_write sink bytes = fails_next sink.calls || (nat_lt 0 (length bytes) && (length sink.written == sink.room))
+fails_write sink bytes =
+    fails_next sink.calls || (nat_lt 0 (length bytes) && (length sink.written == sink.room))
 
 -- how many bytes of these a write moves
 abbrev pub write_count : SinkState → List ℕ → ℕ
@@ -92,7 +100,9 @@ write_count sink bytes = min sink.piece (min (sink.room - length sink.written) (
 
 abbrev pub after_write : SinkState → List ℕ → SinkState
 after_write sink bytes = record {
-  written = if fails_write sink bytes then sink.written else sink.written ++ take (write_count sink bytes) bytes;
+  written =
+      if fails_write sink bytes then sink.written
+      else sink.written ++ take (write_count sink bytes) bytes;
   room = sink.room;
   piece = sink.piece;
   calls = called sink.calls (fails_write sink bytes);

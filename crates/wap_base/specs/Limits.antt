@@ -2,7 +2,10 @@
 -- own.
 use Rattle.std.specs.Prelude.{ℕ, ◌≤◌}
 use Rattle.wap_base.specs.declared.limits.Limits.{Limits}
-use Rattle.wap_base.specs.declared.limits.TheConstants.{DEFAULT_STRING, LEAST_STRING, MOST_STRING, DEFAULT_HISTORY, LEAST_HISTORY, MOST_HISTORY, DEFAULT_DEPTH, LEAST_DEPTH, MOST_DEPTH}
+use Rattle.wap_base.specs.declared.limits.TheConstants.{DEFAULT_STRING, LEAST_STRING, MOST_STRING}
+use Rattle.wap_base.specs.declared.limits.TheConstants.{DEFAULT_HISTORY, LEAST_HISTORY}
+use Rattle.wap_base.specs.declared.limits.TheConstants.{MOST_HISTORY, DEFAULT_DEPTH, LEAST_DEPTH}
+use Rattle.wap_base.specs.declared.limits.TheConstants.{MOST_DEPTH}
 
 -- a String may have so many bytes of UTF-8 at most
 abbrev pub IsStringLimit : ℕ → Type 0
@@ -22,4 +25,5 @@ pub record AreInRange (limits : Limits) : Type 0 where
   pub depth : IsDepthLimit limits.depth
 
 abbrev pub default_limits : Limits
-default_limits = record { string = DEFAULT_STRING; history = DEFAULT_HISTORY; depth = DEFAULT_DEPTH }
+default_limits =
+    record { string = DEFAULT_STRING; history = DEFAULT_HISTORY; depth = DEFAULT_DEPTH }

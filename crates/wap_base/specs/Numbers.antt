@@ -1,7 +1,8 @@
 -- Multi-byte integers (WAP-192, section 5.1): seven bits a byte, the most significant group first,
 -- bit 7 set on all bytes but the last. This project's own: one to five bytes, below 2 ^ 32, and not
 -- only the shortest.
-use Rattle.std.specs.Prelude.{◌≡◌, ℕ, zero, suc, ◌+◌, ◌*◌, ◌/◌, ◌%◌, ◌^◌, ◌<◌, ◌≤◌, ◌⊎◌, ◌==◌, List, [], ◌∷◌, ◌++◌, length, drop, nat_lt, if◌then◌else◌, Result, Ok, Err}
+use Rattle.std.specs.Prelude.{◌≡◌, ℕ, zero, suc, ◌+◌, ◌*◌, ◌/◌, ◌%◌, ◌^◌, ◌<◌, ◌≤◌, ◌⊎◌, ◌==◌, List}
+use Rattle.std.specs.Prelude.{[], ◌∷◌, ◌++◌, length, drop, nat_lt, if◌then◌else◌, Result, Ok, Err}
 use Rattle.std.specs.List.{AllByRecursion}
 use Rattle.wap_base.specs.declared.number.ReadFault.{ReadFault}
 use Rattle.wap_base.specs.declared.number.ReadFault.TheVariants.{Short, TooLong}
@@ -43,7 +44,8 @@ pub record IsTooLong (left : List ℕ) : Type 0 where
   pub rest : List ℕ
   pub split : left ≡ bytes ++ rest
   pub five : length bytes ≡ 5
-  pub over : AllByRecursion (λ byte. 128 ≤ byte) bytes ⊎ (IsChain bytes × (2 ^ 32 ≤ groups_after 0 bytes))
+  pub over : AllByRecursion (λ byte. 128 ≤ byte) bytes
+      ⊎ (IsChain bytes × (2 ^ 32 ≤ groups_after 0 bytes))
 
 -- Reading from the left: from a place on, after bytes of the number that began at start and has
 -- this value so far, with so many bytes still allowed; end is the input's length.
@@ -53,7 +55,8 @@ mb_after start end (suc allowed) before place [] = Err (Short end)
 mb_after start end (suc allowed) before place (byte ∷ left) =
     let value = 128 * before + byte % 128 in
     if nat_lt value (2 ^ 32)
-    then (if nat_lt byte 128 then Ok (value, place + 1) else mb_after start end allowed value (place + 1) left)
+    then (if nat_lt byte 128 then Ok (value, place + 1) else
+    mb_after start end allowed value (place + 1) left)
     else Err (TooLong start)
 
 unfoldable pub mb_at : List ℕ → ℕ → Result (ℕ × ℕ) ReadFault
@@ -62,7 +65,8 @@ mb_at input place = mb_after place (length input) 5 0 place (drop place input)
 -- the groups of a number as bytes that carry on, none for 0, at most so many
 abbrev pub carried : ℕ → ℕ → List ℕ
 carried zero number = []
-carried (suc allowed) number = if number == 0 then [] else carried allowed (number / 128) ++ (128 + number % 128) ∷ []
+carried (suc allowed) number =
+    if number == 0 then [] else carried allowed (number / 128) ++ (128 + number % 128) ∷ []
 
 -- the shortest spelling of a number
 abbrev pub mb_spelling : ℕ → List ℕ

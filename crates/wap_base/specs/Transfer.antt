@@ -1,5 +1,6 @@
 -- What a read takes and a write gives, where the bytes are known. This project's own.
-use Rattle.std.specs.Prelude.{◌≡◌, ℕ, List, [], ◌++◌, Option, IfSome, Result, Ok, Err, ◌==◌, if◌then◌else◌}
+use Rattle.std.specs.Prelude.{◌≡◌, ℕ, List, [], ◌++◌, Option, IfSome}
+use Rattle.std.specs.Prelude.{Result, Ok, Err, ◌==◌, if◌then◌else◌}
 use Rattle.std.specs.Option.{option_map}
 use Rattle.wap_base.specs.Count.{raised}
 use Rattle.wap_base.specs.declared.fault.Failed.{Failed}
@@ -14,7 +15,8 @@ Appends before after bytes = after ≡ option_map (λ written. written ++ bytes)
 
 -- the sink has some prefix of these bytes after what it had
 abbrev pub AppendsFront : Option (List ℕ) → Option (List ℕ) → List ℕ → Type 0
-AppendsFront before after bytes = (front : List ℕ) × (rest : List ℕ) × (bytes ≡ front ++ rest) × Appends before after front
+AppendsFront before after bytes =
+    (front : List ℕ) × (rest : List ℕ) × (bytes ≡ front ++ rest) × Appends before after front
 
 -- no bytes are left, where they are known
 abbrev pub IsAtEnd : Option (List ℕ) → Type 0

@@ -17,7 +17,8 @@ impl Model for Calls {
 
     ghost Value = { Schedule };
 
-    ghost view = { λ calls. record { fail = calls.fail.items; made = calls.made; faults = calls.faults } };
+    ghost view = { λ calls.
+        record { fail = calls.fail.items; made = calls.made; faults = calls.faults } };
 }
 
 impl Calls {

@@ -1,6 +1,8 @@
 //! Numbers of one byte and of several, read at a place and written at an end.
-ghost use Rattle.std.specs.Prelude.{◌≡◌, ℕ, ◌+◌, ◌<◌, ◌≤◌, ◌↔◌, ◌++◌, length, drop, slice_index, Ok, Err, OnOk, OnErr, IfOk};
-ghost use Rattle.wap_base.specs.Numbers.{ReadsMb, EndsInside, IsTooLong, IsShortest, mb_at, mb_spelling};
+ghost use Rattle.std.specs.Prelude.{◌≡◌, ℕ, ◌+◌, ◌<◌, ◌≤◌, ◌↔◌, ◌++◌, length, drop};
+ghost use Rattle.std.specs.Prelude.{slice_index, Ok, Err, OnOk, OnErr, IfOk};
+ghost use Rattle.wap_base.specs.Numbers.{ReadsMb, EndsInside, IsTooLong};
+ghost use Rattle.wap_base.specs.Numbers.{IsShortest, mb_at, mb_spelling};
 ghost use Rattle.wap_base.specs.declared.number.ReadFault.TheVariants.{Short, TooLong};
 
 use crate::{Bytes, NoMemory};
@@ -31,9 +33,13 @@ pub fn read_u8(bytes: &[u8], at: usize) -> Result<(u8, usize), ReadFault>
 pub fn read_mb(bytes: &[u8], at: usize) -> Result<(u32, usize), ReadFault>
     requires { at ≤ length bytes.now }
     ensures found { IfOk result (λ read. ReadsMb bytes.now at read.0 read.1) }
-    ensures only { (number next : ℕ) → ReadsMb bytes.now at number next → result ≡ Ok (number, next) }
-    ensures short { (place : ℕ) → (result ≡ Err (Short place)) ↔ (EndsInside (drop at bytes.now) × (place ≡ length bytes.now)) }
-    ensures too_long { (place : ℕ) → (result ≡ Err (TooLong place)) ↔ (IsTooLong (drop at bytes.now) × (place ≡ at)) }
+    ensures only { (number next : ℕ) → ReadsMb bytes.now at number next
+        → result ≡ Ok (number, next) }
+    ensures short { (place : ℕ)
+        → (result ≡ Err (Short place))
+        ↔ (EndsInside (drop at bytes.now) × (place ≡ length bytes.now)) }
+    ensures too_long { (place : ℕ)
+        → (result ≡ Err (TooLong place)) ↔ (IsTooLong (drop at bytes.now) × (place ≡ at)) }
     ensures exact { result ≡ mb_at bytes.now at }
 {
     mb_from(bytes, at)

@@ -1,5 +1,6 @@
 //! Where what is shown goes to.
-ghost use Rattle.std.specs.Prelude.{◌≡◌, ℕ, ◌<◌, ◌≤◌, List, [], length, take, true, ◌↔◌, Option, Some, Ok, IfOk, OnOk, OnErr, IsErr};
+ghost use Rattle.std.specs.Prelude.{◌≡◌, ℕ, ◌<◌, ◌≤◌, List, [], length, take, true, ◌↔◌};
+ghost use Rattle.std.specs.Prelude.{Option, Some, Ok, IfOk, OnOk, OnErr, IsErr};
 ghost use Rattle.wap_base.specs.Count.{Rose};
 ghost use Rattle.wap_base.specs.Transfer.{Appends, AppendsFront};
 ghost use Rattle.wap_base.specs.Fakes.{SinkState, fresh, fails_write, write_count, after_write};
@@ -20,7 +21,8 @@ pub trait Sink {
     /// Takes a prefix of the piece, and answers its length.
     fn write(&mut self, piece: &[u8]) -> Result<usize, Failed>
         ensures within { IfOk result (λ count. count ≤ length piece.now) }
-        ensures bytes { IfOk result (λ count. Appends (written self.old) (written self.new) (take count piece.now)) }
+        ensures bytes { IfOk result
+            (λ count. Appends (written self.old) (written self.new) (take count piece.now)) }
 
         // A write that failed moved no bytes.
         ensures unmoved { OnErr result (written self.new ≡ written self.old) }
@@ -28,7 +30,8 @@ pub trait Sink {
         ensures faults { faults self.old ≤ faults self.new }
         ensures failed { OnErr result (Rose (faults self.old) (faults self.new)) }
         // To take nothing of a piece that isn't empty is a fault too, and any other answer is none.
-        ensures stuck { result ≡ Ok 0 → 0 < length piece.now → Rose (faults self.old) (faults self.new) }
+        ensures stuck { result ≡ Ok 0 → 0 < length piece.now
+            → Rose (faults self.old) (faults self.new) }
         ensures steady { IfOk result (λ count. 0 < count → faults self.new ≡ faults self.old) }
         ensures nothing { piece.now ≡ [] → OnOk result (faults self.new ≡ faults self.old) };
 }
@@ -68,9 +71,15 @@ impl Model for MemSink {
 
     ghost Value = { SinkState };
 
-    ghost view = { λ sink. record { written = sink.written.items; room = sink.room; piece = sink.piece; calls = sink.calls } };
+    ghost view = { λ sink. record {
+      written = sink.written.items;
+      room = sink.room;
+      piece = sink.piece;
+      calls = sink.calls;
+    } };
 
-    ghost invariant = { λ sink. (length sink.written.items ≤ sink.room) × (sink.room ≤ vec_capacity sink.written) × (1 ≤ sink.piece) };
+    ghost invariant = { λ sink. (length sink.written.items ≤ sink.room)
+        × (sink.room ≤ vec_capacity sink.written) × (1 ≤ sink.piece) };
 }
 
 impl MemSink {
@@ -83,7 +92,8 @@ impl MemSink {
         fail: Vec<u64>,
     ) -> Result<MemSink, NoMemory>
         requires { 1 ≤ piece }
-        ensures holds { IfOk result (λ sink. sink ≡ record { written = []; room = room; piece = piece; calls = fresh fail.items }) }
+        ensures holds { IfOk result (λ sink.
+            sink ≡ record { written = []; room = room; piece = piece; calls = fresh fail.items }) }
         ensures told { IfOk result (λ sink. ⟦<MemSink as Sink>⟧.written sink ≡ Some []) }
     {
         Ok(MemSink {

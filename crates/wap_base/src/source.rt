@@ -1,5 +1,6 @@
 //! Where key lines come from.
-ghost use Rattle.std.specs.Prelude.{◌≡◌, ℕ, ◌<◌, ◌≤◌, List, [], ◌++◌, length, take, drop, true, ◌↔◌, Option, Some, Ok, IfOk, OnOk, OnErr, IsErr};
+ghost use Rattle.std.specs.Prelude.{◌≡◌, ℕ, ◌<◌, ◌≤◌, List, [], ◌++◌, length, take, drop, true};
+ghost use Rattle.std.specs.Prelude.{◌↔◌, Option, Some, Ok, IfOk, OnOk, OnErr, IsErr};
 ghost use Rattle.wap_base.specs.Count.{Rose};
 ghost use Rattle.wap_base.specs.Transfer.{TakesFrom, IsAtEnd, ends_after};
 ghost use Rattle.wap_base.specs.Fakes.{SourceState, fresh, fails_next, read_count, after_read};
@@ -24,7 +25,8 @@ pub trait Source {
     fn read(&mut self, buffer: &mut [u8]) -> Result<usize, Failed>
         requires { 0 < length buffer.old }
         ensures within { IfOk result (λ count. count ≤ length buffer.old) }
-        ensures bytes { IfOk result (λ count. TakesFrom (left self.old) (left self.new) (take count buffer.new)) }
+        ensures bytes { IfOk result
+            (λ count. TakesFrom (left self.old) (left self.new) (take count buffer.new)) }
         ensures end { result ≡ Ok 0 → IsAtEnd (left self.old) }
 
         // The rest of the buffer stays as it was.
@@ -56,7 +58,12 @@ impl Model for MemSource {
 
     ghost Value = { SourceState };
 
-    ghost view = { λ source. record { left = drop source.at source.bytes; piece = source.piece; calls = source.calls; ends = source.ends } };
+    ghost view = { λ source. record {
+      left = drop source.at source.bytes;
+      piece = source.piece;
+      calls = source.calls;
+      ends = source.ends;
+    } };
 
     ghost invariant = { λ source. (source.at ≤ length source.bytes) × (1 ≤ source.piece) };
 }
@@ -66,7 +73,8 @@ impl MemSource {
     /// from 1, of the calls that fail.
     pub fn new(bytes: Bytes, piece: usize, fail: Vec<u64>) -> MemSource
         requires { 1 ≤ piece }
-        ensures holds { result ≡ record { left = bytes; piece = piece; calls = fresh fail.items; ends = 0 } }
+        ensures holds { result
+            ≡ record { left = bytes; piece = piece; calls = fresh fail.items; ends = 0 } }
         ensures told { ⟦<MemSource as Source>⟧.left result ≡ Some bytes }
     {
         MemSource {
@@ -100,7 +108,8 @@ impl Source for MemSource {
     fn read(&mut self, buffer: &mut [u8]) -> Result<usize, Failed>
         requires { 0 < length buffer.old }
         ensures count { IfOk result (λ count. count ≡ read_count self.old (length buffer.old)) }
-        ensures bytes { IfOk result (λ count. self.old.left ≡ take count buffer.new ++ self.new.left) }
+        ensures bytes { IfOk result
+            (λ count. self.old.left ≡ take count buffer.new ++ self.new.left) }
         ensures failed { IsErr result ↔ (fails_next self.old.calls ≡ true) }
         ensures after { self.new ≡ after_read self.old (length buffer.old) }
         ensures rest { IfOk result (λ count. drop count buffer.new ≡ drop count buffer.old) }

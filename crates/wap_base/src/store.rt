@@ -1,12 +1,14 @@
 //! Where pages come from.
-ghost use Rattle.std.specs.Prelude.{◌≡◌, ℕ, ◌≤◌, true, All, Option, Some, IfSome, IfOk, OnOk, IsErrOf, IsTrue, ◌↔◌};
+ghost use Rattle.std.specs.Prelude.{◌≡◌, ℕ, ◌≤◌, true, All, Option, Some, IfSome};
+ghost use Rattle.std.specs.Prelude.{IfOk, OnOk, IsErrOf, IsTrue, ◌↔◌};
 ghost use Rattle.std.specs.Option.{option_copied};
 ghost use Rattle.std.specs.List.Sorted.{IsPermutation};
 ghost use Rattle.wap_base.specs.Count.{raised, Rose};
 ghost use Rattle.wap_base.specs.Texts.{AreAscending, AreDistinct};
 ghost use Rattle.wap_base.specs.Contents.{Contents, names_of, page_named, answer_for};
 ghost use Rattle.wap_base.specs.Pages.{IsPage, IsSmall};
-ghost use Rattle.wap_base.specs.Fakes.{StoreState, ArePages, fresh, fails_next, after_fetch, after_listing};
+ghost use Rattle.wap_base.specs.Fakes.{StoreState, ArePages, fresh, fails_next};
+ghost use Rattle.wap_base.specs.Fakes.{after_fetch, after_listing};
 
 use crate::calls::Calls;
 use crate::{Bytes, NoMemory, RunErr, Text, are_distinct};
@@ -95,7 +97,8 @@ pub trait Store {
     /// The page of a name.
     fn fetch(&mut self, name: &Text) -> Result<Fetched, StoreErr>
         // The answer is right, where the contents are known.
-        ensures found { IfOk result (λ answer. IfSome (contents self.old) (λ pages. answer ≡ answer_for name.now pages)) }
+        ensures found { IfOk result
+            (λ answer. IfSome (contents self.old) (λ pages. answer ≡ answer_for name.now pages)) }
         ensures small { IfOk result IsSmall }
         ensures distinct { IfSome (contents self.old) (λ pages. AreDistinct (names_of pages)) }
         ensures kept { contents self.new ≡ contents self.old }
@@ -109,7 +112,8 @@ pub trait Store {
     /// The names of all pages, in the order of their UTF-8 bytes.
     fn list(&mut self) -> Result<Vec<Text>, StoreErr>
         ensures ascending { IfOk result (λ names. AreAscending names.items) }
-        ensures names { IfOk result (λ names. IfSome (contents self.old) (λ pages. IsPermutation (names_of pages) names.items)) }
+        ensures names { IfOk result (λ names.
+            IfSome (contents self.old) (λ pages. IsPermutation (names_of pages) names.items)) }
         ensures distinct { IfSome (contents self.old) (λ pages. AreDistinct (names_of pages)) }
         ensures kept { contents self.new ≡ contents self.old }
 
@@ -137,7 +141,12 @@ impl Model for MemStore {
 
     ghost Value = { StoreState };
 
-    ghost view = { λ store. record { pages = store.pages.items; calls = store.calls; fetches = store.fetches; listings = store.listings } };
+    ghost view = { λ store. record {
+      pages = store.pages.items;
+      calls = store.calls;
+      fetches = store.fetches;
+      listings = store.listings;
+    } };
 
     ghost invariant = { λ store. ArePages store.pages.items };
 }
@@ -147,7 +156,8 @@ impl MemStore {
     /// ask for a page and those that ask for the names in one row.
     pub fn new(pages: Vec<(Text, Bytes)>, fail: Vec<u64>) -> MemStore
         requires { ArePages pages.items }
-        ensures holds { result ≡ record { pages = pages.items; calls = fresh fail.items; fetches = 0; listings = 0 } }
+        ensures holds { result
+            ≡ record { pages = pages.items; calls = fresh fail.items; fetches = 0; listings = 0 } }
         ensures told { ⟦<MemStore as Store>⟧.contents result ≡ Some pages.items }
     {
         MemStore {

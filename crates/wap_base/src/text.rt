@@ -1,5 +1,6 @@
 //! `Text`, UTF-8 that contracts see as the list of its characters.
-ghost use Rattle.std.specs.Prelude.{◌≡◌, [], ◌∷◌, ◌++◌, length, true, IsTrue, ◌↔◌, IfOk, OnOk, OnErr, string_bytes, encode_utf8_all, decimal};
+ghost use Rattle.std.specs.Prelude.{◌≡◌, [], ◌∷◌, ◌++◌, length, true, IsTrue, ◌↔◌, IfOk, OnOk};
+ghost use Rattle.std.specs.Prelude.{OnErr, string_bytes, encode_utf8_all, decimal};
 ghost use Rattle.std.specs.Str.{chars, all_scalars};
 ghost use Rattle.wap_base.specs.Utf8.{utf8_len};
 
@@ -188,7 +189,8 @@ impl Hash for Text {
 
     ghost hash_input = { λ text. fed.str (encode_utf8_all text) };
 
-    ghost respects_eq = { λ a b same. ap (λ text. fed.str (encode_utf8_all text)) ((bytes_decides a b).0 same) };
+    ghost respects_eq = { λ a b same.
+        ap (λ text. fed.str (encode_utf8_all text)) ((bytes_decides a b).0 same) };
 
     fn hash<H: Hasher>(&self, state: &mut H) {
         self.as_str().hash(state);

@@ -1,5 +1,6 @@
 -- How a session comes to its end.
-use Rattle.std.proofs.Common.{◌≡◌, ◌≢◌, ℕ, ◌≤◌, List, [], ◌∷◌, ◌++◌, Option, Some, refl, sym, ap, subst, inl, map, ◌∙◌, arith}
+use Rattle.std.proofs.Common.{◌≡◌, ◌≢◌, ℕ, ◌≤◌, List, [], ◌∷◌, ◌++◌, Option, Some}
+use Rattle.std.proofs.Common.{refl, sym, ap, subst, inl, map, ◌∙◌, arith}
 use Rattle.std.specs.Prelude.{IfSome}
 use Rattle.wap_base.specs.Count.{Rose}
 use Rattle.wap_base.specs.Transfer.{Appends, AppendsFront}
@@ -23,17 +24,22 @@ use Rattle.wap_world.specs.Lines.{shown_line, lines_bytes}
 use Rattle.wap_world.specs.Sessions.{Begun, played, shown_by, world_of, transcript}
 use Rattle.wap_session.specs.Feeding.{State}
 use Rattle.wap_status.specs.declared.status.Status.{Status}
-use Rattle.wap_status.specs.declared.status.Status.TheVariants.{Done, Usage, Refused, StoreFault, KeyReadFault, WriteFault, NoMemory, BadKey, TooManyKeys}
+use Rattle.wap_status.specs.declared.status.Status.TheVariants.{Done, Usage, Refused, StoreFault}
+use Rattle.wap_status.specs.declared.status.Status.TheVariants.{KeyReadFault, WriteFault, NoMemory}
+use Rattle.wap_status.specs.declared.status.Status.TheVariants.{BadKey, TooManyKeys}
 use Rattle.wap_browse.specs.Outside.{Outside}
 use Rattle.wap_browse.specs.Handling.{IsPlayed}
 use Rattle.wap_browse.specs.Endings.{ended}
 use Rattle.wap_browse.specs.inside.Played.{Moment, LeadsPart, GoesOn, Stops}
-use Rattle.wap_browse.specs.inside.Ends.{EndsSo, ShowsTo, Written, Comes, StoreMoves, ReadMoves, WriteMoves, BrowsesTo}
+use Rattle.wap_browse.specs.inside.Ends.{EndsSo, ShowsTo, Written, Comes, StoreMoves}
+use Rattle.wap_browse.specs.inside.Ends.{ReadMoves, WriteMoves, BrowsesTo}
 use Rattle.wap_browse.proofs.Optional.{if_some, some_fact, some_rest}
 use Rattle.wap_browse.proofs.Stepping.{none_lines}
 use Rattle.wap_browse.proofs.Firsts.{first_length, opened_first, front_whole, front_of}
-use Rattle.wap_browse.proofs.Going.{moment_of, played_to, read_to, Stands, Goes, step_told, all_pressed}
-use Rattle.wap_browse.proofs.Stopped.{Pressing, both_first, pressed_first, store_stops, part_front, sink_part, sink_stops, memory_stops, key_wants}
+use Rattle.wap_browse.proofs.Going.{moment_of, played_to, read_to, Stands}
+use Rattle.wap_browse.proofs.Going.{Goes, step_told, all_pressed}
+use Rattle.wap_browse.proofs.Stopped.{Pressing, both_first, pressed_first, store_stops, part_front}
+use Rattle.wap_browse.proofs.Stopped.{sink_part, sink_stops, memory_stops, key_wants}
 
 rose_from : (before now after : ℕ) → now ≡ before → Rose now after → Rose before after
 rose_from before now after is rose = subst (λ (count : ℕ). Rose count after) is rose
@@ -160,7 +166,8 @@ pub ended_browses : (begun : Begun) (old now : Outside) (reader after : Reading)
     → (next.Ended ending ≢ next.Ended way.ReadFault → faults ≡ now.read_faults)
     → KeepsEnds reader after now.ends ends
     → BrowsesTo begun old (read_to (played_to now new) left ends faults) (ended ending)
-ended_browses begun old now reader after state key new left ends faults ending goes so answers counted rose steady keeps =
+ended_browses begun old now reader after state key new left ends faults ending goes so answers
+    counted rose steady keeps =
     let keys = goes.keys in
     let (more, read) = answers old.left goes.taken goes.given keys.read in
     let taken = goes.taken ++ more in
@@ -250,7 +257,8 @@ stopped_by : (begun : Begun) (old now : Outside) (reader : Reading) (state : Sta
     → WriteMoves status old.write_faults new.faults
     → Stays now.pages new.pages → old.write_faults ≤ new.faults
     → BrowsesTo begun old (played_to now new) status
-stopped_by begun old now reader state key new status goes written ends store read write stays counts =
+stopped_by begun old now reader state key new status goes written ends store read
+    write stays counts =
     let keys = goes.keys in
     let has = given_of old.left now.left goes.taken goes.given reader keys.read in
     record {

@@ -1,5 +1,6 @@
 -- A session that goes on, key by key.
-use Rattle.std.proofs.Common.{◌≡◌, ◌≢◌, ℕ, false, Bool, cond, List, [], ◌∷◌, ◌++◌, map, Option, Some, refl, sym, ap, subst, ◌∙◌}
+use Rattle.std.proofs.Common.{◌≡◌, ◌≢◌, ℕ, false, Bool, cond, List, [], ◌∷◌, ◌++◌, map}
+use Rattle.std.proofs.Common.{Option, Some, refl, sym, ap, subst, ◌∙◌}
 use Rattle.std.specs.Prelude.{IfSome}
 use Rattle.wap_base.specs.Count.{raised}
 use Rattle.wap_base.specs.Transfer.{Appends}
@@ -24,7 +25,8 @@ use Rattle.wap_session.specs.Feeding.{State, beginning}
 use Rattle.wap_browse.specs.Outside.{Outside}
 use Rattle.wap_browse.specs.inside.Played.{Moment, IfTold, Leads, GoesOn}
 use Rattle.wap_browse.proofs.Optional.{if_some, some_fact}
-use Rattle.wap_browse.proofs.Stepping.{none_world, none_lines, none_asked, more_world, more_asked, more_bytes}
+use Rattle.wap_browse.proofs.Stepping.{none_world, none_lines, none_asked}
+use Rattle.wap_browse.proofs.Stepping.{more_world, more_asked, more_bytes}
 
 -- ---- what is seen
 
@@ -216,7 +218,8 @@ pub goes_more : (begun : Begun) (old now : Outside) (reader after : Reading) (st
     → (next.Key one ≢ next.Ended ReadFault → faults ≡ now.read_faults)
     → KeepsEnds reader after now.ends ends
     → Goes begun old (read_to (played_to now new) left ends faults) after new.state one
-goes_more begun old now reader after state key one new left ends faults goes so answers steady keeps =
+goes_more begun old now reader after state key one new left ends faults goes so
+    answers steady keeps =
     let keys = goes.keys in
     let (more, read) = answers old.left goes.taken goes.given keys.read in
     let browsed = all_pressed begun old now reader state key new goes so in

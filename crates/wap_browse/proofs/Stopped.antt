@@ -1,5 +1,6 @@
 -- A session that stops before its end: what was written, and asked for.
-use Rattle.std.proofs.Common.{◌≡◌, ℕ, ◌+◌, ◌≤◌, List, [], ◌∷◌, ◌++◌, length, take, Option, refl, sym, ap, subst, ◌∙◌, append_assoc, arith}
+use Rattle.std.proofs.Common.{◌≡◌, ℕ, ◌+◌, ◌≤◌, List, [], ◌∷◌, ◌++◌, length, take, Option}
+use Rattle.std.proofs.Common.{refl, sym, ap, subst, ◌∙◌, append_assoc, arith}
 use Rattle.std.specs.Prelude.{IfSome}
 use Rattle.wap_base.specs.Transfer.{Appends, AppendsFront}
 use Rattle.wap_base.proofs.Transfers.{Appends-then}
@@ -16,10 +17,12 @@ use Rattle.wap_world.specs.Keys.{react}
 use Rattle.wap_world.specs.Sessions.{Begun, played, shown_by, world_of, first_steps}
 use Rattle.wap_session.specs.Feeding.{State}
 use Rattle.wap_browse.specs.Outside.{Outside}
-use Rattle.wap_browse.specs.Stopping.{RoseWithin, WritesPart, StopsAtStore, StopsAtSink, StopsForMemory}
+use Rattle.wap_browse.specs.Stopping.{RoseWithin, WritesPart, StopsAtStore}
+use Rattle.wap_browse.specs.Stopping.{StopsAtSink, StopsForMemory}
 use Rattle.wap_browse.specs.inside.Played.{Moment, LeadsPart}
 use Rattle.wap_browse.proofs.Stepping.{more_asked, more_bytes}
-use Rattle.wap_browse.proofs.Firsts.{first_length, first_taken, first_prompt, opened_first, shorter_first, one_longer, steps_of}
+use Rattle.wap_browse.proofs.Firsts.{first_length, first_taken, first_prompt, opened_first}
+use Rattle.wap_browse.proofs.Firsts.{shorter_first, one_longer, steps_of}
 use Rattle.wap_browse.proofs.Counting.{fails_behind}
 use Rattle.wap_browse.proofs.Going.{moment_of, played_to, Stands}
 
@@ -90,7 +93,8 @@ pub store_stops : (pages : Pages) (begun : Begun) (pressed given all : List Key)
     now.pages new.pages
     → new.written ≡ now.written
     → StopsAtStore pages begun all taken old (played_to now new)
-store_stops pages begun pressed given all key taken old now state new so prompt stands fails unwritten =
+store_stops pages begun pressed given all key taken old now state new so prompt stands
+    fails unwritten =
     let world = world_of begun in
     let step = played pages pressed world in
     let both = played pages (pressed ++ key ∷ []) world in

@@ -5,12 +5,15 @@ use Rattle.wap_keys.specs.Lines.{keys_of}
 use Rattle.wap_site.specs.Pages.{Pages}
 use Rattle.wap_world.specs.Sessions.{Begun}
 use Rattle.wap_status.specs.declared.status.Status.{Status}
-use Rattle.wap_status.specs.declared.status.Status.TheVariants.{Done, Usage, Refused, StoreFault, KeyReadFault, WriteFault, NoMemory, BadKey, TooManyKeys}
+use Rattle.wap_status.specs.declared.status.Status.TheVariants.{Done, Usage, Refused, StoreFault}
+use Rattle.wap_status.specs.declared.status.Status.TheVariants.{KeyReadFault, WriteFault, NoMemory}
+use Rattle.wap_status.specs.declared.status.Status.TheVariants.{BadKey, TooManyKeys}
 use Rattle.wap_status.specs.Statuses.{IsOrWants}
 use Rattle.wap_browse.specs.Outside.{Outside}
 use Rattle.wap_browse.specs.Endings.{ended}
 use Rattle.wap_browse.specs.Headline.{Shows, Reads, Browses}
-use Rattle.wap_browse.specs.inside.Ends.{EndsSo, ShowsTo, Written, Comes, StoreMoves, ReadMoves, WriteMoves, BrowsesTo}
+use Rattle.wap_browse.specs.inside.Ends.{EndsSo, ShowsTo, Written, Comes, StoreMoves}
+use Rattle.wap_browse.specs.inside.Ends.{ReadMoves, WriteMoves, BrowsesTo}
 use Rattle.wap_browse.proofs.Optional.{if_some, some_fact}
 
 -- ---- counts

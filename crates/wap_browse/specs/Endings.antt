@@ -2,7 +2,8 @@
 use Rattle.wap_keys.specs.declared.ending.Ending.{Ending}
 use Rattle.wap_keys.specs.declared.ending.Ending.TheVariants as ending
 use Rattle.wap_status.specs.declared.status.Status.{Status}
-use Rattle.wap_status.specs.declared.status.Status.TheVariants.{Done, KeyReadFault, BadKey, TooManyKeys}
+use Rattle.wap_status.specs.declared.status.Status.TheVariants.{Done, KeyReadFault}
+use Rattle.wap_status.specs.declared.status.Status.TheVariants.{BadKey, TooManyKeys}
 
 abbrev pub ended : Ending → Status
 ended ending.End = Done

@@ -46,7 +46,8 @@ blue = el tags.Option ((attrs.Value, lit (codes "b")) ∷ []) (item.Text (lit (c
 
 abbrev colours : Node
 colours = el tags.Select
-    ((attrs.Name, lit (codes "c")) ∷ (attrs.Multiple, lit (codes "true")) ∷ (attrs.Ivalue, lit (codes "2;9;2")) ∷ [])
+    ((attrs.Name, lit (codes "c")) ∷ (attrs.Multiple, lit (codes "true"))
+    ∷ (attrs.Ivalue, lit (codes "2;9;2")) ∷ [])
     (item.Node red ∷ item.Node blue ∷ [])
 
 two_options : options_of colours ≡ red ∷ blue ∷ []
@@ -58,7 +59,8 @@ second_is_chosen = simp (out_text, out_node) refl
 sets_blue : choice_text [] colours (false ∷ true ∷ []) ≡ codes "b"
 sets_blue = simp (out_text, out_node) refl
 
-then_both : choice_with colours (choice_of ((codes "c", codes "b") ∷ []) colours) 1 ≡ true ∷ true ∷ []
+then_both : choice_with colours (choice_of ((codes "c", codes "b") ∷ []) colours) 1
+    ≡ true ∷ true ∷ []
 then_both = simp (out_text, out_node) refl
 
 sets_both : choice_text [] colours (true ∷ true ∷ []) ≡ codes "r;b"
@@ -76,14 +78,18 @@ abbrev field : Node
 field = el tags.Input ((attrs.Name, lit (codes "n")) ∷ (attrs.Format, lit (codes "N*N")) ∷ []) []
 
 abbrev words_and_break : Node
-words_and_break = el tags.P [] (item.Text (lit (codes "a")) ∷ item.Node (el tags.Br [] []) ∷ item.Node link ∷ item.Node field ∷ [])
+words_and_break =
+    el tags.P [] (item.Text (lit (codes "a")) ∷ item.Node (el tags.Br [] []) ∷ item.Node link
+    ∷ item.Node field ∷ [])
 
 abbrev card : Node
 card = el tags.Card [] (item.Node words_and_break ∷ [])
 
 content : content_of card ≡
-    begins words_and_break ∷ words (lit (codes "a")) ∷ begins (el tags.Br [] []) ∷ ends (el tags.Br [] [])
-    ∷ begins link ∷ words (lit (codes "on")) ∷ ends link ∷ begins field ∷ ends field ∷ ends words_and_break ∷ []
+    begins words_and_break ∷ words (lit (codes "a")) ∷ begins (el tags.Br [] [])
+    ∷ ends (el tags.Br [] [])
+    ∷ begins link ∷ words (lit (codes "on")) ∷ ends link ∷ begins field ∷ ends field
+    ∷ ends words_and_break ∷ []
 unfolding content_of rule_of rules
 content = simp (out_text, out_node) refl
 
@@ -94,29 +100,37 @@ first_link : link_task [] card 1 ≡ Some (go_to (codes "#b"))
 first_link = simp content refl
 
 flows : flow_of ((codes "n", codes "12") ∷ []) card ≡
-    Wrap ∷ Words (codes "a") ∷ Hard ∷ Words (codes "[1]") ∷ Words (codes "on") ∷ Words (codes " (2)12 ") ∷ []
+    Wrap ∷ Words (codes "a") ∷ Hard ∷ Words (codes "[1]") ∷ Words (codes "on")
+    ∷ Words (codes " (2)12 ") ∷ []
 unfolding flow_of digits
 flows =
     ap (λ ms. (fold (shown_with ((codes "n", codes "12") ∷ [])) nothing_shown ms).flow) content
 
-lines : lines_of 20 (flow_of ((codes "n", codes "12") ∷ []) card) ≡ codes "a" ∷ codes "[1]on (2)12" ∷ []
+lines : lines_of 20 (flow_of ((codes "n", codes "12") ∷ []) card)
+    ≡ codes "a" ∷ codes "[1]on (2)12" ∷ []
 lines = ap (lines_of 20) flows
 
 -- ---- times
 
-times : (time_in (codes "007") ≡ 7) × (time_in (codes "99999999999") ≡ 4294967295) × (time_in (codes "1x") ≡ 0) × (time_in [] ≡ 0)
+times : (time_in (codes "007") ≡ 7) × (time_in (codes "99999999999") ≡ 4294967295)
+    × (time_in (codes "1x") ≡ 0) × (time_in [] ≡ 0)
 times = (refl, refl, refl, refl)
 
 -- ---- events: the first onevent comes before the attribute, and a noop hides
 
 abbrev once_to : List ℕ → Node
-once_to href = el tags.Onevent ((attrs.Type, lit (codes "onenterforward")) ∷ []) (item.Node (el tags.Prev [] []) ∷ [])
+once_to href =
+    el tags.Onevent ((attrs.Type, lit (codes "onenterforward")) ∷ [])
+    (item.Node (el tags.Prev [] []) ∷ [])
 
 abbrev hidden : Node
-hidden = el tags.Onevent ((attrs.Type, lit (codes "ontimer")) ∷ []) (item.Node (el tags.Noop [] []) ∷ [])
+hidden =
+    el tags.Onevent ((attrs.Type, lit (codes "ontimer")) ∷ []) (item.Node (el tags.Noop [] []) ∷ [])
 
 abbrev eventful : Node
-eventful = el tags.Card ((attrs.Onenterforward, lit (codes "#x")) ∷ (attrs.Ontimer, lit (codes "#y")) ∷ (attrs.Onenterbackward, lit (codes "#z")) ∷ [])
+eventful =
+    el tags.Card ((attrs.Onenterforward, lit (codes "#x")) ∷ (attrs.Ontimer, lit (codes "#y"))
+    ∷ (attrs.Onenterbackward, lit (codes "#z")) ∷ [])
     (item.Node (once_to (codes "#b")) ∷ item.Node hidden ∷ [])
 
 abbrev site : Deck
@@ -134,26 +148,33 @@ by_attribute = simp (out_text, out_node) refl
 -- ---- dos: a noop hides the template's
 
 abbrev do_of : List ℕ → Node → Node
-do_of name task = el tags.Do ((attrs.Type, lit name) ∷ (attrs.Label, lit (codes "L")) ∷ []) (item.Node task ∷ [])
+do_of name task =
+    el tags.Do ((attrs.Type, lit name) ∷ (attrs.Label, lit (codes "L")) ∷ []) (item.Node task ∷ [])
 
 abbrev with_dos : Node
-with_dos = el tags.Card [] (item.Node (do_of (codes "a") (el tags.Noop [] [])) ∷ item.Node (do_of (codes "b") (el tags.Prev [] [])) ∷ [])
+with_dos =
+    el tags.Card [] (item.Node (do_of (codes "a") (el tags.Noop [] []))
+    ∷ item.Node (do_of (codes "b") (el tags.Prev [] [])) ∷ [])
 
 abbrev common : Node
-common = el tags.Template [] (item.Node (do_of (codes "a") (el tags.Prev [] [])) ∷ item.Node (do_of (codes "c") (el tags.Refresh [] [])) ∷ [])
+common =
+    el tags.Template [] (item.Node (do_of (codes "a") (el tags.Prev [] []))
+    ∷ item.Node (do_of (codes "c") (el tags.Refresh [] [])) ∷ [])
 
 abbrev dos_site : Deck
 dos_site = record { root = el tags.Wml [] (item.Node common ∷ item.Node with_dos ∷ []) }
 
 common_content : content_of common ≡
     begins (do_of (codes "a") (el tags.Prev [] [])) ∷ ends (do_of (codes "a") (el tags.Prev [] []))
-    ∷ begins (do_of (codes "c") (el tags.Refresh [] [])) ∷ ends (do_of (codes "c") (el tags.Refresh [] [])) ∷ []
+    ∷ begins (do_of (codes "c") (el tags.Refresh [] []))
+    ∷ ends (do_of (codes "c") (el tags.Refresh [] [])) ∷ []
 unfolding content_of rule_of rules
 common_content = simp (out_text, out_node) refl
 
 card_content : content_of with_dos ≡
     begins (do_of (codes "a") (el tags.Noop [] [])) ∷ ends (do_of (codes "a") (el tags.Noop [] []))
-    ∷ begins (do_of (codes "b") (el tags.Prev [] [])) ∷ ends (do_of (codes "b") (el tags.Prev [] [])) ∷ []
+    ∷ begins (do_of (codes "b") (el tags.Prev [] []))
+    ∷ ends (do_of (codes "b") (el tags.Prev [] [])) ∷ []
 unfolding content_of rule_of rules
 card_content = simp (out_text, out_node) refl
 
@@ -170,4 +191,6 @@ common_is : template_of dos_site ≡ Some common
 common_is = simp (out_text, out_node) refl
 
 dos_shown : do_labels [] dos_site with_dos ≡ (codes "b", codes "L") ∷ (codes "c", codes "L") ∷ []
-dos_shown = simp (card_content, common_is) (simp (common_content) (simp (hides, goes_back, shows_again) refl))
+dos_shown =
+    simp (card_content, common_is)
+    (simp (common_content) (simp (hides, goes_back, shows_again) refl))

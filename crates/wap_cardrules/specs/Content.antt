@@ -1,7 +1,8 @@
 -- What a card or a template has, in the order of the document (WAP-191, sections 11.4 to 11.9):
 -- texts, and elements that begin and end. A text counts where one may stand. What stands in a do,
 -- an event, a task or a select is no part of it.
-use Rattle.std.specs.Prelude.{ℕ, zero, suc, Bool, if◌then◌else◌, List, [], ◌∷◌, ◌++◌, Option, Some, None}
+use Rattle.std.specs.Prelude.{ℕ, zero, suc, Bool, if◌then◌else◌, List, []}
+use Rattle.std.specs.Prelude.{◌∷◌, ◌++◌, Option, Some, None}
 use Rattle.std.specs.List.{flat_map, filter_map}
 use Rattle.wap_base.specs.declared.name.Part.{Part}
 use Rattle.wap_markup.specs.declared.document.TheConstants.{LEVEL_LIMIT}

@@ -1,5 +1,6 @@
 -- The dos of a card (WAP-191, sections 9.6 and 9.7).
-use Rattle.std.specs.Prelude.{ℕ, Bool, not, map, filter, find, is_some, unwrap_or, List, [], ◌++◌, Option}
+use Rattle.std.specs.Prelude.{ℕ, Bool, not, map, filter, find, is_some}
+use Rattle.std.specs.Prelude.{unwrap_or, List, [], ◌++◌, Option}
 use Rattle.std.specs.List.{list_any}
 use Rattle.std.specs.Option.{option_map_or, option_and_then}
 use Rattle.wap_base.specs.Texts.{is_same_text}

@@ -1,6 +1,7 @@
 -- The fields of a card (WAP-191, sections 9.8, 9.9 and 11.6): links, inputs and selects, which are
 -- numbered together from 1 in the order of the document. The numbers are this project's own.
-use Rattle.std.specs.Prelude.{ℕ, zero, suc, Bool, filter, slice_get, if◌then◌else◌, List, [], ◌∷◌, Option, Some, None}
+use Rattle.std.specs.Prelude.{ℕ, zero, suc, Bool, filter, slice_get, if◌then◌else◌}
+use Rattle.std.specs.Prelude.{List, [], ◌∷◌, Option, Some, None}
 use Rattle.std.specs.Option.{option_and_then}
 use Rattle.wap_markup.specs.declared.deck.Node.{Node}
 use Rattle.wap_markup.specs.declared.name.Tag.{Tag}

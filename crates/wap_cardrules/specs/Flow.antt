@@ -1,6 +1,7 @@
 -- What a card shows (WAP-191, sections 11.5, 11.6, 11.8 and 11.9): words, breaks and modes. The
 -- marks of links, inputs and options are this project's own.
-use Rattle.std.specs.Prelude.{ℕ, ◌+◌, Bool, map, if◌then◌else◌, List, [], ◌∷◌, ◌++◌, Option, Some, None, codes}
+use Rattle.std.specs.Prelude.{ℕ, ◌+◌, Bool, map, if◌then◌else◌, List, []}
+use Rattle.std.specs.Prelude.{◌∷◌, ◌++◌, Option, Some, None, codes}
 use Rattle.std.specs.List.{fold, flat_map, filter_map, zip, enumerate_from}
 use Rattle.std.specs.Fmt.{decimal}
 use Rattle.wap_base.specs.Texts.{is_same_text}

@@ -1,5 +1,6 @@
 -- Inputs (WAP-191, section 11.6.3): which texts they take, and what they show.
-use Rattle.std.specs.Prelude.{ℕ, Bool, true, nat_le, ◌&&◌, ◌||◌, if◌then◌else◌, unwrap_or, replicate, List, [], length, Option, codes}
+use Rattle.std.specs.Prelude.{ℕ, Bool, true, nat_le, ◌&&◌, ◌||◌, if◌then◌else◌, unwrap_or}
+use Rattle.std.specs.Prelude.{replicate, List, [], length, Option, codes}
 use Rattle.std.specs.Option.{option_map_or, option_and_then}
 use Rattle.wap_base.specs.Texts.{is_same_text}
 use Rattle.wap_base.specs.Ascii.{asterisk}

@@ -1,8 +1,10 @@
 -- Selects (WAP-191, section 11.6.2): which of their options are chosen. The order in which the
 -- texts are tried is this project's own.
-use Rattle.std.specs.Prelude.{ℕ, Bool, ◌==◌, nat_le, ◌&&◌, not, map, filter, if◌then◌else◌, unwrap_or, List, [], ◌∷◌, length, Option, Some, None, codes}
+use Rattle.std.specs.Prelude.{ℕ, Bool, ◌==◌, nat_le, ◌&&◌, not, map, filter, if◌then◌else◌}
+use Rattle.std.specs.Prelude.{unwrap_or, List, [], ◌∷◌, length, Option, Some, None, codes}
 use Rattle.std.specs.Option.{option_and_then, option_or}
-use Rattle.std.specs.List.{filter_map, list_any, range_with_len, enumerate_from, items_where_true, slice_split, join_with_byte}
+use Rattle.std.specs.List.{filter_map, list_any, range_with_len, enumerate_from}
+use Rattle.std.specs.List.{items_where_true, slice_split, join_with_byte}
 use Rattle.std.specs.Fmt.{decimal}
 use Rattle.wap_base.specs.Texts.{is_same_text}
 use Rattle.wap_base.specs.Ascii.{semicolon, digit_zero}

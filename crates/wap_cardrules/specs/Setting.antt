@@ -1,6 +1,7 @@
 -- Setting several variables, and the variables that a card's fields have when the card is shown
 -- (WAP-191, sections 10.3, 11.6.2 and 11.6.3).
-use Rattle.std.specs.Prelude.{ℕ, false, if◌then◌else◌, List, [], ◌∷◌, ◌++◌, Option, Some, None, Result, Ok, Err}
+use Rattle.std.specs.Prelude.{ℕ, false, if◌then◌else◌, List, [], ◌∷◌, ◌++◌}
+use Rattle.std.specs.Prelude.{Option, Some, None, Result, Ok, Err}
 use Rattle.std.specs.Option.{option_map, option_map_or, option_to_list}
 use Rattle.wap_markup.specs.declared.deck.Node.{Node}
 use Rattle.wap_markup.specs.declared.name.Tag.TheVariants as tags
@@ -12,7 +13,8 @@ use Rattle.wap_filling.specs.Setting.{set_in}
 use Rattle.wap_cardrules.specs.Values.{value_if, Pairs}
 use Rattle.wap_cardrules.specs.Fields.{fields_of}
 use Rattle.wap_cardrules.specs.Inputs.{input_variable, takes}
-use Rattle.wap_cardrules.specs.Selects.{Choice, choice_of, iname_of, name_of, index_text, choice_text}
+use Rattle.wap_cardrules.specs.Selects.{Choice, choice_of, iname_of, name_of}
+use Rattle.wap_cardrules.specs.Selects.{index_text, choice_text}
 
 -- ---- several sets
 
@@ -56,7 +58,8 @@ default_text vars input (Some value) =
 
 abbrev pub default_input : Variables → Node → Set
 default_input vars input =
-    if option_map_or (takes vars input) (text_of vars (input_variable input)) false then accepted vars
+    if option_map_or (takes vars input) (text_of vars (input_variable input)) false
+    then accepted vars
     else default_text vars input (value_if vars attrs.Value input)
 
 abbrev pub under : List ℕ → List ℕ → List ℕ × List ℕ

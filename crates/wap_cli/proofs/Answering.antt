@@ -1,5 +1,6 @@
 -- What a command on one page comes to, by what the calls below answered.
-use Rattle.std.proofs.Common.{◌≡◌, ◌≢◌, ◌≤◌, arith, ℕ, List, Option, Some, None, Result, Ok, Err, refl}
+use Rattle.std.proofs.Common.{◌≡◌, ◌≢◌, ◌≤◌, arith, ℕ, List, Option, Some}
+use Rattle.std.proofs.Common.{None, Result, Ok, Err, refl}
 use Rattle.std.specs.Prelude.{OnOk, OnErr}
 use Rattle.wap_base.specs.Contents.{answer_of}
 use Rattle.wap_base.specs.Count.{Rose}
@@ -16,10 +17,13 @@ pub page_answered : (page : Option (List ℕ)) → page_of (answer_of page) ≡ 
 page_answered None = refl
 page_answered (Some bytes) = refl
 
-module _ (command : PageCommand) (bytes : List ℕ) (before after : Option (List ℕ)) (faults rest : ℕ) where
+module _ (command : PageCommand) (bytes : List ℕ) (before after : Option (List ℕ))
+    (faults rest : ℕ) where
   -- its text was written, or the sink failed
-  pub answers_text : {A E : Type 0} (wrote : Result A E) (text : List ℕ) → IsText command bytes text → OnOk wrote (Appends before after text) → OnErr wrote (AppendsFront before after text)
-      → OnOk wrote (rest ≡ faults) → faults ≤ rest → OnErr wrote (Rose faults rest) → Answers command (Some bytes) before after faults rest (written_so wrote)
+  pub answers_text : {A E : Type 0} (wrote : Result A E) (text : List ℕ) → IsText command bytes text
+      → OnOk wrote (Appends before after text) → OnErr wrote (AppendsFront before after text)
+      → OnOk wrote (rest ≡ faults) → faults ≤ rest → OnErr wrote (Rose faults rest)
+      → Answers command (Some bytes) before after faults rest (written_so wrote)
   answers_text (Ok x) text is whole prefix steady counts failed = record {
     done = λ e. (text, is, whole);
     refused = λ fault e. absurd cc;
@@ -46,7 +50,9 @@ module _ (command : PageCommand) (bytes : List ℕ) (before after : Option (List
   }
 
   -- there is no text
-  pub answers_error : (why : PageErr) → ((fault : PageFault) → why ≡ error.Refused fault → IsReason command bytes fault) → ((text : List ℕ) → IsText command bytes text → why ≢ error.NoMemory → ⊥)
+  pub answers_error : (why : PageErr)
+      → ((fault : PageFault) → why ≡ error.Refused fault → IsReason command bytes fault)
+      → ((text : List ℕ) → IsText command bytes text → why ≢ error.NoMemory → ⊥)
       → Answers command (Some bytes) before before faults faults (refused_by why)
   answers_error (error.Refused found) reason lacks = record {
     done = λ e. absurd cc;
@@ -73,7 +79,8 @@ module _ (command : PageCommand) (bytes : List ℕ) (before after : Option (List
     told = λ e. absurd cc;
   }
 
-module _ (command : PageCommand) (page : Option (List ℕ)) (before : Option (List ℕ)) (faults : ℕ) where
+module _ (command : PageCommand) (page : Option (List ℕ)) (before : Option (List ℕ))
+    (faults : ℕ) where
   -- memory ran out before the page was there
   pub answers_no_memory : Answers command page before before faults faults NoMemory
   answers_no_memory = record {
@@ -90,7 +97,8 @@ module _ (command : PageCommand) (page : Option (List ℕ)) (before : Option (Li
   }
 
 -- there is no page
-pub answers_missing : (command : PageCommand) (before : Option (List ℕ)) (faults : ℕ) → Answers command None before before faults faults (Refused Missing)
+pub answers_missing : (command : PageCommand) (before : Option (List ℕ)) (faults : ℕ)
+    → Answers command None before before faults faults (Refused Missing)
 answers_missing command before faults = record {
   done = λ e. absurd cc;
   refused = λ fault e. cc;
@@ -105,5 +113,6 @@ answers_missing command before faults = record {
 }
 
 -- a value isn't an error
-pub no_value : {X : Type 0} (x : X) (why : PageErr) → ◌≡◌ {A = Result X PageErr} (Ok x) (Err why) → ⊥
+pub no_value : {X : Type 0} (x : X) (why : PageErr)
+    → ◌≡◌ {A = Result X PageErr} (Ok x) (Err why) → ⊥
 no_value x why e = cc

@@ -154,7 +154,8 @@ module _ {S : Type 0} (contents : S → Option Contents) (faults fetches listing
       (outside_over last left' ends' reads' written' writes') status
       → Browses begun (browsed capacity (devices_of store left ends reads written writes))
       (browsed capacity (devices_of back left' ends' reads' written' writes')) status
-  browsed_over begun first last store back capacity left left' ends ends' reads reads' written written' writes writes' status of none many is so =
+  browsed_over begun first last store back capacity left left' ends ends' reads reads' written
+      written' writes writes' status of none many is so =
       let before : Outside = browsed capacity (devices_of store left ends reads written writes) in
       let after : Outside = outside_over last left' ends' reads' written' writes' in
       let from : first ≡ record { store = store; kept = []; capacity = capacity } =
@@ -164,5 +165,6 @@ module _ {S : Type 0} (contents : S → Option Contents) (faults fetches listing
       Browses begun (outside_over cached left ends reads written writes) after status) from so in
       subst (λ (s : S). Browses begun before
       (browsed capacity (devices_of s left' ends' reads' written' writes')) status) (sym is)
-      (forget_cache begun before after status (Some (record { names = []; capacity = capacity })) refl
+      (forget_cache begun before after status
+      (Some (record { names = []; capacity = capacity })) refl
       new)

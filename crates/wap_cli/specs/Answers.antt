@@ -14,7 +14,9 @@ use Rattle.wap_inspect.specs.Units.{IsVerifyLine, IsListing}
 use Rattle.wap_inspect.specs.Documents.{IsCanonical, IsCheckLine}
 use Rattle.wap_inspect.specs.Refusals.{RefusesUnit, RefusesVerify, RefusesDocument, RefusesCheck}
 use Rattle.wap_status.specs.declared.status.Status.{Status}
-use Rattle.wap_status.specs.declared.status.Status.TheVariants.{Done, Usage, Refused, StoreFault, KeyReadFault, WriteFault, NoMemory, BadKey, TooManyKeys}
+use Rattle.wap_status.specs.declared.status.Status.TheVariants.{Done, Usage, Refused, StoreFault}
+use Rattle.wap_status.specs.declared.status.Status.TheVariants.{KeyReadFault, WriteFault, NoMemory}
+use Rattle.wap_status.specs.declared.status.Status.TheVariants.{BadKey, TooManyKeys}
 
 -- the text that a command writes for a page with these bytes
 abbrev pub IsText : PageCommand → List ℕ → List ℕ → Type 0
@@ -58,15 +60,19 @@ IsOfPage TooManyKeys = ⊥
 
 -- what a command comes to on a page of a store that tells its contents: the sink and its faults
 -- before and after, and how it ended
-pub record Answers (command : PageCommand) (page : Option (List ℕ)) (before after : Option (List ℕ)) (faults rest : ℕ)
+pub record Answers (command : PageCommand) (page : Option (List ℕ)) (before after : Option (List ℕ))
+    (faults rest : ℕ)
     (status : Status) : Type 0 where
   -- on Done its text was written
-  pub done : status ≡ Done → (text : List ℕ) × IsTextOf command page text × Appends before after text
+  pub done : status ≡ Done
+      → (text : List ℕ) × IsTextOf command page text × Appends before after text
   -- on Refused there is no text, for this reason
   pub refused : (fault : PageFault) → status ≡ Refused fault → IsReasonOf command page fault
-  pub accepted : (text : List ℕ) (fault : PageFault) → IsTextOf command page text → status ≢ Refused fault
+  pub accepted : (text : List ℕ) (fault : PageFault) → IsTextOf command page text
+      → status ≢ Refused fault
   -- where the sink failed, a prefix of its text was written
-  pub prefix : status ≡ WriteFault → (text : List ℕ) × IsTextOf command page text × AppendsFront before after text
+  pub prefix : status ≡ WriteFault
+      → (text : List ℕ) × IsTextOf command page text × AppendsFront before after text
   pub failed : status ≡ WriteFault → Rose faults rest
   -- and else nothing
   pub quiet : status ≢ Done → status ≢ WriteFault → after ≡ before

@@ -9,7 +9,8 @@ use Rattle.wap_words.specs.declared.words.Command.TheVariants.{Browse, Page}
 use Rattle.wap_words.specs.declared.words.PageCommand.{PageCommand}
 use Rattle.wap_world.specs.Sessions.{Begun}
 use Rattle.wap_status.specs.declared.status.Status.{Status}
-use Rattle.wap_status.specs.declared.status.Status.TheVariants.{Done, Usage, StoreFault, WriteFault, NoMemory}
+use Rattle.wap_status.specs.declared.status.Status.TheVariants.{Done, Usage, StoreFault}
+use Rattle.wap_status.specs.declared.status.Status.TheVariants.{WriteFault, NoMemory}
 use Rattle.wap_status.specs.Statuses.{IsOrWants}
 use Rattle.wap_browse.specs.Headline.{Browses}
 use Rattle.wap_cli.specs.Answers.{IsOfPage, Answers}

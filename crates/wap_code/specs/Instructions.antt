@@ -1,5 +1,6 @@
 -- The instruction at a place of a function's code.
-use Rattle.std.specs.Prelude.{ℕ, ◌+◌, ◌-◌, ◌*◌, nat_lt, nat_le, Bool, ◌&&◌, if◌then◌else◌, List, length, slice_index, find, Option, Some, None, Result, Ok, Err}
+use Rattle.std.specs.Prelude.{ℕ, ◌+◌, ◌-◌, ◌*◌, nat_lt, nat_le, Bool, ◌&&◌, if◌then◌else◌, List}
+use Rattle.std.specs.Prelude.{length, slice_index, find, Option, Some, None, Result, Ok, Err}
 use Rattle.wap_code.specs.declared.row.Slot.{Slot}
 use Rattle.wap_code.specs.declared.row.Slot.TheVariants.{Absent, Low, Byte, Word}
 use Rattle.wap_code.specs.declared.row.Row.{Row}
@@ -44,7 +45,8 @@ read row code at =
     }
 
 abbrev pub read_row : Row → List ℕ → ℕ → Result Instr InstrFault
-read_row row code at = if nat_lt (length code - at) (size row) then Err Operand else Ok (read row code at)
+read_row row code at =
+    if nat_lt (length code - at) (size row) then Err Operand else Ok (read row code at)
 
 abbrev pub read_by : Option Row → List ℕ → ℕ → Result Instr InstrFault
 read_by None code at = Err Opcode

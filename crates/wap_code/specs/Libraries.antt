@@ -1,6 +1,7 @@
 -- The libraries (WAP-194): each function with the number of its library, its number in it, how many
 -- arguments it takes, and both names.
-use Rattle.std.specs.Prelude.{ℕ, Bool, ◌==◌, ◌&&◌, bytes_eq, codes, encode_utf8_all, map, List, [], ◌∷◌, Option}
+use Rattle.std.specs.Prelude.{ℕ, Bool, ◌==◌, ◌&&◌, bytes_eq, codes}
+use Rattle.std.specs.Prelude.{encode_utf8_all, map, List, [], ◌∷◌, Option}
 use Rattle.std.specs.Map.{lookup}
 
 abbrev pub library : List (ℕ × ℕ × ℕ × List ℕ × List ℕ)
@@ -83,7 +84,8 @@ is_function number function key = key.0 == number && key.1 == function
 
 -- names are compared by their UTF-8
 abbrev pub is_named : List ℕ → List ℕ → List ℕ × List ℕ → Bool
-is_named name function key = bytes_eq key.0 (encode_utf8_all name) && bytes_eq key.1 (encode_utf8_all function)
+is_named name function key =
+    bytes_eq key.0 (encode_utf8_all name) && bytes_eq key.1 (encode_utf8_all function)
 
 unfoldable pub lib_args : ℕ → ℕ → Option ℕ
 lib_args number function = lookup (is_function number function) (map by_number library)

@@ -150,7 +150,8 @@ pub struct Row {
 }
 
 macro_rules! row {
-    ($first:literal, $count:literal, $operation:ident, $name:ident, $a:ident, $b:ident, $c:ident, $operands:ident, $takes:expr, $gives:literal, $after:ident) => {
+    ($first:literal, $count:literal, $operation:ident, $name:ident, $a:ident, $b:ident, $c:ident,
+        $operands:ident, $takes:expr, $gives:literal, $after:ident) => {
         Row {
             first: $first,
             count: $count,

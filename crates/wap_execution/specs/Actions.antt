@@ -6,7 +6,31 @@ use Rattle.wap_code.specs.declared.row.OpName.TheVariants as op
 use Rattle.wap_value.specs.declared.operator.UnOp.TheVariants as un
 use Rattle.wap_value.specs.declared.operator.BinOp.TheVariants as bin
 use Rattle.wap_execution.specs.declared.action.Action.{Action}
-use Rattle.wap_execution.specs.declared.action.Action.TheVariants.{Jump, JumpBack, JumpUnless, JumpBackUnless, ShortCircuit, CallLocal, CallLibrary, CallExternal, LoadVariable, StoreVariable, ChangeVariable, AssignVariable, LoadConstant, GiveInteger, GiveBoolean, GiveEmpty, GiveInvalid, Unary, Binary, Pop, Return, ReturnEmpty, Pass}
+use Rattle.wap_execution.specs.declared.action.Action.TheVariants.{
+  Jump,
+  JumpBack,
+  JumpUnless,
+  JumpBackUnless,
+  ShortCircuit,
+  CallLocal,
+  CallLibrary,
+  CallExternal,
+  LoadVariable,
+  StoreVariable,
+  ChangeVariable,
+  AssignVariable,
+  LoadConstant,
+  GiveInteger,
+  GiveBoolean,
+  GiveEmpty,
+  GiveInvalid,
+  Unary,
+  Binary,
+  Pop,
+  Return,
+  ReturnEmpty,
+  Pass,
+}
 
 abbrev pub action_of : OpName → Action
 action_of op.JumpFw = Jump

@@ -1,5 +1,6 @@
 -- The frames of functions at work (WAP-193, section 9).
-use Rattle.std.specs.Prelude.{ℕ, List, [], ◌∷◌, ◌++◌, replicate, Option, Some, slice_get, option_map, option_and_then}
+use Rattle.std.specs.Prelude.{ℕ, List, [], ◌∷◌, ◌++◌, replicate, Option, Some}
+use Rattle.std.specs.Prelude.{slice_get, option_map, option_and_then}
 use Rattle.std.specs.Option.{option_map_or}
 use Rattle.wap_value.specs.declared.value.Value.{Value}
 use Rattle.wap_value.specs.declared.value.Value.TheVariants.{Int, Str, Invalid}
@@ -7,7 +8,8 @@ use Rattle.wap_url.specs.declared.url.Url.{Url}
 use Rattle.wap_code.specs.declared.unit.Unit.{Unit}
 use Rattle.wap_code.specs.declared.unit.Code.{Code}
 use Rattle.wap_code.specs.declared.unit.Constant.{Constant}
-use Rattle.wap_code.specs.declared.unit.Constant.TheVariants.{Int8, Int16, Int32, Float, Utf8, Empty, Coded}
+use Rattle.wap_code.specs.declared.unit.Constant.TheVariants.{Int8, Int16, Int32, Float, Utf8}
+use Rattle.wap_code.specs.declared.unit.Constant.TheVariants.{Empty, Coded}
 use Rattle.wap_code.specs.Strings.{string_of}
 
 -- a function of a unit, with the unit's URL and that of the unit that called it, if one did
@@ -37,7 +39,12 @@ first_variables code arguments = arguments ++ replicate code.locals (Str [])
 
 -- a function at its beginning
 abbrev pub begun : Function → Code → List Value → Frame
-begun function code arguments = record { function = function; place = 0; variables = first_variables code arguments; operands = [] }
+begun function code arguments = record {
+  function = function;
+  place = 0;
+  variables = first_variables code arguments;
+  operands = [];
+}
 
 -- a frame whose call gave a value
 abbrev pub pushed : Value → Frame → Frame

@@ -8,14 +8,16 @@ use Rattle.wap_code.specs.declared.unit.Unit.{Unit}
 use Rattle.wap_code.specs.declared.unit.Code.{Code}
 use Rattle.wap_execution.specs.declared.found.Found.TheVariants.{Callee}
 use Rattle.wap_execution.specs.Frames.{Frame}
-use Rattle.wap_execution.specs.Outcomes.{Outcome, value, exit, fatal, waits, stuck, Ended, Hosting, Setting}
+use Rattle.wap_execution.specs.Outcomes.{Outcome, value, exit, fatal, waits}
+use Rattle.wap_execution.specs.Outcomes.{stuck, Ended, Hosting, Setting}
 use Rattle.wap_execution.specs.Running.{resumed, finished}
 use Rattle.wap_execution_laws.specs.Settings.{counting}
 
 -- no function of the unit has more bytes of code
 abbrev pub IsShort : ℕ → Unit → Type 0
 IsShort longest unit =
-    (index : ℕ) (code : Code) → slice_get unit.functions index ≡ Some code → length code.code ≤ longest
+    (index : ℕ) (code : Code) → slice_get unit.functions index ≡ Some code
+    → length code.code ≤ longest
 
 -- nor has any of a unit that the host finds
 abbrev pub FindsShort : {S : Type 0} → ℕ → Hosting S → Type 0

@@ -7,7 +7,8 @@ use Rattle.wap_execution.specs.declared.dialog.Dialog.{Dialog}
 use Rattle.wap_execution.specs.declared.library.HostOut.{HostOut}
 use Rattle.wap_execution.specs.declared.library.HostOut.TheVariants.{Value, Exit, Fatal, Asks}
 use Rattle.wap_execution.specs.Frames.{Frame}
-use Rattle.wap_execution.specs.Outcomes.{Outcome, value, exit, fatal, waits, stuck, Ended, Hosting, Setting}
+use Rattle.wap_execution.specs.Outcomes.{Outcome, value, exit, fatal, waits}
+use Rattle.wap_execution.specs.Outcomes.{stuck, Ended, Hosting, Setting}
 use Rattle.wap_execution.specs.Running.{ended, resumed, finished}
 use Rattle.wap_execution_laws.specs.Settings.{uncounted}
 

@@ -1,8 +1,9 @@
 -- The pieces of a text, as far as it was read.
-use Rattle.std.proofs.Common.{◌≡◌, ℕ, ◌<◌, ◌+◌, length, drop, get_or, List, [], ◌∷◌, ◌++◌, Bool, true, false, cond, ◌==◌, ◌≢◌, refl, sym, ap, ◌∙◌, append_assoc}
+use Rattle.std.proofs.Common.{◌≡◌, ℕ, ◌<◌, ◌+◌, length, drop, get_or, List, [], ◌∷◌, ◌++◌, Bool}
+use Rattle.std.proofs.Common.{true, false, cond, ◌==◌, ◌≢◌, refl, sym, ap, ◌∙◌, append_assoc}
 use Rattle.std.proofs.lemmas.List.{append-nil, at_drop_more, length_push}
 use Rattle.std.proofs.Math.Seq.{drop-length}
-use Rattle.std.specs.List.{slice_split, onto_first}
+use Rattle.std.specs.List.{onto_first}
 use Rattle.wap_base.specs.Ascii.{semicolon}
 use Rattle.wap_cardrules.specs.Selects.{pieces_of}
 
@@ -14,11 +15,14 @@ before_pieces first (piece ∷ pieces) = (first ++ piece) ∷ pieces
 abbrev pub pieces_from : List ℕ → List ℕ → List (List ℕ)
 pieces_from piece text = before_pieces piece (pieces_of text)
 
-before_pieces-first : (piece : List ℕ) (c : ℕ) (pieces : List (List ℕ)) → before_pieces piece (onto_first c pieces) ≡ before_pieces (piece ++ c ∷ []) pieces
+before_pieces-first : (piece : List ℕ) (c : ℕ) (pieces : List (List ℕ))
+    → before_pieces piece (onto_first c pieces) ≡ before_pieces (piece ++ c ∷ []) pieces
 before_pieces-first piece c [] = refl
-before_pieces-first piece c (next ∷ pieces) = ap (λ p. p ∷ pieces) (sym (append_assoc piece (c ∷ []) next))
+before_pieces-first piece c (next ∷ pieces) =
+    ap (λ p. p ∷ pieces) (sym (append_assoc piece (c ∷ []) next))
 
-before_nothing : (text : List ℕ) (pieces : List (List ℕ)) → pieces ≢ [] → before_pieces [] pieces ≡ pieces
+before_nothing : (text : List ℕ) (pieces : List (List ℕ)) → pieces ≢ []
+    → before_pieces [] pieces ≡ pieces
 before_nothing text [] some = absurd (some refl)
 before_nothing text (piece ∷ pieces) some = refl
 
@@ -40,40 +44,59 @@ pieces_start text = before_nothing text (pieces_of text) (some_pieces text)
 pub pieces_from-end : (piece : List ℕ) → pieces_from piece [] ≡ piece ∷ []
 pieces_from-end piece = ap (λ p. p ∷ []) (append-nil piece)
 
-pieces_from-semicolon : (piece text : List ℕ) (c : ℕ) → (c == semicolon) ≡ true → pieces_from piece (c ∷ text) ≡ piece ∷ pieces_from [] text
+pieces_from-semicolon : (piece text : List ℕ) (c : ℕ) → (c == semicolon) ≡ true
+    → pieces_from piece (c ∷ text) ≡ piece ∷ pieces_from [] text
 pieces_from-semicolon piece text c is =
     ap (λ b. before_pieces piece (cond b ([] ∷ pieces_of text) (onto_first c (pieces_of text)))) is
-    ∙ ap (λ p. p ∷ pieces_of text) (append-nil piece) ∙ ap (λ pieces. piece ∷ pieces) (sym (pieces_start text))
+    ∙ ap (λ p. p ∷ pieces_of text) (append-nil piece)
+    ∙ ap (λ pieces. piece ∷ pieces) (sym (pieces_start text))
 
-pieces_from-other : (piece text : List ℕ) (c : ℕ) → (c == semicolon) ≡ false → pieces_from piece (c ∷ text) ≡ pieces_from (piece ++ c ∷ []) text
+pieces_from-other : (piece text : List ℕ) (c : ℕ) → (c == semicolon) ≡ false
+    → pieces_from piece (c ∷ text) ≡ pieces_from (piece ++ c ∷ []) text
 pieces_from-other piece text c isnt =
-    ap (λ b. before_pieces piece (cond b ([] ∷ pieces_of text) (onto_first c (pieces_of text)))) isnt ∙ before_pieces-first piece c (pieces_of text)
+    ap
+    (λ b. before_pieces piece (cond b ([] ∷ pieces_of text) (onto_first c (pieces_of text)))) isnt
+    ∙ before_pieces-first piece c (pieces_of text)
 
 -- the place of a loop over characters, and what is left there
-pub drop-turn : (text yielded : List ℕ) (c : ℕ) → (length yielded < length text) × (c ≡ get_or text (length yielded) c) → drop (length yielded) text ≡ c ∷ drop (length (yielded ++ c ∷ [])) text
+pub drop-turn : (text yielded : List ℕ) (c : ℕ)
+    → (length yielded < length text) × (c ≡ get_or text (length yielded) c)
+    → drop (length yielded) text ≡ c ∷ drop (length (yielded ++ c ∷ [])) text
 drop-turn text yielded c t =
-    at_drop_more (λ rest. rest) text (length yielded) c t.0 ∙ ap (λ x. x ∷ drop (length yielded + 1) text) (sym t.1) ∙ ap (λ n. c ∷ drop n text) (sym (length_push yielded c))
+    at_drop_more (λ rest. rest) text (length yielded) c t.0
+    ∙ ap (λ x. x ∷ drop (length yielded + 1) text) (sym t.1)
+    ∙ ap (λ n. c ∷ drop n text) (sym (length_push yielded c))
 
-pub drop-end : (text yielded : List ℕ) → length text ≡ length yielded → drop (length yielded) text ≡ []
+pub drop-end : (text yielded : List ℕ) → length text ≡ length yielded
+    → drop (length yielded) text ≡ []
 drop-end text yielded e = ap (λ n. drop n text) (sym e) ∙ drop-length text
 
 -- the steps of a loop over the characters
-pub pieces-semicolon : (pieces new : List (List ℕ)) (piece next left rest : List ℕ) (c : ℕ) (whole : List (List ℕ)) → new ≡ pieces ++ piece ∷ [] → next ≡ [] → (c == semicolon) ≡ true → left ≡ c ∷ rest
+pub pieces-semicolon : (pieces new : List (List ℕ)) (piece next left rest : List ℕ) (c : ℕ)
+    (whole : List (List ℕ)) → new ≡ pieces ++ piece ∷ [] → next ≡ [] → (c == semicolon) ≡ true
+    → left ≡ c ∷ rest
     → pieces ++ pieces_from piece left ≡ whole → new ++ pieces_from next rest ≡ whole
 pieces-semicolon pieces new piece next left rest c whole ends starts is turn was =
     ap (λ p. new ++ pieces_from p rest) starts
     ∙ ap (λ ps. ps ++ pieces_from [] rest) ends
     ∙ append_assoc pieces (piece ∷ []) (pieces_from [] rest)
-    ∙ ap (λ ps. pieces ++ ps) (sym (pieces_from-semicolon piece rest c is) ∙ ap (pieces_from piece) (sym turn))
+    ∙ ap (λ ps. pieces ++ ps)
+    (sym (pieces_from-semicolon piece rest c is) ∙ ap (pieces_from piece) (sym turn))
     ∙ was
 
-pub pieces-other : (pieces : List (List ℕ)) (piece next left rest : List ℕ) (c : ℕ) (whole : List (List ℕ)) → next ≡ piece ++ c ∷ [] → (c == semicolon) ≡ false → left ≡ c ∷ rest
+pub pieces-other : (pieces : List (List ℕ)) (piece next left rest : List ℕ) (c : ℕ)
+    (whole : List (List ℕ)) → next ≡ piece ++ c ∷ [] → (c == semicolon) ≡ false → left ≡ c ∷ rest
     → pieces ++ pieces_from piece left ≡ whole → pieces ++ pieces_from next rest ≡ whole
 pieces-other pieces piece next left rest c whole goes_on isnt turn was =
     ap (λ p. pieces ++ pieces_from p rest) goes_on
-    ∙ ap (λ ps. pieces ++ ps) (sym (pieces_from-other piece rest c isnt) ∙ ap (pieces_from piece) (sym turn))
+    ∙ ap (λ ps. pieces ++ ps)
+    (sym (pieces_from-other piece rest c isnt) ∙ ap (pieces_from piece) (sym turn))
     ∙ was
 
-pub pieces-end : (pieces new : List (List ℕ)) (piece left : List ℕ) (whole : List (List ℕ)) → new ≡ pieces ++ piece ∷ [] → left ≡ [] → pieces ++ pieces_from piece left ≡ whole → new ≡ whole
+pub pieces-end : (pieces new : List (List ℕ)) (piece left : List ℕ) (whole : List (List ℕ))
+    → new ≡ pieces ++ piece ∷ []
+    → left ≡ [] → pieces ++ pieces_from piece left ≡ whole → new ≡ whole
 pieces-end pieces new piece left whole ends turn was =
-    ends ∙ ap (λ ps. pieces ++ ps) (sym (pieces_from-end piece) ∙ ap (pieces_from piece) (sym turn)) ∙ was
+    ends
+    ∙ ap (λ ps. pieces ++ ps) (sym (pieces_from-end piece) ∙ ap (pieces_from piece) (sym turn))
+    ∙ was

@@ -1,13 +1,13 @@
 -- Sets that were stopped because memory ran out: the first of them may stand, and nothing else
 -- changed. This project's own.
-use Rattle.std.specs.Prelude.{◌≡◌, ℕ, take, if◌then◌else◌, slice_get, List, [], Option}
+use Rattle.std.specs.Prelude.{◌≡◌, ℕ, take, if◌then◌else◌, slice_get, List, []}
 use Rattle.std.specs.Option.{option_map_or}
 use Rattle.wap_markup.specs.declared.deck.Node.{Node}
 use Rattle.wap_markup.specs.declared.name.Tag.TheVariants as tags
 use Rattle.wap_markup.specs.Tables.{is_same_tag}
 use Rattle.wap_filling.specs.Variables.{Variables}
-use Rattle.wap_cardrules.specs.Fields.{fields_of, field_with, numbered}
-use Rattle.wap_cardrules.specs.Selects.{choice_of, choice_with, options_of}
+use Rattle.wap_cardrules.specs.Fields.{fields_of, field_with}
+use Rattle.wap_cardrules.specs.Selects.{choice_of, choice_with}
 use Rattle.wap_cardrules.specs.Setting.{set_all, set_each, default, choice_sets}
 
 -- some first of these sets stand
@@ -23,7 +23,8 @@ default_sets vars field =
 abbrev pub DefaultsStand : Variables → Node → Variables → Type 0
 DefaultsStand vars card now = (count : ℕ) × (
     let before = (set_each default vars (take count (fields_of card))).vars in
-    FirstStand before (option_map_or (default_sets before) (slice_get (fields_of card) count) []) now)
+    FirstStand before
+    (option_map_or (default_sets before) (slice_get (fields_of card) count) []) now)
 
 -- the sets of a choice
 abbrev pub chosen_sets : Variables → ℕ → Node → List (List ℕ × List ℕ)

@@ -1,5 +1,6 @@
 //! Which options of a select are chosen (WAP-191, section 11.6.2).
-ghost use Rattle.std.specs.Prelude.{◌≡◌, ◌==◌, ◌<◌, ◌++◌, [], ◌∷◌, ℕ, List, map, length, codes, if◌then◌else◌, IfOk, OnOk};
+ghost use Rattle.std.specs.Prelude.{◌≡◌, ◌==◌, ◌<◌, ◌++◌, [], ◌∷◌, ℕ, List, map};
+ghost use Rattle.std.specs.Prelude.{length, codes, if◌then◌else◌, IfOk, OnOk};
 ghost use Rattle.std.specs.List.{list_any, enumerate_from};
 ghost use Rattle.std.specs.Option.{option_and_then, option_or};
 ghost use Rattle.wap_base.specs.Texts.{is_same_text};
@@ -7,8 +8,11 @@ ghost use Rattle.wap_base.specs.Ascii.{digit_zero};
 ghost use Rattle.wap_base.specs.Cuts.{begins_with};
 ghost use Rattle.wap_filling.specs.Variables.{text_of};
 ghost use Rattle.wap_cardrules.specs.Values.{value_if, variable_in};
-ghost use Rattle.wap_cardrules.specs.Selects.{options_of, is_multiple, pieces_of, chosen, number_of, numbers_in, numbers_of, choice_if, iname_of, name_of};
-ghost use Rattle.wap_cardrules.specs.Selects.{choice_by_index, choice_by_value, first_choice, choice_of, turned_if, choice_with};
+ghost use Rattle.wap_cardrules.specs.Selects.{options_of, is_multiple, pieces_of, chosen};
+ghost use Rattle.wap_cardrules.specs.Selects.{number_of, numbers_in, numbers_of, choice_if};
+ghost use Rattle.wap_cardrules.specs.Selects.{iname_of, name_of};
+ghost use Rattle.wap_cardrules.specs.Selects.{choice_by_index, choice_by_value, first_choice};
+ghost use Rattle.wap_cardrules.specs.Selects.{choice_of, turned_if, choice_with};
 ghost use Rattle.wap_fields.specs.inside.Marking.{marked, number_if};
 
 use crate::options::{options_of, values_of};
@@ -311,7 +315,8 @@ fn given_choice(
     select: &View<'_>,
 ) -> Result<Option<Rows<bool>>, NoMemory>
     ensures { IfOk result (λ choice. choice ≡ option_or
-        (option_and_then (choice_by_index select.now) (value_if vars.now AttrName.Ivalue select.now))
+        (option_and_then (choice_by_index select.now)
+        (value_if vars.now AttrName.Ivalue select.now))
         (option_and_then (choice_by_value vars.now select.now)
         (value_if vars.now AttrName.Value select.now))) }
 {

@@ -5,7 +5,8 @@ ghost use Rattle.wap_base.specs.Ascii.{asterisk};
 ghost use Rattle.std.specs.Option.{option_map_or};
 ghost use Rattle.wap_mask.specs.Grammar.{any_text};
 ghost use Rattle.wap_cardrules.specs.Values.{is_empty};
-ghost use Rattle.wap_cardrules.specs.Inputs.{input_variable, input_text, input_mask, is_short, takes, is_password, shown_text};
+ghost use Rattle.wap_cardrules.specs.Inputs.{input_variable, input_text, input_mask};
+ghost use Rattle.wap_cardrules.specs.Inputs.{is_short, takes, is_password, shown_text};
 
 use std::alloc::Global;
 use wap_base::{NoMemory, Text};

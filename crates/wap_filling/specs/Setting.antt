@@ -1,6 +1,7 @@
 -- What setting a variable gives (WAP-191, section 10.3.4), and why it is refused. The two limits
 -- are this project's own.
-use Rattle.std.specs.Prelude.{ℕ, Bool, not, ◌&&◌, nat_lt, nat_le, if◌then◌else◌, List, length, is_some, Result, Ok, Err}
+use Rattle.std.specs.Prelude.{ℕ, Bool, not, ◌&&◌, nat_lt, nat_le, if◌then◌else◌, List}
+use Rattle.std.specs.Prelude.{length, is_some, Result, Ok, Err}
 use Rattle.wap_base.specs.Names.{is_name}
 use Rattle.wap_base.specs.Utf8.{utf8_len}
 use Rattle.wap_base.specs.declared.name.NameFault.{NameFault}

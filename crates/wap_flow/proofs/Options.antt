@@ -1,5 +1,6 @@
 -- The options of a select, one after another.
-use Rattle.std.proofs.Common.{◌≡◌, ℕ, ◌+◌, ◌<◌, min, Bool, false, List, ◌++◌, length, take, get_or, sym, ap, ap₂, ◌∙◌, arith}
+use Rattle.std.proofs.Common.{◌≡◌, ℕ, ◌+◌, ◌<◌, min, Bool, false, List, ◌++◌}
+use Rattle.std.proofs.Common.{length, take, get_or, sym, ap, ap₂, ◌∙◌, arith}
 use Rattle.std.specs.List.{flat_map, zip, enumerate_from}
 use Rattle.std.proofs.lemmas.List.{take_all, flat_map_more, get_or_default}
 use Rattle.std.proofs.lemmas.Slice.Zip.{length-zip, get_or-zip}

@@ -1,5 +1,5 @@
 -- The texts in an option, child by child.
-use Rattle.std.proofs.Common.{◌≡◌, List, ◌∷◌, ◌++◌, map, ap, ◌∙◌, append_assoc}
+use Rattle.std.proofs.Common.{◌≡◌, List, ◌∷◌, map, ap, append_assoc}
 use Rattle.std.specs.List.{filter_map, cons_option}
 use Rattle.wap_base.specs.declared.name.Part.{Part}
 use Rattle.wap_markup.specs.declared.deck.Node.{Node}

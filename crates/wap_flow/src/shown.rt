@@ -1,6 +1,7 @@
 //! What shows so far.
 ghost use Rattle.std.specs.Prelude.{◌≡◌, ◌∷◌, [], ◌+◌, IfOk, OnOk};
-ghost use Rattle.wap_cardrules.specs.Flow.{followed_by, with_field, with_mode, mode_of, begun, shown_with, nothing_shown};
+ghost use Rattle.wap_cardrules.specs.Flow.{followed_by, with_field, with_mode, mode_of};
+ghost use Rattle.wap_cardrules.specs.Flow.{begun, shown_with, nothing_shown};
 ghost use Rattle.wap_cards.specs.Lent.{mark_of};
 ghost use Rattle.wap_flow.specs.inside.Modes.{paragraph_mode};
 

@@ -1,22 +1,49 @@
 -- What the rows of the table say of the actions of their operations: what they take and give, and
 -- where it goes on.
-use Rattle.std.proofs.Common.{◌≡◌, ℕ, Bool, true, false, inl, inr, List, [], ◌∷◌, Some, refl, sym, subst}
+use Rattle.std.proofs.Common.{◌≡◌, ℕ, Bool, true, false, inl, inr, List}
+use Rattle.std.proofs.Common.{[], ◌∷◌, Some, refl, sym, subst}
 use Rattle.std.specs.List.{list_all, AllByRecursion}
 use Rattle.wap_code.specs.declared.row.Slot.{Slot}
 use Rattle.wap_code.specs.declared.row.Slot.TheVariants.{Absent, Low, Byte, Word}
 use Rattle.wap_code.specs.declared.row.Operands.{Operands}
-use Rattle.wap_code.specs.declared.row.Operands.TheVariants.{Plain, Variable, Constant, Function, Library, Address}
+use Rattle.wap_code.specs.declared.row.Operands.TheVariants.{Plain, Variable, Constant}
+use Rattle.wap_code.specs.declared.row.Operands.TheVariants.{Function, Library, Address}
 use Rattle.wap_code.specs.declared.row.Takes.{Takes}
 use Rattle.wap_code.specs.declared.row.Takes.TheVariants.{Values, Arguments}
 use Rattle.wap_code.specs.declared.row.After.{After}
-use Rattle.wap_code.specs.declared.row.After.TheVariants.{On, Forward, Backward, ForwardOrOn, BackwardOrOn, Pair, Leave}
+use Rattle.wap_code.specs.declared.row.After.TheVariants.{On, Forward, Backward, ForwardOrOn}
+use Rattle.wap_code.specs.declared.row.After.TheVariants.{BackwardOrOn, Pair, Leave}
 use Rattle.wap_code.specs.declared.row.Row.{Row}
 use Rattle.wap_code.specs.Rows.{rows}
 use Rattle.wap_code.specs.Instructions.{has_code, row_of}
 use Rattle.wap_asm.specs.Exact.{Among}
 use Rattle.wap_asm.proofs.Finding.{found, all_among}
 use Rattle.wap_execution.specs.declared.action.Action.{Action}
-use Rattle.wap_execution.specs.declared.action.Action.TheVariants.{Jump, JumpBack, JumpUnless, JumpBackUnless, ShortCircuit, CallLocal, CallLibrary, CallExternal, LoadVariable, StoreVariable, ChangeVariable, AssignVariable, LoadConstant, GiveInteger, GiveBoolean, GiveEmpty, GiveInvalid, Unary, Binary, Pop, Return, ReturnEmpty, Pass}
+use Rattle.wap_execution.specs.declared.action.Action.TheVariants.{
+  Jump,
+  JumpBack,
+  JumpUnless,
+  JumpBackUnless,
+  ShortCircuit,
+  CallLocal,
+  CallLibrary,
+  CallExternal,
+  LoadVariable,
+  StoreVariable,
+  ChangeVariable,
+  AssignVariable,
+  LoadConstant,
+  GiveInteger,
+  GiveBoolean,
+  GiveEmpty,
+  GiveInvalid,
+  Unary,
+  Binary,
+  Pop,
+  Return,
+  ReturnEmpty,
+  Pass,
+}
 use Rattle.wap_execution.specs.Actions.{action_of}
 use Rattle.wap_value.specs.declared.operator.BinOp.{BinOp}
 use Rattle.wap_value.specs.declared.operator.BinOp.TheVariants.{And, Or, Comma}
@@ -28,7 +55,8 @@ pub record Traits : Type 0 where
   pub after : After
 
 abbrev pub traits : Operands → Takes → ℕ → After → Traits
-traits operands takes gives after = record { operands = operands; takes = takes; gives = gives; after = after }
+traits operands takes gives after =
+    record { operands = operands; takes = takes; gives = gives; after = after }
 
 abbrev pub traits_of : Action → Traits
 traits_of Jump = traits Plain (Values 0) 0 Forward
@@ -56,19 +84,22 @@ traits_of ReturnEmpty = traits Plain (Values 0) 0 Leave
 traits_of Pass = traits Plain (Values 0) 0 On
 
 abbrev pub HasTraits : Row → Type 0
-HasTraits row = traits row.operands row.takes row.gives row.after ≡ traits_of (action_of row.operation)
+HasTraits row =
+    traits row.operands row.takes row.gives row.after ≡ traits_of (action_of row.operation)
 
 rows_have_traits : AllByRecursion HasTraits rows
 rows_have_traits = (refl, (refl, (refl, (refl, (refl, (refl, (refl, (refl, (refl, (refl, (refl, (refl, (refl, (refl, (refl, (refl, (refl, (refl, (refl, (refl, (refl, (refl, (refl, (refl, (refl, (refl, (refl, (refl, (refl, (refl, (refl, (refl, (refl, (refl, (refl, (refl, (refl, (refl, (refl, (refl, (refl, (refl, (refl, (refl, (refl, (refl, (refl, (refl, (refl, (refl, (refl, (refl, (refl, (refl, (refl, (refl, (refl, (refl, (refl, (refl, (refl, (refl, (refl, (refl, (refl, (refl, (refl, (refl, (refl, tt)))))))))))))))))))))))))))))))))))))))))))))))))))))))))))))))))))))
 
-each_among : (P : Row → Type 0) (all : List Row) (row : Row) → AllByRecursion P all → Among row all → P row
+each_among : (P : Row → Type 0) (all : List Row) (row : Row) → AllByRecursion P all
+    → Among row all → P row
 each_among P [] row each among = absurd among
 each_among P (other ∷ all) row each (inl same) = subst P (sym same) each.0
 each_among P (other ∷ all) row each (inr later) = each_among P all row each.1 later
 
 pub has_traits : (code : ℕ) (row : Row) → row_of code ≡ Some row → HasTraits row
 unfolding row_of
-has_traits code row is = each_among HasTraits rows row rows_have_traits (found (has_code code) rows row is).1
+has_traits code row is =
+    each_among HasTraits rows row rows_have_traits (found (has_code code) rows row is).1
 
 -- ---- which operands are short
 
@@ -96,6 +127,9 @@ is_fine _ row = true
 rows_are_fine : list_all (λ row. is_fine (action_of row.operation) row) rows ≡ true
 rows_are_fine = refl
 
-pub fine_row : (code : ℕ) (row : Row) → row_of code ≡ Some row → is_fine (action_of row.operation) row ≡ true
+pub fine_row : (code : ℕ) (row : Row) → row_of code ≡ Some row
+    → is_fine (action_of row.operation) row ≡ true
 unfolding row_of
-fine_row code row is = all_among (λ row. is_fine (action_of row.operation) row) rows row rows_are_fine (found (has_code code) rows row is).1
+fine_row code row is =
+    all_among (λ row. is_fine (action_of row.operation) row) rows row rows_are_fine
+    (found (has_code code) rows row is).1

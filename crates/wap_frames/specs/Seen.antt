@@ -5,7 +5,8 @@ use Rattle.wap_value.specs.declared.value.Value.{Value}
 use Rattle.wap_url.specs.declared.url.Url.{Url}
 use Rattle.wap_code.specs.declared.unit.Unit.{Unit}
 use Rattle.wap_execution.specs.Frames.{Function, Frame}
-use Rattle.wap_execution.specs.Effects.{Called, local, library, external, Effect, onward, back, calls, returns, ends}
+use Rattle.wap_execution.specs.Effects.{Called, local, library, external, Effect}
+use Rattle.wap_execution.specs.Effects.{onward, back, calls, returns, ends}
 use Rattle.wap_frames.specs.declared.script.Script.{Script}
 use Rattle.wap_frames.specs.declared.next.Callee.{Callee}
 use Rattle.wap_frames.specs.declared.next.Callee.TheVariants.{Local, Library, External}

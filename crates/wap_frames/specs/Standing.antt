@@ -8,7 +8,8 @@ use Rattle.wap_unit.specs.Spelling.{HasSpelling}
 use Rattle.wap_verify.specs.Paths.{Reaches}
 use Rattle.wap_verify.specs.Sound.{IsVerified}
 use Rattle.wap_execution.specs.Frames.{Function, Frame, code_at, begun}
-use Rattle.wap_execution.specs.Effects.{Called, local, library, external, Effect, onward, back, calls, returns, ends, stuck}
+use Rattle.wap_execution.specs.Effects.{Called, local, library, external, Effect}
+use Rattle.wap_execution.specs.Effects.{onward, back, calls, returns, ends, stuck}
 use Rattle.wap_execution.specs.Running.{at_place}
 
 -- there is such a function, and it takes so many arguments

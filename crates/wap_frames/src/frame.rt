@@ -1,5 +1,6 @@
 //! Functions at work.
-ghost use Rattle.std.specs.Prelude.{◌≡◌, [], ◌++◌, replicate, ◌+◌, ◌<◌, ◌≤◌, length, take, drop, reverse, slice_get, Some, IsTrue, ◌↔◌, IfOk, OnOk, MatchOption};
+ghost use Rattle.std.specs.Prelude.{◌≡◌, [], ◌++◌, replicate, ◌+◌, ◌<◌, ◌≤◌, length, take, drop};
+ghost use Rattle.std.specs.Prelude.{reverse, slice_get, Some, IsTrue, ◌↔◌, IfOk, OnOk, MatchOption};
 ghost use Rattle.std.specs.Arc.{arc_value};
 ghost use Rattle.wap_execution.specs.Frames.{code_of, pushed};
 ghost use Rattle.wap_base.specs.Limits.{IsStringLimit};

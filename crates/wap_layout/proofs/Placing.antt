@@ -1,5 +1,6 @@
 -- One more word after the lines so far, and the parts of a word that is longer than the width.
-use Rattle.std.proofs.Common.{◌≡◌, ℕ, ◌+◌, ◌≤◌, ◌<◌, List, [], ◌∷◌, ◌++◌, length, true, false, cond, refl, sym, ap, ◌∙◌, append_assoc, arith}
+use Rattle.std.proofs.Common.{◌≡◌, ℕ, ◌+◌, ◌≤◌, ◌<◌, List, [], ◌∷◌, ◌++◌, length, true}
+use Rattle.std.proofs.Common.{false, cond, refl, sym, ap, ◌∙◌, append_assoc, arith}
 use Rattle.std.specs.List.{flat_map}
 use Rattle.std.proofs.lemmas.Bool.Decides.{nat_tests}
 use Rattle.std.proofs.lemmas.List.{append-nil}
@@ -14,37 +15,53 @@ use Rattle.wap_layout.proofs.Filling.{parts_of, fill-first, fill-before}
 room-short : (width columns needed : ℕ) → has_room width columns needed ≡ true → needed ≤ width
 room-short width columns needed room = grind (arith, nat_tests)
 
-room-over : (width columns needed : ℕ) → 1 ≤ columns → has_room width columns needed ≡ false → width < columns + 1 + needed
+room-over : (width columns needed : ℕ) → 1 ≤ columns → has_room width columns needed ≡ false
+    → width < columns + 1 + needed
 room-over width columns needed some room = grind (arith, nat_tests)
 
 -- the parts of one word, or of none
-pub no_parts : (width : ℕ) (word : List ℕ) → length word ≡ 0 → flat_map (cut_word width) (unless_empty word) ≡ []
+pub no_parts : (width : ℕ) (word : List ℕ) → length word ≡ 0
+    → flat_map (cut_word width) (unless_empty word) ≡ []
 no_parts width [] none = refl
 no_parts width (c ∷ word) none = absurd (omega arith)
 
-pub some_parts : (width : ℕ) (word : List ℕ) → 1 ≤ length word → flat_map (cut_word width) (unless_empty word) ≡ cut_word width word
+pub some_parts : (width : ℕ) (word : List ℕ) → 1 ≤ length word
+    → flat_map (cut_word width) (unless_empty word) ≡ cut_word width word
 some_parts width [] some = absurd (omega arith)
 some_parts width (c ∷ word) some = append-nil (cut_word width (c ∷ word))
 
 -- it goes on the line
-pub word-follows : (width : ℕ) (line new word : List ℕ) (more : List (List ℕ)) → has_room width (length line) (length word) ≡ true → new ≡ line ++ 32 ∷ word → fill width new more ≡ fill width line (cut_word width word ++ more)
+pub word-follows : (width : ℕ) (line new word : List ℕ) (more : List (List ℕ))
+    → has_room width (length line) (length word) ≡ true → new ≡ line ++ 32 ∷ word
+    → fill width new more ≡ fill width line (cut_word width word ++ more)
 word-follows width line new word more room is =
     ap (λ l. fill width l more) is
-    ∙ sym (ap (λ fits. cond fits [] (unless_empty line) ++ fill width (cond fits (line ++ 32 ∷ word) word) more) room)
-    ∙ ap (λ parts. fill width line (parts ++ more)) (sym (cut_word-short width word (room-short width (length line) (length word) room)))
+    ∙ sym (ap (λ fits.
+    cond fits [] (unless_empty line) ++ fill width (cond fits (line ++ 32 ∷ word) word) more) room)
+    ∙ ap (λ parts. fill width line (parts ++ more))
+    (sym (cut_word-short width word (room-short width (length line) (length word) room)))
 
 -- or ends it
-pub word-begins : (width : ℕ) (line word : List ℕ) (more : List (List ℕ)) → 1 ≤ width → has_room width (length line) (length word) ≡ false
-    → fill width line (cut_word width word ++ more) ≡ unless_empty line ++ fill width [] (cut_word width word ++ more)
+pub word-begins : (width : ℕ) (line word : List ℕ) (more : List (List ℕ)) → 1 ≤ width
+    → has_room width (length line) (length word) ≡ false
+    → fill width line (cut_word width word ++ more)
+    ≡ unless_empty line ++ fill width [] (cut_word width word ++ more)
 word-begins width [] word more one room = refl
-word-begins width (c ∷ line) word more one room = fill-before width (c ∷ line) word more one (omega arith) (room-over width (length (c ∷ line)) (length word) (omega arith) room)
+word-begins width (c ∷ line) word more one room =
+    fill-before width (c ∷ line) word more one (omega arith)
+    (room-over width (length (c ∷ line)) (length word) (omega arith) room)
 
 -- and begins another
-pub word-alone : (width : ℕ) (word : List ℕ) (more : List (List ℕ)) → length word ≤ width → fill width [] (cut_word width word ++ more) ≡ fill width word more
-word-alone width word more short = ap (λ parts. fill width [] (parts ++ more)) (cut_word-short width word short) ∙ fill-first width word more
+pub word-alone : (width : ℕ) (word : List ℕ) (more : List (List ℕ)) → length word ≤ width
+    → fill width [] (cut_word width word ++ more) ≡ fill width word more
+word-alone width word more short =
+    ap (λ parts. fill width [] (parts ++ more)) (cut_word-short width word short)
+    ∙ fill-first width word more
 
 -- what it comes to where the line ended
-pub on_next_line : (width : ℕ) (lines new : List (List ℕ)) (line word : List ℕ) (more rest : List (List ℕ)) → 1 ≤ width → 1 ≤ length word → has_room width (length line) (length word) ≡ false
+pub on_next_line : (width : ℕ) (lines new : List (List ℕ)) (line word : List ℕ)
+    (more rest : List (List ℕ)) → 1 ≤ width → 1 ≤ length word
+    → has_room width (length line) (length word) ≡ false
     → new ++ rest ≡ (lines ++ unless_empty line) ++ fill width [] (cut_word width word ++ more)
     → new ++ rest ≡ lines ++ fill width line (flat_map (cut_word width) (unless_empty word) ++ more)
 on_next_line width lines new line word more rest one some room is =
@@ -55,44 +72,63 @@ on_next_line width lines new line word more rest one some room is =
 
 -- ---- the words of a text
 
-pub fill-step : (width : ℕ) (lines new : List (List ℕ)) (line next word : List ℕ) (left rest whole : List (List ℕ)) → left ≡ unless_empty word ++ rest
-    → ((more : List (List ℕ)) → new ++ fill width next more ≡ lines ++ fill width line (flat_map (cut_word width) (unless_empty word) ++ more))
-    → lines ++ fill width line (parts_of width left) ≡ whole → new ++ fill width next (parts_of width rest) ≡ whole
+pub fill-step : (width : ℕ) (lines new : List (List ℕ)) (line next word : List ℕ)
+    (left rest whole : List (List ℕ)) → left ≡ unless_empty word ++ rest
+    → ((more : List (List ℕ))
+    → new ++ fill width next more
+    ≡ lines ++ fill width line (flat_map (cut_word width) (unless_empty word) ++ more))
+    → lines ++ fill width line (parts_of width left) ≡ whole
+    → new ++ fill width next (parts_of width rest) ≡ whole
 fill-step width lines new line next word left rest whole is step was =
     step (parts_of width rest)
-    ∙ ap (λ parts. lines ++ fill width line parts) (sym (flat_map-append (cut_word width) (unless_empty word) rest) ∙ ap (parts_of width) (sym is))
+    ∙ ap (λ parts. lines ++ fill width line parts)
+    (sym (flat_map-append (cut_word width) (unless_empty word) rest) ∙ ap (parts_of width) (sym is))
     ∙ was
 
 -- ---- the parts of a word
 
-fill-full : (width : ℕ) (part : List ℕ) (c : ℕ) (rest : List ℕ) (more : List (List ℕ)) → 1 ≤ width → length part ≡ width
-    → fill width [] (cut_word width (part ++ c ∷ rest) ++ more) ≡ part ∷ fill width [] (cut_word width (c ∷ rest) ++ more)
+fill-full : (width : ℕ) (part : List ℕ) (c : ℕ) (rest : List ℕ) (more : List (List ℕ)) → 1 ≤ width
+    → length part ≡ width
+    → fill width [] (cut_word width (part ++ c ∷ rest) ++ more)
+    ≡ part ∷ fill width [] (cut_word width (c ∷ rest) ++ more)
 fill-full width part c rest more one full =
     ap (λ parts. fill width [] (parts ++ more)) (cut_word-at_width width part c rest full one)
     ∙ fill-first width part (cut_word width (c ∷ rest) ++ more)
     ∙ fill-before width part (c ∷ rest) more one (omega (arith, full)) (omega (arith, full))
 
 -- a part is as long as the width, and the word goes on
-pub cut-full : (lines new : List (List ℕ)) (part next left rest : List ℕ) (c width : ℕ) (more whole : List (List ℕ)) → 1 ≤ width → length part ≡ width → new ≡ lines ++ part ∷ [] → next ≡ c ∷ [] → left ≡ c ∷ rest
-    → lines ++ fill width [] (cut_word width (part ++ left) ++ more) ≡ whole → new ++ fill width [] (cut_word width (next ++ rest) ++ more) ≡ whole
+pub cut-full : (lines new : List (List ℕ)) (part next left rest : List ℕ) (c width : ℕ)
+    (more whole : List (List ℕ)) → 1 ≤ width → length part ≡ width → new ≡ lines ++ part ∷ []
+    → next ≡ c ∷ [] → left ≡ c ∷ rest
+    → lines ++ fill width [] (cut_word width (part ++ left) ++ more) ≡ whole
+    → new ++ fill width [] (cut_word width (next ++ rest) ++ more) ≡ whole
 cut-full lines new part next left rest c width more whole one full ends starts turn was =
     ap (λ p. new ++ fill width [] (cut_word width (p ++ rest) ++ more)) starts
     ∙ ap (λ ls. ls ++ fill width [] (cut_word width (c ∷ rest) ++ more)) ends
     ∙ append_assoc lines (part ∷ []) (fill width [] (cut_word width (c ∷ rest) ++ more))
-    ∙ ap (λ ls. lines ++ ls) (sym (fill-full width part c rest more one full) ∙ ap (λ l. fill width [] (cut_word width (part ++ l) ++ more)) (sym turn))
+    ∙ ap (λ ls. lines ++ ls) (sym (fill-full width part c rest more one full)
+    ∙ ap (λ l. fill width [] (cut_word width (part ++ l) ++ more)) (sym turn))
     ∙ was
 
 -- a part takes a character
-pub cut-more : (lines new : List (List ℕ)) (part next left rest : List ℕ) (c width : ℕ) (more whole : List (List ℕ)) → new ≡ lines → next ≡ part ++ c ∷ [] → left ≡ c ∷ rest
-    → lines ++ fill width [] (cut_word width (part ++ left) ++ more) ≡ whole → new ++ fill width [] (cut_word width (next ++ rest) ++ more) ≡ whole
+pub cut-more : (lines new : List (List ℕ)) (part next left rest : List ℕ) (c width : ℕ)
+    (more whole : List (List ℕ)) → new ≡ lines → next ≡ part ++ c ∷ [] → left ≡ c ∷ rest
+    → lines ++ fill width [] (cut_word width (part ++ left) ++ more) ≡ whole
+    → new ++ fill width [] (cut_word width (next ++ rest) ++ more) ≡ whole
 cut-more lines new part next left rest c width more whole same goes_on turn was =
     ap (λ ls. ls ++ fill width [] (cut_word width (next ++ rest) ++ more)) same
     ∙ ap (λ p. lines ++ fill width [] (cut_word width (p ++ rest) ++ more)) goes_on
-    ∙ ap (λ w. lines ++ fill width [] (cut_word width w ++ more)) (append_assoc part (c ∷ []) rest ∙ ap (λ l. part ++ l) (sym turn))
+    ∙ ap (λ w. lines ++ fill width [] (cut_word width w ++ more))
+    (append_assoc part (c ∷ []) rest ∙ ap (λ l. part ++ l) (sym turn))
     ∙ was
 
 -- the last part is no longer than the width
-pub cut-end : (lines : List (List ℕ)) (part left : List ℕ) (width : ℕ) (more whole : List (List ℕ)) → length part ≤ width → left ≡ []
-    → lines ++ fill width [] (cut_word width (part ++ left) ++ more) ≡ whole → lines ++ fill width part more ≡ whole
+pub cut-end : (lines : List (List ℕ)) (part left : List ℕ) (width : ℕ) (more whole : List (List ℕ))
+    → length part ≤ width → left ≡ []
+    → lines ++ fill width [] (cut_word width (part ++ left) ++ more) ≡ whole
+    → lines ++ fill width part more ≡ whole
 cut-end lines part left width more whole short turn was =
-    ap (λ ls. lines ++ ls) (sym (word-alone width part more short) ∙ ap (λ w. fill width [] (cut_word width w ++ more)) (sym (append-nil part) ∙ ap (λ l. part ++ l) (sym turn))) ∙ was
+    ap (λ ls. lines ++ ls)
+    (sym (word-alone width part more short) ∙ ap (λ w. fill width [] (cut_word width w ++ more))
+    (sym (append-nil part) ∙ ap (λ l. part ++ l) (sym turn)))
+    ∙ was

@@ -1,5 +1,7 @@
 -- Texts that are cut at a character of US-ASCII, in their UTF-8.
-use Rattle.std.proofs.Common.{◌≡◌, ℕ, ◌+◌, ◌<◌, Bool, true, false, List, [], ◌∷◌, ◌++◌, length, take, drop, get_or, Option, Some, None, refl, ap, ap₂, sym, ◌∙◌, subst, append_assoc, arith, Bor}
+use Rattle.std.proofs.Common.{◌≡◌, ℕ, ◌+◌, ◌<◌, Bool, true, false, List, [], ◌∷◌, ◌++◌}
+use Rattle.std.proofs.Common.{length, take, drop, get_or, Option, Some, None, refl, ap, ap₂}
+use Rattle.std.proofs.Common.{sym, ◌∙◌, subst, append_assoc, arith, Bor}
 use Rattle.std.specs.Prelude.{filter}
 use Rattle.std.specs.List.{slice_split, list_any, flat_map}
 use Rattle.std.specs.Option.{MatchOption}
@@ -7,8 +9,12 @@ use Rattle.std.specs.Str.{chars, IsUtf8, NoCharPasses, NonePass}
 use Rattle.std.specs.Str.Pattern.{FindsBy, FindsChar, SplitsAroundMatch}
 use Rattle.std.proofs.lemmas.Bool.{or_from}
 use Rattle.std.proofs.lemmas.Bool.Decides.{nat_tests}
-use Rattle.std.proofs.lemmas.List.{append-nil, length-append, take_at, drop_at, get_or_at, take-append-drop}
-use Rattle.std.proofs.lemmas.Str.{chars-append, chars_past_char, IsUtf8-append, IsUtf8-from_ascii, encode_ascii, IsUtf8-take, IsUtf8-drop, IsCharBoundary-before_ascii, IsCharBoundary-after_ascii, encodes-chars, encodes_same}
+use Rattle.std.proofs.lemmas.List.{append-nil, length-append, take_at}
+use Rattle.std.proofs.lemmas.List.{drop_at, get_or_at, take-append-drop}
+use Rattle.std.proofs.lemmas.Str.{chars-append, chars_past_char, IsUtf8-append}
+use Rattle.std.proofs.lemmas.Str.{IsUtf8-from_ascii, encode_ascii, IsUtf8-take, IsUtf8-drop}
+use Rattle.std.proofs.lemmas.Str.{IsCharBoundary-before_ascii, IsCharBoundary-after_ascii}
+use Rattle.std.proofs.lemmas.Str.{encodes-chars, encodes_same}
 use Rattle.std.proofs.lemmas.Str.Ascii.{IsAscii-cons, IsAscii-nil}
 use Rattle.std.proofs.lemmas.Str.Pattern.{drop_at_char}
 use Rattle.wap_base.proofs.Splits.{HasFirst, HasFirst-split, split-append, split-none}
@@ -32,64 +38,97 @@ none_any : (test : ℕ → Bool) (cs : List ℕ) → NonePass test cs → list_a
 none_any test [] none = refl
 none_any test (c ∷ cs) none = or_from (test c) (list_any test cs) none.0 (none_any test cs none.1)
 
-none_passes : (test : ℕ → Bool) (bytes : List ℕ) → IsUtf8 bytes → NoCharPasses test bytes → list_any test (chars bytes) ≡ false
+none_passes : (test : ℕ → Bool) (bytes : List ℕ) → IsUtf8 bytes → NoCharPasses test bytes
+    → list_any test (chars bytes) ≡ false
 none_passes test bytes text none =
-    ap (list_any test) (sym (encodes_same none.0 (chars bytes) (none.1 ∙ sym (encodes-chars bytes text)))) ∙ none_any test none.0 none.2
+    ap (list_any test)
+    (sym (encodes_same none.0 (chars bytes) (none.1 ∙ sym (encodes-chars bytes text))))
+    ∙ none_any test none.0 none.2
 
-cut_at : (test : ℕ → Bool) (bytes front back : List ℕ) (c : ℕ) → IsUtf8 bytes → bytes ≡ front ++ c ∷ back → c < 128 → test c ≡ true → NoCharPasses test front → Cut test bytes front back
+cut_at : (test : ℕ → Bool) (bytes front back : List ℕ) (c : ℕ) → IsUtf8 bytes
+    → bytes
+    ≡ front ++ c ∷ back
+    → c < 128 → test c ≡ true → NoCharPasses test front → Cut test bytes front back
 cut_at test bytes front back c text is ascii passes none =
-    let within : length front < length bytes = omega (arith, ap length is, length-append front (c ∷ back)) in
-    let at : get_or bytes (length front) 0 ≡ c = ap (λ bs. get_or bs (length front) 0) is ∙ get_or_at front c back 0 (length front) refl in
-    let front_text : IsUtf8 front = subst IsUtf8 (ap (take (length front)) is ∙ take_at front (c ∷ back) (length front) refl) (IsUtf8-take bytes (length front) text (IsCharBoundary-before_ascii bytes (length front) within (omega arith))) in
-    let back_text : IsUtf8 back = subst IsUtf8 (ap (drop (length front + 1)) (is ∙ sym (append_assoc front (c ∷ []) back)) ∙ drop_at (front ++ c ∷ []) back (length front + 1) (length-append front (c ∷ []))) (IsUtf8-drop bytes (length front + 1) text (IsCharBoundary-after_ascii bytes (length front) text within (omega arith))) in
+    let within : length front < length bytes =
+    omega (arith, ap length is, length-append front (c ∷ back)) in
+    let at : get_or bytes (length front) 0 ≡ c =
+    ap (λ bs. get_or bs (length front) 0) is ∙ get_or_at front c back 0 (length front) refl in
+    let front_text : IsUtf8 front =
+    subst IsUtf8 (ap (take (length front)) is ∙ take_at front (c ∷ back) (length front) refl)
+    (IsUtf8-take bytes (length front) text
+    (IsCharBoundary-before_ascii bytes (length front) within (omega arith))) in
+    let back_text : IsUtf8 back =
+    subst IsUtf8 (ap (drop (length front + 1)) (is ∙ sym (append_assoc front (c ∷ []) back))
+    ∙ drop_at (front ++ c ∷ []) back (length front + 1) (length-append front (c ∷ [])))
+    (IsUtf8-drop bytes (length front + 1) text
+    (IsCharBoundary-after_ascii bytes (length front) text within (omega arith))) in
     record {
       at = c;
       passes = passes;
       none = none_passes test front front_text none;
-      chars_are = ap chars is ∙ chars-append front (c ∷ back) front_text ∙ ap (λ cs. chars front ++ cs)
-          (chars_past_char (c ∷ back) back c (IsUtf8-append (c ∷ []) back (IsUtf8-from_ascii (c ∷ []) (IsAscii-cons c [] ascii IsAscii-nil)) back_text) (sym (ap (λ bs. bs ++ back) (encode_ascii c ascii))));
+      chars_are =
+          ap chars is ∙ chars-append front (c ∷ back) front_text ∙ ap (λ cs. chars front ++ cs)
+          (chars_past_char (c ∷ back) back c (IsUtf8-append (c ∷ []) back
+          (IsUtf8-from_ascii (c ∷ []) (IsAscii-cons c [] ascii IsAscii-nil)) back_text)
+          (sym (ap (λ bs. bs ++ back) (encode_ascii c ascii))));
       back_text = back_text;
       shorter = omega (arith, ap length is, length-append front (c ∷ back));
     }
 
 -- `split_once` cuts there
-cut_first : (test : ℕ → Bool) (bytes front back : List ℕ) → ((c : ℕ) → test c ≡ true → c < 128) → IsUtf8 bytes → SplitsAroundMatch (FindsBy test) bytes front back → Cut test bytes front back
+cut_first : (test : ℕ → Bool) (bytes front back : List ℕ) → ((c : ℕ) → test c ≡ true → c < 128)
+    → IsUtf8 bytes → SplitsAroundMatch (FindsBy test) bytes front back → Cut test bytes front back
 cut_first test bytes front back ascii text found =
     let c = found.2.1.0 in
     let small : c < 128 = ascii c found.2.1.1 in
     let is : bytes ≡ front ++ c ∷ back =
-    sym (take-append-drop found.0 bytes) ∙ ap (λ rest. take found.0 bytes ++ rest) (drop_at_char c bytes found.0 found.1 found.2.1.2 small)
+    sym (take-append-drop found.0 bytes) ∙ ap (λ rest. take found.0 bytes ++ rest)
+    (drop_at_char c bytes found.0 found.1 found.2.1.2 small)
     ∙ ap₂ (λ (before after : List ℕ). before ++ c ∷ after) (sym found.3) (sym found.4) in
-    cut_at test bytes front back c text is small found.2.1.1 (subst (NoCharPasses test) (sym found.3) found.2.0)
+    cut_at test bytes front back c text is small found.2.1.1
+    (subst (NoCharPasses test) (sym found.3) found.2.0)
 
 -- ---- words
 
 blank_ascii : (c : ℕ) → is_blank c ≡ true → c < 128
 blank_ascii c blank = grind (arith, nat_tests)
 
-words_cut : (bytes front back : List ℕ) → Cut is_blank bytes front back → IsCutAtBlank bytes front back
+words_cut : (bytes front back : List ℕ) → Cut is_blank bytes front back
+    → IsCutAtBlank bytes front back
 words_cut bytes front back cut = record {
   words_are = ap words_of cut.chars_are
-      ∙ ap (filter is_word) (split-append is_blank (chars front) cut.at (chars back) cut.passes ∙ ap (λ parts. parts ++ slice_split is_blank (chars back)) (split-none is_blank (chars front) cut.none))
+      ∙ ap (filter is_word) (split-append is_blank (chars front) cut.at (chars back) cut.passes
+      ∙ ap (λ parts. parts ++ slice_split is_blank (chars back))
+      (split-none is_blank (chars front) cut.none))
       ∙ filter-word (chars front) (slice_split is_blank (chars back));
   back_text = cut.back_text;
   shorter = cut.shorter;
 }
 
-words_none : (bytes : List ℕ) → list_any is_blank (chars bytes) ≡ false → words_of (chars bytes) ≡ unless_empty (chars bytes)
-words_none bytes none = ap (filter is_word) (split-none is_blank (chars bytes) none) ∙ filter-word (chars bytes) [] ∙ append-nil (unless_empty (chars bytes))
+words_none : (bytes : List ℕ) → list_any is_blank (chars bytes) ≡ false
+    → words_of (chars bytes) ≡ unless_empty (chars bytes)
+words_none bytes none =
+    ap (filter is_word) (split-none is_blank (chars bytes) none) ∙ filter-word (chars bytes) []
+    ∙ append-nil (unless_empty (chars bytes))
 
 -- where one of the tests is passed
 abbrev pub FindsByAny : ((ℕ → Bool) → Type 0) → List ℕ → Option (ℕ × ℕ) → Type 0
 FindsByAny matches bytes found = (test : ℕ → Bool) → matches test → FindsBy test bytes found
 
 -- what `split_once` gives at a test that is `is_blank`
-pub blank_cut : (matches : (ℕ → Bool) → Type 0) (bytes : List ℕ) (result : Option (Bor (List ℕ) × Bor (List ℕ))) → IsUtf8 bytes
-    → MatchOption result (FindsByAny matches bytes None) (λ cut. SplitsAroundMatch (FindsByAny matches) bytes cut.0.now cut.1.now) → matches is_blank
-    → MatchOption result (words_of (chars bytes) ≡ unless_empty (chars bytes)) (λ cut. IsCutAtBlank bytes cut.0.now cut.1.now)
-blank_cut matches bytes None text found blank = words_none bytes (none_passes is_blank bytes text (found is_blank blank))
+pub blank_cut : (matches : (ℕ → Bool) → Type 0) (bytes : List ℕ)
+    (result : Option (Bor (List ℕ) × Bor (List ℕ))) → IsUtf8 bytes
+    → MatchOption result (FindsByAny matches bytes None)
+    (λ cut. SplitsAroundMatch (FindsByAny matches) bytes cut.0.now cut.1.now)
+    → matches is_blank
+    → MatchOption result (words_of (chars bytes) ≡ unless_empty (chars bytes))
+    (λ cut. IsCutAtBlank bytes cut.0.now cut.1.now)
+blank_cut matches bytes None text found blank =
+    words_none bytes (none_passes is_blank bytes text (found is_blank blank))
 blank_cut matches bytes (Some cut) text found blank =
-    words_cut bytes cut.0.now cut.1.now (cut_first is_blank bytes cut.0.now cut.1.now blank_ascii text (found.0, found.1, found.2 is_blank blank, found.3, found.4, found.5, found.6, found.7))
+    words_cut bytes cut.0.now cut.1.now (cut_first is_blank bytes cut.0.now cut.1.now blank_ascii
+    text (found.0, found.1, found.2 is_blank blank, found.3, found.4, found.5, found.6, found.7))
 
 -- ---- lines of a preformatted text
 
@@ -97,12 +136,15 @@ blank_cut matches bytes (Some cut) text found blank =
 abbrev pub kept_piece : List ℕ → Bool → Piece
 kept_piece line hard = record { mode = Preformatted; text = line; is_hard = hard }
 
-kept-first : (line : List ℕ) (parts : List (List ℕ)) (hard : Bool) → HasFirst parts → kept (line ∷ parts) hard ≡ kept_piece line true ∷ kept parts hard
+kept-first : (line : List ℕ) (parts : List (List ℕ)) (hard : Bool) → HasFirst parts
+    → kept (line ∷ parts) hard ≡ kept_piece line true ∷ kept parts hard
 kept-first line [] hard some = absurd (let e = some.is in cc)
 kept-first line (part ∷ parts) hard some = refl
 
 pub record KeptCut (bytes front back : List ℕ) : Type 0 where
-  pub kept_are : (hard : Bool) → kept (slice_split is_line_feed (chars bytes)) hard ≡ kept_piece (chars front) true ∷ kept (slice_split is_line_feed (chars back)) hard
+  pub kept_are : (hard : Bool)
+      → kept (slice_split is_line_feed (chars bytes)) hard
+      ≡ kept_piece (chars front) true ∷ kept (slice_split is_line_feed (chars back)) hard
   pub back_text : IsUtf8 back
   pub shorter : length back < length bytes
 
@@ -110,32 +152,54 @@ feed_ascii : (c : ℕ) → is_line_feed c ≡ true → c < 128
 feed_ascii c feed = grind (arith, nat_tests)
 
 -- what `split_once` gives at a line feed
-pub feed_cut : (bytes front back : List ℕ) → IsUtf8 bytes → SplitsAroundMatch (FindsChar 10) bytes front back → KeptCut bytes front back
+pub feed_cut : (bytes front back : List ℕ) → IsUtf8 bytes
+    → SplitsAroundMatch (FindsChar 10) bytes front back → KeptCut bytes front back
 feed_cut bytes front back text found =
-    let cut = cut_first is_line_feed bytes front back feed_ascii text (found.0, found.1, (found.2.0, (10, refl, found.2.1)), found.3, found.4, found.5, found.6, found.7) in
+    let cut = cut_first is_line_feed bytes front back feed_ascii text (
+      found.0,
+      found.1,
+      (found.2.0, (10, refl, found.2.1)),
+      found.3,
+      found.4,
+      found.5,
+      found.6,
+      found.7,
+    ) in
     record {
       kept_are = λ hard. ap (λ cs. kept (slice_split is_line_feed cs) hard) cut.chars_are
-          ∙ ap (λ parts. kept parts hard) (split-append is_line_feed (chars front) cut.at (chars back) cut.passes ∙ ap (λ parts. parts ++ slice_split is_line_feed (chars back)) (split-none is_line_feed (chars front) cut.none))
-          ∙ kept-first (chars front) (slice_split is_line_feed (chars back)) hard (HasFirst-split is_line_feed (chars back));
+          ∙ ap (λ parts. kept parts hard)
+          (split-append is_line_feed (chars front) cut.at (chars back) cut.passes
+          ∙ ap (λ parts. parts ++ slice_split is_line_feed (chars back))
+          (split-none is_line_feed (chars front) cut.none))
+          ∙ kept-first (chars front) (slice_split is_line_feed (chars back)) hard
+          (HasFirst-split is_line_feed (chars back));
       back_text = cut.back_text;
       shorter = cut.shorter;
     }
 
 -- the lines of a text, and of what is left of it
 abbrev lines_of_kept : ℕ → List ℕ → Bool → List (List ℕ)
-lines_of_kept width bytes hard = flat_map (piece_lines width) (kept (slice_split is_line_feed (chars bytes)) hard)
+lines_of_kept width bytes hard =
+    flat_map (piece_lines width) (kept (slice_split is_line_feed (chars bytes)) hard)
 
-pub kept-step : (width : ℕ) (hard : Bool) (lines new : List (List ℕ)) (bytes front back : List ℕ) (whole : List (List ℕ)) → new ≡ lines ++ piece_lines width (kept_piece (chars front) true) → KeptCut bytes front back
+pub kept-step : (width : ℕ) (hard : Bool) (lines new : List (List ℕ)) (bytes front back : List ℕ)
+    (whole : List (List ℕ)) → new ≡ lines ++ piece_lines width (kept_piece (chars front) true)
+    → KeptCut bytes front back
     → lines ++ lines_of_kept width bytes hard ≡ whole → new ++ lines_of_kept width back hard ≡ whole
 kept-step width hard lines new bytes front back whole is cut was =
     ap (λ ls. ls ++ lines_of_kept width back hard) is
-    ∙ append_assoc lines (piece_lines width (kept_piece (chars front) true)) (lines_of_kept width back hard)
+    ∙ append_assoc lines (piece_lines width (kept_piece (chars front) true))
+    (lines_of_kept width back hard)
     ∙ ap (λ pieces. lines ++ flat_map (piece_lines width) pieces) (sym (cut.kept_are hard))
     ∙ was
 
-pub kept-end : (width : ℕ) (hard : Bool) (lines : List (List ℕ)) (bytes : List ℕ) (whole : List (List ℕ)) → IsUtf8 bytes → FindsChar 10 bytes None
-    → lines ++ lines_of_kept width bytes hard ≡ whole → lines ++ piece_lines width (kept_piece (chars bytes) hard) ≡ whole
+pub kept-end : (width : ℕ) (hard : Bool) (lines : List (List ℕ)) (bytes : List ℕ)
+    (whole : List (List ℕ)) → IsUtf8 bytes → FindsChar 10 bytes None
+    → lines ++ lines_of_kept width bytes hard ≡ whole
+    → lines ++ piece_lines width (kept_piece (chars bytes) hard) ≡ whole
 kept-end width hard lines bytes whole text none was =
     ap (λ ls. lines ++ ls) (sym (append-nil (piece_lines width (kept_piece (chars bytes) hard))))
-    ∙ ap (λ pieces. lines ++ flat_map (piece_lines width) pieces) (sym (ap (λ parts. kept parts hard) (split-none is_line_feed (chars bytes) (none_passes is_line_feed bytes text none))))
+    ∙ ap (λ pieces. lines ++ flat_map (piece_lines width) pieces)
+    (sym (ap (λ parts. kept parts hard)
+    (split-none is_line_feed (chars bytes) (none_passes is_line_feed bytes text none))))
     ∙ was

@@ -1,5 +1,6 @@
 -- The same lines by calculation.
-use Rattle.std.specs.Prelude.{◌≡◌, ℕ, zero, suc, ◌+◌, Bool, ◌&&◌, nat_lt, nat_le, if◌then◌else◌, List, [], ◌∷◌, ◌++◌, length, take, drop, map}
+use Rattle.std.specs.Prelude.{◌≡◌, ℕ, zero, suc, ◌+◌, Bool, ◌&&◌, nat_lt, nat_le, if◌then◌else◌}
+use Rattle.std.specs.Prelude.{List, [], ◌∷◌, ◌++◌, length, take, drop, map}
 use Rattle.std.specs.List.{flat_map}
 use Rattle.wap_layout.specs.declared.flow.Flow.{Flow}
 use Rattle.wap_layout.specs.declared.flow.Mode.{Mode}
@@ -11,7 +12,9 @@ use Rattle.wap_layout.specs.Layout.{closed}
 -- a word cut at the width, so many times at most
 abbrev pub cut_at : ℕ → ℕ → List ℕ → List (List ℕ)
 cut_at width zero word = word ∷ []
-cut_at width (suc times) word = if nat_le (length word) width then word ∷ [] else take width word ∷ cut_at width times (drop width word)
+cut_at width (suc times) word =
+    if nat_le (length word) width then word ∷ []
+    else take width word ∷ cut_at width times (drop width word)
 
 abbrev pub cut_word : ℕ → List ℕ → List (List ℕ)
 cut_word width word = cut_at width (length word) word
@@ -20,7 +23,9 @@ cut_word width word = cut_at width (length word) word
 -- line.
 abbrev pub HoldsInOrder : ℕ → List (List ℕ) → List (List ℕ) → Type 0
 HoldsInOrder width words lines =
-    (groups : List (List (List ℕ))) × (flat_map (λ group. group) groups ≡ flat_map (cut_word width) words) × (lines ≡ map joined groups)
+    (groups : List (List (List ℕ)))
+    × (flat_map (λ group. group) groups ≡ flat_map (cut_word width) words)
+    × (lines ≡ map joined groups)
 
 -- a line of so many columns has room for one more word, of so many
 abbrev pub has_room : ℕ → ℕ → ℕ → Bool
@@ -31,7 +36,8 @@ abbrev pub fill : ℕ → List ℕ → List (List ℕ) → List (List ℕ)
 fill width line [] = unless_empty line
 fill width line (word ∷ words) =
     let room = has_room width (length line) (length word) in
-    (if room then [] else unless_empty line) ++ fill width (if room then line ++ 32 ∷ word else word) words
+    (if room then [] else unless_empty line)
+    ++ fill width (if room then line ++ 32 ∷ word else word) words
 
 abbrev pub filled : ℕ → List (List ℕ) → List (List ℕ)
 filled width words = fill width [] (flat_map (cut_word width) words)

@@ -17,7 +17,8 @@ pub record Piece : Type 0 where
 abbrev pub kept : List (List ℕ) → Bool → List Piece
 kept [] hard = []
 kept (text ∷ []) hard = record { mode = Preformatted; text = text; is_hard = hard } ∷ []
-kept (text ∷ next ∷ rest) hard = record { mode = Preformatted; text = text; is_hard = true } ∷ kept (next ∷ rest) hard
+kept (text ∷ next ∷ rest) hard =
+    record { mode = Preformatted; text = text; is_hard = true } ∷ kept (next ∷ rest) hard
 
 -- a text that ends: in a preformatted one a line feed is a hard break
 abbrev pub ended : Mode → List ℕ → Bool → List Piece

@@ -1,5 +1,6 @@
 -- White space and parts of a text, by characters (WAP-194, "String").
-use Rattle.std.specs.Prelude.{ℕ, Bool, false, ◌==◌, ◌||◌, ◌&&◌, if◌then◌else◌, List, [], ◌∷◌, length, take, drop}
+use Rattle.std.specs.Prelude.{ℕ, Bool, false, ◌==◌, ◌||◌, ◌&&◌, if◌then◌else◌, List}
+use Rattle.std.specs.Prelude.{[], ◌∷◌, length, take, drop}
 use Rattle.std.specs.Int.{is_in_range}
 use Rattle.std.specs.List.{prefix_len}
 
@@ -18,7 +19,8 @@ part s start count = take count (drop start s)
 -- each run of white space becomes one space, which stands for the last of the run
 abbrev pub squeezed : List ℕ → List ℕ
 squeezed [] = []
-squeezed (c ∷ s) = if is_blank c then (if begins_blank s then squeezed s else 32 ∷ squeezed s) else c ∷ squeezed s
+squeezed (c ∷ s) =
+    if is_blank c then (if begins_blank s then squeezed s else 32 ∷ squeezed s) else c ∷ squeezed s
 
 -- a text without the white space at its beginning, and at its end
 abbrev pub behind_blanks : List ℕ → List ℕ
@@ -26,7 +28,8 @@ behind_blanks s = drop (prefix_len is_blank s) s
 
 abbrev pub before_blanks : List ℕ → List ℕ
 before_blanks [] = []
-before_blanks (c ∷ s) = if is_blank c && length (before_blanks s) == 0 then [] else c ∷ before_blanks s
+before_blanks (c ∷ s) =
+    if is_blank c && length (before_blanks s) == 0 then [] else c ∷ before_blanks s
 
 abbrev pub trimmed : List ℕ → List ℕ
 trimmed s = before_blanks (behind_blanks s)

@@ -1,6 +1,7 @@
 -- A text as a list of elements (WAP-194, "String"): what stands between the occurrences of one
 -- character.
-use Rattle.std.specs.Prelude.{ℕ, ◌-◌, ◌==◌, if◌then◌else◌, min, List, [], length, slice_index_or, slice_set, insert, remove}
+use Rattle.std.specs.Prelude.{ℕ, ◌-◌, ◌==◌, if◌then◌else◌, min, List, [], length}
+use Rattle.std.specs.Prelude.{slice_index_or, slice_set, insert, remove}
 use Rattle.std.specs.List.{slice_split, join_with_byte}
 
 -- the elements; the empty text has one, which is empty
@@ -19,10 +20,14 @@ abbrev pub element_at : ℕ → ℕ → List ℕ → List ℕ
 element_at separator k s = let es = elements separator s in slice_index_or es (within es k) []
 
 abbrev pub without_element : ℕ → ℕ → List ℕ → List ℕ
-without_element separator k s = let es = elements separator s in joined separator (remove es (within es k))
+without_element separator k s =
+    let es = elements separator s in
+    joined separator (remove es (within es k))
 
 abbrev pub with_element : ℕ → ℕ → List ℕ → List ℕ → List ℕ
-with_element separator k new s = let es = elements separator s in joined separator (slice_set es (within es k) new)
+with_element separator k new s =
+    let es = elements separator s in
+    joined separator (slice_set es (within es k) new)
 
 -- the new element stands before the one at the place, or at the end; the empty text becomes the new
 -- element

@@ -1,7 +1,9 @@
 -- The library Float (WAP-194, "Float"): there are no Floats, so each function gives invalid.
 use Rattle.wap_value.specs.declared.value.Value.TheVariants.{Invalid}
 use Rattle.wap_library.specs.declared.function.FloatFunction.{FloatFunction}
-use Rattle.wap_library.specs.declared.function.FloatFunction.TheVariants.{Int, Floor, Ceil, Pow, Round, Sqrt, MaxFloat, MinFloat}
+use Rattle.wap_library.specs.declared.function.FloatFunction.TheVariants.{Int, Floor, Ceil, Pow}
+use Rattle.wap_library.specs.declared.function.FloatFunction.TheVariants.{Round, Sqrt, MaxFloat}
+use Rattle.wap_library.specs.declared.function.FloatFunction.TheVariants.{MinFloat}
 use Rattle.wap_library.specs.Row.{Formula, of_none, of_one, of_two}
 
 abbrev pub formula_of_float : FloatFunction → Formula

@@ -1,5 +1,6 @@
 -- What is written of a value into a format (WAP-194, "format").
-use Rattle.std.specs.Prelude.{ℕ, zero, suc, ◌-◌, List, [], ◌∷◌, ◌++◌, length, take, replicate, ℤ, pos, negsuc, Option, Some, None, option_map}
+use Rattle.std.specs.Prelude.{ℕ, zero, suc, ◌-◌, List, [], ◌∷◌, ◌++◌, length, take, replicate}
+use Rattle.std.specs.Prelude.{ℤ, pos, negsuc, Option, Some, None, option_map}
 use Rattle.std.specs.Fmt.{decimal}
 use Rattle.wap_value.specs.declared.value.Value.{Value}
 use Rattle.wap_value.specs.Conversion.{integer_of, text_of}
@@ -43,7 +44,8 @@ converted Float precision v = None
 converted String precision v = option_map (cut precision) (text_of v)
 
 abbrev pub written : Specifier → Value → Option (List ℕ)
-written specifier v = option_map (filled specifier.width) (converted specifier.conversion specifier.precision v)
+written specifier v =
+    option_map (filled specifier.width) (converted specifier.conversion specifier.precision v)
 
 -- the characters alone
 abbrev pub plain : List Piece → List ℕ

@@ -1,6 +1,7 @@
 -- How a format is written (WAP-194, "format"): characters that stand for themselves, and
 -- specifiers.
-use Rattle.std.specs.Prelude.{◌≡◌, ◌≢◌, ℕ, ◌≤◌, ◌==◌, true, if◌then◌else◌, List, [], ◌∷◌, ◌++◌, Option, Some, None}
+use Rattle.std.specs.Prelude.{◌≡◌, ◌≢◌, ℕ, ◌≤◌, ◌==◌, true, if◌then◌else◌, List}
+use Rattle.std.specs.Prelude.{[], ◌∷◌, ◌++◌, Option, Some, None}
 use Rattle.std.specs.Str.{all_ascii_digits}
 use Rattle.std.specs.Str.Parse.{digits_value}
 use Rattle.wap_library.specs.declared.piece.Conversion.{Conversion}
@@ -24,13 +25,19 @@ IsNumber digits n = (all_ascii_digits digits ≡ true) × (digits_value 10 digit
 -- a precision is a `.` and at least one digit, or nothing; 46 is `.`
 abbrev pub IsPrecision : List ℕ → Option ℕ → Type 0
 IsPrecision [] precision = precision ≡ None
-IsPrecision (c ∷ digits) precision = (c ≡ 46) × (digits ≢ []) × ((n : ℕ) × (precision ≡ Some n) × IsNumber digits n)
+IsPrecision (c ∷ digits) precision =
+    (c ≡ 46) × (digits ≢ []) × ((n : ℕ) × (precision ≡ Some n) × IsNumber digits n)
 
 -- The text is a format of these pieces. 37 is `%`.
 pub data IsFormat : List ℕ → List Piece → Type 0 where
   nothing : IsFormat [] []
-  character : {c : ℕ} {text : List ℕ} {pieces : List Piece} → c ≢ 37 → IsFormat text pieces → IsFormat (c ∷ text) (Character c ∷ pieces)
-  percent : {text : List ℕ} {pieces : List Piece} → IsFormat text pieces → IsFormat (37 ∷ 37 ∷ text) (Character 37 ∷ pieces)
-  specifier : (width precision : List ℕ) (c : ℕ) (text : List ℕ) {specifier : Specifier} {pieces : List Piece}
-      → IsNumber width specifier.width → IsPrecision precision specifier.precision → conversion_of c ≡ Some specifier.conversion
-      → IsFormat text pieces → IsFormat (37 ∷ (width ++ (precision ++ (c ∷ text)))) (Writes specifier ∷ pieces)
+  character : {c : ℕ} {text : List ℕ} {pieces : List Piece} → c ≢ 37 → IsFormat text pieces
+      → IsFormat (c ∷ text) (Character c ∷ pieces)
+  percent : {text : List ℕ} {pieces : List Piece} → IsFormat text pieces
+      → IsFormat (37 ∷ 37 ∷ text) (Character 37 ∷ pieces)
+  specifier : (width precision : List ℕ) (c : ℕ) (text : List ℕ) {specifier : Specifier}
+      {pieces : List Piece}
+      → IsNumber width specifier.width → IsPrecision precision specifier.precision
+      → conversion_of c ≡ Some specifier.conversion
+      → IsFormat text pieces
+      → IsFormat (37 ∷ (width ++ (precision ++ (c ∷ text)))) (Writes specifier ∷ pieces)

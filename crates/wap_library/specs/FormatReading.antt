@@ -1,5 +1,6 @@
 -- The same by calculation: the pieces of a format. 37 is `%`, and 46 is `.`.
-use Rattle.std.specs.Prelude.{ℕ, zero, suc, ◌==◌, nat_le, if◌then◌else◌, List, [], ◌∷◌, length, drop, Option, Some, None, option_map, option_and_then}
+use Rattle.std.specs.Prelude.{ℕ, zero, suc, ◌==◌, nat_le, if◌then◌else◌, List, [], ◌∷◌, length}
+use Rattle.std.specs.Prelude.{drop, Option, Some, None, option_map, option_and_then}
 use Rattle.std.specs.Char.{is_ascii_digit}
 use Rattle.std.specs.List.{prefix_len, take_while}
 use Rattle.std.specs.Str.Parse.{digits_value}
@@ -29,7 +30,8 @@ number_at s = up_to_65535 (digits_value 10 (take_while is_ascii_digit s))
 abbrev pub precision_at : List ℕ → Option (Option ℕ × List ℕ)
 precision_at [] = Some (None, [])
 precision_at (c ∷ s) =
-    if c == 46 then (if prefix_len is_ascii_digit s == 0 then None else (number_at s >>= λ n. Some (Some n, behind_digits s)))
+    if c == 46 then (if prefix_len is_ascii_digit s == 0 then None else
+    (number_at s >>= λ n. Some (Some n, behind_digits s)))
     else Some (None, c ∷ s)
 
 abbrev pub conversion_at : List ℕ → Option (Conversion × List ℕ)
@@ -42,7 +44,8 @@ specifier_at s =
     number_at s >>= λ width.
     precision_at (behind_digits s) >>= λ precision.
     conversion_at precision.1 >>= λ conversion.
-    Some (record { width = width; precision = precision.0; conversion = conversion.0 }, conversion.1)
+    Some
+    (record { width = width; precision = precision.0; conversion = conversion.0 }, conversion.1)
 
 -- the piece that follows a `%`, and what follows it
 abbrev pub piece_behind_percent : List ℕ → Option (Piece × List ℕ)
@@ -59,7 +62,8 @@ piece_at c s = if c == 37 then piece_behind_percent s else Some (Character c, s)
 abbrev pub pieces_at : ℕ → List ℕ → Option (List Piece)
 pieces_at fuel [] = Some []
 pieces_at zero (c ∷ s) = None
-pieces_at (suc fuel) (c ∷ s) = piece_at c s >>= λ read. option_map (λ more. read.0 ∷ more) (pieces_at fuel read.1)
+pieces_at (suc fuel) (c ∷ s) =
+    piece_at c s >>= λ read. option_map (λ more. read.0 ∷ more) (pieces_at fuel read.1)
 
 abbrev pub pieces_of : List ℕ → Option (List Piece)
 pieces_of s = pieces_at (length s) s

@@ -16,7 +16,8 @@ pub record Generator : Type 0 where
 
 -- from its parts
 abbrev pub generator_of : ℕ → ℕ → ℕ → Lcg → Generator
-generator_of seed start drawn state = record { seed = seed; start = start; drawn = drawn; state = state }
+generator_of seed start drawn state =
+    record { seed = seed; start = start; drawn = drawn; state = state }
 
 abbrev pub most_drawn : ℕ
 most_drawn = 2 ^ 64 - 1

@@ -1,5 +1,7 @@
 -- The library Lang (WAP-194, "Lang").
-use Rattle.std.specs.Prelude.{ℕ, ◌+◌, ◌%◌, Bool, false, ◌||◌, ◌==◌, is_some, if◌then◌else◌, List, [], ◌∷◌, ℤ, pos, negsuc, unsigned_abs, Option, Some, None, unwrap_or, codes}
+use Rattle.std.specs.Prelude.{ℕ, ◌+◌, ◌%◌, Bool, false, ◌||◌, ◌==◌, is_some}
+use Rattle.std.specs.Prelude.{if◌then◌else◌, List, [], ◌∷◌, ℤ, pos, negsuc}
+use Rattle.std.specs.Prelude.{unsigned_abs, Option, Some, None, unwrap_or, codes}
 use Rattle.std.specs.Int.{int_min, int_max}
 use Rattle.std.specs.Char.{is_ascii_digit}
 use Rattle.std.specs.List.{take_while}
@@ -10,7 +12,23 @@ use Rattle.wap_value.specs.Conversion.{integer_of, text_of, integer_value}
 use Rattle.wap_library.specs.declared.outcome.LibOut.{LibOut}
 use Rattle.wap_library.specs.declared.outcome.LibOut.TheVariants.{Exit as Exits, Abort as Aborts}
 use Rattle.wap_library.specs.declared.function.LangFunction.{LangFunction}
-use Rattle.wap_library.specs.declared.function.LangFunction.TheVariants.{Abs, Min, Max, ParseInt, ParseFloat, IsInt, IsFloat, MaxInt, MinInt, Float, Exit, Abort, Random, Seed, CharacterSet}
+use Rattle.wap_library.specs.declared.function.LangFunction.TheVariants.{
+  Abs,
+  Min,
+  Max,
+  ParseInt,
+  ParseFloat,
+  IsInt,
+  IsFloat,
+  MaxInt,
+  MinInt,
+  Float,
+  Exit,
+  Abort,
+  Random,
+  Seed,
+  CharacterSet,
+}
 use Rattle.wap_library.specs.Arguments.{on_integer, on_text, number}
 use Rattle.wap_library.specs.Characters.{behind_blanks}
 use Rattle.wap_library.specs.Generator.{Generator, started_from, next_word, after_word}
@@ -23,7 +41,8 @@ is_sign c = c == 43 || c == 45
 -- the sign, if there is one, and the longest run of digits after it
 abbrev pub numeral : List ℕ → List ℕ
 numeral [] = []
-numeral (c ∷ s) = if is_sign c then c ∷ take_while is_ascii_digit s else take_while is_ascii_digit (c ∷ s)
+numeral (c ∷ s) =
+    if is_sign c then c ∷ take_while is_ascii_digit s else take_while is_ascii_digit (c ∷ s)
 
 -- the Integer that a text begins with, after white space; what follows it doesn't matter
 abbrev pub leading_integer : List ℕ → Option ℤ

@@ -1,6 +1,7 @@
 -- The functions by their numbers (WAP-194, "Library Summary"). The libraries that need no browser
 -- are Lang, Float, String and URL.
-use Rattle.std.specs.Prelude.{◌≡◌, ℕ, List, [], ◌∷◌, map, Option, Some, slice_get, option_map, option_and_then}
+use Rattle.std.specs.Prelude.{◌≡◌, ℕ, List, [], ◌∷◌, map, Option, Some}
+use Rattle.std.specs.Prelude.{slice_get, option_map, option_and_then}
 use Rattle.std.specs.Option.{option_flatten, option_map_or}
 use Rattle.wap_value.specs.declared.value.Value.TheVariants.{Invalid}
 use Rattle.wap_library.specs.declared.function.TheConstants.{LANG, FLOAT, STRING, URL}
@@ -24,7 +25,9 @@ libraries =
 -- the function of a library's number and its own; `None` where it asks the browser, or there is
 -- none
 abbrev pub function_at : ℕ → ℕ → Option Function
-function_at library number = option_flatten (option_and_then (λ functions. slice_get functions number) (slice_get libraries library))
+function_at library number =
+    option_flatten
+    (option_and_then (λ functions. slice_get functions number) (slice_get libraries library))
 
 abbrev pub row_of : Function → Row
 row_of (Lang f) = row_of_lang f
@@ -34,7 +37,8 @@ row_of (Url f) = gives (formula_of_url f)
 
 -- the library has the function, which takes so many arguments and doesn't ask the browser
 abbrev pub IsPure : ℕ → ℕ → ℕ → Type 0
-IsPure library number count = option_map (λ f. arguments (row_of f)) (function_at library number) ≡ Some count
+IsPure library number count =
+    option_map (λ f. arguments (row_of f)) (function_at library number) ≡ Some count
 
 -- the row of these numbers; no call asks for one that isn't there
 abbrev pub row_at : ℕ → ℕ → Row

@@ -7,7 +7,8 @@ use Rattle.wap_value.specs.declared.value.Value.TheVariants.{Int, Bool as Boolea
 use Rattle.wap_library.specs.declared.fault.LibFault.{LibFault}
 use Rattle.wap_library.specs.declared.fault.LibFault.TheVariants.{TooLong}
 use Rattle.wap_library.specs.declared.outcome.LibOut.{LibOut}
-use Rattle.wap_library.specs.declared.outcome.LibOut.TheVariants.{Value as Gives, Exit as Exits, Abort as Aborts}
+use Rattle.wap_library.specs.declared.outcome.LibOut.TheVariants.{Value as Gives, Exit as Exits}
+use Rattle.wap_library.specs.declared.outcome.LibOut.TheVariants.{Abort as Aborts}
 use Rattle.wap_library.specs.Generator.{Generator}
 use Rattle.wap_library.specs.Row.{applied}
 use Rattle.wap_library.specs.Libraries.{row_at}
@@ -20,7 +21,8 @@ counted n = min n (2 ^ 64 - 1)
 abbrev pub kept_within : ℕ → Value → Result Value LibFault
 kept_within limit (Int z) = Ok (Int z)
 kept_within limit (Boolean b) = Ok (Boolean b)
-kept_within limit (Str s) = if nat_lt limit (utf8_len s) then Err (TooLong (counted (utf8_len s))) else Ok (Str s)
+kept_within limit (Str s) =
+    if nat_lt limit (utf8_len s) then Err (TooLong (counted (utf8_len s))) else Ok (Str s)
 kept_within limit Invalid = Ok Invalid
 
 -- a value that is given is kept within the limit; what ends a script is taken as it is

@@ -30,7 +30,8 @@ value_given (of_none v) args = v
 value_given (of_one f) args = f (argument args 0)
 value_given (of_two f) args = f (argument args 0) (argument args 1)
 value_given (of_three f) args = f (argument args 0) (argument args 1) (argument args 2)
-value_given (of_four f) args = f (argument args 0) (argument args 1) (argument args 2) (argument args 3)
+value_given (of_four f) args =
+    f (argument args 0) (argument args 1) (argument args 2) (argument args 3)
 
 pub data Row : Type 0 where
   -- gives a value, and needs no more than its arguments

@@ -1,5 +1,6 @@
 -- The library String (WAP-194, "String"). Places and counts are of characters, from 0.
-use Rattle.std.specs.Prelude.{slice_get, option_and_then, Option, Some, None, ℕ, if◌then◌else◌, List, [], length, ℤ, pos, negsuc}
+use Rattle.std.specs.Prelude.{slice_get, option_and_then, Option, Some, None, ℕ}
+use Rattle.std.specs.Prelude.{if◌then◌else◌, List, [], length, ℤ, pos, negsuc}
 use Rattle.std.specs.declared.cmp.Ordering.{Ordering}
 use Rattle.std.specs.declared.cmp.Ordering.TheVariants.{Less, Equal, Greater}
 use Rattle.wap_base.specs.Texts.{text_cmp}
@@ -8,11 +9,29 @@ use Rattle.wap_value.specs.declared.value.Value.TheVariants.{Int, Bool as Boolea
 use Rattle.wap_value.specs.Conversion.{text_of, text_value, is_empty}
 use Rattle.wap_value.specs.Unary.{is_valid}
 use Rattle.wap_library.specs.declared.function.StringFunction.{StringFunction}
-use Rattle.wap_library.specs.declared.function.StringFunction.TheVariants.{Length, IsEmpty, CharAt, SubString, Find, Replace, Elements, ElementAt, RemoveAt, ReplaceAt, InsertAt, Squeeze, Trim, Compare, ToString, Format}
+use Rattle.wap_library.specs.declared.function.StringFunction.TheVariants.{
+  Length,
+  IsEmpty,
+  CharAt,
+  SubString,
+  Find,
+  Replace,
+  Elements,
+  ElementAt,
+  RemoveAt,
+  ReplaceAt,
+  InsertAt,
+  Squeeze,
+  Trim,
+  Compare,
+  ToString,
+  Format,
+}
 use Rattle.wap_library.specs.Arguments.{on, on_integer, on_text, number, from_zero}
 use Rattle.wap_library.specs.Characters.{part, squeezed, trimmed}
 use Rattle.wap_library.specs.Occurrences.{place_of, replaced}
-use Rattle.wap_library.specs.Elements.{elements, element_at, without_element, with_element, with_element_before}
+use Rattle.wap_library.specs.Elements.{elements, element_at, without_element}
+use Rattle.wap_library.specs.Elements.{with_element, with_element_before}
 use Rattle.wap_library.specs.Format.{formatted}
 use Rattle.wap_library.specs.Lang.{shown}
 use Rattle.wap_library.specs.Row.{Formula, of_one, of_two, of_three, of_four}
@@ -55,7 +74,9 @@ string_char_at v i = on_text v (λ s. on_integer i (λ k. Str (character_at s k)
 -- WAP-194, "subString"
 abbrev pub string_sub_string : Value → Value → Value → Value
 string_sub_string v i n =
-    on_text v (λ s. on_integer i (λ start. on_integer n (λ count. Str (part s (from_zero start) (from_zero count)))))
+    on_text v (λ s.
+    on_integer i (λ start.
+    on_integer n (λ count. Str (part s (from_zero start) (from_zero count)))))
 
 -- WAP-194, "find"
 abbrev pub string_find : Value → Value → Value
@@ -73,22 +94,28 @@ string_elements v w = on_text v (λ s. on (separator_of w) (λ c. number (length
 -- WAP-194, "elementAt"
 abbrev pub string_element_at : Value → Value → Value → Value
 string_element_at v i w =
-    on_text v (λ s. on_integer i (λ k. on (separator_of w) (λ c. Str (element_at c (from_zero k) s))))
+    on_text v
+    (λ s. on_integer i (λ k. on (separator_of w) (λ c. Str (element_at c (from_zero k) s))))
 
 -- WAP-194, "removeAt"
 abbrev pub string_remove_at : Value → Value → Value → Value
 string_remove_at v i w =
-    on_text v (λ s. on_integer i (λ k. on (separator_of w) (λ c. Str (without_element c (from_zero k) s))))
+    on_text v
+    (λ s. on_integer i (λ k. on (separator_of w) (λ c. Str (without_element c (from_zero k) s))))
 
 -- WAP-194, "replaceAt"
 abbrev pub string_replace_at : Value → Value → Value → Value → Value
 string_replace_at v x i w =
-    on_text v (λ s. on_text x (λ new. on_integer i (λ k. on (separator_of w) (λ c. Str (with_element c (from_zero k) new s)))))
+    on_text v (λ s.
+    on_text x (λ new.
+    on_integer i (λ k. on (separator_of w) (λ c. Str (with_element c (from_zero k) new s)))))
 
 -- WAP-194, "insertAt"
 abbrev pub string_insert_at : Value → Value → Value → Value → Value
 string_insert_at v x i w =
-    on_text v (λ s. on_text x (λ new. on_integer i (λ k. on (separator_of w) (λ c. Str (with_element_before c (from_zero k) new s)))))
+    on_text v (λ s.
+    on_text x (λ new.
+    on_integer i (λ k. on (separator_of w) (λ c. Str (with_element_before c (from_zero k) new s)))))
 
 -- WAP-194, "squeeze"
 abbrev pub string_squeeze : Value → Value

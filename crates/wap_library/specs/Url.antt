@@ -1,5 +1,7 @@
 -- The library URL (WAP-194, "URL"), but for what asks the browser.
-use Rattle.std.specs.Prelude.{◌-◌, length, slice_index_or, slice_set, ℕ, Bool, ◌&&◌, is_ok, is_some, if◌then◌else◌, List, [], Option, Some, None, unwrap_or, option_map, option_and_then, chars}
+use Rattle.std.specs.Prelude.{◌-◌, length, slice_index_or, slice_set, ℕ, Bool, ◌&&◌}
+use Rattle.std.specs.Prelude.{is_ok, is_some, if◌then◌else◌, List, [], Option, Some, None}
+use Rattle.std.specs.Prelude.{unwrap_or, option_map, option_and_then, chars}
 use Rattle.std.specs.Fmt.{decimal}
 use Rattle.std.specs.Result.{result_ok}
 use Rattle.std.specs.Str.{is_utf8}
@@ -12,9 +14,22 @@ use Rattle.wap_value.specs.declared.value.Value.{Value}
 use Rattle.wap_value.specs.declared.value.Value.TheVariants.{Bool as Boolean, Str, Invalid}
 use Rattle.wap_value.specs.Conversion.{text_of, text_value}
 use Rattle.wap_library.specs.declared.function.UrlFunction.{UrlFunction}
-use Rattle.wap_library.specs.declared.function.UrlFunction.TheVariants.{IsValid, GetScheme, GetHost, GetPort, GetPath, GetParameters, GetQuery, GetFragment, Resolve, EscapeString, UnescapeString}
+use Rattle.wap_library.specs.declared.function.UrlFunction.TheVariants.{
+  IsValid,
+  GetScheme,
+  GetHost,
+  GetPort,
+  GetPath,
+  GetParameters,
+  GetQuery,
+  GetFragment,
+  Resolve,
+  EscapeString,
+  UnescapeString,
+}
 use Rattle.wap_library.specs.Arguments.{on, on_text}
-use Rattle.wap_library.specs.Elements.{elements, joined as with_separators, element_at, without_element}
+use Rattle.wap_library.specs.Elements.{elements, joined as with_separators}
+use Rattle.wap_library.specs.Elements.{element_at, without_element}
 use Rattle.wap_library.specs.Row.{Formula, of_one, of_two}
 
 -- the URL that a value spells
@@ -30,7 +45,9 @@ part_value part = Str (unwrap_or part [])
 
 -- The parameters follow the first `;` of the path's last segment; 47 is `/`, and 59 is `;`.
 abbrev pub last_segment : List ℕ → List ℕ
-last_segment path = let segments = elements 47 path in slice_index_or segments (length segments - 1) []
+last_segment path =
+    let segments = elements 47 path in
+    slice_index_or segments (length segments - 1) []
 
 abbrev pub parameters : List ℕ → List ℕ
 parameters path = without_element 59 0 (last_segment path)
@@ -38,7 +55,8 @@ parameters path = without_element 59 0 (last_segment path)
 abbrev pub without_parameters : List ℕ → List ℕ
 without_parameters path =
     let segments = elements 47 path in
-    with_separators 47 (slice_set segments (length segments - 1) (element_at 59 0 (last_segment path)))
+    with_separators 47
+    (slice_set segments (length segments - 1) (element_at 59 0 (last_segment path)))
 
 -- a base has a scheme and a host
 abbrev pub is_base : UrlParts → Bool

@@ -11,23 +11,34 @@ use Rattle.wap_machine.proofs.CallLaws.{Grown, grows_same, grows_chained}
 
 -- no run takes a fetch back
 pub host_keeps : {S : Type 0} (limits : Limits) (meaning : Hosting S) (fetched : S → Option ℕ)
-    → ((before : S) (caller : Url) (url name : List ℕ) (count depth : ℕ) → Grows (fetched before) (fetched (meaning.external before caller url name count depth).1))
-    → ((before : S) (base : Url) (referer : Option Url) (number index : ℕ) (arguments : List Value) → Grows (fetched before) (fetched (meaning.library before base referer number index arguments).1))
+    → ((before : S) (caller : Url) (url name : List ℕ) (count depth : ℕ)
+    → Grows (fetched before) (fetched (meaning.external before caller url name count depth).1))
+    → ((before : S) (base : Url) (referer : Option Url) (number index : ℕ) (arguments : List Value)
+    → Grows (fetched before)
+    (fetched (meaning.library before base referer number index arguments).1))
     → Keeps (uncounted limits meaning) (Grown (uncounted limits meaning) fetched)
 host_keeps limits meaning fetched external_grows library_grows = record {
   same = λ state. grows_same (uncounted limits meaning) fetched (fetched state);
-  chained = λ one two three some more. grows_chained (uncounted limits meaning) fetched (fetched one) (fetched two) (fetched three) some more;
+  chained =
+      λ one two three some more. grows_chained (uncounted limits meaning) fetched (fetched one)
+      (fetched two) (fetched three) some more;
   ticks = λ state. grows_same (uncounted limits meaning) fetched (fetched state);
   external = external_grows;
   library = library_grows;
 }
 
 -- a fault is the same of any answer
-pub other_fault : (A B : Type 0) {E : Type 0} (fault other : E) → ◌≡◌ {A = Result A E} (Err fault) (Err other) → ◌≡◌ {A = Result B E} (Err fault) (Err other)
-other_fault A B {E} fault other same = let err : E → Result B E = λ e. Err e in let is : fault ≡ other = cc in ap err is
+pub other_fault : (A B : Type 0) {E : Type 0} (fault other : E)
+    → ◌≡◌ {A = Result A E} (Err fault) (Err other) → ◌≡◌ {A = Result B E} (Err fault) (Err other)
+other_fault A B {E} fault other same =
+    let err : E → Result B E = λ e. Err e in
+    let is : fault ≡ other = cc in
+    ap err is
 
 -- what is told after a call has no fetch less
-pub told_grows : {A S : Type 0} (fetched : S → Option ℕ) (means : S → A × S) (old new : Option S) (gave : A) → IfSome old (λ before. Gives (means before) gave new) → ((before : S) → Grows (fetched before) (fetched (means before).1))
+pub told_grows : {A S : Type 0} (fetched : S → Option ℕ) (means : S → A × S) (old new : Option S)
+    (gave : A) → IfSome old (λ before. Gives (means before) gave new)
+    → ((before : S) → Grows (fetched before) (fetched (means before).1))
     → GrowsTold fetched old new
 told_grows fetched means None new gave told grows = tt
 told_grows fetched means (Some before) None gave told grows = tt
@@ -35,6 +46,8 @@ told_grows {A} {S} fetched means (Some before) (Some after) gave told grows =
     let same : (means before).1 ≡ after = cc told.stays in
     subst (λ (s : S). Grows (fetched before) (fetched s)) same (grows before)
 
-pub grows_still : {S : Type 0} (limits : Limits) (meaning : Hosting S) (fetched : S → Option ℕ) (state : Option S) → GrowsTold fetched state state
+pub grows_still : {S : Type 0} (limits : Limits) (meaning : Hosting S) (fetched : S → Option ℕ)
+    (state : Option S) → GrowsTold fetched state state
 grows_still limits meaning fetched None = tt
-grows_still limits meaning fetched (Some s) = grows_same (uncounted limits meaning) fetched (fetched s)
+grows_still limits meaning fetched (Some s) =
+    grows_same (uncounted limits meaning) fetched (fetched s)

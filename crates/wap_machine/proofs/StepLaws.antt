@@ -1,5 +1,6 @@
 -- What steps leave to do is what was to do.
-use Rattle.std.proofs.Common.{◌≡◌, ℕ, zero, suc, ◌-◌, ◌<◌, ◌≤◌, Bool, true, false, List, [], ◌∷◌, length, Option, Some, None, IfSome, refl, sym, ap, subst, ◌∙◌, arith}
+use Rattle.std.proofs.Common.{◌≡◌, ℕ, zero, suc, ◌-◌, ◌<◌, ◌≤◌, Bool, true, false, List, [], ◌∷◌}
+use Rattle.std.proofs.Common.{length, Option, Some, None, IfSome, refl, sym, ap, subst, ◌∙◌, arith}
 use Rattle.std.proofs.Common.{Vec}
 use Rattle.std.specs.declared.alloc.Global.{Global}
 use Rattle.wap_base.specs.declared.limits.Limits.{Limits}
@@ -25,8 +26,11 @@ use Rattle.wap_frames.specs.Doing.{AreFew, Acts}
 use Rattle.wap_machine.specs.inside.Weights.{weight, heavy}
 use Rattle.wap_machine.specs.inside.Efforts.{effort, GoesBelow, IsLight}
 use Rattle.wap_machine.specs.inside.Advances.{gives, wanted_for, HasStepped, at_end, done}
-use Rattle.wap_machine.specs.inside.Steps.{rest, Same, calls_from, CanCallFrom, LimitsStay, IsWithoutBudget, Wants}
-use Rattle.wap_execution_laws.proofs.FrameLaws.{ends_whole, returns_value, ends_fatally, goes_onward, back_without, goes_back, calls_without, makes_call}
+use Rattle.wap_machine.specs.inside.Steps.{rest, Same, calls_from, CanCallFrom}
+use Rattle.wap_machine.specs.inside.Steps.{LimitsStay, IsWithoutBudget, Wants}
+use Rattle.wap_execution_laws.proofs.FrameLaws.{ends_whole, returns_value, ends_fatally}
+use Rattle.wap_execution_laws.proofs.FrameLaws.{goes_onward, back_without, goes_back}
+use Rattle.wap_execution_laws.proofs.FrameLaws.{calls_without, makes_call}
 use Rattle.wap_machine.proofs.CallLaws.{gives_same}
 use Rattle.wap_frames.proofs.Ready.{stands_for, code_is}
 use Rattle.wap_machine.proofs.Weighing.{light}
@@ -40,9 +44,14 @@ turn_is : (some other : Stack) → Turn some ≡ Turn other → some ≡ other
 turn_is some other e = cc
 
 -- an instruction that goes on stays in the code
-pub stays_inside : (string : ℕ) (frame new : Frame) (n : Next) (coming : ℕ) → Acts string frame new n → Onwards frame.place (at_place frame.function new.place new.variables new.operands) coming → new.place ≤ length (code_of frame.function)
+pub stays_inside : (string : ℕ) (frame new : Frame) (n : Next) (coming : ℕ)
+    → Acts string frame new n
+    → Onwards frame.place (at_place frame.function new.place new.variables new.operands) coming
+    → new.place ≤ length (code_of frame.function)
 stays_inside string frame new n coming acts onwards =
-    subst (λ (l : List ℕ). new.place ≤ length l) (sym (code_is (at_place frame.function new.place new.variables new.operands) coming onwards.stands)) onwards.stands.within
+    subst (λ (l : List ℕ). new.place ≤ length l) (sym
+    (code_is (at_place frame.function new.place new.variables new.operands) coming onwards.stands))
+    onwards.stands.within
 
 module _ {S : Type 0} (limits : Limits) (meaning : Hosting S) where
   abbrev set : Setting S
@@ -50,136 +59,226 @@ module _ {S : Type 0} (limits : Limits) (meaning : Hosting S) where
 
   module _ (turns : ℕ) (state : S) where
     -- nothing was wanted
-    nothing_goes : (frames : List Frame) (step : Step) → HasStepped limits frames (Nothing step) → finished set frames turns state ≡ rest set step turns state
+    nothing_goes : (frames : List Frame) (step : Step) → HasStepped limits frames (Nothing step)
+        → finished set frames turns state ≡ rest set step turns state
     nothing_goes frames step (at_end frame outer are place goes) =
         ap (λ (l : List Frame). finished set l turns state) are
         ∙ ends_whole set frame outer turns state place
         ∙ gives_same set limits outer (Str []) turns state
-        ∙ ap (λ (s : Step). rest set s turns state) (sym (nothing_is step (gives limits outer (Str [])) goes))
-    nothing_goes frames step (done frame new outer what are stacked within acts goes) = ap (λ (l : List Frame). finished set l turns state) are ∙ by what acts goes
+        ∙ ap (λ (s : Step). rest set s turns state)
+        (sym (nothing_is step (gives limits outer (Str [])) goes))
+    nothing_goes frames step (done frame new outer what are stacked within acts goes) =
+        ap (λ (l : List Frame). finished set l turns state) are ∙ by what acts goes
       where
-        by : (n : Next) → Acts limits.string frame new n → Nothing step ≡ wanted_for limits new outer n → finished set (frame ∷ outer) turns state ≡ rest set step turns state
+        by : (n : Next) → Acts limits.string frame new n
+            → Nothing step ≡ wanted_for limits new outer n
+            → finished set (frame ∷ outer) turns state ≡ rest set step turns state
         by next.Onward acts goes =
-            goes_onward set frame outer turns state within new acts.does.same acts.does.is acts.fits.further (stays_inside limits.string frame new next.Onward 0 acts acts.fits)
-            ∙ ap (λ (s : Step). rest set s turns state) (sym (nothing_is step (Goes (stack limits (new ∷ outer))) goes))
+            goes_onward set frame outer turns state within new acts.does.same acts.does.is
+            acts.fits.further (stays_inside limits.string frame new next.Onward 0 acts acts.fits)
+            ∙ ap (λ (s : Step). rest set s turns state)
+            (sym (nothing_is step (Goes (stack limits (new ∷ outer))) goes))
         by next.Back acts goes = absurd (cc goes)
         by (next.Call callee arguments) acts goes = absurd (cc goes)
         by (next.Return v) acts goes =
             returns_value set frame outer turns state within v acts.does.is
             ∙ gives_same set limits outer v turns state
-            ∙ ap (λ (s : Step). rest set s turns state) (sym (nothing_is step (gives limits outer v) goes))
+            ∙ ap (λ (s : Step). rest set s turns state)
+            (sym (nothing_is step (gives limits outer v) goes))
         by (next.End why) acts goes =
             ends_fatally set frame outer turns state within why acts.does.is
-            ∙ ap (λ (s : Step). rest set s turns state) (sym (nothing_is step (Ends (Fatal why)) goes))
+            ∙ ap (λ (s : Step). rest set s turns state)
+            (sym (nothing_is step (Ends (Fatal why)) goes))
 
     -- a turn was wanted, and there is none
-    turn_wanting : (frames : List Frame) (machine : Stack) → HasStepped limits frames (Turn machine) → turns ≡ 0 → finished set frames turns state ≡ ended (fatal Budget) 0 state
+    turn_wanting : (frames : List Frame) (machine : Stack) → HasStepped limits frames (Turn machine)
+        → turns ≡ 0 → finished set frames turns state ≡ ended (fatal Budget) 0 state
     turn_wanting frames machine (at_end frame outer are place goes) none = absurd (cc goes)
-    turn_wanting frames machine (done frame new outer what are stacked within acts goes) none = ap (λ (l : List Frame). finished set l turns state) are ∙ by what acts goes
+    turn_wanting frames machine (done frame new outer what are stacked within acts goes) none =
+        ap (λ (l : List Frame). finished set l turns state) are ∙ by what acts goes
       where
-        by : (n : Next) → Acts limits.string frame new n → Turn machine ≡ wanted_for limits new outer n → finished set (frame ∷ outer) turns state ≡ ended (fatal Budget) 0 state
+        by : (n : Next) → Acts limits.string frame new n
+            → Turn machine ≡ wanted_for limits new outer n
+            → finished set (frame ∷ outer) turns state ≡ ended (fatal Budget) 0 state
         by next.Onward acts goes = absurd (cc goes)
-        by next.Back acts goes = back_without set frame outer turns state within new acts.does.same acts.does.is none
+        by next.Back acts goes =
+            back_without set frame outer turns state within new acts.does.same acts.does.is none
         by (next.Call callee arguments) acts goes = absurd (cc goes)
         by (next.Return v) acts goes = absurd (cc goes)
         by (next.End why) acts goes = absurd (cc goes)
 
-    turn_goes : (frames : List Frame) (machine : Stack) (left : ℕ) → HasStepped limits frames (Turn machine) → turns ≡ suc left → finished set frames turns state ≡ finished set machine.frames left state
+    turn_goes : (frames : List Frame) (machine : Stack) (left : ℕ)
+        → HasStepped limits frames (Turn machine) → turns ≡ suc left
+        → finished set frames turns state ≡ finished set machine.frames left state
     turn_goes frames machine left (at_end frame outer are place goes) some = absurd (cc goes)
-    turn_goes frames machine left (done frame new outer what are stacked within acts goes) some = ap (λ (l : List Frame). finished set l turns state) are ∙ by what acts goes
+    turn_goes frames machine left (done frame new outer what are stacked within acts goes) some =
+        ap (λ (l : List Frame). finished set l turns state) are ∙ by what acts goes
       where
-        by : (n : Next) → Acts limits.string frame new n → Turn machine ≡ wanted_for limits new outer n → finished set (frame ∷ outer) turns state ≡ finished set machine.frames left state
+        by : (n : Next) → Acts limits.string frame new n
+            → Turn machine ≡ wanted_for limits new outer n
+            → finished set (frame ∷ outer) turns state ≡ finished set machine.frames left state
         by next.Onward acts goes = absurd (cc goes)
-        by next.Back acts goes = goes_back set frame outer turns state within new acts.does.same left acts.does.is some
-            ∙ ap (λ (m : Stack). finished set m.frames left state) (sym (turn_is machine (stack limits (new ∷ outer)) goes))
+        by next.Back acts goes =
+            goes_back set frame outer turns state within new acts.does.same left acts.does.is some
+            ∙ ap (λ (m : Stack). finished set m.frames left state)
+            (sym (turn_is machine (stack limits (new ∷ outer)) goes))
         by (next.Call callee arguments) acts goes = absurd (cc goes)
         by (next.Return v) acts goes = absurd (cc goes)
         by (next.End why) acts goes = absurd (cc goes)
 
-    call_wanting : (frames : List Frame) (waiting : Stack) (callee : Callee) (arguments : Vec Value Global) → HasStepped limits frames (Call waiting callee arguments) → turns ≡ 0 → finished set frames turns state ≡ ended (fatal Budget) 0 state
-    call_wanting frames waiting callee arguments (at_end frame outer are place goes) none = absurd (cc goes)
-    call_wanting frames waiting callee arguments (done frame new outer what are stacked within acts goes) none = ap (λ (l : List Frame). finished set l turns state) are ∙ by what acts goes
+    call_wanting : (frames : List Frame) (waiting : Stack) (callee : Callee)
+        (arguments : Vec Value Global) → HasStepped limits frames (Call waiting callee arguments)
+        → turns ≡ 0 → finished set frames turns state ≡ ended (fatal Budget) 0 state
+    call_wanting frames waiting callee arguments (at_end frame outer are place goes) none =
+        absurd (cc goes)
+    call_wanting frames waiting callee arguments
+        (done frame new outer what are stacked within acts goes) none =
+        ap (λ (l : List Frame). finished set l turns state) are ∙ by what acts goes
       where
-        by : (n : Next) → Acts limits.string frame new n → Call waiting callee arguments ≡ wanted_for limits new outer n → finished set (frame ∷ outer) turns state ≡ ended (fatal Budget) 0 state
-        by next.Onward acts goes = absurd (cc goes)
-        by next.Back acts goes = absurd (cc goes)
-        by (next.Call other more) acts goes = calls_without set frame outer turns state within new acts.does.same (called_of other) more.items acts.does.is none
-        by (next.Return v) acts goes = absurd (cc goes)
-        by (next.End why) acts goes = absurd (cc goes)
-
-    call_goes : (frames : List Frame) (waiting : Stack) (callee : Callee) (arguments : Vec Value Global) (left : ℕ) → HasStepped limits frames (Call waiting callee arguments) → turns ≡ suc left
-        → finished set frames turns state ≡ calls_from set waiting.frames (called_of callee) arguments.items left state
-    call_goes frames waiting callee arguments left (at_end frame outer are place goes) some = absurd (cc goes)
-    call_goes frames waiting callee arguments left (done frame new outer what are stacked within acts goes) some = ap (λ (l : List Frame). finished set l turns state) are ∙ by what acts goes
-      where
-        same_call : (a b : Stack) (x y : Callee) (u v : Vec Value Global) → Call a x u ≡ Call b y v → calls_from set a.frames (called_of x) u.items left state ≡ calls_from set b.frames (called_of y) v.items left state
-        same_call a b x y u v e = let frames : a ≡ b = cc in let callees : x ≡ y = cc in let all : u ≡ v = cc in cc
-
-        by : (n : Next) → Acts limits.string frame new n → Call waiting callee arguments ≡ wanted_for limits new outer n → finished set (frame ∷ outer) turns state ≡ calls_from set waiting.frames (called_of callee) arguments.items left state
+        by : (n : Next) → Acts limits.string frame new n
+            → Call waiting callee arguments ≡ wanted_for limits new outer n
+            → finished set (frame ∷ outer) turns state ≡ ended (fatal Budget) 0 state
         by next.Onward acts goes = absurd (cc goes)
         by next.Back acts goes = absurd (cc goes)
         by (next.Call other more) acts goes =
-            makes_call set frame outer turns state within new acts.does.same (called_of other) more.items acts.does.is left some acts.fits.0.further (stays_inside limits.string frame new (next.Call other more) 1 acts acts.fits.0)
+            calls_without set frame outer turns state within new acts.does.same
+            (called_of other) more.items acts.does.is none
+        by (next.Return v) acts goes = absurd (cc goes)
+        by (next.End why) acts goes = absurd (cc goes)
+
+    call_goes : (frames : List Frame) (waiting : Stack) (callee : Callee)
+        (arguments : Vec Value Global) (left : ℕ)
+        → HasStepped limits frames (Call waiting callee arguments) → turns ≡ suc left
+        → finished set frames turns state
+        ≡ calls_from set waiting.frames (called_of callee) arguments.items left state
+    call_goes frames waiting callee arguments left (at_end frame outer are place goes) some =
+        absurd (cc goes)
+    call_goes frames waiting callee arguments left
+        (done frame new outer what are stacked within acts goes) some =
+        ap (λ (l : List Frame). finished set l turns state) are ∙ by what acts goes
+      where
+        same_call : (a b : Stack) (x y : Callee) (u v : Vec Value Global) → Call a x u ≡ Call b y v
+            → calls_from set a.frames (called_of x) u.items left state
+            ≡ calls_from set b.frames (called_of y) v.items left state
+        same_call a b x y u v e =
+            let frames : a ≡ b = cc in
+            let callees : x ≡ y = cc in
+            let all : u ≡ v = cc in
+            cc
+
+        by : (n : Next) → Acts limits.string frame new n
+            → Call waiting callee arguments ≡ wanted_for limits new outer n
+            → finished set (frame ∷ outer) turns state
+            ≡ calls_from set waiting.frames (called_of callee) arguments.items left state
+        by next.Onward acts goes = absurd (cc goes)
+        by next.Back acts goes = absurd (cc goes)
+        by (next.Call other more) acts goes =
+            makes_call set frame outer turns state within new acts.does.same
+            (called_of other) more.items acts.does.is left some acts.fits.0.further
+            (stays_inside limits.string frame new (next.Call other more) 1 acts acts.fits.0)
             ∙ sym (same_call waiting (stack limits (new ∷ outer)) callee other arguments more goes)
         by (next.Return v) acts goes = absurd (cc goes)
         by (next.End why) acts goes = absurd (cc goes)
 
 -- ---- with what hosts tell
 
-module _ {S : Type 0} (limits : Limits) (meaning : Hosting S) (frames : List Frame) (turns : ℕ) (old : Option S) where
+module _ {S : Type 0} (limits : Limits) (meaning : Hosting S) (frames : List Frame) (turns : ℕ)
+    (old : Option S) where
   abbrev before : S → Ended S
   before = finished (uncounted limits meaning) frames turns
 
-  pub nothing_told : (step : Step) → HasStepped limits frames (Nothing step) → Same before old (rest (uncounted limits meaning) step turns) old
+  pub nothing_told : (step : Step) → HasStepped limits frames (Nothing step)
+      → Same before old (rest (uncounted limits meaning) step turns) old
   nothing_told step advanced = by old
     where
       by : (o : Option S) → Same before o (rest (uncounted limits meaning) step turns) o
       by None = tt
       by (Some state) = nothing_goes limits meaning turns state frames step advanced
 
-  pub turn_told : (machine : Stack) (left : ℕ) (new : Option S) → HasStepped limits frames (Turn machine) → 0 < turns → left ≡ turns - 1 → new ≡ old → Same before old (rest (uncounted limits meaning) (Goes machine) left) new
-  turn_told machine left new advanced some fewer same = subst (λ (o : Option S). Same before old (rest (uncounted limits meaning) (Goes machine) left) o) (sym same) (by old)
+  pub turn_told : (machine : Stack) (left : ℕ) (new : Option S)
+      → HasStepped limits frames (Turn machine) → 0 < turns → left ≡ turns - 1 → new ≡ old
+      → Same before old (rest (uncounted limits meaning) (Goes machine) left) new
+  turn_told machine left new advanced some fewer same =
+      subst (λ (o : Option S).
+      Same before old (rest (uncounted limits meaning) (Goes machine) left) o) (sym same) (by old)
     where
       by : (o : Option S) → Same before o (rest (uncounted limits meaning) (Goes machine) left) o
       by None = tt
-      by (Some state) = turn_goes limits meaning turns state frames machine left advanced (omega arith)
+      by (Some state) =
+          turn_goes limits meaning turns state frames machine left advanced (omega arith)
 
-  pub turn_wanted : (machine : Stack) (left : ℕ) (new : Option S) → HasStepped limits frames (Turn machine) → turns ≡ 0 → left ≡ turns - 1 → new ≡ old → Same before old (rest (uncounted limits meaning) (Ends (Fatal Budget)) left) new
-  turn_wanted machine left new advanced none fewer same = subst (λ (o : Option S). Same before old (rest (uncounted limits meaning) (Ends (Fatal Budget)) left) o) (sym same) (by old)
-    where
-      by : (o : Option S) → Same before o (rest (uncounted limits meaning) (Ends (Fatal Budget)) left) o
-      by None = tt
-      by (Some state) = let zero_left : left ≡ 0 = omega arith in
-          turn_wanting limits meaning turns state frames machine advanced none ∙ ap (λ (n : ℕ). ended (fatal Budget) n state) (sym zero_left)
-
-  pub call_wanted : (waiting : Stack) (callee : Callee) (arguments : Vec Value Global) (left : ℕ) (new : Option S) → HasStepped limits frames (Call waiting callee arguments) → turns ≡ 0 → left ≡ turns - 1 → new ≡ old
+  pub turn_wanted : (machine : Stack) (left : ℕ) (new : Option S)
+      → HasStepped limits frames (Turn machine) → turns ≡ 0 → left ≡ turns - 1 → new ≡ old
       → Same before old (rest (uncounted limits meaning) (Ends (Fatal Budget)) left) new
-  call_wanted waiting callee arguments left new advanced none fewer same = subst (λ (o : Option S). Same before old (rest (uncounted limits meaning) (Ends (Fatal Budget)) left) o) (sym same) (by old)
+  turn_wanted machine left new advanced none fewer same =
+      subst (λ (o : Option S).
+      Same before old (rest (uncounted limits meaning) (Ends (Fatal Budget)) left) o)
+      (sym same) (by old)
     where
-      by : (o : Option S) → Same before o (rest (uncounted limits meaning) (Ends (Fatal Budget)) left) o
+      by : (o : Option S)
+          → Same before o (rest (uncounted limits meaning) (Ends (Fatal Budget)) left) o
       by None = tt
       by (Some state) = let zero_left : left ≡ 0 = omega arith in
-          call_wanting limits meaning turns state frames waiting callee arguments advanced none ∙ ap (λ (n : ℕ). ended (fatal Budget) n state) (sym zero_left)
+          turn_wanting limits meaning turns state frames machine advanced none
+          ∙ ap (λ (n : ℕ). ended (fatal Budget) n state) (sym zero_left)
 
-  pub call_told : (waiting : Stack) (callee : Callee) (arguments : Vec Value Global) (left : ℕ) (asked new : Option S) (after : S → Ended S) → HasStepped limits frames (Call waiting callee arguments) → 0 < turns → left ≡ turns - 1 → asked ≡ old
-      → Same (calls_from (uncounted limits meaning) waiting.frames (called_of callee) arguments.items left) asked after new → Same before old after new
-  call_told waiting callee arguments left asked new after advanced some fewer same told = by old new (subst (λ (o : Option S). Same (calls_from (uncounted limits meaning) waiting.frames (called_of callee) arguments.items left) o after new) same told)
+  pub call_wanted : (waiting : Stack) (callee : Callee) (arguments : Vec Value Global) (left : ℕ)
+      (new : Option S) → HasStepped limits frames (Call waiting callee arguments) → turns ≡ 0
+      → left ≡ turns - 1 → new ≡ old
+      → Same before old (rest (uncounted limits meaning) (Ends (Fatal Budget)) left) new
+  call_wanted waiting callee arguments left new advanced none fewer same =
+      subst (λ (o : Option S).
+      Same before old (rest (uncounted limits meaning) (Ends (Fatal Budget)) left) o)
+      (sym same) (by old)
     where
-      by : (o n : Option S) → Same (calls_from (uncounted limits meaning) waiting.frames (called_of callee) arguments.items left) o after n → Same before o after n
+      by : (o : Option S)
+          → Same before o (rest (uncounted limits meaning) (Ends (Fatal Budget)) left) o
+      by None = tt
+      by (Some state) = let zero_left : left ≡ 0 = omega arith in
+          call_wanting limits meaning turns state frames waiting callee arguments advanced none
+          ∙ ap (λ (n : ℕ). ended (fatal Budget) n state) (sym zero_left)
+
+  pub call_told : (waiting : Stack) (callee : Callee) (arguments : Vec Value Global) (left : ℕ)
+      (asked new : Option S) (after : S → Ended S)
+      → HasStepped limits frames (Call waiting callee arguments) → 0 < turns
+      → left ≡ turns - 1 → asked ≡ old
+      → Same (calls_from (uncounted limits meaning) waiting.frames
+      (called_of callee) arguments.items left) asked after new → Same before old after new
+  call_told waiting callee arguments left asked new after advanced some fewer same told =
+      by old new (subst (λ (o : Option S). Same (calls_from (uncounted limits meaning)
+      waiting.frames (called_of callee) arguments.items left) o after new) same told)
+    where
+      by : (o n : Option S) → Same (calls_from (uncounted limits meaning) waiting.frames
+          (called_of callee) arguments.items left) o after n → Same before o after n
       by None n told = tt
       by (Some state) None told = told
-      by (Some state) (Some later) told = call_goes limits meaning turns state frames waiting callee arguments left advanced (omega arith) ∙ told
+      by (Some state) (Some later) told =
+          call_goes limits meaning turns state frames waiting callee arguments left advanced
+          (omega arith)
+          ∙ told
 
-  pub call_fetches : (fetched : S → Option ℕ) (count : ℕ) (waiting : Stack) (callee : Callee) (arguments : Vec Value Global) (left : ℕ) (asked : Option S) → HasStepped limits frames (Call waiting callee arguments) → 0 < turns → left ≡ turns - 1 → asked ≡ old
-      → IfSome asked (λ state. Fetches (fetched state) count (fetched (calls_from (uncounted limits meaning) waiting.frames (called_of callee) arguments.items left state).state))
+  pub call_fetches : (fetched : S → Option ℕ) (count : ℕ) (waiting : Stack) (callee : Callee)
+      (arguments : Vec Value Global) (left : ℕ) (asked : Option S)
+      → HasStepped limits frames (Call waiting callee arguments) → 0 < turns
+      → left ≡ turns - 1 → asked ≡ old
+      → IfSome asked (λ state.
+      Fetches (fetched state) count (fetched (calls_from (uncounted limits meaning) waiting.frames
+      (called_of callee) arguments.items left state).state))
       → IfSome old (λ state. Fetches (fetched state) count (fetched (before state).state))
   call_fetches fetched count waiting callee arguments left asked advanced some fewer same fetches =
-      by old (subst (λ (o : Option S). IfSome o (λ state. Fetches (fetched state) count (fetched (calls_from (uncounted limits meaning) waiting.frames (called_of callee) arguments.items left state).state))) same fetches)
+      by old (subst (λ (o : Option S).
+      IfSome o (λ state. Fetches (fetched state) count (fetched (calls_from (uncounted limits
+      meaning) waiting.frames (called_of callee) arguments.items left state).state))) same fetches)
     where
-      by : (o : Option S) → IfSome o (λ state. Fetches (fetched state) count (fetched (calls_from (uncounted limits meaning) waiting.frames (called_of callee) arguments.items left state).state))
+      by : (o : Option S) → IfSome o (λ state.
+          Fetches (fetched state) count (fetched (calls_from (uncounted limits meaning)
+          waiting.frames (called_of callee) arguments.items left state).state))
           → IfSome o (λ state. Fetches (fetched state) count (fetched (before state).state))
       by None fetches = tt
-      by (Some state) fetches = subst (λ (e : Ended S). Fetches (fetched state) count (fetched e.state)) (sym (call_goes limits meaning turns state frames waiting callee arguments left advanced (omega arith))) fetches
+      by (Some state) fetches =
+          subst (λ (e : Ended S). Fetches (fetched state) count (fetched e.state))
+          (sym (call_goes limits meaning turns state frames waiting callee arguments left advanced
+          (omega arith))) fetches
 
 -- ---- what a step keeps
 
@@ -188,74 +287,119 @@ pub record Kept (limits : Limits) (frames : List Frame) (step : Step) : Type 0 w
   pub no_want : IsWithoutBudget step
   pub falls : (turns : ℕ) → GoesBelow (effort turns frames) turns step
 
-gives_kept : (limits : Limits) (frame : Frame) (outer : List Frame) (v : Value) → Kept limits (frame ∷ outer) (gives limits outer v)
+gives_kept : (limits : Limits) (frame : Frame) (outer : List Frame) (v : Value)
+    → Kept limits (frame ∷ outer) (gives limits outer v)
 gives_kept limits frame [] v = record { stay = tt; no_want = tt; falls = λ turns. tt }
-gives_kept limits frame (next ∷ outer) v = record { stay = refl; no_want = tt; falls = λ turns. omega arith }
+gives_kept limits frame (next ∷ outer) v =
+    record { stay = refl; no_want = tt; falls = λ turns. omega arith }
 
-pub nothing_kept : (limits : Limits) (frames : List Frame) (step : Step) → HasStepped limits frames (Nothing step) → Kept limits frames step
+pub nothing_kept : (limits : Limits) (frames : List Frame) (step : Step)
+    → HasStepped limits frames (Nothing step) → Kept limits frames step
 nothing_kept limits frames step (at_end frame outer are place goes) =
-    subst (λ (l : List Frame). Kept limits l step) (sym are) (subst (λ (s : Step). Kept limits (frame ∷ outer) s) (sym (nothing_is step (gives limits outer (Str [])) goes)) (gives_kept limits frame outer (Str [])))
-nothing_kept limits frames step (done frame new outer what are stacked within acts goes) = subst (λ (l : List Frame). Kept limits l step) (sym are) (by what acts goes)
+    subst (λ (l : List Frame). Kept limits l step) (sym are)
+    (subst (λ (s : Step). Kept limits (frame ∷ outer) s) (sym
+    (nothing_is step (gives limits outer (Str [])) goes)) (gives_kept limits frame outer (Str [])))
+nothing_kept limits frames step (done frame new outer what are stacked within acts goes) =
+    subst (λ (l : List Frame). Kept limits l step) (sym are) (by what acts goes)
   where
-    by : (n : Next) → Acts limits.string frame new n → Nothing step ≡ wanted_for limits new outer n → Kept limits (frame ∷ outer) step
-    by next.Onward acts goes = subst (λ (s : Step). Kept limits (frame ∷ outer) s) (sym (nothing_is step (Goes (stack limits (new ∷ outer))) goes))
+    by : (n : Next) → Acts limits.string frame new n → Nothing step ≡ wanted_for limits new outer n
+        → Kept limits (frame ∷ outer) step
+    by next.Onward acts goes =
+        subst (λ (s : Step). Kept limits (frame ∷ outer) s)
+        (sym (nothing_is step (Goes (stack limits (new ∷ outer))) goes))
         (record {
           stay = refl;
           no_want = tt;
           falls = λ turns.
               let further : frame.place < new.place = acts.fits.further in
               let inside = stays_inside limits.string frame new next.Onward 0 acts acts.fits in
-              let same : length (code_of new.function) ≡ length (code_of frame.function) = ap (λ (f : Function). length (code_of f)) acts.does.same in
+              let same : length (code_of new.function) ≡ length (code_of frame.function) =
+              ap (λ (f : Function). length (code_of f)) acts.does.same in
               omega arith;
         })
     by next.Back acts goes = absurd (cc goes)
     by (next.Call callee arguments) acts goes = absurd (cc goes)
-    by (next.Return v) acts goes = subst (λ (s : Step). Kept limits (frame ∷ outer) s) (sym (nothing_is step (gives limits outer v) goes)) (gives_kept limits frame outer v)
-    by (next.End why) acts goes = subst (λ (s : Step). Kept limits (frame ∷ outer) s) (sym (nothing_is step (Ends (Fatal why)) goes)) (record { stay = tt; no_want = acts.does.in_order; falls = λ turns. tt })
+    by (next.Return v) acts goes =
+        subst (λ (s : Step). Kept limits (frame ∷ outer) s)
+        (sym (nothing_is step (gives limits outer v) goes)) (gives_kept limits frame outer v)
+    by (next.End why) acts goes =
+        subst (λ (s : Step). Kept limits (frame ∷ outer) s)
+        (sym (nothing_is step (Ends (Fatal why)) goes))
+        (record { stay = tt; no_want = acts.does.in_order; falls = λ turns. tt })
 
 pub record Turned (limits : Limits) (machine : Stack) : Type 0 where
   pub stay : machine.limits ≡ limits
   pub light : weight machine.frames < heavy
 
-pub turn_kept : (limits : Limits) (frames : List Frame) (machine : Stack) → HasStepped limits frames (Turn machine) → Turned limits machine
+pub turn_kept : (limits : Limits) (frames : List Frame) (machine : Stack)
+    → HasStepped limits frames (Turn machine) → Turned limits machine
 turn_kept limits frames machine (at_end frame outer are place goes) = absurd (cc goes)
-turn_kept limits frames machine (done frame new outer what are stacked within acts goes) = by what acts goes
+turn_kept limits frames machine (done frame new outer what are stacked within acts goes) =
+    by what acts goes
   where
-    by : (n : Next) → Acts limits.string frame new n → Turn machine ≡ wanted_for limits new outer n → Turned limits machine
+    by : (n : Next) → Acts limits.string frame new n → Turn machine ≡ wanted_for limits new outer n
+        → Turned limits machine
     by next.Onward acts goes = absurd (cc goes)
-    by next.Back acts goes = subst (λ (m : Stack). Turned limits m) (sym (turn_is machine (stack limits (new ∷ outer)) goes))
-        (record { stay = refl; light = light new 0 outer (stands_for limits.string frame new next.Back acts) stacked.others stacked.few })
+    by next.Back acts goes =
+        subst (λ (m : Stack). Turned limits m)
+        (sym (turn_is machine (stack limits (new ∷ outer)) goes))
+        (record {
+          stay = refl;
+          light =
+              light new 0 outer
+              (stands_for limits.string frame new next.Back acts) stacked.others stacked.few;
+        })
     by (next.Call callee arguments) acts goes = absurd (cc goes)
     by (next.Return v) acts goes = absurd (cc goes)
     by (next.End why) acts goes = absurd (cc goes)
 
-pub record CanAsk (limits : Limits) (waiting : Stack) (callee : Callee) (arguments : List Value) : Type 0 where
+pub record CanAsk (limits : Limits) (waiting : Stack) (callee : Callee)
+    (arguments : List Value) : Type 0 where
   pub stay : waiting.limits ≡ limits
   pub few : AreFew callee (length arguments)
   pub can : CanCallFrom waiting.frames (called_of callee) arguments
 
-pub call_kept : (limits : Limits) (frames : List Frame) (waiting : Stack) (callee : Callee) (arguments : Vec Value Global) → HasStepped limits frames (Call waiting callee arguments) → CanAsk limits waiting callee arguments.items
-call_kept limits frames waiting callee arguments (at_end frame outer are place goes) = absurd (cc goes)
-call_kept limits frames waiting callee arguments (done frame new outer what are stacked within acts goes) = by what acts goes
+pub call_kept : (limits : Limits) (frames : List Frame) (waiting : Stack) (callee : Callee)
+    (arguments : Vec Value Global) → HasStepped limits frames (Call waiting callee arguments)
+    → CanAsk limits waiting callee arguments.items
+call_kept limits frames waiting callee arguments (at_end frame outer are place goes) =
+    absurd (cc goes)
+call_kept limits frames waiting callee arguments
+    (done frame new outer what are stacked within acts goes) = by what acts goes
   where
-    same_ask : (a b : Stack) (x y : Callee) (u v : Vec Value Global) → Call a x u ≡ Call b y v → CanAsk limits b y v.items → CanAsk limits a x u.items
+    same_ask : (a b : Stack) (x y : Callee) (u v : Vec Value Global) → Call a x u ≡ Call b y v
+        → CanAsk limits b y v.items → CanAsk limits a x u.items
     same_ask a b x y u v e can =
         let stacks : a ≡ b = cc in
         let callees : x ≡ y = cc in
         let all : u ≡ v = cc in
-        subst (λ (s : Stack). CanAsk limits s x u.items) (sym stacks) (subst (λ (k : Callee). CanAsk limits b k u.items) (sym callees) (subst (λ (l : Vec Value Global). CanAsk limits b y l.items) (sym all) can))
+        subst (λ (s : Stack). CanAsk limits s x u.items) (sym stacks)
+        (subst (λ (k : Callee). CanAsk limits b k u.items) (sym callees)
+        (subst (λ (l : Vec Value Global). CanAsk limits b y l.items) (sym all) can))
 
-    by : (n : Next) → Acts limits.string frame new n → Call waiting callee arguments ≡ wanted_for limits new outer n → CanAsk limits waiting callee arguments.items
+    by : (n : Next) → Acts limits.string frame new n
+        → Call waiting callee arguments ≡ wanted_for limits new outer n
+        → CanAsk limits waiting callee arguments.items
     by next.Onward acts goes = absurd (cc goes)
     by next.Back acts goes = absurd (cc goes)
-    by (next.Call other more) acts goes = same_ask waiting (stack limits (new ∷ outer)) callee other arguments more goes
-        (record { stay = refl; few = acts.does.in_order; can = subst (λ (f : Function). CanCall f (called_of other) more.items) (sym acts.does.same) acts.fits.1 })
+    by (next.Call other more) acts goes =
+        same_ask waiting (stack limits (new ∷ outer)) callee other arguments more goes
+        (record {
+          stay = refl;
+          few = acts.does.in_order;
+          can =
+              subst (λ (f : Function). CanCall f (called_of other) more.items)
+              (sym acts.does.same) acts.fits.1;
+        })
     by (next.Return v) acts goes = absurd (cc goes)
     by (next.End why) acts goes = absurd (cc goes)
 
 -- a turn outweighs all instructions between turns
-pub light_below : (turns left : ℕ) (frames : List Frame) (step : Step) → 0 < turns → left ≡ turns - 1 → IsLight step → GoesBelow (effort turns frames) left step
-light_below turns left frames (Goes machine) some fewer is_light = let less : weight machine.frames < heavy = is_light in omega arith
+pub light_below : (turns left : ℕ) (frames : List Frame) (step : Step) → 0 < turns
+    → left ≡ turns - 1 → IsLight step → GoesBelow (effort turns frames) left step
+light_below turns left frames (Goes machine) some fewer is_light =
+    let less : weight machine.frames < heavy = is_light in
+    omega arith
 light_below turns left frames (Ends outcome) some fewer is_light = tt
 
 -- a step that doesn't end because turns ran out doesn't do so where turns are left

@@ -1,7 +1,8 @@
 -- What machines' runs come to, by the definitions.
 use Rattle.std.specs.Prelude.{⊤, ◌≡◌, ℕ, Option, Some}
 use Rattle.wap_base.specs.declared.limits.Limits.{Limits}
-use Rattle.wap_execution.specs.Outcomes.{Outcome as Meant, value, exit, fatal, waits, Ended, Hosting}
+use Rattle.wap_execution.specs.Outcomes.{Outcome as Meant, value, exit}
+use Rattle.wap_execution.specs.Outcomes.{fatal, waits, Ended, Hosting}
 use Rattle.wap_execution.specs.declared.fatal.Fatal.TheVariants.{Budget}
 use Rattle.wap_execution.specs.Running.{finished}
 use Rattle.wap_execution_laws.specs.Settings.{uncounted}

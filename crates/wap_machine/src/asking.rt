@@ -6,7 +6,8 @@ ghost use Rattle.wap_frames.specs.Seen.{called_of};
 ghost use Rattle.wap_frames.specs.Doing.{AreFew};
 ghost use Rattle.wap_machine.specs.Hosts.{Fetches, GrowsTold};
 ghost use Rattle.wap_execution_laws.specs.Settings.{uncounted};
-ghost use Rattle.wap_machine.specs.inside.Steps.{rest, Same, called_from, CanCallFrom, IsInOrderFor};
+ghost use Rattle.wap_machine.specs.inside.Steps.{rest, Same, called_from};
+ghost use Rattle.wap_machine.specs.inside.Steps.{CanCallFrom, IsInOrderFor};
 
 use crate::calls::{enter_found, enter_local, go_with};
 use crate::host::Host;

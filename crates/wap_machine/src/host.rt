@@ -1,5 +1,6 @@
 //! Hosts of machines.
-ghost use Rattle.std.specs.Prelude.{◌≡◌, ℕ, ◌-◌, ◌<◌, ◌≤◌, List, Option, Some, length, IsTrue, ◌↔◌, IfSome, IfOk, IsErrOf};
+ghost use Rattle.std.specs.Prelude.{◌≡◌, ℕ, ◌-◌, ◌<◌, ◌≤◌, List, Option, Some};
+ghost use Rattle.std.specs.Prelude.{length, IsTrue, ◌↔◌, IfSome, IfOk, IsErrOf};
 ghost use Rattle.std.specs.Option.{option_copied};
 ghost use Rattle.wap_base.specs.Count.{Rose};
 ghost use Rattle.wap_url.specs.declared.url.Url.{Url as TheUrl};

@@ -1,11 +1,16 @@
 -- What each byte of a document's body says (WAP-192, section 7.1).
-use Rattle.std.specs.Prelude.{ℕ, ◌%◌, Bool, true, false, not, ◌==◌, ◌&&◌, nat_lt, nat_le, if◌then◌else◌, Option, Some, None}
+use Rattle.std.specs.Prelude.{ℕ, ◌%◌, Bool, true, false, not, ◌==◌, ◌&&◌, nat_lt}
+use Rattle.std.specs.Prelude.{nat_le, if◌then◌else◌, Option, Some, None}
 use Rattle.wap_base.specs.declared.name.Conv.TheVariants.{Escape, Unescape, Plain}
-use Rattle.wap_markup.specs.declared.codes.TheConstants.{END, ENTITY, STR_I, LITERAL, EXT_I_0, EXT_I_1, EXT_I_2, PI, EXT_T_0, EXT_T_1, EXT_T_2, STR_T, EXT_0, EXT_1, EXT_2, OPAQUE}
+use Rattle.wap_markup.specs.declared.codes.TheConstants.{END, ENTITY, STR_I, LITERAL, EXT_I_0}
+use Rattle.wap_markup.specs.declared.codes.TheConstants.{EXT_I_1, EXT_I_2, PI, EXT_T_0, EXT_T_1}
+use Rattle.wap_markup.specs.declared.codes.TheConstants.{EXT_T_2, STR_T, EXT_0, EXT_1, EXT_2}
+use Rattle.wap_markup.specs.declared.codes.TheConstants.{OPAQUE}
 use Rattle.wap_markup.specs.declared.mark.Lead.{Lead}
 use Rattle.wap_markup.specs.declared.mark.Role.TheVariants.{Shown, Variable}
 use Rattle.wap_markup.specs.declared.mark.LeafMark.{LeafMark}
-use Rattle.wap_markup.specs.declared.mark.LeafMark.TheVariants.{Inline, Indexed, Entity, Opaque, Extension}
+use Rattle.wap_markup.specs.declared.mark.LeafMark.TheVariants.{Inline, Indexed, Entity}
+use Rattle.wap_markup.specs.declared.mark.LeafMark.TheVariants.{Opaque, Extension}
 use Rattle.wap_markup.specs.declared.mark.ContentMark.{ContentMark}
 use Rattle.wap_markup.specs.declared.mark.ContentMark.TheVariants as content
 use Rattle.wap_markup.specs.declared.mark.AttributeMark.{AttributeMark}
@@ -77,7 +82,8 @@ attribute_leaf None = attribute.Nothing
 -- codes of starts stand below 128, and codes of parts of values from there on
 unfoldable pub attribute_mark : Lead → AttributeMark
 attribute_mark lead =
-    if nat_lt LITERAL (lead.byte % 64) then (if nat_lt lead.byte 128 then attribute.Coded else attribute.Value) else
+    if nat_lt LITERAL (lead.byte % 64)
+    then (if nat_lt lead.byte 128 then attribute.Coded else attribute.Value) else
     if lead.byte == LITERAL then attribute.Named else
     if lead.byte == END && not lead.switched then attribute.End else
     attribute_leaf (leaf_behind lead.switched (leaf_mark lead.byte))

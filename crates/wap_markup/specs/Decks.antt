@@ -3,7 +3,8 @@
 -- texts and their references to variables. Another element stands for its content; another
 -- attribute, a reference whose name is none of a variable, a processing instruction, an extension
 -- and opaque data are left out.
-use Rattle.std.specs.Prelude.{ℕ, zero, suc, ◌-◌, if◌then◌else◌, unwrap_or, List, [], ◌∷◌, ◌++◌, Option, Some, None}
+use Rattle.std.specs.Prelude.{ℕ, zero, suc, ◌-◌, if◌then◌else◌, unwrap_or, List}
+use Rattle.std.specs.Prelude.{[], ◌∷◌, ◌++◌, Option, Some, None}
 use Rattle.std.specs.List.{filter_map, flat_map, cons_option}
 use Rattle.std.specs.Option.{option_map, option_and_then}
 use lib.Utf8.{scalar}
@@ -147,7 +148,8 @@ element_from (Some tag) attrs content =
 abbrev pub element_marks : ℕ → Element → List Mark
 element_marks zero element = []
 element_marks (suc levels) element =
-    element_from (tag_in element.page element.tag) element.attrs (kids_marks (element_marks levels) element.kids)
+    element_from (tag_in element.page element.tag) element.attrs
+    (kids_marks (element_marks levels) element.kids)
 
 -- the deck that a document means
 abbrev pub deck_of : Document → Deck

@@ -1,5 +1,6 @@
 -- Documents and the bytes that spell them (WAP-192, section 5).
-use Rattle.std.specs.Prelude.{◌≡◌, ℕ, Bool, true, false, ◌==◌, ◌||◌, ◌&&◌, nat_le, if◌then◌else◌, codes, List, [], ◌∷◌, Option, Some, None}
+use Rattle.std.specs.Prelude.{◌≡◌, ℕ, Bool, true, false, ◌==◌, ◌||◌, ◌&&◌, nat_le}
+use Rattle.std.specs.Prelude.{if◌then◌else◌, codes, List, [], ◌∷◌, Option, Some, None}
 use Rattle.wap_base.specs.Numbers.{IsMb}
 use Rattle.wap_base.specs.Texts.{is_same_text}
 use Rattle.wap_markup.specs.declared.codes.TheConstants.{PI}
@@ -39,7 +40,8 @@ public_named name =
 -- 0 stands before the index of a name in the string table
 abbrev pub IsIdentifierBehind : ℕ → Bool → List ℕ → Identifier → Type 0
 IsIdentifierBehind number true bytes identifier = Told Named IsMb bytes identifier
-IsIdentifierBehind number false bytes identifier = Given (Numbered number) bytes identifier × (is_public number ≡ true)
+IsIdentifierBehind number false bytes identifier =
+    Given (Numbered number) bytes identifier × (is_public number ≡ true)
 
 abbrev pub IsIdentifier : List ℕ → Identifier → Type 0
 IsIdentifier = Then IsMb (λ number. IsIdentifierBehind number (number == 0))
@@ -47,7 +49,8 @@ IsIdentifier = Then IsMb (λ number. IsIdentifierBehind number (number == 0))
 -- the number that an identifier stands for, which takes no bytes
 abbrev pub IsPublic : List ℕ → Identifier → List ℕ → ℕ → Type 0
 IsPublic table (Numbered number) bytes public = Given number bytes public
-IsPublic table (Named index) bytes public = (bytes ≡ []) × (public_named (string_from table index) ≡ Some public)
+IsPublic table (Named index) bytes public =
+    (bytes ≡ []) × (public_named (string_from table index) ≡ Some public)
 
 -- a character set by its number
 abbrev pub IsCharset : List ℕ → ℕ × Charset → Type 0
@@ -57,7 +60,8 @@ IsCharset bytes charset = IsMb bytes charset.0 × (charset_of charset.0 ≡ Some
 
 -- a processing instruction outside the root
 abbrev pub IsOuter : Strings → State → List ℕ → Attr × State → Type 0
-IsOuter strings before bytes x = (rest : List ℕ) × (bytes ≡ PI ∷ rest) × IsInstruction strings before rest x
+IsOuter strings before bytes x =
+    (rest : List ℕ) × (bytes ≡ PI ∷ rest) × IsInstruction strings before rest x
 
 abbrev pub IsRootBehind : Strings → State → Lead → ContentMark → List ℕ → Element × State → Type 0
 IsRootBehind strings before lead content.Element = IsElement strings LEVEL_LIMIT before lead
@@ -67,7 +71,8 @@ IsRootBehind strings before lead content.End = Never
 IsRootBehind strings before lead content.Nothing = Never
 
 unfoldable pub IsRoot : Strings → State → List ℕ → Element × State → Type 0
-IsRoot strings before = Then (IsLead before.tag_page) (λ lead. IsRootBehind strings before lead (content_mark lead))
+IsRoot strings before =
+    Then (IsLead before.tag_page) (λ lead. IsRootBehind strings before lead (content_mark lead))
 
 abbrev pub first_state : State
 first_state = record { tag_page = 0; attribute_page = 0; in_root = false; names = [] }

@@ -1,6 +1,8 @@
 -- Good decks (WAP-191, section 11; the profile of the rules is this project's own): each node keeps
 -- the rule of its element, and ids of cards and names of dos are distinct.
-use Rattle.std.specs.Prelude.{◌≡◌, ℕ, zero, suc, ◌<◌, Bool, true, false, not, ◌&&◌, ◌||◌, nat_eq, nat_le, is_some, map, take, position, filter, slice_get, List, [], ◌∷◌, length, Option, Some, None, codes}
+use Rattle.std.specs.Prelude.{◌≡◌, ℕ, zero, suc, ◌<◌, Bool, true, false, not, ◌&&◌, ◌||◌}
+use Rattle.std.specs.Prelude.{nat_eq, nat_le, is_some, map, take, position, filter, slice_get}
+use Rattle.std.specs.Prelude.{List, [], ◌∷◌, length, Option, Some, None, codes}
 use Rattle.std.specs.List.{filter_map, flat_map, list_all, list_any, AllByRecursion, IsDistinct}
 use Rattle.std.specs.Option.{option_and_then}
 use Rattle.std.specs.Map.{lookup}
@@ -35,7 +37,8 @@ pub record Rule : Type 0 where
 
 -- an element without a rule may have nothing
 abbrev pub no_rule : Rule
-no_rule = record { groups = []; in_order = false; text = false; once = []; needs = []; attributes = [] }
+no_rule =
+    record { groups = []; in_order = false; text = false; once = []; needs = []; attributes = [] }
 
 unfoldable pub rules : List (Tag × Rule)
 rules = map (λ row. (
@@ -73,7 +76,8 @@ is_not_behind _ _ = true
 -- whether one element may stand before another
 abbrev pub may_precede : Rule → Tag → Tag → Bool
 may_precede rule first second =
-    (not rule.in_order || is_not_behind (place_in rule.groups first) (place_in rule.groups second)) &&
+    (not rule.in_order
+    || is_not_behind (place_in rule.groups first) (place_in rule.groups second)) &&
     list_all (λ group. not (is_among group first && is_among group second)) rule.once
 
 -- whether an element may stand after these
@@ -102,7 +106,8 @@ stands rule earlier None None = false
 -- the item of this number may stand at its place
 abbrev pub StandsAt : Rule → List Item → ℕ → Type 0
 StandsAt rule items i =
-    (item : Item) → slice_get items i ≡ Some item → stands rule (take i items) (node_of item) (words_of item) ≡ true
+    (item : Item) → slice_get items i ≡ Some item
+    → stands rule (take i items) (node_of item) (words_of item) ≡ true
 
 -- ---- attributes
 
@@ -119,7 +124,8 @@ is_empty (tag ∷ group) = false
 -- whether nothing is missing
 abbrev pub has_needs : Rule → Node → Bool
 has_needs rule node =
-    list_all (has_attribute node) rule.attributes && (is_empty rule.needs || list_any (is_among rule.needs) (tags_of node.kids))
+    list_all (has_attribute node) rule.attributes
+    && (is_empty rule.needs || list_any (is_among rule.needs) (tags_of node.kids))
 
 -- what the value of an attribute has to be: one of some words; the name of a variable; that, or
 -- nothing; free of references
@@ -163,11 +169,13 @@ value_has form (Some text) = text_has form text
 
 -- each value of this name is of this form
 abbrev pub all_have : AttrName → Form → Node → Bool
-all_have name form node = list_all (λ a. not (is_same_attr a.0 name) || value_has form (plain_text a.1)) node.attrs
+all_have name form node =
+    list_all (λ a. not (is_same_attr a.0 name) || value_has form (plain_text a.1)) node.attrs
 
 -- each attribute of a node that has a form here is of that form
 abbrev pub has_forms : Node → Bool
-has_forms node = list_all (λ form. not (is_same_tag node.tag form.0) || all_have form.1 form.2 node) forms
+has_forms node =
+    list_all (λ form. not (is_same_tag node.tag form.0) || all_have form.1 form.2 node) forms
 
 -- ---- nodes
 
@@ -180,7 +188,8 @@ pub record IsGoodNode (node : Node) : Type 0 where
 -- the nodes in items, of so many levels, parents before their children
 abbrev pub nodes_in : ℕ → List Item → List Node
 nodes_in zero items = []
-nodes_in (suc levels) items = flat_map (λ node. node ∷ nodes_in levels node.kids) (filter_map node_of items)
+nodes_in (suc levels) items =
+    flat_map (λ node. node ∷ nodes_in levels node.kids) (filter_map node_of items)
 
 abbrev pub all_nodes : Deck → List Node
 all_nodes deck = deck.root ∷ nodes_in LEVEL_LIMIT deck.root.kids
@@ -193,11 +202,14 @@ first_of (Some x) other = Some x
 
 -- the name of a do, or else its type
 abbrev pub name_of_do : Node → Option (List ℕ)
-name_of_do node = option_and_then plain_text (first_of (value_of attrs.Name node) (value_of attrs.Type node))
+name_of_do node =
+    option_and_then plain_text (first_of (value_of attrs.Name node) (value_of attrs.Type node))
 
 -- the names of the dos in a card or a template, in the order of the document
 abbrev pub names_of_dos : Node → List (List ℕ)
-names_of_dos node = filter_map name_of_do (filter (λ one. is_same_tag one.tag tags.Do) (nodes_in LEVEL_LIMIT node.kids))
+names_of_dos node =
+    filter_map name_of_do
+    (filter (λ one. is_same_tag one.tag tags.Do) (nodes_in LEVEL_LIMIT node.kids))
 
 abbrev pub holds_dos : Tag → Bool
 holds_dos tag = is_same_tag tag tags.Card || is_same_tag tag tags.Template

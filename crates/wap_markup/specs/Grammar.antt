@@ -1,5 +1,6 @@
 -- The body of a document: bytes and the elements that they spell (WAP-192, sections 5.2 and 5.8).
-use Rattle.std.specs.Prelude.{◌≡◌, ◌≢◌, ℕ, zero, suc, ◌+◌, ◌%◌, ◌^◌, ◌<◌, Bool, true, false, if◌then◌else◌, List, [], ◌∷◌, ◌++◌, length}
+use Rattle.std.specs.Prelude.{◌≡◌, ◌≢◌, ℕ, zero, suc, ◌+◌, ◌%◌, ◌^◌, ◌<◌, Bool, true}
+use Rattle.std.specs.Prelude.{false, if◌then◌else◌, List, [], ◌∷◌, ◌++◌, length}
 use Rattle.std.specs.List.{list_any}
 use Rattle.wap_base.specs.Numbers.{IsMb}
 use Rattle.wap_base.specs.Texts.{is_same_text}
@@ -25,7 +26,8 @@ use Rattle.wap_markup.specs.declared.mark.ContentMark.TheVariants as content
 use Rattle.wap_markup.specs.declared.mark.AttributeMark.{AttributeMark}
 use Rattle.wap_markup.specs.declared.mark.AttributeMark.TheVariants as attribute
 use Rattle.wap_markup.specs.Charsets.{is_character}
-use Rattle.wap_markup.specs.Codes.{content_mark, attribute_mark, is_named, has_attributes, has_content}
+use Rattle.wap_markup.specs.Codes.{content_mark, attribute_mark, is_named}
+use Rattle.wap_markup.specs.Codes.{has_attributes, has_content}
 use Rattle.wap_markup.specs.Spellings.{Then, Told, Given, Never, When, ManyOf, Ended}
 use Rattle.wap_markup.specs.Strings.{Strings, IsInline, IsIndexed}
 
@@ -50,7 +52,8 @@ abbrev pub with_name : List (List ℕ) → List ℕ → List (List ℕ)
 with_name names name = if list_any (is_same_text name) names then names else names ++ (name ∷ [])
 
 abbrev pub counted : List ℕ → State → State
-counted name state = record state { names = if state.in_root then with_name state.names name else state.names }
+counted name state =
+    record state { names = if state.in_root then with_name state.names name else state.names }
 
 -- how many bytes a string table of these names takes: each in UTF-8, and a 0
 unfoldable pub table_size : List (List ℕ) → ℕ
@@ -60,7 +63,8 @@ table_size (name ∷ names) = utf8_len name + 1 + table_size names
 -- ---- what an item begins with: a byte, which a switch of the page may stand before
 
 abbrev pub IsLead : ℕ → List ℕ → Lead → Type 0
-IsLead page (byte ∷ []) lead = (byte ≢ SWITCH_PAGE) × (lead ≡ record { switched = false; page = page; byte = byte })
+IsLead page (byte ∷ []) lead =
+    (byte ≢ SWITCH_PAGE) × (lead ≡ record { switched = false; page = page; byte = byte })
 IsLead page (switch ∷ next ∷ byte ∷ []) lead =
     (switch ≡ SWITCH_PAGE) × (lead ≡ record { switched = true; page = next; byte = byte })
 IsLead page _ lead = ⊥
@@ -127,15 +131,18 @@ IsPieceBehind strings lead attribute.Nothing = Never
 -- a part of a value
 abbrev pub IsPiece : Strings → State → List ℕ → Piece × State → Type 0
 IsPiece strings before = Then (IsLead before.attribute_page) (λ lead.
-    Told (λ piece. (piece, on_attribute_page lead.page before)) (IsPieceBehind strings lead (attribute_mark lead)))
+    Told (λ piece. (piece, on_attribute_page lead.page before))
+    (IsPieceBehind strings lead (attribute_mark lead)))
 
 abbrev pub attribute_of : Lead → Token → List Piece × State → Attr × State
-attribute_of lead start value = (record { page = lead.page; start = start; value = value.0 }, value.1)
+attribute_of lead start value =
+    (record { page = lead.page; start = start; value = value.0 }, value.1)
 
 -- a start, and the parts of its value
 unfoldable pub IsAttribute : Strings → State → List ℕ → Attr × State → Type 0
 IsAttribute strings before = Then (IsLead before.attribute_page) (λ lead.
-    Then (IsStartBehind strings (on_attribute_page lead.page before) lead (attribute_mark lead)) (λ start.
+    Then (IsStartBehind strings (on_attribute_page lead.page before) lead (attribute_mark lead))
+    (λ start.
     Told (attribute_of lead start.0) (ManyOf (IsPiece strings) start.1)))
 
 abbrev pub IsAttributes : Strings → State → List ℕ → List Attr × State → Type 0
@@ -167,9 +174,12 @@ Elements = State → Lead → List ℕ → Element × State → Type 0
 abbrev pub of_kid : {A : Type 0} → (A → Kid) → A × State → Kid × State
 of_kid make x = (make x.0, x.1)
 
-abbrev pub IsKidBehind : Strings → Elements → State → Lead → ContentMark → List ℕ → Kid × State → Type 0
-IsKidBehind strings Inner before lead content.Element = Told (of_kid kid.Element) (Inner before lead)
-IsKidBehind strings Inner before lead content.Pi = Told (of_kid kid.Pi) (IsInstruction strings before)
+abbrev pub IsKidBehind : Strings → Elements → State → Lead → ContentMark → List ℕ
+    → Kid × State → Type 0
+IsKidBehind strings Inner before lead content.Element =
+    Told (of_kid kid.Element) (Inner before lead)
+IsKidBehind strings Inner before lead content.Pi =
+    Told (of_kid kid.Pi) (IsInstruction strings before)
 IsKidBehind strings Inner before lead (content.Leaf mark) =
     Told (λ leaf. (kid_of leaf, on_tag_page lead.page before)) (IsLeaf strings mark)
 IsKidBehind strings Inner before lead content.End = Never
@@ -178,7 +188,8 @@ IsKidBehind strings Inner before lead content.Nothing = Never
 -- a part of an element's content, in which such elements may stand
 abbrev pub IsKid : Strings → Elements → State → List ℕ → Kid × State → Type 0
 IsKid strings Inner before =
-    Then (IsLead before.tag_page) (λ lead. IsKidBehind strings Inner before lead (content_mark lead))
+    Then (IsLead before.tag_page) (λ lead.
+    IsKidBehind strings Inner before lead (content_mark lead))
 
 abbrev pub element_of : Lead → Token → List Attr → List Kid × State → Element × State
 element_of lead tag attributes kids =
@@ -196,4 +207,5 @@ IsElementOf strings Inner before lead =
 -- an element of so many levels at most
 unfoldable pub IsElement : Strings → ℕ → Elements
 IsElement strings zero before lead = Never
-IsElement strings (suc levels) before lead = IsElementOf strings (IsElement strings levels) before lead
+IsElement strings (suc levels) before lead =
+    IsElementOf strings (IsElement strings levels) before lead

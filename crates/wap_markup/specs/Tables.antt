@@ -1,12 +1,14 @@
 -- WML's names and their codes (WAP-191, section 14.3), as this crate's tables list them. The codes
 -- are those of page 0; no other page has any. All these texts are of US-ASCII, so their bytes are
 -- their characters.
-use Rattle.std.specs.Prelude.{ℕ, Bool, ◌==◌, ◌&&◌, nat_eq, if◌then◌else◌, map, unwrap_or, List, [], Option, None}
+use Rattle.std.specs.Prelude.{ℕ, Bool, ◌==◌, ◌&&◌, nat_eq, if◌then◌else◌, map}
+use Rattle.std.specs.Prelude.{unwrap_or, List, [], Option, None}
 use Rattle.std.specs.Map.{lookup}
 use Rattle.wap_base.specs.Texts.{is_same_text}
 use Rattle.wap_markup.specs.declared.name.Tag.{Tag}
 use Rattle.wap_markup.specs.declared.name.AttrName.{AttrName}
-use Rattle.wap_markup.specs.declared.tables.TheConstants.{TAGS, ATTR_NAMES, ATTR_STARTS, ATTR_VALUES}
+use Rattle.wap_markup.specs.declared.tables.TheConstants.{TAGS, ATTR_NAMES, ATTR_STARTS}
+use Rattle.wap_markup.specs.declared.tables.TheConstants.{ATTR_VALUES}
 use Rattle.wap_markup.specs.contracts.name.Tag as tags
 use Rattle.wap_markup.specs.contracts.name.AttrName as names
 use denote.Enum.Bare.{sameb}
@@ -95,7 +97,8 @@ unfoldable pub start_rows : List StartRow
 start_rows = map (λ row. (row.0, row.1, row.2.now)) ATTR_STARTS
 
 unfoldable pub attr_start : ℕ → ℕ → Option Start
-attr_start page code = if page == 0 then lookup (nat_eq code) (map start_by_code start_rows) else None
+attr_start page code =
+    if page == 0 then lookup (nat_eq code) (map start_by_code start_rows) else None
 
 -- the code of a start, and the first of an attribute
 unfoldable pub code_of_start : Start → Option ℕ

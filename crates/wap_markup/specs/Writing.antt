@@ -54,7 +54,8 @@ coded_attr code value = record { page = 0; start = Code code; value = value }
 -- by the code of the whole value, or by its name
 abbrev pub attr_without : Option ℕ → AttrName → List Piece → Attr
 attr_without (Some code) attr value = coded_attr code []
-attr_without None attr value = record { page = 0; start = Literal (name_of_attr attr); value = value }
+attr_without None attr value =
+    record { page = 0; start = Literal (name_of_attr attr); value = value }
 
 abbrev pub whole_code : AttrName → List Part → Option ℕ
 whole_code attr parts = option_and_then (λ text. code_of_start (attr, text)) (plain_text parts)
@@ -84,12 +85,14 @@ abbrev pub items_kids : (Node → List Kid) → List Item → List Kid
 items_kids inner items = flat_map (item_kids inner) items
 
 abbrev pub element_of : Node → List Kid → Element
-element_of node kids = record { page = 0; tag = Code (code_of node.tag); attrs = map attr_of node.attrs; kids = kids }
+element_of node kids =
+    record { page = 0; tag = Code (code_of node.tag); attrs = map attr_of node.attrs; kids = kids }
 
 -- a node of so many levels
 abbrev pub node_kids : ℕ → Node → List Kid
 node_kids zero node = []
-node_kids (suc levels) node = kid.Element (element_of node (items_kids (node_kids levels) node.kids)) ∷ []
+node_kids (suc levels) node =
+    kid.Element (element_of node (items_kids (node_kids levels) node.kids)) ∷ []
 
 -- WML 1.3 in UTF-8, by WBXML 1.3
 abbrev pub document_of : Deck → Document

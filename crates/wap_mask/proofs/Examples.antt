@@ -27,8 +27,10 @@ escaped_then_upper : is_taken (mask_of (92 ∷ 35 ∷ 65 ∷ [])) (codes "#B") �
 escaped_then_upper = refl
 
 -- a backslash at the end, a star and a count without a letter
-ill_formed : (mask_of (92 ∷ []) ≡ any_text) × (mask_of (codes "*") ≡ any_text) × (mask_of (codes "9") ≡ any_text)
+ill_formed : (mask_of (92 ∷ []) ≡ any_text) × (mask_of (codes "*") ≡ any_text)
+    × (mask_of (codes "9") ≡ any_text)
 ill_formed = (refl, refl, refl)
 
-empty_takes_nothing : (is_taken (mask_of []) [] ≡ true) × (is_taken (mask_of []) (codes "a") ≡ false)
+empty_takes_nothing : (is_taken (mask_of []) [] ≡ true)
+    × (is_taken (mask_of []) (codes "a") ≡ false)
 empty_takes_nothing = (refl, refl)

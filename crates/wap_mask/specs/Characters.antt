@@ -1,9 +1,13 @@
 -- Which characters a letter of a mask stands for (WAP-191, section 11.6.3, the attribute `format`).
-use Rattle.std.specs.Prelude.{ℕ, Bool, true, ◌&&◌, ◌||◌, not, Option, Some, None, ◌==◌, if◌then◌else◌}
-use Rattle.std.specs.Char.{is_ascii_digit, is_ascii_uppercase, is_ascii_lowercase, is_ascii_alphanumeric}
+use Rattle.std.specs.Prelude.{ℕ, Bool, true, ◌&&◌, ◌||◌, not, Option, Some}
+use Rattle.std.specs.Prelude.{None, ◌==◌, if◌then◌else◌}
+use Rattle.std.specs.Char.{is_ascii_digit, is_ascii_uppercase}
+use Rattle.std.specs.Char.{is_ascii_lowercase, is_ascii_alphanumeric}
 use Rattle.std.specs.Int.{is_in_range}
 use Rattle.wap_mask.specs.declared.class.Class.{Class}
-use Rattle.wap_mask.specs.declared.class.Class.TheVariants.{UpperOrMark, LowerOrMark, Digit, DigitOrMark, UpperDigitOrMark, LowerDigitOrMark, Any}
+use Rattle.wap_mask.specs.declared.class.Class.TheVariants.{UpperOrMark, LowerOrMark, Digit}
+use Rattle.wap_mask.specs.declared.class.Class.TheVariants.{DigitOrMark, UpperDigitOrMark}
+use Rattle.wap_mask.specs.declared.class.Class.TheVariants.{LowerDigitOrMark, Any}
 
 -- punctuation is every ASCII character from 20 to 7E that is no letter and no digit
 abbrev pub is_mark : ℕ → Bool

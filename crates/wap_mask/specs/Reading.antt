@@ -1,5 +1,7 @@
 -- The same by calculation: which symbols a mask's text has, and whether they take a text.
-use Rattle.std.specs.Prelude.{ℕ, ◌-◌, zero, suc, List, [], ◌∷◌, length, Bool, true, false, ◌&&◌, not, ◌==◌, Option, Some, None, option_map, option_and_then, unwrap_or, if◌then◌else◌}
+use Rattle.std.specs.Prelude.{ℕ, ◌-◌, zero, suc, List, [], ◌∷◌, length, Bool, true, false}
+use Rattle.std.specs.Prelude.{◌&&◌, not, ◌==◌, Option, Some, None, option_map}
+use Rattle.std.specs.Prelude.{option_and_then, unwrap_or, if◌then◌else◌}
 use Rattle.std.specs.Int.{is_in_range}
 use Rattle.wap_mask.specs.declared.class.Class.{Class}
 use Rattle.wap_mask.specs.declared.symbol.Symbol.{Symbol}
@@ -20,7 +22,8 @@ after_all class (c ∷ text) = if is_in class c then after_all class text else c
 abbrev pub after_up_to : Class → ℕ → List ℕ → List ℕ
 after_up_to class zero text = text
 after_up_to class (suc most) [] = []
-after_up_to class (suc most) (c ∷ text) = if is_in class c then after_up_to class most text else c ∷ text
+after_up_to class (suc most) (c ∷ text) =
+    if is_in class c then after_up_to class most text else c ∷ text
 
 -- no character is left
 abbrev pub is_empty : List ℕ → Bool
@@ -34,7 +37,8 @@ first_of (c ∷ text) = Some (c, text)
 
 -- what follows the longest prefix that a symbol takes of a text
 abbrev pub after : Symbol → List ℕ → Option (List ℕ)
-after (One class) text = first_of text >>= λ first. if is_in class first.0 then Some first.1 else None
+after (One class) text =
+    first_of text >>= λ first. if is_in class first.0 then Some first.1 else None
 after (Exactly c) text = first_of text >>= λ first. if first.0 == c then Some first.1 else None
 after (UpTo most class) text = Some (after_up_to class most text)
 after (AnyNumber class) text = Some (after_all class text)
@@ -53,7 +57,8 @@ abbrev pub symbol_at : List ℕ → Option (Symbol × List ℕ)
 symbol_at text = first_of text >>= λ first.
     if first.0 == 92 then (first_of first.1 >>= λ kept. Some (Exactly kept.0, kept.1))
     else (if first.0 == 42 then (class_at first.1 >>= λ read. Some (AnyNumber read.0, read.1))
-    else (if is_in_range 49 57 first.0 then (class_at first.1 >>= λ read. Some (UpTo (first.0 - 48) read.0, read.1))
+    else (if is_in_range 49 57 first.0
+    then (class_at first.1 >>= λ read. Some (UpTo (first.0 - 48) read.0, read.1))
     else (class_at text >>= λ read. Some (One read.0, read.1))))
 
 -- the symbol repeats though more of the text follows it
@@ -65,7 +70,8 @@ abbrev pub symbols_at : ℕ → List ℕ → Option (List Symbol)
 symbols_at fuel [] = Some []
 symbols_at zero (c ∷ text) = None
 symbols_at (suc fuel) (c ∷ text) = symbol_at (c ∷ text) >>= λ read.
-    if is_misplaced read.0 read.1 then None else option_map (λ mask. read.0 ∷ mask) (symbols_at fuel read.1)
+    if is_misplaced read.0 read.1 then None
+    else option_map (λ mask. read.0 ∷ mask) (symbols_at fuel read.1)
 
 -- the symbols of a well-formed mask's text
 abbrev pub symbols_of : List ℕ → Option (List Symbol)

@@ -16,4 +16,6 @@ Takes (AnyNumber class) text = AllPass (is_in class) text
 -- the texts of a mask: a text of its first symbol, and after it a text of the others
 abbrev pub IsTaken : List Symbol → List ℕ → Type 0
 IsTaken [] text = text ≡ []
-IsTaken (symbol ∷ mask) text = (front : List ℕ) × (back : List ℕ) × (text ≡ front ++ back) × Takes symbol front × IsTaken mask back
+IsTaken (symbol ∷ mask) text =
+    (front : List ℕ) × (back : List ℕ) × (text ≡ front ++ back) × Takes symbol front
+    × IsTaken mask back

@@ -4,7 +4,8 @@ ghost use Rattle.std.specs.Option.{option_copied};
 ghost use Rattle.wap_base.specs.Ascii.{slash};
 ghost use Rattle.wap_base.specs.Cuts.{begins_with};
 ghost use Rattle.wap_url.specs.Characters.{is_slash};
-ghost use Rattle.wap_world.specs.Access.{access_text, path_reference, rooted_path, access_in, access_of, allows, may_enter};
+ghost use Rattle.wap_world.specs.Access.{access_text, path_reference, rooted_path};
+ghost use Rattle.wap_world.specs.Access.{access_in, access_of, allows, may_enter};
 
 use std::alloc::Global;
 use wap_base::{NoMemory, Text};

@@ -1,5 +1,6 @@
 -- What a document of texts means is a deck of texts.
-use Rattle.std.proofs.Common.{◌≡◌, ◌≢◌, ℕ, zero, suc, ◌-◌, true, List, [], ◌∷◌, ◌++◌, Option, Some, None, refl, sym, subst, inl, inr}
+use Rattle.std.proofs.Common.{◌≡◌, ◌≢◌, ℕ, zero, suc, ◌-◌, true, List, [], ◌∷◌, ◌++◌}
+use Rattle.std.proofs.Common.{Option, Some, None, refl, sym, subst, inl, inr}
 use Rattle.std.specs.List.{filter_map, cons_option, AllByRecursion}
 use Rattle.std.specs.Option.{option_and_then}
 use Rattle.std.proofs.lemmas.Bool.{cases_Bool, cond-true, cond-false, and_from}
@@ -29,9 +30,36 @@ use Rattle.wap_markup.specs.declared.name.Tag.TheVariants as tags
 use Rattle.wap_markup.specs.declared.name.AttrName.{AttrName}
 use Rattle.wap_markup.specs.Tables.{Start, attr_value}
 use Rattle.wap_markup.specs.Trees.{ItemLevel, words_from}
-use Rattle.wap_markup.specs.Decks.{literal, character, reference, before, joined, piece_part, value_after, start_of, attribute_from, attribute, Mark, part, node, text_before, part_before, items_of, part_marks, marks_from, KidLevel, kid_marks, kids_marks, tag_in, element_from, element_marks, deck_of}
+use Rattle.wap_markup.specs.Decks.{
+  literal,
+  character,
+  reference,
+  before,
+  joined,
+  piece_part,
+  value_after,
+  start_of,
+  attribute_from,
+  attribute,
+  Mark,
+  part,
+  node,
+  text_before,
+  part_before,
+  items_of,
+  part_marks,
+  marks_from,
+  KidLevel,
+  kid_marks,
+  kids_marks,
+  tag_in,
+  element_from,
+  element_marks,
+  deck_of,
+}
 use Rattle.wap_tokens.proofs.TagTable.{tag_of-known, tag_named-known}
-use Rattle.wap_spelling.specs.Spellable.{IsString, FitsPiece, FitsAttr, FitsOpened, FitsKid, FitsElementOf, FitsElement, HasTexts}
+use Rattle.wap_spelling.specs.Spellable.{IsString, FitsPiece, FitsAttr, FitsOpened, FitsKid}
+use Rattle.wap_spelling.specs.Spellable.{FitsElementOf, FitsElement, HasTexts}
 use Rattle.wap_rewriting.proofs.Texts.{OfCharacters, text_append, value_text, start_text}
 
 -- ---- decks of texts, known tags below the root
@@ -76,8 +104,11 @@ literal_any (c ∷ cs) is = is
 
 character_any : (number : ℕ) → TextAny (character number)
 character_any number = elim (cases_Bool (scalar number)) [
-  | inl is ↦ subst TextAny (sym (cond-true (scalar number) (Some (Lit (number ∷ []))) None is)) (and_from (scalar number) _ is refl)
-  | inr isnt ↦ subst TextAny (sym (cond-false (scalar number) (Some (Lit (number ∷ []))) None isnt)) tt
+  | inl is ↦
+      subst TextAny (sym (cond-true (scalar number) (Some (Lit (number ∷ []))) None is))
+      (and_from (scalar number) _ is refl)
+  | inr isnt ↦
+      subst TextAny (sym (cond-false (scalar number) (Some (Lit (number ∷ []))) None isnt)) tt
 ]
 
 reference_any : (name : List ℕ) (conv : Conv) → TextAny (reference name conv)
@@ -108,7 +139,8 @@ pieces_are : (pieces : List Piece) → AllByRecursion (FitsPiece IsString) piece
     → AllByRecursion TextPart (filter_map piece_part pieces)
 pieces_are [] fit = tt
 pieces_are (one ∷ pieces) fit =
-    cons_any (piece_part one) (filter_map piece_part pieces) (piece_any one fit.0) (pieces_are pieces fit.1)
+    cons_any (piece_part one) (filter_map piece_part pieces) (piece_any one fit.0)
+    (pieces_are pieces fit.1)
 
 before_each : (first : Part) (parts : List Part) → TextPart first → AllByRecursion TextPart parts
     → AllByRecursion TextPart (before first parts)
@@ -117,29 +149,37 @@ before_each (Lit a) (Lit b ∷ parts) is each = (text_append a b is each.0, each
 before_each (Lit a) (Var name conv ∷ parts) is each = (is, each)
 before_each (Var name conv) parts is each = (is, each)
 
-joined_each : (parts : List Part) → AllByRecursion TextPart parts → AllByRecursion TextPart (joined parts)
+joined_each : (parts : List Part) → AllByRecursion TextPart parts
+    → AllByRecursion TextPart (joined parts)
 joined_each [] each = tt
-joined_each (first ∷ parts) each = before_each first (joined parts) each.0 (joined_each parts each.1)
+joined_each (first ∷ parts) each =
+    before_each first (joined parts) each.0 (joined_each parts each.1)
 
 -- ---- attributes
 
-begun_is : (text : List ℕ) → OfCharacters text → (value : List Piece) → AllByRecursion (FitsPiece IsString) value
+begun_is : (text : List ℕ) → OfCharacters text → (value : List Piece)
+    → AllByRecursion (FitsPiece IsString) value
     → AllByRecursion TextPart (value_after text value)
 begun_is text is value fit =
     joined_each (cons_option (literal text) (filter_map piece_part value))
-    (cons_any (literal text) (filter_map piece_part value) (literal_any text is) (pieces_are value fit))
+    (cons_any (literal text) (filter_map piece_part value) (literal_any text is)
+    (pieces_are value fit))
 
-attribute_more : (start : Option Start) → ((found : Start) → start ≡ Some found → OfCharacters found.1) → (value : List Piece)
+attribute_more : (start : Option Start)
+    → ((found : Start) → start ≡ Some found → OfCharacters found.1) → (value : List Piece)
     → AllByRecursion (FitsPiece IsString) value → (others : List (AttrName × List Part))
-    → AllByRecursion TextAttribute others → AllByRecursion TextAttribute (cons_option (attribute_from start value) others)
+    → AllByRecursion TextAttribute others
+    → AllByRecursion TextAttribute (cons_option (attribute_from start value) others)
 attribute_more None are value fit others each = each
-attribute_more (Some start) are value fit others each = (begun_is start.1 (are start refl) value fit, each)
+attribute_more (Some start) are value fit others each =
+    (begun_is start.1 (are start refl) value fit, each)
 
 attributes_are : (attrs : List Attr) → AllByRecursion (FitsAttr IsString) attrs
     → AllByRecursion TextAttribute (filter_map attribute attrs)
 attributes_are [] fit = tt
 attributes_are (attr ∷ attrs) fit =
-    attribute_more (start_of attr.page attr.start) (start_text attr.page attr.start) attr.value fit.0.value
+    attribute_more (start_of attr.page attr.start)
+    (start_text attr.page attr.start) attr.value fit.0.value
     (filter_map attribute attrs) (attributes_are attrs fit.1)
 
 -- ---- items
@@ -155,7 +195,8 @@ text_opened inner parts each = subst (TextItem inner) (sym (outs-Text parts)) ea
 node_opened : (inner : Node → Type 0) (one : Node) → inner one → TextOpened inner (item.Node one)
 node_opened inner one is = subst (TextItem inner) (sym (outs-Node one)) is
 
-before_opened : (inner : Node → Type 0) (first : Part) (level : ItemLevel) (next : Item) (items : List Item)
+before_opened : (inner : Node → Type 0) (first : Part) (level : ItemLevel) (next : Item)
+    (items : List Item)
     → TextPart first → TextItem inner level → AllByRecursion (TextOpened inner) (next ∷ items)
     → AllByRecursion (TextOpened inner) (text_before first next (words_from level) items)
 before_opened inner first (Item-F.Text parts) next items is parts_are each =
@@ -164,7 +205,8 @@ before_opened inner first (Item-F.Node one) next items is one_is each =
     (text_opened inner (first ∷ []) (is, tt), each)
 
 part_before_each : (inner : Node → Type 0) (first : Part) (items : List Item) → TextPart first
-    → AllByRecursion (TextOpened inner) items → AllByRecursion (TextOpened inner) (part_before first items)
+    → AllByRecursion (TextOpened inner) items
+    → AllByRecursion (TextOpened inner) (part_before first items)
 part_before_each inner first [] is each = (text_opened inner (first ∷ []) (is, tt), tt)
 part_before_each inner first (next ∷ items) is each =
     before_opened inner first (out-Item next) next items is each.0 each
@@ -174,22 +216,28 @@ items_each : (inner : Node → Type 0) (marks : List Mark) → AllByRecursion (T
 items_each inner [] each = tt
 items_each inner (part first ∷ marks) each =
     part_before_each inner first (items_of marks) each.0 (items_each inner marks each.1)
-items_each inner (node first ∷ marks) each = (node_opened inner first each.0, items_each inner marks each.1)
+items_each inner (node first ∷ marks) each =
+    (node_opened inner first each.0, items_each inner marks each.1)
 
 -- ---- what holds of fewer levels holds of more
 
-item_grown : (inner outer : Node → Type 0) → ((one : Node) → inner one → outer one) → (level : ItemLevel)
+item_grown : (inner outer : Node → Type 0) → ((one : Node) → inner one → outer one)
+    → (level : ItemLevel)
     → TextItem inner level → TextItem outer level
 item_grown inner outer grows (Item-F.Text parts) is = is
 item_grown inner outer grows (Item-F.Node one) is = grows one is
 
-items_grown : (inner outer : Node → Type 0) → ((one : Node) → inner one → outer one) → (items : List Item)
+items_grown : (inner outer : Node → Type 0) → ((one : Node) → inner one → outer one)
+    → (items : List Item)
     → AllByRecursion (TextOpened inner) items → AllByRecursion (TextOpened outer) items
 items_grown inner outer grows [] each = tt
-items_grown inner outer grows (first ∷ items) each =
-    (item_grown inner outer grows (out-Item first) each.0, items_grown inner outer grows items each.1)
+items_grown inner outer grows (first ∷ items) each = (
+  item_grown inner outer grows (out-Item first) each.0,
+  items_grown inner outer grows items each.1,
+)
 
-element_grown : (inner outer : Node → Type 0) → ((one : Node) → inner one → outer one) → (one : Node)
+element_grown : (inner outer : Node → Type 0) → ((one : Node) → inner one → outer one)
+    → (one : Node)
     → TextElement inner one → TextElement outer one
 element_grown inner outer grows one is = record {
   known = is.known;
@@ -199,35 +247,42 @@ element_grown inner outer grows one is = record {
 
 node_grown : (levels : ℕ) (one : Node) → TextNode levels one → TextNode (suc levels) one
 node_grown zero one is = absurd is
-node_grown (suc levels) one is = element_grown (TextNode levels) (TextNode (suc levels)) (node_grown levels) one is
+node_grown (suc levels) one is =
+    element_grown (TextNode levels) (TextNode (suc levels)) (node_grown levels) one is
 
-mark_grown : (levels : ℕ) (mark : Mark) → TextMark (TextNode levels) mark → TextMark (TextNode (suc levels)) mark
+mark_grown : (levels : ℕ) (mark : Mark) → TextMark (TextNode levels) mark
+    → TextMark (TextNode (suc levels)) mark
 mark_grown levels (part first) is = is
 mark_grown levels (node first) is = node_grown levels first is
 
 marks_grown : (levels : ℕ) (marks : List Mark) → AllByRecursion (TextMark (TextNode levels)) marks
     → AllByRecursion (TextMark (TextNode (suc levels))) marks
 marks_grown levels [] each = tt
-marks_grown levels (mark ∷ marks) each = (mark_grown levels mark each.0, marks_grown levels marks each.1)
+marks_grown levels (mark ∷ marks) each =
+    (mark_grown levels mark each.0, marks_grown levels marks each.1)
 
 -- ---- elements
 
-each_append : (P : Mark → Type 0) (marks more : List Mark) → AllByRecursion P marks → AllByRecursion P more
+each_append : (P : Mark → Type 0) (marks more : List Mark) → AllByRecursion P marks
+    → AllByRecursion P more
     → AllByRecursion P (marks ++ more)
 each_append P [] more each others = others
 each_append P (mark ∷ marks) more each others = (each.0, each_append P marks more each.1 others)
 
-any_mark : (inner : Node → Type 0) (one : Option Part) → TextAny one → AllByRecursion (TextMark inner) (part_marks one)
+any_mark : (inner : Node → Type 0) (one : Option Part) → TextAny one
+    → AllByRecursion (TextMark inner) (part_marks one)
 any_mark inner None is = tt
 any_mark inner (Some one) is = (is, tt)
 
 module _ (P : Node → Type 0) (Fits : Element → Type 0) (inner : Element → List Mark)
     (are : (element : Element) → Fits element → AllByRecursion (TextMark P) (inner element)) where
-  kid_marks_are : (level : KidLevel) → FitsOpened IsString Fits level → AllByRecursion (TextMark P) (marks_from inner level)
+  kid_marks_are : (level : KidLevel) → FitsOpened IsString Fits level
+      → AllByRecursion (TextMark P) (marks_from inner level)
   kid_marks_are (Kid-F.Element element) fits = are element fits
   kid_marks_are (Kid-F.Str text) fits = any_mark P (literal text) (literal_any text fits.1)
   kid_marks_are (Kid-F.Entity number) fits = any_mark P (character number) (character_any number)
-  kid_marks_are (Kid-F.Var name conv) fits = any_mark P (reference name conv) (reference_any name conv)
+  kid_marks_are (Kid-F.Var name conv) fits =
+      any_mark P (reference name conv) (reference_any name conv)
   kid_marks_are (Kid-F.Ext index) fits = tt
   kid_marks_are (Kid-F.Opaque bytes) fits = tt
   kid_marks_are (Kid-F.Pi attr) fits = tt
@@ -236,14 +291,16 @@ module _ (P : Node → Type 0) (Fits : Element → Type 0) (inner : Element → 
       → AllByRecursion (TextMark P) (kids_marks inner kids)
   kids_marks_are [] fit = tt
   kids_marks_are (kid ∷ kids) fit =
-      each_append (TextMark P) (kid_marks inner kid) (kids_marks inner kids) (kid_marks_are (out-Kid kid) fit.0)
+      each_append (TextMark P) (kid_marks inner kid) (kids_marks inner kids)
+      (kid_marks_are (out-Kid kid) fit.0)
       (kids_marks_are kids fit.1)
 
 tag_known : (page : ℕ) (token : Token) (tag : Tag) → tag_in page token ≡ Some tag → tag ≢ tags.Other
 tag_known page (Code code) tag found = tag_of-known page code tag found
 tag_known page (Literal name) tag found = tag_named-known name tag found
 
-element_are : (levels : ℕ) (attrs : List Attr) → AllByRecursion (FitsAttr IsString) attrs → (content : List Mark)
+element_are : (levels : ℕ) (attrs : List Attr) → AllByRecursion (FitsAttr IsString) attrs
+    → (content : List Mark)
     (found : Option Tag) → ((tag : Tag) → found ≡ Some tag → tag ≢ tags.Other)
     → AllByRecursion (TextMark (TextNode levels)) content
     → AllByRecursion (TextMark (TextNode (suc levels))) (element_from found attrs content)
@@ -269,7 +326,8 @@ element_marks_are (suc levels) element fits =
     let inside = fits_inside levels element fits in
     element_are levels element.attrs inside.attrs (kids_marks (element_marks levels) element.kids)
     (tag_in element.page element.tag) (tag_known element.page element.tag)
-    (kids_marks_are (TextNode levels) (FitsElement IsString levels) (element_marks levels) (element_marks_are levels)
+    (kids_marks_are (TextNode levels) (FitsElement IsString levels) (element_marks levels)
+    (element_marks_are levels)
     element.kids inside.kids)
 
 pub deck_texts : (document : Document) → HasTexts document → TextDeck (deck_of document)
@@ -281,6 +339,7 @@ deck_texts document texts =
       attributes = attributes_are root.attrs inside.attrs;
       items =
           items_each (TextNode levels) (kids_marks (element_marks levels) root.kids)
-          (kids_marks_are (TextNode levels) (FitsElement IsString levels) (element_marks levels) (element_marks_are levels)
+          (kids_marks_are (TextNode levels) (FitsElement IsString levels) (element_marks levels)
+          (element_marks_are levels)
           root.kids inside.kids);
     }

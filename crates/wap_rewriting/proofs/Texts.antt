@@ -1,5 +1,7 @@
 -- Texts: those of the tables, names of variables, and the strings of a text.
-use Rattle.std.proofs.Common.{◌≡◌, ℕ, zero, suc, ◌<◌, ◌≤◌, Bool, true, false, cond, leb, ltb, map, List, [], ◌∷◌, ◌++◌, Option, Some, None, refl, sym, ap, inl, inr, arith, lt-ltb}
+use Rattle.std.proofs.Common.{◌≡◌, ℕ, zero, suc, ◌<◌, ◌≤◌, Bool, true, false, cond}
+use Rattle.std.proofs.Common.{leb, ltb, map, List, [], ◌∷◌, ◌++◌, Option, Some, None}
+use Rattle.std.proofs.Common.{refl, sym, ap, inl, inr, arith, lt-ltb}
 use Rattle.std.specs.Prelude.{◌&&◌, ◌==◌, not, nat_eq}
 use Rattle.std.specs.List.{list_all, AllByRecursion}
 use Rattle.std.specs.Map.{lookup}
@@ -16,7 +18,8 @@ use Rattle.wap_markup.specs.declared.document.Token.TheVariants.{Code, Literal}
 use Rattle.wap_markup.specs.declared.name.AttrName.{AttrName}
 use Rattle.wap_markup.specs.declared.name.AttrName.TheVariants as attrs
 use Rattle.wap_markup.specs.Strings.{is_not_zero}
-use Rattle.wap_markup.specs.Tables.{name_rows, name_of_attr, Start, start_by_code, start_rows, attr_start, attr_named, value_rows, attr_value}
+use Rattle.wap_markup.specs.Tables.{name_rows, name_of_attr, Start, start_by_code, start_rows}
+use Rattle.wap_markup.specs.Tables.{attr_start, attr_named, value_rows, attr_value}
 use Rattle.wap_markup.specs.Decks.{start_of}
 use Rattle.wap_markup.specs.Writing.{run_before, runs_of}
 use Rattle.wap_tokens.proofs.Found.{found_passes}
@@ -41,37 +44,49 @@ starts_are : list_all (λ row. all_scalars row.1.1) (map start_by_code start_row
 unfolding start_rows
 starts_are = refl
 
-name_fits : (attr : AttrName) → (list_all is_not_zero (name_of_attr attr) && all_scalars (name_of_attr attr)) ≡ true
+name_fits : (attr : AttrName)
+    → (list_all is_not_zero (name_of_attr attr) && all_scalars (name_of_attr attr)) ≡ true
 unfolding name_of_attr name_rows
 name_fits attrs.Align = refl
 name_fits attr = refl
 
 pub known_name : (attr : AttrName) → IsString (name_of_attr attr)
-known_name attr = and_parts (list_all is_not_zero (name_of_attr attr)) (all_scalars (name_of_attr attr)) (name_fits attr)
+known_name attr =
+    and_parts (list_all is_not_zero (name_of_attr attr)) (all_scalars (name_of_attr attr))
+    (name_fits attr)
 
-pub value_text : (page code : ℕ) (text : List ℕ) → attr_value page code ≡ Some text → OfCharacters text
+pub value_text : (page code : ℕ) (text : List ℕ) → attr_value page code ≡ Some text
+    → OfCharacters text
 unfolding attr_value
-value_text page code text found = elim (chosen (page == 0) (lookup (nat_eq code) value_rows) None (Some text) found) [
-  | inl here ↦ (found_passes (nat_eq code) (λ row. all_scalars row.1) value_rows text values_are here.1).2
-  | inr none ↦ absurd (cc none.1)
-]
+value_text page code text found =
+    elim (chosen (page == 0) (lookup (nat_eq code) value_rows) None (Some text) found) [
+      | inl here ↦
+          (found_passes (nat_eq code)
+          (λ row. all_scalars row.1) value_rows text values_are here.1).2
+      | inr none ↦ absurd (cc none.1)
+    ]
 
-coded_text : (page code : ℕ) (start : Start) → attr_start page code ≡ Some start → OfCharacters start.1
+coded_text : (page code : ℕ) (start : Start) → attr_start page code ≡ Some start
+    → OfCharacters start.1
 unfolding attr_start
 coded_text page code start found =
     let rows = map start_by_code start_rows in
     elim (chosen (page == 0) (lookup (nat_eq code) rows) None (Some start) found) [
-      | inl here ↦ (found_passes (nat_eq code) (λ row. all_scalars row.1.1) rows start starts_are here.1).2
+      | inl here ↦
+          (found_passes (nat_eq code) (λ row. all_scalars row.1.1) rows start starts_are here.1).2
       | inr none ↦ absurd (cc none.1)
     ]
 
-named_text : (found : Option AttrName) (start : Start) → option_map (λ attr. (attr, [])) found ≡ Some start
+named_text : (found : Option AttrName) (start : Start)
+    → option_map (λ attr. (attr, [])) found ≡ Some start
     → OfCharacters start.1
 named_text None start is = absurd (cc is)
-named_text (Some attr) start is = ap (λ (s : Start). all_scalars s.1) (sym (some_same (attr, []) start is))
+named_text (Some attr) start is =
+    ap (λ (s : Start). all_scalars s.1) (sym (some_same (attr, []) start is))
 
 -- the text with which a value begins
-pub start_text : (page : ℕ) (token : Token) (start : Start) → start_of page token ≡ Some start → OfCharacters start.1
+pub start_text : (page : ℕ) (token : Token) (start : Start) → start_of page token ≡ Some start
+    → OfCharacters start.1
 start_text page (Code code) start found = coded_text page code start found
 start_text page (Literal name) start found = named_text (attr_named name) start found
 
@@ -110,15 +125,19 @@ begins_scalar c is = elim (cases_lt c 128) [
   | inr past ↦ absurd (cc (is, past_begins c past))
 ]
 
-string_more : (c : ℕ) (text : List ℕ) → is_not_zero c ≡ true → scalar c ≡ true → IsString text → IsString (c ∷ text)
-string_more c text some one is =
-    (and_from (is_not_zero c) (list_all is_not_zero text) some is.0, and_from (scalar c) (all_scalars text) one is.1)
+string_more : (c : ℕ) (text : List ℕ) → is_not_zero c ≡ true → scalar c ≡ true → IsString text
+    → IsString (c ∷ text)
+string_more c text some one is = (
+  and_from (is_not_zero c) (list_all is_not_zero text) some is.0,
+  and_from (scalar c) (all_scalars text) one is.1,
+)
 
 rest_string : (cs : List ℕ) → list_all continues_name cs ≡ true → IsString cs
 rest_string [] is = (refl, refl)
 rest_string (c ∷ cs) is =
     let parts = and_parts (continues_name c) (list_all continues_name cs) is in
-    string_more c cs (continues_not_zero c parts.0) (continues_scalar c parts.0) (rest_string cs parts.1)
+    string_more c cs (continues_not_zero c parts.0) (continues_scalar c parts.0)
+    (rest_string cs parts.1)
 
 pub name_string : (name : List ℕ) → is_name name ≡ true → IsString name
 name_string [] is = absurd (cc is)
@@ -132,11 +151,14 @@ abbrev pub RunFits : Option (List ℕ) → Type 0
 RunFits None = Unit {0}
 RunFits (Some text) = IsString text
 
-run_before_fits : (c : ℕ) (runs : List (Option (List ℕ))) → scalar (suc c) ≡ true → AllByRecursion RunFits runs
+run_before_fits : (c : ℕ) (runs : List (Option (List ℕ))) → scalar (suc c) ≡ true
+    → AllByRecursion RunFits runs
     → AllByRecursion RunFits (run_before (suc c) runs)
 run_before_fits c [] one fits = (string_more (suc c) [] (not_zero c) one (refl, refl), tt)
-run_before_fits c (None ∷ runs) one fits = (string_more (suc c) [] (not_zero c) one (refl, refl), fits)
-run_before_fits c (Some text ∷ runs) one fits = (string_more (suc c) text (not_zero c) one fits.0, fits.1)
+run_before_fits c (None ∷ runs) one fits =
+    (string_more (suc c) [] (not_zero c) one (refl, refl), fits)
+run_before_fits c (Some text ∷ runs) one fits =
+    (string_more (suc c) text (not_zero c) one fits.0, fits.1)
 
 pub runs_fit : (text : List ℕ) → OfCharacters text → AllByRecursion RunFits (runs_of text)
 runs_fit [] is = tt

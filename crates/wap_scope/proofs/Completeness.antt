@@ -1,5 +1,6 @@
 -- A scoped program has no faults.
-use Rattle.std.proofs.Common.{◌≡◌, ℕ, ◌<◌, false, not, nat_le, List, [], ◌++◌, length, Some, refl, ap, ◌∙◌, arith}
+use Rattle.std.proofs.Common.{◌≡◌, ℕ, ◌<◌, false, not, nat_le, List, [], ◌++◌}
+use Rattle.std.proofs.Common.{length, Some, refl, ap, ◌∙◌, arith}
 use Rattle.std.specs.Option.{is_some}
 use Rattle.std.proofs.lemmas.Bool.Decides.{nat_tests}
 use Rattle.wap_code.specs.Libraries.{lib_named}
@@ -8,12 +9,17 @@ use Rattle.wap_program.specs.declared.program.Use.{Use}
 use Rattle.wap_program.specs.declared.program.Use.TheVariants.{Url, Access, Agent, Note}
 use Rattle.wap_program.specs.declared.program.Function.{Function}
 use Rattle.wap_program.specs.declared.program.Program.{Program}
-use Rattle.wap_scope.specs.declared.limits.TheConstants.{VARIABLE_LIMIT, FUNCTION_LIMIT, ARGUMENT_LIMIT}
+use Rattle.wap_scope.specs.declared.limits.TheConstants.{VARIABLE_LIMIT, FUNCTION_LIMIT}
+use Rattle.wap_scope.specs.declared.limits.TheConstants.{ARGUMENT_LIMIT}
 use Rattle.wap_scope.specs.declared.fault.ScopeFault.{ScopeFault}
 use Rattle.wap_scope.specs.declared.fault.ScopeFault.TheVariants as fault
-use Rattle.wap_scope.specs.Names.{Reference, Variable, Local, External, Library, Mention, Declares, Refers, Jumps, said, names_declared, function_named, units, accesses}
-use Rattle.wap_scope.specs.Scoped.{is_among, arity_of, library_arity, is_taken, Says, HasFunction, HasUse, IsScoped}
-use Rattle.wap_scope.specs.Faults.{fault_if, scope_of, reference_faults, mention_rule, function_rule, use_rule, one_by_one, faults, first_fault}
+use Rattle.wap_scope.specs.Names.{Reference, Variable, Local, External, Library}
+use Rattle.wap_scope.specs.Names.{Mention, Declares, Refers, Jumps, said}
+use Rattle.wap_scope.specs.Names.{names_declared, function_named, units, accesses}
+use Rattle.wap_scope.specs.Scoped.{is_among, arity_of, library_arity, is_taken, Says}
+use Rattle.wap_scope.specs.Scoped.{HasFunction, HasUse, IsScoped}
+use Rattle.wap_scope.specs.Faults.{fault_if, scope_of, reference_faults, mention_rule}
+use Rattle.wap_scope.specs.Faults.{function_rule, use_rule, one_by_one, faults, first_fault}
 use Rattle.wap_scope.proofs.Lists.{none_both, none_if, is_false, some_mapped, none_at_all}
 
 not_yet : (count limit : ℕ) → count < limit → nat_le limit count ≡ false

@@ -1,5 +1,6 @@
 -- Walks over expressions, by their parts.
-use Rattle.std.proofs.Common.{◌≡◌, ℕ, Bool, List, [], ◌∷◌, ◌++◌, length, map, Option, Result, Ok, refl, ap, ◌∙◌}
+use Rattle.std.proofs.Common.{◌≡◌, ℕ, Bool, List, [], ◌∷◌, ◌++◌, length, map}
+use Rattle.std.proofs.Common.{Option, Result, Ok, refl, ap, ◌∙◌}
 use Rattle.std.specs.List.{flat_map}
 use Rattle.std.proofs.lemmas.List.{map-append}
 use Rattle.wap_base.specs.Outcome.{◌>>=◌}
@@ -10,11 +11,14 @@ use Rattle.wap_program.specs.declared.expression.Literal.{Literal}
 use Rattle.wap_program.specs.declared.expression.Expr.{Expr}
 use Rattle.wap_program.specs.declared.expression.Expr.TheVariants as expr
 use Rattle.wap_scope.specs.declared.fault.ScopeFault.{ScopeFault}
-use Rattle.wap_scope.specs.Names.{Reference, Variable, Local, External, Library, Mention, Refers, references, refers}
+use Rattle.wap_scope.specs.Names.{Reference, Variable, Local, External, Library}
+use Rattle.wap_scope.specs.Names.{Mention, Refers, references, refers}
 use Rattle.wap_scope.specs.Faults.{Scope}
 use Rattle.wap_scope.specs.inside.Walks.{mention_at, walked, walked_each}
-use Rattle.wap_scope.proofs.Walking.{bind_end, bind_same, walked-append, walked-flat, walked-flat_last}
-use Rattle.wap_scope.proofs.Parts.{of_literal, of_variable, of_assignment, of_step, of_unary, of_chain, of_choice, of_local, of_external, of_library}
+use Rattle.wap_scope.proofs.Walking.{bind_end, bind_same, walked-append}
+use Rattle.wap_scope.proofs.Walking.{walked-flat, walked-flat_last}
+use Rattle.wap_scope.proofs.Parts.{of_literal, of_variable, of_assignment, of_step, of_unary}
+use Rattle.wap_scope.proofs.Parts.{of_chain, of_choice, of_local, of_external, of_library}
 
 refers_flat : {X : Type 0} (of : X → List Reference) (xs : List X) →
     map Refers (flat_map of xs) ≡ flat_map (λ x. map Refers (of x)) xs

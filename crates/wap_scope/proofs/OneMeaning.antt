@@ -1,5 +1,7 @@
 -- Each name of a scoped program means one thing.
-use Rattle.std.proofs.Common.{◌≡◌, ℕ, zero, suc, ◌<◌, ◌≤◌, Bool, true, false, ◌||◌, cond, nat_eq, nat_le, List, [], ◌∷◌, ◌++◌, length, get_or, take, drop, map, Option, Some, None, unwrap_or, refl, sym, ap, subst, ◌∙◌, append_assoc, arith}
+use Rattle.std.proofs.Common.{◌≡◌, ℕ, zero, suc, ◌<◌, ◌≤◌, Bool, true, false, ◌||◌, cond, nat_eq}
+use Rattle.std.proofs.Common.{nat_le, List, [], ◌∷◌, ◌++◌, length, get_or, take, drop, map, Option}
+use Rattle.std.proofs.Common.{Some, None, unwrap_or, refl, sym, ap, subst, ◌∙◌, append_assoc, arith}
 use Rattle.std.specs.List.{filter_map, cons_option}
 use Rattle.std.specs.Option.{is_some, option_map}
 use Rattle.std.proofs.lemmas.Bool.Decides.{nat_tests}
@@ -12,9 +14,13 @@ use Rattle.wap_program.specs.declared.program.Use.{Use}
 use Rattle.wap_program.specs.declared.program.Use.TheVariants.{Url, Access, Agent, Note}
 use Rattle.wap_program.specs.declared.program.Function.{Function}
 use Rattle.wap_program.specs.declared.program.Program.{Program}
-use Rattle.wap_scope.specs.declared.limits.TheConstants.{VARIABLE_LIMIT, FUNCTION_LIMIT, ARGUMENT_LIMIT}
-use Rattle.wap_scope.specs.Names.{Variable, Local, External, Library, Mention, Declares, Refers, Jumps, said, declared, names_declared, function_named, unit_of, units}
-use Rattle.wap_scope.specs.Scoped.{is_among, arity_of, is_taken, Says, HasFunction, HasUse, IsScoped}
+use Rattle.wap_scope.specs.declared.limits.TheConstants.{VARIABLE_LIMIT, FUNCTION_LIMIT}
+use Rattle.wap_scope.specs.declared.limits.TheConstants.{ARGUMENT_LIMIT}
+use Rattle.wap_scope.specs.Names.{Variable, Local, External, Library, Mention}
+use Rattle.wap_scope.specs.Names.{Declares, Refers, Jumps, said, declared}
+use Rattle.wap_scope.specs.Names.{names_declared, function_named, unit_of, units}
+use Rattle.wap_scope.specs.Scoped.{is_among, arity_of, is_taken, Says}
+use Rattle.wap_scope.specs.Scoped.{HasFunction, HasUse, IsScoped}
 use Rattle.wap_scope.specs.Meanings.{StandsOnce, function_names, parameter_counts, HaveMeanings}
 use Rattle.wap_scope.proofs.Once.{NoneTwice, split_at, stands_once}
 

@@ -1,5 +1,6 @@
 -- What expressions and statements name, by their parts.
-use Rattle.std.proofs.Common.{◌≡◌, ℕ, suc, Bool, true, List, [], ◌∷◌, ◌++◌, length, map, Option, Some, None, refl, sym, ap, ◌∙◌}
+use Rattle.std.proofs.Common.{◌≡◌, ℕ, suc, Bool, true, List, [], ◌∷◌, ◌++◌, length, map}
+use Rattle.std.proofs.Common.{Option, Some, None, refl, sym, ap, ◌∙◌}
 use Rattle.std.specs.List.{flat_map}
 use Rattle.wap_value.specs.declared.operator.BinOp.{BinOp}
 use Rattle.wap_value.specs.declared.operator.UnOp.{UnOp}
@@ -10,13 +11,37 @@ use Rattle.wap_program.specs.declared.expression.Expr.{Expr}
 use Rattle.wap_program.specs.declared.expression.Expr.TheOpen.{Expr-F}
 use Rattle.wap_program.specs.declared.expression.Expr.TheFolds.{fold-roll-Expr}
 use Rattle.wap_program.specs.declared.expression.Expr.TheVariants as expr
-use Rattle.wap_program.specs.declared.expression.Expr.TheVariants.{rolls-Lit, rolls-Var, rolls-Assign, rolls-Step, rolls-Unary, rolls-Chain, rolls-Cond, rolls-Call, rolls-External, rolls-Library}
+use Rattle.wap_program.specs.declared.expression.Expr.TheVariants.{
+  rolls-Lit,
+  rolls-Var,
+  rolls-Assign,
+  rolls-Step,
+  rolls-Unary,
+  rolls-Chain,
+  rolls-Cond,
+  rolls-Call,
+  rolls-External,
+  rolls-Library,
+}
 use Rattle.wap_program.specs.declared.statement.Stmt.{Stmt}
 use Rattle.wap_program.specs.declared.statement.Stmt.TheOpen.{Stmt-F}
 use Rattle.wap_program.specs.declared.statement.Stmt.TheFolds.{fold-roll-Stmt}
 use Rattle.wap_program.specs.declared.statement.Stmt.TheVariants as stmt
-use Rattle.wap_program.specs.declared.statement.Stmt.TheVariants.{rolls-Empty, rolls-Expr, rolls-Block, rolls-Vars, rolls-If, rolls-While, rolls-For, rolls-Break, rolls-Continue, rolls-Return}
-use Rattle.wap_scope.specs.Names.{Reference, Variable, Local, External, Library, references_by, references, Mention, Jumps, refers, refers_if, declares, mentions_by, mentions}
+use Rattle.wap_program.specs.declared.statement.Stmt.TheVariants.{
+  rolls-Empty,
+  rolls-Expr,
+  rolls-Block,
+  rolls-Vars,
+  rolls-If,
+  rolls-While,
+  rolls-For,
+  rolls-Break,
+  rolls-Continue,
+  rolls-Return,
+}
+use Rattle.wap_scope.specs.Names.{Reference, Variable, Local, External, Library}
+use Rattle.wap_scope.specs.Names.{references_by, references, Mention, Jumps, refers}
+use Rattle.wap_scope.specs.Names.{refers_if, declares, mentions_by, mentions}
 
 flat_mapped : {X Y Z : Type 0} (f : X → Y) (g : Y → List Z) (xs : List X) →
     flat_map g (map f xs) ≡ flat_map (λ x. g (f x)) xs

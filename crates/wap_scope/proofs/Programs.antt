@@ -1,5 +1,7 @@
 -- Walks over programs find the faults that are listed.
-use Rattle.std.proofs.Common.{◌≡◌, ℕ, suc, Bool, true, false, ◌||◌, cond, nat_le, List, [], ◌∷◌, ◌++◌, length, map, Option, Some, Result, Ok, Err, refl, sym, ap, subst, ◌∙◌, append_assoc, arith}
+use Rattle.std.proofs.Common.{◌≡◌, ℕ, suc, Bool, true, false, ◌||◌, cond, nat_le, List, []}
+use Rattle.std.proofs.Common.{◌∷◌, ◌++◌, length, map, Option, Some, Result, Ok, Err, refl}
+use Rattle.std.proofs.Common.{sym, ap, subst, ◌∙◌, append_assoc, arith}
 use Rattle.std.specs.List.{flat_map}
 use Rattle.std.specs.Option.{is_some}
 use Rattle.std.proofs.lemmas.Bool.Decides.{nat_tests}
@@ -17,10 +19,13 @@ use Rattle.wap_program.specs.declared.statement.Stmt.{Stmt}
 use Rattle.wap_scope.specs.declared.limits.TheConstants.{FUNCTION_LIMIT}
 use Rattle.wap_scope.specs.declared.fault.ScopeFault.{ScopeFault}
 use Rattle.wap_scope.specs.declared.fault.ScopeFault.TheVariants as fault
-use Rattle.wap_scope.specs.Names.{Mention, Declares, Refers, Jumps, declared, names_declared, said, mentions, function_named, unit_of, units, access_of, accesses}
+use Rattle.wap_scope.specs.Names.{Mention, Declares, Refers, Jumps, declared, names_declared, said}
+use Rattle.wap_scope.specs.Names.{mentions, function_named, unit_of, units, access_of, accesses}
 use Rattle.wap_scope.specs.Scoped.{is_among}
-use Rattle.wap_scope.specs.Faults.{fault_if, Scope, scope_of, mention_rule, function_rule, use_rule, one_by_one, faults, first_fault}
-use Rattle.wap_scope.specs.inside.Walks.{unless, each, more, mention_at, walked, walked_each, parameter_at, function_at, use_at}
+use Rattle.wap_scope.specs.Faults.{fault_if, Scope, scope_of, mention_rule, function_rule}
+use Rattle.wap_scope.specs.Faults.{use_rule, one_by_one, faults, first_fault}
+use Rattle.wap_scope.specs.inside.Walks.{unless, each, more, mention_at, walked, walked_each}
+use Rattle.wap_scope.specs.inside.Walks.{parameter_at, function_at, use_at}
 use Rattle.wap_scope.proofs.Lists.{append_none}
 use Rattle.wap_scope.specs.declared.globals.Globals.{Globals}
 use Rattle.wap_scope.specs.declared.fault.ScopeFault.TheVariants.{NoMemory}

@@ -1,5 +1,6 @@
 -- A program without faults is scoped.
-use Rattle.std.proofs.Common.{◌≡◌, ℕ, ◌<◌, Bool, true, false, not, nat_le, List, [], ◌∷◌, ◌++◌, length, Option, Some, None, refl, sym, subst, ◌∙◌, arith}
+use Rattle.std.proofs.Common.{◌≡◌, ℕ, ◌<◌, Bool, true, false, not, nat_le, List, [], ◌∷◌, ◌++◌}
+use Rattle.std.proofs.Common.{length, Option, Some, None, refl, sym, subst, ◌∙◌, arith}
 use Rattle.std.specs.Option.{is_some}
 use Rattle.std.proofs.lemmas.Bool.Decides.{nat_tests}
 use Rattle.wap_code.specs.Libraries.{lib_named}
@@ -9,12 +10,17 @@ use Rattle.wap_program.specs.declared.program.Use.{Use}
 use Rattle.wap_program.specs.declared.program.Use.TheVariants.{Url, Access}
 use Rattle.wap_program.specs.declared.program.Function.{Function}
 use Rattle.wap_program.specs.declared.program.Program.{Program}
-use Rattle.wap_scope.specs.declared.limits.TheConstants.{VARIABLE_LIMIT, FUNCTION_LIMIT, ARGUMENT_LIMIT}
+use Rattle.wap_scope.specs.declared.limits.TheConstants.{VARIABLE_LIMIT, FUNCTION_LIMIT}
+use Rattle.wap_scope.specs.declared.limits.TheConstants.{ARGUMENT_LIMIT}
 use Rattle.wap_scope.specs.declared.fault.ScopeFault.{ScopeFault}
 use Rattle.wap_scope.specs.declared.fault.ScopeFault.TheVariants as fault
-use Rattle.wap_scope.specs.Names.{Reference, Variable, Local, External, Library, Mention, Declares, Refers, Jumps, said, names_declared, function_named, units, accesses}
-use Rattle.wap_scope.specs.Scoped.{is_among, arity_of, library_arity, is_taken, takes, Says, HasFunction, HasUse, IsScoped}
-use Rattle.wap_scope.specs.Faults.{fault_if, scope_of, one_by_one, mention_rule, function_rule, use_rule, faults}
+use Rattle.wap_scope.specs.Names.{Reference, Variable, Local, External, Library}
+use Rattle.wap_scope.specs.Names.{Mention, Declares, Refers, Jumps, said}
+use Rattle.wap_scope.specs.Names.{names_declared, function_named, units, accesses}
+use Rattle.wap_scope.specs.Scoped.{is_among, arity_of, library_arity, is_taken}
+use Rattle.wap_scope.specs.Scoped.{takes, Says, HasFunction, HasUse, IsScoped}
+use Rattle.wap_scope.specs.Faults.{fault_if, scope_of, one_by_one, mention_rule}
+use Rattle.wap_scope.specs.Faults.{function_rule, use_rule, faults}
 use Rattle.wap_scope.proofs.Lists.{none_first, none_last, is_unless, is_true, some_mapped, at_place}
 
 no_more : (count limit : ℕ) → nat_le limit count ≡ false → count < limit

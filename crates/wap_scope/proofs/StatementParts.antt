@@ -1,5 +1,6 @@
 -- Walks over statements, by their parts.
-use Rattle.std.proofs.Common.{◌≡◌, ℕ, Bool, true, List, [], ◌∷◌, ◌++◌, Option, Some, None, Result, Ok, ap, ◌∙◌}
+use Rattle.std.proofs.Common.{◌≡◌, ℕ, Bool, true, List, [], ◌∷◌, ◌++◌}
+use Rattle.std.proofs.Common.{Option, Some, None, Result, Ok, ap, ◌∙◌}
 use Rattle.std.specs.List.{flat_map}
 use Rattle.wap_base.specs.Outcome.{◌>>=◌}
 use Rattle.wap_program.specs.declared.program.Span.{Span}
@@ -11,8 +12,10 @@ use Rattle.wap_scope.specs.declared.fault.ScopeFault.{ScopeFault}
 use Rattle.wap_scope.specs.Names.{Mention, Jumps, refers, refers_if, declares, mentions}
 use Rattle.wap_scope.specs.Faults.{Scope}
 use Rattle.wap_scope.specs.inside.Walks.{each, mention_at, arm_at, walked, walked_each}
-use Rattle.wap_scope.proofs.Walking.{bind_end, bind_same, each_same, walked-append, walked-flat, walked-flat_first}
-use Rattle.wap_scope.proofs.Parts.{arm, of_empty, of_value, of_block, of_variables, of_if, of_else, of_while, of_for, of_break, of_continue, of_return}
+use Rattle.wap_scope.proofs.Walking.{bind_end, bind_same, each_same, walked-append}
+use Rattle.wap_scope.proofs.Walking.{walked-flat, walked-flat_first}
+use Rattle.wap_scope.proofs.Parts.{arm, of_empty, of_value, of_block, of_variables, of_if, of_else}
+use Rattle.wap_scope.proofs.Parts.{of_while, of_for, of_break, of_continue, of_return}
 
 module _ (scope : Scope) (known : List (List ℕ)) (s : Stmt) (inside : Bool) where
   abbrev Known : Type 0

@@ -1,16 +1,20 @@
 -- The faults of a program's names, in the order of the source, and at one place in the order in
 -- which `ScopeFault` lists them. A program without any is scoped. This project's own.
-use Rattle.std.specs.Prelude.{ℕ, Bool, true, false, not, nat_le, List, [], ◌∷◌, ◌++◌, length, Option, Some, None}
+use Rattle.std.specs.Prelude.{ℕ, Bool, true, false, not, nat_le, List, []}
+use Rattle.std.specs.Prelude.{◌∷◌, ◌++◌, length, Option, Some, None}
 use Rattle.std.specs.Option.{is_some, is_none}
 use Rattle.wap_code.specs.Libraries.{lib_named}
 use Rattle.wap_program.specs.declared.program.Use.{Use}
 use Rattle.wap_program.specs.declared.program.Use.TheVariants.{Url, Access, Agent, Note}
 use Rattle.wap_program.specs.declared.program.Function.{Function}
 use Rattle.wap_program.specs.declared.program.Program.{Program}
-use Rattle.wap_scope.specs.declared.limits.TheConstants.{VARIABLE_LIMIT, FUNCTION_LIMIT, ARGUMENT_LIMIT}
+use Rattle.wap_scope.specs.declared.limits.TheConstants.{VARIABLE_LIMIT, FUNCTION_LIMIT}
+use Rattle.wap_scope.specs.declared.limits.TheConstants.{ARGUMENT_LIMIT}
 use Rattle.wap_scope.specs.declared.fault.ScopeFault.{ScopeFault}
 use Rattle.wap_scope.specs.declared.fault.ScopeFault.TheVariants as fault
-use Rattle.wap_scope.specs.Names.{Reference, Variable, Local, External, Library, Mention, Declares, Refers, Jumps, said, names_declared, function_named, units, accesses}
+use Rattle.wap_scope.specs.Names.{Reference, Variable, Local, External, Library}
+use Rattle.wap_scope.specs.Names.{Mention, Declares, Refers, Jumps, said}
+use Rattle.wap_scope.specs.Names.{names_declared, function_named, units, accesses}
 use Rattle.wap_scope.specs.Scoped.{is_among, arity_of, library_arity, is_taken}
 
 abbrev pub fault_if : Bool → ScopeFault → List ScopeFault

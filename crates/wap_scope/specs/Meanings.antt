@@ -3,8 +3,10 @@ use Rattle.std.specs.Prelude.{◌≡◌, ℕ, ◌<◌, ◌≤◌, List, [], leng
 use Rattle.wap_code.specs.Libraries.{lib_named}
 use Rattle.wap_program.specs.declared.program.Id.{Id}
 use Rattle.wap_program.specs.declared.program.Program.{Program}
-use Rattle.wap_scope.specs.declared.limits.TheConstants.{VARIABLE_LIMIT, FUNCTION_LIMIT, ARGUMENT_LIMIT}
-use Rattle.wap_scope.specs.Names.{Variable, Local, External, Library, Mention, Refers, said, names_declared, units}
+use Rattle.wap_scope.specs.declared.limits.TheConstants.{VARIABLE_LIMIT, FUNCTION_LIMIT}
+use Rattle.wap_scope.specs.declared.limits.TheConstants.{ARGUMENT_LIMIT}
+use Rattle.wap_scope.specs.Names.{Variable, Local, External, Library, Mention}
+use Rattle.wap_scope.specs.Names.{Refers, said, names_declared, units}
 use Rattle.wap_scope.specs.Scoped.{Says}
 
 -- a name stands at this place of a list, and at no other

@@ -1,6 +1,7 @@
 -- What a program says by names, in the order of the source (WAP-193, sections 6.1.8, 6.2, 6.4 and
 -- 6.7). Names of variables, of functions and of units are told apart by where they stand.
-use Rattle.std.specs.Prelude.{ℕ, Bool, true, false, List, [], ◌∷◌, ◌++◌, length, map, Option, Some, None}
+use Rattle.std.specs.Prelude.{ℕ, Bool, true, false, List, [], ◌∷◌, ◌++◌}
+use Rattle.std.specs.Prelude.{length, map, Option, Some, None}
 use Rattle.std.specs.List.{filter_map, flat_map, find}
 use Rattle.wap_base.specs.Texts.{is_same_text}
 use Rattle.wap_program.specs.declared.program.Span.{Span}

@@ -1,6 +1,7 @@
 -- When the names of a program are in order (WAP-193, sections 6.1.8, 6.2, 6.4, 6.5 and 6.7; the
 -- numbers of variables, functions and arguments that a unit has room for are WAP-193, section 9).
-use Rattle.std.specs.Prelude.{◌≡◌, ℕ, ◌<◌, Bool, true, false, nat_eq, nat_le, List, [], ◌∷◌, ◌++◌, length, Option, Some, None}
+use Rattle.std.specs.Prelude.{◌≡◌, ℕ, ◌<◌, Bool, true, false, nat_eq, nat_le, List}
+use Rattle.std.specs.Prelude.{[], ◌∷◌, ◌++◌, length, Option, Some, None}
 use Rattle.std.specs.List.{list_any}
 use Rattle.std.specs.Option.{option_map, IsSome}
 use Rattle.wap_base.specs.Texts.{is_same_text}
@@ -11,8 +12,11 @@ use Rattle.wap_program.specs.declared.program.Use.{Use}
 use Rattle.wap_program.specs.declared.program.Use.TheVariants.{Url, Access}
 use Rattle.wap_program.specs.declared.program.Function.{Function}
 use Rattle.wap_program.specs.declared.program.Program.{Program}
-use Rattle.wap_scope.specs.declared.limits.TheConstants.{VARIABLE_LIMIT, FUNCTION_LIMIT, ARGUMENT_LIMIT}
-use Rattle.wap_scope.specs.Names.{Reference, Variable, Local, External, Library, Mention, Declares, Refers, Jumps, said, names_declared, function_named, units, accesses}
+use Rattle.wap_scope.specs.declared.limits.TheConstants.{VARIABLE_LIMIT, FUNCTION_LIMIT}
+use Rattle.wap_scope.specs.declared.limits.TheConstants.{ARGUMENT_LIMIT}
+use Rattle.wap_scope.specs.Names.{Reference, Variable, Local, External, Library}
+use Rattle.wap_scope.specs.Names.{Mention, Declares, Refers, Jumps, said}
+use Rattle.wap_scope.specs.Names.{names_declared, function_named, units, accesses}
 
 abbrev pub is_among : List ℕ → List (List ℕ) → Bool
 is_among name names = list_any (is_same_text name) names

@@ -1,5 +1,7 @@
 -- Lines without control characters are shown as they are.
-use Rattle.std.proofs.Common.{◌≡◌, ℕ, ◌<◌, ◌≤◌, List, [], ◌∷◌, ◌++◌, map, Bool, true, false, if◌then◌else◌, ◌||◌, refl, sym, ap, ap₂, ◌∙◌, arith, inl, inr, encode_utf8, encode_utf8_all}
+use Rattle.std.proofs.Common.{◌≡◌, ℕ, ◌≤◌, List, [], ◌∷◌, map, Bool, true, false}
+use Rattle.std.proofs.Common.{if◌then◌else◌, ◌||◌, refl, sym, ap, ap₂, ◌∙◌, arith, inl}
+use Rattle.std.proofs.Common.{inr, encode_utf8, encode_utf8_all}
 use Rattle.std.specs.List.{list_any}
 use Rattle.std.proofs.lemmas.Bool.{or_parts, or_from, cases_lt, le-ltb, ne_eqb}
 use Rattle.std.proofs.lemmas.List.Folds.{list_any-append}
@@ -16,10 +18,12 @@ kept (c ∷ cs) none =
     ap (λ (b : Bool). (if b then full_stop else c) ∷ shown_line cs) first
     ∙ ap (λ (t : List ℕ). c ∷ t) (kept cs others)
 
-pub all_kept : (lines : List (List ℕ)) → list_any (list_any is_control) lines ≡ false → map shown_line lines ≡ lines
+pub all_kept : (lines : List (List ℕ)) → list_any (list_any is_control) lines ≡ false
+    → map shown_line lines ≡ lines
 all_kept [] none = refl
 all_kept (line ∷ lines) none =
-    let (first, others) = or_parts (list_any is_control line) (list_any (list_any is_control) lines) none in
+    let (first, others) =
+    or_parts (list_any is_control line) (list_any (list_any is_control) lines) none in
     ap₂ (λ (l : List ℕ) (ls : List (List ℕ)). l ∷ ls) (kept line first) (all_kept lines others)
 
 -- ---- bytes
@@ -31,7 +35,8 @@ high b past = or_from _ _ (le-ltb b 32 (omega arith)) (ne_eqb b 127 (λ e. diffe
 
 none_high : (bs : List ℕ) → AllHigh bs → list_any is_control bs ≡ false
 none_high [] past = refl
-none_high (b ∷ bs) past = or_from (is_control b) (list_any is_control bs) (high b past.0) (none_high bs past.1)
+none_high (b ∷ bs) past =
+    or_from (is_control b) (list_any is_control bs) (high b past.0) (none_high bs past.1)
 
 same_one : (b : Bool) → (b || false) ≡ b
 same_one true = refl

@@ -1,12 +1,15 @@
 -- Keys that are played one after the other.
-use Rattle.std.proofs.Common.{◌≡◌, ℕ, ◌+◌, ◌<◌, length, get_or, take, drop, List, [], ◌∷◌, ◌++◌, true, false, Option, Some, None, Result, Ok, Err, map, refl, sym, ap, subst, ◌∙◌}
+use Rattle.std.proofs.Common.{◌≡◌, ℕ, ◌+◌, ◌<◌, length, get_or, take, drop, List, []}
+use Rattle.std.proofs.Common.{◌∷◌, ◌++◌, true, false, Option, Some, None, Result, Ok}
+use Rattle.std.proofs.Common.{Err, map, refl, sym, ap, subst, ◌∙◌}
 use Rattle.std.proofs.lemmas.List.{append-nil, map-append, take-append-drop, take_more, drop_more}
 use Rattle.wap_base.specs.Count.{Rose}
 use Rattle.wap_input.specs.declared.key.Key.{Key}
 use Rattle.wap_site.specs.Pages.{Pages}
 use Rattle.wap_site.specs.Misses.{Asked}
 use Rattle.wap_site.specs.Asking.{Seen, Asks, Fails}
-use Rattle.wap_site.proofs.Asking.{Asks-nil, Asks-then, Asks-fails, Fails-more, Stays-same, Stays-then}
+use Rattle.wap_site.proofs.Asking.{Asks-nil, Asks-then, Asks-fails}
+use Rattle.wap_site.proofs.Asking.{Fails-more, Stays-same, Stays-then}
 use Rattle.wap_world.specs.World.{World}
 use Rattle.wap_world.specs.Lines.{shown_line}
 use Rattle.wap_world.specs.Steps.{Step, followed}

@@ -1,5 +1,6 @@
 -- Calls of a context, and of what is built on one, by their rules.
-use Rattle.std.proofs.Common.{◌≡◌, ℕ, List, Option, Some, None, Result, Ok, Err, sym, ap, subst, ◌∙◌}
+use Rattle.std.proofs.Common.{◌≡◌, ℕ, List, Option, Some, None, Result}
+use Rattle.std.proofs.Common.{Ok, Err, sym, ap, subst, ◌∙◌}
 use Rattle.std.specs.Prelude.{IsErrAnd}
 use Rattle.std.proofs.lemmas.Result.{err_from_is_err_and}
 use Rattle.wap_base.specs.declared.fault.RunErr.{RunErr}

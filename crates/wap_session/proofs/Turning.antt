@@ -1,5 +1,6 @@
 -- A key within a session.
-use Rattle.std.proofs.Common.{◌≡◌, ℕ, length, List, [], ◌∷◌, ◌++◌, Option, Some, None, Result, Ok, Err, map, refl, sym, ap, subst, ◌∙◌}
+use Rattle.std.proofs.Common.{◌≡◌, ℕ, length, List, [], ◌∷◌, ◌++◌, Option, Some, None}
+use Rattle.std.proofs.Common.{Result, Ok, Err, map, refl, sym, ap, subst, ◌∙◌}
 use Rattle.std.proofs.lemmas.List.{map-append}
 use Rattle.wap_base.specs.declared.fault.RunErr.{RunErr}
 use Rattle.wap_input.specs.declared.key.Key.{Key}

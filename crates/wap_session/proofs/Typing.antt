@@ -14,7 +14,8 @@ use Rattle.wap_world.specs.World.{World, Place, place_now}
 use Rattle.wap_world.specs.Steps.{Scene, Step}
 use Rattle.wap_world.specs.Setting.{fault_lines}
 use Rattle.wap_world.specs.Screens.{show}
-use Rattle.wap_world.specs.Keys.{ignored, act_or, type_text, after_text, choose_option, after_choice, at_card, apply}
+use Rattle.wap_world.specs.Keys.{ignored, act_or, type_text, after_text}
+use Rattle.wap_world.specs.Keys.{choose_option, after_choice, at_card, apply}
 use Rattle.wap_context.specs.Browsers.{Browser, IsOver, Shows, with_vars, typed_in, chosen_in}
 use Rattle.wap_session.specs.inside.Pressing.{typed}
 use Rattle.wap_context.proofs.Places.{held_now}

@@ -1,5 +1,6 @@
 -- The tables of attributes and of their starts, computed.
-use Rattle.std.proofs.Common.{◌≡◌, ◌≢◌, ℕ, ◌<◌, Bool, true, false, ◌==◌, ◌&&◌, nat_eq, map, unwrap_or, List, [], Option, Some, None, refl, sym, ap, ◌∙◌, inl, inr}
+use Rattle.std.proofs.Common.{◌≡◌, ◌≢◌, ℕ, ◌<◌, Bool, true, false, ◌==◌, ◌&&◌, nat_eq, map}
+use Rattle.std.proofs.Common.{unwrap_or, List, [], Option, Some, None, refl, sym, ap, ◌∙◌, inl, inr}
 use Rattle.std.specs.Prelude.{slice_get, encode_utf8_all, IfSome}
 use Rattle.std.specs.Borrow.{Bor}
 use Rattle.std.specs.List.{list_all}
@@ -7,12 +8,16 @@ use Rattle.std.specs.Option.{option_and_then, option_map}
 use Rattle.std.specs.Map.{lookup}
 use Rattle.std.specs.Str.{chars, bytes_eq}
 use Rattle.std.specs.Cmp.Lexicographic.{bytes_decides}
-use Rattle.std.proofs.lemmas.Bool.{agree_below, agree_below_at, eqb-true, cases_Bool, cond-false, and_parts}
+use Rattle.std.proofs.lemmas.Bool.{agree_below, agree_below_at, eqb-true}
+use Rattle.std.proofs.lemmas.Bool.{cases_Bool, cond-false, and_parts}
 use Rattle.wap_base.specs.Texts.{is_same_text}
 use Rattle.wap_markup.specs.declared.name.AttrName.{AttrName}
 use Rattle.wap_markup.specs.declared.name.AttrName.TheVariants as attrs
 use Rattle.wap_markup.specs.contracts.name.AttrName as type
-use Rattle.wap_markup.specs.Tables.{StartRow, Start, is_same_attr, is_same_start, name_rows, attr_by_name, attr_named, name_of_attr, start_rows, start_by_code, code_by_start, attr_start, code_of_start, first_code, start_code}
+use Rattle.wap_markup.specs.Tables.{StartRow, Start, is_same_attr, is_same_start, name_rows}
+use Rattle.wap_markup.specs.Tables.{attr_by_name, attr_named, name_of_attr, start_rows}
+use Rattle.wap_markup.specs.Tables.{start_by_code, code_by_start, attr_start, code_of_start}
+use Rattle.wap_markup.specs.Tables.{first_code, start_code}
 use Rattle.wap_tokens.specs.Places.{start_place}
 use Rattle.wap_tokens.specs.Rows.{lent_start}
 use Rattle.wap_tokens.proofs.Found.{found_passes, lookup_alike, is_same_option, same_option}
@@ -44,16 +49,21 @@ name_is_plain attr = refl
 
 -- ---- what follows
 
-pub name : (name : List ℕ) (attr : AttrName) → attr_named name ≡ Some attr → name_of_attr attr ≡ name
+pub name : (name : List ℕ) (attr : AttrName) → attr_named name ≡ Some attr
+    → name_of_attr attr ≡ name
 unfolding attr_named
 name spelled attr found =
-    let row = found_passes (is_same_text spelled) name_fits (map attr_by_name name_rows) attr names_fit found in
+    let row =
+    found_passes (is_same_text spelled) name_fits
+    (map attr_by_name name_rows) attr names_fit found in
     (bytes_decides (name_of_attr attr) row.0).0 row.2 ∙ sym ((bytes_decides spelled row.0).0 row.1)
 
-pub attr_named-bytes : (bytes text : List ℕ) → bytes ≡ encode_utf8_all text → text ≡ chars bytes → lookup (bytes_eq bytes) (map attr_by_name name_rows) ≡ attr_named text
+pub attr_named-bytes : (bytes text : List ℕ) → bytes ≡ encode_utf8_all text → text ≡ chars bytes
+    → lookup (bytes_eq bytes) (map attr_by_name name_rows) ≡ attr_named text
 unfolding attr_named
 attr_named-bytes bytes text encoded read =
-    lookup_alike is_plain (bytes_eq bytes) (is_same_text text) (map attr_by_name name_rows) (λ known plain. same-plain bytes text known encoded read plain) names_plain
+    lookup_alike is_plain (bytes_eq bytes) (is_same_text text) (map attr_by_name name_rows)
+    (λ known plain. same-plain bytes text known encoded read plain) names_plain
 
 pub chars-name_of_attr : (attr : AttrName) → chars (name_of_attr attr) ≡ name_of_attr attr
 chars-name_of_attr attr = chars-plain (name_of_attr attr) (name_is_plain attr)
@@ -99,7 +109,8 @@ start_in row = (row.1, row.2)
 unfoldable pub placed_start : ℕ → Option Start
 placed_start code = option_and_then (slice_get (map start_in start_rows)) (start_place code)
 
-places_fit : agree_below (λ code. is_same_option is_same_start (attr_start 0 code) (placed_start code)) (λ code. true) 256 ≡ true
+places_fit : agree_below (λ code.
+    is_same_option is_same_start (attr_start 0 code) (placed_start code)) (λ code. true) 256 ≡ true
 unfolding attr_start start_rows placed_start
 places_fit = refl
 
@@ -111,19 +122,28 @@ same_attr = same_true type.the_type tt
 same_start : (a b : Start) → is_same_start a b ≡ true → a ≡ b
 same_start a b so =
     let parts = and_parts (is_same_attr a.0 b.0) (is_same_text a.1 b.1) so in
-    ap (λ attr. (attr, a.1)) (same_attr a.0 b.0 parts.0) ∙ ap (λ text. (b.0, text)) ((bytes_decides a.1 b.1).0 parts.1)
+    ap (λ attr. (attr, a.1)) (same_attr a.0 b.0 parts.0)
+    ∙ ap (λ text. (b.0, text)) ((bytes_decides a.1 b.1).0 parts.1)
 
 attr_start-placed : (code : ℕ) → code < 256 → attr_start 0 code ≡ placed_start code
 attr_start-placed code byte =
-    same_option is_same_start same_start (attr_start 0 code) (placed_start code) (agree_below_at (λ code. is_same_option is_same_start (attr_start 0 code) (placed_start code)) (λ code. true) 256 code places_fit byte)
+    same_option is_same_start same_start (attr_start 0 code) (placed_start code)
+    (agree_below_at (λ code. is_same_option is_same_start (attr_start 0 code) (placed_start code))
+    (λ code. true) 256 code places_fit byte)
 
-pub attr_start-at : (page code place : ℕ) → page ≡ 0 → code < 256 → start_place code ≡ Some place → attr_start page code ≡ slice_get (map start_in start_rows) place
+pub attr_start-at : (page code place : ℕ) → page ≡ 0 → code < 256 → start_place code ≡ Some place
+    → attr_start page code ≡ slice_get (map start_in start_rows) place
 unfolding placed_start
-attr_start-at page code place zero byte there = ap (λ page. attr_start page code) zero ∙ attr_start-placed code byte ∙ ap (option_and_then (slice_get (map start_in start_rows))) there
+attr_start-at page code place zero byte there =
+    ap (λ page. attr_start page code) zero ∙ attr_start-placed code byte
+    ∙ ap (option_and_then (slice_get (map start_in start_rows))) there
 
-pub attr_start-free : (page code : ℕ) → page ≡ 0 → code < 256 → start_place code ≡ None → attr_start page code ≡ None
+pub attr_start-free : (page code : ℕ) → page ≡ 0 → code < 256 → start_place code ≡ None
+    → attr_start page code ≡ None
 unfolding placed_start
-attr_start-free page code zero byte free = ap (λ page. attr_start page code) zero ∙ attr_start-placed code byte ∙ ap (option_and_then (slice_get (map start_in start_rows))) free
+attr_start-free page code zero byte free =
+    ap (λ page. attr_start page code) zero ∙ attr_start-placed code byte
+    ∙ ap (option_and_then (slice_get (map start_in start_rows))) free
 
 pub attr_start-other_page : (page code : ℕ) → page ≢ 0 → attr_start page code ≡ None
 unfolding attr_start
@@ -135,55 +155,87 @@ attr_start-other_page page code other = elim (cases_Bool (page == 0)) [
 on_page_0 : (page code : ℕ) (start : Start) → attr_start page code ≡ Some start → page ≡ 0
 on_page_0 page code start found = elim (cases_Bool (page == 0)) [
   | inl is ↦ eqb-true page 0 is
-  | inr isnt ↦ absurd (cc (found, attr_start-other_page page code (λ zero. absurd (cc (isnt, ap (λ (n : ℕ). n == 0) zero)))))
+  | inr isnt ↦ absurd (cc (
+    found,
+    attr_start-other_page page code (λ zero. absurd (cc (isnt, ap (λ (n : ℕ). n == 0) zero))),
+  ))
 ]
 
-found_in_table : (page code : ℕ) (start : Start) → attr_start page code ≡ Some start → lookup (nat_eq code) (map start_by_code start_rows) ≡ Some start
+found_in_table : (page code : ℕ) (start : Start) → attr_start page code ≡ Some start
+    → lookup (nat_eq code) (map start_by_code start_rows) ≡ Some start
 unfolding attr_start
-found_in_table page code start found = ap (λ page. attr_start page code) (sym (on_page_0 page code start found)) ∙ found
+found_in_table page code start found =
+    ap (λ page. attr_start page code) (sym (on_page_0 page code start found)) ∙ found
 
-pub start : (page code : ℕ) (start : Start) → attr_start page code ≡ Some start → (page ≡ 0) × (code_of_start start ≡ Some code)
+pub start : (page code : ℕ) (start : Start) → attr_start page code ≡ Some start
+    → (page ≡ 0) × (code_of_start start ≡ Some code)
 start page code begun found =
-    let row = found_passes (nat_eq code) code_fits (map start_by_code start_rows) begun codes_fit (found_in_table page code begun found) in
-    let own : code_of_start begun ≡ Some row.0 = same_option nat_eq eqb-true (code_of_start begun) (Some row.0) row.2 in
+    let row =
+    found_passes (nat_eq code) code_fits (map start_by_code start_rows) begun codes_fit
+    (found_in_table page code begun found) in
+    let own : code_of_start begun ≡ Some row.0 =
+    same_option nat_eq eqb-true (code_of_start begun) (Some row.0) row.2 in
     (on_page_0 page code begun found, own ∙ ap Some (sym (eqb-true code row.0 row.1)))
 
-pub code : (start : Start) (code : ℕ) → code_of_start start ≡ Some code → attr_start 0 code ≡ Some start
+pub code : (start : Start) (code : ℕ) → code_of_start start ≡ Some code
+    → attr_start 0 code ≡ Some start
 unfolding code_of_start
 code begun number found =
-    let row = found_passes (is_same_start begun) start_fits (map code_by_start start_rows) number starts_fit found in
-    same_option is_same_start same_start (attr_start 0 number) (Some row.0) row.2 ∙ ap Some (sym (same_start begun row.0 row.1))
+    let row =
+    found_passes (is_same_start begun) start_fits
+    (map code_by_start start_rows) number starts_fit found in
+    same_option is_same_start same_start (attr_start 0 number) (Some row.0) row.2
+    ∙ ap Some (sym (same_start begun row.0 row.1))
 
-started_from : (attr : AttrName) (found : Option Start) → starts attr found ≡ true → (text : List ℕ) × (found ≡ Some (attr, text))
+started_from : (attr : AttrName) (found : Option Start) → starts attr found ≡ true
+    → (text : List ℕ) × (found ≡ Some (attr, text))
 started_from attr None so = absurd (cc so)
 started_from attr (Some begun) so =
     let same : begun.0 ≡ attr = same_attr begun.0 attr so in
     (begun.1, ap (λ attr. Some (attr, begun.1)) same)
 
-pub started : (attr : AttrName) → (text : List ℕ) × (attr_start 0 (start_code attr) ≡ Some (attr, text))
+pub started : (attr : AttrName)
+    → (text : List ℕ) × (attr_start 0 (start_code attr) ≡ Some (attr, text))
 started attr = started_from attr (attr_start 0 (start_code attr)) (each_starts attr)
 
 -- a start that is found is a plain text
-pub start_is_plain : (page code : ℕ) (start : Start) → attr_start page code ≡ Some start → is_plain start.1 ≡ true
+pub start_is_plain : (page code : ℕ) (start : Start) → attr_start page code ≡ Some start
+    → is_plain start.1 ≡ true
 start_is_plain page code begun found =
-    (found_passes (nat_eq code) (λ row. is_plain row.1.1) (map start_by_code start_rows) begun starts_plain (found_in_table page code begun found)).2
+    (found_passes (nat_eq code) (λ row. is_plain row.1.1)
+    (map start_by_code start_rows) begun starts_plain (found_in_table page code begun found)).2
 
-pub chars-start : (page code : ℕ) (result : Option (AttrName × Bor (List ℕ))) → option_map lent_start result ≡ attr_start page code → IfSome result (λ start. chars start.1.now ≡ start.1.now)
+pub chars-start : (page code : ℕ) (result : Option (AttrName × Bor (List ℕ)))
+    → option_map lent_start result ≡ attr_start page code
+    → IfSome result (λ start. chars start.1.now ≡ start.1.now)
 chars-start page code None is = tt
-chars-start page code (Some begun) is = chars-plain begun.1.now (start_is_plain page code (lent_start begun) (sym is))
+chars-start page code (Some begun) is =
+    chars-plain begun.1.now (start_is_plain page code (lent_start begun) (sym is))
 
 -- an attribute's code alone, or else its first
-pub start_code-bare : (attr : AttrName) (none : List ℕ) (found : Option ℕ) (code : ℕ) → none ≡ [] → found ≡ code_of_start (attr, none) → found ≡ Some code → start_code attr ≡ code
+pub start_code-bare : (attr : AttrName) (none : List ℕ) (found : Option ℕ) (code : ℕ) → none ≡ []
+    → found ≡ code_of_start (attr, none) → found ≡ Some code → start_code attr ≡ code
 start_code-bare attr none found code empty is some =
-    ap (λ o. unwrap_or o (unwrap_or (first_code attr) 0)) (ap (λ text. code_of_start (attr, text)) (sym empty) ∙ sym is ∙ some)
+    ap (λ o. unwrap_or o (unwrap_or (first_code attr) 0))
+    (ap (λ text. code_of_start (attr, text)) (sym empty) ∙ sym is ∙ some)
 
-pub start_code-first : (attr : AttrName) (none : List ℕ) (found : Option ℕ) → none ≡ [] → found ≡ code_of_start (attr, none) → found ≡ None → start_code attr ≡ unwrap_or (first_code attr) 0
+pub start_code-first : (attr : AttrName) (none : List ℕ) (found : Option ℕ) → none ≡ []
+    → found ≡ code_of_start (attr, none)
+    → found ≡ None → start_code attr ≡ unwrap_or (first_code attr) 0
 start_code-first attr none found empty is no_code =
-    ap (λ o. unwrap_or o (unwrap_or (first_code attr) 0)) (ap (λ text. code_of_start (attr, text)) (sym empty) ∙ sym is ∙ no_code)
+    ap (λ o. unwrap_or o (unwrap_or (first_code attr) 0))
+    (ap (λ text. code_of_start (attr, text)) (sym empty) ∙ sym is ∙ no_code)
 
 -- starts are looked up by bytes
-pub code_of_start-bytes : (attr : AttrName) (bytes text : List ℕ) → bytes ≡ encode_utf8_all text → text ≡ chars bytes → lookup (λ start. is_same_attr attr start.0 && bytes_eq bytes start.1) (map code_by_start start_rows) ≡ code_of_start (attr, text)
+pub code_of_start-bytes : (attr : AttrName) (bytes text : List ℕ) → bytes ≡ encode_utf8_all text
+    → text ≡ chars bytes
+    → lookup (λ start. is_same_attr attr start.0 && bytes_eq bytes start.1)
+    (map code_by_start start_rows)
+    ≡ code_of_start (attr, text)
 unfolding code_of_start
 code_of_start-bytes attr bytes text encoded read =
-    lookup_alike (λ begun. is_plain begun.1) (λ begun. is_same_attr attr begun.0 && bytes_eq bytes begun.1) (is_same_start (attr, text)) (map code_by_start start_rows)
-    (λ begun plain. ap (λ b. is_same_attr attr begun.0 && b) (same-plain bytes text begun.1 encoded read plain)) texts_plain
+    lookup_alike (λ begun. is_plain begun.1)
+    (λ begun. is_same_attr attr begun.0 && bytes_eq bytes begun.1) (is_same_start (attr, text))
+    (map code_by_start start_rows)
+    (λ begun plain. ap (λ b. is_same_attr attr begun.0 && b)
+    (same-plain bytes text begun.1 encoded read plain)) texts_plain

@@ -1,5 +1,6 @@
 -- Texts of US-ASCII, whose bytes are their characters.
-use Rattle.std.proofs.Common.{◌≡◌, ℕ, zero, suc, ◌<◌, Bool, true, nat_lt, List, [], ◌∷◌, ◌++◌, refl, ap, ◌∙◌, arith}
+use Rattle.std.proofs.Common.{◌≡◌, ℕ, zero, suc, ◌<◌, Bool, true, nat_lt, List}
+use Rattle.std.proofs.Common.{[], ◌∷◌, ◌++◌, refl, ap, ◌∙◌, arith}
 use Rattle.std.specs.Prelude.{encode_utf8_all}
 use Rattle.std.specs.List.{list_all}
 use Rattle.std.specs.Bool.{Decides, one_answer}
@@ -29,14 +30,17 @@ encodes-plain : (text : List ℕ) → is_plain text ≡ true → encode_utf8_all
 encodes-plain [] plain = refl
 encodes-plain (c ∷ cs) plain =
     let parts = and_parts (nat_lt c 128) (is_plain cs) plain in
-    ap (λ bytes. bytes ++ encode_utf8_all cs) (encode_ascii c (below c parts.0)) ∙ ap (λ rest. c ∷ rest) (encodes-plain cs parts.1)
+    ap (λ bytes. bytes ++ encode_utf8_all cs) (encode_ascii c (below c parts.0))
+    ∙ ap (λ rest. c ∷ rest) (encodes-plain cs parts.1)
 
 -- a text is compared with a plain one by its bytes or by its characters
-pub same-plain : (bytes text known : List ℕ) → bytes ≡ encode_utf8_all text → text ≡ chars bytes → is_plain known ≡ true → bytes_eq bytes known ≡ is_same_text text known
+pub same-plain : (bytes text known : List ℕ) → bytes ≡ encode_utf8_all text → text ≡ chars bytes
+    → is_plain known ≡ true → bytes_eq bytes known ≡ is_same_text text known
 same-plain bytes text known encoded read plain =
     let by_bytes : Decides (bytes_eq bytes known) (bytes ≡ known) = bytes_eq-Decides bytes known in
     let by_text : Decides (is_same_text text known) (bytes ≡ known) = (
-      λ so. encoded ∙ ap encode_utf8_all ((bytes_decides text known).0 so) ∙ encodes-plain known plain,
+      λ so. encoded ∙ ap encode_utf8_all ((bytes_decides text known).0 so)
+          ∙ encodes-plain known plain,
       λ same. (bytes_decides text known).1 (read ∙ ap chars same ∙ chars-plain known plain),
     ) in
     one_answer (bytes_eq bytes known) (is_same_text text known) by_bytes by_text

@@ -11,8 +11,12 @@ fits_in_range (pos n) fits = grind (arith, nat_tests)
 fits_in_range (negsuc n) fits = grind (arith, nat_tests)
 
 pub unfit_out_of_range : (z : ℤ) → ¬ (FitsSigned w32 z) → in_range z ≡ None
-unfit_out_of_range (pos n) unfit = cond-false (nat_lt n (2 ^ 31)) _ _ (false_from_ne_true _ (λ t. unfit (record { sfits = ltb-true n (2 ^ 31) t })))
-unfit_out_of_range (negsuc n) unfit = cond-false (nat_lt n (2 ^ 31)) _ _ (false_from_ne_true _ (λ t. unfit (record { sfits = ltb-true n (2 ^ 31) t })))
+unfit_out_of_range (pos n) unfit =
+    cond-false (nat_lt n (2 ^ 31)) _ _
+    (false_from_ne_true _ (λ t. unfit (record { sfits = ltb-true n (2 ^ 31) t })))
+unfit_out_of_range (negsuc n) unfit =
+    cond-false (nat_lt n (2 ^ 31)) _ _
+    (false_from_ne_true _ (λ t. unfit (record { sfits = ltb-true n (2 ^ 31) t })))
 
 -- what a checked operation gives
 pub checked_is_in_range : (z : ℤ) (r : Option ℤ) → SomeIff r (FitsSigned w32 z) z → r ≡ in_range z

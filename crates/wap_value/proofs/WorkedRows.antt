@@ -5,7 +5,8 @@ use Rattle.std.specs.Fmt.{digits}
 use Rattle.std.specs.Int.{int_wrap}
 use Rattle.wap_value.specs.declared.value.Value.TheVariants.{Int, Bool as Boolean, Str, Invalid}
 use Rattle.wap_value.specs.declared.operator.UnOp.TheVariants.{Plus, Minus, BitNot, TypeOf}
-use Rattle.wap_value.specs.declared.operator.BinOp.TheVariants.{Div, IDiv, Rem, Add, Sub, Shl, Shr, UShr, Lt, BitAnd, BitXor, BitOr}
+use Rattle.wap_value.specs.declared.operator.BinOp.TheVariants.{Div, IDiv, Rem, Add, Sub, Shl, Shr}
+use Rattle.wap_value.specs.declared.operator.BinOp.TheVariants.{UShr, Lt, BitAnd, BitXor, BitOr}
 use Rattle.wap_value.specs.declared.fault.ValueFault.TheVariants.{TooLong}
 use Rattle.wap_value.specs.Unary.{unary_of}
 use Rattle.wap_value.specs.Binary.{binary_of}
@@ -93,15 +94,21 @@ either : binary_of BitOr (Int (minus 8)) (Int (pos 3)) ≡ Int (minus 5)
 either = refl
 
 -- `typeof` of an Integer, a String, a Boolean and invalid
-types : (unary_of TypeOf (Int (pos 1)) ≡ Int (pos 0)) × (unary_of TypeOf (Str (codes "a")) ≡ Int (pos 2)) × (unary_of TypeOf (Boolean true) ≡ Int (pos 3)) × (unary_of TypeOf Invalid ≡ Int (pos 4))
+types : (unary_of TypeOf (Int (pos 1)) ≡ Int (pos 0))
+    × (unary_of TypeOf (Str (codes "a")) ≡ Int (pos 2))
+    × (unary_of TypeOf (Boolean true) ≡ Int (pos 3)) × (unary_of TypeOf Invalid ≡ Int (pos 4))
 types = (refl, refl, refl, refl)
 
 -- texts that are Integers, and texts that are none
-read : (unary_of Plus (Str (codes "-2147483648")) ≡ Int (minus 2147483648)) × (unary_of Plus (Str (codes "+7")) ≡ Int (pos 7)) × (unary_of Plus (Str (codes "007")) ≡ Int (pos 7))
+read : (unary_of Plus (Str (codes "-2147483648")) ≡ Int (minus 2147483648))
+    × (unary_of Plus (Str (codes "+7")) ≡ Int (pos 7))
+    × (unary_of Plus (Str (codes "007")) ≡ Int (pos 7))
 read = (refl, refl, refl)
 
-not_read : (unary_of Plus (Str (codes "2147483648")) ≡ Invalid) × (unary_of Plus (Str (codes " 1")) ≡ Invalid) × (unary_of Plus (Str (codes "1.0")) ≡ Invalid)
-    × (unary_of Plus (Str (codes "-")) ≡ Invalid) × (unary_of Plus (Str []) ≡ Invalid) × (unary_of Plus (Str (codes "--1")) ≡ Invalid)
+not_read : (unary_of Plus (Str (codes "2147483648")) ≡ Invalid)
+    × (unary_of Plus (Str (codes " 1")) ≡ Invalid) × (unary_of Plus (Str (codes "1.0")) ≡ Invalid)
+    × (unary_of Plus (Str (codes "-")) ≡ Invalid) × (unary_of Plus (Str []) ≡ Invalid)
+    × (unary_of Plus (Str (codes "--1")) ≡ Invalid)
     × (unary_of Plus (Str (codes "1234567890123456789012345678901234567890")) ≡ Invalid)
 not_read = (refl, refl, refl, refl, refl, refl, refl)
 

@@ -1,10 +1,13 @@
 -- The operators on two Integers, over whole numbers (WAP-193, "Arithmetic Operators"). A result
 -- that is no Integer is none.
-use Rattle.std.specs.Prelude.{ℕ, ◌^◌, ◌/◌, ℤ, pos, negsuc, ◌+ℤ◌, ◌-ℤ◌, ◌*ℤ◌, int_div, int_rem, nat_lt, Option, Some, None, option_and_then, if◌then◌else◌}
-use Rattle.std.specs.Int.{w32, cast_unsigned, cast_signed, int_wrap, int_shr, int_bit_and, int_bit_or, int_bit_xor}
+use Rattle.std.specs.Prelude.{ℕ, ◌^◌, ◌/◌, ℤ, pos, negsuc, ◌+ℤ◌, ◌-ℤ◌, ◌*ℤ◌, int_div, int_rem}
+use Rattle.std.specs.Prelude.{nat_lt, Option, Some, None, option_and_then, if◌then◌else◌}
+use Rattle.std.specs.Int.{w32, cast_unsigned, cast_signed, int_wrap, int_shr}
+use Rattle.std.specs.Int.{int_bit_and, int_bit_or, int_bit_xor}
 use Rattle.std.specs.Ordering.{int_eq}
 use Rattle.wap_value.specs.declared.operator.BinOp.{BinOp}
-use Rattle.wap_value.specs.declared.operator.BinOp.TheVariants.{Mul, Div, IDiv, Rem, Add, Sub, Shl, Shr, UShr, BitAnd, BitXor, BitOr}
+use Rattle.wap_value.specs.declared.operator.BinOp.TheVariants.{Mul, Div, IDiv, Rem, Add, Sub, Shl}
+use Rattle.wap_value.specs.declared.operator.BinOp.TheVariants.{Shr, UShr, BitAnd, BitXor, BitOr}
 use Rattle.wap_value.specs.Integer.{in_range}
 
 -- the quotient is cut toward zero, and the remainder has the sign of the dividend; there is neither

@@ -8,8 +8,10 @@ use Rattle.std.specs.Ordering.{is_lt, is_le, is_gt, is_eq, is_ne}
 use Rattle.wap_value.specs.declared.value.Value.{Value}
 use Rattle.wap_value.specs.declared.value.Value.TheVariants.{Invalid}
 use Rattle.wap_value.specs.declared.operator.BinOp.{BinOp}
-use Rattle.wap_value.specs.declared.operator.BinOp.TheVariants.{Add, Lt, Le, Gt, Ge, Eq, Ne, And, Or, Comma}
-use Rattle.wap_value.specs.Conversion.{integer_of, text_of, integer_value, boolean_value, text_value}
+use Rattle.wap_value.specs.declared.operator.BinOp.TheVariants.{Add, Lt, Le, Gt, Ge, Eq, Ne}
+use Rattle.wap_value.specs.declared.operator.BinOp.TheVariants.{And, Or, Comma}
+use Rattle.wap_value.specs.Conversion.{integer_of, text_of, integer_value}
+use Rattle.wap_value.specs.Conversion.{boolean_value, text_value}
 use Rattle.wap_value.specs.Arithmetic.{integer_result_of}
 use Rattle.wap_value.specs.Order.{is_string, of_both, order_of}
 
@@ -28,7 +30,8 @@ on_integers op None y = Invalid
 
 -- what `+` makes of two values
 abbrev pub sum_of : Value → Value → Value
-sum_of a b = if is_string a || is_string b then text_value (of_both (λ s t. s ++ t) (text_of a) (text_of b))
+sum_of a b =
+    if is_string a || is_string b then text_value (of_both (λ s t. s ++ t) (text_of a) (text_of b))
     else on_integers Add (integer_of a) (integer_of b)
 
 -- the orders at which a comparison holds; the other operators are no comparisons

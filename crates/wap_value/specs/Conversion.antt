@@ -1,6 +1,7 @@
 -- What a value becomes where an operator wants an Integer, a Boolean or a String (WAP-193,
 -- "Automatic Data Type Conversion Rules"). `None`: there is no such conversion.
-use Rattle.std.specs.Prelude.{ℕ, Bool, true, false, not, List, [], ◌∷◌, ℤ, pos, codes, Option, Some, None, if◌then◌else◌}
+use Rattle.std.specs.Prelude.{ℕ, Bool, true, false, not, List, [], ◌∷◌, ℤ, pos}
+use Rattle.std.specs.Prelude.{codes, Option, Some, None, if◌then◌else◌}
 use Rattle.std.specs.Ordering.{int_eq}
 use Rattle.std.specs.Fmt.{signed_decimal}
 use Rattle.wap_value.specs.declared.value.Value.{Value}

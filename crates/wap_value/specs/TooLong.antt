@@ -9,7 +9,8 @@ use Rattle.wap_base.specs.Utf8.{utf8_len}
 
 -- the value, or the fault with its number of bytes where it is a String past the limit
 abbrev pub kept_within : ℕ → Value → Result Value ValueFault
-kept_within limit (Str text) = if nat_lt limit (utf8_len text) then Err (TooLong (utf8_len text)) else Ok (Str text)
+kept_within limit (Str text) =
+    if nat_lt limit (utf8_len text) then Err (TooLong (utf8_len text)) else Ok (Str text)
 kept_within limit (Int z) = Ok (Int z)
 kept_within limit (Boolean b) = Ok (Boolean b)
 kept_within limit Invalid = Ok Invalid

@@ -5,7 +5,8 @@ use Rattle.std.specs.Option.{option_map}
 use Rattle.wap_value.specs.declared.value.Value.{Value}
 use Rattle.wap_value.specs.declared.value.Value.TheVariants.{Int, Bool as Boolean, Str, Invalid}
 use Rattle.wap_value.specs.declared.operator.UnOp.{UnOp}
-use Rattle.wap_value.specs.declared.operator.UnOp.TheVariants.{Plus, Minus, BitNot, Not, TypeOf, IsValid, ToBool, Incr, Decr}
+use Rattle.wap_value.specs.declared.operator.UnOp.TheVariants.{Plus, Minus, BitNot, Not, TypeOf}
+use Rattle.wap_value.specs.declared.operator.UnOp.TheVariants.{IsValid, ToBool, Incr, Decr}
 use Rattle.wap_value.specs.Integer.{in_range}
 use Rattle.wap_value.specs.Conversion.{integer_of, boolean_of, integer_value, boolean_value}
 

@@ -25,8 +25,10 @@ pub fn binary(
 ) -> Result<Value, ValueFault>
     requires operator { TakesBoth op }
     requires limit { IsStringLimit string }
-    ensures value { Meets ValueFault.NoMemory (λ value. value) result (kept_within string (binary_of op left.now right.now)) }
-    ensures too_long { (bytes : ℕ) → result ≡ Err (ValueFault.TooLong bytes) → IsTooLong string (binary_of op left.now right.now) bytes }
+    ensures value { Meets ValueFault.NoMemory (λ value. value) result
+        (kept_within string (binary_of op left.now right.now)) }
+    ensures too_long { (bytes : ℕ) → result ≡ Err (ValueFault.TooLong bytes)
+        → IsTooLong string (binary_of op left.now right.now) bytes }
 {
     match op {
         BinOp::Add => sum(alloc, left, right, string),
@@ -50,7 +52,8 @@ pub fn binary(
 }
 
 fn sum(alloc: Global, left: &Value, right: &Value, string: u32) -> Result<Value, ValueFault>
-    ensures { Meets ValueFault.NoMemory (λ value. value) result (kept_within string (sum_of left.now right.now)) }
+    ensures { Meets ValueFault.NoMemory (λ value. value) result
+        (kept_within string (sum_of left.now right.now)) }
 {
     match (left, right) {
         (Value::Str(left), Value::Str(right)) => concatenation(alloc, left, right, string),

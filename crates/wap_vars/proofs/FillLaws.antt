@@ -7,7 +7,8 @@ use Rattle.wap_base.specs.declared.name.Part.TheVariants.{Lit, Var}
 use Rattle.wap_base.specs.declared.name.Conv.TheVariants.{Escape, Plain}
 use Rattle.wap_filling.specs.Filling.{part_text, filled}
 
-pub filled_append : (vars : List (List ℕ × List ℕ)) (front rest : List Part) → filled vars (front ++ rest) ≡ filled vars front ++ filled vars rest
+pub filled_append : (vars : List (List ℕ × List ℕ)) (front rest : List Part)
+    → filled vars (front ++ rest) ≡ filled vars front ++ filled vars rest
 filled_append vars front rest = flat_map-append (part_text vars) front rest
 
 -- a reference to a variable as it is, and one to a variable that isn't set

@@ -1,5 +1,6 @@
 //! `Vars`, the map from names to texts.
-ghost use Rattle.std.specs.Prelude.{◌≡◌, ◌≢◌, ◌≤◌, ◌<◌, ◌↔◌, ℕ, List, [], length, true, false, Some, None, IfSome, IfOk, OnOk, OnErr, IsErrOf};
+ghost use Rattle.std.specs.Prelude.{◌≡◌, ◌≢◌, ◌≤◌, ◌<◌, ◌↔◌, ℕ, List, [], length, true, false};
+ghost use Rattle.std.specs.Prelude.{Some, None, IfSome, IfOk, OnOk, OnErr, IsErrOf};
 ghost use Rattle.std.specs.Option.{option_copied};
 ghost use Rattle.wap_base.specs.Names.{is_name};
 ghost use Rattle.wap_base.specs.Outcome.{Meets};
@@ -63,16 +64,21 @@ impl Vars {
     pub fn set(&mut self, name: &Text, value: Text) -> Result<(), VarFault>
         ensures set { OnOk result (self.new ≡ updated self.old name.now value) }
         ensures kept { OnErr result (self.new ≡ self.old) }
-        ensures exact { Meets VarFault.NoMemory (λ _. self.new) result (set_in self.old name.now value) }
+        ensures exact { Meets VarFault.NoMemory (λ _. self.new) result
+            (set_in self.old name.now value) }
 
         // What each fault says. A bad name is reported even when out of memory.
         ensures bad_name { IsErrOf result VarFault.BadName ↔ (is_name name.now ≡ false) }
-        ensures too_long { (bytes : ℕ) → IsErrOf result (VarFault.TooLong bytes) → (bytes ≡ utf8_len value) × (TEXT_LIMIT < bytes) }
-        ensures full { IsErrOf result VarFault.Full → (length self.old ≡ VAR_LIMIT) × (text_of self.old name.now ≡ None) }
+        ensures too_long { (bytes : ℕ) → IsErrOf result (VarFault.TooLong bytes)
+            → (bytes ≡ utf8_len value) × (TEXT_LIMIT < bytes) }
+        ensures full { IsErrOf result VarFault.Full
+            → (length self.old ≡ VAR_LIMIT) × (text_of self.old name.now ≡ None) }
 
         // What is read afterwards.
         ensures here { OnOk result (text_of self.new name.now ≡ Some value) }
-        ensures elsewhere { OnOk result ((other : List ℕ) → other ≢ name.now → text_of self.new other ≡ text_of self.old other) }
+        ensures elsewhere { OnOk result
+            ((other : List ℕ) → other ≢ name.now
+            → text_of self.new other ≡ text_of self.old other) }
     {
         if !names_variable(name) {
             return Err(VarFault::BadName);
@@ -96,7 +102,8 @@ impl Vars {
     pub fn remove(&mut self, name: &Name)
         ensures removed { self.new ≡ removed self.old name.now }
         ensures here { text_of self.new name.now ≡ None }
-        ensures elsewhere { (other : List ℕ) → other ≢ name.now → text_of self.new other ≡ text_of self.old other }
+        ensures elsewhere { (other : List ℕ) → other ≢ name.now
+            → text_of self.new other ≡ text_of self.old other }
     {
         let _ = self.texts.remove(name.text());
     }

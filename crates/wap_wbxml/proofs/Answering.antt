@@ -10,7 +10,8 @@ use Rattle.wap_wbxml.specs.Refusal.{IsRefused}
 use Rattle.wap_wbxml.specs.reading.Whole.{document_at}
 use Rattle.wap_wbxml.proofs.DocumentLaws.{document_takes, document_stops}
 
-pub found_is : (bytes : List ℕ) (result : Result Document DocFault) → Meets NoMemory (λ d. d) result (document_at bytes)
+pub found_is : (bytes : List ℕ) (result : Result Document DocFault)
+    → Meets NoMemory (λ d. d) result (document_at bytes)
     → IfOk result (λ document. IsDocument bytes document)
 found_is bytes (Ok document) read = document_takes bytes document read
 found_is bytes (Err fault) read = tt

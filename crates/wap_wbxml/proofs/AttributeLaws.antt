@@ -1,5 +1,7 @@
 -- Leaves, attributes and processing instructions are read as they are spelled.
-use Rattle.std.proofs.Common.{◌≡◌, ℕ, ◌<◌, Bool, true, false, cond, eqb, ltb, ◌%◌, List, [], ◌∷◌, ◌++◌, length, Option, Some, None, Result, Ok, Err, refl, sym, ap, subst, ◌∙◌, append_assoc, inl, inr, arith}
+use Rattle.std.proofs.Common.{◌≡◌, ℕ, ◌<◌, Bool, true, false, cond, eqb, ltb, ◌%◌, List, []}
+use Rattle.std.proofs.Common.{◌∷◌, ◌++◌, length, Option, Some, None, Result, Ok, Err, refl}
+use Rattle.std.proofs.Common.{sym, ap, subst, ◌∙◌, append_assoc, inl, inr, arith}
 use Rattle.std.specs.Prelude.{not, ◌&&◌}
 use Rattle.std.proofs.lemmas.Bool.{eqb-true}
 use Rattle.std.proofs.lemmas.List.{length-append}
@@ -19,23 +21,34 @@ use Rattle.wap_markup.specs.declared.mark.AttributeMark.{AttributeMark}
 use Rattle.wap_markup.specs.declared.mark.AttributeMark.TheVariants as attribute
 use Rattle.wap_markup.specs.Codes.{attribute_mark, attribute_leaf, leaf_behind, leaf_mark}
 use Rattle.wap_markup.specs.Spellings.{Then, Told, Given, Never, ManyOf}
-use Rattle.wap_markup.specs.Grammar.{State, IsLead, IsLeaf, leaf_of, literal, IsStartBehind, IsPieceBehind, IsPiece, IsAttribute, IsAttributes, IsInstruction, attribute_of, piece_of, on_attribute_page}
+use Rattle.wap_markup.specs.Grammar.{State, IsLead, IsLeaf, leaf_of, literal, IsStartBehind}
+use Rattle.wap_markup.specs.Grammar.{IsPieceBehind, IsPiece, IsAttribute, IsAttributes}
+use Rattle.wap_markup.specs.Grammar.{IsInstruction, attribute_of, piece_of, on_attribute_page}
 use Rattle.wap_wbxml.specs.declared.fault.DocFault.{DocFault}
 use Rattle.wap_wbxml.specs.declared.fault.DocFault.TheVariants as doc
 use Rattle.wap_wbxml.specs.reading.Steps.{Reading, told}
 use Rattle.wap_wbxml.specs.Places.{Input, place_before}
 use Rattle.wap_wbxml.specs.reading.Fronts.{lead_in, lead_at, inline_at, indexed_at, character_at}
 use Rattle.wap_markup.specs.Codes.{is_end}
-use Rattle.wap_wbxml.specs.reading.Parts.{no_token, as_none, as_short, leaf_at, start_at, some_piece, piece_from, piece_led, next_piece, pieces_at, attribute_behind, next_attribute, attributes_at, end_from, end_at, instruction_at}
+use Rattle.wap_wbxml.specs.reading.Parts.{no_token, as_none, as_short, leaf_at, start_at}
+use Rattle.wap_wbxml.specs.reading.Parts.{some_piece, piece_from, piece_led, next_piece}
+use Rattle.wap_wbxml.specs.reading.Parts.{pieces_at, attribute_behind, next_attribute}
+use Rattle.wap_wbxml.specs.reading.Parts.{attributes_at, end_from, end_at, instruction_at}
 use Rattle.wap_wbxml.specs.Refusals.{Anything, RefusedThen}
 use Rattle.wap_markup.specs.Codes.{begins_piece}
-use Rattle.wap_wbxml.specs.Refusal.{RefusedLead, RefusedLeaf, NoToken, RefusedStart, RefusedPieceBehind, RefusedPiece, ValueEnds, AttributeEnds, RefusedValue, RefusedAttribute, RefusedUnless, RefusedNext, RefusedAttributes, RefusedEnd, RefusedInstruction}
-use Rattle.wap_wbxml.proofs.Readings.{Reads, pair_same, joined, no_fault, reads_behind, reads_then, reads_told, reads_given, reads_never, reads_placed, reads_as, reads_those}
+use Rattle.wap_wbxml.specs.Refusal.{RefusedLead, RefusedLeaf, NoToken, RefusedStart}
+use Rattle.wap_wbxml.specs.Refusal.{RefusedPieceBehind, RefusedPiece, ValueEnds, AttributeEnds}
+use Rattle.wap_wbxml.specs.Refusal.{RefusedValue, RefusedAttribute, RefusedUnless, RefusedNext}
+use Rattle.wap_wbxml.specs.Refusal.{RefusedAttributes, RefusedEnd, RefusedInstruction}
+use Rattle.wap_wbxml.proofs.Readings.{Reads, pair_same, joined, no_fault, reads_behind}
+use Rattle.wap_wbxml.proofs.Readings.{reads_then, reads_told, reads_given, reads_never}
+use Rattle.wap_wbxml.proofs.Readings.{reads_placed, reads_as, reads_those}
 use Rattle.wap_wbxml.proofs.Runs.{Items, StopsOpen, StopsAt, reads_open, reads_ended}
 use Rattle.wap_wbxml.proofs.TextLaws.{and_parts}
 use Rattle.wap_wbxml.proofs.FrontLaws.{reads_lead, reads_character, reads_opaque}
 use Rattle.wap_wbxml.proofs.StringLaws.{reads_inline, reads_indexed, reads_name}
-use Rattle.wap_wbxml.proofs.LeadLaws.{lead_length, lead_alone, lead_seen, lead_of, some_pair, none_some, some_none, none_same, led_items}
+use Rattle.wap_wbxml.proofs.LeadLaws.{lead_length, lead_alone, lead_seen, lead_of, some_pair}
+use Rattle.wap_wbxml.proofs.LeadLaws.{none_some, some_none, none_same, led_items}
 
 -- ---- leaves
 
@@ -43,20 +56,25 @@ pub reads_leaf : (input : Input) (m : LeafMark)
     → Reads Anything (leaf_at input m) (IsLeaf input.strings m) (RefusedLeaf input m)
 unfolding leaf_at RefusedLeaf inline_at indexed_at character_at
 reads_leaf input (mark.Inline role) =
-    reads_told (leaf_of role) (reads_placed (reads_inline input) (place_before input.total)) (λ a rest u. u)
+    reads_told (leaf_of role)
+    (reads_placed (reads_inline input) (place_before input.total)) (λ a rest u. u)
     (λ a rest u. u)
 reads_leaf input (mark.Indexed role) =
-    reads_told (leaf_of role) (reads_placed (reads_indexed input) (place_before input.total)) (λ a rest u. u)
+    reads_told (leaf_of role)
+    (reads_placed (reads_indexed input) (place_before input.total)) (λ a rest u. u)
     (λ a rest u. u)
 reads_leaf input mark.Entity =
-    reads_told leaf.Entity (reads_placed (reads_character input.total) (place_before input.total)) (λ a rest u. u)
+    reads_told leaf.Entity
+    (reads_placed (reads_character input.total) (place_before input.total)) (λ a rest u. u)
     (λ a rest u. u)
-reads_leaf input mark.Opaque = reads_told leaf.Opaque (reads_opaque input.total) (λ a rest u. u) (λ a rest u. u)
+reads_leaf input mark.Opaque =
+    reads_told leaf.Opaque (reads_opaque input.total) (λ a rest u. u) (λ a rest u. u)
 reads_leaf input (mark.Extension number) = reads_given (leaf.Ext number)
 
 -- ---- starts
 
-pub reads_no_token : {A : Type 0} (total : ℕ) → Reads {A = A} Anything (no_token total) Never (NoToken total)
+pub reads_no_token : {A : Type 0} (total : ℕ)
+    → Reads {A = A} Anything (no_token total) Never (NoToken total)
 reads_no_token total = reads_never Anything (λ rest. doc.Token (place_before total rest))
 
 reads_start : (input : Input) (before : State) (lead : Lead) (m : AttributeMark)
@@ -97,7 +115,8 @@ pub not_true : (b : Bool) → not b ≡ true → b ≡ false
 not_true true e = absurd (false_true e)
 not_true false e = refl
 
-attribute_end : (lead : Lead) → is_end (attribute_mark lead) ≡ true → (lead.byte ≡ END) × (lead.switched ≡ false)
+attribute_end : (lead : Lead) → is_end (attribute_mark lead) ≡ true
+    → (lead.byte ≡ END) × (lead.switched ≡ false)
 unfolding attribute_mark
 attribute_end lead e =
     let over = ends_chain (ltb LITERAL (lead.byte % 64)) (ltb lead.byte 128) (eqb lead.byte LITERAL)
@@ -119,7 +138,8 @@ end_no_piece page = refl
 end_no_switch : END ≡ SWITCH_PAGE → ⊥
 end_no_switch e = omega arith
 
-pub bind_assoc : {A B C : Type 0} (r : Result A DocFault) (f : A → Result B DocFault) (g : B → Result C DocFault)
+pub bind_assoc : {A B C : Type 0} (r : Result A DocFault) (f : A → Result B DocFault)
+    (g : B → Result C DocFault)
     → ((r >>= f) >>= g) ≡ (r >>= λ x. f x >>= g)
 bind_assoc (Ok x) f g = refl
 bind_assoc (Err fault) f g = refl
@@ -134,10 +154,12 @@ module _ (input : Input) where
   read_piece lead attribute.Nothing rest = no_token input.total rest
 
   reads_piece : (lead : Lead) (m : AttributeMark) → begins_piece m ≡ true
-      → Reads Anything (read_piece lead m) (IsPieceBehind input.strings lead m) (RefusedPieceBehind input m)
+      → Reads Anything (read_piece lead m) (IsPieceBehind input.strings lead m)
+      (RefusedPieceBehind input m)
   unfolding read_piece
   reads_piece lead attribute.Value e = reads_given (piece.Code lead.page lead.byte)
-  reads_piece lead (attribute.Leaf mark) e = reads_told piece_of (reads_leaf input mark) (λ a rest u. u) (λ a rest u. u)
+  reads_piece lead (attribute.Leaf mark) e =
+      reads_told piece_of (reads_leaf input mark) (λ a rest u. u) (λ a rest u. u)
   reads_piece lead attribute.End e = absurd (false_true e)
   reads_piece lead attribute.Coded e = absurd (false_true e)
   reads_piece lead attribute.Named e = absurd (false_true e)
@@ -152,7 +174,8 @@ module _ (input : Input) where
   piece_begins lead attribute.Named bytes x is = absurd is
   piece_begins lead attribute.Nothing bytes x is = absurd is
 
-  refused_begins : (m : AttributeMark) (bytes : List ℕ) (fault : DocFault) → RefusedPieceBehind input m bytes fault
+  refused_begins : (m : AttributeMark) (bytes : List ℕ) (fault : DocFault)
+      → RefusedPieceBehind input m bytes fault
       → begins_piece m ≡ true
   refused_begins attribute.Value bytes fault refused = refl
   refused_begins (attribute.Leaf mark) bytes fault refused = refl
@@ -162,12 +185,14 @@ module _ (input : Input) where
   refused_begins attribute.Nothing bytes fault refused = absurd refused
 
   abbrev piece_by : State → Lead → Bool → List ℕ → List ℕ → Reading (Option Piece × State)
-  piece_by s lead true bytes rest = told (some_piece lead s) (read_piece lead (attribute_mark lead) rest)
+  piece_by s lead true bytes rest =
+      told (some_piece lead s) (read_piece lead (attribute_mark lead) rest)
   piece_by s lead false bytes rest = Ok ((None, s), bytes)
 
   piece_same : (s : State) (lead : Lead) (m : AttributeMark) (bytes rest : List ℕ)
       → piece_from input s lead m bytes rest ≡
-      (cond (begins_piece m) (told (some_piece lead s) (read_piece lead m rest)) (Ok ((None, s), bytes)))
+      (cond (begins_piece m) (told (some_piece lead s) (read_piece lead m rest))
+      (Ok ((None, s), bytes)))
   unfolding read_piece
   piece_same s lead attribute.Value bytes rest = refl
   piece_same s lead (attribute.Leaf mark) bytes rest =
@@ -182,14 +207,17 @@ module _ (input : Input) where
   seen s bytes o = piece_led input s bytes o
 
   seen_by : (s : State) (bytes : List ℕ) (lead : Lead) (rest : List ℕ) (b : Bool)
-      → begins_piece (attribute_mark lead) ≡ b → seen s bytes (Some (lead, rest)) ≡ piece_by s lead b bytes rest
+      → begins_piece (attribute_mark lead) ≡ b
+      → seen s bytes (Some (lead, rest)) ≡ piece_by s lead b bytes rest
   seen_by s bytes lead rest true e =
       piece_same s lead (attribute_mark lead) bytes rest
-      ∙ ap (λ (b : Bool). cond b (told (some_piece lead s) (read_piece lead (attribute_mark lead) rest))
+      ∙ ap (λ (b : Bool).
+      cond b (told (some_piece lead s) (read_piece lead (attribute_mark lead) rest))
       (Ok ((None, s), bytes))) e
   seen_by s bytes lead rest false e =
       piece_same s lead (attribute_mark lead) bytes rest
-      ∙ ap (λ (b : Bool). cond b (told (some_piece lead s) (read_piece lead (attribute_mark lead) rest))
+      ∙ ap (λ (b : Bool).
+      cond b (told (some_piece lead s) (read_piece lead (attribute_mark lead) rest))
       (Ok ((None, s), bytes))) e
 
   abbrev Are : State → List ℕ → Piece × State → Type 0
@@ -199,10 +227,12 @@ module _ (input : Input) where
       → begins_piece (attribute_mark lead) ≡ b → (x : Piece) (t : State) (rest : List ℕ)
       → piece_by s lead b bytes behind ≡ Ok ((Some x, t), rest)
       → (front : List ℕ) × (behind ≡ front ++ rest) × Told {A = Piece} {B = Piece × State}
-      (λ p. (p, on_attribute_page lead.page s)) (IsPieceBehind input.strings lead (attribute_mark lead)) front
+      (λ p. (p, on_attribute_page lead.page s))
+      (IsPieceBehind input.strings lead (attribute_mark lead)) front
       (x, t)
   by_takes s bytes lead behind true b x t rest e =
-      let a = bind_ok (read_piece lead (attribute_mark lead) behind) (λ y. Ok (some_piece lead s y.0, y.1))
+      let a =
+      bind_ok (read_piece lead (attribute_mark lead) behind) (λ y. Ok (some_piece lead s y.0, y.1))
       ((Some x, t), rest) e in
       let same = pair_same (some_piece lead s a.0.0) (Some x, t) a.0.1 rest a.2 in
       let c = (reads_piece lead (attribute_mark lead) b).takes behind a.0.0 a.0.1 a.1 in (
@@ -218,18 +248,29 @@ module _ (input : Input) where
   by_takes s bytes lead behind false b x t rest e =
       absurd (none_some x s t (pair_same (None, s) (Some x, t) bytes rest e).0)
 
-  seen_takes : (s : State) (bytes : List ℕ) (o : Option (Lead × List ℕ)) → lead_in s.attribute_page bytes ≡ o
+  seen_takes : (s : State) (bytes : List ℕ) (o : Option (Lead × List ℕ))
+      → lead_in s.attribute_page bytes ≡ o
       → (x : Piece) (t : State) (rest : List ℕ) → seen s bytes o ≡ Ok ((Some x, t), rest)
-      → (front : List ℕ) × (bytes ≡ front ++ rest) × Are s front (x, t) × Anything {A = Piece × State} (x, t) rest
+      → (front : List ℕ) × (bytes ≡ front ++ rest) × Are s front (x, t)
+      × Anything {A = Piece × State} (x, t) rest
   seen_takes s bytes (Some lead) found x t rest e =
       let b = lead_seen s.attribute_page bytes lead.0 lead.1 found in
       let test = begins_piece (attribute_mark lead.0) in
-      let c = by_takes s bytes lead.0 lead.1 test refl x t rest (sym (seen_by s bytes lead.0 lead.1 test refl) ∙ e) in
-      (b.0 ++ c.0, joined bytes b.0 c.0 lead.1 rest b.1 c.1, record { front = b.0; rest = c.0; spelled = refl; a = lead.0; first = b.2; next = c.2 }, tt)
-  seen_takes s bytes None found x t rest e = absurd (none_some x s t (pair_same (None, s) (Some x, t) bytes rest e).0)
+      let c =
+      by_takes s bytes lead.0 lead.1 test refl x t rest
+      (sym (seen_by s bytes lead.0 lead.1 test refl) ∙ e) in (
+        b.0 ++ c.0,
+        joined bytes b.0 c.0 lead.1 rest b.1 c.1,
+        record { front = b.0; rest = c.0; spelled = refl; a = lead.0; first = b.2; next = c.2 },
+        tt,
+      )
+  seen_takes s bytes None found x t rest e =
+      absurd (none_some x s t (pair_same (None, s) (Some x, t) bytes rest e).0)
 
-  piece_again : (s : State) (front : List ℕ) (x : Piece) (t : State) (rest : List ℕ) → Are s front (x, t)
-      → Anything {A = Piece × State} (x, t) rest → next_piece input s (front ++ rest) ≡ Ok ((Some x, t), rest)
+  piece_again : (s : State) (front : List ℕ) (x : Piece) (t : State) (rest : List ℕ)
+      → Are s front (x, t)
+      → Anything {A = Piece × State} (x, t) rest
+      → next_piece input s (front ++ rest) ≡ Ok ((Some x, t), rest)
   unfolding next_piece
   piece_again s front x t rest is ends =
       let lead = is.a in
@@ -243,21 +284,27 @@ module _ (input : Input) where
       ((reads_piece lead (attribute_mark lead) begins).again is.rest is.next.a rest is.next.is tt)
       ∙ ap (λ (p : Piece × State). Ok ((Some p.0, p.1), rest)) (sym is.next.made)
 
-  no_lead_ends : (s : State) (bytes : List ℕ) → lead_in s.attribute_page bytes ≡ None → ValueEnds s bytes
+  no_lead_ends : (s : State) (bytes : List ℕ) → lead_in s.attribute_page bytes ≡ None
+      → ValueEnds s bytes
   no_lead_ends s bytes none =
       λ front behind lead split is. absurd
-      (no (sym none ∙ ap (lead_in s.attribute_page) split ∙ lead_of s.attribute_page front lead behind is))
+      (no (sym none ∙ ap (lead_in s.attribute_page) split
+      ∙ lead_of s.attribute_page front lead behind is))
     where
-      no : {lead : Lead} {behind : List ℕ} → ◌≡◌ {A = Option (Lead × List ℕ)} None (Some (lead, behind)) → ⊥
+      no : {lead : Lead} {behind : List ℕ}
+          → ◌≡◌ {A = Option (Lead × List ℕ)} None (Some (lead, behind)) → ⊥
       no e = cc
 
   this_lead_ends : (s : State) (bytes : List ℕ) (lead : Lead) (rest : List ℕ)
-      → lead_in s.attribute_page bytes ≡ Some (lead, rest) → begins_piece (attribute_mark lead) ≡ false
+      → lead_in s.attribute_page bytes ≡ Some (lead, rest)
+      → begins_piece (attribute_mark lead) ≡ false
       → ValueEnds s bytes
   this_lead_ends s bytes lead rest found test = λ front behind other split is.
-      let same : ◌≡◌ {A = Option (Lead × List ℕ)} (Some (lead, rest)) (Some (other, behind)) = sym found
+      let same : ◌≡◌ {A = Option (Lead × List ℕ)} (Some (lead, rest)) (Some (other, behind)) =
+      sym found
       ∙ ap (lead_in s.attribute_page) split ∙ lead_of s.attribute_page front other behind is in
-      let lead_same : lead ≡ other = ap (λ (p : Lead × List ℕ). p.0) (some_same (lead, rest) (other, behind) same) in
+      let lead_same : lead ≡ other =
+      ap (λ (p : Lead × List ℕ). p.0) (some_same (lead, rest) (other, behind) same) in
       subst (λ (l : Lead). begins_piece (attribute_mark l) ≡ false) lead_same test
 
   by_ends : (s : State) (bytes : List ℕ) (lead : Lead) (behind : List ℕ) (b : Bool)
@@ -265,7 +312,8 @@ module _ (input : Input) where
       → piece_by s lead b bytes behind ≡ Ok ((None, t), rest)
       → (s ≡ t) × (bytes ≡ rest) × (begins_piece (attribute_mark lead) ≡ false)
   by_ends s bytes lead behind true b t rest e =
-      let a = bind_ok (read_piece lead (attribute_mark lead) behind) (λ y. Ok (some_piece lead s y.0, y.1))
+      let a =
+      bind_ok (read_piece lead (attribute_mark lead) behind) (λ y. Ok (some_piece lead s y.0, y.1))
       ((None, t), rest) e in
       absurd (some_none a.0.0 (on_attribute_page lead.page s) t
       (pair_same (some_piece lead s a.0.0) (None, t) a.0.1 rest a.2).0)
@@ -273,18 +321,22 @@ module _ (input : Input) where
       let same = pair_same (None, s) (None, t) bytes rest e in
       (none_same s t same.0, same.1, b)
 
-  seen_ends : (s : State) (bytes : List ℕ) (o : Option (Lead × List ℕ)) → lead_in s.attribute_page bytes ≡ o
+  seen_ends : (s : State) (bytes : List ℕ) (o : Option (Lead × List ℕ))
+      → lead_in s.attribute_page bytes ≡ o
       → (t : State) (rest : List ℕ) → seen s bytes o ≡ Ok ((None, t), rest)
       → (s ≡ t) × StopsOpen ValueEnds s bytes rest
   seen_ends s bytes (Some lead) found t rest e =
       let test = begins_piece (attribute_mark lead.0) in
-      let c = by_ends s bytes lead.0 lead.1 test refl t rest (sym (seen_by s bytes lead.0 lead.1 test refl) ∙ e) in
+      let c =
+      by_ends s bytes lead.0 lead.1 test refl t rest
+      (sym (seen_by s bytes lead.0 lead.1 test refl) ∙ e) in
       (c.0, (c.1, subst (ValueEnds s) c.1 (this_lead_ends s bytes lead.0 lead.1 found c.2)))
   seen_ends s bytes None found t rest e =
       let same = pair_same (None, s) (None, t) bytes rest e in
       (none_same s t same.0, (same.1, subst (ValueEnds s) same.1 (no_lead_ends s bytes found)))
 
-  seen_halts : (s : State) (bytes : List ℕ) (o : Option (Lead × List ℕ)) → lead_in s.attribute_page bytes ≡ o
+  seen_halts : (s : State) (bytes : List ℕ) (o : Option (Lead × List ℕ))
+      → lead_in s.attribute_page bytes ≡ o
       → (rest : List ℕ) → StopsOpen ValueEnds s bytes rest → seen s bytes o ≡ Ok ((None, s), rest)
   seen_halts s bytes (Some lead) found rest stop =
       let b = lead_seen s.attribute_page bytes lead.0 lead.1 found in
@@ -293,16 +345,19 @@ module _ (input : Input) where
   seen_halts s bytes None found rest stop = ap (λ (l : List ℕ). Ok ((None, s), l)) stop.0
 
   by_stops : (s : State) (bytes : List ℕ) (lead : Lead) (behind : List ℕ) (b : Bool)
-      → begins_piece (attribute_mark lead) ≡ b → (fault : DocFault) → piece_by s lead b bytes behind ≡ Err fault
+      → begins_piece (attribute_mark lead) ≡ b → (fault : DocFault)
+      → piece_by s lead b bytes behind ≡ Err fault
       → RefusedPieceBehind input (attribute_mark lead) behind fault
   by_stops s bytes lead behind true b fault e =
-      elim (bind_err (read_piece lead (attribute_mark lead) behind) (λ y. Ok (some_piece lead s y.0, y.1)) fault e) [
+      elim (bind_err (read_piece lead (attribute_mark lead) behind)
+      (λ y. Ok (some_piece lead s y.0, y.1)) fault e) [
         | inl failed ↦ (reads_piece lead (attribute_mark lead) b).stops behind fault failed
         | inr read ↦ absurd (no_fault read.2)
       ]
   by_stops s bytes lead behind false b fault e = absurd (no_fault e)
 
-  seen_stops : (s : State) (bytes : List ℕ) (o : Option (Lead × List ℕ)) → lead_in s.attribute_page bytes ≡ o
+  seen_stops : (s : State) (bytes : List ℕ) (o : Option (Lead × List ℕ))
+      → lead_in s.attribute_page bytes ≡ o
       → (fault : DocFault) → seen s bytes o ≡ Err fault → RefusedPiece input s bytes fault
   seen_stops s bytes (Some lead) found fault e =
       let b = lead_seen s.attribute_page bytes lead.0 lead.1 found in
@@ -314,7 +369,9 @@ module _ (input : Input) where
         a = lead.0;
         is = b.2;
         ends = tt;
-        refused = by_stops s bytes lead.0 lead.1 test refl fault (sym (seen_by s bytes lead.0 lead.1 test refl) ∙ e);
+        refused =
+            by_stops s bytes lead.0 lead.1 test refl fault
+            (sym (seen_by s bytes lead.0 lead.1 test refl) ∙ e);
       }
   seen_stops s bytes None found fault e = absurd (no_fault e)
 
@@ -337,10 +394,12 @@ module _ (input : Input) where
       let len = ap length is.spelled ∙ length-append is.front is.rest in
       omega arith
 
-  piece_items : Items (next_piece input) as_none Are Anything (StopsOpen ValueEnds) (RefusedPiece input)
+  piece_items :
+      Items (next_piece input) as_none Are Anything (StopsOpen ValueEnds) (RefusedPiece input)
   unfolding next_piece
   piece_items = record {
-    takes = λ s bytes x t rest e. seen_takes s bytes (lead_in s.attribute_page bytes) refl x t rest e;
+    takes =
+        λ s bytes x t rest e. seen_takes s bytes (lead_in s.attribute_page bytes) refl x t rest e;
     again = piece_again;
     ends = λ s bytes t rest e. seen_ends s bytes (lead_in s.attribute_page bytes) refl t rest e;
     halts = λ s bytes rest stop. seen_halts s bytes (lead_in s.attribute_page bytes) refl rest stop;
@@ -353,7 +412,8 @@ module _ (input : Input) where
   }
 
   reads_pieces : (s : State)
-      → Reads (λ (x : List Piece × State). ValueEnds x.1) (pieces_at input s) (ManyOf Are s) (RefusedValue input s)
+      → Reads (λ (x : List Piece × State). ValueEnds x.1) (pieces_at input s) (ManyOf Are s)
+      (RefusedValue input s)
   unfolding pieces_at
   reads_pieces s = reads_open ValueEnds piece_items s
 
@@ -361,7 +421,8 @@ module _ (input : Input) where
 
   abbrev IsBehind : State → Lead → List ℕ → Attr × State → Type 0
   IsBehind before lead =
-      Then (IsStartBehind input.strings (on_attribute_page lead.page before) lead (attribute_mark lead)) (λ start.
+      Then (IsStartBehind input.strings (on_attribute_page lead.page before) lead
+      (attribute_mark lead)) (λ start.
       Told (attribute_of lead start.0) (ManyOf (IsPiece input.strings) start.1))
 
   reads_attribute : (before : State) (lead : Lead)
@@ -374,7 +435,8 @@ module _ (input : Input) where
       (λ start. reads_told (attribute_of lead start.0) (reads_pieces start.1) (λ v rest ends. ends)
       (λ v rest ends. ends))
 
-  start_no_end : (before : State) (lead : Lead) (m : AttributeMark) (bytes : List ℕ) (x : Token × State)
+  start_no_end : (before : State) (lead : Lead) (m : AttributeMark) (bytes : List ℕ)
+      (x : Token × State)
       → IsStartBehind input.strings before lead m bytes x → is_end m ≡ false
   start_no_end before lead attribute.Coded bytes x is = refl
   start_no_end before lead attribute.Named bytes x is = refl
@@ -383,7 +445,8 @@ module _ (input : Input) where
   start_no_end before lead (attribute.Leaf mark) bytes x is = refl
   start_no_end before lead attribute.Nothing bytes x is = refl
 
-  start_no_piece : (before : State) (lead : Lead) (m : AttributeMark) (bytes : List ℕ) (x : Token × State)
+  start_no_piece : (before : State) (lead : Lead) (m : AttributeMark) (bytes : List ℕ)
+      (x : Token × State)
       → IsStartBehind input.strings before lead m bytes x → begins_piece m ≡ false
   start_no_piece before lead attribute.Coded bytes x is = refl
   start_no_piece before lead attribute.Named bytes x is = refl
@@ -397,7 +460,8 @@ module _ (input : Input) where
   ends_before y s front x rest is =
       let whole = ap (λ (l : List ℕ). l ++ rest) is.spelled ∙ append_assoc is.front is.rest rest in
       this_lead_ends s (front ++ rest) is.a (is.rest ++ rest)
-      (ap (lead_in s.attribute_page) whole ∙ lead_of s.attribute_page is.front is.a (is.rest ++ rest) is.first)
+      (ap (lead_in s.attribute_page) whole
+      ∙ lead_of s.attribute_page is.front is.a (is.rest ++ rest) is.first)
       (start_no_piece (on_attribute_page is.a.page s) is.a (attribute_mark is.a) is.next.front
       (is.next.a) is.next.first)
 
@@ -406,7 +470,8 @@ module _ (input : Input) where
       this_lead_ends s bytes (plain_end s.attribute_page) rest (ap (lead_in s.attribute_page) stop)
       (end_no_piece s.attribute_page)
 
-  attribute_items : Items (next_attribute input) (as_short input.total) (IsAttribute input.strings) AttributeEnds
+  attribute_items :
+      Items (next_attribute input) (as_short input.total) (IsAttribute input.strings) AttributeEnds
       (StopsAt END) (RefusedNext input)
   unfolding next_attribute IsAttribute RefusedNext
   attribute_items =
@@ -418,7 +483,8 @@ module _ (input : Input) where
       attribute_end end_is_end ends_before (λ y. ends_at_end)
 
   pub reads_attributes : (s : State)
-      → Reads Anything (attributes_at input s) (IsAttributes input.strings s) (RefusedAttributes input s)
+      → Reads Anything (attributes_at input s) (IsAttributes input.strings s)
+      (RefusedAttributes input s)
   unfolding attributes_at RefusedAttributes
   reads_attributes s = reads_ended END attribute_items s
 
@@ -430,7 +496,8 @@ module _ (input : Input) where
   EndFor a false = Never
 
   abbrev behind_end : Attr × State → Lead → List ℕ → Reading (Attr × State)
-  behind_end a lead rest = end_from input.total (is_end (attribute_mark lead)) rest >>= λ r. Ok (a, r)
+  behind_end a lead rest =
+      end_from input.total (is_end (attribute_mark lead)) rest >>= λ r. Ok (a, r)
 
   reads_end_by : (a : Attr × State) (b : Bool)
       → Reads Anything (λ rest. end_from input.total b rest >>= λ r. Ok (a, r)) (EndFor a b)
@@ -442,11 +509,13 @@ module _ (input : Input) where
   IsEndFor a bytes x = (bytes ≡ END ∷ []) × (x ≡ a)
 
   end_is : (a : Attr × State) (lead : Lead) (b : Bool) → is_end (attribute_mark lead) ≡ b
-      → (front rest : List ℕ) (x : Attr × State) → IsLead a.1.attribute_page front lead → EndFor a b rest x
+      → (front rest : List ℕ) (x : Attr × State) → IsLead a.1.attribute_page front lead
+      → EndFor a b rest x
       → IsEndFor a (front ++ rest) x
   end_is a lead true e front rest x is ended =
       let over = attribute_end lead e in (
-        ap (λ (l : List ℕ). l ++ rest) (lead_alone a.1.attribute_page front lead END is over.0 over.1)
+        ap (λ (l : List ℕ). l ++ rest)
+            (lead_alone a.1.attribute_page front lead END is over.0 over.1)
             ∙ ap (λ (l : List ℕ). END ∷ l) ended.0,
         ended.1,
       )
@@ -463,7 +532,8 @@ module _ (input : Input) where
       (λ lead. reads_end_by a (is_end (attribute_mark lead))))
       (λ bytes. end_at input.total a.1 bytes >>= λ rest. Ok (a, rest))
       (λ bytes. sym (bind_assoc (lead_at input.total a.1.attribute_page bytes)
-      (λ lead. end_from input.total (is_end (attribute_mark lead.0)) lead.1) (λ rest. Ok (a, rest)))))
+      (λ lead. end_from input.total (is_end (attribute_mark lead.0)) lead.1)
+      (λ rest. Ok (a, rest)))))
       (λ bytes x is. subst (λ (l : List ℕ). IsEndFor a l x) (sym is.spelled)
       (end_is a is.a (is_end (attribute_mark is.a)) refl is.front is.rest x is.first is.next))
       (λ bytes x is. record {
@@ -479,14 +549,17 @@ module _ (input : Input) where
 
   abbrev led_attribute : State → List ℕ → Reading (Attr × State)
   led_attribute before bytes =
-      lead_at input.total before.attribute_page bytes >>= λ lead. attribute_behind input before lead.0 lead.1
+      lead_at input.total before.attribute_page bytes >>= λ lead.
+      attribute_behind input before lead.0 lead.1
 
   reads_led : (before : State)
       → Reads AttributeEnds (led_attribute before) (IsAttribute input.strings before)
-      (RefusedThen (IsLead before.attribute_page) (RefusedLead input.total) (RefusedAttribute input before))
+      (RefusedThen (IsLead before.attribute_page) (RefusedLead input.total)
+      (RefusedAttribute input before))
   unfolding IsAttribute
   reads_led before =
-      reads_then (attribute_behind input before) (reads_lead input.total before.attribute_page) (reads_attribute before)
+      reads_then (attribute_behind input before) (reads_lead input.total before.attribute_page)
+      (reads_attribute before)
 
   pub reads_instruction : (before : State)
       → Reads Anything (instruction_at input before) (IsInstruction input.strings before)
@@ -495,8 +568,10 @@ module _ (input : Input) where
   reads_instruction before =
       reads_those
       (reads_as
-      (reads_behind (λ a bytes. end_at input.total a.1 bytes >>= λ rest. Ok (a, rest)) (reads_led before) reads_end
-      (λ a front x rest is ends. ends_at_end a.1 (front ++ rest) rest (ap (λ (l : List ℕ). l ++ rest) is.0)))
+      (reads_behind (λ a bytes. end_at input.total a.1 bytes >>= λ rest. Ok (a, rest))
+      (reads_led before) reads_end
+      (λ a front x rest is ends.
+      ends_at_end a.1 (front ++ rest) rest (ap (λ (l : List ℕ). l ++ rest) is.0)))
       (instruction_at input before)
       (λ bytes. bind_assoc (lead_at input.total before.attribute_page bytes)
       (λ lead. attribute_behind input before lead.0 lead.1)
@@ -508,4 +583,11 @@ module _ (input : Input) where
         subst (IsAttribute input.strings before is.front)
             (sym is.next.1) is.first,
       ))
-      (λ bytes x is. record { front = is.0; rest = END ∷ []; spelled = is.1; a = x; first = is.2; next = (refl, refl) })
+      (λ bytes x is. record {
+        front = is.0;
+        rest = END ∷ [];
+        spelled = is.1;
+        a = x;
+        first = is.2;
+        next = (refl, refl);
+      })

@@ -1,5 +1,7 @@
 -- Documents are read as they are spelled.
-use Rattle.std.proofs.Common.{◌≡◌, ◌≢◌, ℕ, ◌<◌, Bool, true, false, cond, eqb, List, [], ◌∷◌, ◌++◌, length, Option, Some, None, Ok, Err, refl, sym, ap, subst, ◌∙◌, append_assoc, inl, inr, arith}
+use Rattle.std.proofs.Common.{◌≡◌, ◌≢◌, ℕ, ◌<◌, Bool, true, false, cond, eqb, List, [], ◌∷◌}
+use Rattle.std.proofs.Common.{◌++◌, length, Option, Some, None, Ok, Err, refl, sym, ap}
+use Rattle.std.proofs.Common.{subst, ◌∙◌, append_assoc, inl, inr, arith}
 use Rattle.std.proofs.lemmas.Bool.{eqb-true}
 use Rattle.std.proofs.lemmas.List.{append-nil}
 use Rattle.wap_base.specs.Outcome.{◌>>=◌}
@@ -20,7 +22,10 @@ use Rattle.wap_markup.specs.Codes.{content_mark}
 use Rattle.wap_markup.specs.Spellings.{Then, Told, Given, ManyOf}
 use Rattle.wap_markup.specs.Strings.{string_from}
 use Rattle.wap_markup.specs.Grammar.{State, IsLead, IsInstruction}
-use Rattle.wap_markup.specs.Documents.{is_version, IsVersion, is_public, public_named, IsIdentifierBehind, IsIdentifier, IsPublic, IsCharset, IsOuter, IsRootBehind, IsRoot, first_state, into_root, out_of_root, IsBody, IsDocument}
+use Rattle.wap_markup.specs.Documents.{is_version, IsVersion, is_public, public_named}
+use Rattle.wap_markup.specs.Documents.{IsIdentifierBehind, IsIdentifier, IsPublic, IsCharset}
+use Rattle.wap_markup.specs.Documents.{IsOuter, IsRootBehind, IsRoot, first_state, into_root}
+use Rattle.wap_markup.specs.Documents.{out_of_root, IsBody, IsDocument}
 use Rattle.wap_wbxml.specs.declared.fault.DocFault.{DocFault}
 use Rattle.wap_wbxml.specs.declared.fault.DocFault.TheVariants as doc
 use Rattle.wap_wbxml.specs.reading.Steps.{Reading, some, told}
@@ -28,10 +33,17 @@ use Rattle.wap_wbxml.specs.Places.{Input, place}
 use Rattle.wap_wbxml.specs.reading.Fronts.{opaque_at}
 use Rattle.wap_wbxml.specs.reading.Parts.{as_none, instruction_at}
 use Rattle.wap_wbxml.specs.Places.{input_of}
-use Rattle.wap_wbxml.specs.reading.Whole.{version_at, identifier_from, identifier_at, or_no_charset, charset_at, or_not_public, public_of, outer_from, next_outer, outers_at, root_from, root_at, body_at, document_of, whole_at, all_of_it, document_at}
+use Rattle.wap_wbxml.specs.reading.Whole.{version_at, identifier_from, identifier_at, or_no_charset}
+use Rattle.wap_wbxml.specs.reading.Whole.{charset_at, or_not_public, public_of, outer_from}
+use Rattle.wap_wbxml.specs.reading.Whole.{next_outer, outers_at, root_from, root_at, body_at}
+use Rattle.wap_wbxml.specs.reading.Whole.{document_of, whole_at, all_of_it, document_at}
 use Rattle.wap_wbxml.specs.Refusals.{Anything, RefusedThen}
-use Rattle.wap_wbxml.specs.Refusal.{RefusedVersion, RefusedIdentifierBehind, RefusedIdentifier, RefusedCharset, RefusedPublic, RefusedOuter, InstructionsEnd, OutersEnd, RefusedOuters, RefusedRootBehind, RefusedRoot, RefusedBody, RefusedWhole, IsRefused}
-use Rattle.wap_wbxml.proofs.Readings.{Reads, pair_same, no_fault, no_value, reads_behind, reads_then, reads_told, reads_given, reads_as, reads_found}
+use Rattle.wap_wbxml.specs.Refusal.{RefusedVersion, RefusedIdentifierBehind, RefusedIdentifier}
+use Rattle.wap_wbxml.specs.Refusal.{RefusedCharset, RefusedPublic, RefusedOuter, InstructionsEnd}
+use Rattle.wap_wbxml.specs.Refusal.{OutersEnd, RefusedOuters, RefusedRootBehind, RefusedRoot}
+use Rattle.wap_wbxml.specs.Refusal.{RefusedBody, RefusedWhole, IsRefused}
+use Rattle.wap_wbxml.proofs.Readings.{Reads, pair_same, no_fault, no_value, reads_behind}
+use Rattle.wap_wbxml.proofs.Readings.{reads_then, reads_told, reads_given, reads_as, reads_found}
 use Rattle.wap_wbxml.proofs.Runs.{Items, StopsOpen, reads_open}
 use Rattle.wap_wbxml.proofs.FrontLaws.{reads_lead, reads_number, reads_opaque}
 use Rattle.wap_wbxml.proofs.LeadLaws.{some_pair, none_some, some_none, none_same}
@@ -40,7 +52,8 @@ use Rattle.wap_wbxml.proofs.ElementLaws.{reads_element}
 
 -- ---- the header
 
-version_takes : (total : ℕ) (bytes : List ℕ) (x : ℕ) (rest : List ℕ) → version_at total bytes ≡ Ok (x, rest)
+version_takes : (total : ℕ) (bytes : List ℕ) (x : ℕ) (rest : List ℕ)
+    → version_at total bytes ≡ Ok (x, rest)
     → (front : List ℕ) × (bytes ≡ front ++ rest) × IsVersion front x × Anything x rest
 unfolding version_at
 version_takes total [] x rest e = absurd (no_value e)
@@ -71,7 +84,8 @@ version_fails : (total : ℕ) (bytes : List ℕ) (fault : DocFault) → RefusedV
 unfolding version_at
 version_fails total [] fault refused = ap Err (sym refused)
 version_fails total (byte ∷ bytes) fault refused =
-    ap (λ (b : Bool). cond b (Ok (byte, bytes)) (Err doc.Version)) refused.0 ∙ ap Err (sym refused.1)
+    ap (λ (b : Bool). cond b (Ok (byte, bytes)) (Err doc.Version)) refused.0
+    ∙ ap Err (sym refused.1)
 
 reads_version : (total : ℕ) → Reads Anything (version_at total) IsVersion (RefusedVersion total)
 unfolding version_at
@@ -86,13 +100,15 @@ reads_version total = record {
 
 -- a number that isn't 0 has to be that of a document type
 reads_numbered : (number : ℕ)
-    → Reads Anything (λ rest. cond (is_public number) (Ok (Numbered number, rest)) (Err doc.PublicId))
+    → Reads Anything
+    (λ rest. cond (is_public number) (Ok (Numbered number, rest)) (Err doc.PublicId))
     (λ bytes identifier. Given (Numbered number) bytes identifier × (is_public number ≡ true))
     (λ rest fault. (is_public number ≡ false) × (fault ≡ doc.PublicId))
 reads_numbered number = record {
   takes =
       λ bytes x rest e. elim
-      (chosen (is_public number) (Ok (Numbered number, bytes)) (Err doc.PublicId) (Ok (x, rest)) e) [
+      (chosen (is_public number) (Ok (Numbered number, bytes)) (Err doc.PublicId)
+      (Ok (x, rest)) e) [
         | inl t ↦
             let same = pair_same (Numbered number) x bytes rest t.1 in
             ([], same.1, ((refl, sym same.0), t.0), tt)
@@ -103,28 +119,33 @@ reads_numbered number = record {
       ∙ ap (λ (l : List ℕ). Ok (Numbered number, l ++ rest)) is.0.0
       ∙ ap (λ (i : Identifier). Ok (i, rest)) (sym is.0.1);
   stops =
-      λ bytes fault e. elim (chosen (is_public number) (Ok (Numbered number, bytes)) (Err doc.PublicId) (Err fault) e) [
+      λ bytes fault e. elim (chosen (is_public number) (Ok (Numbered number, bytes))
+      (Err doc.PublicId) (Err fault) e) [
         | inl t ↦ absurd (no_fault t.1)
         | inr f ↦ (f.0, sym (err_same doc.PublicId fault f.1))
       ];
   fails =
-      λ bytes fault refused. ap (λ (b : Bool). cond b (Ok (Numbered number, bytes)) (Err doc.PublicId)) refused.0
+      λ bytes fault refused.
+      ap (λ (b : Bool). cond b (Ok (Numbered number, bytes)) (Err doc.PublicId)) refused.0
       ∙ ap Err (sym refused.1);
 }
 
 reads_identifier_behind : (total number : ℕ) (b : Bool)
     → Reads Anything (identifier_from total number b) (IsIdentifierBehind number b)
     (RefusedIdentifierBehind total number b)
-reads_identifier_behind total number true = reads_told Named (reads_number total) (λ a rest u. u) (λ a rest u. u)
+reads_identifier_behind total number true =
+    reads_told Named (reads_number total) (λ a rest u. u) (λ a rest u. u)
 reads_identifier_behind total number false = reads_numbered number
 
-reads_identifier : (total : ℕ) → Reads Anything (identifier_at total) IsIdentifier (RefusedIdentifier total)
+reads_identifier : (total : ℕ)
+    → Reads Anything (identifier_at total) IsIdentifier (RefusedIdentifier total)
 unfolding identifier_at RefusedIdentifier
 reads_identifier total =
     reads_then (λ number. identifier_from total number (eqb number 0)) (reads_number total)
     (λ number. reads_identifier_behind total number (eqb number 0))
 
-charset_found : (o : Option Charset) (charset : Charset) → or_no_charset o ≡ Ok charset → o ≡ Some charset
+charset_found : (o : Option Charset) (charset : Charset) → or_no_charset o ≡ Ok charset
+    → o ≡ Some charset
 charset_found (Some other) charset e = ap Some (ok_same other charset e)
 charset_found None charset e = absurd (no_value e)
 
@@ -139,7 +160,8 @@ reads_charset total =
     reads_found (reads_number total) (λ number. or_no_charset (charset_of number))
     (λ number charset. charset_of number ≡ Some charset)
     (λ number fault. (charset_of number ≡ None) × (fault ≡ doc.Charset))
-    (λ number charset e. charset_found (charset_of number) charset e) (λ number charset is. ap or_no_charset is)
+    (λ number charset e. charset_found (charset_of number) charset e)
+    (λ number charset is. ap or_no_charset is)
     (λ number fault e. charset_missed (charset_of number) fault e)
     (λ number fault missed. ap or_no_charset missed.0 ∙ ap Err (sym missed.1))
 
@@ -147,13 +169,15 @@ named_found : (o : Option ℕ) (public : ℕ) → or_not_public o ≡ Ok public 
 named_found (Some other) public e = ap Some (ok_same other public e)
 named_found None public e = absurd (no_value e)
 
-named_missed : (o : Option ℕ) (fault : DocFault) → or_not_public o ≡ Err fault → (o ≡ None) × (fault ≡ doc.PublicId)
+named_missed : (o : Option ℕ) (fault : DocFault) → or_not_public o ≡ Err fault
+    → (o ≡ None) × (fault ≡ doc.PublicId)
 named_missed (Some other) fault e = absurd (no_fault e)
 named_missed None fault e = (refl, sym (err_same doc.PublicId fault e))
 
 reads_named : (o : Option ℕ)
     → Reads Anything (λ bytes. or_not_public o >>= λ public. Ok (public, bytes))
-    (λ bytes public. (bytes ≡ []) × (o ≡ Some public)) (λ rest fault. (o ≡ None) × (fault ≡ doc.PublicId))
+    (λ bytes public. (bytes ≡ []) × (o ≡ Some public))
+    (λ rest fault. (o ≡ None) × (fault ≡ doc.PublicId))
 reads_named o = record {
   takes = λ bytes x rest e.
       let a = bind_ok (or_not_public o) (λ public. Ok (public, bytes)) (x, rest) e in
@@ -162,17 +186,20 @@ reads_named o = record {
   again = λ front x rest is ends.
       ap (λ (p : Option ℕ). or_not_public p >>= λ public. Ok (public, front ++ rest)) is.1
       ∙ ap (λ (l : List ℕ). Ok (x, l ++ rest)) is.0;
-  stops = λ bytes fault e. elim (bind_err (or_not_public o) (λ public. Ok (public, bytes)) fault e) [
-    | inl missed ↦ named_missed o fault missed
-    | inr found ↦ absurd (no_fault found.2)
-  ];
+  stops =
+      λ bytes fault e. elim (bind_err (or_not_public o) (λ public. Ok (public, bytes)) fault e) [
+        | inl missed ↦ named_missed o fault missed
+        | inr found ↦ absurd (no_fault found.2)
+      ];
   fails =
-      λ bytes fault missed. ap (λ (p : Option ℕ). or_not_public p >>= λ public. Ok (public, bytes)) missed.0
+      λ bytes fault missed.
+      ap (λ (p : Option ℕ). or_not_public p >>= λ public. Ok (public, bytes)) missed.0
       ∙ ap Err (sym missed.1);
 }
 
 reads_public : (table : List ℕ) (identifier : Identifier)
-    → Reads Anything (λ bytes. public_of table identifier >>= λ public. Ok (public, bytes)) (IsPublic table identifier)
+    → Reads Anything (λ bytes. public_of table identifier >>= λ public. Ok (public, bytes))
+    (IsPublic table identifier)
     (RefusedPublic table identifier)
 unfolding public_of
 reads_public table (Numbered number) = reads_given number
@@ -185,17 +212,23 @@ module _ (input : Input) where
   outer_by = outer_from input
 
   outer_takes : (s : State) (byte : ℕ) (bytes : List ℕ) (b : Bool) → eqb byte PI ≡ b
-      → (x : Attr) (t : State) (rest : List ℕ) → outer_by s (byte ∷ bytes) b bytes ≡ Ok ((Some x, t), rest)
+      → (x : Attr) (t : State) (rest : List ℕ)
+      → outer_by s (byte ∷ bytes) b bytes ≡ Ok ((Some x, t), rest)
       → (front : List ℕ) × (byte ∷ bytes ≡ front ++ rest) × IsOuter input.strings s front (x, t)
       × Anything {A = Attr × State} (x, t) rest
   outer_takes s byte bytes true b x t rest e =
-      let a = bind_ok (instruction_at input s bytes) (λ y. Ok (some y.0, y.1)) ((Some x, t), rest) e in
+      let a =
+      bind_ok (instruction_at input s bytes) (λ y. Ok (some y.0, y.1)) ((Some x, t), rest) e in
       let same = pair_same (some a.0.0) (Some x, t) a.0.1 rest a.2 in
       let c = (reads_instruction input s).takes bytes a.0.0 a.0.1 a.1 in
       let value : a.0.0 ≡ (x, t) = some_pair a.0.0.0 x a.0.0.1 t same.0 in (
         byte ∷ c.0,
         ap (λ (l : List ℕ). byte ∷ l) (c.1 ∙ ap (λ (l : List ℕ). c.0 ++ l) same.1),
-        (c.0, ap (λ (n : ℕ). n ∷ c.0) (eqb-true byte PI b), subst (IsInstruction input.strings s c.0) value c.2),
+        (
+          c.0,
+          ap (λ (n : ℕ). n ∷ c.0) (eqb-true byte PI b),
+          subst (IsInstruction input.strings s c.0) value c.2,
+        ),
         tt,
       )
   outer_takes s byte bytes false b x t rest e =
@@ -203,10 +236,12 @@ module _ (input : Input) where
 
   next_takes : (s : State) (bytes : List ℕ) (x : Attr) (t : State) (rest : List ℕ)
       → next_outer input s bytes ≡ Ok ((Some x, t), rest)
-      → (front : List ℕ) × (bytes ≡ front ++ rest) × IsOuter input.strings s front (x, t) × Anything {A = Attr × State}
+      → (front : List ℕ) × (bytes ≡ front ++ rest) × IsOuter input.strings s front (x, t)
+      × Anything {A = Attr × State}
       (x, t) rest
   unfolding next_outer
-  next_takes s [] x t rest e = absurd (none_some x s t (pair_same (None, s) (Some x, t) [] rest e).0)
+  next_takes s [] x t rest e =
+      absurd (none_some x s t (pair_same (None, s) (Some x, t) [] rest e).0)
   next_takes s (byte ∷ bytes) x t rest e = outer_takes s byte bytes (eqb byte PI) refl x t rest e
 
   next_again : (s : State) (front : List ℕ) (x : Attr) (t : State) (rest : List ℕ)
@@ -215,7 +250,8 @@ module _ (input : Input) where
   unfolding next_outer
   next_again s front x t rest is ends =
       ap (λ (l : List ℕ). next_outer input s (l ++ rest)) is.1
-      ∙ ap (λ (r : Reading (Attr × State)). told some r) ((reads_instruction input s).again is.0 (x, t) rest is.2 tt)
+      ∙ ap (λ (r : Reading (Attr × State)). told some r)
+      ((reads_instruction input s).again is.0 (x, t) rest is.2 tt)
 
   not_this : (byte : ℕ) → eqb byte PI ≡ false → byte ≢ PI
   not_this byte test same = no (sym (ap (λ (n : ℕ). eqb n PI) same) ∙ test)
@@ -230,17 +266,20 @@ module _ (input : Input) where
       by true e = absurd (other (eqb-true byte PI e))
       by false e = refl
 
-  outer_ends : (s : State) (byte : ℕ) (bytes : List ℕ) (b : Bool) → eqb byte PI ≡ b → (t : State) (rest : List ℕ)
+  outer_ends : (s : State) (byte : ℕ) (bytes : List ℕ) (b : Bool) → eqb byte PI ≡ b
+      → (t : State) (rest : List ℕ)
       → outer_by s (byte ∷ bytes) b bytes ≡ Ok ((None, t), rest)
       → (s ≡ t) × StopsOpen (λ (u : State). InstructionsEnd) s (byte ∷ bytes) rest
   outer_ends s byte bytes true b t rest e =
-      let a = bind_ok (instruction_at input s bytes) (λ y. Ok (some y.0, y.1)) ((None, t), rest) e in
+      let a =
+      bind_ok (instruction_at input s bytes) (λ y. Ok (some y.0, y.1)) ((None, t), rest) e in
       absurd (some_none a.0.0.0 a.0.0.1 t (pair_same (some a.0.0) (None, t) a.0.1 rest a.2).0)
   outer_ends s byte bytes false b t rest e =
       let same = pair_same (None, s) (None, t) (byte ∷ bytes) rest e in
       (none_same s t same.0, (same.1, subst InstructionsEnd same.1 (not_this byte b)))
 
-  next_ends : (s : State) (bytes : List ℕ) (t : State) (rest : List ℕ) → next_outer input s bytes ≡ Ok ((None, t), rest)
+  next_ends : (s : State) (bytes : List ℕ) (t : State) (rest : List ℕ)
+      → next_outer input s bytes ≡ Ok ((None, t), rest)
       → (s ≡ t) × StopsOpen (λ (u : State). InstructionsEnd) s bytes rest
   unfolding next_outer
   next_ends s [] t rest e =
@@ -248,17 +287,22 @@ module _ (input : Input) where
       (none_same s t same.0, (same.1, subst InstructionsEnd same.1 tt))
   next_ends s (byte ∷ bytes) t rest e = outer_ends s byte bytes (eqb byte PI) refl t rest e
 
-  halts_here : (s : State) (bytes : List ℕ) → InstructionsEnd bytes → next_outer input s bytes ≡ Ok ((None, s), bytes)
+  halts_here : (s : State) (bytes : List ℕ) → InstructionsEnd bytes
+      → next_outer input s bytes ≡ Ok ((None, s), bytes)
   unfolding next_outer
   halts_here s [] ends = refl
-  halts_here s (byte ∷ bytes) ends = ap (λ (b : Bool). outer_by s (byte ∷ bytes) b bytes) (other_test byte ends)
+  halts_here s (byte ∷ bytes) ends =
+      ap (λ (b : Bool). outer_by s (byte ∷ bytes) b bytes) (other_test byte ends)
 
-  next_halts : (s : State) (bytes rest : List ℕ) → StopsOpen (λ (u : State). InstructionsEnd) s bytes rest
+  next_halts : (s : State) (bytes rest : List ℕ)
+      → StopsOpen (λ (u : State). InstructionsEnd) s bytes rest
       → next_outer input s bytes ≡ Ok ((None, s), rest)
   next_halts s bytes rest stop =
-      halts_here s bytes (subst InstructionsEnd (sym stop.0) stop.1) ∙ ap (λ (l : List ℕ). Ok ((None, s), l)) stop.0
+      halts_here s bytes (subst InstructionsEnd (sym stop.0) stop.1)
+      ∙ ap (λ (l : List ℕ). Ok ((None, s), l)) stop.0
 
-  outer_stops : (s : State) (byte : ℕ) (bytes : List ℕ) (b : Bool) → eqb byte PI ≡ b → (fault : DocFault)
+  outer_stops : (s : State) (byte : ℕ) (bytes : List ℕ) (b : Bool) → eqb byte PI ≡ b
+      → (fault : DocFault)
       → outer_by s (byte ∷ bytes) b bytes ≡ Err fault → RefusedOuter input s (byte ∷ bytes) fault
   outer_stops s byte bytes true b fault e =
       elim (bind_err (instruction_at input s bytes) (λ y. Ok (some y.0, y.1)) fault e) [
@@ -267,7 +311,8 @@ module _ (input : Input) where
       ]
   outer_stops s byte bytes false b fault e = absurd (no_fault e)
 
-  next_stops : (s : State) (bytes : List ℕ) (fault : DocFault) → next_outer input s bytes ≡ Err fault
+  next_stops : (s : State) (bytes : List ℕ) (fault : DocFault)
+      → next_outer input s bytes ≡ Err fault
       → RefusedOuter input s bytes fault
   unfolding next_outer
   next_stops s [] fault e = absurd (no_fault e)
@@ -279,9 +324,11 @@ module _ (input : Input) where
   next_fails s [] fault refused = absurd refused
   next_fails s (byte ∷ bytes) fault refused =
       ap (λ (n : ℕ). next_outer input s (n ∷ bytes)) refused.0
-      ∙ ap (λ (r : Reading (Attr × State)). told some r) ((reads_instruction input s).fails bytes fault refused.1)
+      ∙ ap (λ (r : Reading (Attr × State)). told some r)
+      ((reads_instruction input s).fails bytes fault refused.1)
 
-  next_some : (s : State) (front : List ℕ) (x : Attr × State) → IsOuter input.strings s front x → 0 < length front
+  next_some : (s : State) (front : List ℕ) (x : Attr × State) → IsOuter input.strings s front x
+      → 0 < length front
   next_some s front x is = let len = ap length is.1 in omega arith
 
   outer_items : Items (next_outer input) as_none (IsOuter input.strings) Anything
@@ -302,7 +349,8 @@ module _ (input : Input) where
   }
 
   reads_outers : (s : State)
-      → Reads OutersEnd (outers_at input s) (ManyOf (IsOuter input.strings) s) (RefusedOuters input s)
+      → Reads OutersEnd (outers_at input s) (ManyOf (IsOuter input.strings) s)
+      (RefusedOuters input s)
   unfolding outers_at RefusedOuters
   reads_outers s = reads_open (λ (u : State). InstructionsEnd) outer_items s
 
@@ -316,14 +364,17 @@ module _ (input : Input) where
   reads_root_behind before lead content.Nothing = reads_no_token input.total
 
   reads_root : (before : State)
-      → Reads Anything (root_at input before) (IsRoot input.strings before) (RefusedRoot input before)
+      → Reads Anything (root_at input before) (IsRoot input.strings before)
+      (RefusedRoot input before)
   unfolding root_at IsRoot RefusedRoot
   reads_root before =
-      reads_then (λ lead. root_from input before lead (content_mark lead)) (reads_lead input.total before.tag_page)
+      reads_then (λ lead. root_from input before lead (content_mark lead))
+      (reads_lead input.total before.tag_page)
       (λ lead. reads_root_behind before lead (content_mark lead))
 
   -- no processing instruction begins where the root does
-  no_root : (before : State) (m : ContentMark) (lead : Lead) (bytes : List ℕ) (x : Element × State) → m ≡ content.Pi
+  no_root : (before : State) (m : ContentMark) (lead : Lead) (bytes : List ℕ) (x : Element × State)
+      → m ≡ content.Pi
       → IsRootBehind input.strings before lead m bytes x → ⊥
   no_root before content.Element lead bytes x same is = absurd cc
   no_root before content.Pi lead bytes x same is = is
@@ -331,20 +382,26 @@ module _ (input : Input) where
   no_root before content.End lead bytes x same is = is
   no_root before content.Nothing lead bytes x same is = is
 
-  pi_mark : (page : ℕ) → content_mark (record { switched = false; page = page; byte = PI }) ≡ content.Pi
+  pi_mark : (page : ℕ)
+      → content_mark (record { switched = false; page = page; byte = PI }) ≡ content.Pi
   unfolding content_mark
   pi_mark page = refl
 
-  lead_no_pi : (before : State) (front : List ℕ) (lead : Lead) (rest behind : List ℕ) (x : Element × State)
-      → IsLead before.tag_page front lead → IsRootBehind input.strings before lead (content_mark lead) behind x
+  lead_no_pi : (before : State) (front : List ℕ) (lead : Lead) (rest behind : List ℕ)
+      (x : Element × State)
+      → IsLead before.tag_page front lead
+      → IsRootBehind input.strings before lead (content_mark lead) behind x
       → InstructionsEnd (front ++ rest)
   lead_no_pi before [] lead rest behind x is root = absurd is
   lead_no_pi before (byte ∷ []) lead rest behind x is root = λ same.
       let plain : lead ≡ record { switched = false; page = before.tag_page; byte = PI } =
-      is.1 ∙ ap (λ (n : ℕ). let l : Lead = record { switched = false; page = before.tag_page; byte = n } in l) same in
-      no_root before (content_mark lead) lead behind x (ap content_mark plain ∙ pi_mark before.tag_page) root
+      is.1 ∙ ap (λ (n : ℕ).
+      let l : Lead = record { switched = false; page = before.tag_page; byte = n } in l) same in
+      no_root before (content_mark lead) lead behind x
+      (ap content_mark plain ∙ pi_mark before.tag_page) root
   lead_no_pi before (byte ∷ page ∷ []) lead rest behind x is root = absurd is
-  lead_no_pi before (byte ∷ page ∷ next ∷ []) lead rest behind x is root = λ same. other (sym is.0 ∙ same)
+  lead_no_pi before (byte ∷ page ∷ next ∷ []) lead rest behind x is root =
+      λ same. other (sym is.0 ∙ same)
     where
       other : SWITCH_PAGE ≡ PI → ⊥
       other e = omega arith
@@ -354,7 +411,8 @@ module _ (input : Input) where
       → IsRoot input.strings before front x → InstructionsEnd (front ++ rest)
   unfolding IsRoot
   root_no_pi before front x rest is =
-      subst InstructionsEnd (sym (ap (λ (l : List ℕ). l ++ rest) is.spelled ∙ append_assoc is.front is.rest rest))
+      subst InstructionsEnd
+      (sym (ap (λ (l : List ℕ). l ++ rest) is.spelled ∙ append_assoc is.front is.rest rest))
       (lead_no_pi before is.front is.a (is.rest ++ rest) is.rest x is.first is.next)
 
   abbrev BodyEnds : Element → List ℕ → Type 0
@@ -367,12 +425,15 @@ module _ (input : Input) where
       (λ before rest. root_at input (into_root before.1) rest >>= λ root. told (λ after. root.0.0)
       (outers_at input (out_of_root root.0.1) root.1))
       (reads_outers first_state)
-      (λ before. reads_then (λ root rest. told (λ after. root.0) (outers_at input (out_of_root root.1) rest))
+      (λ before.
+      reads_then (λ root rest. told (λ after. root.0) (outers_at input (out_of_root root.1) rest))
       (reads_root (into_root before.1))
-      (λ root. reads_told (λ after. root.0) (reads_outers (out_of_root root.1)) (λ after rest ends. ends)
+      (λ root.
+      reads_told (λ after. root.0) (reads_outers (out_of_root root.1)) (λ after rest ends. ends)
       (λ after rest ends. ends)))
       (λ before front root rest is ends.
-      subst InstructionsEnd (sym (ap (λ (l : List ℕ). l ++ rest) is.spelled ∙ append_assoc is.front is.rest rest))
+      subst InstructionsEnd
+      (sym (ap (λ (l : List ℕ). l ++ rest) is.spelled ∙ append_assoc is.front is.rest rest))
       (root_no_pi (into_root before.1) is.front is.a (is.rest ++ rest) is.first))
 
 -- ---- the whole
@@ -395,14 +456,17 @@ module _ (total : ℕ) where
       Told (λ root. record { version = version; public = public; charset = charset.0; root = root })
       (IsBody (record { charset = charset.1; table = table })))
 
-  reads_behind_table : (version : ℕ) (identifier : Identifier) (charset : ℕ × Charset) (table : List ℕ)
-      → Reads WholeEnds (public_then version identifier charset table) (IsBehindTable version identifier charset table)
+  reads_behind_table : (version : ℕ) (identifier : Identifier) (charset : ℕ × Charset)
+      (table : List ℕ)
+      → Reads WholeEnds (public_then version identifier charset table)
+      (IsBehindTable version identifier charset table)
       (RefusedThen (IsPublic table identifier) (RefusedPublic table identifier)
       (λ public. RefusedBody (input_of total charset table)))
   reads_behind_table version identifier charset table =
       reads_as
       (reads_then (body_of version charset table) (reads_public table identifier)
-      (λ public. reads_told (document_of version public charset) (reads_body (input_of total charset table))
+      (λ public.
+      reads_told (document_of version public charset) (reads_body (input_of total charset table))
       (λ root rest ends. ends) (λ root rest ends. ends)))
       (public_then version identifier charset table)
       (λ bytes. bind_assoc (public_of table identifier) (λ public. Ok (public, bytes))
@@ -421,26 +485,30 @@ module _ (total : ℕ) where
       >>= λ table. public_then version identifier charset.0 table.0 table.1)
       (reads_identifier total)
       (λ identifier. reads_then
-      (λ charset rest. opaque_at total rest >>= λ table. public_then version identifier charset table.0 table.1)
+      (λ charset rest.
+      opaque_at total rest >>= λ table. public_then version identifier charset table.0 table.1)
       (reads_charset total)
       (λ charset. reads_then (public_then version identifier charset) (reads_opaque total)
       (reads_behind_table version identifier charset))))
 
 -- ---- documents
 
-all_takes : (total : ℕ) (document : Document) (rest : List ℕ) (d : Document) → all_of_it total (document, rest) ≡ Ok d
+all_takes : (total : ℕ) (document : Document) (rest : List ℕ) (d : Document)
+    → all_of_it total (document, rest) ≡ Ok d
     → (rest ≡ []) × (document ≡ d)
 all_takes total document [] d e = (refl, ok_same document d e)
 all_takes total document (byte ∷ rest) d e = absurd (no_value e)
 
 all_stops : (total : ℕ) (document : Document) (rest : List ℕ) (fault : DocFault)
-    → all_of_it total (document, rest) ≡ Err fault → (0 < length rest) × (fault ≡ doc.Rest (place total rest))
+    → all_of_it total (document, rest) ≡ Err fault
+    → (0 < length rest) × (fault ≡ doc.Rest (place total rest))
 all_stops total document [] fault e = absurd (no_fault e)
 all_stops total document (byte ∷ rest) fault e =
     (omega arith, sym (err_same (doc.Rest (place total (byte ∷ rest))) fault e))
 
 all_fails : (total : ℕ) (document : Document) (rest : List ℕ) (fault : DocFault)
-    → (0 < length rest) × (fault ≡ doc.Rest (place total rest)) → all_of_it total (document, rest) ≡ Err fault
+    → (0 < length rest) × (fault ≡ doc.Rest (place total rest))
+    → all_of_it total (document, rest) ≡ Err fault
 all_fails total document [] fault refused = let none = refused.0 in absurd (omega arith)
 all_fails total document (byte ∷ rest) fault refused = ap Err (sym refused.1)
 
@@ -452,7 +520,8 @@ document_takes bytes document e =
     let a = bind_ok (whole_at total bytes) (all_of_it total) document e in
     let b = (reads_whole total).takes bytes a.0.0 a.0.1 a.1 in
     let c = all_takes total a.0.0 a.0.1 document a.2 in
-    subst (λ (l : List ℕ). IsDocument l document) (sym (b.1 ∙ ap (λ (l : List ℕ). b.0 ++ l) c.0 ∙ append-nil b.0))
+    subst (λ (l : List ℕ). IsDocument l document)
+    (sym (b.1 ∙ ap (λ (l : List ℕ). b.0 ++ l) c.0 ∙ append-nil b.0))
     (subst (IsDocument b.0) c.1 b.2)
 
 pub document_again : (bytes : List ℕ) (document : Document) → IsDocument bytes document
@@ -461,9 +530,11 @@ unfolding document_at
 document_again bytes document is =
     let total = length bytes in
     ap (λ (r : Reading Document). r >>= all_of_it total)
-    (ap (whole_at total) (sym (append-nil bytes)) ∙ (reads_whole total).again bytes document [] is tt)
+    (ap (whole_at total) (sym (append-nil bytes))
+    ∙ (reads_whole total).again bytes document [] is tt)
 
-pub document_stops : (bytes : List ℕ) (fault : DocFault) → document_at bytes ≡ Err fault → IsRefused bytes fault
+pub document_stops : (bytes : List ℕ) (fault : DocFault) → document_at bytes ≡ Err fault
+    → IsRefused bytes fault
 unfolding document_at IsRefused
 document_stops bytes fault e =
     let total = length bytes in
@@ -471,15 +542,26 @@ document_stops bytes fault e =
       | inl failed ↦ inl ((reads_whole total).stops bytes fault failed)
       | inr read ↦
           let b = (reads_whole total).takes bytes read.0.0 read.0.1 read.1 in
-          inr (record { front = b.0; rest = read.0.1; spelled = b.1; a = read.0.0; is = b.2; ends = b.3; refused = all_stops total read.0.0 read.0.1 fault read.2 })
+          inr (record {
+            front = b.0;
+            rest = read.0.1;
+            spelled = b.1;
+            a = read.0.0;
+            is = b.2;
+            ends = b.3;
+            refused = all_stops total read.0.0 read.0.1 fault read.2;
+          })
     ]
 
-pub document_fails : (bytes : List ℕ) (fault : DocFault) → IsRefused bytes fault → document_at bytes ≡ Err fault
+pub document_fails : (bytes : List ℕ) (fault : DocFault) → IsRefused bytes fault
+    → document_at bytes ≡ Err fault
 unfolding document_at IsRefused
 document_fails bytes fault refused =
     let total = length bytes in
     elim refused [
-      | inl here ↦ ap (λ (r : Reading Document). r >>= all_of_it total) ((reads_whole total).fails bytes fault here)
+      | inl here ↦
+          ap (λ (r : Reading Document). r >>= all_of_it total)
+          ((reads_whole total).fails bytes fault here)
       | inr later ↦
           ap (λ (l : List ℕ). whole_at total l >>= all_of_it total) later.spelled
           ∙ ap (λ (r : Reading Document). r >>= all_of_it total)
@@ -488,8 +570,10 @@ document_fails bytes fault refused =
     ]
 
 -- no bytes have two documents
-pub one_document : (bytes : List ℕ) (a b : Document) → IsDocument bytes a → IsDocument bytes b → a ≡ b
-one_document bytes a b first second = ok_same a b (sym (document_again bytes a first) ∙ document_again bytes b second)
+pub one_document : (bytes : List ℕ) (a b : Document) → IsDocument bytes a
+    → IsDocument bytes b → a ≡ b
+one_document bytes a b first second =
+    ok_same a b (sym (document_again bytes a first) ∙ document_again bytes b second)
 
 -- nor are they refused where they have one, or in two ways
 pub not_both : (bytes : List ℕ) (document : Document) (fault : DocFault) → IsDocument bytes document
@@ -498,4 +582,5 @@ not_both bytes document fault is refused =
     no_value (sym (document_fails bytes fault refused) ∙ document_again bytes document is)
 
 pub one_fault : (bytes : List ℕ) (a b : DocFault) → IsRefused bytes a → IsRefused bytes b → a ≡ b
-one_fault bytes a b first second = err_same a b (sym (document_fails bytes a first) ∙ document_fails bytes b second)
+one_fault bytes a b first second =
+    err_same a b (sym (document_fails bytes a first) ∙ document_fails bytes b second)

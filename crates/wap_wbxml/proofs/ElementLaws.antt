@@ -1,5 +1,6 @@
 -- Elements are read as they are spelled.
-use Rattle.std.proofs.Common.{◌≡◌, ℕ, zero, suc, ◌%◌, Bool, true, false, cond, eqb, leb, List, [], Option, Some, None, Ok, Err, refl, sym, inl, inr}
+use Rattle.std.proofs.Common.{◌≡◌, ℕ, zero, suc, ◌%◌, Bool, true, false, cond, eqb, leb, List}
+use Rattle.std.proofs.Common.{[], Option, Some, None, Ok, Err, refl, sym, inl, inr}
 use Rattle.std.specs.Prelude.{not, ◌&&◌}
 use Rattle.std.proofs.lemmas.Bool.{eqb-true}
 use Rattle.wap_base.specs.Outcome.{◌>>=◌}
@@ -11,30 +12,40 @@ use Rattle.wap_markup.specs.declared.mark.Lead.{Lead}
 use Rattle.wap_markup.specs.declared.mark.LeafMark.{LeafMark}
 use Rattle.wap_markup.specs.declared.mark.ContentMark.{ContentMark}
 use Rattle.wap_markup.specs.declared.mark.ContentMark.TheVariants as content
-use Rattle.wap_markup.specs.Codes.{content_mark, content_leaf, leaf_behind, leaf_mark, is_named, has_attributes, has_content}
+use Rattle.wap_markup.specs.Codes.{content_mark, content_leaf, leaf_behind, leaf_mark}
+use Rattle.wap_markup.specs.Codes.{is_named, has_attributes, has_content}
 use Rattle.wap_markup.specs.Spellings.{When, Ended}
-use Rattle.wap_markup.specs.Grammar.{State, IsLead, literal, kid_of, of_kid, on_tag_page, Elements, IsTagBehind, IsKidBehind, IsKid, element_of, IsElementOf, IsElement}
+use Rattle.wap_markup.specs.Grammar.{State, IsLead, literal, kid_of, of_kid, on_tag_page}
+use Rattle.wap_markup.specs.Grammar.{Elements, IsTagBehind, IsKidBehind, IsKid, element_of}
+use Rattle.wap_markup.specs.Grammar.{IsElementOf, IsElement}
 use Rattle.wap_wbxml.specs.declared.fault.DocFault.{DocFault}
 use Rattle.wap_wbxml.specs.declared.fault.DocFault.TheVariants as doc
 use Rattle.wap_wbxml.specs.reading.Steps.{Reading, some, told}
 use Rattle.wap_wbxml.specs.Places.{Input, place_before}
 use Rattle.wap_wbxml.specs.reading.Fronts.{lead_at}
-use Rattle.wap_wbxml.specs.reading.Parts.{no_token, as_short, leaf_at, instruction_at, attributes_at, tag_at, when, ElementReader, kid_from, next_kid, kids_at, element_by, element_at}
+use Rattle.wap_wbxml.specs.reading.Parts.{no_token, as_short, leaf_at, instruction_at}
+use Rattle.wap_wbxml.specs.reading.Parts.{attributes_at, tag_at, when, ElementReader, kid_from}
+use Rattle.wap_wbxml.specs.reading.Parts.{next_kid, kids_at, element_by, element_at}
 use Rattle.wap_wbxml.specs.Refusals.{Refusal, Anything, RefusedThen}
-use Rattle.wap_wbxml.specs.Refusal.{RefusedLead, RefusedUnless, RefusedTag, RefusedWhen, ElementRefusal, RefusedKidBehind, RefusedKid, RefusedContent, RefusedElementOf, RefusedElement}
+use Rattle.wap_wbxml.specs.Refusal.{RefusedLead, RefusedUnless, RefusedTag, RefusedWhen}
+use Rattle.wap_wbxml.specs.Refusal.{ElementRefusal, RefusedKidBehind, RefusedKid}
+use Rattle.wap_wbxml.specs.Refusal.{RefusedContent, RefusedElementOf, RefusedElement}
 use Rattle.wap_wbxml.proofs.Readings.{Reads, reads_then, reads_told, reads_given, reads_never}
 use Rattle.wap_wbxml.proofs.Runs.{Items, StopsAt, reads_ended}
 use Rattle.wap_wbxml.proofs.TextLaws.{and_parts}
 use Rattle.wap_wbxml.proofs.StringLaws.{reads_name}
 use Rattle.wap_wbxml.proofs.LeadLaws.{led_next, led_items, items_as, items_refusing}
-use Rattle.wap_wbxml.proofs.AttributeLaws.{reads_leaf, reads_no_token, told_told, false_true, not_true, reads_attributes, reads_instruction}
+use Rattle.wap_wbxml.proofs.AttributeLaws.{reads_leaf, reads_no_token, told_told, false_true}
+use Rattle.wap_wbxml.proofs.AttributeLaws.{not_true, reads_attributes, reads_instruction}
 
 -- ---- tags
 
 reads_tag : (input : Input) (before : State) (byte : ℕ) (b : Bool)
-    → Reads Anything (tag_at input before byte b) (IsTagBehind input.strings before byte b) (RefusedTag input before b)
+    → Reads Anything (tag_at input before byte b) (IsTagBehind input.strings before byte b)
+    (RefusedTag input before b)
 unfolding tag_at RefusedTag
-reads_tag input before byte true = reads_told literal (reads_name input before) (λ a rest u. u) (λ a rest u. u)
+reads_tag input before byte true =
+    reads_told literal (reads_name input before) (λ a rest u. u) (λ a rest u. u)
 reads_tag input before byte false = reads_given (Code (byte % 64), before)
 
 -- ---- ends of content
@@ -47,7 +58,8 @@ content_ends (content.Leaf mark) = false
 content_ends content.Nothing = false
 
 ends_chain : (a b c : Bool) (o : Option LeafMark)
-    → content_ends (cond a content.Element (cond b content.End (cond c content.Pi (content_leaf o)))) ≡ true → b ≡ true
+    → content_ends (cond a content.Element
+    (cond b content.End (cond c content.Pi (content_leaf o)))) ≡ true → b ≡ true
 unfolding content_ends
 ends_chain true b c o e = absurd (false_true e)
 ends_chain false true c o e = refl
@@ -55,7 +67,8 @@ ends_chain false false true o e = absurd (false_true e)
 ends_chain false false false (Some mark) e = absurd (false_true e)
 ends_chain false false false None e = absurd (false_true e)
 
-content_end : (lead : Lead) → content_ends (content_mark lead) ≡ true → (lead.byte ≡ END) × (lead.switched ≡ false)
+content_end : (lead : Lead) → content_ends (content_mark lead) ≡ true
+    → (lead.byte ≡ END) × (lead.switched ≡ false)
 unfolding content_mark
 content_end lead e =
     let over = ends_chain (leb LITERAL (lead.byte % 64)) (eqb lead.byte END && not lead.switched)
@@ -63,7 +76,8 @@ content_end lead e =
     let parts = and_parts (eqb lead.byte END) (not lead.switched) over in
     (eqb-true lead.byte END parts.0, not_true lead.switched parts.1)
 
-end_is_end : (page : ℕ) → content_ends (content_mark (record { switched = false; page = page; byte = END })) ≡ true
+end_is_end : (page : ℕ)
+    → content_ends (content_mark (record { switched = false; page = page; byte = END })) ≡ true
 unfolding content_mark content_ends
 end_is_end page = refl
 
@@ -79,7 +93,8 @@ reads_when reads false s = reads_given ([], s)
 -- ---- content in which such elements stand
 
 module _ (input : Input) (inner : ElementReader) (Is : Elements) (Refused : ElementRefusal)
-    (reads : (s : State) (lead : Lead) → Reads Anything (inner s lead) (Is s lead) (Refused s lead)) where
+    (reads : (s : State) (lead : Lead)
+    → Reads Anything (inner s lead) (Is s lead) (Refused s lead)) where
   read_kid : State → Lead → ContentMark → List ℕ → Reading (Kid × State)
   read_kid s lead content.Element rest = told (of_kid kid.Element) (inner s lead rest)
   read_kid s lead content.Pi rest = told (of_kid kid.Pi) (instruction_at input s rest)
@@ -92,10 +107,13 @@ module _ (input : Input) (inner : ElementReader) (Is : Elements) (Refused : Elem
       → Reads Anything (read_kid s lead m) (IsKidBehind input.strings Is s lead m)
       (RefusedKidBehind input Refused s lead m)
   unfolding read_kid content_ends
-  reads_kid s lead content.Element e = reads_told (of_kid kid.Element) (reads s lead) (λ a rest u. u) (λ a rest u. u)
-  reads_kid s lead content.Pi e = reads_told (of_kid kid.Pi) (reads_instruction input s) (λ a rest u. u) (λ a rest u. u)
+  reads_kid s lead content.Element e =
+      reads_told (of_kid kid.Element) (reads s lead) (λ a rest u. u) (λ a rest u. u)
+  reads_kid s lead content.Pi e =
+      reads_told (of_kid kid.Pi) (reads_instruction input s) (λ a rest u. u) (λ a rest u. u)
   reads_kid s lead (content.Leaf mark) e =
-      reads_told (λ leaf. (kid_of leaf, on_tag_page lead.page s)) (reads_leaf input mark) (λ a rest u. u)
+      reads_told (λ leaf. (kid_of leaf, on_tag_page lead.page s))
+      (reads_leaf input mark) (λ a rest u. u)
       (λ a rest u. u)
   reads_kid s lead content.End e = absurd (false_true (sym e))
   reads_kid s lead content.Nothing e = reads_no_token input.total
@@ -130,7 +148,8 @@ module _ (input : Input) (inner : ElementReader) (Is : Elements) (Refused : Elem
   over lead = content_ends (content_mark lead)
 
   next_same : (s : State) (bytes : List ℕ)
-      → led_next input.total (λ (s : State). s.tag_page) over item s bytes ≡ next_kid input inner s bytes
+      → led_next input.total (λ (s : State). s.tag_page) over item s bytes
+      ≡ next_kid input inner s bytes
   unfolding next_kid
   next_same s bytes = by (lead_at input.total s.tag_page bytes)
     where
@@ -163,7 +182,8 @@ module _ (input : Input) (inner : ElementReader) (Is : Elements) (Refused : Elem
   abbrev Unless : State → Refusal
   Unless s =
       RefusedThen (IsLead s.tag_page) (RefusedLead input.total)
-      (λ lead. RefusedUnless (over lead) (RefusedKidBehind input Refused s lead (content_mark lead)))
+      (λ lead.
+      RefusedUnless (over lead) (RefusedKidBehind input Refused s lead (content_mark lead)))
 
   refused_forth : (s : State) (bytes : List ℕ) (fault : DocFault) → Unless s bytes fault
       → RefusedKid input Refused s bytes fault
@@ -180,7 +200,8 @@ module _ (input : Input) (inner : ElementReader) (Is : Elements) (Refused : Elem
         refused = unless_forth s later.a (content_mark later.a) later.rest fault later.refused;
       })
 
-  refused_back : (s : State) (bytes : List ℕ) (fault : DocFault) → RefusedKid input Refused s bytes fault
+  refused_back : (s : State) (bytes : List ℕ) (fault : DocFault)
+      → RefusedKid input Refused s bytes fault
       → Unless s bytes fault
   unfolding RefusedKid
   refused_back s bytes fault (inl here) = inl here
@@ -195,7 +216,8 @@ module _ (input : Input) (inner : ElementReader) (Is : Elements) (Refused : Elem
         refused = unless_back s later.a (content_mark later.a) later.rest fault later.refused;
       })
 
-  kid_items : Items (next_kid input inner) (as_short input.total) (IsKid input.strings Is) Anything (StopsAt END)
+  kid_items : Items (next_kid input inner) (as_short input.total)
+      (IsKid input.strings Is) Anything (StopsAt END)
       (RefusedKid input Refused)
   kid_items =
       items_refusing refused_forth refused_back
@@ -214,12 +236,14 @@ module _ (input : Input) (inner : ElementReader) (Is : Elements) (Refused : Elem
   reads_kids s = reads_ended END kid_items s
 
   pub reads_element_of : (before : State) (lead : Lead)
-      → Reads Anything (element_by input inner before lead) (IsElementOf input.strings Is before lead)
+      → Reads Anything (element_by input inner before lead)
+      (IsElementOf input.strings Is before lead)
       (RefusedElementOf input Is Refused before lead)
   unfolding element_by IsElementOf RefusedElementOf
   reads_element_of before lead =
       reads_then
-      (λ tag rest. when (has_attributes lead.byte) (attributes_at input) tag.1 rest >>= λ attributes.
+      (λ tag rest.
+      when (has_attributes lead.byte) (attributes_at input) tag.1 rest >>= λ attributes.
       told (element_of lead tag.0 attributes.0.0)
       (when (has_content lead.byte) (kids_at input inner) attributes.0.1 attributes.1))
       (reads_tag input (on_tag_page lead.page before) lead.byte (is_named lead.byte))
@@ -233,10 +257,13 @@ module _ (input : Input) (inner : ElementReader) (Is : Elements) (Refused : Elem
 -- ---- elements by their levels
 
 pub reads_element : (input : Input) (levels : ℕ) (before : State) (lead : Lead)
-    → Reads Anything (element_at input levels before lead) (IsElement input.strings levels before lead)
+    → Reads Anything (element_at input levels before lead)
+    (IsElement input.strings levels before lead)
     (RefusedElement input levels before lead)
 unfolding element_at IsElement RefusedElement
-reads_element input zero before lead = reads_never Anything (λ rest. doc.Depth (place_before input.total rest))
+reads_element input zero before lead =
+    reads_never Anything (λ rest. doc.Depth (place_before input.total rest))
 reads_element input (suc levels) before lead =
-    reads_element_of input (element_at input levels) (IsElement input.strings levels) (RefusedElement input levels)
+    reads_element_of input (element_at input levels) (IsElement input.strings levels)
+    (RefusedElement input levels)
     (reads_element input levels) before lead

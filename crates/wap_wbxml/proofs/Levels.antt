@@ -5,8 +5,10 @@ use Rattle.wap_markup.specs.Grammar.{State}
 use Rattle.wap_wbxml.specs.Places.{Input}
 use Rattle.wap_wbxml.specs.reading.Parts.{element_by, element_at}
 
-pub deeper : (input : Input) (levels : ℕ) (before : State) (lead : Lead) (bytes : List ℕ) → 0 < levels
-    → element_at input levels before lead bytes ≡ element_by input (element_at input (levels - 1)) before lead bytes
+pub deeper : (input : Input) (levels : ℕ) (before : State) (lead : Lead) (bytes : List ℕ)
+    → 0 < levels
+    → element_at input levels before lead bytes
+    ≡ element_by input (element_at input (levels - 1)) before lead bytes
 unfolding element_at
 deeper input zero before lead bytes some = absurd (omega arith)
 deeper input (suc levels) before lead bytes some =

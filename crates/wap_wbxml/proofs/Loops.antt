@@ -1,5 +1,6 @@
 -- Reading items one after the other, as a loop does.
-use Rattle.std.proofs.Common.{◌≡◌, ℕ, suc, ◌+◌, ◌-◌, ◌<◌, ◌≤◌, List, [], ◌∷◌, ◌++◌, Option, Some, None, Ok, Err, refl, sym, ap, ◌∙◌, append_assoc, arith}
+use Rattle.std.proofs.Common.{◌≡◌, ℕ, suc, ◌+◌, ◌-◌, ◌<◌, ◌≤◌, List, [], ◌∷◌, ◌++◌, Option, Some}
+use Rattle.std.proofs.Common.{None, Ok, Err, refl, sym, ap, ◌∙◌, append_assoc, arith}
 use Rattle.std.proofs.lemmas.List.{append-nil}
 use Rattle.wap_base.specs.Outcome.{◌>>=◌}
 use Rattle.wap_wbxml.specs.declared.fault.DocFault.{DocFault}
@@ -10,21 +11,25 @@ abbrev pub with_front : {A S : Type 0} → List A → Reading (List A × S) → 
 with_front front read = told (λ x. (front ++ x.0, x.1)) read
 
 -- how far the loop has come: so many turns of so many are done
-abbrev pub Continues : {A S : Type 0} → Next A S → (S → List ℕ → Reading (List A × S)) → ℕ → ℕ → List A → S → List ℕ
+abbrev pub Continues : {A S : Type 0} → Next A S → (S → List ℕ → Reading (List A × S)) → ℕ → ℕ
+    → List A → S → List ℕ
     → Reading (List A × S) → Type 0
 Continues next spent turns done front state bytes whole =
     with_front front (run_at next spent (turns - done) state bytes) ≡ whole
 
 regrouped : {A S : Type 0} (front : List A) (item : A) (read : Reading (List A × S))
-    → with_front front (told (λ others. (item ∷ others.0, others.1)) read) ≡ with_front (front ++ item ∷ []) read
+    → with_front front (told (λ others. (item ∷ others.0, others.1)) read)
+    ≡ with_front (front ++ item ∷ []) read
 regrouped {A = A} front item (Ok x) =
     ap (λ (items : List A). Ok ((items, x.0.1), x.1)) (sym (append_assoc front (item ∷ []) x.0.0))
 regrouped front item (Err f) = refl
 
-module _ {A S : Type 0} (next : Next A S) (spent : S → List ℕ → Reading (List A × S)) (turns done : ℕ) (front : List A)
+module _ {A S : Type 0} (next : Next A S) (spent : S → List ℕ → Reading (List A × S))
+    (turns done : ℕ) (front : List A)
     (state : S) (bytes : List ℕ) (whole : Reading (List A × S)) where
   turn : done < turns → Continues next spent turns done front state bytes whole
-      → with_front front (next state bytes >>= chained (run_at next spent (turns - (done + 1)))) ≡ whole
+      → with_front front (next state bytes >>= chained (run_at next spent (turns - (done + 1))))
+      ≡ whole
   turn more so_far =
       let left : turns - done ≡ suc (turns - (done + 1)) = omega arith in
       ap (λ (n : ℕ). with_front front (run_at next spent n state bytes)) (sym left) ∙ so_far
@@ -35,11 +40,13 @@ module _ {A S : Type 0} (next : Next A S) (spent : S → List ℕ → Reading (L
       → Continues next spent turns (done + 1) (front ++ item ∷ []) after rest whole
   one_more item after rest more first so_far =
       sym (regrouped front item (run_at next spent (turns - (done + 1)) after rest))
-      ∙ ap (λ (r : Reading (Option A × S)). with_front front (r >>= chained (run_at next spent (turns - (done + 1)))))
+      ∙ ap (λ (r : Reading (Option A × S)).
+      with_front front (r >>= chained (run_at next spent (turns - (done + 1)))))
       (sym first)
       ∙ turn more so_far
 
-  pub at_end : (after : S) (rest : List ℕ) → done < turns → next state bytes ≡ Ok ((None, after), rest)
+  pub at_end : (after : S) (rest : List ℕ) → done < turns
+      → next state bytes ≡ Ok ((None, after), rest)
       → Continues next spent turns done front state bytes whole → whole ≡ Ok ((front, after), rest)
   at_end after rest more first so_far =
       sym (turn more so_far)
@@ -64,9 +71,11 @@ nothing_before : {A S : Type 0} (read : Reading (List A × S)) → with_front []
 nothing_before (Ok x) = refl
 nothing_before (Err f) = refl
 
-pub begins : {A S : Type 0} (next : Next A S) (spent : S → List ℕ → Reading (List A × S)) (turns : ℕ) (front : List A)
+pub begins : {A S : Type 0} (next : Next A S) (spent : S → List ℕ → Reading (List A × S))
+    (turns : ℕ) (front : List A)
     (state : S) (bytes : List ℕ)
-    → front ≡ [] → Continues next spent turns 0 front state bytes (run_at next spent turns state bytes)
+    → front ≡ []
+    → Continues next spent turns 0 front state bytes (run_at next spent turns state bytes)
 begins {A = A} next spent turns front state bytes none =
     let all : turns - 0 ≡ turns = omega arith in
     ap (λ (items : List A). with_front items (run_at next spent (turns - 0) state bytes)) none
@@ -75,4 +84,5 @@ begins {A = A} next spent turns front state bytes none =
 
 pub nothing_behind : {A S : Type 0} (front : List A) (state : S) (bytes : List ℕ)
     → with_front front (Ok (([], state), bytes)) ≡ Ok ((front, state), bytes)
-nothing_behind {A = A} front state bytes = ap (λ (items : List A). Ok ((items, state), bytes)) (append-nil front)
+nothing_behind {A = A} front state bytes =
+    ap (λ (items : List A). Ok ((items, state), bytes)) (append-nil front)

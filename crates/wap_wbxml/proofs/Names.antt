@@ -1,5 +1,6 @@
 -- Names of the string table that count, and how many bytes a table of them takes.
-use Rattle.std.proofs.Common.{◌≡◌, ℕ, ◌+◌, ◌^◌, ◌<◌, ◌≤◌, Bool, true, false, cond, ltb, List, [], ◌∷◌, ◌++◌, Ok, Err, ap, ◌∙◌, lt-ltb, arith}
+use Rattle.std.proofs.Common.{◌≡◌, ℕ, ◌+◌, ◌^◌, ◌<◌, ◌≤◌, Bool, true, false, cond, ltb, List}
+use Rattle.std.proofs.Common.{[], ◌∷◌, ◌++◌, Ok, Err, ap, ◌∙◌, lt-ltb, arith}
 use Rattle.std.proofs.lemmas.Bool.Decides.{nat_tests}
 use Rattle.std.specs.List.{list_any}
 use Rattle.indexmap.specs.IndexSet.{insert_key}
@@ -28,7 +29,8 @@ size_of_new : (before : State) (name : List ℕ) → before.in_root ≡ true
     → list_any (is_same_text name) before.names ≡ false
     → table_size (counted name before).names ≡ table_size before.names + utf8_len name + 1
 size_of_new before name inside new =
-    ap (λ (s : State). table_size s.names) (counted_new before name inside new) ∙ table_size-append before.names name
+    ap (λ (s : State). table_size s.names) (counted_new before name inside new)
+    ∙ table_size-append before.names name
 
 pub counted_fits : (at : ℕ) (before : State) (name : List ℕ) → before.in_root ≡ true
     → list_any (is_same_text name) before.names ≡ false
@@ -37,23 +39,28 @@ pub counted_fits : (at : ℕ) (before : State) (name : List ℕ) → before.in_r
 unfolding counted_at
 counted_fits at before name inside new fits =
     let size = size_of_new before name inside new in
-    let test : ltb (table_size (counted name before).names) (2 ^ 32) ≡ true = lt-ltb _ _ (omega arith) in
+    let test : ltb (table_size (counted name before).names) (2 ^ 32) ≡ true =
+    lt-ltb _ _ (omega arith) in
     ap (λ (b : Bool). cond b (Ok (counted name before)) (Err (fault.Table at))) test
     ∙ ap Ok (counted_new before name inside new)
 
 pub counted_over : (at : ℕ) (before : State) (name : List ℕ) → before.in_root ≡ true
     → list_any (is_same_text name) before.names ≡ false
-    → 2 ^ 32 ≤ table_size before.names + utf8_len name + 1 → counted_at at before name ≡ Err (fault.Table at)
+    → 2 ^ 32 ≤ table_size before.names + utf8_len name + 1
+    → counted_at at before name ≡ Err (fault.Table at)
 unfolding counted_at
 counted_over at before name inside new over =
     let size = size_of_new before name inside new in
     let large : 2 ^ 32 ≤ table_size (counted name before).names = omega arith in
-    let test : ltb (table_size (counted name before).names) (2 ^ 32) ≡ false = grind (arith, nat_tests) in
+    let test : ltb (table_size (counted name before).names) (2 ^ 32) ≡ false =
+    grind (arith, nat_tests) in
     ap (λ (b : Bool). cond b (Ok (counted name before)) (Err (fault.Table at))) test
 
 -- a set has such a name after the others
-pub added : (after before : List (List ℕ)) (copy name : List ℕ) → after ≡ insert_key is_same_text before copy
+pub added : (after before : List (List ℕ)) (copy name : List ℕ)
+    → after ≡ insert_key is_same_text before copy
     → copy ≡ name → list_any (is_same_text name) before ≡ false
     → after ≡ before ++ name ∷ []
 added after before copy name inserted same new =
-    inserted ∙ ap (insert_key is_same_text before) same ∙ ap (λ (b : Bool). cond b before (before ++ name ∷ [])) new
+    inserted ∙ ap (insert_key is_same_text before) same
+    ∙ ap (λ (b : Bool). cond b before (before ++ name ∷ [])) new

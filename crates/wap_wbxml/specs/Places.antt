@@ -17,4 +17,5 @@ place_before total left = total - length left - 1
 
 -- after a header with this character set, by number and as it is, and this string table
 abbrev pub input_of : ℕ → ℕ × Charset → List ℕ → Input
-input_of total charset table = record { total = total; strings = record { charset = charset.1; table = table } }
+input_of total charset table =
+    record { total = total; strings = record { charset = charset.1; table = table } }

@@ -1,6 +1,7 @@
 -- What is refused: a prefix of whole parts, and after it what can't stand there. Places are counted
 -- from the beginning of the input, of which these bytes are the last. This project's own.
-use Rattle.std.specs.Prelude.{◌≡◌, ◌≢◌, ℕ, zero, suc, ◌<◌, ◌≤◌, ◌^◌, Bool, true, false, ◌==◌, ◌⊎◌, List, [], ◌∷◌, ◌++◌, length, None}
+use Rattle.std.specs.Prelude.{◌≡◌, ◌≢◌, ℕ, zero, suc, ◌<◌, ◌≤◌, ◌^◌, Bool, true, false}
+use Rattle.std.specs.Prelude.{◌==◌, ◌⊎◌, List, [], ◌∷◌, ◌++◌, length, None}
 use Rattle.std.specs.List.{list_all}
 use Rattle.wap_base.specs.Numbers.{IsMb, EndsInside, IsTooLong}
 use Rattle.wap_markup.specs.declared.codes.TheConstants.{SWITCH_PAGE, PI}
@@ -18,17 +19,23 @@ use Rattle.wap_markup.specs.declared.mark.AttributeMark.{AttributeMark}
 use Rattle.wap_markup.specs.declared.mark.AttributeMark.TheVariants as attribute
 use Rattle.wap_base.specs.Charsets.{charset_of}
 use Rattle.wap_markup.specs.Charsets.{IsText, is_character}
-use Rattle.wap_markup.specs.Codes.{content_mark, attribute_mark, is_end, begins_piece, is_named, has_attributes, has_content}
+use Rattle.wap_markup.specs.Codes.{content_mark, attribute_mark, is_end, begins_piece}
+use Rattle.wap_markup.specs.Codes.{is_named, has_attributes, has_content}
 use Rattle.wap_markup.specs.Spellings.{When, ManyOf}
 use Rattle.wap_markup.specs.Strings.{Strings, IsIndexed, is_not_zero, string_from}
 use Rattle.wap_markup.specs.Grammar as grammar
-use Rattle.wap_markup.specs.Grammar.{State, IsLead, IsName, IsPiece, IsAttribute, IsAttributes, IsInstruction, IsKid, IsElement, Elements, counted, table_size, on_attribute_page, on_tag_page}
+use Rattle.wap_markup.specs.Grammar.{State, IsLead, IsPiece, IsAttribute, IsAttributes}
+use Rattle.wap_markup.specs.Grammar.{IsKid, IsElement, Elements, counted, table_size}
+use Rattle.wap_markup.specs.Grammar.{on_attribute_page, on_tag_page}
 use Rattle.wap_markup.specs.Documents as documents
-use Rattle.wap_markup.specs.Documents.{is_version, is_public, public_named, IsVersion, IsIdentifier, IsCharset, IsPublic, IsOuter, IsRoot, IsBody, first_state, into_root, out_of_root}
+use Rattle.wap_markup.specs.Documents.{is_version, is_public, public_named, IsVersion}
+use Rattle.wap_markup.specs.Documents.{IsIdentifier, IsCharset, IsPublic, IsOuter, IsRoot}
+use Rattle.wap_markup.specs.Documents.{first_state, into_root, out_of_root}
 use Rattle.wap_wbxml.specs.declared.fault.DocFault.{DocFault}
 use Rattle.wap_wbxml.specs.declared.fault.DocFault.TheVariants as doc
 use Rattle.wap_wbxml.specs.Places.{Input, place, place_before, input_of}
-use Rattle.wap_wbxml.specs.Refusals.{Refusal, NotRefused, EitherRefused, BehindWhole, Behind, RefusedThen, RefusedAmong, Anything}
+use Rattle.wap_wbxml.specs.Refusals.{Refusal, NotRefused, EitherRefused, BehindWhole}
+use Rattle.wap_wbxml.specs.Refusals.{Behind, RefusedThen, RefusedAmong, Anything}
 
 -- ---- the byte that an item begins with, numbers, strings and names
 
@@ -44,7 +51,8 @@ RefusedLead total bytes fault = IsCut bytes × (fault ≡ doc.Short total)
 
 abbrev pub RefusedNumber : ℕ → Refusal
 RefusedNumber total bytes fault =
-    (EndsInside bytes × (fault ≡ doc.Short total)) ⊎ (IsTooLong bytes × (fault ≡ doc.Number (place total bytes)))
+    (EndsInside bytes × (fault ≡ doc.Short total))
+    ⊎ (IsTooLong bytes × (fault ≡ doc.Number (place total bytes)))
 
 -- fewer bytes than the number says
 abbrev pub TooFew : ℕ → ℕ → Refusal
@@ -55,10 +63,12 @@ RefusedOpaque total = RefusedThen IsMb (RefusedNumber total) (TooFew total)
 
 -- at is the place of the byte before them, which calls for the string
 abbrev pub IsNoText : Charset → ℕ → List ℕ → DocFault → Type 0
-IsNoText charset at string fault = ((text : List ℕ) → IsText charset string text → ⊥) × (fault ≡ doc.Text at)
+IsNoText charset at string fault =
+    ((text : List ℕ) → IsText charset string text → ⊥) × (fault ≡ doc.Text at)
 
 -- a string with its 0 that is no text
-pub record RefusedString (charset : Charset) (at : ℕ) (bytes : List ℕ) (fault : DocFault) : Type 0 where
+pub record RefusedString (charset : Charset) (at : ℕ) (bytes : List ℕ)
+    (fault : DocFault) : Type 0 where
   pub string : List ℕ
   pub rest : List ℕ
   pub spelled : bytes ≡ string ++ (0 ∷ rest)
@@ -74,10 +84,12 @@ RefusedInline input at bytes fault =
 abbrev pub RefusedIndex : Strings → ℕ → ℕ → Refusal
 RefusedIndex strings at index rest fault =
     ((length strings.table ≤ index) × (fault ≡ doc.Index at)) ⊎
-    ((index < length strings.table) × IsNoText strings.charset at (string_from strings.table index) fault)
+    ((index < length strings.table)
+    × IsNoText strings.charset at (string_from strings.table index) fault)
 
 abbrev pub RefusedIndexed : Input → ℕ → Refusal
-RefusedIndexed input at = RefusedThen IsMb (RefusedNumber input.total) (RefusedIndex input.strings at)
+RefusedIndexed input at =
+    RefusedThen IsMb (RefusedNumber input.total) (RefusedIndex input.strings at)
 
 abbrev pub IsNoCharacter : ℕ → ℕ → Refusal
 IsNoCharacter at number rest fault = (is_character number ≡ false) × (fault ≡ doc.Text at)
@@ -87,10 +99,12 @@ RefusedCharacter total at = RefusedThen IsMb (RefusedNumber total) (IsNoCharacte
 
 -- a name with which the names of the root are too many
 abbrev pub TooMany : State → ℕ → List ℕ → Refusal
-TooMany before at name rest fault = (2 ^ 32 ≤ table_size (counted name before).names) × (fault ≡ doc.Table at)
+TooMany before at name rest fault =
+    (2 ^ 32 ≤ table_size (counted name before).names) × (fault ≡ doc.Table at)
 
 unfoldable pub RefusedName : Input → State → ℕ → Refusal
-RefusedName input before at = RefusedThen (IsIndexed input.strings) (RefusedIndexed input at) (TooMany before at)
+RefusedName input before at =
+    RefusedThen (IsIndexed input.strings) (RefusedIndexed input at) (TooMany before at)
 
 -- after a byte that can't stand there
 abbrev pub NoToken : ℕ → Refusal
@@ -98,9 +112,12 @@ NoToken total rest fault = fault ≡ doc.Token (place_before total rest)
 
 -- a string, a character, a reference or opaque data, after the byte that says which it is
 unfoldable pub RefusedLeaf : Input → LeafMark → Refusal
-RefusedLeaf input (mark.Inline role) bytes = RefusedInline input (place_before input.total bytes) bytes
-RefusedLeaf input (mark.Indexed role) bytes = RefusedIndexed input (place_before input.total bytes) bytes
-RefusedLeaf input mark.Entity bytes = RefusedCharacter input.total (place_before input.total bytes) bytes
+RefusedLeaf input (mark.Inline role) bytes =
+    RefusedInline input (place_before input.total bytes) bytes
+RefusedLeaf input (mark.Indexed role) bytes =
+    RefusedIndexed input (place_before input.total bytes) bytes
+RefusedLeaf input mark.Entity bytes =
+    RefusedCharacter input.total (place_before input.total bytes) bytes
 RefusedLeaf input mark.Opaque bytes = RefusedOpaque input.total bytes
 RefusedLeaf input (mark.Extension number) bytes = NotRefused bytes
 
@@ -108,7 +125,8 @@ RefusedLeaf input (mark.Extension number) bytes = NotRefused bytes
 
 unfoldable pub RefusedStart : Input → State → AttributeMark → Refusal
 RefusedStart input before attribute.Coded bytes = NotRefused bytes
-RefusedStart input before attribute.Named bytes = RefusedName input before (place_before input.total bytes) bytes
+RefusedStart input before attribute.Named bytes =
+    RefusedName input before (place_before input.total bytes) bytes
 RefusedStart input before attribute.End bytes = NoToken input.total bytes
 RefusedStart input before attribute.Value bytes = NoToken input.total bytes
 RefusedStart input before (attribute.Leaf mark) bytes = NoToken input.total bytes
@@ -130,7 +148,8 @@ RefusedPiece input before =
 -- no further part of a value begins here
 abbrev pub ValueEnds : State → List ℕ → Type 0
 ValueEnds state rest =
-    (front behind : List ℕ) (lead : Lead) → rest ≡ front ++ behind → IsLead state.attribute_page front lead
+    (front behind : List ℕ) (lead : Lead) → rest ≡ front ++ behind
+    → IsLead state.attribute_page front lead
     → begins_piece (attribute_mark lead) ≡ false
 
 abbrev pub AttributeEnds : Attr × State → List ℕ → Type 0
@@ -142,7 +161,8 @@ RefusedValue input = RefusedAmong (IsPiece input.strings) Anything (RefusedPiece
 -- an attribute after the byte that it begins with
 unfoldable pub RefusedAttribute : Input → State → Lead → Refusal
 RefusedAttribute input before lead =
-    RefusedThen (grammar.IsStartBehind input.strings (on_attribute_page lead.page before) lead (attribute_mark lead))
+    RefusedThen (grammar.IsStartBehind input.strings (on_attribute_page lead.page before) lead
+    (attribute_mark lead))
     (RefusedStart input (on_attribute_page lead.page before) (attribute_mark lead))
     (λ start. RefusedValue input start.1)
 
@@ -168,7 +188,8 @@ RefusedEnd total state =
 -- a processing instruction after its byte
 unfoldable pub RefusedInstruction : Input → State → Refusal
 RefusedInstruction input before =
-    EitherRefused (RefusedThen (IsLead before.attribute_page) (RefusedLead input.total) (RefusedAttribute input before))
+    EitherRefused (RefusedThen (IsLead before.attribute_page) (RefusedLead input.total)
+    (RefusedAttribute input before))
     (BehindWhole (IsAttribute input.strings before) AttributeEnds (λ x. RefusedEnd input.total x.1))
 
 -- ---- elements
@@ -199,11 +220,13 @@ RefusedKid input Inner before =
     (λ lead. RefusedKidBehind input Inner before lead (content_mark lead))
 
 abbrev pub RefusedContent : Input → Elements → ElementRefusal → State → Refusal
-RefusedContent input Is Inner = RefusedAmong (IsKid input.strings Is) Anything (RefusedKid input Inner)
+RefusedContent input Is Inner =
+    RefusedAmong (IsKid input.strings Is) Anything (RefusedKid input Inner)
 
 unfoldable pub RefusedElementOf : Input → Elements → ElementRefusal → ElementRefusal
 RefusedElementOf input Is Inner before lead =
-    RefusedThen (grammar.IsTagBehind input.strings (on_tag_page lead.page before) lead.byte (is_named lead.byte))
+    RefusedThen (grammar.IsTagBehind input.strings (on_tag_page lead.page before) lead.byte
+    (is_named lead.byte))
     (RefusedTag input (on_tag_page lead.page before) (is_named lead.byte)) (λ tag.
     RefusedThen (When (has_attributes lead.byte) tag.1 (IsAttributes input.strings))
     (RefusedWhen (has_attributes lead.byte) (RefusedAttributes input tag.1)) (λ attributes.
@@ -211,9 +234,11 @@ RefusedElementOf input Is Inner before lead =
 
 -- an element of more than so many levels, or with a part that is refused
 unfoldable pub RefusedElement : Input → ℕ → ElementRefusal
-RefusedElement input zero before lead bytes fault = fault ≡ doc.Depth (place_before input.total bytes)
+RefusedElement input zero before lead bytes fault =
+    fault ≡ doc.Depth (place_before input.total bytes)
 RefusedElement input (suc levels) before lead bytes fault =
-    RefusedElementOf input (IsElement input.strings levels) (RefusedElement input levels) before lead bytes fault
+    RefusedElementOf input (IsElement input.strings levels)
+    (RefusedElement input levels) before lead bytes fault
 
 -- ---- the header
 
@@ -223,11 +248,13 @@ RefusedVersion total (byte ∷ rest) fault = (is_version byte ≡ false) × (fau
 
 abbrev pub RefusedIdentifierBehind : ℕ → ℕ → Bool → Refusal
 RefusedIdentifierBehind total number true rest fault = RefusedNumber total rest fault
-RefusedIdentifierBehind total number false rest fault = (is_public number ≡ false) × (fault ≡ doc.PublicId)
+RefusedIdentifierBehind total number false rest fault =
+    (is_public number ≡ false) × (fault ≡ doc.PublicId)
 
 unfoldable pub RefusedIdentifier : ℕ → Refusal
 RefusedIdentifier total =
-    RefusedThen IsMb (RefusedNumber total) (λ number. RefusedIdentifierBehind total number (number == 0))
+    RefusedThen IsMb (RefusedNumber total) (λ number.
+    RefusedIdentifierBehind total number (number == 0))
 
 abbrev pub NoCharset : ℕ → Refusal
 NoCharset number rest fault = (charset_of number ≡ None) × (fault ≡ doc.Charset)
@@ -238,14 +265,16 @@ RefusedCharset total = RefusedThen IsMb (RefusedNumber total) NoCharset
 -- a name of no document type
 abbrev pub RefusedPublic : List ℕ → Identifier → Refusal
 RefusedPublic table (Numbered number) rest fault = ⊥
-RefusedPublic table (Named index) rest fault = (public_named (string_from table index) ≡ None) × (fault ≡ doc.PublicId)
+RefusedPublic table (Named index) rest fault =
+    (public_named (string_from table index) ≡ None) × (fault ≡ doc.PublicId)
 
 -- ---- the body
 
 -- a processing instruction outside the root
 abbrev pub RefusedOuter : Input → State → Refusal
 RefusedOuter input before [] fault = ⊥
-RefusedOuter input before (byte ∷ rest) fault = (byte ≡ PI) × RefusedInstruction input before rest fault
+RefusedOuter input before (byte ∷ rest) fault =
+    (byte ≡ PI) × RefusedInstruction input before rest fault
 
 -- no further processing instruction begins here
 abbrev pub InstructionsEnd : List ℕ → Type 0
@@ -274,7 +303,8 @@ unfoldable pub RefusedBody : Input → Refusal
 RefusedBody input =
     EitherRefused (RefusedOuters input first_state)
     (BehindWhole (ManyOf (IsOuter input.strings) first_state) OutersEnd (λ before.
-    RefusedThen (IsRoot input.strings (into_root before.1)) (RefusedRoot input (into_root before.1)) (λ root.
+    RefusedThen (IsRoot input.strings (into_root before.1)) (RefusedRoot input (into_root before.1))
+    (λ root.
     RefusedOuters input (out_of_root root.1))))
 
 -- ---- the whole

@@ -16,7 +16,8 @@ abbrev pub EitherRefused : Refusal → Refusal → Refusal
 EitherRefused First Second bytes fault = First bytes fault ⊎ Second bytes fault
 
 -- a whole part, which goes on no further, and after it what is refused there
-pub record BehindWhole {A : Type 0} (Is : List ℕ → A → Type 0) (Ends : A → List ℕ → Type 0) (Refused : A → Refusal)
+pub record BehindWhole {A : Type 0} (Is : List ℕ → A → Type 0) (Ends : A → List ℕ → Type 0)
+    (Refused : A → Refusal)
     (bytes : List ℕ) (fault : DocFault) : Type 0 where
   pub front : List ℕ
   pub rest : List ℕ
@@ -38,10 +39,12 @@ abbrev pub RefusedThen : {A : Type 0} → (List ℕ → A → Type 0) → Refusa
 RefusedThen Is First Next = EitherRefused First (Behind Is Next)
 
 -- some whole items, each of which goes on no further, and after them an item that is refused
-pub data RefusedAmong {A S : Type 0} (Is : S → List ℕ → A × S → Type 0) (Ends : A × S → List ℕ → Type 0)
+pub data RefusedAmong {A S : Type 0} (Is : S → List ℕ → A × S → Type 0)
+    (Ends : A × S → List ℕ → Type 0)
     (Refused : S → Refusal) : S → List ℕ → DocFault → Type 0 where
   here : (state : S) (bytes : List ℕ) (fault : DocFault) → Refused state bytes fault
       → RefusedAmong Is Ends Refused state bytes fault
   later : (before : S) (front : List ℕ) (item : A) (between : S) (rest : List ℕ) (fault : DocFault)
-      → Is before front (item, between) → Ends (item, between) rest → RefusedAmong Is Ends Refused between rest fault
+      → Is before front (item, between) → Ends (item, between) rest
+      → RefusedAmong Is Ends Refused between rest fault
       → RefusedAmong Is Ends Refused before (front ++ rest) fault

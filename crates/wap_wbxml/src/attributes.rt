@@ -4,7 +4,9 @@ ghost use Rattle.wap_base.specs.Outcome.{Meets};
 ghost use Rattle.wap_wbxml.specs.declared.fault.DocFault.TheVariants.{NoMemory};
 ghost use Rattle.wap_markup.specs.Codes.{attribute_mark};
 ghost use Rattle.wap_markup.specs.Codes.{is_end};
-ghost use Rattle.wap_wbxml.specs.reading.Parts.{start_at, next_piece, pieces_at, attribute_behind, next_attribute, attributes_at, when, end_at, instruction_at};
+ghost use Rattle.wap_wbxml.specs.reading.Parts.{start_at, next_piece, pieces_at, attribute_behind};
+ghost use Rattle.wap_wbxml.specs.reading.Parts.{next_attribute, attributes_at, when, end_at};
+ghost use Rattle.wap_wbxml.specs.reading.Parts.{instruction_at};
 
 use crate::DocFault;
 use crate::fronts::{find_lead, read_lead, read_name};

@@ -6,7 +6,8 @@ ghost use Rattle.wap_markup.specs.Documents.{IsDocument};
 ghost use Rattle.wap_wbxml.specs.declared.fault.DocFault.{DocFault};
 ghost use Rattle.wap_wbxml.specs.declared.fault.DocFault.TheVariants.{NoMemory};
 ghost use Rattle.wap_wbxml.specs.Refusal.{IsRefused};
-ghost use Rattle.wap_wbxml.specs.reading.Whole.{next_outer, outers_at, root_at, body_at, whole_at, document_at};
+ghost use Rattle.wap_wbxml.specs.reading.Whole.{next_outer, outers_at, root_at};
+ghost use Rattle.wap_wbxml.specs.reading.Whole.{body_at, whole_at, document_at};
 
 use crate::DocFault;
 use crate::attributes::read_instruction;

@@ -3,7 +3,8 @@ ghost use Rattle.std.specs.Prelude.{◌≡◌};
 ghost use Rattle.wap_base.specs.Outcome.{Meets};
 ghost use Rattle.wap_wbxml.specs.declared.fault.DocFault.TheVariants.{NoMemory};
 ghost use Rattle.wap_markup.specs.Codes.{is_named};
-ghost use Rattle.wap_wbxml.specs.reading.Parts.{tag_at, when, next_kid, kids_at, element_by, element_at};
+ghost use Rattle.wap_wbxml.specs.reading.Parts.{tag_at, when, next_kid, kids_at};
+ghost use Rattle.wap_wbxml.specs.reading.Parts.{element_by, element_at};
 
 use crate::DocFault;
 use crate::attributes::{read_attributes_when, read_instruction};

@@ -5,7 +5,9 @@ ghost use Rattle.wap_base.specs.Outcome.{Meets};
 ghost use Rattle.wap_markup.specs.Charsets.{is_character};
 ghost use Rattle.wap_markup.specs.Strings.{string_from};
 ghost use Rattle.wap_wbxml.specs.declared.fault.DocFault.TheVariants.{NoMemory};
-ghost use Rattle.wap_wbxml.specs.reading.Fronts.{lead_in, lead_at, number_at, opaque_at, or_no_text, zero_place, inline_at, indexed_at, character_at, name_at};
+ghost use Rattle.wap_wbxml.specs.reading.Fronts.{lead_in, lead_at, number_at, opaque_at};
+ghost use Rattle.wap_wbxml.specs.reading.Fronts.{or_no_text, zero_place, inline_at};
+ghost use Rattle.wap_wbxml.specs.reading.Fronts.{indexed_at, character_at, name_at};
 
 use crate::DocFault;
 use crate::input::Input;

@@ -18,7 +18,10 @@ impl<'a> Model for Input<'a> {
 
     ghost Value = { Whole };
 
-    ghost view = { λ input. record { total = input.total; strings = record { charset = input.charset; table = input.table.now } } };
+    ghost view = { λ input. record {
+      total = input.total;
+      strings = record { charset = input.charset; table = input.table.now };
+    } };
 }
 
 impl<'a> Input<'a> {

@@ -1,6 +1,7 @@
 //! What a byte says, by the code that it is.
 ghost use Rattle.std.specs.Prelude.{◌≡◌};
-ghost use Rattle.wap_markup.specs.Codes.{leaf_mark, leaf_behind, is_extension, content_mark, attribute_mark, is_named, has_attributes, has_content};
+ghost use Rattle.wap_markup.specs.Codes.{leaf_mark, leaf_behind, is_extension, content_mark};
+ghost use Rattle.wap_markup.specs.Codes.{attribute_mark, is_named, has_attributes, has_content};
 
 use wap_base::Conv;
 use wap_markup::{

@@ -31,7 +31,12 @@ impl Model for State {
 
     ghost Value = { Settled };
 
-    ghost view = { λ state. record { tag_page = state.tag_page; attribute_page = state.attribute_page; in_root = state.in_root; names = state.names.keys } };
+    ghost view = { λ state. record {
+      tag_page = state.tag_page;
+      attribute_page = state.attribute_page;
+      in_root = state.in_root;
+      names = state.names.keys;
+    } };
 
     ghost invariant = { λ state. state.size ≡ table_size state.names.keys };
 }

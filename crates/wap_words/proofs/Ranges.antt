@@ -1,5 +1,6 @@
 -- How many pages a command that browses may keep.
-use Rattle.std.proofs.Common.{◌≡◌, ◌⊎◌, ℕ, ◌≤◌, Bool, true, false, List, [], ◌∷◌, map, Option, Some, None, inl, inr, refl, sym, ap, subst, ◌∙◌, arith, lit≤}
+use Rattle.std.proofs.Common.{◌≡◌, ◌⊎◌, ℕ, ◌≤◌, Bool, true, false, List, [], ◌∷◌, map}
+use Rattle.std.proofs.Common.{Option, Some, None, inl, inr, refl, ap, subst, lit≤}
 use Rattle.std.specs.Prelude.{◌&&◌, nat_lt, nat_le, length, option_and_then, encode_utf8_all, codes}
 use Rattle.std.specs.List.{list_all}
 use Rattle.std.specs.Char.{is_ascii_digit}
@@ -8,13 +9,13 @@ use Rattle.std.proofs.lemmas.Bool.{ltb-false, leb-true}
 use Rattle.wap_base.proofs.Choices.{chosen, some_same}
 use Rattle.wap_keys.specs.Decimal.{decimal_of}
 use Rattle.wap_words.specs.declared.words.Browse.{Browse as Browsing}
-use Rattle.wap_words.specs.declared.words.Command.{Command}
 use Rattle.wap_words.specs.declared.words.Command.TheVariants.{Browse, Page}
 use Rattle.wap_words.specs.declared.words.PageCommand.{PageCommand}
 use Rattle.wap_words.specs.declared.word.Word.{Word}
 use Rattle.wap_words.specs.declared.word.Word.TheVariants as word
-use Rattle.wap_words.specs.Reading.{Use, uses_of, text_of}
-use Rattle.wap_words.specs.Words.{at_least, number_of, browse_form, browse_with, browse_by, browse_of, page_form, page_by, page_of, word_named, command_by, command}
+use Rattle.wap_words.specs.Reading.{uses_of, text_of}
+use Rattle.wap_words.specs.Words.{at_least, number_of, browse_form, browse_by, browse_of, page_form}
+use Rattle.wap_words.specs.Words.{page_by, page_of, word_named, command_by, command}
 
 bound_some : {A B : Type 0} (o : Option A) (next : A → Option B) (y : B)
     → option_and_then next o ≡ Some y → (x : A) × (next x ≡ Some y) × (o ≡ Some x)

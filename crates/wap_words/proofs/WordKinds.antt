@@ -1,5 +1,6 @@
 -- What a word is, by its dashes.
-use Rattle.std.proofs.Common.{◌≡◌, ℕ, Bool, true, false, cond, List, [], ◌∷◌, Some, None, refl, sym, ap, subst, ◌∙◌, eqb-true, arith}
+use Rattle.std.proofs.Common.{◌≡◌, ℕ, Bool, true, false, cond, List, [], ◌∷◌, Some, None}
+use Rattle.std.proofs.Common.{refl, sym, ap, subst, ◌∙◌, eqb-true, arith}
 use Rattle.std.specs.Prelude.{◌==◌, ◌&&◌, slice_get, option_and_then}
 use Rattle.std.specs.Str.{IsUtf8, bytes_eq, chars, encode_utf8_all}
 use Rattle.std.proofs.lemmas.Str.{IsUtf8-drop, IsCharBoundary-after_ascii, chars-encodes}
@@ -27,14 +28,18 @@ empty_plain = record { long = refl; short = refl; ender = refl; dashed = refl; b
 
 one_plain : (c : ℕ) (b : Bool) → (c == 45) ≡ b → IsPlain (c ∷ [])
 one_plain c true e = record {
-  long = ap (λ (b : Bool). option_and_then long_of_rest (option_and_then (strip_byte 45) (cond b (Some []) None))) e;
+  long =
+      ap (λ (b : Bool).
+      option_and_then long_of_rest (option_and_then (strip_byte 45) (cond b (Some []) None))) e;
   short = ap (λ (b : Bool). option_and_then short_of_rest (cond b (Some []) None)) e;
   ender = ap (λ (b : Bool). b && false) e;
   dashed = refl;
   behind = refl;
 }
 one_plain c false e = record {
-  long = ap (λ (b : Bool). option_and_then long_of_rest (option_and_then (strip_byte 45) (cond b (Some []) None))) e;
+  long =
+      ap (λ (b : Bool).
+      option_and_then long_of_rest (option_and_then (strip_byte 45) (cond b (Some []) None))) e;
   short = ap (λ (b : Bool). option_and_then short_of_rest (cond b (Some []) None)) e;
   ender = ap (λ (b : Bool). b && false) e;
   dashed = refl;
@@ -43,7 +48,9 @@ one_plain c false e = record {
 
 undashed_plain : (c d : ℕ) (ds : List ℕ) → (c == 45) ≡ false → IsPlain (c ∷ d ∷ ds)
 undashed_plain c d ds e = record {
-  long = ap (λ (b : Bool). option_and_then long_of_rest (option_and_then (strip_byte 45) (cond b (Some (d ∷ ds)) None))) e;
+  long =
+      ap (λ (b : Bool). option_and_then long_of_rest
+      (option_and_then (strip_byte 45) (cond b (Some (d ∷ ds)) None))) e;
   short = ap (λ (b : Bool). option_and_then short_of_rest (cond b (Some (d ∷ ds)) None)) e;
   ender = ap (λ (b : Bool). b && bytes_eq (d ∷ ds) (45 ∷ [])) e;
   dashed = e;
@@ -62,7 +69,9 @@ dashed_short d ds e = record {
 }
 
 -- a word is `--`, an option, begins with one dash, or is plain
-module _ (P : List ℕ → Type 0) (ender : P (45 ∷ 45 ∷ [])) (long : (c : ℕ) (cs : List ℕ) → P (45 ∷ 45 ∷ c ∷ cs)) (short : (word flags : List ℕ) → IsShort word flags → P word)
+module _ (P : List ℕ → Type 0) (ender : P (45 ∷ 45 ∷ []))
+    (long : (c : ℕ) (cs : List ℕ) → P (45 ∷ 45 ∷ c ∷ cs))
+    (short : (word flags : List ℕ) → IsShort word flags → P word)
     (plain : (word : List ℕ) → IsPlain word → P word) where
   two_dashes : (ds : List ℕ) → P (45 ∷ 45 ∷ ds)
   two_dashes [] = ender
@@ -73,7 +82,8 @@ module _ (P : List ℕ → Type 0) (ender : P (45 ∷ 45 ∷ [])) (long : (c : �
   one_dash d ds false e = short (45 ∷ d ∷ ds) (d ∷ ds) (dashed_short d ds e)
 
   first : (c d : ℕ) (ds : List ℕ) (b : Bool) → (c == 45) ≡ b → P (c ∷ d ∷ ds)
-  first c d ds true e = subst (λ (c : ℕ). P (c ∷ d ∷ ds)) (sym (eqb-true c 45 e)) (one_dash d ds (d == 45) refl)
+  first c d ds true e =
+      subst (λ (c : ℕ). P (c ∷ d ∷ ds)) (sym (eqb-true c 45 e)) (one_dash d ds (d == 45) refl)
   first c d ds false e = plain (c ∷ d ∷ ds) (undashed_plain c d ds e)
 
   pub by_kind : (word : List ℕ) → P word
@@ -83,20 +93,24 @@ module _ (P : List ℕ → Type 0) (ender : P (45 ∷ 45 ∷ [])) (long : (c : �
 
 -- ---- the first character after a dash
 
-first_of_some : (ds flags : List ℕ) (c : ℕ) (cs : List ℕ) → encode_utf8_all ds ≡ flags → flags ≡ c ∷ cs → (x : ℕ) × (slice_get ds 0 ≡ Some x)
+first_of_some : (ds flags : List ℕ) (c : ℕ) (cs : List ℕ) → encode_utf8_all ds ≡ flags
+    → flags ≡ c ∷ cs → (x : ℕ) × (slice_get ds 0 ≡ Some x)
 first_of_some [] flags c cs e some = absurd (no_both (e ∙ some))
   where
     no_both : encode_utf8_all [] ≡ c ∷ cs → ⊥
     no_both same = cc
 first_of_some (d ∷ ds) flags c cs e some = (d, refl)
 
-chars_first : (flags : List ℕ) (c : ℕ) (cs : List ℕ) → IsUtf8 flags → flags ≡ c ∷ cs → (x : ℕ) × (slice_get (chars flags) 0 ≡ Some x)
+chars_first : (flags : List ℕ) (c : ℕ) (cs : List ℕ) → IsUtf8 flags → flags ≡ c ∷ cs
+    → (x : ℕ) × (slice_get (chars flags) 0 ≡ Some x)
 chars_first flags c cs (ds, text) some =
     let (x, is) = first_of_some ds flags c cs text.1 some in
     (x, ap (λ (l : List ℕ). slice_get l 0) (ap chars (sym text.1) ∙ chars-encodes ds text.0) ∙ is)
 
-pub first_flag : (word flags : List ℕ) → IsUtf8 word → IsShort word flags → (x : ℕ) × (slice_get (chars flags) 0 ≡ Some x)
+pub first_flag : (word flags : List ℕ) → IsUtf8 word → IsShort word flags
+    → (x : ℕ) × (slice_get (chars flags) 0 ≡ Some x)
 first_flag word flags text short =
     let (c, cs, some) = short.some in
     let dashed : IsUtf8 (45 ∷ flags) = subst IsUtf8 short.is text in
-    chars_first flags c cs (IsUtf8-drop (45 ∷ flags) 1 dashed (IsCharBoundary-after_ascii (45 ∷ flags) 0 dashed (omega arith) (omega arith))) some
+    chars_first flags c cs (IsUtf8-drop (45 ∷ flags) 1 dashed
+    (IsCharBoundary-after_ascii (45 ∷ flags) 0 dashed (omega arith) (omega arith))) some

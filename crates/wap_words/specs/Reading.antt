@@ -1,6 +1,7 @@
 -- The words after a command's name, in UTF-8: a positional and options, each at most once. This
 -- project's own.
-use Rattle.std.specs.Prelude.{ℕ, Bool, true, false, ◌==◌, ◌&&◌, if◌then◌else◌, List, [], ◌∷◌, ◌++◌, Option, Some, None, option_map, find}
+use Rattle.std.specs.Prelude.{ℕ, Bool, true, false, ◌==◌, ◌&&◌, if◌then◌else◌, List, []}
+use Rattle.std.specs.Prelude.{◌∷◌, ◌++◌, Option, Some, None, option_map, find}
 use Rattle.std.specs.List.{list_any, before_first, after_first}
 use Rattle.wap_base.specs.Texts.{is_same_text}
 
@@ -27,7 +28,11 @@ is_given name uses = list_any (λ one. is_same_text one.name name) uses
 abbrev pub with_use : Read → List ℕ → List ℕ → Option Read
 with_use read name text =
     if is_given name read.uses then None
-    else Some (record { uses = read.uses ++ record { name = name; text = text } ∷ []; waits = None; ended = read.ended })
+    else Some (record {
+      uses = read.uses ++ record { name = name; text = text } ∷ [];
+      waits = None;
+      ended = read.ended;
+    })
 
 abbrev pub is_option : Form → List ℕ → Bool
 is_option form name = list_any (λ option. is_same_text option name) form.options
@@ -44,7 +49,8 @@ abbrev pub with_option : Form → Read → List ℕ → Option Read
 with_option form read bytes =
     let name = before_first is_equals bytes in
     if is_option form name
-    then with_value read name (if list_any is_equals bytes then Some (after_first is_equals bytes) else None)
+    then with_value read name
+    (if list_any is_equals bytes then Some (after_first is_equals bytes) else None)
     else None
 
 -- whether a word begins with `-`, and more follows
@@ -74,7 +80,8 @@ with_next form read None word = with_first form read word (behind_dashes word)
 
 -- one word more
 abbrev pub with_word : Form → Read → List ℕ → Option Read
-with_word form read word = if read.ended then with_use read form.positional word else with_next form read read.waits word
+with_word form read word =
+    if read.ended then with_use read form.positional word else with_next form read read.waits word
 
 abbrev pub with_words : Form → Option Read → List (List ℕ) → Option Read
 with_words form None words = None

@@ -1,6 +1,7 @@
 -- The first deck that is opened, computed from the definitions.
 use Rattle.std.proofs.Common.{◌≡◌, List, [], ◌∷◌, ◌++◌, Some, None, refl, ap, ◌∙◌}
-use Rattle.std.specs.Prelude.{codes, Bool, true, false, not, if◌then◌else◌, slice_get, map, filter, is_some}
+use Rattle.std.specs.Prelude.{codes, Bool, true, false, not, if◌then◌else◌}
+use Rattle.std.specs.Prelude.{slice_get, map, filter, is_some}
 use Rattle.std.specs.List.{fold, list_any, filter_map}
 use Rattle.std.specs.Option.{option_map, option_map_or, option_and_then}
 use Rattle.wap_base.specs.Texts.{is_same_text}
@@ -82,7 +83,14 @@ site = (codes "h/a.wmlc", page_is.Deck deck1) ∷ []
 
 -- the world after the URL was opened, before the card is shown
 abbrev page : Url
-page = record { scheme = Some (codes "http"); host = Some (codes "h"); port = None; path = codes "/a.wmlc"; query = None; fragment = None }
+page = record {
+  scheme = Some (codes "http");
+  host = Some (codes "h");
+  port = None;
+  path = codes "/a.wmlc";
+  query = None;
+  fragment = None;
+}
 
 abbrev turned : World
 turned = record (first_world 0 3 default_limits) { turns = 2 }
@@ -97,7 +105,9 @@ same_context : is_new_context deck1 0 ≡ false
 same_context = ap (λ cs. option_map_or (is_true attrs.Newcontext) (slice_get cs 0) false) cards
 
 here_now : place_now site inside ≡ Some place
-here_now = ap (λ cs. option_map (λ card. record { url = page; deck = deck1; card = card }) (slice_get cs 0)) cards
+here_now =
+    ap (λ cs.
+    option_map (λ card. record { url = page; deck = deck1; card = card }) (slice_get cs 0)) cards
 
 no_task : event_task site Forward inside ≡ None
 no_task = ap (option_and_then (λ p. binding [] p.deck p.card Forward)) here_now ∙ event
@@ -108,8 +118,13 @@ flows = ap (λ ms. (fold (shown_with []) nothing_shown ms).flow) content
 
 no_dos : do_labels [] deck1 card1 ≡ []
 no_dos =
-    ap (λ ms. map (λ one. (do_name one, label_of [] one)) (filter (λ one. is_some (task_of one)) (filter (λ one. is_same_tag one.tag tags.Do) (filter_map begun_by ms) ++ filter (λ one. not (list_any (λ other. is_same_text (do_name one) (do_name other)) (filter (λ other. is_same_tag other.tag tags.Do) (filter_map begun_by ms)))) (option_map_or dos_in (template_of deck1) [])))) content
-    ∙ ap (λ t. map (λ one. (do_name one, label_of [] one)) (filter (λ one. is_some (task_of one)) (filter (λ one. true) (option_map_or dos_in t [])))) template
+    ap (λ ms. map (λ one. (do_name one, label_of [] one)) (filter (λ one. is_some (task_of one))
+    (filter (λ one. is_same_tag one.tag tags.Do) (filter_map begun_by ms)
+    ++ filter (λ one. not (list_any (λ other. is_same_text (do_name one) (do_name other))
+    (filter (λ other. is_same_tag other.tag tags.Do) (filter_map begun_by ms))))
+    (option_map_or dos_in (template_of deck1) [])))) content
+    ∙ ap (λ t. map (λ one. (do_name one, label_of [] one)) (filter (λ one. is_some (task_of one))
+    (filter (λ one. true) (option_map_or dos_in t [])))) template
 
 the_screen : screen [] place ≡ codes "=" ∷ codes "Hi" ∷ []
 the_screen =
@@ -117,20 +132,30 @@ the_screen =
     ∙ ap (λ dos. codes "=" ∷ codes "Hi" ∷ map do_line dos) no_dos
 
 nothing_set : defaults [] card1 ≡ accepted []
-nothing_set = ap (λ ms. set_each default [] (filter (λ node. is_field node.tag) (filter_map begun_by ms))) content
+nothing_set =
+    ap (λ ms.
+    set_each default [] (filter (λ node. is_field node.tag) (filter_map begun_by ms))) content
 
 shown_here : (show site inside).lines ≡ codes "=" ∷ codes "Hi" ∷ []
 shown_here =
     ap (λ o. (at_place show_place o inside).lines) here_now
-    ∙ ap (λ set. (and_then (with_set inside set) (λ w. screen_lines place (started w.timer card1 w))).lines) nothing_set
+    ∙ ap (λ set.
+    (and_then (with_set inside set) (λ w. screen_lines place (started w.timer card1 w))).lines)
+    nothing_set
     ∙ the_screen
 
 arrived : arrive site [] [] page turned deck1 ≡ settled (quiet [] (show site inside))
 arrived =
-    ap (λ (b : Bool). after_step (quiet [] (still turned)) (enter site [] Forward (pushed (if b then record turned { vars = []; history = [] } else turned) (record { url = page; card = 0 })))) same_context
+    ap (λ (b : Bool).
+    after_step (quiet [] (still turned)) (enter site [] Forward (pushed (if b then record turned {
+      vars = [];
+      history = [];
+    } else turned) (record { url = page; card = 0 })))) same_context
     ∙ ap (λ o. after_step (quiet [] (still turned)) (entered site [] inside o)) no_task
 
-requested : (request site [] [] None (plain_get page) turned).step.lines ≡ codes "> GET http://h/a.wmlc" ∷ codes "=" ∷ codes "Hi" ∷ []
+requested : (request site [] [] None (plain_get page) turned).step.lines
+    ≡ codes "> GET http://h/a.wmlc" ∷ codes "=" ∷ codes "Hi" ∷ []
 requested =
-    ap (λ once. (after_step (ask [] (plain_get page) turned) (after_step (test [] (test_of page None deck1) turned) once)).step.lines) arrived
+    ap (λ once. (after_step (ask [] (plain_get page) turned)
+    (after_step (test [] (test_of page None deck1) turned) once)).step.lines) arrived
     ∙ ap (λ ls. codes "> GET http://h/a.wmlc" ∷ ls) shown_here

@@ -1,5 +1,6 @@
 -- Who may enter a deck (WAP-191, section 11.3.1).
-use Rattle.std.specs.Prelude.{ℕ, Bool, true, false, ◌&&◌, if◌then◌else◌, map, unwrap_or, List, [], ◌∷◌, Option, Some, None}
+use Rattle.std.specs.Prelude.{ℕ, Bool, true, false, ◌&&◌, if◌then◌else◌, map}
+use Rattle.std.specs.Prelude.{unwrap_or, List, [], ◌∷◌, Option, Some, None}
 use Rattle.std.specs.Option.{option_map_or, option_and_then}
 use Rattle.std.specs.List.{starts_with, ends_with}
 use Rattle.std.specs.Char.{to_ascii_lowercase}

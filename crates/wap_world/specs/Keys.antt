@@ -95,7 +95,8 @@ renewed world = record world { turns = world.budget }
 abbrev pub apply : Pages → List Key → World → Key → Step
 apply pages keys world (key.Open url) = visit pages keys world url
 apply pages keys world (key.Do name) = on_card pages keys world
-    (λ place. act_or (ignored world) pages keys world (do_task world.vars place.deck place.card name))
+    (λ place.
+    act_or (ignored world) pages keys world (do_task world.vars place.deck place.card name))
 apply pages keys world (key.Pick n) = on_card pages keys world
     (λ place. act_or (ignored world) pages keys world (link_task world.vars place.card n))
 apply pages keys world (key.Enter n text) = on_card pages keys world

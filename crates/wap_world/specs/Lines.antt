@@ -1,9 +1,12 @@
 -- Lines that are shown. This project's own.
-use Rattle.std.specs.Prelude.{ℕ, ◌||◌, ◌==◌, nat_lt, if◌then◌else◌, List, [], ◌∷◌, ◌++◌, map, encode_utf8_all, codes}
+use Rattle.std.specs.Prelude.{ℕ, ◌||◌, ◌==◌, nat_lt, if◌then◌else◌, List, []}
+use Rattle.std.specs.Prelude.{◌∷◌, ◌++◌, map, encode_utf8_all, codes}
 use Rattle.std.specs.List.{flat_map}
 use Rattle.wap_base.specs.Ascii.{space, full_stop, delete, line_feed, equals_sign}
 use Rattle.wap_world.specs.declared.refusal.Refusal.{Refusal}
-use Rattle.wap_world.specs.declared.refusal.Refusal.TheVariants.{Budget, Url, Scheme, Missing, Refused, Denied, First, Ignored, Mask, Full, Long}
+use Rattle.wap_world.specs.declared.refusal.Refusal.TheVariants.{Budget, Url, Scheme, Missing}
+use Rattle.wap_world.specs.declared.refusal.Refusal.TheVariants.{Refused, Denied, First, Ignored}
+use Rattle.wap_world.specs.declared.refusal.Refusal.TheVariants.{Mask, Full, Long}
 
 -- ---- bytes
 

@@ -1,6 +1,7 @@
 -- Requests (WAP-191, sections 9.5.1 and 9.3): what a go asks for, the line that it shows, and the
 -- page that answers.
-use Rattle.std.specs.Prelude.{ℕ, Bool, false, if◌then◌else◌, List, [], ◌∷◌, ◌++◌, map, Option, Some, None, Result, Ok, Err, codes}
+use Rattle.std.specs.Prelude.{ℕ, Bool, false, if◌then◌else◌, List, [], ◌∷◌, ◌++◌, map}
+use Rattle.std.specs.Prelude.{Option, Some, None, Result, Ok, Err, codes}
 use Rattle.std.specs.Option.{option_map, option_map_or}
 use Rattle.std.specs.List.{join_with_byte}
 use Rattle.wap_base.specs.Ascii.{space, ampersand, equals_sign}

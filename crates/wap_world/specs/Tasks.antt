@@ -15,7 +15,8 @@
 --   11. A new context clears variables and history.
 --   12. The card is pushed onto the history.
 --   13. It is entered forward.
-use Rattle.std.specs.Prelude.{ℕ, zero, suc, Bool, true, false, ◌&&◌, not, is_none, if◌then◌else◌, unwrap_or, slice_get, List, [], Option, Some, None, Result, Ok, Err}
+use Rattle.std.specs.Prelude.{ℕ, zero, suc, Bool, true, false, ◌&&◌, not, is_none, if◌then◌else◌}
+use Rattle.std.specs.Prelude.{unwrap_or, slice_get, List, [], Option, Some, None, Result, Ok, Err}
 use Rattle.std.specs.Option.{option_map, option_map_or, option_and_then}
 use Rattle.wap_input.specs.declared.key.Key.{Key}
 use Rattle.wap_url.specs.declared.url.Url.{Url}

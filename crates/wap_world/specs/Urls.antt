@@ -1,6 +1,7 @@
 -- The URL of a go or an open (WAP-191, section 9.5.1; RFC 2396): it is joined to the deck's, and
 -- has to be one of a page.
-use Rattle.std.specs.Prelude.{ℕ, Bool, false, is_none, ◌||◌, not, if◌then◌else◌, unwrap_or, List, Option, Result, Ok, Err, codes}
+use Rattle.std.specs.Prelude.{ℕ, Bool, false, is_none, ◌||◌, not, if◌then◌else◌}
+use Rattle.std.specs.Prelude.{unwrap_or, List, Option, Result, Ok, Err, codes}
 use Rattle.std.specs.Option.{option_map_or}
 use Rattle.wap_base.specs.Texts.{is_same_text}
 use Rattle.wap_url.specs.declared.url.Url.{Url}

@@ -2,7 +2,8 @@
 //! are called.
 #![tactic(auto)]
 
-ghost use Rattle.std.specs.Prelude.{◌≡◌, ◌≤◌, ◌++◌, ◌∷◌, [], ℕ, List, length, Option, Some, None, Ok, false};
+ghost use Rattle.std.specs.Prelude.{◌≡◌, ◌≤◌, ◌++◌, ◌∷◌, [], ℕ, List, length};
+ghost use Rattle.std.specs.Prelude.{Option, Some, None, Ok, false};
 ghost use Rattle.wap_url.specs.declared.url.Url.{Url};
 ghost use Rattle.wap_url.specs.Printing.{name_for};
 ghost use Rattle.wap_markup.specs.declared.deck.Deck.{Deck};

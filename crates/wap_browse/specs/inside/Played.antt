@@ -12,7 +12,9 @@ use Rattle.wap_world.specs.Sessions.{shown_by}
 use Rattle.wap_context.specs.Browsers.{IsOver, IfOver}
 use Rattle.wap_session.specs.Feeding.{State}
 use Rattle.wap_status.specs.declared.status.Status.{Status}
-use Rattle.wap_status.specs.declared.status.Status.TheVariants.{Done, Usage, Refused, StoreFault, KeyReadFault, WriteFault, NoMemory, BadKey, TooManyKeys}
+use Rattle.wap_status.specs.declared.status.Status.TheVariants.{Done, Usage, Refused, StoreFault}
+use Rattle.wap_status.specs.declared.status.Status.TheVariants.{KeyReadFault, WriteFault, NoMemory}
+use Rattle.wap_status.specs.declared.status.Status.TheVariants.{BadKey, TooManyKeys}
 
 -- what a key is seen to move: pages, the session, what was written and how often the sink failed
 pub record Moment : Type 0 where

@@ -1,18 +1,23 @@
 -- Parts of instructions. This carries proofs alone.
-use Rattle.std.specs.Prelude.{⊤, ◌≡◌, ℕ, ◌+◌, ◌<◌, ◌≤◌, ◌^◌, Bool, if◌then◌else◌, List, ◌∷◌, length, slice_index, Option, Some, None}
+use Rattle.std.specs.Prelude.{⊤, ◌≡◌, ℕ, ◌+◌, ◌<◌, ◌≤◌, ◌^◌, Bool, if◌then◌else◌, List}
+use Rattle.std.specs.Prelude.{◌∷◌, length, slice_index, Option, Some, None}
 use Rattle.wap_value.specs.declared.value.Value.{Value}
 use Rattle.wap_value.specs.declared.value.Value.TheVariants.{Int, Bool as Boolean, Invalid}
 use Rattle.wap_value.specs.Conversion.{boolean_of}
 use Rattle.wap_value.specs.Binary.{TakesBoth}
 use Rattle.wap_code.specs.declared.unit.Unit.{Unit}
 use Rattle.wap_code.specs.declared.unit.Constant.{Constant}
-use Rattle.wap_code.specs.declared.unit.Constant.TheVariants.{Int8, Int16, Int32, Float, Utf8, Empty, Coded}
+use Rattle.wap_code.specs.declared.unit.Constant.TheVariants.{Int8, Int16, Int32, Float, Utf8}
+use Rattle.wap_code.specs.declared.unit.Constant.TheVariants.{Empty, Coded}
 use Rattle.wap_code.specs.declared.instr.Instr.{Instr}
 use Rattle.wap_code.specs.Instructions.{row_of}
 use Rattle.wap_execution.specs.declared.action.Action.{Action}
-use Rattle.wap_execution.specs.declared.action.Action.TheVariants.{CallLocal, CallLibrary, CallExternal, AssignVariable, Binary}
+use Rattle.wap_execution.specs.declared.action.Action.TheVariants.{CallLocal, CallLibrary}
+use Rattle.wap_execution.specs.declared.action.Action.TheVariants.{CallExternal, AssignVariable}
+use Rattle.wap_execution.specs.declared.action.Action.TheVariants.{Binary}
 use Rattle.wap_execution.specs.Frames.{Frame, code_of, constant_at}
-use Rattle.wap_execution.specs.Effects.{Effect, onward, calls, backward, stored, with_arguments, with_top, is_decided, pair_by, effect_read, effect_at}
+use Rattle.wap_execution.specs.Effects.{Effect, onward, calls, backward, stored, with_arguments}
+use Rattle.wap_execution.specs.Effects.{with_top, is_decided, pair_by, effect_read, effect_at}
 use Rattle.wap_frames.specs.declared.next.Callee.{Callee}
 use Rattle.wap_frames.specs.declared.next.Next.{Next}
 use Rattle.wap_frames.specs.Seen.{called_of}

@@ -1,5 +1,6 @@
 -- What a walk over a program finds, from part to part, and what it knows after each.
-use Rattle.std.specs.Prelude.{ℕ, Bool, true, nat_le, List, [], ◌∷◌, ◌++◌, length, Option, Some, None, Result, Ok, Err}
+use Rattle.std.specs.Prelude.{ℕ, Bool, true, nat_le, List, [], ◌∷◌, ◌++◌}
+use Rattle.std.specs.Prelude.{length, Option, Some, None, Result, Ok, Err}
 use Rattle.wap_base.specs.Outcome.{◌>>=◌}
 use Rattle.wap_program.specs.declared.program.Id.{Id}
 use Rattle.wap_program.specs.declared.program.Use.{Use}

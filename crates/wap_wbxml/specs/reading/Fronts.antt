@@ -1,5 +1,6 @@
 -- Reading what an item begins with, numbers, strings and names. This project's own.
-use Rattle.std.specs.Prelude.{ℕ, ◌^◌, Bool, true, false, ◌==◌, nat_lt, nat_le, if◌then◌else◌, List, [], ◌∷◌, length, take, drop, Option, Some, None, Result, Ok, Err}
+use Rattle.std.specs.Prelude.{ℕ, ◌^◌, true, false, ◌==◌, nat_lt, nat_le, if◌then◌else◌, List, []}
+use Rattle.std.specs.Prelude.{◌∷◌, length, take, drop, Option, Some, None, Result, Ok, Err}
 use Rattle.std.specs.List.{prefix_len}
 use Rattle.wap_base.specs.declared.number.ReadFault.{ReadFault}
 use Rattle.wap_base.specs.declared.number.ReadFault.TheVariants as read
@@ -26,7 +27,8 @@ switched_in (page ∷ byte ∷ rest) = Some (record { switched = true; page = pa
 abbrev pub lead_in : ℕ → List ℕ → Option (Lead × List ℕ)
 lead_in page [] = None
 lead_in page (byte ∷ rest) =
-    if byte == SWITCH_PAGE then switched_in rest else Some (record { switched = false; page = page; byte = byte }, rest)
+    if byte == SWITCH_PAGE then switched_in rest
+    else Some (record { switched = false; page = page; byte = byte }, rest)
 
 abbrev pub or_short : {A : Type 0} → ℕ → Option A → Result A DocFault
 or_short total (Some x) = Ok x
@@ -49,7 +51,8 @@ number_at total bytes = number_from total bytes (mb_at bytes 0)
 unfoldable pub opaque_at : ℕ → List ℕ → Reading (List ℕ)
 opaque_at total bytes =
     number_at total bytes >>= λ count.
-    if nat_le count.0 (length count.1) then Ok (take count.0 count.1, drop count.0 count.1) else Err (fault.Short total)
+    if nat_le count.0 (length count.1) then Ok (take count.0 count.1, drop count.0 count.1)
+    else Err (fault.Short total)
 
 -- ---- texts
 
@@ -102,7 +105,8 @@ character_at total bytes = character_from total (place_before total bytes) bytes
 
 unfoldable pub counted_at : ℕ → State → List ℕ → Result State DocFault
 counted_at at before name =
-    if nat_lt (table_size (counted name before).names) (2 ^ 32) then Ok (counted name before) else Err (fault.Table at)
+    if nat_lt (table_size (counted name before).names) (2 ^ 32) then Ok (counted name before)
+    else Err (fault.Table at)
 
 unfoldable pub name_at : Input → State → List ℕ → Reading (List ℕ × State)
 name_at input before bytes =

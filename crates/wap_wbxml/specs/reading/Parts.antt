@@ -1,5 +1,6 @@
 -- Reading the body of a document: what bytes begin with, and what follows it. This project's own.
-use Rattle.std.specs.Prelude.{ℕ, zero, suc, ◌%◌, Bool, true, false, List, [], Option, Some, None, Result, Ok, Err}
+use Rattle.std.specs.Prelude.{ℕ, zero, suc, ◌%◌, Bool, true, false, List, []}
+use Rattle.std.specs.Prelude.{Option, Some, None, Result, Ok, Err}
 use Rattle.wap_base.specs.Outcome.{◌>>=◌}
 use Rattle.wap_markup.specs.declared.document.Attr.{Attr}
 use Rattle.wap_markup.specs.declared.document.Piece.{Piece}
@@ -18,13 +19,16 @@ use Rattle.wap_markup.specs.declared.mark.ContentMark.{ContentMark}
 use Rattle.wap_markup.specs.declared.mark.ContentMark.TheVariants as content
 use Rattle.wap_markup.specs.declared.mark.AttributeMark.{AttributeMark}
 use Rattle.wap_markup.specs.declared.mark.AttributeMark.TheVariants as attribute
-use Rattle.wap_markup.specs.Codes.{content_mark, attribute_mark, is_end, is_named, has_attributes, has_content}
-use Rattle.wap_markup.specs.Grammar.{State, on_tag_page, on_attribute_page, leaf_of, literal, piece_of, kid_of, of_kid, attribute_of, element_of}
+use Rattle.wap_markup.specs.Codes.{content_mark, attribute_mark, is_end}
+use Rattle.wap_markup.specs.Codes.{is_named, has_attributes, has_content}
+use Rattle.wap_markup.specs.Grammar.{State, on_tag_page, on_attribute_page, leaf_of, literal}
+use Rattle.wap_markup.specs.Grammar.{piece_of, kid_of, of_kid, attribute_of, element_of}
 use Rattle.wap_wbxml.specs.declared.fault.DocFault.{DocFault}
 use Rattle.wap_wbxml.specs.declared.fault.DocFault.TheVariants as fault
 use Rattle.wap_wbxml.specs.Places.{Input, place_before}
 use Rattle.wap_wbxml.specs.reading.Steps.{Reading, Next, some, told, all_by}
-use Rattle.wap_wbxml.specs.reading.Fronts.{lead_in, lead_at, inline_at, indexed_at, character_at, opaque_at, name_at}
+use Rattle.wap_wbxml.specs.reading.Fronts.{lead_in, lead_at, inline_at, indexed_at}
+use Rattle.wap_wbxml.specs.reading.Fronts.{character_at, opaque_at, name_at}
 
 -- after a byte that can't stand there
 abbrev pub no_token : {A : Type 0} → ℕ → List ℕ → Reading A
@@ -58,7 +62,8 @@ start_at input before lead attribute.Nothing bytes = no_token input.total bytes
 abbrev pub some_piece : Lead → State → Piece → Option Piece × State
 some_piece lead before piece = (Some piece, on_attribute_page lead.page before)
 
-abbrev pub piece_from : Input → State → Lead → AttributeMark → List ℕ → List ℕ → Reading (Option Piece × State)
+abbrev pub piece_from : Input → State → Lead → AttributeMark → List ℕ → List ℕ
+    → Reading (Option Piece × State)
 piece_from input before lead attribute.Value bytes rest =
     Ok (some_piece lead before (piece.Code lead.page lead.byte), rest)
 piece_from input before lead (attribute.Leaf mark) bytes rest =
@@ -68,8 +73,10 @@ piece_from input before lead attribute.Coded bytes rest = Ok ((None, before), by
 piece_from input before lead attribute.Named bytes rest = Ok ((None, before), bytes)
 piece_from input before lead attribute.Nothing bytes rest = Ok ((None, before), bytes)
 
-abbrev pub piece_led : Input → State → List ℕ → Option (Lead × List ℕ) → Reading (Option Piece × State)
-piece_led input before bytes (Some lead) = piece_from input before lead.0 (attribute_mark lead.0) bytes lead.1
+abbrev pub piece_led : Input → State → List ℕ → Option (Lead × List ℕ)
+    → Reading (Option Piece × State)
+piece_led input before bytes (Some lead) =
+    piece_from input before lead.0 (attribute_mark lead.0) bytes lead.1
 piece_led input before bytes None = Ok ((None, before), bytes)
 
 unfoldable pub next_piece : Input → Next Piece State
@@ -80,7 +87,8 @@ pieces_at input = all_by (next_piece input) as_none
 
 unfoldable pub attribute_behind : Input → State → Lead → List ℕ → Reading (Attr × State)
 attribute_behind input before lead bytes =
-    start_at input (on_attribute_page lead.page before) lead (attribute_mark lead) bytes >>= λ start.
+    start_at input (on_attribute_page lead.page before) lead (attribute_mark lead) bytes
+    >>= λ start.
     told (attribute_of lead start.0.0) (pieces_at input start.0.1 start.1)
 
 abbrev pub attribute_from : Input → State → Lead → Bool → List ℕ → Reading (Option Attr × State)
@@ -119,7 +127,8 @@ tag_at input before byte true bytes = told literal (name_at input before bytes)
 tag_at input before byte false bytes = Ok ((Code (byte % 64), before), bytes)
 
 -- a list where there is one
-abbrev pub when : {A S : Type 0} → Bool → (S → List ℕ → Reading (List A × S)) → S → List ℕ → Reading (List A × S)
+abbrev pub when : {A S : Type 0} → Bool → (S → List ℕ → Reading (List A × S)) → S → List ℕ
+    → Reading (List A × S)
 when true read before bytes = read before bytes
 when false read before bytes = Ok (([], before), bytes)
 
@@ -127,10 +136,13 @@ when false read before bytes = Ok (([], before), bytes)
 abbrev pub ElementReader : Type 0
 ElementReader = State → Lead → List ℕ → Reading (Element × State)
 
-abbrev pub kid_from : Input → ElementReader → State → Lead → ContentMark → List ℕ → Reading (Option Kid × State)
+abbrev pub kid_from : Input → ElementReader → State → Lead → ContentMark → List ℕ
+    → Reading (Option Kid × State)
 kid_from input inner before lead content.End rest = Ok ((None, before), rest)
-kid_from input inner before lead content.Element rest = told (λ x. some (of_kid kid.Element x)) (inner before lead rest)
-kid_from input inner before lead content.Pi rest = told (λ x. some (of_kid kid.Pi x)) (instruction_at input before rest)
+kid_from input inner before lead content.Element rest =
+    told (λ x. some (of_kid kid.Element x)) (inner before lead rest)
+kid_from input inner before lead content.Pi rest =
+    told (λ x. some (of_kid kid.Pi x)) (instruction_at input before rest)
 kid_from input inner before lead (content.Leaf mark) rest =
     told (λ leaf. some (kid_of leaf, on_tag_page lead.page before)) (leaf_at input mark rest)
 kid_from input inner before lead content.Nothing rest = no_token input.total rest
@@ -153,4 +165,5 @@ element_by input inner before lead bytes =
 -- elements of so many levels
 unfoldable pub element_at : Input → ℕ → ElementReader
 element_at input zero before lead bytes = Err (fault.Depth (place_before input.total bytes))
-element_at input (suc levels) before lead bytes = element_by input (element_at input levels) before lead bytes
+element_at input (suc levels) before lead bytes =
+    element_by input (element_at input levels) before lead bytes

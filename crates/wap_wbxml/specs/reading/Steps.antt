@@ -21,7 +21,8 @@ some x = (Some x.0, x.1)
 abbrev pub chained : {A S : Type 0} → (S → List ℕ → Reading (List A × S)) → (Option A × S) × List ℕ
     → Reading (List A × S)
 chained more ((None, state), rest) = Ok (([], state), rest)
-chained more ((Some item, state), rest) = told (λ others. (item ∷ others.0, others.1)) (more state rest)
+chained more ((Some item, state), rest) =
+    told (λ others. (item ∷ others.0, others.1)) (more state rest)
 
 -- items one after the other, as long as there is a next one, but no more than so many; spent says
 -- what stands after these

@@ -1,5 +1,6 @@
 -- Reading a whole document from the left. This project's own.
-use Rattle.std.specs.Prelude.{ℕ, Bool, true, false, ◌==◌, if◌then◌else◌, List, [], ◌∷◌, length, Option, Some, None, Result, Ok, Err}
+use Rattle.std.specs.Prelude.{ℕ, Bool, true, false, ◌==◌, if◌then◌else◌, List, [], ◌∷◌}
+use Rattle.std.specs.Prelude.{length, Option, Some, None, Result, Ok, Err}
 use Rattle.wap_base.specs.Outcome.{◌>>=◌}
 use Rattle.wap_markup.specs.declared.codes.TheConstants.{PI}
 use Rattle.wap_markup.specs.declared.document.Attr.{Attr}
@@ -16,7 +17,8 @@ use Rattle.wap_base.specs.Charsets.{charset_of}
 use Rattle.wap_markup.specs.Codes.{content_mark}
 use Rattle.wap_markup.specs.Strings.{string_from}
 use Rattle.wap_markup.specs.Grammar.{State}
-use Rattle.wap_markup.specs.Documents.{is_version, is_public, public_named, first_state, into_root, out_of_root}
+use Rattle.wap_markup.specs.Documents.{is_version, is_public, public_named}
+use Rattle.wap_markup.specs.Documents.{first_state, into_root, out_of_root}
 use Rattle.wap_wbxml.specs.declared.fault.DocFault.{DocFault}
 use Rattle.wap_wbxml.specs.declared.fault.DocFault.TheVariants as fault
 use Rattle.wap_wbxml.specs.Places.{Input, place, input_of}
@@ -32,10 +34,12 @@ version_at total (byte ∷ rest) = if is_version byte then Ok (byte, rest) else 
 
 abbrev pub identifier_from : ℕ → ℕ → Bool → List ℕ → Reading Identifier
 identifier_from total number true rest = told Named (number_at total rest)
-identifier_from total number false rest = if is_public number then Ok (Numbered number, rest) else Err fault.PublicId
+identifier_from total number false rest =
+    if is_public number then Ok (Numbered number, rest) else Err fault.PublicId
 
 unfoldable pub identifier_at : ℕ → List ℕ → Reading Identifier
-identifier_at total bytes = number_at total bytes >>= λ number. identifier_from total number.0 (number.0 == 0) number.1
+identifier_at total bytes =
+    number_at total bytes >>= λ number. identifier_from total number.0 (number.0 == 0) number.1
 
 abbrev pub or_no_charset : Option Charset → Result Charset DocFault
 or_no_charset (Some charset) = Ok charset
@@ -90,7 +94,8 @@ body_at input bytes =
 -- ---- the whole
 
 abbrev pub document_of : ℕ → ℕ → ℕ × Charset → Element → Document
-document_of version public charset root = record { version = version; public = public; charset = charset.0; root = root }
+document_of version public charset root =
+    record { version = version; public = public; charset = charset.0; root = root }
 
 -- a document, and what follows it
 unfoldable pub whole_at : ℕ → List ℕ → Reading Document
@@ -100,7 +105,8 @@ whole_at total bytes =
     charset_at total identifier.1 >>= λ charset.
     opaque_at total charset.1 >>= λ table.
     public_of table.0 identifier.0 >>= λ public.
-    told (document_of version.0 public charset.0) (body_at (input_of total charset.0 table.0) table.1)
+    told (document_of version.0 public charset.0)
+    (body_at (input_of total charset.0 table.0) table.1)
 
 -- nothing may follow it
 abbrev pub all_of_it : ℕ → Document × List ℕ → Result Document DocFault

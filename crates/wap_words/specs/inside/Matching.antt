@@ -26,7 +26,13 @@ app_by name form = record {
 
 -- a use as a row of the matches
 abbrev pub row_of_use : Use → Row
-row_of_use one = record { id = one.name; values = one.text ∷ []; count = None; source = Some CommandLine; reading = reading.AsWritten }
+row_of_use one = record {
+  id = one.name;
+  values = one.text ∷ [];
+  count = None;
+  source = Some CommandLine;
+  reading = reading.AsWritten;
+}
 
 -- the matches have these uses
 abbrev pub HasUses : ArgMatches → List Use → Type 0

@@ -5,4 +5,6 @@ pub returns-clause-turns : goal.returns-clause-turns
 returns-clause-turns c = turns_fall
 
 pub returns-clause-history : goal.returns-clause-history
-returns-clause-history c = λ pages one keys world some few. (history_bound pages one keys world (record { some = some; few = few })).few
+returns-clause-history c =
+    λ pages one keys world some few.
+    (history_bound pages one keys world (record { some = some; few = few })).few

@@ -3,4 +3,5 @@ use Rattle.wap_asm.proofs.Spelled.{spelled}
 use Rattle.wap_asm.proofs.laws.table_is_exact.Goals as goal
 
 pub returns : goal.returns
-returns c = record { read = read_back; short = none_shorter; long = length-spelling; spelled = spelled }
+returns c =
+    record { read = read_back; short = none_shorter; long = length-spelling; spelled = spelled }

@@ -6,4 +6,6 @@ use Rattle.wap_asm.proofs.library.args_in.Given as goal
 
 -- what is left has what all have
 abbrev pub invariant-loop-row : goal.invariant-loop-row
-invariant-loop-row l = lookup (is_function l.library l.function) (map lent_by_number (drop l.row-index l.rows)) ≡ lookup (is_function l.library l.function) (map lent_by_number l.rows)
+invariant-loop-row l =
+    lookup (is_function l.library l.function) (map lent_by_number (drop l.row-index l.rows))
+    ≡ lookup (is_function l.library l.function) (map lent_by_number l.rows)

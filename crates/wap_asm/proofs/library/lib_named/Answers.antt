@@ -9,5 +9,8 @@ pub returns : goal.returns
 unfolding lib_named
 returns c =
     c.named_in.ensures
-    ∙ ap (λ (n : List ℕ). lookup (has_names n c.as_str-2.result.now) (map by_name library)) c.as_str.ensures.bytes
-    ∙ ap (λ (n : List ℕ). lookup (has_names (encode_utf8_all c.args.library.now) n) (map by_name library)) c.as_str-2.ensures.bytes
+    ∙ ap (λ (n : List ℕ). lookup (has_names n c.as_str-2.result.now) (map by_name library))
+    c.as_str.ensures.bytes
+    ∙ ap (λ (n : List ℕ).
+    lookup (has_names (encode_utf8_all c.args.library.now) n) (map by_name library))
+    c.as_str-2.ensures.bytes

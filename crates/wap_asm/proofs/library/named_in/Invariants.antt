@@ -5,4 +5,6 @@ use Rattle.wap_asm.proofs.library.named_in.Given as goal
 
 -- what is left has what all have
 abbrev pub invariant-loop-row : goal.invariant-loop-row
-invariant-loop-row l = lookup (has_names l.library l.function) (map lent_by_name (drop l.row-index l.rows)) ≡ lookup (has_names l.library l.function) (map lent_by_name l.rows)
+invariant-loop-row l =
+    lookup (has_names l.library l.function) (map lent_by_name (drop l.row-index l.rows))
+    ≡ lookup (has_names l.library l.function) (map lent_by_name l.rows)

@@ -6,5 +6,6 @@ use Rattle.wap_base.proofs.number.mb_from.Given as goal
 abbrev pub invariant-loop : goal.invariant-loop
 invariant-loop l = record {
   within : l.next ≤ length l.bytes;
-  goes_on : mb_after l.at (length l.bytes) (5 - l.counter) l.value l.next (drop l.next l.bytes) ≡ mb_at l.bytes l.at;
+  goes_on : mb_after l.at (length l.bytes) (5 - l.counter) l.value l.next (drop l.next l.bytes)
+      ≡ mb_at l.bytes l.at;
 }

@@ -10,8 +10,15 @@ returns-then-not-is_lt c =
     let next = c.index-texts-next-in-loop-next.result in
     let not_before : is_lt (text_cmp here next) ≡ false = cc in (
       λ no. absurd cc,
-      λ rising. absurd (not_ascending_at c.args.texts.now c.loop-next.next here next (omega arith) c.loop-next-test.true c.index-texts-next.is c.index-texts-next-in-loop-next.is not_before rising),
+      λ rising. absurd (not_ascending_at c.args.texts.now c.loop-next.next here next
+          (omega arith) c.loop-next-test.true c.index-texts-next.is
+          c.index-texts-next-in-loop-next.is not_before rising),
     )
 
 pub returns : goal.returns
-returns c = (λ _. ascending_from_adjacent c.args.texts.now (λ k within. c.loop-next.invariant k (omega (arith, c.loop-next-test.false, c.loop-next.auto.next, c.loop-next.auto.next-end)) within), λ _. refl)
+returns c = (
+  λ _. ascending_from_adjacent c.args.texts.now (λ k within.
+      c.loop-next.invariant k (omega
+      (arith, c.loop-next-test.false, c.loop-next.auto.next, c.loop-next.auto.next-end)) within),
+  λ _. refl,
+)

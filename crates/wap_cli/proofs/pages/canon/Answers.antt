@@ -14,16 +14,24 @@ returns-in-Ok g c =
     let faults = g.O.Sink.faults c.args.out.now in
     let rest = g.O.Sink.faults c.write_all.new.out in
     let wrote = c.write_all.result in
-    subst (λ (status : Status). Answers command.Canon (Some c.args.bytes.now) before after faults rest status) (sym c.written_so.ensures)
-    (answers_text command.Canon c.args.bytes.now before after faults rest wrote c.in-Ok.text c.in-Ok.ensures.found
-    (subst (λ (l : List ℕ). OnOk wrote (Appends before after l)) c.as_slice.ensures c.write_all.ensures.whole)
-    (subst (λ (l : List ℕ). OnErr wrote (AppendsFront before after l)) c.as_slice.ensures c.write_all.ensures.front)
+    subst (λ (status : Status).
+    Answers command.Canon (Some c.args.bytes.now) before after faults rest status)
+    (sym c.written_so.ensures)
+    (answers_text command.Canon c.args.bytes.now before after faults rest wrote c.in-Ok.text
+    c.in-Ok.ensures.found
+    (subst (λ (l : List ℕ). OnOk wrote (Appends before after l))
+    c.as_slice.ensures c.write_all.ensures.whole)
+    (subst (λ (l : List ℕ). OnErr wrote (AppendsFront before after l))
+    c.as_slice.ensures c.write_all.ensures.front)
     c.write_all.ensures.steady c.write_all.ensures.faults c.write_all.ensures.failed)
 
 pub returns-in-Err : goal.returns-in-Err
 returns-in-Err g c =
     let before = g.O.Sink.written c.args.out.now in
     let faults = g.O.Sink.faults c.args.out.now in
-    subst (λ (status : Status). Answers command.Canon (Some c.args.bytes.now) before before faults faults status) (sym c.refused_by.ensures)
-    (answers_error command.Canon c.args.bytes.now before before faults faults c.in-Err.error (λ fault is. c.in-Err.ensures.refused fault (ap Err is))
+    subst (λ (status : Status).
+    Answers command.Canon (Some c.args.bytes.now) before before faults faults status)
+    (sym c.refused_by.ensures)
+    (answers_error command.Canon c.args.bytes.now before before faults faults c.in-Err.error
+    (λ fault is. c.in-Err.ensures.refused fault (ap Err is))
     (λ text is other. no_value text c.in-Err.error (c.in-Err.ensures.only text is other)))

@@ -5,5 +5,6 @@ use Rattle.wap_fields.proofs.choices.chosen.Goals as goal
 
 pub loop-number-preserved : goal.loop-number-preserved
 loop-number-preserved c =
-    c.mark.ensures ∙ ap (λ (choice : List Bool). marked (get_or c.args.numbers.now c.loop-number.number-index 0) choice) c.loop-number.invariant
+    c.mark.ensures ∙ ap (λ (choice : List Bool).
+    marked (get_or c.args.numbers.now c.loop-number.number-index 0) choice) c.loop-number.invariant
     ∙ marks_next c.args.count c.args.numbers.now c.loop-number.number-index c.loop-number-test.true

@@ -4,4 +4,5 @@ use Rattle.wap_cardrules.specs.Selects.{number_of}
 use Rattle.wap_fields.proofs.choices.numbers_in.Given as goal
 
 abbrev pub invariant-loop-piece : goal.invariant-loop-piece
-invariant-loop-piece l = l.numbers ≡ filter_map (number_of l.count) (take l.piece-index l.piece-items)
+invariant-loop-piece l =
+    l.numbers ≡ filter_map (number_of l.count) (take l.piece-index l.piece-items)

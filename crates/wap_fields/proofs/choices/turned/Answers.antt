@@ -4,5 +4,6 @@ use Rattle.wap_fields.proofs.choices.turned.Goals as goal
 
 pub loop-place-preserved : goal.loop-place-preserved
 loop-place-preserved c =
-    c.in_ok-add.ensures.ok ∙ ap₂ (λ (turned : List Bool) (last : Bool). turned ++ last ∷ []) c.loop-place.invariant c.turned_if.ensures
+    c.in_ok-add.ensures.ok ∙ ap₂ (λ (turned : List Bool) (last : Bool). turned ++ last ∷ [])
+    c.loop-place.invariant c.turned_if.ensures
     ∙ sym (turned_at c.args.number c.args.choice.now c.loop-place.place c.loop-place-test.true)

@@ -5,5 +5,6 @@ use Rattle.wap_fields.proofs.defaults.apply_defaults.Given as goal
 abbrev pub invariant-loop-field : goal.invariant-loop-field
 invariant-loop-field l = record {
   vars : l.vars ≡ (set_each default l.initial.vars (take l.field-index l.field-items)).vars;
-  refused : l.refused ≡ (set_each default l.initial.vars (take l.field-index l.field-items)).refused;
+  refused : l.refused
+      ≡ (set_each default l.initial.vars (take l.field-index l.field-items)).refused;
 }

@@ -4,4 +4,6 @@ use Rattle.wap_cards.proofs.Names.{kept}
 use Rattle.wap_fields.proofs.defaults.unset.Goals as goal
 
 pub returns-in-Err-BadName-clause-removed : goal.returns-in-Err-BadName-clause-removed
-returns-in-Err-BadName-clause-removed c = sym (kept c.args.name.now (c.of.ensures.bad.0 (c.in-Err-BadName.is ∙ ap (λ (fault : NameFault). Err fault) c.in-Err-BadName.field-0-is)) c.args.vars.now c.keep_rules.ensures)
+returns-in-Err-BadName-clause-removed c =
+    sym (kept c.args.name.now (c.of.ensures.bad.0 (c.in-Err-BadName.is ∙ ap (λ (fault : NameFault).
+    Err fault) c.in-Err-BadName.field-0-is)) c.args.vars.now c.keep_rules.ensures)

@@ -8,5 +8,7 @@ use Rattle.wap_fields.proofs.inputs.any_mask.Goals as goal
 
 pub returns : goal.returns
 returns c =
-    let is : mask_of c.in_ok-text.text ≡ any_text = ap mask_of (c.in_ok-text.ensures ∙ chars-plain (codes "*M") refl) in
-    subst (λ (symbols : List Symbol). IfOk c.read.result (λ mask. mask ≡ symbols)) is c.read.ensures.exact
+    let is : mask_of c.in_ok-text.text ≡ any_text =
+    ap mask_of (c.in_ok-text.ensures ∙ chars-plain (codes "*M") refl) in
+    subst (λ (symbols : List Symbol). IfOk c.read.result (λ mask. mask ≡ symbols))
+    is c.read.ensures.exact

@@ -8,4 +8,5 @@ decreases-add_options l = l.levels
 
 abbrev pub invariant-loop-child : goal.invariant-loop-child
 invariant-loop-child l =
-    l.options ++ options_in (nodes_in l.levels l.child-iterator) ≡ l.initial.options ++ options_in (nodes_in l.levels l.view.kids)
+    l.options ++ options_in (nodes_in l.levels l.child-iterator)
+    ≡ l.initial.options ++ options_in (nodes_in l.levels l.view.kids)

@@ -5,4 +5,6 @@ use Rattle.wap_filling.specs.Filling.{value_text}
 use Rattle.wap_fields.proofs.options.values_of.Given as goal
 
 abbrev pub invariant-loop-option : goal.invariant-loop-option
-invariant-loop-option l = l.values ≡ map (λ option. value_text l.vars (value_of attrs.Value option)) (take l.option-index l.option-items)
+invariant-loop-option l =
+    l.values ≡ map (λ option. value_text l.vars (value_of attrs.Value option))
+    (take l.option-index l.option-items)

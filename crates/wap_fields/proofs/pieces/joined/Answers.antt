@@ -5,7 +5,8 @@ use Rattle.wap_fields.proofs.pieces.joined.Goals.{then-place-gt0+in_ok-push, els
 
 pub loop-place-preserved : goal.loop-place-preserved
 loop-place-preserved c =
-    joined-next c.args.texts.now c.loop-place.place c.index-texts-place.result c.loop-place.whole c.if-place-gt0.whole c.add.new.self
+    joined-next c.args.texts.now c.loop-place.place c.index-texts-place.result c.loop-place.whole
+    c.if-place-gt0.whole c.add.new.self
     c.loop-place-test.true c.index-texts-place.is c.loop-place.invariant
     (λ behind. elim c.if-place-gt0.branch [
       | then-place-gt0+in_ok-push w ↦ w.whole-is ∙ w.in_ok-push.ensures.ok

@@ -5,4 +5,6 @@ use Rattle.wap_fields.proofs.Splitting.{pieces_from}
 use Rattle.wap_fields.proofs.pieces.pieces_of.Given as goal
 
 abbrev pub invariant-loop-character : goal.invariant-loop-character
-invariant-loop-character l = l.pieces ++ pieces_from l.piece (drop (length l.yielded) (chars l.text)) ≡ pieces_of (chars l.text)
+invariant-loop-character l =
+    l.pieces ++ pieces_from l.piece (drop (length l.yielded) (chars l.text))
+    ≡ pieces_of (chars l.text)

@@ -15,38 +15,60 @@ use Rattle.wap_frames.proofs.Doing.{constant_here, loads}
 use Rattle.wap_frames.proofs.constants.load_constant.Goals as goal
 
 -- the constant's value
-there : (string : ℕ) (frame : Frame) (instr : Instr) (unit : CodeUnit) → unit ≡ frame.function.unit → Fits frame (effect_of string frame LoadConstant instr)
-    → (value : Value) × (constant_at frame.function.unit instr.a ≡ Some value) × (constant_at unit instr.a ≡ Some value)
+there : (string : ℕ) (frame : Frame) (instr : Instr) (unit : CodeUnit) → unit ≡ frame.function.unit
+    → Fits frame (effect_of string frame LoadConstant instr)
+    → (value : Value) × (constant_at frame.function.unit instr.a ≡ Some value)
+    × (constant_at unit instr.a ≡ Some value)
 there string frame instr unit same fits =
-    let constant = constant_here string frame instr fits in
-    (constant.value, constant.is, subst (λ (u : CodeUnit). constant_at u instr.a ≡ Some constant.value) (sym same) constant.is)
+    let constant = constant_here string frame instr fits in (
+      constant.value,
+      constant.is,
+      subst (λ (u : CodeUnit). constant_at u instr.a ≡ Some constant.value) (sym same) constant.is,
+    )
 
 abbrev kept_effect : ℕ → Frame → Instr → Result Value ValueFault → Effect
-kept_effect string frame instr made = with_kept made (λ kept. onward instr.next frame.variables (kept ∷ frame.operands))
+kept_effect string frame instr made =
+    with_kept made (λ kept. onward instr.next frame.variables (kept ∷ frame.operands))
 
 pub constant-requires : goal.constant-requires
 constant-requires c =
     let frame : Frame = c.args.frame.now in
-    subst (λ (u : CodeUnit). HasConstant u c.args.instr.a) (sym c.unit.ensures) (constant_here c.args.string frame c.args.instr c.requires)
+    subst (λ (u : CodeUnit). HasConstant u c.args.instr.a) (sym c.unit.ensures)
+    (constant_here c.args.string frame c.args.instr c.requires)
 
 pub give-requires : goal.give-requires
 give-requires c =
     let frame : Frame = c.args.frame.now in
-    let value = there c.args.string frame c.args.instr c.unit.result.now c.unit.ensures c.requires in
-    let made : kept_within c.args.string value.0 ≡ Ok c.in-Ok.value = c.in-Ok.ensures value.0 value.2 in
-    subst (Fits frame) (loads c.args.string frame c.args.instr value.0 value.1 ∙ ap (kept_effect c.args.string frame c.args.instr) made) c.requires
+    let value =
+    there c.args.string frame c.args.instr c.unit.result.now c.unit.ensures c.requires in
+    let made : kept_within c.args.string value.0 ≡ Ok c.in-Ok.value =
+    c.in-Ok.ensures value.0 value.2 in
+    subst (Fits frame) (loads c.args.string frame c.args.instr value.0 value.1
+    ∙ ap (kept_effect c.args.string frame c.args.instr) made) c.requires
 
 pub returns-in-Ok : goal.returns-in-Ok
 returns-in-Ok c =
     let frame : Frame = c.args.frame.now in
-    let value = there c.args.string frame c.args.instr c.unit.result.now c.unit.ensures c.requires in
-    let made : kept_within c.args.string value.0 ≡ Ok c.in-Ok.value = c.in-Ok.ensures value.0 value.2 in
-    subst (λ (e : Effect). Does e frame.function c.give.new.frame c.give.result) (sym (loads c.args.string frame c.args.instr value.0 value.1 ∙ ap (kept_effect c.args.string frame c.args.instr) made)) c.give.ensures
+    let value =
+    there c.args.string frame c.args.instr c.unit.result.now c.unit.ensures c.requires in
+    let made : kept_within c.args.string value.0 ≡ Ok c.in-Ok.value =
+    c.in-Ok.ensures value.0 value.2 in
+    subst (λ (e : Effect). Does e frame.function c.give.new.frame c.give.result)
+    (sym (loads c.args.string frame c.args.instr value.0 value.1
+    ∙ ap (kept_effect c.args.string frame c.args.instr) made)) c.give.ensures
 
 pub returns-in-Err-TooLong : goal.returns-in-Err-TooLong
 returns-in-Err-TooLong c =
     let frame : Frame = c.args.frame.now in
-    let value = there c.args.string frame c.args.instr c.unit.result.now c.unit.ensures c.requires in
+    let value =
+    there c.args.string frame c.args.instr c.unit.result.now c.unit.ensures c.requires in
     let other : c.in-Err-TooLong.field-0 ≢ NoMemory = λ e. cc (e, c.in-Err-TooLong.field-0-is) in
-    let made : kept_within c.args.string value.0 ≡ Err (TooLong c.in-Err-TooLong.field-0-0) = cc (c.in-Err-TooLong.ensures value.0 value.2 other, c.in-Err-TooLong.field-0-is) in
-    record { is = loads c.args.string frame c.args.instr value.0 value.1 ∙ ap (kept_effect c.args.string frame c.args.instr) made; same = refl; in_order = λ e. cc e }
+    let made : kept_within c.args.string value.0 ≡ Err (TooLong c.in-Err-TooLong.field-0-0) =
+    cc (c.in-Err-TooLong.ensures value.0 value.2 other, c.in-Err-TooLong.field-0-is) in
+    record {
+      is =
+          loads c.args.string frame c.args.instr value.0 value.1
+          ∙ ap (kept_effect c.args.string frame c.args.instr) made;
+      same = refl;
+      in_order = λ e. cc e;
+    }

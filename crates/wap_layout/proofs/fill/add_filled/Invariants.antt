@@ -10,7 +10,8 @@ use Rattle.wap_layout.proofs.fill.add_filled.Given as goal
 abbrev pub invariant-loop-word : goal.invariant-loop-word
 invariant-loop-word l =
     shadow (Utf8 l.rest) × (l.columns ≡ length l.line)
-    × (l.lines ++ fill l.width l.line (parts_of l.width (words_of (chars l.rest))) ≡ l.initial.lines ++ filled l.width (words_of (chars l.text)))
+    × (l.lines ++ fill l.width l.line (parts_of l.width (words_of (chars l.rest)))
+    ≡ l.initial.lines ++ filled l.width (words_of (chars l.text)))
 
 abbrev pub decreases-loop-word : goal.decreases-loop-word
 decreases-loop-word l = length l.rest

@@ -4,4 +4,6 @@ use Rattle.wap_layout.specs.inside.Behind.{lines_behind}
 use Rattle.wap_layout.proofs.layout.laid_out.Given as goal
 
 abbrev pub invariant-loop-part : goal.invariant-loop-part
-invariant-loop-part l = lines_behind l.width l.page.lines l.page.mode l.page.text (drop l.part-index l.flow) ≡ lines_of l.width l.flow
+invariant-loop-part l =
+    lines_behind l.width l.page.lines l.page.mode l.page.text (drop l.part-index l.flow)
+    ≡ lines_of l.width l.flow

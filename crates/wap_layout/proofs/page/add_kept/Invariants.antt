@@ -12,8 +12,10 @@ use Rattle.wap_layout.proofs.page.add_kept.Given as goal
 abbrev pub invariant-loop-line : goal.invariant-loop-line
 invariant-loop-line l =
     shadow (Utf8 l.rest)
-    × (l.lines ++ flat_map (piece_lines l.width) (kept (slice_split is_line_feed (chars l.rest)) (is_hard l.ending))
-    ≡ l.initial.lines ++ flat_map (piece_lines l.width) (kept (slice_split is_line_feed (chars l.text)) (is_hard l.ending)))
+    × (l.lines ++ flat_map (piece_lines l.width)
+    (kept (slice_split is_line_feed (chars l.rest)) (is_hard l.ending))
+    ≡ l.initial.lines ++ flat_map (piece_lines l.width)
+    (kept (slice_split is_line_feed (chars l.text)) (is_hard l.ending)))
 
 abbrev pub decreases-loop-line : goal.decreases-loop-line
 decreases-loop-line l = length l.rest

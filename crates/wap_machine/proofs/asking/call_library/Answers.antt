@@ -22,14 +22,31 @@ returns-in-Ok-clause-told g c =
     let are = c.frame.ensures.are in
     let old = g.H.Host.state c.args.host.now c.args.pages.now in
     let new = g.H.Host.state c.library.new.self c.library.new.pages in
-    let base : c.deref-2.result.now.base ≡ frame.function.base = ap (λ (s : Script). s.base) c.deref-2.ensures ∙ ap (λ (f : Function). f.base) c.script-script.ensures in
-    let referer : option_copied c.as_ref-referer.result ≡ frame.function.referer = c.as_ref-referer.ensures.value ∙ ap (λ (s : Script). s.referer) c.deref.ensures ∙ ap (λ (f : Function). f.referer) c.script-script.ensures in
-    let told = subst (λ (r : Option Url). IfSome old (λ before. Gives (g.H.Host.meaning.library before frame.function.base r c.args.number c.args.index c.args.arguments.items) c.in-Ok.out new)) referer
-    (subst (λ (b : Url). IfSome old (λ before. Gives (g.H.Host.meaning.library before b (option_copied c.as_ref-referer.result) c.args.number c.args.index c.args.arguments.items) c.in-Ok.out new)) base c.in-Ok.ensures.told) in
-    let goes = subst (λ (l : List Frame). c.go_with.result ≡ goes_with c.args.waiting.limits l c.in-Ok.out) are c.go_with.ensures.goes in
-    let same = library_told set frame outer c.args.arguments.items (g.H.Host.turns c.args.host.now) c.args.number c.args.index c.in-Ok.out c.go_with.result old new told goes in
-    subst (λ (l : List Frame). Same (calls_from set l (library c.args.number c.args.index) c.args.arguments.items (g.H.Host.turns c.args.host.now)) old (rest set c.go_with.result (g.H.Host.turns c.library.new.self)) new) (sym are)
-    (subst (λ (n : ℕ). Same (calls_from set (frame ∷ outer) (library c.args.number c.args.index) c.args.arguments.items (g.H.Host.turns c.args.host.now)) old (rest set c.go_with.result n) new) (sym c.in-Ok.ensures.turns) same)
+    let base : c.deref-2.result.now.base ≡ frame.function.base =
+    ap (λ (s : Script). s.base) c.deref-2.ensures
+    ∙ ap (λ (f : Function). f.base) c.script-script.ensures in
+    let referer : option_copied c.as_ref-referer.result ≡ frame.function.referer =
+    c.as_ref-referer.ensures.value ∙ ap (λ (s : Script). s.referer) c.deref.ensures
+    ∙ ap (λ (f : Function). f.referer) c.script-script.ensures in
+    let told =
+    subst (λ (r : Option Url).
+    IfSome old (λ before. Gives (g.H.Host.meaning.library before frame.function.base r c.args.number
+    c.args.index c.args.arguments.items) c.in-Ok.out new)) referer
+    (subst (λ (b : Url). IfSome old (λ before.
+    Gives (g.H.Host.meaning.library before b (option_copied c.as_ref-referer.result) c.args.number
+    c.args.index c.args.arguments.items) c.in-Ok.out new)) base c.in-Ok.ensures.told) in
+    let goes =
+    subst (λ (l : List Frame). c.go_with.result ≡ goes_with c.args.waiting.limits l c.in-Ok.out)
+    are c.go_with.ensures.goes in
+    let same =
+    library_told set frame outer c.args.arguments.items (g.H.Host.turns c.args.host.now)
+    c.args.number c.args.index c.in-Ok.out c.go_with.result old new told goes in
+    subst (λ (l : List Frame). Same (calls_from set l (library c.args.number c.args.index)
+    c.args.arguments.items (g.H.Host.turns c.args.host.now)) old
+    (rest set c.go_with.result (g.H.Host.turns c.library.new.self)) new) (sym are)
+    (subst (λ (n : ℕ). Same (calls_from set (frame ∷ outer) (library c.args.number c.args.index)
+    c.args.arguments.items (g.H.Host.turns c.args.host.now)) old (rest set c.go_with.result n) new)
+    (sym c.in-Ok.ensures.turns) same)
 
 pub returns-in-Err-clause-fetched : goal.returns-in-Err-clause-fetched
 returns-in-Err-clause-fetched g c = λ is.
@@ -38,16 +55,36 @@ returns-in-Err-clause-fetched g c = λ is.
     let outer = c.frame.ensures.outer in
     let old = g.H.Host.state c.args.host.now c.args.pages.now in
     let count = g.H.Host.fetches c.library.new.pages in
-    let base : c.deref-2.result.now.base ≡ frame.function.base = ap (λ (s : Script). s.base) c.deref-2.ensures ∙ ap (λ (f : Function). f.base) c.script-script.ensures in
-    let referer : option_copied c.as_ref-referer.result ≡ frame.function.referer = c.as_ref-referer.ensures.value ∙ ap (λ (s : Script). s.referer) c.deref.ensures ∙ ap (λ (f : Function). f.referer) c.script-script.ensures in
-    let fetched = subst (λ (r : Option Url). IfSome old (λ before. Fetches (g.H.Host.fetched before) count (g.H.Host.fetched (g.H.Host.meaning.library before frame.function.base r c.args.number c.args.index c.args.arguments.items).1))) referer
-    (subst (λ (b : Url). IfSome old (λ before. Fetches (g.H.Host.fetched before) count (g.H.Host.fetched (g.H.Host.meaning.library before b (option_copied c.as_ref-referer.result) c.args.number c.args.index c.args.arguments.items).1))) base (c.in-Err.ensures.fetched (other_fault Step HostOut c.in-Err.fault Store is))) in
-    let keeps = host_keeps c.args.waiting.limits g.H.Host.meaning g.H.Host.fetched g.met.H.Host.external_grows g.met.H.Host.library_grows in
-    subst (λ (l : List Frame). IfSome old (λ before. Fetches (g.H.Host.fetched before) count (g.H.Host.fetched (calls_from set l (library c.args.number c.args.index) c.args.arguments.items (g.H.Host.turns c.args.host.now) before).state))) (sym c.frame.ensures.are)
-    (library_fetches set g.H.Host.fetched keeps frame outer c.args.arguments.items (g.H.Host.turns c.args.host.now) count c.args.number c.args.index old fetched)
+    let base : c.deref-2.result.now.base ≡ frame.function.base =
+    ap (λ (s : Script). s.base) c.deref-2.ensures
+    ∙ ap (λ (f : Function). f.base) c.script-script.ensures in
+    let referer : option_copied c.as_ref-referer.result ≡ frame.function.referer =
+    c.as_ref-referer.ensures.value ∙ ap (λ (s : Script). s.referer) c.deref.ensures
+    ∙ ap (λ (f : Function). f.referer) c.script-script.ensures in
+    let fetched =
+    subst (λ (r : Option Url). IfSome old
+    (λ before. Fetches (g.H.Host.fetched before) count (g.H.Host.fetched (g.H.Host.meaning.library
+    before frame.function.base r c.args.number c.args.index c.args.arguments.items).1))) referer
+    (subst (λ (b : Url). IfSome old (λ before.
+    Fetches (g.H.Host.fetched before) count (g.H.Host.fetched (g.H.Host.meaning.library before b
+    (option_copied c.as_ref-referer.result) c.args.number c.args.index c.args.arguments.items).1)))
+    base (c.in-Err.ensures.fetched (other_fault Step HostOut c.in-Err.fault Store is))) in
+    let keeps =
+    host_keeps c.args.waiting.limits g.H.Host.meaning g.H.Host.fetched g.met.H.Host.external_grows
+    g.met.H.Host.library_grows in
+    subst (λ (l : List Frame). IfSome old (λ before. Fetches (g.H.Host.fetched before) count
+    (g.H.Host.fetched (calls_from set l (library c.args.number c.args.index) c.args.arguments.items
+    (g.H.Host.turns c.args.host.now) before).state))) (sym c.frame.ensures.are)
+    (library_fetches set g.H.Host.fetched keeps frame outer c.args.arguments.items
+    (g.H.Host.turns c.args.host.now) count c.args.number c.args.index old fetched)
 
 pub returns-in-Ok-clause-grown : goal.returns-in-Ok-clause-grown
 returns-in-Ok-clause-grown g c =
-    told_grows g.H.Host.fetched (λ before. g.H.Host.meaning.library before c.deref-2.result.now.base (option_copied c.as_ref-referer.result) c.args.number c.args.index c.args.arguments.items)
-    (g.H.Host.state c.args.host.now c.args.pages.now) (g.H.Host.state c.library.new.self c.library.new.pages) c.in-Ok.out c.in-Ok.ensures.told
-    (λ before. g.met.H.Host.library_grows before c.deref-2.result.now.base (option_copied c.as_ref-referer.result) c.args.number c.args.index c.args.arguments.items)
+    told_grows g.H.Host.fetched (λ before.
+    g.H.Host.meaning.library before c.deref-2.result.now.base
+    (option_copied c.as_ref-referer.result) c.args.number c.args.index c.args.arguments.items)
+    (g.H.Host.state c.args.host.now c.args.pages.now)
+    (g.H.Host.state c.library.new.self c.library.new.pages) c.in-Ok.out c.in-Ok.ensures.told
+    (λ before.
+    g.met.H.Host.library_grows before c.deref-2.result.now.base
+    (option_copied c.as_ref-referer.result) c.args.number c.args.index c.args.arguments.items)

@@ -15,37 +15,52 @@ loop-alloc-init c = record { frames = []; are = refl; stands = c.requires.stands
 pub act-requires-clause-within : goal.act-requires-clause-within
 act-requires-clause-within c =
     let now : Frame = c.loop-alloc.frame in
-    let apart : now.place ≢ length (code_of now.function) = λ e. let yes = c.is_at_end.ensures.1 e in cc (yes, c.if-is_at_end.false) in
+    let apart : now.place ≢ length (code_of now.function) =
+    λ e. let yes = c.is_at_end.ensures.1 e in cc (yes, c.if-is_at_end.false) in
     inside_of now 0 c.loop-alloc.invariant.stands apart
 
 pub loop-alloc-preserved : goal.loop-alloc-preserved
 loop-alloc-preserved c =
     let now : Frame = c.loop-alloc.frame in
-    let apart : now.place ≢ length (code_of now.function) = λ e. let yes = c.is_at_end.ensures.1 e in cc (yes, c.if-is_at_end.false) in
+    let apart : now.place ≢ length (code_of now.function) =
+    λ e. let yes = c.is_at_end.ensures.1 e in cc (yes, c.if-is_at_end.false) in
     let within = inside_of now 0 c.loop-alloc.invariant.stands apart in
-    let acts = subst (λ (n : Next). Acts c.args.string now c.act.new.frame n) c.in-Ok-Onward.field-0-is c.in-Ok-Onward.ensures in
-    passed_more c.args.string c.args.frame.now now c.act.new.frame c.loop-alloc.invariant within acts
+    let acts =
+    subst (λ (n : Next). Acts c.args.string now c.act.new.frame n)
+    c.in-Ok-Onward.field-0-is c.in-Ok-Onward.ensures in
+    passed_more c.args.string c.args.frame.now now c.act.new.frame
+    c.loop-alloc.invariant within acts
 
 pub loop-alloc-smaller : goal.loop-alloc-smaller
 loop-alloc-smaller c =
     let now : Frame = c.loop-alloc.frame in
-    let apart : now.place ≢ length (code_of now.function) = λ e. let yes = c.is_at_end.ensures.1 e in cc (yes, c.if-is_at_end.false) in
+    let apart : now.place ≢ length (code_of now.function) =
+    λ e. let yes = c.is_at_end.ensures.1 e in cc (yes, c.if-is_at_end.false) in
     let within = inside_of now 0 c.loop-alloc.invariant.stands apart in
-    let acts = subst (λ (n : Next). Acts c.args.string now c.act.new.frame n) c.in-Ok-Onward.field-0-is c.in-Ok-Onward.ensures in
+    let acts =
+    subst (λ (n : Next). Acts c.args.string now c.act.new.frame n)
+    c.in-Ok-Onward.field-0-is c.in-Ok-Onward.ensures in
     on_falls c.args.string now c.act.new.frame acts within
 
 pub returns-then-is_at_end-clause-gone : goal.returns-then-is_at_end-clause-gone
 returns-then-is_at_end-clause-gone c =
     let now : Frame = c.loop-alloc.frame in
-    let place : now.place ≡ length (code_of now.function) = c.is_at_end.ensures.0 c.if-is_at_end.true in
-    record { now = now; passed = c.loop-alloc.invariant; last = ends place (ap (λ (l : List _). Return (Str l)) c.new.ensures) }
+    let place : now.place ≡ length (code_of now.function) =
+    c.is_at_end.ensures.0 c.if-is_at_end.true in
+    record {
+      now = now;
+      passed = c.loop-alloc.invariant;
+      last = ends place (ap (λ (l : List _). Return (Str l)) c.new.ensures);
+    }
 
 pub returns-in-Ok-clause-gone : goal.returns-in-Ok-clause-gone
 returns-in-Ok-clause-gone c =
     let now : Frame = c.loop-alloc.frame in
-    let apart : now.place ≢ length (code_of now.function) = λ e. let yes = c.is_at_end.ensures.1 e in cc (yes, c.if-is_at_end.false) in
+    let apart : now.place ≢ length (code_of now.function) =
+    λ e. let yes = c.is_at_end.ensures.1 e in cc (yes, c.if-is_at_end.false) in
     let within = inside_of now 0 c.loop-alloc.invariant.stands apart in
     record { now = now; passed = c.loop-alloc.invariant; last = does within c.in-Ok.ensures }
 
 pub returns-in-Ok-clause-stands : goal.returns-in-Ok-clause-stands
-returns-in-Ok-clause-stands c = stands_for c.args.string c.loop-alloc.frame c.act.new.frame c.in-Ok.next c.in-Ok.ensures
+returns-in-Ok-clause-stands c =
+    stands_for c.args.string c.loop-alloc.frame c.act.new.frame c.in-Ok.next c.in-Ok.ensures

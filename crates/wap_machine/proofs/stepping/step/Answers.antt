@@ -11,92 +11,138 @@ use Rattle.wap_machine.specs.inside.Efforts.{effort, GoesBelow}
 use Rattle.wap_machine.specs.inside.Steps.{rest, Same, calls_from, LimitsStay, Wants, IsInOrderFor}
 use Rattle.wap_machine.proofs.HostLaws.{grows_still}
 use Rattle.wap_machine.proofs.StepLaws.{none_left, light_below, never_wants}
-use Rattle.wap_machine.proofs.GoingLaws.{nothing_told, turn_told, turn_wanted, call_wanted, call_told, call_fetches, nothing_kept, turn_kept, call_kept}
+use Rattle.wap_machine.proofs.GoingLaws.{nothing_told, turn_told, turn_wanted}
+use Rattle.wap_machine.proofs.GoingLaws.{call_wanted, call_told, call_fetches}
+use Rattle.wap_machine.proofs.GoingLaws.{nothing_kept, turn_kept, call_kept}
 use Rattle.wap_machine.proofs.stepping.step.Goals as goal
 
 -- ---- nothing was wanted
 
 pub returns-in-Ok-Nothing-clause-told : goal.returns-in-Ok-Nothing-clause-told
 returns-in-Ok-Nothing-clause-told g c =
-    let advanced = subst (IsAdvanced c.args.machine.limits c.args.machine.frames) c.in-Ok-Nothing.field-0-is c.in-Ok-Nothing.ensures in
-    nothing_told c.args.machine.limits g.H.Host.meaning c.args.machine.frames (g.H.Host.turns c.args.host.now) (g.H.Host.state c.args.host.now c.args.pages.now) c.in-Ok-Nothing.step advanced
+    let advanced =
+    subst (IsAdvanced c.args.machine.limits c.args.machine.frames)
+    c.in-Ok-Nothing.field-0-is c.in-Ok-Nothing.ensures in
+    nothing_told c.args.machine.limits g.H.Host.meaning c.args.machine.frames
+    (g.H.Host.turns c.args.host.now)
+    (g.H.Host.state c.args.host.now c.args.pages.now) c.in-Ok-Nothing.step advanced
 
 pub returns-in-Ok-Nothing-clause-limits : goal.returns-in-Ok-Nothing-clause-limits
 returns-in-Ok-Nothing-clause-limits g c =
-    let advanced = subst (IsAdvanced c.args.machine.limits c.args.machine.frames) c.in-Ok-Nothing.field-0-is c.in-Ok-Nothing.ensures in
+    let advanced =
+    subst (IsAdvanced c.args.machine.limits c.args.machine.frames)
+    c.in-Ok-Nothing.field-0-is c.in-Ok-Nothing.ensures in
     (nothing_kept c.args.machine.limits c.args.machine.frames c.in-Ok-Nothing.step advanced).stay
 
 pub returns-in-Ok-Nothing-clause-wants : goal.returns-in-Ok-Nothing-clause-wants
 returns-in-Ok-Nothing-clause-wants g c =
-    let advanced = subst (IsAdvanced c.args.machine.limits c.args.machine.frames) c.in-Ok-Nothing.field-0-is c.in-Ok-Nothing.ensures in
-    never_wants (g.H.Host.turns c.args.host.now) c.in-Ok-Nothing.step (nothing_kept c.args.machine.limits c.args.machine.frames c.in-Ok-Nothing.step advanced).no_want
+    let advanced =
+    subst (IsAdvanced c.args.machine.limits c.args.machine.frames)
+    c.in-Ok-Nothing.field-0-is c.in-Ok-Nothing.ensures in
+    never_wants (g.H.Host.turns c.args.host.now) c.in-Ok-Nothing.step
+    (nothing_kept c.args.machine.limits c.args.machine.frames c.in-Ok-Nothing.step advanced).no_want
 
 pub returns-in-Ok-Nothing-clause-falls : goal.returns-in-Ok-Nothing-clause-falls
 returns-in-Ok-Nothing-clause-falls g c =
-    let advanced = subst (IsAdvanced c.args.machine.limits c.args.machine.frames) c.in-Ok-Nothing.field-0-is c.in-Ok-Nothing.ensures in
-    (nothing_kept c.args.machine.limits c.args.machine.frames c.in-Ok-Nothing.step advanced).falls (g.H.Host.turns c.args.host.now)
+    let advanced =
+    subst (IsAdvanced c.args.machine.limits c.args.machine.frames)
+    c.in-Ok-Nothing.field-0-is c.in-Ok-Nothing.ensures in
+    (nothing_kept c.args.machine.limits c.args.machine.frames c.in-Ok-Nothing.step advanced).falls
+    (g.H.Host.turns c.args.host.now)
 
 pub returns-in-Ok-Nothing-clause-grown : goal.returns-in-Ok-Nothing-clause-grown
-returns-in-Ok-Nothing-clause-grown g c = grows_still c.args.machine.limits g.H.Host.meaning g.H.Host.fetched (g.H.Host.state c.args.host.now c.args.pages.now)
+returns-in-Ok-Nothing-clause-grown g c =
+    grows_still c.args.machine.limits g.H.Host.meaning g.H.Host.fetched
+    (g.H.Host.state c.args.host.now c.args.pages.now)
 
 -- ---- a turn was wanted
 
 pub returns-then-turn-clause-told : goal.returns-then-turn-clause-told
 returns-then-turn-clause-told g c =
-    let advanced = subst (IsAdvanced c.args.machine.limits c.args.machine.frames) c.in-Ok-Turn.field-0-is c.in-Ok-Turn.ensures in
-    turn_told c.args.machine.limits g.H.Host.meaning c.args.machine.frames (g.H.Host.turns c.args.host.now) (g.H.Host.state c.args.host.now c.args.pages.now)
-    c.in-Ok-Turn.machine (g.H.Host.turns c.turn.new.self) (g.H.Host.state c.turn.new.self c.args.pages.now) advanced
-    (c.turn.ensures.some.0 c.if-turn.true) c.turn.ensures.turns (c.turn.ensures.state c.args.pages.now)
+    let advanced =
+    subst (IsAdvanced c.args.machine.limits c.args.machine.frames)
+    c.in-Ok-Turn.field-0-is c.in-Ok-Turn.ensures in
+    turn_told c.args.machine.limits g.H.Host.meaning c.args.machine.frames
+    (g.H.Host.turns c.args.host.now) (g.H.Host.state c.args.host.now c.args.pages.now)
+    c.in-Ok-Turn.machine (g.H.Host.turns c.turn.new.self)
+    (g.H.Host.state c.turn.new.self c.args.pages.now) advanced
+    (c.turn.ensures.some.0 c.if-turn.true) c.turn.ensures.turns
+    (c.turn.ensures.state c.args.pages.now)
 
 pub returns-then-turn-clause-limits : goal.returns-then-turn-clause-limits
 returns-then-turn-clause-limits g c =
-    let advanced = subst (IsAdvanced c.args.machine.limits c.args.machine.frames) c.in-Ok-Turn.field-0-is c.in-Ok-Turn.ensures in
+    let advanced =
+    subst (IsAdvanced c.args.machine.limits c.args.machine.frames)
+    c.in-Ok-Turn.field-0-is c.in-Ok-Turn.ensures in
     (turn_kept c.args.machine.limits c.args.machine.frames c.in-Ok-Turn.machine advanced).stay
 
 pub returns-then-turn-clause-falls : goal.returns-then-turn-clause-falls
 returns-then-turn-clause-falls g c =
-    let advanced = subst (IsAdvanced c.args.machine.limits c.args.machine.frames) c.in-Ok-Turn.field-0-is c.in-Ok-Turn.ensures in
-    light_below (g.H.Host.turns c.args.host.now) (g.H.Host.turns c.turn.new.self) c.args.machine.frames (Goes c.in-Ok-Turn.machine)
-    (c.turn.ensures.some.0 c.if-turn.true) c.turn.ensures.turns (turn_kept c.args.machine.limits c.args.machine.frames c.in-Ok-Turn.machine advanced).light
+    let advanced =
+    subst (IsAdvanced c.args.machine.limits c.args.machine.frames)
+    c.in-Ok-Turn.field-0-is c.in-Ok-Turn.ensures in
+    light_below (g.H.Host.turns c.args.host.now)
+    (g.H.Host.turns c.turn.new.self) c.args.machine.frames (Goes c.in-Ok-Turn.machine)
+    (c.turn.ensures.some.0 c.if-turn.true) c.turn.ensures.turns
+    (turn_kept c.args.machine.limits c.args.machine.frames c.in-Ok-Turn.machine advanced).light
 
 pub returns-then-turn-clause-grown : goal.returns-then-turn-clause-grown
 returns-then-turn-clause-grown g c =
     let old = g.H.Host.state c.args.host.now c.args.pages.now in
-    subst (λ (o : Option _). GrowsTold g.H.Host.fetched old o) (sym (c.turn.ensures.state c.args.pages.now)) (grows_still c.args.machine.limits g.H.Host.meaning g.H.Host.fetched old)
+    subst (λ (o : Option _). GrowsTold g.H.Host.fetched old o)
+    (sym (c.turn.ensures.state c.args.pages.now))
+    (grows_still c.args.machine.limits g.H.Host.meaning g.H.Host.fetched old)
 
 pub returns-else-turn-clause-told : goal.returns-else-turn-clause-told
 returns-else-turn-clause-told g c =
-    let advanced = subst (IsAdvanced c.args.machine.limits c.args.machine.frames) c.in-Ok-Turn.field-0-is c.in-Ok-Turn.ensures in
-    turn_wanted c.args.machine.limits g.H.Host.meaning c.args.machine.frames (g.H.Host.turns c.args.host.now) (g.H.Host.state c.args.host.now c.args.pages.now)
-    c.in-Ok-Turn.machine (g.H.Host.turns c.turn.new.self) (g.H.Host.state c.turn.new.self c.args.pages.now) advanced
-    (none_left c.turn.result (g.H.Host.turns c.args.host.now) c.turn.ensures.some.1 c.if-turn.false) c.turn.ensures.turns (c.turn.ensures.state c.args.pages.now)
+    let advanced =
+    subst (IsAdvanced c.args.machine.limits c.args.machine.frames)
+    c.in-Ok-Turn.field-0-is c.in-Ok-Turn.ensures in
+    turn_wanted c.args.machine.limits g.H.Host.meaning c.args.machine.frames
+    (g.H.Host.turns c.args.host.now) (g.H.Host.state c.args.host.now c.args.pages.now)
+    c.in-Ok-Turn.machine (g.H.Host.turns c.turn.new.self)
+    (g.H.Host.state c.turn.new.self c.args.pages.now) advanced
+    (none_left c.turn.result (g.H.Host.turns c.args.host.now) c.turn.ensures.some.1 c.if-turn.false)
+    c.turn.ensures.turns (c.turn.ensures.state c.args.pages.now)
 
 pub returns-else-turn-clause-wants : goal.returns-else-turn-clause-wants
 returns-else-turn-clause-wants g c = λ budget.
-    let none = none_left c.turn.result (g.H.Host.turns c.args.host.now) c.turn.ensures.some.1 c.if-turn.false in
+    let none =
+    none_left c.turn.result
+    (g.H.Host.turns c.args.host.now) c.turn.ensures.some.1 c.if-turn.false in
     let left = c.turn.ensures.turns in
     omega arith
 
 pub returns-else-turn-clause-grown : goal.returns-else-turn-clause-grown
 returns-else-turn-clause-grown g c =
     let old = g.H.Host.state c.args.host.now c.args.pages.now in
-    subst (λ (o : Option _). GrowsTold g.H.Host.fetched old o) (sym (c.turn.ensures.state c.args.pages.now)) (grows_still c.args.machine.limits g.H.Host.meaning g.H.Host.fetched old)
+    subst (λ (o : Option _). GrowsTold g.H.Host.fetched old o)
+    (sym (c.turn.ensures.state c.args.pages.now))
+    (grows_still c.args.machine.limits g.H.Host.meaning g.H.Host.fetched old)
 
 -- ---- a call was wanted
 
 pub call-requires-clause-few : goal.call-requires-clause-few
 call-requires-clause-few g c =
-    let advanced = subst (IsAdvanced c.args.machine.limits c.args.machine.frames) c.in-Ok-Call.field-0-is c.in-Ok-Call.ensures in
-    (call_kept c.args.machine.limits c.args.machine.frames c.in-Ok-Call.waiting c.in-Ok-Call.callee c.in-Ok-Call.arguments advanced).few
+    let advanced =
+    subst (IsAdvanced c.args.machine.limits c.args.machine.frames)
+    c.in-Ok-Call.field-0-is c.in-Ok-Call.ensures in
+    (call_kept c.args.machine.limits c.args.machine.frames c.in-Ok-Call.waiting c.in-Ok-Call.callee
+    c.in-Ok-Call.arguments advanced).few
 
 pub call-requires-clause-can : goal.call-requires-clause-can
 call-requires-clause-can g c =
-    let advanced = subst (IsAdvanced c.args.machine.limits c.args.machine.frames) c.in-Ok-Call.field-0-is c.in-Ok-Call.ensures in
-    (call_kept c.args.machine.limits c.args.machine.frames c.in-Ok-Call.waiting c.in-Ok-Call.callee c.in-Ok-Call.arguments advanced).can
+    let advanced =
+    subst (IsAdvanced c.args.machine.limits c.args.machine.frames)
+    c.in-Ok-Call.field-0-is c.in-Ok-Call.ensures in
+    (call_kept c.args.machine.limits c.args.machine.frames c.in-Ok-Call.waiting c.in-Ok-Call.callee
+    c.in-Ok-Call.arguments advanced).can
 
 pub returns-then-turn-2-clause-told : goal.returns-then-turn-2-clause-told
 returns-then-turn-2-clause-told g c =
-    let advanced = subst (IsAdvanced c.args.machine.limits c.args.machine.frames) c.in-Ok-Call.field-0-is c.in-Ok-Call.ensures in
+    let advanced =
+    subst (IsAdvanced c.args.machine.limits c.args.machine.frames)
+    c.in-Ok-Call.field-0-is c.in-Ok-Call.ensures in
     let frames = c.args.machine.frames in
     let waiting = c.in-Ok-Call.waiting in
     let items = c.in-Ok-Call.arguments.items in
@@ -106,43 +152,68 @@ returns-then-turn-2-clause-told g c =
     let new = g.H.Host.state c.call.new.host c.call.new.pages in
     let left = g.H.Host.turns c.turn-in-Ok-Call.new.self in
     let fewer = g.H.Host.turns c.call.new.host in
-    let stay = (call_kept c.args.machine.limits frames waiting c.in-Ok-Call.callee c.in-Ok-Call.arguments advanced).stay in
-    IfOk-weaker c.call.result (λ step. Same (calls_from (uncounted waiting.limits g.H.Host.meaning) waiting.frames callee items left) asked (rest (uncounted waiting.limits g.H.Host.meaning) step fewer) new)
-    (λ step. Same (run_of c.args.machine g.H.Host.meaning (g.H.Host.turns c.args.host.now)) old (rest (uncounted c.args.machine.limits g.H.Host.meaning) step fewer) new)
-    (λ step told. call_told c.args.machine.limits g.H.Host.meaning frames (g.H.Host.turns c.args.host.now) old waiting c.in-Ok-Call.callee c.in-Ok-Call.arguments left asked new
-    (rest (uncounted c.args.machine.limits g.H.Host.meaning) step fewer) advanced (c.turn-in-Ok-Call.ensures.some.0 c.if-turn-2.true) c.turn-in-Ok-Call.ensures.turns (c.turn-in-Ok-Call.ensures.state c.args.pages.now)
-    (subst (λ (l : Limits). Same (calls_from (uncounted l g.H.Host.meaning) waiting.frames callee items left) asked (rest (uncounted l g.H.Host.meaning) step fewer) new) stay told))
+    let stay =
+    (call_kept c.args.machine.limits frames waiting c.in-Ok-Call.callee c.in-Ok-Call.arguments
+    advanced).stay in
+    IfOk-weaker c.call.result (λ step.
+    Same (calls_from (uncounted waiting.limits g.H.Host.meaning) waiting.frames callee items left)
+    asked (rest (uncounted waiting.limits g.H.Host.meaning) step fewer) new)
+    (λ step.
+    Same (run_of c.args.machine g.H.Host.meaning (g.H.Host.turns c.args.host.now)) old
+    (rest (uncounted c.args.machine.limits g.H.Host.meaning) step fewer) new)
+    (λ step told.
+    call_told c.args.machine.limits g.H.Host.meaning frames (g.H.Host.turns c.args.host.now)
+    old waiting c.in-Ok-Call.callee c.in-Ok-Call.arguments left asked new
+    (rest (uncounted c.args.machine.limits g.H.Host.meaning) step fewer) advanced
+    (c.turn-in-Ok-Call.ensures.some.0 c.if-turn-2.true) c.turn-in-Ok-Call.ensures.turns
+    (c.turn-in-Ok-Call.ensures.state c.args.pages.now)
+    (subst (λ (l : Limits). Same (calls_from (uncounted l g.H.Host.meaning) waiting.frames callee
+    items left) asked (rest (uncounted l g.H.Host.meaning) step fewer) new) stay told))
     c.call.ensures.told
 
 pub returns-then-turn-2-clause-limits : goal.returns-then-turn-2-clause-limits
 returns-then-turn-2-clause-limits g c =
-    let advanced = subst (IsAdvanced c.args.machine.limits c.args.machine.frames) c.in-Ok-Call.field-0-is c.in-Ok-Call.ensures in
-    let stay = (call_kept c.args.machine.limits c.args.machine.frames c.in-Ok-Call.waiting c.in-Ok-Call.callee c.in-Ok-Call.arguments advanced).stay in
-    IfOk-weaker c.call.result (IsInOrderFor c.in-Ok-Call.waiting.limits) (LimitsStay c.args.machine.limits) (λ step order. subst (λ (l : Limits). LimitsStay l step) stay order.limits_stay) c.call.ensures.order
+    let advanced =
+    subst (IsAdvanced c.args.machine.limits c.args.machine.frames)
+    c.in-Ok-Call.field-0-is c.in-Ok-Call.ensures in
+    let stay =
+    (call_kept c.args.machine.limits c.args.machine.frames c.in-Ok-Call.waiting c.in-Ok-Call.callee
+    c.in-Ok-Call.arguments advanced).stay in
+    IfOk-weaker c.call.result (IsInOrderFor c.in-Ok-Call.waiting.limits)
+    (LimitsStay c.args.machine.limits) (λ step order.
+    subst (λ (l : Limits). LimitsStay l step) stay order.limits_stay) c.call.ensures.order
 
 pub returns-then-turn-2-clause-wants : goal.returns-then-turn-2-clause-wants
 returns-then-turn-2-clause-wants g c =
-    IfOk-weaker c.call.result (IsInOrderFor c.in-Ok-Call.waiting.limits) (Wants (g.H.Host.turns c.call.new.host)) (λ step order. never_wants (g.H.Host.turns c.call.new.host) step order.turns_are) c.call.ensures.order
+    IfOk-weaker c.call.result (IsInOrderFor c.in-Ok-Call.waiting.limits)
+    (Wants (g.H.Host.turns c.call.new.host)) (λ step order.
+    never_wants (g.H.Host.turns c.call.new.host) step order.turns_are) c.call.ensures.order
 
 pub returns-then-turn-2-clause-falls : goal.returns-then-turn-2-clause-falls
 returns-then-turn-2-clause-falls g c =
     let turns = g.H.Host.turns c.args.host.now in
     let left = g.H.Host.turns c.call.new.host in
     let fewer : left ≡ turns - 1 = c.call.ensures.turns ∙ c.turn-in-Ok-Call.ensures.turns in
-    IfOk-weaker c.call.result (IsInOrderFor c.in-Ok-Call.waiting.limits) (GoesBelow (effort turns c.args.machine.frames) left)
-    (λ step order. light_below turns left c.args.machine.frames step (c.turn-in-Ok-Call.ensures.some.0 c.if-turn-2.true) fewer order.light) c.call.ensures.order
+    IfOk-weaker c.call.result (IsInOrderFor c.in-Ok-Call.waiting.limits)
+    (GoesBelow (effort turns c.args.machine.frames) left)
+    (λ step order. light_below turns left c.args.machine.frames step
+    (c.turn-in-Ok-Call.ensures.some.0 c.if-turn-2.true) fewer order.light) c.call.ensures.order
 
 pub returns-then-turn-2-clause-grown : goal.returns-then-turn-2-clause-grown
 returns-then-turn-2-clause-grown g c =
     let old = g.H.Host.state c.args.host.now c.args.pages.now in
     let asked = g.H.Host.state c.turn-in-Ok-Call.new.self c.args.pages.now in
     let new = g.H.Host.state c.call.new.host c.call.new.pages in
-    IfOk-weaker c.call.result (λ _. GrowsTold g.H.Host.fetched asked new) (λ _. GrowsTold g.H.Host.fetched old new)
-    (λ step grown. subst (λ (o : Option _). GrowsTold g.H.Host.fetched o new) (c.turn-in-Ok-Call.ensures.state c.args.pages.now) grown) c.call.ensures.grown
+    IfOk-weaker c.call.result (λ _. GrowsTold g.H.Host.fetched asked new)
+    (λ _. GrowsTold g.H.Host.fetched old new)
+    (λ step grown. subst (λ (o : Option _). GrowsTold g.H.Host.fetched o new)
+    (c.turn-in-Ok-Call.ensures.state c.args.pages.now) grown) c.call.ensures.grown
 
 pub returns-then-turn-2-clause-fetched : goal.returns-then-turn-2-clause-fetched
 returns-then-turn-2-clause-fetched g c = λ is.
-    let advanced = subst (IsAdvanced c.args.machine.limits c.args.machine.frames) c.in-Ok-Call.field-0-is c.in-Ok-Call.ensures in
+    let advanced =
+    subst (IsAdvanced c.args.machine.limits c.args.machine.frames)
+    c.in-Ok-Call.field-0-is c.in-Ok-Call.ensures in
     let frames = c.args.machine.frames in
     let waiting = c.in-Ok-Call.waiting in
     let items = c.in-Ok-Call.arguments.items in
@@ -150,25 +221,44 @@ returns-then-turn-2-clause-fetched g c = λ is.
     let asked = g.H.Host.state c.turn-in-Ok-Call.new.self c.args.pages.now in
     let left = g.H.Host.turns c.turn-in-Ok-Call.new.self in
     let count = g.H.Host.fetches c.call.new.pages in
-    let stay = (call_kept c.args.machine.limits frames waiting c.in-Ok-Call.callee c.in-Ok-Call.arguments advanced).stay in
-    call_fetches c.args.machine.limits g.H.Host.meaning frames (g.H.Host.turns c.args.host.now) (g.H.Host.state c.args.host.now c.args.pages.now) g.H.Host.fetched count waiting c.in-Ok-Call.callee c.in-Ok-Call.arguments left asked
-    advanced (c.turn-in-Ok-Call.ensures.some.0 c.if-turn-2.true) c.turn-in-Ok-Call.ensures.turns (c.turn-in-Ok-Call.ensures.state c.args.pages.now)
-    (subst (λ (l : Limits). IfSome asked (λ state. Fetches (g.H.Host.fetched state) count (g.H.Host.fetched (calls_from (uncounted l g.H.Host.meaning) waiting.frames callee items left state).state))) stay (c.call.ensures.fetched is))
+    let stay =
+    (call_kept c.args.machine.limits frames waiting c.in-Ok-Call.callee c.in-Ok-Call.arguments
+    advanced).stay in
+    call_fetches c.args.machine.limits g.H.Host.meaning frames (g.H.Host.turns c.args.host.now)
+    (g.H.Host.state c.args.host.now c.args.pages.now)
+    g.H.Host.fetched count waiting c.in-Ok-Call.callee c.in-Ok-Call.arguments left asked
+    advanced (c.turn-in-Ok-Call.ensures.some.0 c.if-turn-2.true) c.turn-in-Ok-Call.ensures.turns
+    (c.turn-in-Ok-Call.ensures.state c.args.pages.now)
+    (subst
+    (λ (l : Limits). IfSome asked (λ state. Fetches (g.H.Host.fetched state) count (g.H.Host.fetched
+    (calls_from (uncounted l g.H.Host.meaning) waiting.frames callee items left state).state))) stay
+    (c.call.ensures.fetched is))
 
 pub returns-else-turn-2-clause-told : goal.returns-else-turn-2-clause-told
 returns-else-turn-2-clause-told g c =
-    let advanced = subst (IsAdvanced c.args.machine.limits c.args.machine.frames) c.in-Ok-Call.field-0-is c.in-Ok-Call.ensures in
-    call_wanted c.args.machine.limits g.H.Host.meaning c.args.machine.frames (g.H.Host.turns c.args.host.now) (g.H.Host.state c.args.host.now c.args.pages.now)
-    c.in-Ok-Call.waiting c.in-Ok-Call.callee c.in-Ok-Call.arguments (g.H.Host.turns c.turn-in-Ok-Call.new.self) (g.H.Host.state c.turn-in-Ok-Call.new.self c.args.pages.now) advanced
-    (none_left c.turn-in-Ok-Call.result (g.H.Host.turns c.args.host.now) c.turn-in-Ok-Call.ensures.some.1 c.if-turn-2.false) c.turn-in-Ok-Call.ensures.turns (c.turn-in-Ok-Call.ensures.state c.args.pages.now)
+    let advanced =
+    subst (IsAdvanced c.args.machine.limits c.args.machine.frames)
+    c.in-Ok-Call.field-0-is c.in-Ok-Call.ensures in
+    call_wanted c.args.machine.limits g.H.Host.meaning c.args.machine.frames
+    (g.H.Host.turns c.args.host.now) (g.H.Host.state c.args.host.now c.args.pages.now)
+    c.in-Ok-Call.waiting c.in-Ok-Call.callee c.in-Ok-Call.arguments
+    (g.H.Host.turns c.turn-in-Ok-Call.new.self)
+    (g.H.Host.state c.turn-in-Ok-Call.new.self c.args.pages.now) advanced
+    (none_left c.turn-in-Ok-Call.result (g.H.Host.turns c.args.host.now)
+    c.turn-in-Ok-Call.ensures.some.1 c.if-turn-2.false) c.turn-in-Ok-Call.ensures.turns
+    (c.turn-in-Ok-Call.ensures.state c.args.pages.now)
 
 pub returns-else-turn-2-clause-wants : goal.returns-else-turn-2-clause-wants
 returns-else-turn-2-clause-wants g c = λ budget.
-    let none = none_left c.turn-in-Ok-Call.result (g.H.Host.turns c.args.host.now) c.turn-in-Ok-Call.ensures.some.1 c.if-turn-2.false in
+    let none =
+    none_left c.turn-in-Ok-Call.result
+    (g.H.Host.turns c.args.host.now) c.turn-in-Ok-Call.ensures.some.1 c.if-turn-2.false in
     let left = c.turn-in-Ok-Call.ensures.turns in
     omega arith
 
 pub returns-else-turn-2-clause-grown : goal.returns-else-turn-2-clause-grown
 returns-else-turn-2-clause-grown g c =
     let old = g.H.Host.state c.args.host.now c.args.pages.now in
-    subst (λ (o : Option _). GrowsTold g.H.Host.fetched old o) (sym (c.turn-in-Ok-Call.ensures.state c.args.pages.now)) (grows_still c.args.machine.limits g.H.Host.meaning g.H.Host.fetched old)
+    subst (λ (o : Option _). GrowsTold g.H.Host.fetched old o)
+    (sym (c.turn-in-Ok-Call.ensures.state c.args.pages.now))
+    (grows_still c.args.machine.limits g.H.Host.meaning g.H.Host.fetched old)

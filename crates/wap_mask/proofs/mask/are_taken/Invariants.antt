@@ -6,4 +6,6 @@ use Rattle.wap_mask.specs.Reading.{is_taken}
 use Rattle.wap_mask.proofs.mask.are_taken.Given as goal
 
 abbrev pub invariant-loop-symbol : goal.invariant-loop-symbol
-invariant-loop-symbol l = shadow (Utf8 l.rest) × (is_taken (drop l.symbol-index l.symbols) (chars l.rest) ≡ is_taken l.symbols (chars l.text))
+invariant-loop-symbol l =
+    shadow (Utf8 l.rest)
+    × (is_taken (drop l.symbol-index l.symbols) (chars l.rest) ≡ is_taken l.symbols (chars l.text))

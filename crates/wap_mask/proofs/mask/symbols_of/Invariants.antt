@@ -7,7 +7,10 @@ use Rattle.wap_mask.specs.Reading.{symbols_of}
 use Rattle.wap_mask.proofs.mask.symbols_of.Given as goal
 
 abbrev pub invariant-loop-symbol : goal.invariant-loop-symbol
-invariant-loop-symbol l = shadow (Utf8 l.rest) × (option_map (λ more. l.symbols ++ more) (symbols_of (chars l.rest)) ≡ symbols_of (chars l.text))
+invariant-loop-symbol l =
+    shadow (Utf8 l.rest)
+    × (option_map (λ more. l.symbols ++ more) (symbols_of (chars l.rest))
+    ≡ symbols_of (chars l.text))
 
 abbrev pub decreases-loop-symbol : goal.decreases-loop-symbol
 decreases-loop-symbol l = length (chars l.rest)

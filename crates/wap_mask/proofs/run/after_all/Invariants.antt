@@ -6,7 +6,8 @@ use Rattle.wap_mask.specs.Reading.{after_all}
 use Rattle.wap_mask.proofs.run.after_all.Given as goal
 
 abbrev pub invariant-loop-character : goal.invariant-loop-character
-invariant-loop-character l = shadow (Utf8 l.rest) × (after_all l.class (chars l.rest) ≡ after_all l.class (chars l.text))
+invariant-loop-character l =
+    shadow (Utf8 l.rest) × (after_all l.class (chars l.rest) ≡ after_all l.class (chars l.text))
 
 abbrev pub decreases-loop-character : goal.decreases-loop-character
 decreases-loop-character l = length (chars l.rest)

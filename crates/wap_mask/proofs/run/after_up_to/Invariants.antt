@@ -6,4 +6,7 @@ use Rattle.wap_mask.specs.Reading.{after_up_to}
 use Rattle.wap_mask.proofs.run.after_up_to.Given as goal
 
 abbrev pub invariant-loop : goal.invariant-loop
-invariant-loop l = shadow (Utf8 l.rest) × (after_up_to l.class (l.most - l.counter) (chars l.rest) ≡ after_up_to l.class l.most (chars l.text))
+invariant-loop l =
+    shadow (Utf8 l.rest)
+    × (after_up_to l.class (l.most - l.counter) (chars l.rest)
+    ≡ after_up_to l.class l.most (chars l.text))

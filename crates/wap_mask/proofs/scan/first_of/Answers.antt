@@ -5,4 +5,5 @@ use Rattle.wap_mask.proofs.scan.first_of.Goals as goal
 
 pub returns : goal.returns
 returns c = chars_past_char c.args.text.now _ _ c.utf8.text
-    (sym c.chars-characters.ensures.rest ∙ c.in_ok-first.ensures.steps.0 ∙ ap (λ rest. encode_utf8 c.in_ok-first.first ++ rest) (sym c.as_str.ensures))
+    (sym c.chars-characters.ensures.rest ∙ c.in_ok-first.ensures.steps.0
+    ∙ ap (λ rest. encode_utf8 c.in_ok-first.first ++ rest) (sym c.as_str.ensures))

@@ -5,7 +5,8 @@ use Rattle.wap_requests.proofs.forms.form_text.Goals.{then-place-gt0+in_ok-push,
 
 pub loop-place-preserved : goal.loop-place-preserved
 loop-place-preserved c =
-    form-next c.args.posts.now c.loop-place.place c.index-posts-place.result c.loop-place.form c.if-place-gt0.form c.add.new.self
+    form-next c.args.posts.now c.loop-place.place c.index-posts-place.result c.loop-place.form
+    c.if-place-gt0.form c.add.new.self
     c.loop-place-test.true c.index-posts-place.is c.loop-place.invariant
     (λ behind. elim c.if-place-gt0.branch [
       | then-place-gt0+in_ok-push w ↦ w.form-is ∙ w.in_ok-push.ensures.ok
@@ -15,4 +16,5 @@ loop-place-preserved c =
       | then-place-gt0+in_ok-push w ↦ absurd (omega arith)
       | else-place-gt0 w ↦ w.form-is
     ])
-    (c.in_ok-add.ensures.ok ∙ ap (λ w. c.if-place-gt0.form ++ w) (c.as_str.ensures.characters ∙ c.in_ok-field_text.ensures))
+    (c.in_ok-add.ensures.ok
+    ∙ ap (λ w. c.if-place-gt0.form ++ w) (c.as_str.ensures.characters ∙ c.in_ok-field_text.ensures))

@@ -1,6 +1,9 @@
 use Rattle.std.proofs.Common.{rules}
 use Rattle.wap_scope.specs.inside.Globals.{scope_by}
-use Rattle.wap_scope.proofs.ExpressionParts.{literal_parts, variable_parts, step_parts, assignment_parts, unary_parts, chain_parts, choice_parts, local_parts, external_parts, library_parts}
+use Rattle.wap_scope.proofs.ExpressionParts.{literal_parts, variable_parts, step_parts}
+use Rattle.wap_scope.proofs.ExpressionParts.{assignment_parts, unary_parts, chain_parts}
+use Rattle.wap_scope.proofs.ExpressionParts.{choice_parts, local_parts, external_parts}
+use Rattle.wap_scope.proofs.ExpressionParts.{library_parts}
 use Rattle.wap_scope.proofs.expressions.+expressions.Goals as goal
 
 pub judge_expression-returns-in-Lit : goal.judge_expression-returns-in-Lit

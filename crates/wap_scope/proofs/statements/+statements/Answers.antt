@@ -1,7 +1,9 @@
 use Rattle.std.proofs.Common.{rules, Some, None, ap, ◌∙◌}
 use Rattle.wap_program.specs.declared.statement.Stmt.TheVariants as stmt
 use Rattle.wap_scope.specs.inside.Globals.{scope_by}
-use Rattle.wap_scope.proofs.StatementParts.{empty_parts, value_parts, block_parts, variables_parts, if_parts, while_parts, for_parts, break_parts, continue_parts, return_parts}
+use Rattle.wap_scope.proofs.StatementParts.{empty_parts, value_parts, block_parts, variables_parts}
+use Rattle.wap_scope.proofs.StatementParts.{if_parts, while_parts, for_parts, break_parts}
+use Rattle.wap_scope.proofs.StatementParts.{continue_parts, return_parts}
 use Rattle.wap_scope.proofs.statements.+statements.Goals as goal
 
 pub judge_statement-returns-in-Empty : goal.judge_statement-returns-in-Empty

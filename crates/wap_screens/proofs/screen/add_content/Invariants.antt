@@ -6,4 +6,5 @@ use Rattle.wap_screens.proofs.screen.add_content.Given as goal
 
 abbrev pub invariant-loop-line : goal.invariant-loop-line
 invariant-loop-line l =
-    l.lines ++ l.line-iterator.rest.items ≡ l.initial.lines ++ lines_of COLUMNS (flow_of l.vars l.card)
+    l.lines ++ l.line-iterator.rest.items
+    ≡ l.initial.lines ++ lines_of COLUMNS (flow_of l.vars l.card)

@@ -21,9 +21,13 @@ returns-in_err-write_all-2-clause-front g c =
     let after = g.O.Sink.written c.write_all-2.new.out in
     let number = decimal c.args.line in
     let rest = codes " " ++ (fault_name c.args.fault ++ codes "\n") in
-    let front = subst (λ (l : List ℕ). AppendsFront between after l) (c.as_bytes.ensures.value ∙ c.format.ensures.text) c.in_err-write_all-2.ensures.front in
-    on_err c.from_residual-in_err-write_all-2.result (AppendsFront before after (codes "wap: line " ++ (number ++ rest)))
-    (front_then before between after (codes "wap: line ") (number ++ rest) c.in_ok-write_all.ensures.whole (front_longer between after number rest front))
+    let front =
+    subst (λ (l : List ℕ). AppendsFront between after l)
+    (c.as_bytes.ensures.value ∙ c.format.ensures.text) c.in_err-write_all-2.ensures.front in
+    on_err c.from_residual-in_err-write_all-2.result
+    (AppendsFront before after (codes "wap: line " ++ (number ++ rest)))
+    (front_then before between after (codes "wap: line ")
+    (number ++ rest) c.in_ok-write_all.ensures.whole (front_longer between after number rest front))
 
 pub returns-clause-front : goal.returns-clause-front
 returns-clause-front g c =
@@ -33,6 +37,11 @@ returns-clause-front g c =
     let after = g.O.Sink.written c.write_all-3.new.out in
     let number = decimal c.args.line in
     let rest = codes " " ++ (fault_name c.args.fault ++ codes "\n") in
-    let second = subst (λ (l : List ℕ). Appends between behind l) (c.as_bytes.ensures.value ∙ c.format.ensures.text) c.in_ok-write_all-2.ensures.whole in
-    let both = Appends-then before between behind (codes "wap: line ") number c.in_ok-write_all.ensures.whole second in
-    front_line c.write_all-3.result before behind after (codes "wap: line " ++ number) c.fault_end.result.now rest both c.fault_end.ensures c.write_all-3.ensures.front
+    let second =
+    subst (λ (l : List ℕ). Appends between behind l)
+    (c.as_bytes.ensures.value ∙ c.format.ensures.text) c.in_ok-write_all-2.ensures.whole in
+    let both =
+    Appends-then before between behind
+    (codes "wap: line ") number c.in_ok-write_all.ensures.whole second in
+    front_line c.write_all-3.result before behind after (codes "wap: line " ++ number)
+    c.fault_end.result.now rest both c.fault_end.ensures c.write_all-3.ensures.front

@@ -6,4 +6,6 @@ use Rattle.wap_tokens.proofs.attrs.attr_beside.Given as goal
 
 -- what is left has what all have
 abbrev pub invariant-loop-row : goal.invariant-loop-row
-invariant-loop-row l = lookup (bytes_eq l.name) (attrs_by_name (drop l.row-index l.rows)) ≡ lookup (bytes_eq l.name) (attrs_by_name l.rows)
+invariant-loop-row l =
+    lookup (bytes_eq l.name) (attrs_by_name (drop l.row-index l.rows))
+    ≡ lookup (bytes_eq l.name) (attrs_by_name l.rows)

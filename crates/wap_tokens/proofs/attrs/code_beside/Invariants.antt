@@ -7,4 +7,8 @@ use Rattle.wap_tokens.proofs.attrs.code_beside.Given as goal
 
 -- what is left has what all have
 abbrev pub invariant-loop-row : goal.invariant-loop-row
-invariant-loop-row l = lookup (λ start. is_same_attr l.attr start.0 && bytes_eq l.text start.1) (codes_by_start (drop l.row-index l.rows)) ≡ lookup (λ start. is_same_attr l.attr start.0 && bytes_eq l.text start.1) (codes_by_start l.rows)
+invariant-loop-row l =
+    lookup (λ start. is_same_attr l.attr start.0 && bytes_eq l.text start.1)
+    (codes_by_start (drop l.row-index l.rows))
+    ≡ lookup (λ start. is_same_attr l.attr start.0 && bytes_eq l.text start.1)
+    (codes_by_start l.rows)

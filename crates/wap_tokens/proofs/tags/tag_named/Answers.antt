@@ -5,4 +5,6 @@ use Rattle.wap_tokens.proofs.tags.tag_named.Goals as goal
 
 pub returns : goal.returns
 unfolding tag_rows
-returns c = c.tag_beside.ensures ∙ tag_named-bytes c.as_str.result.now c.args.name.now c.as_str.ensures.bytes (sym c.as_str.ensures.characters)
+returns c =
+    c.tag_beside.ensures ∙ tag_named-bytes c.as_str.result.now c.args.name.now
+    c.as_str.ensures.bytes (sym c.as_str.ensures.characters)

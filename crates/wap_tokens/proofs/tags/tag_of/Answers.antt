@@ -9,8 +9,10 @@ returns-then-page-ne0 c = sym (tag_of-other_page c.args.page c.args.code c.if-pa
 pub returns-in-Some : goal.returns-in-Some
 unfolding tag_rows
 returns-in-Some c =
-    c.tag_at.ensures ∙ sym (tag_of-at c.args.page c.args.code c.in-Some.place c.if-page-ne0.false (omega arith) (sym c.tag_place.ensures ∙ c.in-Some.is))
+    c.tag_at.ensures ∙ sym (tag_of-at c.args.page c.args.code c.in-Some.place c.if-page-ne0.false
+    (omega arith) (sym c.tag_place.ensures ∙ c.in-Some.is))
 
 pub returns-in-None : goal.returns-in-None
 returns-in-None c =
-    sym (tag_of-free c.args.page c.args.code c.if-page-ne0.false (omega arith) (sym c.tag_place.ensures ∙ c.in-None.is))
+    sym (tag_of-free c.args.page c.args.code c.if-page-ne0.false (omega arith)
+    (sym c.tag_place.ensures ∙ c.in-None.is))

@@ -4,4 +4,6 @@ use Rattle.wap_base.proofs.NameLaws.{name-encode}
 use Rattle.wap_vars.proofs.vars.names_variable.Goals as goal
 
 pub returns : goal.returns
-returns c = c.is_name.ensures ∙ ap is_name (c.as_bytes.ensures.value ∙ c.as_str.ensures.bytes) ∙ name-encode c.args.text.now
+returns c =
+    c.is_name.ensures ∙ ap is_name (c.as_bytes.ensures.value ∙ c.as_str.ensures.bytes)
+    ∙ name-encode c.args.text.now

@@ -11,7 +11,8 @@ unfolding attributes_at all_by
 loop-init c =
     let input = c.args.input.now in
     begins (next_attribute input) (as_short input.total)
-    (length c.args.bytes.now) c.new-attributes.result c.args.state.now c.args.bytes.now c.new-attributes.ensures
+    (length c.args.bytes.now)
+    c.new-attributes.result c.args.state.now c.args.bytes.now c.new-attributes.ensures
 
 pub loop-preserved : goal.loop-preserved
 loop-preserved c =
@@ -24,4 +25,5 @@ loop-preserved c =
     (one_more (next_attribute input) (as_short input.total)
     (length bytes) c.loop.counter c.loop.attributes c.loop.state c.loop.rest.now
     (attributes_at input c.args.state.now bytes)
-    c.in-Some.attribute c.next_attribute.new.state c.in_ok-attribute.behind.now c.loop-test.true first c.loop.invariant)
+    c.in-Some.attribute c.next_attribute.new.state c.in_ok-attribute.behind.now c.loop-test.true
+    first c.loop.invariant)

@@ -16,7 +16,8 @@ returns-clause-only c = λ document is.
     (document_again c.args.bytes.now document is) c.read_document.ensures
 
 pub returns-clause-refused : goal.returns-clause-refused
-returns-clause-refused c = refused_is c.args.bytes.now c.read_document.result c.read_document.ensures
+returns-clause-refused c =
+    refused_is c.args.bytes.now c.read_document.result c.read_document.ensures
 
 pub returns-clause-first : goal.returns-clause-first
 returns-clause-first c = λ fault refused.

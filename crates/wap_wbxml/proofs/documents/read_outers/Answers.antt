@@ -11,7 +11,8 @@ unfolding outers_at all_by
 loop-init c =
     let input = c.args.input.now in
     begins (next_outer input) as_none
-    (length c.args.bytes.now) c.new-instructions.result c.args.state.now c.args.bytes.now c.new-instructions.ensures
+    (length c.args.bytes.now)
+    c.new-instructions.result c.args.state.now c.args.bytes.now c.new-instructions.ensures
 
 pub loop-preserved : goal.loop-preserved
 loop-preserved c =
@@ -21,6 +22,8 @@ loop-preserved c =
     ∙ ap (λ (item : Option Attr). Ok
     ((item, c.next_outer.new.state), c.in_ok-instruction.behind.now)) c.in-Some.is in
     rw c.in_ok-add-in-Some.ensures.ok
-    (one_more (next_outer input) as_none (length bytes) c.loop.counter c.loop.instructions c.loop.state c.loop.rest.now
+    (one_more (next_outer input) as_none
+    (length bytes) c.loop.counter c.loop.instructions c.loop.state c.loop.rest.now
     (outers_at input c.args.state.now bytes)
-    c.in-Some.instruction c.next_outer.new.state c.in_ok-instruction.behind.now c.loop-test.true first c.loop.invariant)
+    c.in-Some.instruction c.next_outer.new.state c.in_ok-instruction.behind.now c.loop-test.true
+    first c.loop.invariant)

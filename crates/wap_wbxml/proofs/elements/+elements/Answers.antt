@@ -19,12 +19,14 @@ read_kids-loop-preserved t c =
     let bytes = c.args.bytes.now in
     let inner = element_at input c.args.levels in
     let first = c.in_ok-kid.ensures
-    ∙ ap (λ (item : Option Kid). Ok ((item, c.next_kid.new.state), c.in_ok-kid.behind.now)) c.in-Some.is in
+    ∙ ap (λ (item : Option Kid). Ok ((item, c.next_kid.new.state), c.in_ok-kid.behind.now))
+    c.in-Some.is in
     rw c.in_ok-add-in-Some.ensures.ok
     (one_more (next_kid input inner) (as_short input.total)
     (length bytes) c.loop.counter c.loop.kids c.loop.state c.loop.rest.now
     (kids_at input inner c.args.state.now bytes)
-    c.in-Some.kid c.next_kid.new.state c.in_ok-kid.behind.now c.loop-test.true first c.loop.invariant)
+    c.in-Some.kid c.next_kid.new.state c.in_ok-kid.behind.now c.loop-test.true first
+    c.loop.invariant)
 
 pub read_element-returns : goal.read_element-returns
 read_element-returns t c =

@@ -4,4 +4,6 @@ use Rattle.wap_words.specs.Words.{browse_form}
 use Rattle.wap_words.proofs.matching.browse_matches.Goals as goal
 
 pub returns : goal.returns
-returns c = IfOk-weaker c.matches_by.result _ _ (λ matches by. by c.args.word.now browse_form c.in_ok-browse_parser.ensures refl) c.matches_by.ensures
+returns c =
+    IfOk-weaker c.matches_by.result _ _ (λ matches by.
+    by c.args.word.now browse_form c.in_ok-browse_parser.ensures refl) c.matches_by.ensures

@@ -9,8 +9,10 @@ use Rattle.wap_words.proofs.matching.browse_parser.Goals as goal
 pub returns : goal.returns
 returns c =
     let word = c.args.word.now in
-    let begun_is : app_of c.disable_help_flag.result ≡ on_top (λ (s : Shape). record s { disable_help_flag = true }) (new_app word) =
-    ap app_of_fields c.disable_help_flag.ensures ∙ ap (on_top (λ (s : Shape). record s { disable_help_flag = true })) c.new.ensures.app in
+    let begun_is : app_of c.disable_help_flag.result
+    ≡ on_top (λ (s : Shape). record s { disable_help_flag = true }) (new_app word) =
+    ap app_of_fields c.disable_help_flag.ensures
+    ∙ ap (on_top (λ (s : Shape). record s { disable_help_flag = true })) c.new.ensures.app in
     let url_is : rule_of c.new-2.result ≡ new_rule (codes "url") = search rules in
     let seed_is : rule_of c.long.result ≡ option_named (codes "seed") = search rules in
     let budget_is : rule_of c.long-2.result ≡ option_named (codes "budget") = search rules in
@@ -18,4 +20,5 @@ returns c =
     let one = c.in_ok-arg.ensures.shape (search rules) ∙ ap₂ with_rule begun_is url_is in
     let two = c.in_ok-arg-2.ensures.shape (search rules) ∙ ap₂ with_rule one seed_is in
     let three = c.in_ok-arg-3.ensures.shape (search rules) ∙ ap₂ with_rule two budget_is in
-    IfOk-weaker c.arg-4.result _ (λ parser. app_of parser ≡ app_by word browse_form) (λ parser added. added.shape (search rules) ∙ ap₂ with_rule three cache_is) c.arg-4.ensures
+    IfOk-weaker c.arg-4.result _ (λ parser. app_of parser ≡ app_by word browse_form)
+    (λ parser added. added.shape (search rules) ∙ ap₂ with_rule three cache_is) c.arg-4.ensures

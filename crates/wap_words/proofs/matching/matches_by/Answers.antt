@@ -6,9 +6,12 @@ use Rattle.wap_words.proofs.matching.matches_by.Goals as goal
 pub returns-in-Ok : goal.returns-in-Ok
 returns-in-Ok c name form is apart =
     let words = map (λ (word : Bor (List ℕ)). word.now) c.args.words.now in
-    are_matched (record { name = name; form = form; apart = apart }) c.args.parser words c.in-Ok.matches is c.requires c.in-Ok.ensures.kinds c.in-Ok.ensures.matches
+    are_matched (record { name = name; form = form; apart = apart })
+    c.args.parser words c.in-Ok.matches is c.requires c.in-Ok.ensures.kinds c.in-Ok.ensures.matches
 
 pub returns : goal.returns
 returns c name form is apart =
     let words = map (λ (word : Bor (List ℕ)). word.now) c.args.words.now in
-    are_refused (record { name = name; form = form; apart = apart }) c.args.parser words c.in-Err.error is c.requires (λ want. c.in_default.not-OutOfMemory (c.kind.ensures ∙ want)) c.in-Err.ensures.kinds
+    are_refused (record { name = name; form = form; apart = apart })
+    c.args.parser words c.in-Err.error is c.requires
+    (λ want. c.in_default.not-OutOfMemory (c.kind.ensures ∙ want)) c.in-Err.ensures.kinds

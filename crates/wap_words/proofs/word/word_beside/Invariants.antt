@@ -6,4 +6,6 @@ use Rattle.wap_words.proofs.word.word_beside.Given as goal
 
 -- what is left has what all have
 abbrev pub invariant-loop-row : goal.invariant-loop-row
-invariant-loop-row l = lookup (bytes_eq l.name) (by_name (drop l.row-index l.rows)) ≡ lookup (bytes_eq l.name) (by_name l.rows)
+invariant-loop-row l =
+    lookup (bytes_eq l.name) (by_name (drop l.row-index l.rows))
+    ≡ lookup (bytes_eq l.name) (by_name l.rows)

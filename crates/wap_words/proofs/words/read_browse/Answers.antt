@@ -11,8 +11,16 @@ use Rattle.wap_words.proofs.words.read_browse.Goals as goal
 
 pub returns-in-Some : goal.returns-in-Some
 returns-in-Some c =
-    let words : map (λ (word : Bor (List ℕ)). word.now) c.deref.result.now ≡ map encode_utf8_all c.args.words.now =
-    ap (map (λ (word : Bor (List ℕ)). word.now)) c.deref.ensures.value ∙ c.in_ok-texts.ensures.same in
-    let matched = subst (λ (m : Option ArgMatches). AreMatched m (uses_of browse_form (drop 1 (map (λ (word : Bor (List ℕ)). word.now) c.deref.result.now)))) c.in-Some.is c.in_ok-matches.ensures in
-    IfOk-weaker c.browse_in.result _ (λ said. said ≡ option_and_then browse_of (uses_of browse_form (drop 1 (map encode_utf8_all c.args.words.now))))
-    (λ said is. is ∙ browse_given c.in-Some.matches _ matched ∙ ap (λ (l : List (List ℕ)). option_and_then browse_of (uses_of browse_form (drop 1 l))) words) c.browse_in.ensures
+    let words : map (λ (word : Bor (List ℕ)). word.now) c.deref.result.now
+    ≡ map encode_utf8_all c.args.words.now =
+    ap (map (λ (word : Bor (List ℕ)). word.now)) c.deref.ensures.value
+    ∙ c.in_ok-texts.ensures.same in
+    let matched =
+    subst (λ (m : Option ArgMatches). AreMatched m
+    (uses_of browse_form (drop 1 (map (λ (word : Bor (List ℕ)). word.now) c.deref.result.now))))
+    c.in-Some.is c.in_ok-matches.ensures in
+    IfOk-weaker c.browse_in.result _ (λ said.
+    said ≡ option_and_then browse_of
+    (uses_of browse_form (drop 1 (map encode_utf8_all c.args.words.now))))
+    (λ said is. is ∙ browse_given c.in-Some.matches _ matched ∙ ap (λ (l : List (List ℕ)).
+    option_and_then browse_of (uses_of browse_form (drop 1 l))) words) c.browse_in.ensures

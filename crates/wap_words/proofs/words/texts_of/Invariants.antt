@@ -6,6 +6,7 @@ use Rattle.wap_words.proofs.words.texts_of.Given as goal
 
 abbrev pub invariant-loop-word : goal.invariant-loop-word
 invariant-loop-word l = record {
-  same : map (λ (text : Bor (List ℕ)). text.now) l.texts.items ≡ map encode_utf8_all (take l.word-index l.words);
+  same : map (λ (text : Bor (List ℕ)). text.now) l.texts.items
+      ≡ map encode_utf8_all (take l.word-index l.words);
   texts : AreTexts (map encode_utf8_all (take l.word-index l.words));
 }

@@ -6,5 +6,8 @@ use Rattle.wap_base.proofs.store.MemStoreStore.list.Goals as goal
 
 pub returns-clause-ascending : goal.returns-clause-ascending
 returns-clause-ascending c =
-    let apart : AreDistinct c.in_ok-names.names.items = subst AreDistinct (sym (c.in_ok-names.ensures ∙ ap names_of c.as_slice.ensures.value)) c.self.invariant.distinct in
-    ascending_from_distinct c.in_ok-names.names.items c.sort.new.self.items apart c.in_ok-sort.ensures.permutation c.in_ok-sort.ensures.sorted
+    let apart : AreDistinct c.in_ok-names.names.items =
+    subst AreDistinct (sym (c.in_ok-names.ensures ∙ ap names_of c.as_slice.ensures.value))
+    c.self.invariant.distinct in
+    ascending_from_distinct c.in_ok-names.names.items c.sort.new.self.items apart
+    c.in_ok-sort.ensures.permutation c.in_ok-sort.ensures.sorted

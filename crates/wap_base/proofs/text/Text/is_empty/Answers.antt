@@ -11,6 +11,9 @@ pub returns : goal.returns
 returns c =
     let text = c.as_str.result.now in
     let same = c.as_str.ensures.value in (
-      λ empty. sym c.self.view_is ∙ ap chars (sym same ∙ nil_from_length text (eqb-true (length text) 0 (sym c.is_empty.ensures ∙ empty))) ∙ chars-nil,
-      λ none. c.is_empty.ensures ∙ eq-eqb (length text) 0 (ap length (same ∙ nil-from_chars (string_bytes c.self.inside.inner) (IsUtf8-string_bytes c.self.inside.inner) (c.self.view_is ∙ none))),
+      λ empty. sym c.self.view_is ∙ ap chars (sym same ∙ nil_from_length text
+          (eqb-true (length text) 0 (sym c.is_empty.ensures ∙ empty))) ∙ chars-nil,
+      λ none. c.is_empty.ensures ∙ eq-eqb (length text) 0
+          (ap length (same ∙ nil-from_chars (string_bytes c.self.inside.inner)
+          (IsUtf8-string_bytes c.self.inside.inner) (c.self.view_is ∙ none))),
     )

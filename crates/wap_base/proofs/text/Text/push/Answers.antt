@@ -8,5 +8,6 @@ use Rattle.wap_base.proofs.text.Text.push.Goals as goal
 pub returns-clause-ok : goal.returns-clause-ok
 returns-clause-ok c =
     ap chars (c.in_ok-push.ensures.bytes)
-    ∙ chars-push (string_bytes c.self.inside.inner) c.args.character (IsUtf8-string_bytes c.self.inside.inner) c.ranges.character.0
+    ∙ chars-push (string_bytes c.self.inside.inner) c.args.character
+    (IsUtf8-string_bytes c.self.inside.inner) c.ranges.character.0
     ∙ ap (λ cs. cs ++ c.args.character ∷ []) c.self.view_is

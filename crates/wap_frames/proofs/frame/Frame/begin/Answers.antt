@@ -8,8 +8,12 @@ use Rattle.wap_frames.proofs.frame.Frame.begin.Goals as goal
 
 pub invariant_of-result : goal.invariant_of-result
 invariant_of-result c =
-    let unit : c.deref-4.result.now ≡ arc_value (arc_value c.args.script).unit = c.deref-4.ensures ∙ ap (λ (s : Script). arc_value s.unit) c.deref-3.ensures in
-    let room = subst (λ (u : CodeUnit). (code : Code) → slice_get u.functions c.args.index ≡ Some code → IsRoom u c.args.index code c.room.result) unit c.room.ensures in
+    let unit : c.deref-4.result.now ≡ arc_value (arc_value c.args.script).unit =
+    c.deref-4.ensures ∙ ap (λ (s : Script). arc_value s.unit) c.deref-3.ensures in
+    let room =
+    subst (λ (u : CodeUnit). (code : Code)
+    → slice_get u.functions c.args.index ≡ Some code
+    → IsRoom u c.args.index code c.room.result) unit c.room.ensures in
     record {
       covers = λ code at values found reached.
           let fits = (room code found).covers at values reached in

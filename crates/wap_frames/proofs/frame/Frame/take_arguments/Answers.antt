@@ -11,15 +11,21 @@ returns-clause-arguments c =
     let same = ap (λ (f : Frame). f.operands) c.self.view_is in
     let items = c.self.inside.operands.items in
     let enough = ap (λ (l : List Value). length l) same in
-    let all : c.len.result - c.args.count + c.args.count ≡ length items = omega (arith, length-reverse items, enough) in
-    c.in_ok-split_off.ensures.tail ∙ arguments_of items (c.len.result - c.args.count) c.args.count all ∙ ap (λ (l : List Value). reverse (take c.args.count l)) same
+    let all : c.len.result - c.args.count + c.args.count ≡ length items =
+    omega (arith, length-reverse items, enough) in
+    c.in_ok-split_off.ensures.tail
+    ∙ arguments_of items (c.len.result - c.args.count) c.args.count all
+    ∙ ap (λ (l : List Value). reverse (take c.args.count l)) same
 
 pub returns-clause-rest : goal.returns-clause-rest
 returns-clause-rest c =
     let same = ap (λ (f : Frame). f.operands) c.self.view_is in
     let items = c.self.inside.operands.items in
     let enough = ap (λ (l : List Value). length l) same in
-    let all : c.len.result - c.args.count + c.args.count ≡ length items = omega (arith, length-reverse items, enough) in
+    let all : c.len.result - c.args.count + c.args.count ≡ length items =
+    omega (arith, length-reverse items, enough) in
     ap (λ (f : Frame). with_operands (reverse c.split_off.new.self.items) f) c.self.view_is
     ∙ ap (λ (l : List Value). with_operands l c.args.self.now)
-    (ap (λ (l : List Value). reverse l) c.in_ok-split_off.ensures.items ∙ rest_of items (c.len.result - c.args.count) c.args.count all ∙ ap (λ (l : List Value). drop c.args.count l) same)
+    (ap (λ (l : List Value). reverse l) c.in_ok-split_off.ensures.items
+    ∙ rest_of items (c.len.result - c.args.count) c.args.count all
+    ∙ ap (λ (l : List Value). drop c.args.count l) same)

@@ -9,10 +9,14 @@ use Rattle.wap_machine.specs.inside.Goings.{IsLast, ends, does}
 use Rattle.wap_machine.specs.inside.Advances.{wanted_for, HasStepped, at_end, done, IsAdvanced}
 use Rattle.wap_machine.proofs.machine.Machine.advance.Goals as goal
 
-last_step : (limits : Limits) (now new : Frame) (outer : List Frame) (next : Next) (wanted : Wanted) → AreStacked limits now 0 outer → IsLast limits.string now new next → wanted ≡ wanted_for limits new outer next
+last_step : (limits : Limits) (now new : Frame) (outer : List Frame) (next : Next) (wanted : Wanted)
+    → AreStacked limits now 0 outer → IsLast limits.string now new next
+    → wanted ≡ wanted_for limits new outer next
     → HasStepped limits (now ∷ outer) wanted
-last_step limits now new outer next wanted stacked (ends place gives_empty) is = at_end now outer refl place (is ∙ ap (λ (n : Next). wanted_for limits new outer n) gives_empty)
-last_step limits now new outer next wanted stacked (does within acts) is = done now new outer next refl stacked within acts is
+last_step limits now new outer next wanted stacked (ends place gives_empty) is =
+    at_end now outer refl place (is ∙ ap (λ (n : Next). wanted_for limits new outer n) gives_empty)
+last_step limits now new outer next wanted stacked (does within acts) is =
+    done now new outer next refl stacked within acts is
 
 pub returns-in-Ok : goal.returns-in-Ok
 returns-in-Ok c =
@@ -21,13 +25,20 @@ returns-in-Ok c =
     let limits = c.self.inside.limits in
     let stacked = c.self.invariant in
     let gone = c.in-Ok.ensures.gone in
-    let now_stacked : AreStacked limits gone.now 0 outer = record { limits_fit = stacked.limits_fit; innermost = gone.passed.stands; others = stacked.others; few = stacked.few } in
+    let now_stacked : AreStacked limits gone.now 0 outer = record {
+      limits_fit = stacked.limits_fit;
+      innermost = gone.passed.stands;
+      others = stacked.others;
+      few = stacked.few;
+    } in
     let advanced : IsAdvanced limits (frame ∷ outer) c.want_for.result = record {
       frame = frame;
       outer = outer;
       are = refl;
       now = gone.now;
       passed = gone.passed;
-      last = last_step limits gone.now c.go_on.new.frame outer c.in-Ok.next c.want_for.result now_stacked gone.last c.want_for.ensures;
+      last =
+          last_step limits gone.now c.go_on.new.frame outer c.in-Ok.next c.want_for.result
+          now_stacked gone.last c.want_for.ensures;
     } in
     subst (λ (s : Stack). IsAdvanced s.limits s.frames c.want_for.result) c.self.view_is advanced

@@ -5,7 +5,8 @@ use Rattle.wap_machine.proofs.machine.Machine.run.Given as goal
 
 abbrev pub invariant-loop-next : goal.invariant-loop-next
 invariant-loop-next g l = record {
-  runs : Runs g.H.Host.meaning g.H.Host.fetched l.fn.self l.machine (g.H.Host.turns l.fn.host) (g.H.Host.turns l.host)
+  runs : Runs g.H.Host.meaning g.H.Host.fetched l.fn.self l.machine (g.H.Host.turns l.fn.host)
+      (g.H.Host.turns l.host)
       (g.H.Host.state l.fn.host l.fn.pages) (g.H.Host.state l.host l.pages);
   faults : g.H.Host.faults l.fn.pages ≤ g.H.Host.faults l.pages;
   fetches : g.H.Host.fetches l.fn.pages ≤ g.H.Host.fetches l.pages;

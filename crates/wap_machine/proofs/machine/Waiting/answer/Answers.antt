@@ -7,5 +7,8 @@ use Rattle.wap_machine.proofs.machine.Waiting.answer.Goals as goal
 pub returns-clause-light : goal.returns-clause-light
 returns-clause-light c =
     let stacked = c.self.invariant in
-    subst (λ (f : Frame). length (code_of f.function) - f.place + 1 + weight (reverse c.self.inside.outer.items) < heavy) (sym c.push.ensures)
-    (light c.self.inside.frame 1 (reverse c.self.inside.outer.items) stacked.innermost stacked.others stacked.few)
+    subst (λ (f : Frame).
+    length (code_of f.function) - f.place + 1 + weight (reverse c.self.inside.outer.items) < heavy)
+    (sym c.push.ensures)
+    (light c.self.inside.frame 1
+    (reverse c.self.inside.outer.items) stacked.innermost stacked.others stacked.few)

@@ -12,7 +12,13 @@ returns-clause-light c =
     let outer : List Frame = reverse c.self.inside.outer.items in
     let frame : Frame = c.self.inside.frame in
     let begun = c.in_ok-inner.ensures in
-    let few : length (frame ∷ outer) < MOST_DEPTH = subst (λ (s : Stack). length s.frames < MOST_DEPTH) (sym c.self.view_is) c.requires.few in
-    let items : reverse c.push.new.self.items ≡ frame ∷ outer = ap (λ (l : List Frame). reverse l) c.in_ok-push.ensures.items ∙ turned c.self.inside.outer.items frame in
-    subst (λ (l : List Frame). length (code_of c.in_ok-inner.inner.function) - c.in_ok-inner.inner.place + 1 + weight l < heavy) (sym items)
-    (light c.in_ok-inner.inner 0 (frame ∷ outer) begun.stands (stacked.innermost, stacked.others) few)
+    let few : length (frame ∷ outer) < MOST_DEPTH =
+    subst (λ (s : Stack). length s.frames < MOST_DEPTH) (sym c.self.view_is) c.requires.few in
+    let items : reverse c.push.new.self.items ≡ frame ∷ outer =
+    ap (λ (l : List Frame). reverse l) c.in_ok-push.ensures.items
+    ∙ turned c.self.inside.outer.items frame in
+    subst (λ (l : List Frame).
+    length (code_of c.in_ok-inner.inner.function) - c.in_ok-inner.inner.place + 1 + weight l
+    < heavy) (sym items)
+    (light c.in_ok-inner.inner 0 (frame ∷ outer) begun.stands
+    (stacked.innermost, stacked.others) few)

@@ -3,7 +3,8 @@ use Rattle.std.proofs.lemmas.Result.{err_from_is_err_and}
 use Rattle.std.proofs.lemmas.List.{take_all}
 use Rattle.wap_input.specs.declared.key.Key.{Key}
 use Rattle.wap_session.specs.Feeding.{State}
-use Rattle.wap_session.proofs.Playing.{Played, plays_none, plays_more, plays_failing, plays_wanting, around, one_more}
+use Rattle.wap_session.proofs.Playing.{Played, plays_none, plays_more, plays_failing}
+use Rattle.wap_session.proofs.Playing.{plays_wanting, around, one_more}
 use Rattle.wap_session.proofs.session.Session.play.Goals as goal
 
 pub loop-key-init : goal.loop-key-init

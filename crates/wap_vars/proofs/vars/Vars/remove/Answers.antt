@@ -5,7 +5,9 @@ use Rattle.wap_vars.proofs.SetLaws.{vars_removed}
 use Rattle.wap_vars.proofs.vars.Vars.remove.Goals as goal
 
 pub invariant_of-self : goal.invariant_of-self
-invariant_of-self c = vars_removed c.self.inside.texts.entries _ _ c.self.invariant c.remove.ensures.entries c.remove.ensures.ordered (omega (arith, c.remove.ensures.len))
+invariant_of-self c =
+    vars_removed c.self.inside.texts.entries _ _ c.self.invariant c.remove.ensures.entries
+    c.remove.ensures.ordered (omega (arith, c.remove.ensures.len))
 
 pub returns-clause-removed : goal.returns-clause-removed
 returns-clause-removed c =
@@ -23,6 +25,7 @@ returns-clause-here c =
 pub returns-clause-elsewhere : goal.returns-clause-elsewhere
 returns-clause-elsewhere c = λ other apart.
     sym (lookup_by_order other c.remove.new.self.entries)
-    ∙ c.remove.ensures.updates.2 other (other_place c.text.result.now other (λ same. apart (same ∙ c.text.ensures.same)))
+    ∙ c.remove.ensures.updates.2 other
+    (other_place c.text.result.now other (λ same. apart (same ∙ c.text.ensures.same)))
     ∙ lookup_by_order other c.self.inside.texts.entries
     ∙ ap (λ (vars : List (List ℕ × List ℕ)). text_of vars other) c.self.view_is
