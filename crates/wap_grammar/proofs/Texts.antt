@@ -1,16 +1,25 @@
 -- Strings that are tokens stand for texts: what stands between their quotes is UTF-8, and no escape
 -- has the number of a surrogate.
-use Rattle.std.proofs.Common.{◌≡◌, ℕ, zero, suc, ◌-◌, ◌<◌, ◌≤◌, nat_le, nat_lt, Bool, true}
+use Rattle.std.proofs.Common.{◌≡◌, ℕ, zero, suc, ◌+◌, ◌-◌, ◌<◌, ◌≤◌, nat_le, nat_lt, Bool, true}
 use Rattle.std.proofs.Common.{false, cond, ◌==◌, ◌&&◌, ◌||◌, List, [], ◌∷◌, ◌++◌, length, take}
-use Rattle.std.proofs.Common.{encode_utf8, encode_utf8_all, refl, sym, ap, subst, ◌∙◌, inl, inr}
-use Rattle.std.proofs.Common.{◌⊎◌, length-append, append_assoc, arith}
+use Rattle.std.proofs.Common.{drop, Some, None, encode_utf8, encode_utf8_all, refl, sym, ap, subst}
+use Rattle.std.proofs.Common.{◌∙◌, inl, inr, ◌⊎◌, length-append, append_assoc, arith}
+use Rattle.std.specs.List.{All}
 use Rattle.std.specs.Str.{IsUtf8, chars, all_scalars}
 use Rattle.std.specs.Int.{is_in_range}
 use Rattle.std.proofs.Math.Utf8.{scalar, low_scalar}
-use Rattle.std.proofs.Math.Seq.{take-append_seam}
+use Rattle.std.proofs.Math.Seq.{drop-append_seam, take-append_seam}
 use Rattle.std.proofs.lemmas.Bool.{cases_lt, eqb-true, eq-eqb, ne_eqb, le-leb, lt-leb, le-ltb}
 use Rattle.std.proofs.lemmas.Bool.{lt-ltb, leb-true, and_from, and_parts, or_parts}
 use Rattle.std.proofs.lemmas.Str.{encode_ascii, chars-encodes}
+use Rattle.std.proofs.lemmas.List.Elements.{All-nil, All-cons}
+use Rattle.wap_lex.specs.declared.token.Kind.{Kind}
+use Rattle.wap_lex.specs.declared.token.Kind.TheVariants as kind
+use Rattle.wap_lex.specs.declared.token.Token.{Token}
+use Rattle.wap_lex.specs.declared.shape.Shape.{Shape}
+use Rattle.wap_lex.specs.declared.shape.Shape.TheVariants as shape
+use Rattle.wap_lex.specs.Words.{is_reserved}
+use Rattle.wap_lex.specs.Tokens.{IsShape, kind_of, token_before, Lexes, ends, piece, AreTokens}
 use Rattle.wap_base.proofs.Utf8Cuts.{AllHigh, high_bytes, encode_some}
 use Rattle.wap_lex.specs.Characters.{is_digit, is_octal_digit, is_hexadecimal_digit, is_quote}
 use Rattle.wap_lex.specs.Numbers.{with_digit, digit_value}
@@ -634,10 +643,71 @@ string_text cs before bytes rest scalars e (quoted quote items is are) =
       subst (λ (z : List ℕ). all_scalars (unescaped z) ≡ true) (sym characters) sound,
     )
 
--- ---- in a source that is UTF-8
+-- ---- the tokens of a source
 
-pub text_of : (src before text rest : List ℕ) → IsUtf8 src → src ≡ before ++ (text ++ rest) →
-    IsString text → StandsForText text
-text_of src before text rest utf8 is string = by_utf8 utf8 where
-  by_utf8 : IsUtf8 src → StandsForText text
-  by_utf8 (cs, (scalars, spells)) = string_text cs before text rest scalars (spells ∙ is) string
+abbrev pub Textual : List ℕ → Token → Type 0
+Textual src token = token.kind ≡ kind.Str →
+    StandsForText (take (token.to - token.from) (drop token.from src))
+
+module _ (src cs : List ℕ) (scalars : all_scalars cs ≡ true)
+    (spells : encode_utf8_all cs ≡ src) where
+  one_more : (k : Kind) (from to : ℕ) (tokens : List Token) →
+      Textual src (record { kind = k; from = from; to = to }) → All (Textual src) tokens →
+      All (Textual src) (record { kind = k; from = from; to = to } ∷ tokens)
+  one_more k from to tokens this others = All-cons (Textual src)
+      (record { kind = k; from = from; to = to }) tokens this others
+
+  no_string : (k : Kind) (from to : ℕ) → (k ≡ kind.Str → ⊥) →
+      Textual src (record { kind = k; from = from; to = to })
+  no_string k from to other = λ e. absurd (other e)
+
+  word_kind : (b : Bool) → cond b kind.Reserved kind.Name ≡ kind.Str → ⊥
+  word_kind true e = absurd cc
+  word_kind false e = absurd cc
+
+  with_shape : (at : ℕ) (s : Shape) (before text rest : List ℕ) (tokens : List Token) →
+      at ≡ length before → src ≡ before ++ (text ++ rest) → (s ≡ shape.Str → IsString text) →
+      All (Textual src) tokens →
+      All (Textual src) (token_before (kind_of s text) at (at + length text) tokens)
+  with_shape at shape.Blank before text rest tokens place is fits others = others
+  with_shape at shape.Comment before text rest tokens place is fits others = others
+  with_shape at shape.Word before text rest tokens place is fits others =
+      one_more (cond (is_reserved text) kind.Reserved kind.Name) at (at + length text) tokens
+      (no_string (cond (is_reserved text) kind.Reserved kind.Name) at (at + length text)
+      (word_kind (is_reserved text))) others
+  with_shape at shape.Integer before text rest tokens place is fits others =
+      one_more kind.Int at (at + length text) tokens
+      (no_string kind.Int at (at + length text) (λ e. absurd cc)) others
+  with_shape at shape.Float before text rest tokens place is fits others =
+      one_more kind.Float at (at + length text) tokens
+      (no_string kind.Float at (at + length text) (λ e. absurd cc)) others
+  with_shape at shape.Mark before text rest tokens place is fits others =
+      one_more kind.Mark at (at + length text) tokens
+      (no_string kind.Mark at (at + length text) (λ e. absurd cc)) others
+  with_shape at shape.Str before text rest tokens place is fits others =
+      let count : at + length text - at ≡ length text = omega arith in
+      let here : take (at + length text - at) (drop at src) ≡ text =
+      ap (λ (n : ℕ). take n (drop at src)) count
+      ∙ ap (λ (n : ℕ). take (length text) (drop n src)) place
+      ∙ ap (λ (z : List ℕ). take (length text) (drop (length before) z)) is
+      ∙ ap (take (length text)) (drop-append_seam before (text ++ rest))
+      ∙ take-append_seam text rest in
+      one_more kind.Str at (at + length text) tokens
+      (λ e. subst StandsForText (sym here) (string_text cs before text rest scalars (spells ∙ is)
+      (fits refl))) others
+
+  lexed_texts : (at : ℕ) (bytes : List ℕ) (tokens : List Token) → Lexes at bytes tokens →
+      (before : List ℕ) → at ≡ length before → src ≡ before ++ bytes → All (Textual src) tokens
+  lexed_texts at bytes tokens (ends at') before place is = All-nil (Textual src)
+  lexed_texts at bytes tokens (piece at' s text rest others fits range lexed) before place is =
+      with_shape at s before text rest others place is
+      (λ e. subst (λ (t : Shape). IsShape t text) e fits.fits)
+      (lexed_texts (at + length text) rest others lexed (before ++ text) (omega
+      (arith, place, length-append before text)) (is ∙ sym (append_assoc before text rest)))
+
+pub texts_of : (src : List ℕ) (tokens : List Token) → AreTokens src tokens →
+    All (Textual src) tokens
+texts_of src tokens are = by_utf8 are.text where
+  by_utf8 : IsUtf8 src → All (Textual src) tokens
+  by_utf8 (cs, (scalars, spells)) =
+      lexed_texts src cs scalars spells 0 src tokens are.lexed [] refl refl

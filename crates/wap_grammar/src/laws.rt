@@ -1,10 +1,12 @@
 //! What holds of the grammar.
-ghost use Rattle.std.specs.Prelude.{◌≡◌, ◌++◌, ℕ, List};
-ghost use Rattle.std.specs.Str.{IsUtf8};
-ghost use Rattle.wap_lex.specs.Strings.{IsString};
+ghost use Rattle.std.specs.Prelude.{◌≡◌, ℕ, List, All};
+ghost use Rattle.wap_lex.specs.declared.token.Token.{Token};
+ghost use Rattle.wap_lex.specs.declared.token.Kind.TheVariants.{Str};
+ghost use Rattle.wap_lex.specs.Tokens.{AreTokens};
 ghost use Rattle.wap_grammar.specs.declared.lexeme.Lexeme.{Lexeme};
 ghost use Rattle.wap_grammar.specs.Programs.{Spells};
 ghost use Rattle.wap_grammar.specs.Texts.{StandsForText};
+ghost use Rattle.wap_grammar.specs.Words.{text_in, lexeme_of};
 ghost use Rattle.wap_program.specs.declared.program.Program.{Program};
 
 /// No tokens are spelled by two programs.
@@ -13,9 +15,9 @@ pub fn one_program()
         Spells src p lexemes → Spells src q lexemes → p ≡ q }
 {}
 
-/// A string in a source stands for a text, so no token of a source that is a string is refused for
-/// its bytes: each has the shape of one.
+/// Each string among the tokens of a source stands for a text, so none is refused for its bytes.
 pub fn strings_are_texts()
-    ensures { (src before text rest : List ℕ) → IsUtf8 src → src ≡ before ++ (text ++ rest) →
-        IsString text → StandsForText text }
+    ensures { (src : List ℕ) (tokens : List Token) → AreTokens src tokens →
+        All (λ token. token.kind ≡ Str → StandsForText (text_in src (lexeme_of src token).span))
+        tokens }
 {}

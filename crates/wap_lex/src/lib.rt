@@ -17,4 +17,5 @@ mod words;
 pub use fault::LexFault;
 pub use lexer::lex;
 pub use numbers::integer_of;
+pub use shape::Shape;
 pub use token::{Kind, Token};

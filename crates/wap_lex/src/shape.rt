@@ -16,7 +16,7 @@ use crate::words::{is_reserved, word_len};
 
 /// The shape of a token, or of what stands between tokens.
 #[derive(Clone, Copy, Debug, PartialEq, Eq)]
-pub(crate) enum Shape {
+pub enum Shape {
     Blank,
     Comment,
     Word,

@@ -1,5 +1,5 @@
-use Rattle.wap_grammar.proofs.Texts.{text_of}
+use Rattle.wap_grammar.proofs.Texts.{texts_of}
 use Rattle.wap_grammar.proofs.laws.strings_are_texts.Goals as goal
 
 pub returns : goal.returns
-returns c = text_of
+returns c = texts_of
