@@ -1,13 +1,19 @@
 -- Notes are true of what is left of the bytes that they are true of.
-use Rattle.std.proofs.Common.{◌≡◌, ℕ, zero, suc, ◌+◌, ◌-◌, ◌<◌, ◌≤◌, List, [], ◌∷◌, ◌++◌}
-use Rattle.std.proofs.Common.{length, drop, refl, sym, ap, subst, ◌∙◌, arith}
+use Rattle.std.proofs.Common.{◌≡◌, ◌≢◌, ℕ, zero, suc, ◌+◌, ◌-◌, ◌%◌, ◌<◌, ◌≤◌, false, eqb, List}
+use Rattle.std.proofs.Common.{[], ◌∷◌, ◌++◌, length, drop, Option, Some, None, refl, sym, ap}
+use Rattle.std.proofs.Common.{subst, ◌∙◌, arith}
 use Rattle.std.proofs.lemmas.List.{drop-drop}
-use Rattle.wap_markup.specs.declared.document.TheConstants.{LEVEL_LIMIT}
+use Rattle.std.proofs.lemmas.Bool.Decides.{nat_tests}
+use Rattle.wap_markup.specs.declared.codes.TheConstants.{END, ENTITY, STR_I}
+use Rattle.wap_markup.specs.declared.codes.TheConstants.{EXT_I_0, EXT_I_1, EXT_I_2}
+use Rattle.wap_markup.specs.declared.name.Tag.{Tag}
+use Rattle.wap_markup.specs.Tables.{tag_of, tag_rows}
 use Rattle.wap_good.specs.declared.notes.Note.{Note}
-use Rattle.wap_good.specs.Readers.{IsBehind}
-use Rattle.wap_good.specs.Nodes.{FollowsNode}
-use Rattle.wap_good.specs.Notes.{last_bytes, IsHead, IsNote, AreNotes}
-use Rattle.wap_good.proofs.Ending.{behind_left, behind_place, behind_drop, drop_behind}
+use Rattle.wap_good.specs.Readers.{IsBehind, first_at, is_end}
+use Rattle.wap_good.specs.Texts.{part_at}
+use Rattle.wap_good.specs.Notes.{last_bytes, IsOwn, IsNote, AreNotes}
+use Rattle.wap_good.proofs.AttrLaw.{no_part}
+use Rattle.wap_good.proofs.Ending.{behind_left, behind_place, behind_drop, drop_behind, first_is}
 
 drop_none : (bytes : List ℕ) → drop 0 bytes ≡ bytes
 drop_none [] = refl
@@ -29,35 +35,18 @@ module _ (rest whole : List ℕ) (is : IsBehind rest whole) where
   pub note_behind : (note : Note) → IsNote whole note → IsNote rest note
   note_behind note true_there = record {
     order = true_there.order;
-    follows = λ within.
+    own = λ within.
         let left = behind_left rest whole is in
-        let order = true_there.order in
-        let begins = last_whole rest whole is note.begin within in
-        let ends = last_whole rest whole is note.end (omega arith) in
-        subst (λ (l : List ℕ). FollowsNode LEVEL_LIMIT l (last_bytes note.end rest)) (sym begins)
-        (subst (FollowsNode LEVEL_LIMIT (last_bytes note.begin whole)) (sym ends)
-        (true_there.follows (omega arith)));
-    head = λ some within.
-        let left = behind_left rest whole is in
-        let begins = last_whole rest whole is note.begin within in
-        subst (λ (l : List ℕ). IsHead l note.head note.first note.second) (sym begins)
-        (true_there.head some (omega arith));
+        subst (λ (l : List ℕ). IsOwn l note) (sym (last_whole rest whole is note.begin within))
+        (true_there.own (omega arith));
   }
 
   pub note_whole : (note : Note) → note.begin ≤ length rest → IsNote rest note → IsNote whole note
   note_whole note within true_here = record {
     order = true_here.order;
-    follows = λ there.
-        let order = true_here.order in
-        let begins = last_whole rest whole is note.begin within in
-        let ends = last_whole rest whole is note.end (omega arith) in
-        subst (λ (l : List ℕ). FollowsNode LEVEL_LIMIT l (last_bytes note.end whole)) begins
-        (subst (FollowsNode LEVEL_LIMIT (last_bytes note.begin rest)) ends
-        (true_here.follows within));
-    head = λ some there.
-        let begins = last_whole rest whole is note.begin within in
-        subst (λ (l : List ℕ). IsHead l note.head note.first note.second) begins
-        (true_here.head some within);
+    own = λ there.
+        subst (λ (l : List ℕ). IsOwn l note) (last_whole rest whole is note.begin within)
+        (true_here.own within);
   }
 
   pub notes_behind : (notes : List Note) → AreNotes whole notes → AreNotes rest notes
@@ -81,63 +70,96 @@ module _ (whole : List ℕ) where
 
 -- ---- one note
 
+all_last : (bytes : List ℕ) (count : ℕ) → count ≡ length bytes → last_bytes count bytes ≡ bytes
+all_last bytes count all =
+    let none : length bytes - count ≡ 0 = omega arith in
+    ap (λ (n : ℕ). drop n bytes) none ∙ drop_none bytes
+
+pub note_here : (bytes : List ℕ) (note : Note) → note.begin ≡ length bytes
+    → note.end < length bytes → IsOwn bytes note → IsNote bytes note
+note_here bytes note begin shorter own = record {
+  order = omega arith;
+  own = λ within.
+      subst (λ (l : List ℕ). IsOwn l note) (sym (all_last bytes note.begin begin)) own;
+}
+
+-- the last bytes are these, which are so many
+pub last_here : (bytes rest : List ℕ) → IsBehind rest (drop 1 bytes)
+    → last_bytes (length rest) bytes ≡ rest
+last_here bytes rest behind = behind_place rest bytes (drop_behind rest bytes behind)
+
 -- a note is as true whatever it tells of those inside
 pub note_again : (bytes : List ℕ) (note : Note) (inside : ℕ) → IsNote bytes note
     → IsNote bytes (record {
       begin = note.begin;
       end = note.end;
+      names = note.names;
       head = note.head;
       inside = inside;
-      first = note.first;
-      second = note.second;
     })
-note_again bytes note inside is = record { order = is.order; follows = is.follows; head = is.head }
-
-pub note_made : (bytes rest : List ℕ) (note : Note) → note.begin ≡ length bytes
-    → note.end ≡ length rest → length rest < length bytes → IsBehind rest (drop 1 bytes)
-    → FollowsNode LEVEL_LIMIT bytes rest
-    → (0 < note.head → IsHead bytes note.head note.first note.second) → IsNote bytes note
-note_made bytes rest note begin end shorter behind follows head = record {
-  order = omega arith;
-  follows = λ within.
-      let none : length bytes - note.begin ≡ 0 = omega arith in
-      let here : last_bytes note.begin bytes ≡ bytes =
-      ap (λ (n : ℕ). drop n bytes) none ∙ drop_none bytes in
-      let there : last_bytes note.end bytes ≡ rest =
-      ap (λ (n : ℕ). drop (length bytes - n) bytes) end
-      ∙ behind_place rest bytes (drop_behind rest bytes behind) in
-      subst (λ (l : List ℕ). FollowsNode LEVEL_LIMIT l (last_bytes note.end bytes)) (sym here)
-      (subst (FollowsNode LEVEL_LIMIT bytes) (sym there) follows);
-  head = λ some within.
-      let none : length bytes - note.begin ≡ 0 = omega arith in
-      let here : last_bytes note.begin bytes ≡ bytes =
-      ap (λ (n : ℕ). drop n bytes) none ∙ drop_none bytes in
-      subst (λ (l : List ℕ). IsHead l note.head note.first note.second) (sym here) (head some);
+note_again bytes note inside is = record {
+  order = is.order;
+  own = λ within.
+      let own = is.own within in
+      record { more = own.more; none = own.none; follows = own.follows; head = own.head };
 }
 
-module _ (bytes : List ℕ) (note : Note) (is : IsNote bytes note)
-    (here : note.begin ≡ length bytes) where
-  pub noted_follows : (levels : ℕ) → levels ≤ LEVEL_LIMIT
-      → FollowsNode levels bytes (last_bytes note.end bytes)
-  noted_follows levels few = λ table below least.
-      let none : length bytes - note.begin ≡ 0 = omega arith in
-      let begins : last_bytes note.begin bytes ≡ bytes =
-      ap (λ (n : ℕ). drop n bytes) none ∙ drop_none bytes in
-      let P : List ℕ → Type 0 = λ l. FollowsNode LEVEL_LIMIT l (last_bytes note.end bytes) in
-      subst P begins (is.follows (omega arith)) table below (omega arith)
+pub last_behind : (bytes : List ℕ) (count : ℕ) → count < length bytes
+    → IsBehind (last_bytes count bytes) (drop 1 bytes)
+last_behind bytes count shorter =
+    let place = length bytes - count - 1 in
+    let sum : 1 + place ≡ length bytes - count = omega arith in
+    subst (λ (l : List ℕ). IsBehind l (drop 1 bytes)) (drop-drop place 1 bytes
+    ∙ ap (λ (n : ℕ). drop n bytes) sum) (behind_drop place (drop 1 bytes))
 
-  pub noted_head : 0 < note.head → IsHead bytes note.head note.first note.second
-  noted_head some =
-      let none : length bytes - note.begin ≡ 0 = omega arith in
-      let begins : last_bytes note.begin bytes ≡ bytes =
-      ap (λ (n : ℕ). drop n bytes) none ∙ drop_none bytes in
-      subst (λ (l : List ℕ). IsHead l note.head note.first note.second) begins
-      (is.head some (omega arith))
+-- ---- tags
 
-  pub noted_behind : IsBehind (last_bytes note.end bytes) (drop 1 bytes)
-  noted_behind =
-      let order = is.order in
-      let count = length bytes - note.end - 1 in
-      let sum : 1 + count ≡ length bytes - note.end = omega arith in
-      subst (λ (l : List ℕ). IsBehind l (drop 1 bytes)) (drop-drop count 1 bytes
-      ∙ ap (λ (n : ℕ). drop n bytes) sum) (behind_drop count (drop 1 bytes))
+-- no tag has such a code
+abbrev no_tag : ℕ → Type 0
+no_tag mark = tag_of 0 (mark % 64) ≡ None
+
+end_none : no_tag END
+unfolding tag_of tag_rows
+end_none = refl
+
+entity_none : no_tag ENTITY
+unfolding tag_of tag_rows
+entity_none = refl
+
+string_none : no_tag STR_I
+unfolding tag_of tag_rows
+string_none = refl
+
+first_none : no_tag EXT_I_0
+unfolding tag_of tag_rows
+first_none = refl
+
+second_none : no_tag EXT_I_1
+unfolding tag_of tag_rows
+second_none = refl
+
+third_none : no_tag EXT_I_2
+unfolding tag_of tag_rows
+third_none = refl
+
+apart : (mark other : ℕ) (tag : Tag) → tag_of 0 (mark % 64) ≡ Some tag → no_tag other
+    → mark ≢ other
+apart mark other tag found none same =
+    let both : ◌≡◌ {A = Option Tag} (Some tag) None =
+    sym found ∙ ap (λ (n : ℕ). tag_of 0 (n % 64)) same ∙ none in
+    absurd (cc both)
+
+module _ (bytes : List ℕ) (mark : ℕ) (rest : List ℕ) (first : first_at bytes ≡ Some (mark, rest))
+    (tag : Tag) (found : tag_of 0 (mark % 64) ≡ Some tag) where
+  pub tag_no_end : is_end bytes ≡ false
+  tag_no_end =
+      let isnt = apart mark END tag found end_none in
+      let e : eqb mark END ≡ false = grind (arith, nat_tests) in
+      ap is_end (first_is bytes mark rest first) ∙ e
+
+  pub tag_no_part : part_at bytes ≡ None
+  tag_no_part =
+      ap part_at (first_is bytes mark rest first)
+      ∙ no_part mark rest (apart mark STR_I tag found string_none)
+      (apart mark ENTITY tag found entity_none) (apart mark EXT_I_0 tag found first_none)
+      (apart mark EXT_I_1 tag found second_none) (apart mark EXT_I_2 tag found third_none)

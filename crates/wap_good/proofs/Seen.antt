@@ -1,23 +1,23 @@
 -- What the parts of a view are seen as.
-use Rattle.std.proofs.Common.{◌≡◌, ℕ, ◌-◌, ◌≤◌, Bool, true, false, List, [], ◌∷◌}
+use Rattle.std.proofs.Common.{◌≡◌, ℕ, ◌-◌, ◌≤◌, Bool, true, false, List, ◌∷◌}
 use Rattle.std.proofs.Common.{length, Some, None, sym, ap, subst, ◌∙◌, arith}
-use Rattle.std.specs.Prelude.{if◌then◌else◌, ◌==◌, ◌%◌, find}
-use Rattle.std.proofs.lemmas.Bool.{eqb-true}
-use Rattle.std.proofs.lemmas.List.{nil_from_length}
+use Rattle.std.specs.Prelude.{if◌then◌else◌, ◌%◌, find}
 use Rattle.std.specs.Option.{option_map}
 use Rattle.wap_base.specs.declared.name.Part.{Part}
 use Rattle.wap_markup.specs.declared.deck.Node.{Node}
 use Rattle.wap_markup.specs.declared.name.AttrName.{AttrName}
 use Rattle.wap_markup.specs.Tables.{tag_of, is_same_attr}
+use Rattle.wap_markup.specs.Trees.{value_of}
 use Rattle.wap_markup.specs.Codes.{has_attributes, has_content}
 use Rattle.wap_good.specs.Readers.{first_at, all_of, Ends}
 use Rattle.wap_good.specs.Nodes.{attr_at, node_at, item_at, front_node}
 use Rattle.wap_good.specs.Nodes.{IsRead, attrs_begin, IsContent}
 use Rattle.wap_good.specs.Starts.{value_in}
+use Rattle.wap_good.specs.Notes.{LacksName}
 use Rattle.wap_good.proofs.Runs.{all_on, all_end, all_few}
 use Rattle.wap_good.proofs.Taking.{attr_takes, item_takes}
 use Rattle.wap_good.proofs.Ending.{attr_lists, item_lists, closed_ends}
-use Rattle.wap_good.proofs.Opening.{same_value, all_nothing, Opened, opened_front, seen, attrs_from}
+use Rattle.wap_good.proofs.Opening.{same_value, Opened, opened_front, seen, attrs_from}
 use Rattle.wap_good.proofs.Opening.{attrs_there, attrs_are, kids_from, kids_there, kids_are}
 
 -- ---- a view
@@ -71,6 +71,13 @@ module _ (table : List ℕ) (levels : ℕ) (bytes : List ℕ) (is : IsRead table
         ∙ sym (attrs_are table levels bytes (front_node table levels bytes) front)
         ∙ ap (λ (n : Node). n.attrs) view_is
 
+    -- a node that has no attribute of a name has no value of it
+    pub no_such_value : (name : AttrName) → LacksName bytes name → None ≡ value_of name now
+    no_such_value name lacks =
+        let there = attrs_there table levels bytes (front_node table levels bytes) front in
+        sym (lacks table _ there (attrs_end _ there))
+        ∙ ap (λ (attrs : List (AttrName × List Part)). value_in name attrs) (attrs_seen _ there)
+
     pub kids_seen : (begin : List ℕ) → IsContent bytes begin
         → (all_of (item_at table (levels - 1)) begin).0 ≡ now.kids
     kids_seen begin content =
@@ -122,11 +129,3 @@ pub value_end : (table : List ℕ) (name : AttrName) (bytes : List ℕ) → attr
 value_end table name bytes e =
     ap (λ (r : List (AttrName × List Part) × List ℕ). value_in name r.0)
     (all_end (attr_at table) bytes e)
-
--- no bytes are no attributes
-pub no_value : (table : List ℕ) (name : AttrName) (bytes : List ℕ) → (length bytes == 0) ≡ true
-    → None ≡ value_in name (all_of (attr_at table) bytes).0
-no_value table name bytes empty =
-    let nothing : bytes ≡ [] = nil_from_length bytes (eqb-true (length bytes) 0 empty) in
-    sym (ap (λ (b : List ℕ). value_in name (all_of (attr_at table) b).0) nothing ∙ ap
-    (λ (r : List (AttrName × List Part) × List ℕ). value_in name r.0) (all_nothing (attr_at table)))

@@ -1,9 +1,12 @@
 -- The first 0, as a search finds it.
-use Rattle.std.proofs.Common.{◌≡◌, ℕ, zero, suc, ◌+◌, ◌<◌, Bool, true, false, cond}
-use Rattle.std.proofs.Common.{List, [], ◌∷◌, length, refl, ap, ◌∙◌, arith}
-use Rattle.std.specs.Prelude.{not, ◌==◌}
-use Rattle.memchr.specs.Find.{Nowhere, Passes, is_byte}
-use Rattle.wap_good.specs.Readers.{zero_place}
+use Rattle.std.proofs.Common.{◌≡◌, ℕ, zero, suc, ◌+◌, ◌-◌, ◌<◌, Bool, true, false, cond}
+use Rattle.std.proofs.Common.{List, [], ◌∷◌, length, take, drop, Some, None, refl, sym, ap, ◌∙◌}
+use Rattle.std.proofs.Common.{arith}
+use Rattle.std.specs.Prelude.{not, slice_index, ◌==◌}
+use Rattle.std.proofs.lemmas.Bool.{eqb-true}
+use Rattle.std.proofs.lemmas.List.{take_rest, drop-drop, drop_more, drop_all}
+use Rattle.memchr.specs.Find.{Nowhere, Passes, IsFirstByte, is_byte}
+use Rattle.wap_good.specs.Readers.{◌>>=◌, after, zero_place, ended_at, behind_zero}
 
 isnt : (b : Bool) → (b ≡ true → ⊥) → b ≡ false
 isnt true is = absurd (is refl)
@@ -31,3 +34,47 @@ no_zero [] nowhere = refl
 no_zero (byte ∷ bytes) nowhere =
     more byte bytes (length bytes) (nowhere 0 (omega arith) (omega arith))
     (no_zero bytes (λ k low high. nowhere (suc k) (omega arith) (omega arith)))
+
+-- ---- what follows the first 0
+
+zero_there : (bytes : List ℕ) (place : ℕ) → place < length bytes
+    → Passes (is_byte 0) bytes place → drop place bytes ≡ 0 ∷ drop (place + 1) bytes
+zero_there bytes place within here =
+    drop_more bytes place 0 within
+    ∙ ap (λ (n : ℕ). n ∷ drop (place + 1) bytes) (eqb-true (slice_index bytes place) 0 here)
+
+module _ (bytes : List ℕ) (place : ℕ) (first : IsFirstByte (is_byte 0) bytes (Some place)) where
+  at_place : zero_place bytes ≡ place
+  at_place =
+      let high = first.0.high in zero_at bytes place high first.0.before first.1
+
+  pub after_zero : take (length bytes - (place + 1)) (drop (place + 1) bytes) ≡ behind_zero bytes
+  after_zero =
+      take_rest bytes (place + 1) ∙ sym (drop-drop 1 place bytes)
+      ∙ ap (λ (n : ℕ). drop 1 (drop n bytes)) (sym at_place)
+
+  pub ended_there : ended_at bytes
+      ≡ Some (take place bytes, take (length bytes - (place + 1)) (drop (place + 1) bytes))
+  unfolding ended_at
+  ended_there =
+      let high = first.0.high in
+      ap (λ (n : ℕ). after 0 (drop n bytes) >>= λ rest.
+      let w : List ℕ × List ℕ = (take n bytes, rest) in Some w) at_place
+      ∙ ap (λ (l : List ℕ). after 0 l >>= λ rest.
+      let w : List ℕ × List ℕ = (take place bytes, rest) in Some w)
+      (zero_there bytes place high first.1)
+      ∙ ap (λ (l : List ℕ). let w : List ℕ × List ℕ = (take place bytes, l) in Some w)
+      (sym (take_rest bytes (place + 1)))
+
+module _ (bytes : List ℕ) (nowhere : IsFirstByte (is_byte 0) bytes None) where
+  none_left : drop (zero_place bytes) bytes ≡ []
+  none_left = drop_all (zero_place bytes) bytes (let e = no_zero bytes nowhere in omega arith)
+
+  pub no_after_zero : [] ≡ behind_zero bytes
+  no_after_zero = sym (ap (drop 1) none_left)
+
+  pub never_ended : ended_at bytes ≡ None
+  unfolding ended_at
+  never_ended =
+      ap (λ (l : List ℕ). after 0 l >>= λ rest.
+      let w : List ℕ × List ℕ = (take (zero_place bytes) bytes, rest) in Some w) none_left

@@ -8,8 +8,9 @@ ghost use Rattle.wap_good.specs.Notes.{AreNotes, AreLent};
 use crate::bits::{after_bits, next_bit};
 use crate::front::is_end;
 use crate::kids::Child;
-use crate::notes::{Note, after_noted};
+use crate::notes::{Note, after_noted, own_note};
 use crate::run::Run;
+use crate::skip::after_node;
 use crate::view::View;
 
 /// The next child, what follows it, and the notes of that.
@@ -25,6 +26,11 @@ pub fn next_child<'a>(
     ensures behind { IfSome result (λ read. IsBehind read.1.now (drop 1 bytes.now)) }
     ensures noted { IfSome result (λ read. AreNotes bytes.now read.2.now) }
 {
+    if let Some((note, inside)) = own_note(notes, bytes) {
+        let node = View::noted(table, levels, bytes, note, inside);
+        let (rest, left) = after_noted(note, inside, bytes);
+        return Some((Child::Node(node), rest, left));
+    }
     if is_end(bytes) {
         return None;
     }
@@ -34,9 +40,8 @@ pub fn next_child<'a>(
             Some((Child::Text(run), after_bits(rest), notes))
         }
         None => {
-            let (rest, left) = after_noted(levels, notes, bytes);
-            let node = View::of(table, levels, bytes, notes);
-            Some((Child::Node(node), rest, left))
+            let node = View::bare(table, levels, bytes, notes);
+            Some((Child::Node(node), after_node(levels, bytes), notes))
         }
     }
 }

@@ -1,7 +1,7 @@
 //! What bytes begin with.
 ghost use Rattle.std.specs.Prelude.{◌≡◌, ◌≤◌, length, drop};
 ghost use Rattle.wap_markup.specs.Strings.{string_from};
-ghost use Rattle.wap_good.specs.Readers.{Reads, first_at, after, number_at, zero_place};
+ghost use Rattle.wap_good.specs.Readers.{Reads, first_at, number_at, zero_place};
 ghost use Rattle.wap_good.specs.Readers.{ended_at, behind_zero, is_end};
 
 use memchr::memchr;
@@ -16,14 +16,6 @@ pub fn first(bytes: &[u8]) -> Option<(u8, &[u8])>
         [first, rest @ ..] => Some((*first, rest)),
         [] => None,
     }
-}
-
-/// What follows a byte that has to stand there.
-pub fn after(byte: u8, bytes: &[u8]) -> Option<&[u8]>
-    ensures { Reads (λ rest. rest.now) result (after byte bytes.now) }
-{
-    let (found, rest) = first(bytes)?;
-    if found == byte { Some(rest) } else { None }
 }
 
 /// A number, and the bytes after it.
@@ -42,17 +34,20 @@ pub fn number(bytes: &[u8]) -> Option<(u32, &[u8])>
 pub fn ended(bytes: &[u8]) -> Option<(&[u8], &[u8])>
     ensures { Reads (λ read. (read.0.now, read.1.now)) result (ended_at bytes.now) }
 {
-    let (string, end) = bytes.split_at(zero_place(bytes));
-    let rest = after(0, end)?;
-    Some((string, rest))
+    match memchr(0, bytes) {
+        Some(at) => Some((&bytes[..at], &bytes[at + 1..])),
+        None => None,
+    }
 }
 
 /// What follows the first 0; nothing where there is none.
 pub fn after_zero(bytes: &[u8]) -> &[u8]
     ensures { result.now ≡ behind_zero bytes.now }
 {
-    let (_, end) = bytes.split_at(zero_place(bytes));
-    after_first(end)
+    match memchr(0, bytes) {
+        Some(at) => &bytes[at + 1..],
+        None => &[],
+    }
 }
 
 /// What follows the first byte; nothing where there is none.

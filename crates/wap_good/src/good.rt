@@ -33,7 +33,7 @@ pub struct GoodDeck {
     root: usize,
     /// Where each card begins, and the template.
     cards: Cards,
-    /// Where long nodes end.
+    /// Where nodes end, and what they begin with.
     notes: Rows<Note>,
 }
 
@@ -84,7 +84,8 @@ fn held(alloc: Global, deck: &Deck) -> Result<GoodDeck, NoMemory>
     tell_node(LEVEL_LIMIT, &deck.root);
     decks_are_spellable();
     decks_are_read();
-    let bytes = spell(alloc, deck)?;
+    let spelled = spell(alloc, deck)?;
+    let bytes = Bytes::of(alloc, spelled.as_slice())?;
     let whole = bytes.as_slice();
     let (table, root) = places(whole)?;
     let notes = notes_of(alloc, whole, root)?;

@@ -1,26 +1,39 @@
-//! What nodes begin with, for the notes of them.
-ghost use Rattle.std.specs.Prelude.{◌≡◌, ℕ, List, [], ◌<◌, Some, IfSome, if◌then◌else◌};
+//! What nodes begin with: the names of their attributes, and where their content begins.
+ghost use Rattle.std.specs.Prelude.{◌≡◌, ℕ, List, ◌^◌, ◌<◌, ◌≤◌, length, drop, true, IfSome};
 ghost use Rattle.wap_base.specs.declared.name.Part.{Part};
-ghost use Rattle.wap_markup.specs.Codes.{has_attributes};
-ghost use Rattle.wap_good.specs.Readers.{Ends};
-ghost use Rattle.wap_good.specs.Nodes.{attr_at};
-ghost use Rattle.wap_good.specs.Notes.{HaveNames, IsHead};
+ghost use Rattle.wap_markup.specs.declared.name.AttrName.{AttrName};
+ghost use Rattle.wap_good.specs.Readers.{Ends, IsBehind};
+ghost use Rattle.wap_good.specs.Nodes.{attr_at, IsContent};
+ghost use Rattle.wap_good.specs.Notes.{mark_place, lacks, HaveNames, LacksName};
 
 use crate::bits::after_bits;
 use crate::front::{first, is_end};
-use crate::head::{has_attributes, has_content};
+use crate::head::{has_attributes, has_content, kids_begin};
 use crate::skip::after_head;
 use wap_markup::{AttrName, LITERAL};
 use wap_tokens::attr_start;
 
-/// How many bytes of a node stand before its content, and the names that its attributes have; a
-/// name stands twice where there is one.
-pub type Head = (u8, AttrName, AttrName);
+/// The mark of a name, one bit of 16. Several names have the same.
+#[inline(always)]
+fn name_mark(name: AttrName) -> u16
+    ensures { result ≡ 2 ^ mark_place name }
+{
+    1 << (name as u16 % 16)
+}
+
+/// Whether marks tell that a name isn't among those that they are of.
+#[inline(always)]
+pub fn lacks(names: u16, name: AttrName) -> bool
+    ensures { result ≡ lacks names name }
+{
+    names & name_mark(name) == 0
+}
 
 /// The name of the attribute that bytes begin with, if it has a code, and what follows it.
 fn next_name(bytes: &[u8]) -> Option<(AttrName, &[u8])>
-    ensures { (table : List ℕ) → Ends (attr_at table) bytes.now → IfSome result (λ read.
+    ensures named { (table : List ℕ) → Ends (attr_at table) bytes.now → IfSome result (λ read.
         (parts : List Part) × (attr_at table bytes.now ≡ Some ((read.0, parts), read.1.now))) }
+    ensures shorter { IfSome result (λ read. length read.1.now < length bytes.now) }
 {
     let (mark, rest) = first(bytes)?;
     if mark == LITERAL {
@@ -30,56 +43,60 @@ fn next_name(bytes: &[u8]) -> Option<(AttrName, &[u8])>
     Some((start.0, after_bits(rest)))
 }
 
-/// The names of one or two attributes that stand before an end.
-fn two_names(bytes: &[u8]) -> Option<(AttrName, AttrName)>
-    ensures { IfSome result (λ names. HaveNames bytes.now names.0 names.1) }
+/// The marks of the names of attributes, all marks where one has no code.
+fn names_in(bytes: &[u8]) -> u16
+    ensures { HaveNames bytes.now result }
 {
-    let (one, behind) = next_name(bytes)?;
-    if is_end(behind) {
-        return Some((one, one));
+    let mut names = 0;
+    let mut rest = bytes;
+    while let Some((name, behind)) = next_name(rest) {
+        names |= name_mark(name);
+        rest = behind;
     }
-    let (two, last) = next_name(behind)?;
-    if is_end(last) {
-        return Some((one, two));
-    }
-    None
+    if is_end(rest) { names } else { u16::MAX }
 }
 
-/// The names of the attributes after a mark, where there are two at most.
-fn names_of(mark: u8, bytes: &[u8]) -> Option<(AttrName, AttrName)>
-    ensures { IfSome result (λ names.
-        HaveNames (if has_attributes mark then bytes.now else []) names.0 names.1) }
+/// The marks of the names that the attributes have of the node that bytes begin with.
+pub fn names_of(bytes: &[u8]) -> u16
+    ensures { (name : AttrName) → lacks result name ≡ true → LacksName bytes.now name }
 {
-    if has_attributes(mark) {
-        return two_names(bytes);
+    match first(bytes) {
+        Some((mark, rest)) => {
+            if has_attributes(mark) {
+                names_in(rest)
+            } else {
+                0
+            }
+        }
+        None => 0,
     }
-    Some((AttrName::Id, AttrName::Id))
 }
 
-/// What the node begins with that bytes begin with, where it has content, two attributes at most,
-/// and 8 bits can count their bytes.
-fn known_head(bytes: &[u8]) -> Option<Head>
-    ensures { IfSome result (λ head. IsHead bytes.now head.0 head.1 head.2) }
+/// How many bytes stand before the content of the node that bytes begin with; 0 where it has none,
+/// or 8 bits can't count them.
+pub fn head_of(bytes: &[u8]) -> u8
+    ensures content { 0 < result → IsContent bytes.now (drop result bytes.now) }
+    ensures within { result ≤ length bytes.now }
 {
-    let (mark, rest) = first(bytes)?;
-    if !has_content(mark) {
-        return None;
-    }
-    let (one, two) = names_of(mark, rest)?;
-    let content = after_head(mark, rest);
+    let content = kids_begin(bytes);
     let size = bytes.len().saturating_sub(content.len());
     if size > u8::MAX as usize {
-        return None;
+        return 0;
     }
-    Some((size as u8, one, two))
+    size as u8
 }
 
-/// What the node begins with that bytes begin with; 0 bytes where it isn't known.
-pub fn head_of(bytes: &[u8]) -> Head
-    ensures { 0 < result.0 → IsHead bytes.now result.0 result.1 result.2 }
+/// The content of the node that bytes begin with, and what follows it, where so many bytes stand
+/// before it; 0 where that isn't known.
+#[inline(always)]
+pub fn content_of(head: u16, bytes: &[u8]) -> &[u8]
+    requires known { 0 < head → IsContent bytes.now (drop head bytes.now) }
+    requires within { head ≤ length bytes.now }
+    ensures exact { IsContent bytes.now result.now }
+    ensures behind { IsBehind result.now bytes.now }
 {
-    match known_head(bytes) {
-        Some(head) => head,
-        None => (0, AttrName::Id, AttrName::Id),
+    if head == 0 {
+        return kids_begin(bytes);
     }
+    &bytes[head as usize..]
 }

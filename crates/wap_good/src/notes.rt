@@ -1,17 +1,16 @@
-//! Notes of where nodes end, by which long nodes are skipped at once.
-ghost use Rattle.std.specs.Prelude.{◌≡◌, ℕ, ◌<◌, ◌≤◌, List, length, drop, true, IfOk, IfSome};
+//! Notes of where nodes end and what they begin with, by which nodes are seen and skipped at once.
+ghost use Rattle.std.specs.Prelude.{◌≡◌, ℕ, ◌<◌, ◌≤◌, List, [], length, drop, IfOk, IfSome};
 ghost use Rattle.wap_good.specs.Readers.{IsBehind};
-ghost use Rattle.wap_good.specs.Nodes.{FollowsNode, IsContent};
-ghost use Rattle.wap_good.specs.Notes.{IsNote, AreNotes, IsHead, LacksName};
+ghost use Rattle.wap_good.specs.Notes.{IsNote, IsOwn, AreNotes, last_bytes};
 
 use crate::bits::after_bit;
 use crate::front::first;
-use crate::head::{has_content, kids_begin};
-use crate::heads::head_of;
+use crate::head::has_attributes;
+use crate::heads::{head_of, names_of};
 use crate::skip::{after_head, after_node};
 use std::alloc::Global;
 use wap_base::{NoMemory, Rows};
-use wap_markup::{AttrName, LEVEL_LIMIT};
+use wap_markup::LEVEL_LIMIT;
 use wap_tokens::tag_of;
 
 /// Where a node begins and where it ends, by how many bytes are left there.
@@ -19,44 +18,38 @@ use wap_tokens::tag_of;
 pub struct Note {
     pub begin: u32,
     pub end: u32,
-    /// So many of its bytes stand before its content; 0 where that isn't known, nor the names.
+    /// The marks of its attributes' names.
+    pub names: u16,
+    /// So many of its bytes stand before its content; 0 where that isn't known.
     pub head: u8,
     /// How many notes of nodes in it follow, 255 where there are as many or more.
     pub inside: u8,
-    /// Its attributes have no names but this and the next.
-    pub first: AttrName,
-    pub second: AttrName,
 }
 
-/// A node of fewer bytes is skipped byte by byte.
+/// A node of fewer bytes and without attributes is read byte by byte.
 const NOTED: usize = 16;
 
 /// The note of the node that bytes begin with; none where they begin with no tag, the node is short
-/// or has no content, or 32 bits can't count the bytes.
+/// and has no attributes, or 32 bits can't count the bytes.
 fn note_of(bytes: &[u8]) -> Option<Note>
     ensures noted { IfSome result (IsNote bytes.now) }
     ensures begin { IfSome result (λ note. note.begin ≤ length bytes.now) }
 {
     let (mark, _) = first(bytes)?;
     tag_of(0, mark % 64)?;
-    if !has_content(mark) {
-        return None;
-    }
     let rest = after_node(LEVEL_LIMIT, bytes);
     if bytes.len() > u32::MAX as usize {
         return None;
     }
-    if bytes.len() - rest.len() < NOTED {
+    if !has_attributes(mark) && bytes.len() - rest.len() < NOTED {
         return None;
     }
-    let (head, first, second) = head_of(bytes);
     Some(Note {
         begin: bytes.len() as u32,
         end: rest.len() as u32,
-        head,
+        names: names_of(bytes),
+        head: head_of(bytes),
         inside: 0,
-        first,
-        second,
     })
 }
 
@@ -100,12 +93,19 @@ fn count_inside(notes: &[Note], end: u32) -> u8 {
     count
 }
 
+/// No notes yet, and room for so many.
+fn notes_for(alloc: Global, count: usize) -> Result<Rows<Note>, NoMemory>
+    ensures { IfOk result (λ notes. notes ≡ []) }
+{
+    Ok(Rows::from_vec(Vec::with_capacity(alloc, count)?))
+}
+
 /// The same notes, each with the number of those inside.
 fn with_inside(alloc: Global, bytes: &[u8], notes: &[Note]) -> Result<Rows<Note>, NoMemory>
     requires { AreNotes bytes.now notes.now }
     ensures { IfOk result (AreNotes bytes.now) }
 {
-    let mut told = Rows::new(alloc);
+    let mut told = notes_for(alloc, notes.len())?;
     let mut left = notes;
     while let Some((note, behind)) = first_note(left) {
         let inside = count_inside(behind, note.end);
@@ -168,83 +168,34 @@ fn first_note(notes: &[Note]) -> Option<(Note, &[Note])>
     }
 }
 
-/// The notes behind that of the node that bytes begin with, if it has one.
-pub fn notes_inside<'a>(notes: &'a [Note], bytes: &[u8]) -> &'a [Note]
-    ensures { (whole : List ℕ) → AreNotes whole notes.now → AreNotes whole result.now }
-{
-    if let Some((note, inside)) = first_note(notes) {
-        if note.begin as usize == bytes.len() {
-            return inside;
-        }
-    }
-    notes
-}
-
-/// What follows a node of so many levels at most, by its note if it has one, and the notes of that.
-pub fn after_noted<'a>(levels: u32, notes: &'a [Note], bytes: &'a [u8]) -> (&'a [u8], &'a [Note])
-    requires few { levels ≤ LEVEL_LIMIT }
-    requires noted { AreNotes bytes.now notes.now }
-    ensures exact { FollowsNode levels bytes.now result.0.now }
-    ensures behind { IsBehind result.0.now (drop 1 bytes.now) }
-    ensures noted { AreNotes bytes.now result.1.now }
-{
-    if let Some((note, inside)) = first_note(notes) {
-        if note.begin as usize == bytes.len() {
-            let rest = &bytes[bytes.len() - note.end as usize..];
-            return (rest, notes_past(note.inside, inside, rest));
-        }
-    }
-    (after_node(levels, bytes), notes)
-}
-
-/// The note of the node that bytes begin with, if it has one that knows what the node begins with.
-fn own_note(notes: &[Note], bytes: &[u8]) -> Option<Note>
-    requires { AreNotes bytes.now notes.now }
-    ensures { IfSome result (λ note. IsHead bytes.now note.head note.first note.second) }
-{
-    let (note, _) = first_note(notes)?;
-    if note.begin as usize == bytes.len() && note.head > 0 {
-        return Some(note);
-    }
-    None
-}
-
-/// Whether a note tells that the node that bytes begin with has no attribute of a name.
+/// The note of the node that bytes begin with, if it has one, and those behind it.
 #[inline(always)]
-pub fn lacks(notes: &[Note], bytes: &[u8], name: AttrName) -> bool
+pub fn own_note<'a>(notes: &'a [Note], bytes: &[u8]) -> Option<(&'a Note, &'a [Note])>
     requires { AreNotes bytes.now notes.now }
-    ensures { result ≡ true → LacksName bytes.now name }
+    ensures own { IfSome result (λ read. IsOwn bytes.now read.0.now) }
+    ensures shorter { IfSome result (λ read. read.0.now.end < length bytes.now) }
+    ensures inside { IfSome result (λ read. AreNotes bytes.now read.1.now) }
 {
-    let Some(note) = own_note(notes, bytes) else {
-        return false;
-    };
-    if note.first == name {
-        return false;
-    }
-    if note.second == name {
-        return false;
-    }
-    true
-}
-
-/// What follows so many bytes.
-fn after_some(count: u8, bytes: &[u8]) -> &[u8]
-    ensures { result.now ≡ drop count bytes.now }
-{
-    match bytes.get(count as usize..) {
-        Some(rest) => rest,
-        None => &[],
+    match notes {
+        [note, inside @ ..] => {
+            if note.begin as usize == bytes.len() {
+                Some((note, inside))
+            } else {
+                None
+            }
+        }
+        [] => None,
     }
 }
 
-/// The content of the node that bytes begin with, and what follows it, by its note if it has one.
-pub fn content_of<'a>(notes: &[Note], bytes: &'a [u8]) -> &'a [u8]
-    requires { AreNotes bytes.now notes.now }
-    ensures exact { IsContent bytes.now result.now }
-    ensures behind { IsBehind result.now bytes.now }
+/// What follows the node that bytes begin with, by its note and those behind it, and the notes of
+/// what follows.
+#[inline(always)]
+pub fn after_noted<'a>(note: &Note, inside: &'a [Note], bytes: &'a [u8]) -> (&'a [u8], &'a [Note])
+    requires { note.now.end < length bytes.now }
+    ensures rest { result.0.now ≡ last_bytes note.now.end bytes.now }
+    ensures notes { (whole : List ℕ) → AreNotes whole inside.now → AreNotes whole result.1.now }
 {
-    match own_note(notes, bytes) {
-        Some(note) => after_some(note.head, bytes),
-        None => kids_begin(bytes),
-    }
+    let rest = &bytes[bytes.len() - note.end as usize..];
+    (rest, notes_past(note.inside, inside, rest))
 }

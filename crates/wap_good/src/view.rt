@@ -2,13 +2,14 @@
 ghost use Rattle.std.specs.Prelude.{◌≡◌, ◌≤◌, length};
 ghost use Rattle.wap_markup.specs.Trees.{value_of};
 ghost use Rattle.wap_good.specs.Nodes.{front_node};
-ghost use Rattle.wap_good.specs.Notes.{IsLent};
+ghost use Rattle.wap_good.specs.Notes.{IsLent, IsHead};
 
 use crate::attrs::find_attr;
 use crate::front::first;
 use crate::head::attrs_begin;
+use crate::heads::{content_of, lacks, names_of};
 use crate::kids::Kids;
-use crate::notes::{Note, content_of, lacks, notes_inside};
+use crate::notes::{Note, own_note};
 use crate::run::Run;
 use std::marker::Model;
 use wap_markup::{AttrName, Tag};
@@ -19,10 +20,15 @@ use wap_tokens::tag_of;
 #[derive(Drop)]
 pub struct View<'a> {
     table: &'a [u8],
+    bytes: &'a [u8],
+    /// Those of the nodes in it and behind it.
+    notes: &'a [Note],
     /// So many levels it has at most.
     levels: u32,
-    bytes: &'a [u8],
-    notes: &'a [Note],
+    /// The marks of its attributes' names.
+    names: u16,
+    /// So many bytes stand before its content; 0 where that isn't known.
+    head: u16,
 }
 
 impl<'a> Model for View<'a> {
@@ -35,11 +41,12 @@ impl<'a> Model for View<'a> {
     ghost coded = { Prim.hlevel (codes, item.the_row.coded) };
 
     ghost use Rattle.wap_good.specs.Nodes.{front_node};
-    ghost use Rattle.wap_good.specs.Notes.{IsLent};
+    ghost use Rattle.wap_good.specs.Notes.{IsSeen};
 
     ghost view = { λ view. front_node view.table.now view.levels view.bytes.now };
 
-    ghost invariant = { λ view. IsLent view.table.now view.levels view.bytes.now view.notes.now };
+    ghost invariant = { λ view. IsSeen view.table.now view.levels view.bytes.now view.notes.now
+        view.names view.head };
 }
 
 impl<'a> View<'a> {
@@ -48,11 +55,48 @@ impl<'a> View<'a> {
         requires { IsLent table.now levels bytes.now notes.now }
         ensures { result ≡ front_node table.now levels bytes.now }
     {
+        match own_note(notes, bytes) {
+            Some((note, inside)) => View::noted(table, levels, bytes, note, inside),
+            None => View::bare(table, levels, bytes, notes),
+        }
+    }
+
+    /// The same by the node's own note; the notes are those behind it.
+    #[inline(always)]
+    pub(crate) fn noted(
+        table: &'a [u8],
+        levels: u32,
+        bytes: &'a [u8],
+        note: &Note,
+        notes: &'a [Note],
+    ) -> View<'a>
+        requires lent { IsLent table.now levels bytes.now notes.now }
+        requires head { IsHead bytes.now note.now.names note.now.head }
+        ensures { result ≡ front_node table.now levels bytes.now }
+    {
         View {
             table,
-            levels,
             bytes,
             notes,
+            levels,
+            names: note.names,
+            head: note.head as u16,
+        }
+    }
+
+    /// The same of a node that has no note.
+    #[inline(always)]
+    pub(crate) fn bare(table: &'a [u8], levels: u32, bytes: &'a [u8], notes: &'a [Note]) -> View<'a>
+        requires { IsLent table.now levels bytes.now notes.now }
+        ensures { result ≡ front_node table.now levels bytes.now }
+    {
+        View {
+            table,
+            bytes,
+            notes,
+            levels,
+            names: names_of(bytes),
+            head: 0,
         }
     }
 
@@ -65,6 +109,8 @@ impl<'a> View<'a> {
             levels: self.levels,
             bytes: self.bytes,
             notes: self.notes,
+            names: self.names,
+            head: self.head,
         }
     }
 
@@ -83,13 +129,19 @@ impl<'a> View<'a> {
     pub fn attr(&self, name: AttrName) -> Option<Run<'a>>
         ensures { result ≡ value_of name self.now }
     {
+        if lacks(self.names, name) {
+            return None;
+        }
+        self.value(name)
+    }
+
+    /// The same, found among the attributes.
+    // Inlined, so that only an attribute which may be there takes room for a run.
+    #[inline(always)]
+    fn value(&self, name: AttrName) -> Option<Run<'a>>
+        ensures { result ≡ value_of name self.now }
+    {
         let attrs = attrs_begin(self.bytes)?;
-        if attrs.is_empty() {
-            return None;
-        }
-        if lacks(self.notes, self.bytes, name) {
-            return None;
-        }
         find_attr(self.table, name, attrs)
     }
 
@@ -98,9 +150,8 @@ impl<'a> View<'a> {
         ensures kids { result ≡ self.now.kids }
         ensures few { length self.now.kids ≤ usize.MAX }
     {
-        let bytes = content_of(self.notes, self.bytes);
+        let bytes = content_of(self.head, self.bytes);
         let _few = bytes.len();
-        let notes = notes_inside(self.notes, self.bytes);
-        Kids::of(self.table, self.levels.saturating_sub(1), bytes, notes)
+        Kids::of(self.table, self.levels.saturating_sub(1), bytes, self.notes)
     }
 }

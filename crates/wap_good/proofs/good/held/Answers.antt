@@ -15,7 +15,8 @@ card_places-requires-clause-held c =
     let spellable =
     c.decks_are_spellable.ensures.spellable c.args.deck.now c.requires.normal
     (root_known c.args.deck.now c.requires.good) in
-    let are = c.in_ok-bytes.ensures in
+    let are =
+    c.in_ok-bytes.ensures ∙ c.as_slice.ensures ∙ c.in_ok-spelled.ensures in
     let found =
     ap (λ (l : List ℕ). mb_at l 3) (sym c.as_slice-whole.ensures) ∙ c.in_ok-table.ensures.exact in
     let within =
@@ -30,23 +31,24 @@ card_places-requires-clause-held c =
 
 pub card_places-requires-clause-noted : goal.card_places-requires-clause-noted
 card_places-requires-clause-noted c =
-    subst (AreNotes c.as_slice-whole.result.now) (sym c.as_slice.ensures) c.in_ok-notes.ensures
+    subst (AreNotes c.as_slice-whole.result.now) (sym c.as_slice-2.ensures) c.in_ok-notes.ensures
 
 pub invariant_of-result : goal.invariant_of-result
 invariant_of-result c =
     let kept =
     subst (λ (l : List ℕ).
-    IsKept c.in_ok-table.table c.in_ok-table.root l c.in_ok-cards.cards c.as_slice.result.now)
+    IsKept c.in_ok-table.table c.in_ok-table.root l c.in_ok-cards.cards c.as_slice-2.result.now)
     c.as_slice-whole.ensures c.in_ok-cards.ensures in
     subst (IsKept c.in_ok-table.table c.in_ok-table.root c.in_ok-bytes.bytes c.in_ok-cards.cards)
-    c.as_slice.ensures kept
+    c.as_slice-2.ensures kept
 
 pub returns : goal.returns
 returns c =
     let spellable =
     c.decks_are_spellable.ensures.spellable c.args.deck.now c.requires.normal
     (root_known c.args.deck.now c.requires.good) in
-    let are = c.in_ok-bytes.ensures in
+    let are =
+    c.in_ok-bytes.ensures ∙ c.as_slice.ensures ∙ c.in_ok-spelled.ensures in
     let found =
     ap (λ (l : List ℕ). mb_at l 3) (sym c.as_slice-whole.ensures) ∙ c.in_ok-table.ensures.exact in
     let within =

@@ -1,14 +1,16 @@
-use Rattle.std.proofs.Common.{◌≡◌, ◌∙◌, sym, subst, Bool, false, []}
-use Rattle.std.specs.Prelude.{if◌then◌else◌}
-use Rattle.wap_markup.specs.declared.name.AttrName.TheVariants.{Id}
-use Rattle.wap_markup.specs.Codes.{has_attributes}
-use Rattle.wap_good.specs.Notes.{HaveNames}
-use Rattle.wap_good.proofs.HeadLaw.{no_names}
+use Rattle.std.proofs.Common.{◌∙◌, sym}
+use Rattle.wap_good.proofs.HeadLaw.{head_lacks, bare_lacks, nothing_lacks}
 use Rattle.wap_good.proofs.heads.names_of.Goals as goal
 
-pub returns : goal.returns
-returns c =
-    let none : has_attributes c.args.mark ≡ false =
-    sym c.has_attributes.ensures ∙ c.if-has_attributes.false in
-    subst (λ (b : Bool). HaveNames (if b then c.args.bytes.now else []) Id Id) (sym none)
-    (no_names Id Id)
+pub returns-then-has_attributes : goal.returns-then-has_attributes
+returns-then-has_attributes c =
+    head_lacks c.args.bytes.now c.in-Some.mark c.in-Some.rest.now c.names_in.result
+    c.in-Some.ensures (sym c.has_attributes.ensures ∙ c.if-has_attributes.true) c.names_in.ensures
+
+pub returns-else-has_attributes : goal.returns-else-has_attributes
+returns-else-has_attributes c = λ name without.
+    bare_lacks c.args.bytes.now c.in-Some.mark c.in-Some.rest.now c.in-Some.ensures
+    (sym c.has_attributes.ensures ∙ c.if-has_attributes.false) name
+
+pub returns-in-None : goal.returns-in-None
+returns-in-None c = λ name without. nothing_lacks c.args.bytes.now c.in-None.ensures name

@@ -1,13 +1,13 @@
-use Rattle.std.proofs.Common.{◌∙◌, sym, ap, List, ℕ, Some}
+use Rattle.std.proofs.Common.{◌∙◌, sym, ap, length, List, ℕ, Some, arith}
 use Rattle.wap_base.specs.declared.name.Part.{Part}
 use Rattle.wap_markup.specs.declared.name.AttrName.{AttrName}
 use Rattle.wap_good.specs.Texts.{value_at, behind_value}
-use Rattle.wap_good.proofs.Ending.{attr_read, attr_followed}
+use Rattle.wap_good.proofs.Ending.{attr_read, attr_followed, behind_left, first_is}
 use Rattle.wap_good.proofs.HeadLaw.{coded_start}
 use Rattle.wap_good.proofs.heads.next_name.Goals as goal
 
-pub returns : goal.returns
-returns c = λ table ends.
+pub returns-clause-named : goal.returns-clause-named
+returns-clause-named c = λ table ends.
     let start = c.in_ok-start.start in
     let begin =
     coded_start table c.args.bytes.now c.in_ok-mark.mark c.in_ok-mark.rest.now
@@ -21,3 +21,12 @@ returns c = λ table ends.
       read ∙ ap (λ (l : List ℕ). let w : (AttrName × List Part) × List ℕ = ((start.0, parts), l) in
           Some w) (sym (c.after_bits.ensures.exact are)),
     )
+
+pub returns-clause-shorter : goal.returns-clause-shorter
+returns-clause-shorter c =
+    let whole =
+    ap length (first_is c.args.bytes.now c.in_ok-mark.mark c.in_ok-mark.rest.now
+    c.in_ok-mark.ensures) in
+    let left =
+    behind_left c.after_bits.result.now c.in_ok-mark.rest.now c.after_bits.ensures.behind in
+    omega arith

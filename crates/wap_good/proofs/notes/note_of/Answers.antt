@@ -1,18 +1,38 @@
-use Rattle.std.proofs.Common.{◌<◌, length, refl, arith}
+use Rattle.std.proofs.Common.{length, sym, refl, subst}
+use Rattle.wap_markup.specs.declared.document.TheConstants.{LEVEL_LIMIT}
 use Rattle.wap_good.specs.declared.notes.Note.{Note}
-use Rattle.wap_good.proofs.NoteLaw.{note_made}
+use Rattle.wap_good.specs.Nodes.{FollowsNode}
+use Rattle.wap_good.specs.Notes.{IsOwn}
+use Rattle.wap_good.proofs.Ending.{rest_shorter}
+use Rattle.wap_good.proofs.NoteLaw.{note_here, last_here, tag_no_end, tag_no_part}
 use Rattle.wap_good.proofs.notes.note_of.Goals as goal
 
 pub returns-clause-noted : goal.returns-clause-noted
 returns-clause-noted c =
+    let bytes = c.args.bytes.now in
+    let rest = c.after_node-rest.result.now in
     let note : Note = record {
-      begin = length c.args.bytes.now;
-      end = length c.after_node-rest.result.now;
-      head = c.head_of-head.result.0;
+      begin = length bytes;
+      end = length rest;
+      names = c.names_of.result;
+      head = c.head_of.result;
       inside = 0;
-      first = c.head_of-head.result.1;
-      second = c.head_of-head.result.2;
     } in
-    let shorter : length c.after_node-rest.result.now < length c.args.bytes.now = omega arith in
-    note_made c.args.bytes.now c.after_node-rest.result.now note refl refl shorter
-    c.after_node-rest.ensures.behind c.after_node-rest.ensures.exact c.head_of-head.ensures
+    let found = sym c.in_ok-tag_of.ensures in
+    let own : IsOwn bytes note = record {
+      more = tag_no_end bytes c.in_ok-mark.mark c.in_ok-mark.field-0-1.now c.in_ok-mark.ensures _
+          found;
+      none = tag_no_part bytes c.in_ok-mark.mark c.in_ok-mark.field-0-1.now c.in_ok-mark.ensures _
+          found;
+      follows =
+          subst (FollowsNode LEVEL_LIMIT bytes)
+          (sym (last_here bytes rest c.after_node-rest.ensures.behind))
+          c.after_node-rest.ensures.exact;
+      head = record {
+        names = c.names_of.ensures;
+        content = c.head_of.ensures.content;
+        within = c.head_of.ensures.within;
+      };
+    } in
+    let shorter = rest_shorter bytes rest own.more c.after_node-rest.ensures.behind in
+    note_here bytes note refl shorter own

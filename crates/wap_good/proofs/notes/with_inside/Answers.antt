@@ -5,7 +5,7 @@ use Rattle.wap_good.proofs.notes.with_inside.Goals as goal
 
 pub loop-note-init : goal.loop-note-init
 loop-note-init c = record {
-  told = subst (AreNotes c.args.bytes.now) (sym c.new-told.ensures) tt;
+  told = subst (AreNotes c.args.bytes.now) (sym c.in_ok-told.ensures) tt;
   left = c.requires;
 }
 
