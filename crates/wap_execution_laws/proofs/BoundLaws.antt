@@ -1,15 +1,13 @@
 -- Runs do few instructions between turns.
 use Rattle.std.proofs.Common.{◌≡◌, ℕ, zero, suc, ◌+◌, ◌-◌, ◌*◌, ◌≤◌, Bool, true, false, eqb}
 use Rattle.std.proofs.Common.{leb, cond, List, [], ◌∷◌, ◌++◌, length, Option, Some, None}
-use Rattle.std.proofs.Common.{refl, sym, ap, subst, zero-add, arith}
-use Rattle.std.specs.Prelude.{⊤}
-use Rattle.std.specs.List.{AllByRecursion}
+use Rattle.std.proofs.Common.{refl, sym, subst, zero-add, arith}
+use Rattle.std.specs.Prelude.{⊤, slice_get}
 use Rattle.std.specs.Option.{option_map_or}
 use Rattle.wap_base.specs.declared.limits.Limits.{Limits}
 use Rattle.wap_base.specs.declared.limits.TheConstants.{MOST_DEPTH}
 use Rattle.wap_value.specs.declared.value.Value.{Value}
 use Rattle.wap_value.specs.declared.value.Value.TheVariants.{Str}
-use Rattle.wap_url.specs.declared.url.Url.{Url}
 use Rattle.wap_code.specs.declared.unit.Unit.{Unit as CodeUnit}
 use Rattle.wap_code.specs.declared.unit.Code.{Code}
 use Rattle.wap_execution.specs.declared.fatal.Fatal.TheVariants.{Budget, Depth}
@@ -25,9 +23,13 @@ use Rattle.wap_execution.specs.Outcomes.{stuck, Ended, Hosting, Setting}
 use Rattle.wap_execution.specs.Running.{ended, returned_by, Enter, Onward, library_gave, entered}
 use Rattle.wap_execution.specs.Running.{called, at_place, followed, forward, looping, run_by, began}
 use Rattle.wap_execution.specs.Running.{enter, run, resumed, finished}
-use Rattle.wap_execution_laws.specs.Settings.{counting}
-use Rattle.wap_execution_laws.specs.Bounds.{IsShort, FindsShort, answered_by}
-use Rattle.wap_execution_laws.specs.Bounds.{continued, most_instructions}
+use Rattle.wap_execution_laws.specs.Settings.{Counted, longest_code, longest_with, counting}
+use Rattle.wap_execution_laws.specs.Dialogs.{answered_by, continued, with_count}
+use Rattle.wap_execution_laws.specs.Bounds.{longest_of, started, most_instructions}
+use Rattle.wap_execution_laws.proofs.GrowthLaws.{Grows, grows_keeps, continued_grows}
+use Rattle.wap_execution_laws.proofs.RunLaws.{Keeps, Follows, EnterFollows, OnwardFollows}
+use Rattle.wap_execution_laws.proofs.RunLaws.{forward_follows, looping_follows, enter_follows}
+use Rattle.wap_execution_laws.proofs.RunLaws.{resumed_follows, finished_follows}
 
 -- what a turn pays for
 abbrev each : ℕ → ℕ
@@ -45,8 +47,11 @@ left_over longest (fatal why) = 0
 left_over longest (waits dialog frames) = room longest frames
 left_over longest stuck = 0
 
+abbrev IsShort : ℕ → CodeUnit → Type 0
+IsShort longest unit = longest_code unit.functions ≤ longest
+
 abbrev AllShort : ℕ → List Frame → Type 0
-AllShort longest frames = AllByRecursion (λ frame. IsShort longest frame.function.unit) frames
+AllShort longest frames = longest_of frames ≤ longest
 
 abbrev IsShortOutcome : ℕ → Outcome → Type 0
 IsShortOutcome longest (value v) = ⊤
@@ -56,318 +61,398 @@ IsShortOutcome longest (waits dialog frames) = AllShort longest frames
 IsShortOutcome longest stuck = ⊤
 
 -- with so many turns, and so many instructions done or paid for before
-record Spends {S : Type 0} (longest turns before : ℕ) (end : Ended (S × ℕ)) : Type 0 where
+record Spent {S : Type 0} (longest turns before : ℕ) (end : Ended (Counted S)) : Type 0 where
   fewer : end.turns ≤ turns
-  few : end.state.1 + left_over longest end.outcome + end.turns * each longest
+  few : end.state.instructions + left_over longest end.outcome + end.turns * each longest
       ≤ before + turns * each longest
   short : IsShortOutcome longest end.outcome
+
+-- where nothing longer is found by the end
+abbrev Spends : {S : Type 0} → ℕ → ℕ → ℕ → Ended (Counted S) → Type 0
+Spends longest turns before end = end.state.longest ≤ longest → Spent longest turns before end
 
 room_joined : (longest : ℕ) (some more : List Frame)
     → room longest (some ++ more) ≡ room longest some + room longest more
 room_joined longest [] more = sym (zero-add (room longest more))
 room_joined longest (frame ∷ some) more = let rest = room_joined longest some more in omega arith
 
+room_is : (longest : ℕ) (frames : List Frame) → room longest frames ≡ length frames * longest
+room_is longest [] = omega arith
+room_is longest (frame ∷ frames) = let rest = room_is longest frames in omega arith
+
 short_joined : (longest : ℕ) (some more : List Frame) → AllShort longest some
     → AllShort longest more → AllShort longest (some ++ more)
 short_joined longest [] more all others = others
 short_joined longest (frame ∷ some) more all others =
-    (all.0, short_joined longest some more all.1 others)
+    let rest = short_joined longest some more (omega arith) others in omega arith
 
-module _ {S : Type 0} (limits : Limits) (host : Hosting S) (longest : ℕ)
-    (finds : FindsShort longest host) where
+short_among : (functions : List Code) (index : ℕ)
+    → length (option_map_or (λ (c : Code). c.code) (slice_get functions index) [])
+    ≤ longest_code functions
+short_among [] index = omega arith
+short_among (code ∷ more) zero = omega arith
+short_among (code ∷ more) (suc index) = let rest = short_among more index in omega arith
+
+module _ {S : Type 0} (limits : Limits) (host : Hosting S) (longest : ℕ) where
   abbrev State : Type 0
-  State = S × ℕ
+  State = Counted S
 
   abbrev setting : Setting State
   setting = counting limits host
 
+  keeps : Keeps setting Grows
+  keeps = grows_keeps limits host
+
   abbrev EnterSpends : Enter State → Type 0
   EnterSpends into =
-      (function : Function) (arguments : List Value) (turns : ℕ) (state : State)
+      (function : Function) (arguments : List Value) (turns : ℕ) (counted : State)
       → IsShort longest function.unit
-      → Spends longest turns (state.1 + longest) (into function arguments turns state)
+      → Spends longest turns (counted.instructions + longest)
+      (into function arguments turns counted)
 
   abbrev OnwardSpends : ℕ → Onward State → Type 0
   OnwardSpends left on =
-      (place : ℕ) (variables operands : List Value) (turns : ℕ) (state : State)
-      → Spends longest turns (state.1 + left) (on place variables operands turns state)
+      (place : ℕ) (variables operands : List Value) (turns : ℕ) (counted : State)
+      → Spends longest turns (counted.instructions + left)
+      (on place variables operands turns counted)
 
   later : (turns left before spent : ℕ) (end : Ended State) → left ≤ turns
-      → spent + left * each longest ≤ before + turns * each longest → Spends longest left spent end
-      → Spends longest turns before end
+      → spent + left * each longest ≤ before + turns * each longest → Spent longest left spent end
+      → Spent longest turns before end
   later turns left before spent end fewer paid spends = record {
     fewer = let falls = spends.fewer in omega arith;
     few = let few = spends.few in omega arith;
     short = spends.short;
   }
 
-  returned_spends : (frames : List Frame) (next : Value → ℕ → State → Ended State) (rest most : ℕ)
-      → AllShort longest frames
-      → ((v : Value) (turns : ℕ) (state : State)
-      → Spends longest turns (state.1 + rest) (next v turns state))
-      → rest ≤ most → room longest frames ≤ most
-      → (turns before : ℕ) (outcome : Outcome) (left : ℕ) (state : State) → left ≤ turns
-      → state.1 + left_over longest outcome + left * each longest + most
-      ≤ before + turns * each longest
-      → IsShortOutcome longest outcome
-      → Spends longest turns before (returned_by frames next outcome left state)
-  returned_spends frames next rest most all nexts one two turns before (value v) left state
-      fewer paid short =
-      later turns left before (state.1 + rest) (next v left state) fewer (omega arith)
-      (nexts v left state)
-  returned_spends frames next rest most all nexts one two turns before (exit v) left state fewer
-      paid short = record { fewer = fewer; few = omega arith; short = tt }
-  returned_spends frames next rest most all nexts one two turns before (fatal why) left state fewer
-      paid short = record { fewer = fewer; few = omega arith; short = tt }
-  returned_spends frames next rest most all nexts one two turns before (waits dialog inner) left
-      state fewer paid short = record {
-        fewer = fewer;
-        few = let joined = room_joined longest inner frames in omega arith;
-        short = short_joined longest inner frames short all;
-      }
-  returned_spends frames next rest most all nexts one two turns before stuck left state fewer paid
-      short = record { fewer = fewer; few = omega arith; short = tt }
+  still : (outcome : Outcome) (turns : ℕ) (counted : State) (more : ℕ)
+      → left_over longest outcome ≡ 0 → IsShortOutcome longest outcome
+      → Spends longest turns (counted.instructions + more) (ended outcome turns counted)
+  still outcome turns counted more none short =
+      λ within. record { fewer = omega arith; few = omega arith; short = short }
 
-  library_spends : (gave : HostOut) (turns : ℕ) (state : State)
-      → Spends longest turns (state.1 + longest) (library_gave gave turns state)
-  library_spends (answer.Value v) turns state =
-      record { fewer = omega arith; few = omega arith; short = tt }
-  library_spends (answer.Exit v) turns state =
-      record { fewer = omega arith; few = omega arith; short = tt }
-  library_spends (answer.Fatal why) turns state =
-      record { fewer = omega arith; few = omega arith; short = tt }
-  library_spends (answer.Asks dialog) turns state =
-      record { fewer = omega arith; few = omega arith; short = tt }
+  module _ (frames : List Frame) (all : AllShort longest frames)
+      (next : Value → ℕ → State → Ended State) (rest most : ℕ)
+      (nexts : (v : Value) (turns : ℕ) (counted : State)
+      → Spends longest turns (counted.instructions + rest) (next v turns counted))
+      (grow : (v : Value) (turns : ℕ) (counted : State)
+      → Follows Grows turns counted (next v turns counted))
+      (few : rest ≤ most) (covers : room longest frames ≤ most)
+      (turns before inner spent : ℕ) (fewer : inner ≤ turns)
+      (paid : spent + inner * each longest + most ≤ before + turns * each longest) where
+    -- what a call is paid for, and what goes on after it
+    returned_spends : (outcome : Outcome) (left : ℕ) (counted : State)
+        → Spends longest inner spent (ended outcome left counted)
+        → Spends longest turns before (returned_by frames next outcome left counted)
+    returned_spends (value v) left counted spends = λ within.
+        let grown = (grow v left counted).kin in
+        let call = spends (omega arith) in
+        let falls = call.fewer in
+        let done = call.few in
+        later turns left before (counted.instructions + rest) (next v left counted)
+        (omega arith) (omega arith) (nexts v left counted within)
+    returned_spends (exit v) left counted spends = λ within.
+        later turns inner before spent (ended (exit v) left counted) fewer (omega arith)
+        (spends within)
+    returned_spends (fatal why) left counted spends = λ within.
+        later turns inner before spent (ended (fatal why) left counted) fewer (omega arith)
+        (spends within)
+    returned_spends (waits dialog waiting) left counted spends = λ within. record {
+      fewer = let falls = (spends within).fewer in omega arith;
+      few =
+          let done = (spends within).few in
+          let joined = room_joined longest waiting frames in omega arith;
+      short = short_joined longest waiting frames (spends within).short all;
+    }
+    returned_spends stuck left counted spends = λ within.
+        later turns inner before spent (ended stuck left counted) fewer (omega arith)
+        (spends within)
 
-  entered_spends : (into : Enter State) → EnterSpends into
-      → (caller : Url) (arguments : List Value) (found : Found CodeUnit) (turns : ℕ) (state : State)
-      → ((unit : CodeUnit) (base : Url) (index : ℕ) → found ≡ Callee unit base index
-      → IsShort longest unit)
-      → Spends longest turns (state.1 + longest) (entered into caller arguments found turns state)
-  entered_spends into intos caller arguments (Callee unit base index) turns state short =
-      intos (record { unit = unit; base = base; referer = Some caller; index = index })
-      arguments turns state (short unit base index refl)
-  entered_spends into intos caller arguments (Not why) turns state short =
-      record { fewer = omega arith; few = omega arith; short = tt }
+  -- ---- calls
 
-  still : (outcome : Outcome) (turns : ℕ) (state : State) (more : ℕ) → left_over longest outcome ≡ 0
-      → IsShortOutcome longest outcome
-      → Spends longest turns (state.1 + more) (ended outcome turns state)
-  still outcome turns state more none short =
-      record { fewer = omega arith; few = omega arith; short = short }
+  library_spends : (gave : HostOut) (turns : ℕ) (counted : State)
+      → Spends longest turns (counted.instructions + longest) (library_gave gave turns counted)
+  library_spends (answer.Value v) turns counted = still (value v) turns counted longest refl tt
+  library_spends (answer.Exit v) turns counted = still (exit v) turns counted longest refl tt
+  library_spends (answer.Fatal why) turns counted = still (fatal why) turns counted longest refl tt
+  library_spends (answer.Asks dialog) turns counted =
+      still (waits dialog []) turns counted longest refl (omega arith)
 
-  called_spends : (working : ℕ) (into : Enter State) → EnterSpends into
-      → (function : Function) (callee : Called) (arguments : List Value) (turns : ℕ) (state : State)
-      → IsShort longest function.unit
-      → Spends longest turns (state.1 + longest)
-      (called setting working into function callee arguments turns state)
-  called_spends working into intos function (local index) arguments turns state short =
-      elim (leb limits.depth working) as (λ (b : Bool).
-      Spends longest turns (state.1 + longest) (cond b (ended (fatal Depth) turns state)
-      (into (record function { index = index }) arguments turns state))) [
-        | true ↦ still (fatal Depth) turns state longest refl tt
-        | false ↦ intos (record function { index = index }) arguments turns state short
-      ]
-  called_spends working into intos function (library number index) arguments turns state short =
-      let gave = host.library state.0 function.base function.referer number index arguments in
-      library_spends gave.0 turns (gave.1, state.1)
-  called_spends working into intos function (external url name) arguments turns state short =
-      let found = host.external state.0 function.base url name (length arguments) working in
-      entered_spends into intos function.base arguments found.0 turns (found.1, state.1)
-      (finds state.0 function.base url name (length arguments) working)
-
-  short_code : (function : Function) → IsShort longest function.unit
-      → length (code_of function) ≤ longest
-  short_code function short = by (code_at function) refl
-    where
-      by : (o : Option Code) → code_at function ≡ o → length (code_of function) ≤ longest
-      by None is =
-          subst (λ (n : ℕ). n ≤ longest)
-          (sym (ap (λ (o : Option Code). length (option_map_or (λ (c : Code). c.code) o [])) is))
-          (omega arith)
-      by (Some code) is =
-          subst (λ (n : ℕ). n ≤ longest)
-          (sym (ap (λ (o : Option Code). length (option_map_or (λ (c : Code). c.code) o [])) is))
-          (short function.index code is)
-
-  module _ (working : ℕ) (into : Enter State) (intos : EnterSpends into) (function : Function)
+  module _ (working : ℕ) (into : Enter State) (intos : EnterSpends into)
+      (grow : EnterFollows Grows into) (function : Function)
       (short : IsShort longest function.unit) where
-    followed_spends : (left : ℕ) (on again : Onward State) → OnwardSpends left on
-        → OnwardSpends longest again → left ≤ longest
-        → (effect : Effect) (turns : ℕ) (state : State)
-        → Spends longest turns (state.1 + left)
-        (followed setting working into function on again effect turns state)
-    followed_spends left on again ons agains few (onward place variables operands) turns state =
-        ons place variables operands turns state
-    followed_spends left on again ons agains few (back place variables operands) zero state =
-        still (fatal Budget) 0 state left refl tt
-    followed_spends left on again ons agains few (back place variables operands) (suc turns) state =
-        later (suc turns) turns (state.1 + left) (state.1 + longest) (again place variables operands
-        turns state) (omega arith) (omega arith) (agains place variables operands turns state)
-    followed_spends left on again ons agains few (calls callee arguments place variables operands)
-        zero state = still (fatal Budget) 0 state left refl tt
-    followed_spends left on again ons agains few (calls callee arguments place variables operands)
-        (suc turns) state =
-        let call = called setting working into function callee arguments turns state in
-        let spends = called_spends working into intos function callee arguments turns state short in
-        returned_spends (at_place function place variables operands ∷ [])
-        (λ v. on place variables (v ∷ operands)) left longest (short, tt)
-        (λ v turns state. ons place variables (v ∷ operands) turns state)
-        few (omega arith) (suc turns) (state.1 + left) call.outcome call.turns call.state
-        (let falls = spends.fewer in omega arith)
-        (let paid = spends.few in omega arith) spends.short
-    followed_spends left on again ons agains few (returns v) turns state =
-        still (value v) turns state left refl tt
-    followed_spends left on again ons agains few (ends why) turns state =
-        still (fatal why) turns state left refl tt
-    followed_spends left on again ons agains few nowhere turns state =
-        still stuck turns state left refl tt
+    -- what was found is noted
+    entered_spends : (arguments : List Value) (found : Found CodeUnit) (turns : ℕ) (counted : State)
+        (old : ℕ) → counted.longest ≡ longest_with old found
+        → Spends longest turns (counted.instructions + longest)
+        (entered into function.base arguments found turns counted)
+    entered_spends arguments (Callee unit base index) turns counted old noted = λ within.
+        let callee : Function =
+        record { unit = unit; base = base; referer = Some function.base; index = index } in
+        let grown = (grow callee arguments turns counted).kin in
+        intos callee arguments turns counted (omega arith) within
+    entered_spends arguments (Not why) turns counted old noted =
+        still (fatal why) turns counted longest refl tt
 
-    forward_spends : (again : Onward State) → OnwardSpends longest again → (left : ℕ)
-        → left ≤ longest → OnwardSpends left (forward setting working into function again left)
-    unfolding forward
-    forward_spends again agains zero few place variables operands turns state =
-        elim (eqb place (length (code_of function))) as (λ (b : Bool). Spends longest turns
-        (state.1 + 0) (cond b (ended (value (Str [])) turns state) (ended stuck turns state))) [
-          | true ↦ still (value (Str [])) turns state 0 refl tt
-          | false ↦ still stuck turns state 0 refl tt
+    called_spends : (callee : Called) (arguments : List Value) (turns : ℕ) (counted : State)
+        → Spends longest turns (counted.instructions + longest)
+        (called setting working into function callee arguments turns counted)
+    called_spends (local index) arguments turns counted =
+        elim (leb limits.depth working) as (λ (b : Bool).
+        Spends longest turns (counted.instructions + longest) (cond b
+        (ended (fatal Depth) turns counted)
+        (into (record function { index = index }) arguments turns counted))) [
+          | true ↦ still (fatal Depth) turns counted longest refl tt
+          | false ↦ intos (record function { index = index }) arguments turns counted short
         ]
-    forward_spends again agains (suc left) few place variables operands turns state =
+    called_spends (library number index) arguments turns counted =
+        let gave =
+        host.library counted.state function.base function.referer number index arguments in
+        library_spends gave.0 turns (record counted { state = gave.1 })
+    called_spends (external url name) arguments turns counted =
+        let found =
+        host.external counted.state function.base url name (length arguments) working in
+        entered_spends arguments found.0 turns (record counted {
+          state = found.1;
+          longest = longest_with counted.longest found.0;
+        }) counted.longest refl
+
+    -- ---- one frame
+
+    followed_spends : (left : ℕ) (on again : Onward State) → OnwardSpends left on
+        → OnwardFollows Grows on → OnwardSpends longest again → left ≤ longest
+        → (effect : Effect) (turns : ℕ) (counted : State)
+        → Spends longest turns (counted.instructions + left)
+        (followed setting working into function on again effect turns counted)
+    followed_spends left on again ons on_grow agains few (onward place variables operands) turns
+        counted = ons place variables operands turns counted
+    followed_spends left on again ons on_grow agains few (back place variables operands) zero
+        counted = still (fatal Budget) 0 counted left refl tt
+    followed_spends left on again ons on_grow agains few (back place variables operands) (suc turns)
+        counted = λ within.
+        later (suc turns) turns (counted.instructions + left) (counted.instructions + longest)
+        (again place variables operands turns counted) (omega arith) (omega arith)
+        (agains place variables operands turns counted within)
+    followed_spends left on again ons on_grow agains few
+        (calls callee arguments place variables operands) zero counted =
+        still (fatal Budget) 0 counted left refl tt
+    followed_spends left on again ons on_grow agains few
+        (calls callee arguments place variables operands) (suc turns) counted =
+        let call = called setting working into function callee arguments turns counted in
+        returned_spends (at_place function place variables operands ∷ []) (omega arith)
+        (λ v. on place variables (v ∷ operands)) left longest
+        (λ v turns counted. ons place variables (v ∷ operands) turns counted)
+        (λ v turns counted. on_grow place variables (v ∷ operands) turns counted)
+        few (omega arith) (suc turns) (counted.instructions + left)
+        turns (counted.instructions + longest) (omega arith) (omega arith)
+        call.outcome call.turns call.state (called_spends callee arguments turns counted)
+    followed_spends left on again ons on_grow agains few (returns v) turns counted =
+        still (value v) turns counted left refl tt
+    followed_spends left on again ons on_grow agains few (ends why) turns counted =
+        still (fatal why) turns counted left refl tt
+    followed_spends left on again ons on_grow agains few nowhere turns counted =
+        still stuck turns counted left refl tt
+
+    forward_spends : (again : Onward State) → OnwardSpends longest again
+        → OnwardFollows Grows again → (left : ℕ) → left ≤ longest
+        → OnwardSpends left (forward setting working into function again left)
+    unfolding forward
+    forward_spends again agains again_grow zero few place variables operands turns counted =
+        elim (eqb place (length (code_of function))) as (λ (b : Bool). Spends longest turns
+        (counted.instructions + 0)
+        (cond b (ended (value (Str [])) turns counted) (ended stuck turns counted))) [
+          | true ↦ still (value (Str [])) turns counted 0 refl tt
+          | false ↦ still stuck turns counted 0 refl tt
+        ]
+    forward_spends again agains again_grow (suc left) few place variables operands turns counted =
         let effect = effect_at limits.string (at_place function place variables operands) in
         let on = forward setting working into function again left in
+        let ons = forward_spends again agains again_grow left (omega arith) in
+        let on_grow =
+        forward_follows setting Grows keeps working into grow function again again_grow left in
+        let ticked = setting.tick counted in
         elim (eqb (place + suc left) (length (code_of function))) as (λ (b : Bool).
-        Spends longest turns (state.1 + suc left) (cond b
-        (followed setting working into function on again effect turns (setting.tick state))
-        (on place variables operands turns state))) [
+        Spends longest turns (counted.instructions + suc left) (cond b
+        (followed setting working into function on again effect turns ticked)
+        (on place variables operands turns counted))) [
           | true ↦
-              later turns turns (state.1 + suc left) (state.1 + 1 + left) (followed setting working
-              into function on again effect turns (setting.tick state)) (omega arith) (omega arith)
-              (followed_spends left on again (forward_spends again agains left (omega arith)) agains
-              (omega arith) effect turns (setting.tick state))
+              λ within.
+              later turns turns (counted.instructions + suc left)
+              (counted.instructions + 1 + left)
+              (followed setting working into function on again effect turns ticked)
+              (omega arith) (omega arith)
+              (followed_spends left on again ons on_grow agains (omega arith) effect turns ticked
+              within)
           | false ↦
-              later turns turns (state.1 + suc left) (state.1 + left)
-              (on place variables operands turns state) (omega arith) (omega arith)
-              (forward_spends again agains left (omega arith) place variables operands turns state)
+              λ within.
+              later turns turns (counted.instructions + suc left) (counted.instructions + left)
+              (on place variables operands turns counted) (omega arith) (omega arith)
+              (ons place variables operands turns counted within)
         ]
+
+    short_code : length (code_of function) ≤ longest
+    short_code =
+        let among = short_among function.unit.functions function.index in omega arith
 
     looping_spends : (jumps : ℕ)
         → OnwardSpends longest (looping setting working into function jumps)
     unfolding looping
-    looping_spends zero place variables operands turns state =
-        still (fatal Budget) turns state longest refl tt
-    looping_spends (suc jumps) place variables operands turns state =
+    looping_spends zero place variables operands turns counted =
+        still (fatal Budget) turns counted longest refl tt
+    looping_spends (suc jumps) place variables operands turns counted = λ within.
         let again = looping setting working into function jumps in
         let code = length (code_of function) in
-        let few : code ≤ longest = short_code function short in
-        later turns turns (state.1 + longest) (state.1 + code) (forward setting working into
-        function again code place variables operands turns state) (omega arith) (omega arith)
-        (forward_spends again (looping_spends jumps) code few place variables operands turns state)
+        let few : code ≤ longest = short_code in
+        later turns turns (counted.instructions + longest) (counted.instructions + code)
+        (forward setting working into function again code place variables operands turns counted)
+        (omega arith) (omega arith)
+        (forward_spends again (looping_spends jumps)
+        (looping_follows setting Grows keeps working into grow function jumps) code few
+        place variables operands turns counted within)
 
-  run_by_spends : (working : ℕ) (into : Enter State) → EnterSpends into
-      → (frame : Frame) (turns : ℕ) (state : State) → IsShort longest frame.function.unit
-      → Spends longest turns (state.1 + longest) (run_by setting working into frame turns state)
+  run_by_spends : (working : ℕ) (into : Enter State) → EnterSpends into → EnterFollows Grows into
+      → (frame : Frame) (turns : ℕ) (counted : State) → IsShort longest frame.function.unit
+      → Spends longest turns (counted.instructions + longest)
+      (run_by setting working into frame turns counted)
   unfolding run_by
-  run_by_spends working into intos frame turns state short =
-      looping_spends working into intos frame.function short
-      (suc turns) frame.place frame.variables frame.operands turns state
+  run_by_spends working into intos grow frame turns counted short =
+      looping_spends working into intos grow frame.function short
+      (suc turns) frame.place frame.variables frame.operands turns counted
 
-  began_spends : (working : ℕ) (into : Enter State) → EnterSpends into → (function : Function)
-      (code : Option Code) (arguments : List Value) (turns : ℕ) (state : State)
-      → IsShort longest function.unit
-      → Spends longest turns (state.1 + longest)
-      (began setting working into function code arguments turns state)
-  began_spends working into intos function None arguments turns state short =
-      still stuck turns state longest refl tt
-  began_spends working into intos function (Some code) arguments turns state short =
-      run_by_spends working into intos (begun function code arguments) turns state short
+  -- ---- all frames
+
+  began_spends : (working : ℕ) (into : Enter State) → EnterSpends into → EnterFollows Grows into
+      → (function : Function) (code : Option Code) (arguments : List Value) (turns : ℕ)
+      (counted : State) → IsShort longest function.unit
+      → Spends longest turns (counted.instructions + longest)
+      (began setting working into function code arguments turns counted)
+  began_spends working into intos grow function None arguments turns counted short =
+      still stuck turns counted longest refl tt
+  began_spends working into intos grow function (Some code) arguments turns counted short =
+      run_by_spends working into intos grow (begun function code arguments) turns counted short
 
   enter_spends : (more : ℕ) → EnterSpends (enter setting more)
   unfolding enter
-  enter_spends zero function arguments turns state short =
-      still (fatal Depth) turns state longest refl tt
-  enter_spends (suc more) function arguments turns state short =
-      began_spends (MOST_DEPTH - more) (enter setting more) (enter_spends more) function
-      (code_at function) arguments turns state short
+  enter_spends zero function arguments turns counted short =
+      still (fatal Depth) turns counted longest refl tt
+  enter_spends (suc more) function arguments turns counted short =
+      began_spends (MOST_DEPTH - more) (enter setting more) (enter_spends more)
+      (enter_follows setting Grows keeps more) function (code_at function)
+      arguments turns counted short
 
-  run_spends : (frame : Frame) (outer : List Frame) (turns : ℕ) (state : State)
+  run_spends : (frame : Frame) (outer : List Frame) (turns : ℕ) (counted : State)
       → IsShort longest frame.function.unit
-      → Spends longest turns (state.1 + longest) (run setting frame outer turns state)
-  run_spends frame outer turns state short =
-      run_by_spends (length (frame ∷ outer)) (enter setting (MOST_DEPTH - length (frame ∷ outer)))
-      (enter_spends (MOST_DEPTH - length (frame ∷ outer))) frame turns state short
+      → Spends longest turns (counted.instructions + longest)
+      (run setting frame outer turns counted)
+  run_spends frame outer turns counted short =
+      let more = MOST_DEPTH - length (frame ∷ outer) in
+      run_by_spends (length (frame ∷ outer)) (enter setting more) (enter_spends more)
+      (enter_follows setting Grows keeps more) frame turns counted short
 
-  resumed_spends : (frames : List Frame) (v : Value) (turns : ℕ) (state : State)
-      → AllShort longest frames
-      → Spends longest turns (state.1 + room longest frames) (resumed setting frames v turns state)
+  abbrev ResumedSpends : List Frame → Type 0
+  ResumedSpends frames =
+      (v : Value) (turns : ℕ) (counted : State)
+      → Spends longest turns (counted.instructions + room longest frames)
+      (resumed setting frames v turns counted)
+
+  -- the innermost frame, and then the others with its value
+  outward_spends : (frame : Frame) (outer : List Frame) (turns : ℕ) (counted : State)
+      → AllShort longest (frame ∷ outer) → ResumedSpends outer
+      → let end = run setting frame outer turns counted in
+      Spends longest turns (counted.instructions + room longest (frame ∷ outer))
+      (returned_by outer (resumed setting outer) end.outcome end.turns end.state)
+  outward_spends frame outer turns counted all resumes =
+      let end = run setting frame outer turns counted in
+      returned_spends outer (omega arith) (resumed setting outer)
+      (room longest outer) (room longest outer) resumes
+      (resumed_follows setting Grows keeps outer) (omega arith) (omega arith)
+      turns (counted.instructions + room longest (frame ∷ outer))
+      turns (counted.instructions + longest) (omega arith) (omega arith)
+      end.outcome end.turns end.state (run_spends frame outer turns counted (omega arith))
+
+  resumed_spends : (frames : List Frame) → AllShort longest frames → ResumedSpends frames
   unfolding resumed
-  resumed_spends [] v turns state all = still (value v) turns state 0 refl tt
-  resumed_spends (frame ∷ outer) v turns state all =
-      let end = run setting (pushed v frame) outer turns state in
-      let spends = run_spends (pushed v frame) outer turns state all.0 in
-      returned_spends outer (resumed setting outer) (room longest outer) (room longest outer) all.1
-      (λ v turns state. resumed_spends outer v turns state all.1) (omega arith) (omega arith)
-      turns (state.1 + room longest (frame ∷ outer)) end.outcome end.turns end.state spends.fewer
-      (let paid = spends.few in omega arith) spends.short
+  resumed_spends [] all v turns counted = still (value v) turns counted 0 refl tt
+  resumed_spends (frame ∷ outer) all v turns counted =
+      outward_spends (pushed v frame) outer turns counted all
+      (resumed_spends outer (omega arith))
 
-  finished_spends : (frame : Frame) (turns : ℕ) (state : State)
-      → IsShort longest frame.function.unit
-      → Spends longest turns (state.1 + longest) (finished setting (frame ∷ []) turns state)
+  finished_spends : (frames : List Frame) (turns : ℕ) (counted : State)
+      → AllShort longest frames
+      → Spends longest turns (counted.instructions + room longest frames)
+      (finished setting frames turns counted)
   unfolding finished
-  finished_spends frame turns state short =
-      let end = run setting frame [] turns state in
-      let spends = run_spends frame [] turns state short in
-      returned_spends [] (resumed setting []) 0 0 tt
-      (λ v turns state. resumed_spends [] v turns state tt) (omega arith) (omega arith)
-      turns (state.1 + longest) end.outcome end.turns end.state spends.fewer
-      (let paid = spends.few in omega arith) spends.short
+  finished_spends [] turns counted all = still stuck turns counted 0 refl tt
+  finished_spends (frame ∷ outer) turns counted all =
+      outward_spends frame outer turns counted all (resumed_spends outer (omega arith))
+
+  -- ---- after dialogs
 
   answered_spends : (turns before : ℕ) (v : Value) (state : S) (end : Ended State)
       (outcome : Outcome) → end.outcome ≡ outcome → Spends longest turns before end
-      → Spends longest turns before (answered_by setting v state end outcome)
+      → Spends longest turns before (answered_by setting with_count v state end outcome)
   answered_spends turns before v state end (value given) is spends = spends
   answered_spends turns before v state end (exit given) is spends = spends
   answered_spends turns before v state end (fatal why) is spends = spends
-  answered_spends turns before v state end (waits dialog frames) is spends =
-      let all : AllShort longest frames = subst (IsShortOutcome longest) is spends.short in
-      let paid : end.state.1 + room longest frames + end.turns * each longest
+  answered_spends turns before v state end (waits dialog frames) is spends = λ within.
+      let counted = with_count state end.state in
+      let grown = (resumed_follows setting Grows keeps frames v end.turns counted).kin in
+      let spent = spends (omega arith) in
+      let all : AllShort longest frames = subst (IsShortOutcome longest) is spent.short in
+      let paid : end.state.instructions + room longest frames + end.turns * each longest
       ≤ before + turns * each longest =
-      subst (λ (o : Outcome). end.state.1 + left_over longest o + end.turns * each longest
-      ≤ before + turns * each longest) is spends.few in
-      later turns end.turns before (end.state.1 + room longest frames)
-      (resumed setting frames v end.turns (state, end.state.1)) spends.fewer paid
-      (resumed_spends frames v end.turns (state, end.state.1) all)
+      subst (λ (o : Outcome). end.state.instructions + left_over longest o
+      + end.turns * each longest ≤ before + turns * each longest) is spent.few in
+      later turns end.turns before (end.state.instructions + room longest frames)
+      (resumed setting frames v end.turns counted) spent.fewer paid
+      (resumed_spends frames all v end.turns counted within)
   answered_spends turns before v state end stuck is spends = spends
 
   continued_spends : (turns before : ℕ) (answers : List (Value × S)) (end : Ended State)
       → Spends longest turns before end
-      → Spends longest turns before (continued setting answers end)
+      → Spends longest turns before (continued setting with_count answers end)
   continued_spends turns before [] end spends = spends
   continued_spends turns before (one ∷ more) end spends =
-      continued_spends turns before more (answered_by setting one.0 one.1 end end.outcome)
+      continued_spends turns before more
+      (answered_by setting with_count one.0 one.1 end end.outcome)
       (answered_spends turns before one.0 one.1 end end.outcome refl spends)
 
-  -- what was not spent on turns is little
-  few_for : (took turns left count over : ℕ) → turns ≡ took + left
-      → count + over + left * each longest ≤ longest + turns * each longest
-      → count ≤ most_instructions took longest
-  few_for took turns left count over all paid =
-      let each_turn =
-      subst (λ (n : ℕ). count + over + left * each longest ≤ longest + n * each longest) all paid in
-      omega arith
+-- ---- all of it
 
-  few_by : (turns : ℕ) (end : Ended State) → Spends longest turns longest end
-      → end.state.1 ≤ most_instructions (turns - end.turns) longest
-  few_by turns end spends =
-      few_for (turns - end.turns) turns end.turns end.state.1 (left_over longest end.outcome)
-      (let falls = spends.fewer in omega arith) spends.few
+-- what was not spent on turns is little
+few_for : (working longest took turns left count over : ℕ) → turns ≡ took + left
+    → count + over + left * each longest ≤ working * longest + turns * each longest
+    → count ≤ most_instructions working took longest
+few_for working longest took turns left count over all paid =
+    let each_turn = subst (λ (n : ℕ).
+    count + over + left * each longest ≤ working * longest + n * each longest) all paid in
+    omega arith
 
-  pub bounded : (frame : Frame) (turns : ℕ) (state : S) (answers : List (Value × S))
-      → IsShort longest frame.function.unit
-      → let end = continued setting answers (finished setting (frame ∷ []) turns (state, 0)) in
-      end.state.1 ≤ most_instructions (turns - end.turns) longest
-  bounded frame turns state answers short =
-      let end = continued setting answers (finished setting (frame ∷ []) turns (state, 0)) in
-      few_by turns end
-      (continued_spends turns longest answers (finished setting (frame ∷ []) turns (state, 0))
-      (subst (λ (n : ℕ). Spends longest turns n (finished setting (frame ∷ []) turns (state, 0)))
-      (zero-add longest) (finished_spends frame turns (state, 0) short)))
+module _ {S : Type 0} (limits : Limits) (host : Hosting S) (frames : List Frame) (turns : ℕ)
+    (state : S) (answers : List (Value × S)) where
+  abbrev first : Ended (Counted S)
+  first = finished (counting limits host) frames turns (started frames state)
+
+  abbrev last : Ended (Counted S)
+  last = continued (counting limits host) with_count answers first
+
+  spent : Spent last.state.longest turns (room last.state.longest frames) last
+  spent =
+      let longest = last.state.longest in
+      let begins = (finished_follows (counting limits host) Grows (grows_keeps limits host)
+      frames turns (started frames state)).kin in
+      let goes_on = continued_grows limits host answers first in
+      continued_spends limits host longest turns (room longest frames) answers first
+      (subst (λ (n : ℕ). Spends longest turns n first) (zero-add (room longest frames))
+      (finished_spends limits host longest frames turns (started frames state) (omega arith)))
+      (omega arith)
+
+  pub bounded : last.state.instructions
+      ≤ most_instructions (length frames) (turns - last.turns) last.state.longest
+  bounded =
+      let longest = last.state.longest in
+      let few = subst (λ (n : ℕ). last.state.instructions + left_over longest last.outcome
+      + last.turns * each longest ≤ n + turns * each longest) (room_is longest frames) spent.few in
+      let fewer = spent.fewer in
+      few_for (length frames) longest (turns - last.turns) turns last.turns
+      last.state.instructions (left_over longest last.outcome) (omega arith) few

@@ -209,7 +209,7 @@ module _ {S : Type 0} (setting : Setting S) (Kin : S → S → Type 0) (keeps : 
     followed_follows on again ons agains (ends why) turns state = stays (fatal why) turns state
     followed_follows on again ons agains nowhere turns state = stays stuck turns state
 
-    forward_follows : (again : Onward S) → OnwardFollows Kin again → (left : ℕ)
+    pub forward_follows : (again : Onward S) → OnwardFollows Kin again → (left : ℕ)
         → OnwardFollows Kin (forward setting working into function again left)
     unfolding forward
     forward_follows again agains zero place variables operands turns state =

@@ -1,59 +1,35 @@
 -- How many instructions runs do, with those of all functions that they call, and where they go on
 -- after dialogs. This project's own.
-use Rattle.std.specs.Prelude.{◌≡◌, ℕ, ◌+◌, ◌-◌, ◌*◌, ◌≤◌, List, [], ◌∷◌, length, Some, slice_get}
+use Rattle.std.specs.Prelude.{ℕ, ◌+◌, ◌-◌, ◌*◌, ◌≤◌, max, List, [], ◌∷◌, length}
 use Rattle.wap_base.specs.declared.limits.Limits.{Limits}
 use Rattle.wap_value.specs.declared.value.Value.{Value}
-use Rattle.wap_url.specs.declared.url.Url.{Url}
-use Rattle.wap_code.specs.declared.unit.Unit.{Unit}
-use Rattle.wap_code.specs.declared.unit.Code.{Code}
-use Rattle.wap_execution.specs.declared.found.Found.TheVariants.{Callee}
 use Rattle.wap_execution.specs.Frames.{Frame}
-use Rattle.wap_execution.specs.Outcomes.{Outcome, value, exit, fatal, waits}
-use Rattle.wap_execution.specs.Outcomes.{stuck, Ended, Hosting, Setting}
-use Rattle.wap_execution.specs.Running.{resumed, finished}
-use Rattle.wap_execution_laws.specs.Settings.{counting}
+use Rattle.wap_execution.specs.Outcomes.{Hosting}
+use Rattle.wap_execution.specs.Running.{finished}
+use Rattle.wap_execution_laws.specs.Settings.{Counted, longest_code, counting}
+use Rattle.wap_execution_laws.specs.Dialogs.{continued, with_count}
 
--- no function of the unit has more bytes of code
-abbrev pub IsShort : ℕ → Unit → Type 0
-IsShort longest unit =
-    (index : ℕ) (code : Code) → slice_get unit.functions index ≡ Some code
-    → length code.code ≤ longest
+-- how many bytes the longest code has among the functions of the units of these frames
+abbrev pub longest_of : List Frame → ℕ
+longest_of [] = 0
+longest_of (frame ∷ outer) = max (longest_code frame.function.unit.functions) (longest_of outer)
 
--- nor has any of a unit that the host finds
-abbrev pub FindsShort : {S : Type 0} → ℕ → Hosting S → Type 0
-FindsShort {S} longest host =
-    (state : S) (caller : Url) (target name : List ℕ) (count working : ℕ)
-    (unit : Unit) (base : Url) (index : ℕ)
-    → (host.external state caller target name count working).0 ≡ Callee unit base index
-    → IsShort longest unit
+-- these frames start: nothing is done yet, and nothing found
+abbrev pub started : {S : Type 0} → List Frame → S → Counted S
+started frames state =
+    record { state = state; instructions = 0; longest = longest_of frames }
 
--- a dialog is answered by a value, and the state may be another by then; the count and the turns
--- stay
-abbrev pub answered_by : {S : Type 0}
-    → Setting (S × ℕ) → Value → S → Ended (S × ℕ) → Outcome → Ended (S × ℕ)
-answered_by setting v state end (value given) = end
-answered_by setting v state end (exit given) = end
-answered_by setting v state end (fatal why) = end
-answered_by setting v state end (waits dialog frames) =
-    resumed setting frames v end.turns (state, end.state.1)
-answered_by setting v state end stuck = end
+-- no more instructions than this are done by so many functions at work, and by all that they call,
+-- by the turns that are taken and by the longest code
+abbrev pub most_instructions : ℕ → ℕ → ℕ → ℕ
+most_instructions working turns longest = (2 * turns + working) * (longest + 1)
 
--- one dialog after the other is answered
-abbrev pub continued : {S : Type 0}
-    → Setting (S × ℕ) → List (Value × S) → Ended (S × ℕ) → Ended (S × ℕ)
-continued setting [] end = end
-continued setting (one ∷ more) end =
-    continued setting more (answered_by setting one.0 one.1 end end.outcome)
-
--- where no function has more bytes of code, a run and all that goes on after its dialogs do no more
--- instructions than this, by the turns that they take
-abbrev pub most_instructions : ℕ → ℕ → ℕ
-most_instructions turns longest = (2 * turns + 1) * (longest + 1)
-
+-- in a run of frames, and in all that goes on after its dialogs
 abbrev pub AreBounded : {S : Type 0} → Limits → Hosting S → Type 0
 AreBounded {S} limits host =
-    (longest : ℕ) (frame : Frame) (turns : ℕ) (state : S) (answers : List (Value × S))
-    → FindsShort longest host → IsShort longest frame.function.unit
+    (frames : List Frame) (turns : ℕ) (state : S) (answers : List (Value × S))
     → let setting = counting limits host in
-    let end = continued setting answers (finished setting (frame ∷ []) turns (state, 0)) in
-    end.state.1 ≤ most_instructions (turns - end.turns) longest
+    let end = continued setting with_count answers
+    (finished setting frames turns (started frames state)) in
+    end.state.instructions
+    ≤ most_instructions (length frames) (turns - end.turns) end.state.longest

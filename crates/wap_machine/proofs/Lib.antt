@@ -4,3 +4,4 @@ pub mod HostLaws
 pub mod StepLaws
 pub mod GoingLaws
 pub mod RunsLaws
+pub mod BoundedLaws

@@ -42,7 +42,7 @@ IsNoBudget (Exit value) = ⊤
 IsNoBudget (Fatal why) = why ≢ Budget
 IsNoBudget (Asks dialog) = ⊤
 
--- a count that was told is still told, and no lower
+-- a count that was known is still known, and no lower
 abbrev pub AtMost : ℕ → Option ℕ → Type 0
 AtMost count None = ⊥
 AtMost count (Some more) = count ≤ more
@@ -50,13 +50,13 @@ AtMost count (Some more) = count ≤ more
 abbrev pub Grows : Option ℕ → Option ℕ → Type 0
 Grows before after = IfSome before (λ count. AtMost count after)
 
--- from one state to the other, where both are told
+-- from one state to the other, where both are known
 abbrev pub GrowsTold : {S : Type 0} → (S → Option ℕ) → Option S → Option S → Type 0
 GrowsTold fetched None after = ⊤
 GrowsTold fetched (Some before) None = ⊤
 GrowsTold fetched (Some before) (Some after) = Grows (fetched before) (fetched after)
 
--- a call that failed raised the count that was told before, and not above what the call would have
+-- a call that failed raised the count that was known before, and not above what the call would have
 -- left
 abbrev pub Fetches : Option ℕ → ℕ → Option ℕ → Type 0
 Fetches before count after = IfSome before (λ least. Rose least count × AtMost count after)

@@ -1,11 +1,12 @@
 -- What machines' runs come to, by the definitions.
-use Rattle.std.specs.Prelude.{⊤, ◌≡◌, ℕ, Option, Some}
+use Rattle.std.specs.Prelude.{⊤, ◌≡◌, ℕ, ◌-◌, ◌≤◌, length, Option, Some}
 use Rattle.wap_base.specs.declared.limits.Limits.{Limits}
 use Rattle.wap_execution.specs.Outcomes.{Outcome as Meant, value, exit}
 use Rattle.wap_execution.specs.Outcomes.{fatal, waits, Ended, Hosting}
 use Rattle.wap_execution.specs.declared.fatal.Fatal.TheVariants.{Budget}
 use Rattle.wap_execution.specs.Running.{finished}
-use Rattle.wap_execution_laws.specs.Settings.{uncounted}
+use Rattle.wap_execution_laws.specs.Settings.{uncounted, Counted, counting}
+use Rattle.wap_execution_laws.specs.Bounds.{started, most_instructions}
 use Rattle.wap_machine.specs.Stacks.{Stack}
 use Rattle.wap_machine.specs.declared.machine.Outcome.{Outcome}
 use Rattle.wap_machine.specs.declared.machine.Outcome.TheVariants.{Done, Exited, Fatal, Asks}
@@ -27,6 +28,18 @@ pub record IsEnd {S : Type 0}
 -- what the frames of a machine come to in a host, with so many turns left
 abbrev pub run_of : {S : Type 0} → Stack → Hosting S → ℕ → S → Ended S
 run_of machine host = finished (uncounted machine.limits host) machine.frames
+
+-- the same run, with its instructions counted
+abbrev pub counted_run_of : {S : Type 0} → Stack → Hosting S → ℕ → S → Ended (Counted S)
+counted_run_of machine host turns state =
+    finished (counting machine.limits host) machine.frames turns (started machine.frames state)
+
+-- it does no more instructions than the turns that it took allow, where so many are left
+abbrev pub IsBounded : {S : Type 0} → Stack → Hosting S → ℕ → ℕ → S → Type 0
+IsBounded machine host turns left state =
+    let end = counted_run_of machine host turns state in
+    end.state.instructions
+    ≤ most_instructions (length machine.frames) (turns - left) end.state.longest
 
 -- a machine that waits has these limits
 abbrev pub KeepsLimits : Limits → Outcome → Type 0

@@ -26,7 +26,7 @@ pub trait Host<P> {
     /// How many turns are left.
     ghost turns: { Self → ℕ };
 
-    /// The state, where it is told.
+    /// The state, where it is known.
     ghost state: { Self → P → Option State };
 
     /// What the calls answer, and the state that they leave.
@@ -61,7 +61,7 @@ pub trait Host<P> {
         count: u8,
         depth: u32,
     ) -> Result<Found<Arc<Verified, Global>>, RunErr>
-        // What is told is so, and stays told.
+        // What is known is so, and stays known.
         ensures told { IfOk result (λ found. IfSome (state self.old pages.old) (λ before. Gives
             (meaning.external before caller.now target.now function.now count depth)
             (found_of found) (state self.new pages.new))) }

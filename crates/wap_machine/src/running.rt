@@ -2,7 +2,8 @@
 ghost use Rattle.std.specs.Prelude.{◌≡◌, ◌≤◌, IfOk, IsErrOf, IfSome};
 ghost use Rattle.wap_base.specs.Count.{Rose};
 ghost use Rattle.wap_machine.specs.Hosts.{Fetches};
-ghost use Rattle.wap_machine.specs.Runs.{run_of, IsEnd, KeepsLimits, WantsNoTurn};
+ghost use Rattle.wap_machine.specs.Runs.{run_of, IsEnd, IsBounded};
+ghost use Rattle.wap_machine.specs.Runs.{KeepsLimits, WantsNoTurn};
 
 use crate::host::Host;
 use crate::machine::{Machine, Outcome, Step};
@@ -20,6 +21,9 @@ impl Machine {
         ensures told { IfOk result (λ outcome. IfSome (H.state host.old pages.old) (λ before.
             IsEnd (run_of self H.meaning (H.turns host.old) before)
             outcome (H.turns host.new) (H.state host.new pages.new))) }
+        // The definition's run does no more instructions than the turns that were taken allow.
+        ensures bounded { IfOk result (λ outcome. IfSome (H.state host.old pages.old)
+            (IsBounded self H.meaning (H.turns host.old) (H.turns host.new))) }
         // It ends because turns ran out only where none is left.
         ensures budget { IfOk result (WantsNoTurn (H.turns host.new)) }
         ensures limits { IfOk result (KeepsLimits self.limits) }

@@ -33,7 +33,7 @@ abbrev pub rest : {S : Type 0} → Setting S → Step → ℕ → S → Ended S
 rest setting (Goes machine) turns state = finished setting machine.frames turns state
 rest setting (Ends outcome) turns state = ended (meant outcome) turns state
 
--- where the state was told it still is, and what was to do before is what is to do after
+-- where the state was known it still is, and what was to do before is what is to do after
 abbrev pub Same : {S E : Type 0} → (S → E) → Option S → (S → E) → Option S → Type 0
 Same before None after later = ⊤
 Same before (Some state) after None = ⊥

@@ -9,6 +9,7 @@ use Rattle.wap_machine.specs.inside.Efforts.{effort, GoesBelow}
 use Rattle.wap_machine.specs.inside.Steps.{rest, Same, LimitsStay}
 use Rattle.wap_machine.proofs.HostLaws.{other_fault}
 use Rattle.wap_machine.proofs.RunsLaws.{begins, goes_on, ends_told, fails_fetched}
+use Rattle.wap_machine.proofs.BoundedLaws.{told_bounded}
 use Rattle.wap_machine.proofs.machine.Machine.run.Goals as goal
 
 pub loop-next-init : goal.loop-next-init
@@ -71,6 +72,13 @@ returns-in-Ok-Ends-clause-told g c =
     ends_told g.H.Host.meaning g.H.Host.fetched c.args.self (g.H.Host.turns c.args.host.now)
     (g.H.Host.state c.args.host.now c.args.pages.now)
     now turns state c.loop-next.invariant.runs c.in-Ok-Ends.outcome left later told
+
+pub returns-in-Ok-Ends-clause-bounded : goal.returns-in-Ok-Ends-clause-bounded
+returns-in-Ok-Ends-clause-bounded g c =
+    told_bounded g.H.Host.meaning c.args.self (g.H.Host.turns c.args.host.now)
+    (g.H.Host.state c.args.host.now c.args.pages.now) c.in-Ok-Ends.outcome
+    (g.H.Host.turns c.step.new.host) (g.H.Host.state c.step.new.host c.step.new.pages)
+    (returns-in-Ok-Ends-clause-told g c)
 
 pub returns-in-Err-clause-fetched : goal.returns-in-Err-clause-fetched
 returns-in-Err-clause-fetched g c = λ is.
