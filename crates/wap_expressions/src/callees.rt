@@ -15,6 +15,7 @@ use wap_grammar::{Callee, Lexeme, ParseFault, Sign};
 use wap_program::{Expr, Id};
 
 /// What a call names.
+#[inline(always)]
 #[tactic(auto, unfolding(wap_grammar::specs::inside::Expressions::callee_at))]
 pub(crate) fn read_callee<'a>(
     alloc: Global,
@@ -28,6 +29,7 @@ pub(crate) fn read_callee<'a>(
 }
 
 /// What a call names, after its first name.
+#[inline(always)]
 #[tactic(auto, unfolding(wap_grammar::specs::inside::Expressions::callee_after))]
 fn read_callee_after<'a>(
     alloc: Global,
@@ -50,6 +52,7 @@ fn read_callee_after<'a>(
 }
 
 /// The variable that a name is, and the `++` or `--` after it.
+#[inline(always)]
 #[tactic(auto, unfolding(wap_grammar::specs::inside::Expressions::variable_at))]
 pub(crate) fn read_variable<'a>(
     src: &[u8],

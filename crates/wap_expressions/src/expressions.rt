@@ -1,5 +1,5 @@
 //! Expressions (WAP-193, section 6.3).
-ghost use Rattle.std.specs.Prelude.{◌≡◌, ◌∷◌};
+ghost use Rattle.std.specs.Prelude.{◌<◌, ◌∷◌};
 ghost use Rattle.wap_base.specs.Outcome.{Meets};
 ghost use Rattle.wap_grammar.specs.declared.fault.ParseFault.TheVariants as faults;
 ghost use Rattle.wap_grammar.specs.inside.Steps.{told, items_at};
@@ -56,16 +56,78 @@ fn read_part<'a>(
         (part_at src.now (expression_at src.now levels) level lexemes.now) }
 {
     if level < CONDITIONAL {
-        return read_operators(alloc, src, levels, level, lexemes);
+        return read_tight(alloc, src, levels, level, lexemes);
     }
-    let tighter = level - 1;
     if level == CONDITIONAL {
-        return read_conditional(alloc, src, levels, tighter, lexemes);
+        return read_choice(alloc, src, levels, lexemes);
     }
     if level == ASSIGNMENT {
-        return read_assignment(alloc, src, levels, tighter, lexemes);
+        return read_value(alloc, src, levels, lexemes);
     }
-    read_loosest(alloc, src, levels, level, tighter, lexemes)
+    if level == COMMA {
+        return read_sequence(alloc, src, levels, lexemes);
+    }
+    read_loosest(alloc, src, levels, level, level - 1, lexemes)
+}
+
+/// An expression of a level that is tighter than that of `?:`.
+#[cycle(expressions)]
+fn read_tight<'a>(
+    alloc: Global,
+    src: &[u8],
+    levels: u32,
+    level: u8,
+    lexemes: &'a [Lexeme],
+) -> Result<(Expr, &'a [Lexeme]), ParseFault>
+    requires { level < CONDITIONAL }
+    ensures { Meets faults.NoMemory (λ read. (read.0, read.1.now)) result
+        (part_at src.now (expression_at src.now levels) level lexemes.now) }
+{
+    read_operators(alloc, src, levels, level, lexemes)
+}
+
+/// An expression of the level of `?:`.
+#[cycle(expressions)]
+fn read_choice<'a>(
+    alloc: Global,
+    src: &[u8],
+    levels: u32,
+    lexemes: &'a [Lexeme],
+) -> Result<(Expr, &'a [Lexeme]), ParseFault>
+    ensures { Meets faults.NoMemory (λ read. (read.0, read.1.now)) result
+        (part_at src.now (expression_at src.now levels) CONDITIONAL lexemes.now) }
+{
+    read_conditional(alloc, src, levels, CONDITIONAL - 1, lexemes)
+}
+
+/// An expression of the level of assignments.
+#[cycle(expressions)]
+fn read_value<'a>(
+    alloc: Global,
+    src: &[u8],
+    levels: u32,
+    lexemes: &'a [Lexeme],
+) -> Result<(Expr, &'a [Lexeme]), ParseFault>
+    ensures { Meets faults.NoMemory (λ read. (read.0, read.1.now)) result
+        (part_at src.now (expression_at src.now levels) ASSIGNMENT lexemes.now) }
+{
+    read_assignment(alloc, src, levels, lexemes)
+}
+
+/// Expressions with commas between them.
+#[cycle(expressions)]
+fn read_sequence<'a>(
+    alloc: Global,
+    src: &[u8],
+    levels: u32,
+    lexemes: &'a [Lexeme],
+) -> Result<(Expr, &'a [Lexeme]), ParseFault>
+    ensures { Meets faults.NoMemory (λ read. (read.0, read.1.now)) result
+        (climbed_after (part_at src.now (expression_at src.now levels)) ASSIGNMENT COMMA
+        (part_at src.now (expression_at src.now levels) ASSIGNMENT lexemes.now)) }
+{
+    let (first, rest) = read_value(alloc, src, levels, lexemes)?;
+    read_looser(alloc, src, levels, ASSIGNMENT, COMMA, first, rest)
 }
 
 /// An expression of the next tighter level, and the operators of a level after it.
@@ -106,6 +168,7 @@ fn read_operators<'a>(
 /// An expression and the operators after it that are looser than one level, up to another. Levels
 /// without an operator there are passed over.
 #[cycle(expressions)]
+#[inline(always)]
 fn read_looser<'a>(
     alloc: Global,
     src: &[u8],
@@ -207,11 +270,12 @@ fn read_conditional<'a>(
     tighter: u8,
     lexemes: &'a [Lexeme],
 ) -> Result<(Expr, &'a [Lexeme]), ParseFault>
+    requires { tighter < CONDITIONAL }
     ensures { Meets faults.NoMemory (λ read. (read.0, read.1.now)) result
         (conditional_at src.now (expression_at src.now levels)
         (part_at src.now (expression_at src.now levels) tighter) lexemes.now) }
 {
-    let (condition, rest) = read_part(alloc, src, levels, tighter, lexemes)?;
+    let (condition, rest) = read_tight(alloc, src, levels, tighter, lexemes)?;
     if !is_sign(Sign::Question, rest) {
         return Ok((condition, rest));
     }
@@ -261,15 +325,14 @@ fn read_assignment<'a>(
     alloc: Global,
     src: &[u8],
     levels: u32,
-    tighter: u8,
     lexemes: &'a [Lexeme],
 ) -> Result<(Expr, &'a [Lexeme]), ParseFault>
     ensures { Meets faults.NoMemory (λ read. (read.0, read.1.now)) result
         (assignment_at src.now (expression_at src.now levels)
-        (part_at src.now (expression_at src.now levels) tighter) lexemes.now) }
+        (part_at src.now (expression_at src.now levels) CONDITIONAL) lexemes.now) }
 {
     if !is_name(lexemes) {
-        return read_part(alloc, src, levels, tighter, lexemes);
+        return read_choice(alloc, src, levels, lexemes);
     }
     let rest = after(lexemes);
     match assignment_of(word_of(rest)) {
@@ -278,7 +341,7 @@ fn read_assignment<'a>(
             let id = id_of(alloc, src, span_of(lexemes))?;
             Ok((Expr::Assign(id, op, value), rest))
         }
-        None => read_part(alloc, src, levels, tighter, lexemes),
+        None => read_choice(alloc, src, levels, lexemes),
     }
 }
 
@@ -308,6 +371,7 @@ fn read_unary<'a>(
 
 /// A literal, an expression in parentheses, a call or a variable.
 #[cycle(expressions)]
+#[inline(always)]
 #[tactic(auto, unfolding(wap_grammar::specs::inside::Expressions::primary_at))]
 fn read_primary<'a>(
     alloc: Global,
@@ -332,6 +396,7 @@ fn read_primary<'a>(
 
 /// A call or a variable.
 #[cycle(expressions)]
+#[inline(always)]
 #[tactic(auto, unfolding(wap_grammar::specs::inside::Expressions::named_at))]
 fn read_named<'a>(
     alloc: Global,

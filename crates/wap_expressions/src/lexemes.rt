@@ -15,7 +15,7 @@ use wap_program::Span;
 pub fn lexemes_of(alloc: Global, src: &[u8], tokens: &[Token]) -> Result<Rows<Lexeme>, NoMemory>
     ensures { IfOk result (λ lexemes. lexemes ≡ lexemes_of src.now tokens.now) }
 {
-    let mut lexemes = Rows::new(alloc);
+    let mut lexemes = Rows::from_vec(Vec::with_capacity(alloc, tokens.len())?);
     for token in tokens {
         lexemes.add(lexeme_of(src, *token))?;
     }

@@ -11,6 +11,7 @@ use wap_grammar::{ParseFault, Word};
 use wap_program::{Literal, Span};
 
 /// The literal that a word is, if it is one.
+#[inline(always)]
 #[tactic(auto, unfolding(wap_grammar::specs::Values::literal_of))]
 pub(crate) fn literal_of(
     alloc: Global,

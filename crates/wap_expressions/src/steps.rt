@@ -53,6 +53,7 @@ pub fn expect<'a>(src: &[u8], sign: Sign, lexemes: &'a [Lexeme]) -> Result<&'a [
 }
 
 /// The name of a part of the source.
+#[inline(always)]
 pub(crate) fn id_of(alloc: Global, src: &[u8], span: Span) -> Result<Id, ParseFault>
     ensures { Meets NoMemory (λ id. id) result (Ok (id_of src.now span)) }
 {
@@ -61,6 +62,7 @@ pub(crate) fn id_of(alloc: Global, src: &[u8], span: Span) -> Result<Id, ParseFa
 }
 
 /// A name, and the tokens after it.
+#[inline(always)]
 #[tactic(auto, unfolding(wap_grammar::specs::inside::Steps::id_at))]
 pub fn read_id<'a>(
     alloc: Global,

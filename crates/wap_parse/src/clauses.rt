@@ -19,6 +19,7 @@ use wap_program::{Boxed, Expr, Stmt};
 
 /// An expression, and a sign after it.
 #[tactic(auto, unfolding(wap_grammar::specs::inside::Statements::closed_at))]
+#[inline(always)]
 fn read_closed<'a>(
     alloc: Global,
     src: &[u8],
@@ -36,6 +37,7 @@ fn read_closed<'a>(
 
 /// An expression or none, and the sign after it.
 #[tactic(auto, unfolding(wap_grammar::specs::inside::Statements::optional_at, wap_grammar::specs::inside::Statements::closed_at))]
+#[inline(always)]
 fn read_optional<'a>(
     alloc: Global,
     src: &[u8],
@@ -135,6 +137,7 @@ fn read_turns<'a>(
 
 /// A condition in parentheses.
 #[tactic(auto, unfolding(wap_grammar::specs::inside::Statements::condition_at, wap_grammar::specs::inside::Statements::closed_at))]
+#[inline(always)]
 pub(crate) fn read_condition<'a>(
     alloc: Global,
     src: &[u8],
@@ -188,6 +191,7 @@ pub(crate) fn read_return<'a>(
 }
 
 /// An expression that is a statement.
+#[inline(always)]
 pub(crate) fn read_evaluation<'a>(
     alloc: Global,
     src: &[u8],

@@ -41,6 +41,7 @@ fn read_statement<'a>(
 /// A statement with so many levels left for its parts.
 #[cycle(statements)]
 #[tactic(auto, unfolding(wap_grammar::specs::inside::Statements::statement_by))]
+#[inline(always)]
 fn read_parts<'a>(
     alloc: Global,
     src: &[u8],
@@ -193,6 +194,7 @@ fn read_simple<'a>(
 /// Statements after a `{`, and the `}` after them.
 #[cycle(statements)]
 #[tactic(auto, unfolding(wap_grammar::specs::inside::Statements::block_at))]
+#[inline(always)]
 pub(crate) fn read_block<'a>(
     alloc: Global,
     src: &[u8],

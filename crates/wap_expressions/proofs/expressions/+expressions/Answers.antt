@@ -1,6 +1,8 @@
-use Rattle.std.proofs.Common.{length, ◌∷◌, Option, Ok, sym, ap, ◌∙◌, arith}
+use Rattle.std.proofs.Common.{length, ◌∷◌, Option, Ok, refl, sym, ap, ◌∙◌, arith}
 use Rattle.wap_value.specs.declared.operator.BinOp.{BinOp}
 use Rattle.wap_program.specs.declared.expression.Expr.{Expr}
+use Rattle.wap_grammar.specs.declared.precedence.TheConstants.{CONDITIONAL}
+use Rattle.wap_grammar.specs.declared.precedence.TheConstants.{ASSIGNMENT, COMMA}
 use Rattle.wap_grammar.specs.inside.Steps.{told, items_at}
 use Rattle.wap_grammar.specs.inside.Expressions.{next_argument, next_operand}
 use Rattle.wap_grammar.specs.inside.Expressions.{part_at, expression_at}
@@ -15,27 +17,42 @@ read_expression-returns t c =
     rw (deeper c.args.src.now c.args.levels c.args.level c.args.lexemes.now (omega arith))
     c.read_part.ensures
 
-pub read_part-returns-then-level-lt-CONDITIONAL : goal.read_part-returns-then-level-lt-CONDITIONAL
-read_part-returns-then-level-lt-CONDITIONAL t c =
-    rw (at_operators c.args.src.now (expression_at c.args.src.now c.args.levels)
-    c.args.lexemes.now c.args.level c.if-level-lt-CONDITIONAL.true) c.read_operators.ensures
-
 pub read_part-returns-then-level-eq-CONDITIONAL : goal.read_part-returns-then-level-eq-CONDITIONAL
 read_part-returns-then-level-eq-CONDITIONAL t c =
-    rw (at_conditional c.args.src.now (expression_at c.args.src.now c.args.levels) c.args.level
-    c.args.lexemes.now c.if-level-eq-CONDITIONAL.true) c.read_conditional.ensures
+    rw c.if-level-eq-CONDITIONAL.true c.read_choice.ensures
 
 pub read_part-returns-then-level-eq-ASSIGNMENT : goal.read_part-returns-then-level-eq-ASSIGNMENT
 read_part-returns-then-level-eq-ASSIGNMENT t c =
-    rw (at_assignment c.args.src.now (expression_at c.args.src.now c.args.levels) c.args.level
-    c.args.lexemes.now (λ e. absurd (omega (arith, e, c.if-level-lt-CONDITIONAL.false)))
-    c.if-level-eq-CONDITIONAL.false c.if-level-eq-ASSIGNMENT.true) c.read_assignment.ensures
+    rw c.if-level-eq-ASSIGNMENT.true c.read_value.ensures
+
+pub read_part-returns-then-level-eq-COMMA : goal.read_part-returns-then-level-eq-COMMA
+read_part-returns-then-level-eq-COMMA t c =
+    rw c.if-level-eq-COMMA.true
+    (rw (at_loosest c.args.src.now (expression_at c.args.src.now c.args.levels)
+    c.args.lexemes.now COMMA (omega arith) (λ e. absurd (omega (arith, e)))
+    (λ e. absurd (omega (arith, e)))) c.read_sequence.ensures)
 
 pub read_part-returns : goal.read_part-returns
 read_part-returns t c =
     rw (at_loosest c.args.src.now (expression_at c.args.src.now c.args.levels)
     c.args.lexemes.now c.args.level (omega (arith, c.if-level-lt-CONDITIONAL.false))
     c.if-level-eq-CONDITIONAL.false c.if-level-eq-ASSIGNMENT.false) c.read_loosest.ensures
+
+pub read_tight-returns : goal.read_tight-returns
+read_tight-returns t c =
+    rw (at_operators c.args.src.now (expression_at c.args.src.now c.args.levels)
+    c.args.lexemes.now c.args.level c.requires) c.read_operators.ensures
+
+pub read_choice-returns : goal.read_choice-returns
+read_choice-returns t c =
+    rw (at_conditional c.args.src.now (expression_at c.args.src.now c.args.levels) CONDITIONAL
+    c.args.lexemes.now refl) c.read_conditional.ensures
+
+pub read_value-returns : goal.read_value-returns
+read_value-returns t c =
+    rw (at_assignment c.args.src.now (expression_at c.args.src.now c.args.levels) ASSIGNMENT
+    c.args.lexemes.now (λ e. absurd (omega (arith, e))) (λ e. absurd (omega (arith, e))) refl)
+    c.read_assignment.ensures
 
 pub read_looser-returns-in-None : goal.read_looser-returns-in-None
 read_looser-returns-in-None t c =

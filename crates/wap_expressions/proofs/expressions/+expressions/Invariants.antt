@@ -1,4 +1,6 @@
 use Rattle.std.proofs.Common.{◌+◌, ◌-◌, ◌*◌, ◌∷◌, length}
+use Rattle.wap_grammar.specs.declared.precedence.TheConstants.{CONDITIONAL}
+use Rattle.wap_grammar.specs.declared.precedence.TheConstants.{ASSIGNMENT, COMMA}
 use Rattle.wap_grammar.specs.inside.Steps.{told, items_at}
 use Rattle.wap_grammar.specs.inside.Expressions.{next_argument, next_operand}
 use Rattle.wap_grammar.specs.inside.Expressions.{part_at, expression_at}
@@ -10,6 +12,18 @@ decreases-read_expression l = 1048576 * l.levels
 
 abbrev pub decreases-read_part : goal.decreases-read_part
 decreases-read_part l = 1048576 * l.levels + 1024 * l.level + 900
+
+abbrev pub decreases-read_tight : goal.decreases-read_tight
+decreases-read_tight l = 1048576 * l.levels + 1024 * l.level + 850
+
+abbrev pub decreases-read_choice : goal.decreases-read_choice
+decreases-read_choice l = 1048576 * l.levels + 1024 * CONDITIONAL + 500
+
+abbrev pub decreases-read_value : goal.decreases-read_value
+decreases-read_value l = 1048576 * l.levels + 1024 * ASSIGNMENT + 500
+
+abbrev pub decreases-read_sequence : goal.decreases-read_sequence
+decreases-read_sequence l = 1048576 * l.levels + 1024 * COMMA + 600
 
 abbrev pub decreases-read_loosest : goal.decreases-read_loosest
 decreases-read_loosest l =
@@ -36,7 +50,7 @@ abbrev pub decreases-read_conditional : goal.decreases-read_conditional
 decreases-read_conditional l = 1048576 * l.levels + 1024 * l.tighter + 1000
 
 abbrev pub decreases-read_assignment : goal.decreases-read_assignment
-decreases-read_assignment l = 1048576 * l.levels + 1024 * l.tighter + 1000
+decreases-read_assignment l = 1048576 * l.levels + 1024 * CONDITIONAL + 600
 
 abbrev pub decreases-read_branches : goal.decreases-read_branches
 decreases-read_branches l = 1048576 * l.levels + 2
