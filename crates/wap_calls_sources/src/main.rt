@@ -12,8 +12,8 @@ use std::marker::{Send, Sync};
 use std::process::ExitCode;
 use wap_casebook::{Call, Calls, CaseFault, play_calls};
 use wap_lex::{Kind, LexFault, Token};
-use wap_parse::{Expr, ParseFault, Use};
-use wap_scope::ScopeFault;
+use wap_parse::{Expr, Function, ParseFault, Program, Stmt, Use};
+use wap_scope::{ScopeFault, Scoped};
 
 /// The calls of sources.
 struct Sources;
@@ -40,7 +40,21 @@ fn all_cross() {
     crosses::<ScopeFault>();
 }
 
+/// The same of the types of statements and of what holds them.
+fn programs_cross() {
+    crosses::<Stmt>();
+    crosses::<Function>();
+    crosses::<Program>();
+}
+
+/// The same of programs whose names are in order.
+fn scoped_crosses() {
+    crosses::<Scoped>();
+}
+
 fn main(rt: HostRuntime) -> ExitCode {
     all_cross();
+    programs_cross();
+    scoped_crosses();
     play_calls(&rt, &Sources)
 }
