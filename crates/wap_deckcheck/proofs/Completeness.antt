@@ -2,7 +2,7 @@
 use Rattle.std.proofs.Common.{◌≡◌, ℕ, zero, suc, ◌<◌, ◌≤◌, Bool, true, false, not, cond, ◌||◌}
 use Rattle.std.proofs.Common.{List, [], ◌∷◌, ◌++◌, length, take, Option, Some, None, refl}
 use Rattle.std.proofs.Common.{sym, ap, subst, ◌∙◌, append_assoc, arith}
-use Rattle.std.specs.Prelude.{filter, slice_get}
+use Rattle.std.specs.Prelude.{◌≢◌, filter, slice_get, Result, Ok, Err, IfErr}
 use Rattle.std.specs.List.{filter_map, flat_map, cons_option, list_any, AllByRecursion, IsDistinct}
 use Rattle.std.specs.Option.{option_to_list}
 use Rattle.wap_base.specs.Texts.{AreDistinct}
@@ -24,7 +24,7 @@ use Rattle.wap_deckcheck.specs.declared.fault.DeckFault.TheVariants as fault
 use Rattle.wap_deckcheck.specs.Places.{own_id, ids_among, own_name, names_among, Place, Level}
 use Rattle.wap_deckcheck.specs.Places.{path_behind, items_places, names_level, node_places, places}
 use Rattle.wap_deckcheck.specs.Faults.{is_misplaced, has_twice, is_taken, fault_if}
-use Rattle.wap_deckcheck.specs.Faults.{own_faults, lacks_card, faults, first_fault}
+use Rattle.wap_deckcheck.specs.Faults.{own_faults, lacks_card, faults, first_fault, Judges}
 use Rattle.wap_deckcheck.specs.inside.Walks.{judged, inner_faults}
 use Rattle.wap_deckcheck.proofs.Distinctness.{taken_no_more, distinct_before}
 use Rattle.wap_deckcheck.proofs.Walking.{one_step, append-none, names-append, ids-append}
@@ -385,3 +385,9 @@ pub first_is_bad : (deck : Deck) (told : DeckFault) → IsNormal deck →
 first_is_bad deck told normal first good =
     let none = ap first_fault (no_faults_where_good deck normal good) in
     cc
+
+pub refused_is_bad : {X : Type 0} (deck : Deck) (result : Result X DeckFault) → IsNormal deck
+    → Judges result (faults deck) → IfErr result (λ told. told ≢ fault.NoMemory → ¬ IsGood deck)
+refused_is_bad deck (Ok x) normal judges = tt
+refused_is_bad deck (Err told) normal judges =
+    λ other good. first_is_bad deck told normal (judges other) good

@@ -33,6 +33,7 @@ pub fn check(alloc: Global, deck: Deck) -> Result<GoodDeck, (Deck, DeckFault)>
 
 /// Whether a deck is good, or else the first of its faults, in the order in which `check` tells
 /// them. Nothing is kept of the deck.
+#[tactic(auto, using(crate::proofs::GoodDecks::good_without_faults))]
 pub fn judge_deck(alloc: Global, deck: &Deck) -> Result<(), DeckFault>
     requires { IsNormal deck.now }
     ensures good { OnOk result (IsGood deck.now) }
@@ -41,10 +42,7 @@ pub fn judge_deck(alloc: Global, deck: &Deck) -> Result<(), DeckFault>
         → first_fault (faults deck.now) ≡ Some fault) }
     ensures bad { IfErr result (λ fault. fault ≢ DeckFault.NoMemory → ¬ IsGood deck.now) }
 {
-    match walk_deck(alloc, deck) {
-        Ok(()) => Ok(()),
-        Err(fault) => Err(fault),
-    }
+    walk_deck(alloc, deck)
 }
 
 /// A good deck, kept.
