@@ -1,4 +1,4 @@
--- Where the first part of a program begins that stands below so many levels. This project's own.
+-- Where the first part of a program begins that is deeper than so many levels. This project's own.
 use Rattle.std.specs.Prelude.{ℕ, zero, suc, ◌<◌, List, length}
 use Rattle.wap_program.specs.declared.program.Program.{Program}
 use Rattle.wap_program.specs.declared.statement.Stmt.{Stmt}
@@ -9,13 +9,14 @@ use Rattle.wap_grammar.specs.Statements.{IsStatementOf, IsStatement}
 use Rattle.wap_grammar.specs.Programs.{IsProgramOf}
 use Rattle.wap_grammar.specs.Refusal.{IsPast}
 
--- an expression with so many levels, whose parts below them are such ones
+-- an expression whose parts are spelled by the grammar at so many levels from its own on; what is
+-- deeper is as Deep says
 unfoldable pub IsExpressionOver : List ℕ → Expressions → ℕ → Expressions
 IsExpressionOver src Deep zero level x e y = Deep level x e y
 IsExpressionOver src Deep (suc levels) level x e y =
     IsPart src (IsExpressionOver src Deep levels) level x e y
 
--- a statement with so many levels, whose parts below them are such ones
+-- a statement in the same way; a statement that is deeper is as Below says
 unfoldable pub IsStatementOver : List ℕ → Expressions → Spelling Stmt → ℕ → Spelling Stmt
 IsStatementOver src Deep Below zero x s y = Below x s y
 IsStatementOver src Deep Below (suc levels) x s y =
@@ -26,14 +27,14 @@ IsStatementOver src Deep Below (suc levels) x s y =
 abbrev pub IsLate : {A : Type 0} → ℕ → Spelling A → Spelling A
 IsLate most Is x a y = (length x < most) × Is x a y
 
--- all tokens spell a program, and its parts below so many levels span so many more at most, and
--- each begins where fewer tokens than so many are left
+-- all tokens spell a program; its parts that are deeper than the limit have so many levels more at
+-- most, and each of them begins where fewer tokens than so many are left
 abbrev pub IsProgramLate : List ℕ → ℕ → ℕ → ℕ → List Lexeme → Program → Type 0
 IsProgramLate src limit more most =
     IsProgramOf src (IsStatementOver src (λ level. IsLate most (IsExpression src more level))
     (IsLate most (IsStatement src more)) limit)
 
--- the first part of a program below so many levels begins at a place
+-- the first part of a program that is deeper than the limit begins at a place
 pub record IsFirstBelow (src : List ℕ) (limit : ℕ) (lexemes : List Lexeme) (program : Program)
     (at : ℕ) : Type 0 where
   -- the place, with the tokens before it and from it on

@@ -1,4 +1,4 @@
--- Where a part is too deep. This project's own.
+-- Places in a source, by the tokens before and after them. This project's own.
 use Rattle.std.specs.Prelude.{◌≡◌, ℕ, ◌≤◌, List, [], ◌∷◌, ◌++◌, length}
 use Rattle.wap_grammar.specs.declared.lexeme.Lexeme.{Lexeme}
 

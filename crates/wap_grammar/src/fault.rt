@@ -6,7 +6,8 @@ use wap_base::NoMemory;
 pub enum ParseFault {
     /// No program spells the tokens.
     Syntax { at: usize },
-    /// The first byte of the first part at level 65.
+    /// Where a program spells the tokens, the first byte of its first part at level 65; else a place
+    /// after 64 tokens or more.
     Nested { at: usize },
     NoMemory,
 }

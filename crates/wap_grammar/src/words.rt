@@ -2,7 +2,7 @@
 use crate::word::{Sign, Word};
 use wap_value::{BinOp, UnOp};
 
-/// Each mark, and each reserved word that stands in a program (WAP-193, sections 6.1.4 and 6.1.7).
+/// Each mark, and each reserved word that stands in a program (WAP-193, sections 6.1.7 and 7.2).
 /// They are looked up from the first on, so common ones come first.
 pub static WORDS: [(&[u8], Word); 73] = [
     (b";", Word::Sign(Sign::Semicolon)),

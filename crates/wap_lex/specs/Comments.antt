@@ -1,4 +1,4 @@
--- Comments (WAP-193, section 6.1.3).
+-- Comments (WAP-193, section 6.1.4).
 use Rattle.std.specs.Prelude.{◌≡◌, ℕ, Bool, true, false, ◌&&◌, ◌==◌, if◌then◌else◌, List, [], ◌∷◌}
 use Rattle.std.specs.List.{list_all}
 use Rattle.wap_lex.specs.Characters.{is_in}

@@ -1,4 +1,4 @@
--- Marks: operators, separators and brackets (WAP-193, section 6.1.4).
+-- Marks: operators, separators and brackets (WAP-193, section 7.2).
 use Rattle.std.specs.Prelude.{ℕ, Bool, List, [], ◌∷◌, codes}
 use Rattle.std.specs.List.{list_any}
 use Rattle.wap_base.specs.Texts.{is_same_text}

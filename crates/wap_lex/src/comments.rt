@@ -1,4 +1,4 @@
-//! Comments (WAP-193, section 6.1.3).
+//! Comments (WAP-193, section 6.1.4).
 ghost use Rattle.std.specs.Prelude.{◌≡◌, ◌≤◌, length, false};
 ghost use Rattle.wap_lex.specs.Reading.{comment_len, block_len, is_open_comment};
 

@@ -5,7 +5,7 @@ use Rattle.wap_base.specs.Texts.{is_same_text}
 use Rattle.wap_site.specs.declared.page.Page.{Page}
 use Rattle.wap_site.specs.declared.page.Page.TheVariants.{Missing}
 
--- the names of the site, which are distinct, each with its page
+-- names of the site, each with its page; of a name that stands twice the first counts
 abbrev pub Pages : Type 0
 Pages = List (List ℕ × Page)
 
