@@ -10,7 +10,9 @@ use wap_system::{FolderStore, StdinSource, StdoutSink};
 
 /// The pages of the folder that is named first, and the words of the command after it, where there
 /// is a folder and each word is UTF-8.
-fn given(rt: &HostRuntime) -> Result<Option<(FolderStore<HostRuntime>, Vec<Text>)>, NoMemory> {
+fn read_arguments(
+    rt: &HostRuntime,
+) -> Result<Option<(FolderStore<HostRuntime>, Vec<Text>)>, NoMemory> {
     let given = match env::args(rt) {
         Ok(given) => given,
         Err(error) if matches!(error.kind(), ErrorKind::OutOfMemory) => return Err(NoMemory),
@@ -31,7 +33,7 @@ fn given(rt: &HostRuntime) -> Result<Option<(FolderStore<HostRuntime>, Vec<Text>
 }
 
 fn main(rt: HostRuntime) -> ExitCode {
-    let status = match given(&rt) {
+    let status = match read_arguments(&rt) {
         Ok(Some((store, words))) => {
             let mut keys = StdinSource::new(rt.stdin());
             let mut out = StdoutSink::new(rt.stdout());

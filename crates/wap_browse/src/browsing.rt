@@ -3,7 +3,7 @@ ghost use Rattle.wap_browse.specs.Headline.{Browses};
 ghost use Rattle.wap_browse.specs.Beginning.{begun_with};
 
 use crate::Beginning;
-use crate::ending::ended;
+use crate::ending::status_of;
 use crate::playing::play;
 use std::alloc::Global;
 use wap_base::{NoMemory, Sink, Source};
@@ -50,7 +50,7 @@ pub fn browse<P: Pages, I: Source, O: Sink>(
         }
         key = match reader.next(alloc, keys) {
             Ok(Next::Key(key)) => key,
-            Ok(Next::Ended(ending)) => return ended(ending),
+            Ok(Next::Ended(ending)) => return status_of(ending),
             Err(NoMemory) => return Status::NoMemory,
         };
     }

@@ -6,7 +6,7 @@ use wap_keys::Ending;
 use wap_status::Status;
 
 /// How a session ends whose keys came to this end.
-pub(crate) fn ended(ending: Ending) -> Status
+pub(crate) fn status_of(ending: Ending) -> Status
     ensures { result ≡ ended ending }
 {
     match ending {

@@ -34,7 +34,7 @@ pub fn find(name: &[u8]) -> Option<DeviceCall> {
 }
 
 /// The call of a device that fails, or none where the number is 0.
-fn failing(call: &mut Call) -> Result<Vec<u64>, CaseFault> {
+fn failing_calls(call: &mut Call) -> Result<Vec<u64>, CaseFault> {
     let fail = call.count() as u64;
     Ok(vec![in call.alloc(); fail]?)
 }
@@ -99,7 +99,7 @@ fn give_fetched(call: &mut Call, fetched: Result<Fetched, StoreErr>) -> Result<(
 
 /// Gives a page of a store, and the same once more.
 fn fetch(call: &mut Call) -> Result<(), CaseFault> {
-    let fails = failing(call)?;
+    let fails = failing_calls(call)?;
     let name = call.text();
     let mut store = store(call, fails)?;
     give_fetched(call, store.fetch(&name))?;
@@ -115,7 +115,7 @@ fn give_names(call: &mut Call, names: &[Text]) {
 
 /// Gives the names of a store.
 fn list(call: &mut Call) -> Result<(), CaseFault> {
-    let fails = failing(call)?;
+    let fails = failing_calls(call)?;
     let mut store = store(call, fails)?;
     match store.list() {
         Ok(names) => give_names(call, &names),
@@ -137,7 +137,7 @@ fn give_read(call: &mut Call, source: &mut MemSource, room: usize) {
 /// Gives what reads of a source take, by buffers of the lengths that are left.
 fn read(call: &mut Call) -> Result<(), CaseFault> {
     let piece = size(call)?;
-    let fails = failing(call)?;
+    let fails = failing_calls(call)?;
     let mut source = MemSource::new(call.bytes(), piece, fails);
     for _ in 0..u64::MAX {
         if !call.has_more() {
@@ -153,7 +153,7 @@ fn read(call: &mut Call) -> Result<(), CaseFault> {
 fn sink(call: &mut Call) -> Result<MemSink, CaseFault> {
     let piece = size(call)?;
     let room = call.count();
-    let fails = failing(call)?;
+    let fails = failing_calls(call)?;
     Ok(MemSink::new(call.alloc(), room, piece, fails)?)
 }
 

@@ -124,7 +124,7 @@ fn set_numbered(call: &Call, vars: &mut Vars, number: usize) -> Result<(), CaseF
 }
 
 /// So many variables, whose texts are `old`.
-fn numbered(call: &mut Call) -> Result<Vars, CaseFault> {
+fn numbered_variables(call: &mut Call) -> Result<Vars, CaseFault> {
     let mut vars = Vars::new(call.alloc());
     for number in 0..call.count() {
         set_numbered(call, &mut vars, number)?;
@@ -160,13 +160,13 @@ fn set_among(call: &mut Call, vars: &mut Vars) -> Result<(), CaseFault> {
 
 /// Sets a variable beside so many others.
 fn set(call: &mut Call) -> Result<(), CaseFault> {
-    let mut vars = numbered(call)?;
+    let mut vars = numbered_variables(call)?;
     set_among(call, &mut vars)
 }
 
 /// The same, where another is removed before.
 fn set_again(call: &mut Call) -> Result<(), CaseFault> {
-    let mut vars = numbered(call)?;
+    let mut vars = numbered_variables(call)?;
     vars.remove(&name(call)?);
     set_among(call, &mut vars)
 }

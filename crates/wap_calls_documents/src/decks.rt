@@ -84,7 +84,7 @@ fn add_items(out: &mut String, levels: u32, items: &[Item]) -> Result<(), AllocE
 }
 
 /// The text that shows a deck.
-pub fn shown(alloc: Global, deck: &Deck) -> Result<Text, AllocError> {
+pub fn text_of(alloc: Global, deck: &Deck) -> Result<Text, AllocError> {
     let mut out = String::new(alloc);
     add_node(&mut out, LEVEL_LIMIT, &deck.root)?;
     Ok(Text::from_string(out))

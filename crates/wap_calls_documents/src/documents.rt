@@ -118,7 +118,7 @@ fn add_kids(out: &mut String, levels: u32, kids: &[Kid]) -> Result<(), AllocErro
 }
 
 /// The text that shows a document's root.
-pub fn shown(alloc: Global, document: &Document) -> Result<Text, AllocError> {
+pub fn text_of(alloc: Global, document: &Document) -> Result<Text, AllocError> {
     let mut out = String::new(alloc);
     add_element(&mut out, LEVEL_LIMIT, &document.root)?;
     Ok(Text::from_string(out))

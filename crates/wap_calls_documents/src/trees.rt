@@ -58,7 +58,7 @@ fn give_document(call: &mut Call, document: &Document) -> Result<(), CaseFault> 
     call.give_number(i64::from(document.version));
     call.give_number(i64::from(document.public));
     call.give_number(i64::from(document.charset));
-    call.give_text(&documents::shown(call.alloc(), document)?);
+    call.give_text(&documents::text_of(call.alloc(), document)?);
     Ok(())
 }
 
@@ -74,12 +74,12 @@ fn give_decoded(call: &mut Call) -> Result<(), CaseFault> {
 /// Gives the deck of a document.
 fn give_deck(call: &mut Call) -> Result<(), CaseFault> {
     let deck = deck(call)?;
-    call.give_text(&decks::shown(call.alloc(), &deck)?);
+    call.give_text(&decks::text_of(call.alloc(), &deck)?);
     Ok(())
 }
 
 /// The document of a deck, which the next argument means.
-fn written(call: &mut Call) -> Result<Document, CaseFault> {
+fn written_document(call: &mut Call) -> Result<Document, CaseFault> {
     let deck = deck(call)?;
     Ok(document_of(call.alloc(), &deck)?)
 }
@@ -93,7 +93,7 @@ fn compare_next(call: &mut Call, written: &Document) -> Result<(), CaseFault> {
 
 /// Gives whether a document is that of a deck.
 fn compare_documents(call: &mut Call) -> Result<(), CaseFault> {
-    let written = written(call)?;
+    let written = written_document(call)?;
     compare_next(call, &written)
 }
 

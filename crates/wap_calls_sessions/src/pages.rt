@@ -73,7 +73,7 @@ fn make_untold(call: &mut Call) -> Result<(), CaseFault> {
 }
 
 /// The pages of the arguments, which fail at the call whose number comes first.
-fn failing(call: &mut Call) -> Result<FailingPages, CaseFault> {
+fn failing_pages(call: &mut Call) -> Result<FailingPages, CaseFault> {
     let alloc = call.alloc();
     let mut fail = Vec::new(alloc);
     fail.push(u64::from(call.number32()))?;
@@ -91,11 +91,11 @@ pub fn make(name: &[u8], call: &mut Call) -> Result<(), CaseFault> {
         SessionCall::Told => make_told(call),
         SessionCall::Untold => make_untold(call),
         SessionCall::Failing => {
-            let mut pages = failing(call)?;
+            let mut pages = failing_pages(call)?;
             feed(call, &mut pages)
         }
         SessionCall::FailingPlay => {
-            let mut pages = failing(call)?;
+            let mut pages = failing_pages(call)?;
             play(call, &mut pages)
         }
     }

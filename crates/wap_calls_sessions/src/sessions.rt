@@ -9,7 +9,7 @@ use wap_site::Pages;
 /// How many turns each key has.
 const BUDGET: u32 = 100;
 
-fn beginning(alloc: Global) -> Session {
+fn new_session(alloc: Global) -> Session {
     Session::new(alloc, 1, BUDGET, Limits::default())
 }
 
@@ -31,7 +31,7 @@ fn give(call: &mut Call, shown: Result<Rows<Text>, SessionFault>) -> Result<(), 
 /// Feeds a session the keys, one after the other.
 pub fn feed<P: Pages>(call: &mut Call, pages: &mut P) -> Result<(), CaseFault> {
     let alloc = call.alloc();
-    let mut session = beginning(alloc);
+    let mut session = new_session(alloc);
     for key in &keys(call)? {
         give(call, session.feed(alloc, key, pages))?;
     }
@@ -42,7 +42,7 @@ pub fn feed<P: Pages>(call: &mut Call, pages: &mut P) -> Result<(), CaseFault> {
 pub fn play<P: Pages>(call: &mut Call, pages: &mut P) -> Result<(), CaseFault> {
     let alloc = call.alloc();
     let keys = keys(call)?;
-    let mut session = beginning(alloc);
+    let mut session = new_session(alloc);
     give(call, session.play(alloc, keys.as_slice(), pages))?;
     give(call, session.play(alloc, &[], pages))
 }

@@ -126,7 +126,7 @@ fn base(alloc: Global) -> Result<Url, CaseFault> {
 }
 
 /// The machine of a function at its beginning, if there is one that takes so many arguments.
-fn started(
+fn start(
     alloc: Global,
     unit: Arc<Verified, Global>,
     function: u8,
@@ -195,7 +195,7 @@ pub fn run(call: &mut Call) -> Result<(), CaseFault> {
     let function = byte(call);
     let arguments = values(call)?;
     let answers = values(call)?;
-    let machine = started(alloc, Arc::try_clone(&first)?, function, arguments, depth)?;
+    let machine = start(alloc, Arc::try_clone(&first)?, function, arguments, depth)?;
     let mut host = SmallHost {
         alloc,
         turns,

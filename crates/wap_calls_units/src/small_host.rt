@@ -95,7 +95,7 @@ fn dialog(function: u8, arguments: Vec<Value>) -> Option<Dialog> {
 }
 
 /// What a function of a library gives.
-fn given(library: u16, function: u8, arguments: Vec<Value>) -> Option<HostOut>
+fn result_of(library: u16, function: u8, arguments: Vec<Value>) -> Option<HostOut>
     ensures { IfSome result IsNoBudget }
 {
     let mut arguments = arguments;
@@ -168,7 +168,7 @@ impl Host<FailingPages> for SmallHost {
             pages.faults = pages.faults.saturating_add(1);
             return Err(RunErr::Store);
         }
-        match given(library, function, arguments) {
+        match result_of(library, function, arguments) {
             Some(out) => Ok(out),
             None => Ok(HostOut::Value(Value::Invalid)),
         }

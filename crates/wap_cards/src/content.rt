@@ -135,7 +135,7 @@ pub fn content_of<'a>(alloc: Global, view: &View<'a>) -> Result<Rows<Mark<'a>>, 
 }
 
 /// The element that begins, if one does.
-fn begun<'a>(mark: &Mark<'a>) -> Option<View<'a>>
+fn begun_element<'a>(mark: &Mark<'a>) -> Option<View<'a>>
     ensures { result ≡ begun_by (mark_of mark.now) }
 {
     match mark {
@@ -151,7 +151,7 @@ pub fn elements_of<'a>(alloc: Global, view: &View<'a>) -> Result<Rows<View<'a>>,
     let marks = content_of(alloc, view)?;
     let mut elements = Rows::new(alloc);
     for mark in marks.as_slice() {
-        if let Some(node) = begun(mark) {
+        if let Some(node) = begun_element(mark) {
             elements.add(node)?;
         }
     }

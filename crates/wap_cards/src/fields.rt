@@ -36,7 +36,7 @@ pub fn fields_of<'a>(alloc: Global, card: &View<'a>) -> Result<Rows<View<'a>>, N
 }
 
 /// The view of a number, from 1.
-pub fn numbered<'a>(views: &[View<'a>], number: u16) -> Option<View<'a>>
+pub fn numbered_view<'a>(views: &[View<'a>], number: u16) -> Option<View<'a>>
     ensures { result ≡ numbered views.now number }
 {
     if number == 0 {
@@ -73,7 +73,7 @@ pub fn link_task(
     ensures { IfOk result (λ task. task ≡ link_task vars.now card.now number) }
 {
     let fields = fields_of(alloc, card)?;
-    match numbered(fields.as_slice(), number) {
+    match numbered_view(fields.as_slice(), number) {
         Some(field) => task_of_link(alloc, vars, &field),
         None => Ok(None),
     }

@@ -17,7 +17,7 @@ mod values;
 pub use content::{Mark, content_of, elements_of, is_among};
 pub use dos::{active_dos, do_task};
 pub use events::{binding, onpick, template_of};
-pub use fields::{fields_of, is_field, link_task, numbered};
+pub use fields::{fields_of, is_field, link_task, numbered_view};
 pub use filling::{fill, fill_value, value_if};
 pub use numbers::number_in;
 pub use tasks::{first_with, go_to, is_filled, task_in, task_of};

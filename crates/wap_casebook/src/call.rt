@@ -1,6 +1,6 @@
 //! The call of a line.
 use crate::quoting::{add_bytes, add_number, add_text, add_word};
-use crate::spelling::spelled;
+use crate::spelling::spelled_bytes;
 use crate::words::{number, split_value, text};
 use crate::{CaseFault, Pieces};
 use std::alloc::{AllocError, Global};
@@ -74,9 +74,9 @@ impl Call {
     }
 
     /// What to tell of the call: a word and what it gave, or why it isn't played.
-    pub fn came(&self) -> (&'static str, &str) {
+    pub fn report(&self) -> (&'static str, &str) {
         match self.fault {
-            Some(fault) => ("not played: ", fault.told()),
+            Some(fault) => ("not played: ", fault.message()),
             None => ("came", self.given.as_str()),
         }
     }
@@ -196,7 +196,7 @@ impl Call {
     /// The next argument, bytes.
     pub fn bytes(&mut self) -> Bytes {
         let word = self.word();
-        match spelled(self.alloc, &self.pieces, word.as_slice(), None) {
+        match spelled_bytes(self.alloc, &self.pieces, word.as_slice(), None) {
             Ok(bytes) => bytes,
             Err(fault) => {
                 self.fail(fault);
@@ -279,7 +279,7 @@ impl Call {
         let Some(wanted) = self.wanted.pop_front() else {
             return false;
         };
-        match spelled(self.alloc, &self.pieces, wanted.as_slice(), None) {
+        match spelled_bytes(self.alloc, &self.pieces, wanted.as_slice(), None) {
             Ok(wanted) => wanted.as_slice() == bytes,
             Err(_) => false,
         }

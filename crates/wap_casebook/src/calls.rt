@@ -89,7 +89,7 @@ fn make<C: Calls>(calls: &C, call: &mut Call, name: &[u8], rest: &[u8]) -> Resul
 /// Tells of a line whose call differs.
 fn tell(out: &mut String, place: (&str, u64), line: &str, call: &Call) -> Result<(), AllocError> {
     let (file, number) = place;
-    let (word, came) = call.came();
+    let (word, came) = call.report();
     write!(out, "{file} {number}: {line}\n    {word}{came}\n")
 }
 

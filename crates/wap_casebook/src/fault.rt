@@ -16,7 +16,7 @@ pub enum CaseFault {
 
 impl CaseFault {
     /// What to tell of it.
-    pub fn told(self) -> &'static str {
+    pub fn message(self) -> &'static str {
         match self {
             CaseFault::Line => "no line or call is like this",
             CaseFault::Spelling => "bytes, a text or a number are misspelled",

@@ -75,7 +75,7 @@ fn in_text(byte: u8) -> (Place, Spelled) {
 }
 
 /// What a byte after a backslash spells.
-fn escaped(byte: u8) -> (Place, Spelled) {
+fn in_escape(byte: u8) -> (Place, Spelled) {
     match byte {
         b'u' => (Place::Character(0), Spelled::Nothing),
         b'n' => (Place::Text, Spelled::Byte(b'\n')),
@@ -117,7 +117,7 @@ fn step(place: Place, byte: u8) -> (Place, Spelled) {
         Place::Between => begin(byte),
         Place::Digit(high) => in_digits(Some(high), byte),
         Place::Text => in_text(byte),
-        Place::Escape => escaped(byte),
+        Place::Escape => in_escape(byte),
         Place::Character(number) => in_character(number, byte),
         Place::Name if byte == b']' => (Place::Between, Spelled::Piece),
         Place::Name => (Place::Name, Spelled::NameByte(byte)),

@@ -17,5 +17,5 @@ pub use calls::{Calls, Tally, play_calls};
 pub use fault::CaseFault;
 pub use pieces::Pieces;
 pub use quoting::{add_hex, add_quoted};
-pub use spelling::{spelled, spelled_text};
+pub use spelling::{spelled_bytes, spelled_text};
 pub use words::{number, range, split_value, split_word, text};

@@ -1,5 +1,5 @@
 //! Bytes that have a name, for lines that need them often.
-use crate::spelling::spelled;
+use crate::spelling::spelled_bytes;
 use crate::{CaseFault, split_word};
 use std::alloc::Global;
 use wap_base::Bytes;
@@ -32,7 +32,7 @@ impl Pieces {
     /// Gives a name to bytes, by a line `NAME BYTES`.
     pub fn define(&mut self, alloc: Global, line: &[u8]) -> Result<(), CaseFault> {
         let (name, value) = split_word(line);
-        let bytes = spelled(alloc, self, value, None)?;
+        let bytes = spelled_bytes(alloc, self, value, None)?;
         self.named.push((Bytes::of(alloc, name)?, bytes))?;
         Ok(())
     }

@@ -34,7 +34,7 @@ fn split_group(spelled: &[u8]) -> (&[u8], &[u8]) {
 
 /// The bytes that a line spells: pairs of hexadecimal digits, `"texts"`, `[pieces]` and groups
 /// `(FROM..TO items)`, with blanks between them or not. `#4` is the number in four digits.
-pub fn spelled(
+pub fn spelled_bytes(
     alloc: Global,
     pieces: &Pieces,
     line: &[u8],
@@ -66,5 +66,8 @@ pub fn spelled_text(
     line: &[u8],
     number: Option<u32>,
 ) -> Result<Text, CaseFault> {
-    text(alloc, spelled(alloc, pieces, line, number)?.as_slice())
+    text(
+        alloc,
+        spelled_bytes(alloc, pieces, line, number)?.as_slice(),
+    )
 }

@@ -4,7 +4,7 @@ use crate::wanted::Wanted;
 use std::alloc::Global;
 use wap_base::{Bytes, Text};
 use wap_casebook::{
-    CaseFault, Pieces, range, spelled, spelled_text, split_value, split_word, text,
+    CaseFault, Pieces, range, spelled_bytes, spelled_text, split_value, split_word, text,
 };
 
 /// A case: what a run begins with, and what is wanted of it.
@@ -39,7 +39,7 @@ pub fn add_spelled(
     pieces: &Pieces,
     line: &[u8],
 ) -> Result<(), CaseFault> {
-    let bytes = spelled(alloc, pieces, line, None)?;
+    let bytes = spelled_bytes(alloc, pieces, line, None)?;
     out.add(bytes.as_slice())?;
     Ok(())
 }
@@ -53,7 +53,7 @@ fn numbered_page(
     number: u32,
 ) -> Result<(Text, Bytes), CaseFault> {
     let name = spelled_text(alloc, pieces, name, Some(number))?;
-    Ok((name, spelled(alloc, pieces, bytes, Some(number))?))
+    Ok((name, spelled_bytes(alloc, pieces, bytes, Some(number))?))
 }
 
 impl Case {
@@ -128,7 +128,7 @@ impl Case {
     ) -> Result<(), CaseFault> {
         let (name, bytes) = split_word(line);
         let name = text(alloc, name)?;
-        let bytes = spelled(alloc, pieces, bytes, None)?;
+        let bytes = spelled_bytes(alloc, pieces, bytes, None)?;
         self.pages.push((name, bytes))?;
         Ok(())
     }

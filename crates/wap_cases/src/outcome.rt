@@ -27,7 +27,7 @@ pub struct Outcome {
 
 /// The calls of a device that fail: those that a case names, and the one after those that are
 /// wanted, where it says how many are.
-fn failing(alloc: Global, named: &[u64], wanted: Option<u64>) -> Result<Vec<u64>, CaseFault> {
+fn failing_calls(alloc: Global, named: &[u64], wanted: Option<u64>) -> Result<Vec<u64>, CaseFault> {
     let mut fails = Vec::from_slice(alloc, named)?;
     if let Some(calls) = wanted {
         fails.push(calls.saturating_add(1))?;
@@ -50,7 +50,7 @@ fn store(alloc: Global, case: &Case) -> Result<MemStore, CaseFault> {
         return Err(CaseFault::Argument);
     }
     let fails = case.devices.store_fails.as_slice();
-    Ok(MemStore::new(pages, failing(alloc, fails, case.wanted.asked)?))
+    Ok(MemStore::new(pages, failing_calls(alloc, fails, case.wanted.asked)?))
 }
 
 fn source(alloc: Global, case: &Case, piece: u64) -> Result<MemSource, CaseFault> {
@@ -58,7 +58,7 @@ fn source(alloc: Global, case: &Case, piece: u64) -> Result<MemSource, CaseFault
     if piece == 0 {
         return Err(CaseFault::Argument);
     }
-    let fails = failing(
+    let fails = failing_calls(
         alloc,
         case.devices.source_fails.as_slice(),
         case.wanted.reads,
@@ -71,7 +71,7 @@ fn sink(alloc: Global, case: &Case) -> Result<MemSink, CaseFault> {
     if case.devices.sink_takes == 0 {
         return Err(CaseFault::Argument);
     }
-    let fails = failing(alloc, case.devices.sink_fails.as_slice(), None)?;
+    let fails = failing_calls(alloc, case.devices.sink_fails.as_slice(), None)?;
     let room = case.devices.sink_holds;
     Ok(MemSink::new(alloc, room, case.devices.sink_takes, fails)?)
 }
@@ -91,7 +91,12 @@ fn count_left(source: &mut MemSource) -> u64 {
 }
 
 /// The outcome of a run that ended so.
-fn ended(alloc: Global, case: &Case, status: Status, shown: &[u8]) -> Result<Outcome, CaseFault> {
+fn outcome_of(
+    alloc: Global,
+    case: &Case,
+    status: Status,
+    shown: &[u8],
+) -> Result<Outcome, CaseFault> {
     let mut error = case.devices.error(alloc)?;
     let is_unprinted = status.print(&mut error).is_err();
     Ok(Outcome {
@@ -125,7 +130,7 @@ fn run_over<R: Threads + Sync>(
     let mut out = sink(alloc, case)?;
     let words = case.words.as_slice();
     let (status, store) = run(rt, alloc, words, store, source, &mut out, &NoGate);
-    Ok((ended(alloc, case, status, out.bytes())?, store))
+    Ok((outcome_of(alloc, case, status, out.bytes())?, store))
 }
 
 /// Runs the program over the devices of a case, and looks at the store and the source afterwards.
@@ -150,7 +155,7 @@ pub fn run_case<R: Threads + Sync>(
     piece: u64,
 ) -> Result<Outcome, CaseFault> {
     if case.is_without_memory {
-        return ended(alloc, case, Status::NoMemory, b"");
+        return outcome_of(alloc, case, Status::NoMemory, b"");
     }
     let mut source = source(alloc, case, piece)?;
     run_devices(rt, alloc, case, &mut source)

@@ -138,7 +138,7 @@ pub fn add_head(out: &mut String, alloc: Global, case: &Case) -> Result<(), Allo
 
 /// Appends why a case isn't played, and the line that can't be read.
 pub fn add_fault(out: &mut String, case: &Case, fault: CaseFault) -> Result<(), AllocError> {
-    let told = fault.told();
+    let told = fault.message();
     match case.fault {
         Some((line, _)) => write!(out, "    line {line}: {told}\n"),
         None => write!(out, "    {told}\n"),

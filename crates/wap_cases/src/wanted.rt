@@ -42,7 +42,7 @@ pub struct Wanted {
 }
 
 /// The line of a status with its end, or nothing where there is none.
-fn printed(alloc: Global, line: &[u8]) -> Result<Bytes, CaseFault> {
+fn printed_line(alloc: Global, line: &[u8]) -> Result<Bytes, CaseFault> {
     let mut printed = Bytes::new(alloc);
     if !line.is_empty() {
         add_line(&mut printed, line)?;
@@ -92,7 +92,7 @@ impl Wanted {
     fn read_status(&mut self, alloc: Global, line: &[u8]) -> Result<(), CaseFault> {
         let (digits, rest) = split_word(line);
         let number = number(digits)?;
-        self.status = Some((number, printed(alloc, rest)?));
+        self.status = Some((number, printed_line(alloc, rest)?));
         Ok(())
     }
 

@@ -107,7 +107,7 @@ impl Context {
     }
 
     /// Adds a refusal, which ends a navigation.
-    pub(crate) fn refused(
+    pub(crate) fn refuse(
         &mut self,
         alloc: Global,
         refusal: Refusal,
@@ -175,12 +175,12 @@ impl Context {
         if is_allowed {
             self.arrive(alloc, sets, url, deck, lines)
         } else {
-            self.refused(alloc, Refusal::Denied, lines)
+            self.refuse(alloc, Refusal::Denied, lines)
         }
     }
 
     /// Goes on with what answers a request for a URL.
-    pub(crate) fn answered(
+    pub(crate) fn take_answer(
         &mut self,
         alloc: Global,
         sets: Rows<(Text, Text)>,
@@ -195,7 +195,7 @@ impl Context {
     {
         match answer {
             Ok(deck) => self.try_deck(alloc, sets, caller, url, deck, lines),
-            Err(refusal) => self.refused(alloc, refusal, lines),
+            Err(refusal) => self.refuse(alloc, refusal, lines),
         }
     }
 
@@ -230,7 +230,7 @@ impl Context {
     }
 
     /// Goes on back with what answers the request for the earlier card's deck.
-    pub(crate) fn returned(
+    pub(crate) fn return_with(
         &mut self,
         alloc: Global,
         sets: Rows<(Text, Text)>,
@@ -244,7 +244,7 @@ impl Context {
     {
         match answer {
             Ok(deck) => self.return_to(alloc, sets, earlier, deck, lines),
-            Err(refusal) => self.refused(alloc, refusal, lines),
+            Err(refusal) => self.refuse(alloc, refusal, lines),
         }
     }
 }

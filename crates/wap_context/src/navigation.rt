@@ -84,7 +84,7 @@ impl Context {
             (P.seen pages.old) (P.seen pages.new) self.old self.new lines.old lines.new result }
     {
         let answer = ask(alloc, pages, &one, lines)?;
-        Ok(self.answered(alloc, sets, caller, one.url, answer, lines)?)
+        Ok(self.take_answer(alloc, sets, caller, one.url, answer, lines)?)
     }
 
     /// Enters the current deck anew, where it is asked for, else the deck that answers.
@@ -127,7 +127,7 @@ impl Context {
                 let request = request_of(alloc, &base, &one, url)?;
                 self.stay_or_ask(alloc, pages, one.sets, &base, request, lines)
             }
-            Err(refusal) => Ok(self.refused(alloc, refusal, lines)?),
+            Err(refusal) => Ok(self.refuse(alloc, refusal, lines)?),
         }
     }
 
@@ -148,7 +148,7 @@ impl Context {
                 let sets = Rows::new(alloc);
                 self.request(alloc, pages, sets, &None, plain_get(url), lines)
             }
-            Err(refusal) => Ok(self.refused(alloc, refusal, lines)?),
+            Err(refusal) => Ok(self.refuse(alloc, refusal, lines)?),
         }
     }
 
@@ -165,7 +165,7 @@ impl Context {
             (P.seen pages.old) (P.seen pages.new) self.old self.new lines.old lines.new result }
     {
         let answer = ask_for(alloc, pages, &earlier.url, lines)?;
-        Ok(self.returned(alloc, sets, earlier, answer, lines)?)
+        Ok(self.return_with(alloc, sets, earlier, answer, lines)?)
     }
 
     /// Goes back to an earlier card, whose deck may be the current one.
@@ -206,7 +206,7 @@ impl Context {
     {
         match self.state.earlier(alloc)? {
             Some(earlier) => self.back_to(alloc, pages, sets, earlier, lines),
-            None => Ok(self.refused(alloc, Refusal::First, lines)?),
+            None => Ok(self.refuse(alloc, Refusal::First, lines)?),
         }
     }
 
@@ -237,7 +237,7 @@ impl Context {
         if self.take_turn() {
             self.open_url(alloc, pages, url, lines)
         } else {
-            Ok(self.refused(alloc, Refusal::Budget, lines)?)
+            Ok(self.refuse(alloc, Refusal::Budget, lines)?)
         }
     }
 
@@ -257,14 +257,14 @@ impl Context {
                 if self.take_turn() {
                     self.go(alloc, pages, one, lines)
                 } else {
-                    Ok(self.refused(alloc, Refusal::Budget, lines)?)
+                    Ok(self.refuse(alloc, Refusal::Budget, lines)?)
                 }
             }
             Task::Prev(sets) => {
                 if self.take_turn() {
                     self.prev(alloc, pages, sets, lines)
                 } else {
-                    Ok(self.refused(alloc, Refusal::Budget, lines)?)
+                    Ok(self.refuse(alloc, Refusal::Budget, lines)?)
                 }
             }
             Task::Refresh(sets) => {

@@ -46,7 +46,7 @@ pub fn reference(alloc: Global, name: &Text, conv: Conv) -> Result<Option<Part>,
 }
 
 /// A part that a code stands for, if it has a text.
-fn coded(alloc: Global, page: u8, code: u8) -> Result<Option<Part>, NoMemory>
+fn decode_part(alloc: Global, page: u8, code: u8) -> Result<Option<Part>, NoMemory>
     ensures { IfOk result (λ part. part ≡ piece_part (Piece.Code page code)) }
 {
     match attr_value(page, code) {
@@ -60,7 +60,7 @@ fn part_of(alloc: Global, piece: &Piece) -> Result<Option<Part>, NoMemory>
     ensures { IfOk result (λ part. part ≡ piece_part piece.now) }
 {
     match piece {
-        Piece::Code(page, code) => coded(alloc, *page, *code),
+        Piece::Code(page, code) => decode_part(alloc, *page, *code),
         Piece::Str(text) => Ok(literal(text.copy(alloc)?)),
         Piece::Entity(number) => character(alloc, *number),
         Piece::Var(name, conv) => reference(alloc, name, *conv),
@@ -112,7 +112,7 @@ fn add_any(parts: &mut Rows<Part>, part: Option<Part>) -> Result<(), NoMemory>
 }
 
 /// The beginning of a value, with this text, and room for so many parts.
-fn begun(alloc: Global, text: &str, room: usize) -> Result<Rows<Part>, NoMemory>
+fn begin_value(alloc: Global, text: &str, room: usize) -> Result<Rows<Part>, NoMemory>
     ensures { IfOk result (λ value. value ≡ value_after (chars text.now) []) }
 {
     let mut value = rows_for(alloc, room)?;
@@ -126,7 +126,7 @@ fn begun(alloc: Global, text: &str, room: usize) -> Result<Rows<Part>, NoMemory>
 pub fn value(alloc: Global, text: &str, pieces: &[Piece]) -> Result<Rows<Part>, NoMemory>
     ensures { IfOk result (λ value. value ≡ value_after (chars text.now) pieces.now) }
 {
-    let mut value = begun(alloc, text, pieces.len())?;
+    let mut value = begin_value(alloc, text, pieces.len())?;
     for piece in pieces {
         add_any(&mut value, part_of(alloc, piece)?)?;
     }

@@ -10,18 +10,18 @@ use Rattle.wap_site.specs.Asking.{Seen}
 use Rattle.wap_site.specs.declared.page.Page.{Page}
 use Rattle.wap_site.specs.declared.page.Page.TheVariants.{Missing}
 
-abbrev pub page_named : List ℕ → Pages → Option Page
-page_named name pages = lookup (λ other. is_same_text other name) pages
+abbrev pub page_under : List ℕ → Pages → Option Page
+page_under name pages = lookup (λ other. is_same_text other name) pages
 
 abbrev pub IsThere : Page → Type 0
 IsThere page = page ≢ Missing
 
 -- pages that a site may have: no name stands twice, and each page is there
-pub record ArePages (pages : Pages) : Type 0 where
+pub record AreSitePages (pages : Pages) : Type 0 where
   pub distinct : AreDistinct (keys_of pages)
   pub there : All (λ page. IsThere page.1) pages
 
--- pages of which all is told: what a cache keeps of them, and how often the store below it was
+-- pages of which all is known: what a cache keeps of them, and how often the store below it was
 -- asked
 pub record MemState : Type 0 where
   pub pages : Pages
@@ -72,7 +72,7 @@ after_call fake = record {
   calls = called fake.calls (fails_next fake.calls);
 }
 
--- of pages of which nothing is told
+-- of pages of which nothing is known
 abbrev pub nothing_seen : Seen
 nothing_seen = record {
   contents = None;

@@ -3,7 +3,7 @@ ghost use Rattle.std.specs.Prelude.{◌≡◌, All, IfOk, IsTrue, ◌↔◌};
 ghost use Rattle.std.specs.Option.{option_copied};
 ghost use Rattle.std.specs.Map.{keys_of};
 ghost use Rattle.wap_site.specs.Pages.{page_of};
-ghost use Rattle.wap_fakes.specs.Fakes.{page_named, IsThere, ArePages};
+ghost use Rattle.wap_fakes.specs.Fakes.{page_under, IsThere, AreSitePages};
 
 use std::alloc::Global;
 use wap_base::{NoMemory, Text, are_distinct};
@@ -11,7 +11,7 @@ use wap_site::Page;
 
 /// The page of a name, if there is one.
 fn find<'a>(pages: &'a [(Text, Page)], name: &Text) -> Option<&'a Page>
-    ensures { option_copied result ≡ page_named name.now pages.now }
+    ensures { option_copied result ≡ page_under name.now pages.now }
 {
     for (page_name, page) in pages {
         if page_name == name {
@@ -60,7 +60,7 @@ fn names(alloc: Global, pages: &[(Text, Page)]) -> Result<Vec<Text>, NoMemory>
 
 /// Whether these may be the pages of a site: no name stands twice, and none of them is missing.
 pub fn are_site_pages(alloc: Global, pages: &[(Text, Page)]) -> Result<bool, NoMemory>
-    ensures { IfOk result (λ fit. IsTrue fit ↔ ArePages pages.now) }
+    ensures { IfOk result (λ fit. IsTrue fit ↔ AreSitePages pages.now) }
 {
     let distinct = are_distinct(names(alloc, pages)?);
     Ok(distinct && are_there(pages))

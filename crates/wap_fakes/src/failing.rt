@@ -3,7 +3,7 @@ ghost use Rattle.std.specs.Prelude.{◌≡◌, [], ◌∷◌, true, IfOk, OnOk, 
 ghost use Rattle.wap_base.specs.Fakes.{fresh, fails_next};
 ghost use Rattle.wap_site.specs.Pages.{page_of};
 ghost use Rattle.wap_site.specs.Asking.{Stays, Asks, Fails};
-ghost use Rattle.wap_fakes.specs.Fakes.{ArePages, seen_at, after_call};
+ghost use Rattle.wap_fakes.specs.Fakes.{AreSitePages, seen_at, after_call};
 
 use crate::answer::answer;
 use std::alloc::Global;
@@ -22,7 +22,7 @@ pub struct FailingPages {
 impl Model for FailingPages {
     ghost use Rattle.wap_markup.specs.contracts.deck.Item as item;
     ghost use Rattle.std.specs.Coded.{codes};
-    ghost use Rattle.wap_fakes.specs.Fakes.{FailingState, ArePages};
+    ghost use Rattle.wap_fakes.specs.Fakes.{FailingState, AreSitePages};
 
     ghost Value = { FailingState };
 
@@ -30,13 +30,13 @@ impl Model for FailingPages {
 
     ghost view = { λ fake. record { pages = fake.pages.items; calls = fake.store.calls } };
 
-    ghost invariant = { λ fake. ArePages fake.pages.items };
+    ghost invariant = { λ fake. AreSitePages fake.pages.items };
 }
 
 impl FailingPages {
     /// These pages. `fail` has the numbers, from 1, of the calls that fail.
     pub fn new(alloc: Global, pages: Vec<(Text, Page)>, fail: Vec<u64>) -> FailingPages
-        requires { ArePages pages.items }
+        requires { AreSitePages pages.items }
         ensures { result ≡ record { pages = pages.items; calls = fresh fail.items } }
     {
         FailingPages {

@@ -1,5 +1,5 @@
-//! Pages in memory, for those who try what asks for pages: some tell all that can be seen of pages,
-//! some tell nothing, and some fail when they are told to.
+//! Pages in memory, for those who try what asks for pages: of some all is known that can be seen of
+//! pages, of some nothing, and some fail at listed calls.
 #![tactic(auto)]
 
 mod answer;

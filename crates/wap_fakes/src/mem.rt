@@ -1,4 +1,4 @@
-//! Pages of which all is told.
+//! Pages of which all is known.
 ghost use Rattle.std.specs.Prelude.{◌≡◌, [], ◌∷◌, not, filter, take, if◌then◌else◌};
 ghost use Rattle.std.specs.Prelude.{IfOk, OnOk, IfErr, IsErrOf};
 ghost use Rattle.std.specs.List.{list_any};
@@ -6,7 +6,7 @@ ghost use Rattle.wap_base.specs.Count.{raised};
 ghost use Rattle.wap_base.specs.Texts.{is_same_text};
 ghost use Rattle.wap_site.specs.Pages.{page_of};
 ghost use Rattle.wap_site.specs.Asking.{Stays, Asks, Fails};
-ghost use Rattle.wap_fakes.specs.Fakes.{ArePages, seen_of, after_page};
+ghost use Rattle.wap_fakes.specs.Fakes.{AreSitePages, seen_of, after_page};
 
 use crate::answer::answer;
 use std::alloc::Global;
@@ -14,7 +14,7 @@ use std::marker::Model;
 use wap_base::{NoMemory, RunErr, Text};
 use wap_site::{Page, Pages};
 
-/// Pages in memory of which all is told but bytes, which there are none of: the pages, the names
+/// Pages in memory of which all is known but bytes, which there are none of: the pages, the names
 /// that a cache of them keeps, and how often a store below it would be asked. They never fail.
 #[derive(Drop)]
 pub struct MemPages {
@@ -27,7 +27,7 @@ pub struct MemPages {
 impl Model for MemPages {
     ghost use Rattle.wap_markup.specs.contracts.deck.Item as item;
     ghost use Rattle.std.specs.Coded.{codes};
-    ghost use Rattle.wap_fakes.specs.Fakes.{MemState, ArePages};
+    ghost use Rattle.wap_fakes.specs.Fakes.{MemState, AreSitePages};
 
     ghost Value = { MemState };
 
@@ -39,13 +39,13 @@ impl Model for MemPages {
       fetches = fake.fetches;
     } };
 
-    ghost invariant = { λ fake. ArePages fake.pages.items };
+    ghost invariant = { λ fake. AreSitePages fake.pages.items };
 }
 
 impl MemPages {
     /// These pages, of which a cache keeps as many names as the capacity says, and none yet.
     pub fn new(alloc: Global, pages: Vec<(Text, Page)>, capacity: usize) -> MemPages
-        requires { ArePages pages.items }
+        requires { AreSitePages pages.items }
         ensures { result ≡ record {
           pages = pages.items;
           cache = record { names = []; capacity = capacity };
@@ -73,7 +73,7 @@ fn is_kept(names: &[Text], name: &Text) -> bool
 }
 
 /// A count after one more, or as it was.
-fn counted(count: u64, more: bool) -> u64
+fn raise_if(count: u64, more: bool) -> u64
     ensures { result ≡ (if more then raised count else count) }
 {
     if more { count.saturating_add(1) } else { count }
@@ -111,7 +111,7 @@ impl Pages for MemPages {
         ensures stays { Stays (seen_of self.old) (seen_of self.new) }
     {
         let missed = fresh || !is_kept(self.kept.as_slice(), name);
-        self.fetches = counted(self.fetches, missed);
+        self.fetches = raise_if(self.fetches, missed);
         keep(alloc, &mut self.kept, self.capacity, name)?;
         Ok(answer(self.pages.as_slice(), name)?)
     }

@@ -1,8 +1,8 @@
-//! Pages of which nothing is told.
+//! Pages of which nothing is known.
 ghost use Rattle.std.specs.Prelude.{◌≡◌, [], ◌∷◌, IfOk, OnOk, IfErr, IsErrOf};
 ghost use Rattle.wap_site.specs.Pages.{page_of};
 ghost use Rattle.wap_site.specs.Asking.{Stays, Asks, Fails};
-ghost use Rattle.wap_fakes.specs.Fakes.{ArePages, nothing_seen};
+ghost use Rattle.wap_fakes.specs.Fakes.{AreSitePages, nothing_seen};
 
 use crate::answer::answer;
 use std::alloc::Global;
@@ -10,7 +10,7 @@ use std::marker::Model;
 use wap_base::{RunErr, Text};
 use wap_site::{Page, Pages};
 
-/// Pages in memory of which nothing is told: neither which there are nor how often they were asked
+/// Pages in memory of which nothing is known: neither which there are nor how often they were asked
 /// for. They never fail.
 #[derive(Drop)]
 pub struct UntoldPages {
@@ -21,7 +21,7 @@ impl Model for UntoldPages {
     ghost use Rattle.wap_markup.specs.contracts.deck.Item as item;
     ghost use Rattle.std.specs.Coded.{codes};
     ghost use Rattle.wap_site.specs.Pages.{Pages as Site};
-    ghost use Rattle.wap_fakes.specs.Fakes.{ArePages};
+    ghost use Rattle.wap_fakes.specs.Fakes.{AreSitePages};
 
     ghost Value = { Site };
 
@@ -29,13 +29,13 @@ impl Model for UntoldPages {
 
     ghost view = { λ fake. fake.pages.items };
 
-    ghost invariant = { λ fake. ArePages fake.pages.items };
+    ghost invariant = { λ fake. AreSitePages fake.pages.items };
 }
 
 impl UntoldPages {
     /// These pages.
     pub fn new(pages: Vec<(Text, Page)>) -> UntoldPages
-        requires { ArePages pages.items }
+        requires { AreSitePages pages.items }
         ensures { result ≡ pages.items }
     {
         UntoldPages { pages }

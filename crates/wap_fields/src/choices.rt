@@ -45,7 +45,7 @@ pub fn is_multiple(alloc: Global, select: &View<'_>) -> Result<bool, NoMemory>
 
 /// So many options, none of them chosen.
 #[tactic(auto, using(crate::proofs::Marking::none_more))]
-fn nothing_chosen(alloc: Global, count: usize) -> Result<Vec<bool>, NoMemory>
+fn empty_choice(alloc: Global, count: usize) -> Result<Vec<bool>, NoMemory>
     ensures { IfOk result (λ choice. choice.items ≡ chosen count []) }
 {
     let mut choice = Vec::new(alloc);
@@ -64,11 +64,11 @@ fn mark(choice: &mut Vec<bool>, number: usize)
     }
 }
 
-/// The options of these numbers, of so many.
-fn chosen(alloc: Global, count: usize, numbers: &[usize]) -> Result<Rows<bool>, NoMemory>
+/// Chooses the options of these numbers, of so many.
+fn choose_numbers(alloc: Global, count: usize, numbers: &[usize]) -> Result<Rows<bool>, NoMemory>
     ensures { IfOk result (λ choice. choice ≡ chosen count numbers.now) }
 {
-    let mut choice = nothing_chosen(alloc, count)?;
+    let mut choice = empty_choice(alloc, count)?;
     for number in numbers {
         mark(&mut choice, *number);
     }
@@ -157,9 +157,9 @@ fn choice_if(
         [] => Ok(None),
         [first, ..] => {
             if multiple {
-                Ok(Some(chosen(alloc, count, numbers)?))
+                Ok(Some(choose_numbers(alloc, count, numbers)?))
             } else {
-                Ok(Some(chosen(alloc, count, &[*first])?))
+                Ok(Some(choose_numbers(alloc, count, &[*first])?))
             }
         }
     }
@@ -183,7 +183,7 @@ fn choice_by_index(
     let count = count_of(alloc, select)?;
     let multiple = is_multiple(alloc, select)?;
     if multiple && is_zero(text) {
-        return Ok(Some(chosen(alloc, count, &[])?));
+        return Ok(Some(choose_numbers(alloc, count, &[])?));
     }
     let numbers = numbers_in(alloc, count, text)?;
     choice_if(alloc, multiple, count, numbers.as_slice())
@@ -202,7 +202,7 @@ fn texts_of(alloc: Global, texts: &[Text]) -> Result<Texts, NoMemory>
 }
 
 /// The texts for which a value text looks: a multiple select splits it at `;`.
-fn wanted(alloc: Global, multiple: bool, text: &Text) -> Result<Rows<Text>, NoMemory>
+fn wanted_texts(alloc: Global, multiple: bool, text: &Text) -> Result<Rows<Text>, NoMemory>
     ensures { IfOk result (λ texts. texts
         ≡ (if multiple then pieces_of text.now else text.now ∷ [])) }
 {
@@ -224,7 +224,7 @@ fn choice_by_value(
     ensures { IfOk result (λ choice. choice ≡ choice_by_value vars.now select.now text.now) }
 {
     let multiple = is_multiple(alloc, select)?;
-    let wanted = wanted(alloc, multiple, text)?;
+    let wanted = wanted_texts(alloc, multiple, text)?;
     let values = values_of(alloc, vars, select)?;
     let numbers = numbers_of(alloc, wanted.as_slice(), values.as_slice())?;
     choice_if(alloc, multiple, values.len(), numbers.as_slice())
@@ -236,9 +236,9 @@ fn first_choice(alloc: Global, select: &View<'_>) -> Result<Rows<bool>, NoMemory
 {
     let count = count_of(alloc, select)?;
     if is_multiple(alloc, select)? {
-        chosen(alloc, count, &[])
+        choose_numbers(alloc, count, &[])
     } else {
-        chosen(alloc, count, &[1])
+        choose_numbers(alloc, count, &[1])
     }
 }
 
@@ -344,21 +344,21 @@ pub fn choice_of(alloc: Global, vars: &Vars, select: &View<'_>) -> Result<Rows<b
     }
 }
 
-/// Whether an option is chosen then.
-fn turned_if(is_it: bool, is_chosen: bool) -> bool
+/// Turns whether an option is chosen, if it is the one.
+fn turn_if(is_it: bool, is_chosen: bool) -> bool
     ensures { result ≡ turned_if is_it is_chosen }
 {
     if is_it { !is_chosen } else { is_chosen }
 }
 
-/// A choice in which the option of a number, from 1, is chosen or no longer.
-fn turned(alloc: Global, choice: &[bool], number: usize) -> Result<Rows<bool>, NoMemory>
+/// Turns whether the option of a number, from 1, is chosen.
+fn turn_option(alloc: Global, choice: &[bool], number: usize) -> Result<Rows<bool>, NoMemory>
     ensures { IfOk result (λ turned. turned
         ≡ map (λ one. turned_if (one.0 == number) one.1) (enumerate_from 1 choice.now)) }
 {
     let mut turned = Rows::new(alloc);
     for (place, is_chosen) in choice.iter().enumerate() {
-        turned.add(turned_if(place + 1 == number, *is_chosen))?;
+        turned.add(turn_if(place + 1 == number, *is_chosen))?;
     }
     Ok(turned)
 }
@@ -373,8 +373,8 @@ pub fn choice_with(
     ensures { IfOk result (λ new. new ≡ choice_with select.now choice.now number) }
 {
     if is_multiple(alloc, select)? {
-        turned(alloc, choice, number)
+        turn_option(alloc, choice, number)
     } else {
-        chosen(alloc, choice.len(), &[number])
+        choose_numbers(alloc, choice.len(), &[number])
     }
 }

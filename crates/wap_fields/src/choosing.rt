@@ -12,7 +12,7 @@ use crate::sets::set_choice;
 use std::alloc::Global;
 use wap_base::{NoMemory, Rows};
 use wap_cardrules::Chosen;
-use wap_cards::{numbered, onpick};
+use wap_cards::{numbered_view, onpick};
 use wap_good::{Tag, View};
 use wap_vars::{VarFault, Vars};
 
@@ -89,7 +89,7 @@ fn choose_in(
         (FirstStand vars.old (chosen_sets vars.old number select.now) vars.new) }
 {
     let options = options_of(alloc, select)?;
-    match numbered(options.as_slice(), number) {
+    match numbered_view(options.as_slice(), number) {
         Some(option) => choose_option(alloc, select, number, &option, vars),
         None => Ok(Chosen::NoOption),
     }

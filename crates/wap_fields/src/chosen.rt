@@ -8,7 +8,7 @@ ghost use Rattle.wap_cardrules.specs.Setting.{under};
 ghost use Rattle.wap_fields.specs.inside.Marking.{text_if};
 
 use crate::options::values_of;
-use crate::pieces::joined;
+use crate::pieces::join_all;
 use std::alloc::Global;
 use wap_base::{NoMemory, Rows, Text};
 use wap_cards::variable_in;
@@ -68,13 +68,13 @@ fn zero(alloc: Global) -> Result<Text, NoMemory>
     Text::of(alloc, "0")
 }
 
-/// Numbers, joined, and `0` for none.
-fn index_joined(alloc: Global, numbers: &[Text]) -> Result<Text, NoMemory>
+/// Joins numbers; none are `0`.
+fn join_index(alloc: Global, numbers: &[Text]) -> Result<Text, NoMemory>
     ensures { IfOk result (λ text. text ≡ index_joined numbers.now) }
 {
     match numbers {
         [] => zero(alloc),
-        [_, ..] => joined(alloc, numbers),
+        [_, ..] => join_all(alloc, numbers),
     }
 }
 
@@ -83,7 +83,7 @@ pub fn index_text(alloc: Global, choice: &[bool]) -> Result<Text, NoMemory>
     ensures { IfOk result (λ text. text ≡ index_text choice.now) }
 {
     let numbers = chosen_numbers(alloc, choice)?;
-    index_joined(alloc, numbers.as_slice())
+    join_index(alloc, numbers.as_slice())
 }
 
 /// The values of the options that are chosen, joined.
@@ -97,7 +97,7 @@ pub fn choice_text(
 {
     let values = values_of(alloc, vars, select)?;
     let chosen = chosen_texts(alloc, choice, values.as_slice())?;
-    joined(alloc, chosen.as_slice())
+    join_all(alloc, chosen.as_slice())
 }
 
 /// A text, and the variable that an attribute names for it, if there is one.

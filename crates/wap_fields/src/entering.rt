@@ -8,7 +8,7 @@ use crate::inputs::{input_variable, takes};
 use std::alloc::Global;
 use wap_base::{NoMemory, Text};
 use wap_cardrules::Entered;
-use wap_cards::{fields_of, numbered};
+use wap_cards::{fields_of, numbered_view};
 use wap_good::{Tag, View};
 use wap_vars::{VarFault, Vars};
 
@@ -22,7 +22,7 @@ pub fn field_with<'a>(
     ensures { IfOk result (λ field. field ≡ field_with tag card.now number) }
 {
     let fields = fields_of(alloc, card)?;
-    match numbered(fields.as_slice(), number) {
+    match numbered_view(fields.as_slice(), number) {
         Some(field) => {
             if field.tag() == tag {
                 Ok(Some(field))

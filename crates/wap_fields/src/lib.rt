@@ -20,6 +20,6 @@ pub use defaults::apply_defaults;
 pub use entering::{enter_text, field_with};
 pub use inputs::{input_variable, shown_text, takes};
 pub use options::{options_of, values_of};
-pub use pieces::{joined, pieces_of};
+pub use pieces::{join_all, pieces_of};
 pub use sets::set_choice;
 pub use setting::{set_if, set_one};

@@ -32,8 +32,8 @@ pub fn pieces_of(alloc: Global, text: &str) -> Result<Rows<Text>, NoMemory>
     Ok(pieces)
 }
 
-/// Texts, joined by semicolons.
-pub fn joined(alloc: Global, texts: &[Text]) -> Result<Text, NoMemory>
+/// Joins texts by semicolons.
+pub fn join_all(alloc: Global, texts: &[Text]) -> Result<Text, NoMemory>
     ensures { IfOk result (λ whole. whole ≡ joined texts.now) }
 {
     let mut whole = Text::new(alloc);

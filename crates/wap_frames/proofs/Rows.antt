@@ -1,8 +1,8 @@
 -- What the rows of the table say of the actions of their operations: what they take and give, and
 -- where it goes on.
 use Rattle.std.proofs.Common.{◌≡◌, ℕ, Bool, true, false, inl, inr, List}
-use Rattle.std.proofs.Common.{[], ◌∷◌, Some, refl, sym, subst}
-use Rattle.std.specs.List.{list_all, AllByRecursion}
+use Rattle.std.proofs.Common.{[], ◌∷◌, Some, map, refl, sym, subst}
+use Rattle.std.specs.List.{list_all}
 use Rattle.wap_code.specs.declared.row.Slot.{Slot}
 use Rattle.wap_code.specs.declared.row.Slot.TheVariants.{Absent, Low, Byte, Word}
 use Rattle.wap_code.specs.declared.row.Operands.{Operands}
@@ -83,23 +83,31 @@ traits_of Return = traits Plain (Values 1) 0 Leave
 traits_of ReturnEmpty = traits Plain (Values 0) 0 Leave
 traits_of Pass = traits Plain (Values 0) 0 On
 
+abbrev pub traits_in : Row → Traits
+traits_in row = traits row.operands row.takes row.gives row.after
+
 abbrev pub HasTraits : Row → Type 0
-HasTraits row =
-    traits row.operands row.takes row.gives row.after ≡ traits_of (action_of row.operation)
+HasTraits row = traits_in row ≡ traits_of (action_of row.operation)
 
-rows_have_traits : AllByRecursion HasTraits rows
-rows_have_traits = (refl, (refl, (refl, (refl, (refl, (refl, (refl, (refl, (refl, (refl, (refl, (refl, (refl, (refl, (refl, (refl, (refl, (refl, (refl, (refl, (refl, (refl, (refl, (refl, (refl, (refl, (refl, (refl, (refl, (refl, (refl, (refl, (refl, (refl, (refl, (refl, (refl, (refl, (refl, (refl, (refl, (refl, (refl, (refl, (refl, (refl, (refl, (refl, (refl, (refl, (refl, (refl, (refl, (refl, (refl, (refl, (refl, (refl, (refl, (refl, (refl, (refl, (refl, (refl, (refl, (refl, (refl, (refl, (refl, tt)))))))))))))))))))))))))))))))))))))))))))))))))))))))))))))))))))))
+rows_have_traits : map traits_in rows ≡ map (λ row. traits_of (action_of row.operation)) rows
+rows_have_traits = refl
 
-each_among : (P : Row → Type 0) (all : List Row) (row : Row) → AllByRecursion P all
-    → Among row all → P row
-each_among P [] row each among = absurd among
-each_among P (other ∷ all) row each (inl same) = subst P (sym same) each.0
-each_among P (other ∷ all) row each (inr later) = each_among P all row each.1 later
+-- two functions that map a list to the same list give the same of each row in it
+same_among : (f g : Row → Traits) (all : List Row) (row : Row) → map f all ≡ map g all
+    → Among row all → f row ≡ g row
+same_among f g [] row same among = absurd among
+same_among f g (other ∷ all) row same (inl is) =
+    let first : f other ≡ g other = cc in
+    subst (λ row. f row ≡ g row) (sym is) first
+same_among f g (other ∷ all) row same (inr later) =
+    let rest : map f all ≡ map g all = cc in
+    same_among f g all row rest later
 
 pub has_traits : (code : ℕ) (row : Row) → row_of code ≡ Some row → HasTraits row
 unfolding row_of
 has_traits code row is =
-    each_among HasTraits rows row rows_have_traits (found (has_code code) rows row is).1
+    same_among traits_in (λ row. traits_of (action_of row.operation)) rows row rows_have_traits
+    (found (has_code code) rows row is).1
 
 -- ---- which operands are short
 

@@ -33,7 +33,7 @@ fn jump_behind(frame: &Frame, decides: bool, next: usize) -> Instr
 }
 
 /// What a short-circuit gives where it jumps: true decides `||`, false `&&`, and invalid both.
-fn given(value: &Value, decides: bool) -> Option<Value>
+fn decide(value: &Value, decides: bool) -> Option<Value>
     ensures { result ≡ given decides value.now }
 {
     match to_bool(value) {
@@ -58,7 +58,7 @@ pub fn short_circuit(frame: &mut Frame, decides: bool, next: usize) -> Next
     let Some(value) = frame.pop() else {
         unreachable!()
     };
-    match given(&value, decides) {
+    match decide(&value, decides) {
         Some(value) => give(frame, value, jump.next + jump.a as usize),
         None => pass_on(frame, jump.next),
     }

@@ -217,7 +217,7 @@ fn read_line(alloc: Global, line: &[u8]) -> Result<Key, KeyFault>
         return Err(KeyFault::TooLong);
     }
     let (front, rest) = split_word(line);
-    match Word::named(front) {
+    match Word::of(front) {
         Some(word) => read_rest(alloc, word, rest),
         None => Err(unknown_fault(line)),
     }

@@ -29,7 +29,7 @@ fn is_word(name: &[u8], word: &str) -> bool
 
 impl Word {
     /// The word of a name.
-    pub(crate) fn named(name: &[u8]) -> Option<Word>
+    pub(crate) fn of(name: &[u8]) -> Option<Word>
         ensures { result ≡ word_named name.now }
     {
         if is_word(name, "open") {

@@ -34,10 +34,10 @@ pub fn characters_of(alloc: Global, value: &Value) -> Result<Option<Rows<char>>,
 pub fn characters(alloc: Global, text: &Text) -> Result<Rows<char>, NoMemory>
     ensures { IfOk result (λ characters. characters ≡ text.now) }
 {
-    Ok(Rows::from_vec(collected(alloc, text.as_str())?))
+    Ok(Rows::from_vec(collect_characters(alloc, text.as_str())?))
 }
 
-fn collected(alloc: Global, text: &str) -> Result<Vec<char>, NoMemory>
+fn collect_characters(alloc: Global, text: &str) -> Result<Vec<char>, NoMemory>
     ensures { IfOk result (λ characters. characters.items ≡ chars text.now) }
 {
     Ok(text.chars().collect(alloc)?)
@@ -70,7 +70,7 @@ pub fn count(text: &str) -> usize
 
 /// The value as a String, `invalid` for invalid.
 #[tactic(auto, using(crate::proofs::Names::invalid_is_itself))]
-pub fn shown(alloc: Global, value: &Value) -> Result<Text, NoMemory>
+pub fn show(alloc: Global, value: &Value) -> Result<Text, NoMemory>
     ensures { IfOk result (λ text. text ≡ shown value.now) }
 {
     match to_str(alloc, value)? {
@@ -108,18 +108,18 @@ pub fn from_zero(number: i32) -> usize
 }
 
 /// The value, unless it is a String past the limit.
-pub fn kept(value: Value, limit: u32) -> Result<Value, LibFault>
+pub fn keep_within(value: Value, limit: u32) -> Result<Value, LibFault>
     ensures { result ≡ kept_within limit value }
 {
     match value {
         Value::Int(number) => Ok(Value::Int(number)),
         Value::Bool(truth) => Ok(Value::Bool(truth)),
-        Value::Str(text) => kept_text(text, limit),
+        Value::Str(text) => keep_text(text, limit),
         Value::Invalid => Ok(Value::Invalid),
     }
 }
 
-fn kept_text(text: Text, limit: u32) -> Result<Value, LibFault>
+fn keep_text(text: Text, limit: u32) -> Result<Value, LibFault>
     ensures { result ≡ kept_within limit (Value.Str text) }
 {
     let bytes = text.len();

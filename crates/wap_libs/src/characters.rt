@@ -70,14 +70,14 @@ fn before_blanks(characters: &[char]) -> &[char]
 }
 
 /// The text without the white space around it.
-pub fn trimmed(characters: &[char]) -> &[char]
+pub fn trim(characters: &[char]) -> &[char]
     ensures { result.now ≡ trimmed characters.now }
 {
     before_blanks(behind_blanks(characters))
 }
 
 /// The text with one space for each run of white space.
-pub fn squeezed(alloc: Global, characters: &[char]) -> Result<Text, NoMemory>
+pub fn squeeze(alloc: Global, characters: &[char]) -> Result<Text, NoMemory>
     ensures { IfOk result (λ text. text ≡ squeezed characters.now) }
 {
     let mut text = Text::new(alloc);

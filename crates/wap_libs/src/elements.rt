@@ -26,7 +26,7 @@ pub fn elements(alloc: Global, separator: char, characters: &[char]) -> Result<V
 }
 
 /// The elements with the separator between each two.
-pub fn joined(alloc: Global, separator: char, elements: &[Text]) -> Result<Text, NoMemory>
+pub fn join_elements(alloc: Global, separator: char, elements: &[Text]) -> Result<Text, NoMemory>
     ensures { IfOk result (λ text. text ≡ joined separator elements.now) }
 {
     let mut text = Text::new(alloc);
@@ -74,7 +74,7 @@ pub fn without_element(
     let mut elements = elements(alloc, separator, characters)?;
     let place = within(&elements, place);
     elements.remove(place);
-    joined(alloc, separator, &elements)
+    join_elements(alloc, separator, &elements)
 }
 
 /// The text with another element at a place.
@@ -90,7 +90,7 @@ pub fn with_element(
     let mut elements = elements(alloc, separator, characters)?;
     let place = within(&elements, place);
     elements[place] = new;
-    joined(alloc, separator, &elements)
+    join_elements(alloc, separator, &elements)
 }
 
 /// The text with another element before the one at a place, or at the end.
@@ -109,5 +109,5 @@ pub fn with_element_before(
     let mut elements = elements(alloc, separator, characters)?;
     let place = place.min(elements.len());
     elements.insert(place, new)?;
-    joined(alloc, separator, &elements)
+    join_elements(alloc, separator, &elements)
 }

@@ -15,16 +15,16 @@ use wap_value::{Value, to_int};
 
 /// The format with the value at its first specifier, if it is well formed and the value can be
 /// written so.
-pub fn formatted(alloc: Global, format: &[char], value: &Value) -> Result<Option<Text>, NoMemory>
+pub fn format_value(alloc: Global, format: &[char], value: &Value) -> Result<Option<Text>, NoMemory>
     ensures { IfOk result (λ text. text ≡ formatted format.now value.now) }
 {
     match pieces_of(alloc, format)? {
-        Some(pieces) => filled_in(alloc, value, pieces.as_slice()),
+        Some(pieces) => fill_in(alloc, value, pieces.as_slice()),
         None => Ok(None),
     }
 }
 
-fn filled_in(alloc: Global, value: &Value, pieces: &[Piece]) -> Result<Option<Text>, NoMemory>
+fn fill_in(alloc: Global, value: &Value, pieces: &[Piece]) -> Result<Option<Text>, NoMemory>
     ensures { IfOk result (λ text. text ≡ filled_in value.now pieces.now) }
 {
     let mut text = Text::new(alloc);
@@ -33,7 +33,7 @@ fn filled_in(alloc: Global, value: &Value, pieces: &[Piece]) -> Result<Option<Te
         match piece {
             Piece::Character(character) => text.push(*character)?,
             Piece::Specifier(specifier) => {
-                let Some(written) = written(alloc, *specifier, value)? else {
+                let Some(written) = write_value(alloc, *specifier, value)? else {
                     return Ok(None);
                 };
                 text.add(written.as_str())?;
@@ -61,16 +61,16 @@ fn add_plain(text: &mut Text, pieces: &[Piece]) -> Result<(), NoMemory>
 }
 
 /// What a specifier writes of a value.
-fn written(alloc: Global, specifier: Specifier, value: &Value) -> Result<Option<Text>, NoMemory>
+fn write_value(alloc: Global, specifier: Specifier, value: &Value) -> Result<Option<Text>, NoMemory>
     ensures { IfOk result (λ text. text ≡ written specifier value.now) }
 {
-    match converted(alloc, specifier.conversion, specifier.precision, value)? {
-        Some(text) => Ok(Some(filled(alloc, specifier.width, &text)?)),
+    match convert(alloc, specifier.conversion, specifier.precision, value)? {
+        Some(text) => Ok(Some(fill_to_width(alloc, specifier.width, &text)?)),
         None => Ok(None),
     }
 }
 
-fn converted(
+fn convert(
     alloc: Global,
     conversion: Conversion,
     precision: Option<u16>,
@@ -143,7 +143,7 @@ fn own_digits(alloc: Global, number: u32) -> Result<Text, NoMemory>
 }
 
 /// Spaces and the text, so many characters together at least.
-fn filled(alloc: Global, width: u16, written: &Text) -> Result<Text, NoMemory>
+fn fill_to_width(alloc: Global, width: u16, written: &Text) -> Result<Text, NoMemory>
     ensures { IfOk result (λ text. text ≡ filled width written.now) }
 {
     let mut text = Text::new(alloc);

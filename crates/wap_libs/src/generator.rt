@@ -34,21 +34,21 @@ impl Gen {
     pub fn new(seed: u32) -> Gen
         ensures { result ≡ started_from seed seed }
     {
-        Gen::started(seed, seed)
+        Gen::start_from(seed, seed)
     }
 
     /// Starts anew, from the session's seed.
     pub(crate) fn restart(&mut self)
         ensures { self.new ≡ started_from self.old.seed self.old.seed }
     {
-        *self = Gen::started(self.seed, self.seed);
+        *self = Gen::start_from(self.seed, self.seed);
     }
 
     /// Starts anew, from another seed.
     pub(crate) fn restart_from(&mut self, start: u32)
         ensures { self.new ≡ started_from self.old.seed start }
     {
-        *self = Gen::started(self.seed, start);
+        *self = Gen::start_from(self.seed, start);
     }
 
     /// Draws the next word.
@@ -61,7 +61,7 @@ impl Gen {
         word
     }
 
-    fn started(seed: u32, start: u32) -> Gen
+    fn start_from(seed: u32, start: u32) -> Gen
         ensures { result ≡ started_from seed start }
     {
         Gen {

@@ -8,7 +8,7 @@ ghost use Rattle.wap_library.specs.Outcome.{limited};
 ghost use Rattle.wap_library.specs.Row.{applied, arguments};
 
 use crate::Gen;
-use crate::argument::{argument, characters_of, integer_value, kept, shown, text};
+use crate::argument::{argument, characters_of, integer_value, keep_within, show, text};
 use crate::characters::{behind_blanks, digits};
 use std::alloc::Global;
 use wap_base::{NoMemory, Rows, Text};
@@ -37,7 +37,7 @@ pub fn call_lang(
         LangFunction::Abs => absolute(argument(args, 0)),
         LangFunction::Min => least(argument(args, 0), argument(args, 1)),
         LangFunction::Max => greatest(argument(args, 0), argument(args, 1)),
-        LangFunction::ParseInt => parsed(alloc, argument(args, 0))?,
+        LangFunction::ParseInt => parse_integer(alloc, argument(args, 0))?,
         LangFunction::IsInt => is_integer(alloc, argument(args, 0))?,
         LangFunction::ParseFloat | LangFunction::IsFloat => Value::Invalid,
         LangFunction::MaxInt => Value::Int(i32::MAX),
@@ -45,11 +45,11 @@ pub fn call_lang(
         LangFunction::Float => Value::Bool(false),
         LangFunction::CharacterSet => Value::Int(UTF_8),
         LangFunction::Random => random(argument(args, 0), generator),
-        LangFunction::Seed => seeded(alloc, argument(args, 0), generator),
+        LangFunction::Seed => seed(alloc, argument(args, 0), generator),
         LangFunction::Exit => return Ok(LibOut::Exit(argument(args, 0).copy(alloc)?)),
-        LangFunction::Abort => return Ok(LibOut::Abort(shown(alloc, argument(args, 0))?)),
+        LangFunction::Abort => return Ok(LibOut::Abort(show(alloc, argument(args, 0))?)),
     };
-    Ok(LibOut::Value(kept(value, limit)?))
+    Ok(LibOut::Value(keep_within(value, limit)?))
 }
 
 fn absolute(value: &Value) -> Value
@@ -76,7 +76,7 @@ fn greatest(left: &Value, right: &Value) -> Value
     }
 }
 
-fn parsed(alloc: Global, value: &Value) -> Result<Value, NoMemory>
+fn parse_integer(alloc: Global, value: &Value) -> Result<Value, NoMemory>
     ensures { IfOk result (λ value_given. value_given ≡ lang_parse_int value.now) }
 {
     match characters_of(alloc, value)? {
@@ -141,7 +141,7 @@ fn remainder(word: u32, most: u32) -> i32
 }
 
 /// The generator begins anew.
-fn seeded(alloc: Global, start: &Value, generator: &mut Gen) -> Value
+fn seed(alloc: Global, start: &Value, generator: &mut Gen) -> Value
     ensures value { result ≡ (lang_seed start.now generator.old).0 }
     ensures after { generator.new ≡ (lang_seed start.now generator.old).1 }
 {

@@ -23,7 +23,7 @@ pub fn place_of(part: &str, text: &str) -> Option<usize>
 }
 
 /// The text with `new` in place of each occurrence of `old`.
-pub fn replaced(
+pub fn replace(
     alloc: Global,
     old: &str,
     new: &str,

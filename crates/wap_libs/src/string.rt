@@ -12,12 +12,12 @@ ghost use Rattle.wap_library.specs.String.{string_trim, string_compare, string_t
 ghost use Rattle.wap_library.specs.String.{string_format, character_at, place_value, order_value};
 
 use crate::argument::{
-    argument, characters_of, from_zero, kept, length, number, shown, text, text_value,
+    argument, characters_of, from_zero, keep_within, length, number, show, text, text_value,
 };
-use crate::characters::{part, squeezed, trimmed};
+use crate::characters::{part, squeeze, trim};
 use crate::elements::{element_at, elements, with_element, with_element_before, without_element};
-use crate::format::formatted;
-use crate::occurrences::{place_of, replaced};
+use crate::format::format_value;
+use crate::occurrences::{place_of, replace};
 use std::alloc::Global;
 use std::cmp::Ordering;
 use wap_base::{NoMemory, Text};
@@ -68,7 +68,7 @@ pub fn call_string(
             string_insert_at(alloc, first, new, place, argument(args, 3))
         }
     };
-    kept(value?, limit)
+    keep_within(value?, limit)
 }
 
 fn string_length(alloc: Global, value: &Value) -> Result<Value, NoMemory>
@@ -186,7 +186,7 @@ fn string_replace(
     let Some(new) = to_str(alloc, new)? else {
         return Ok(Value::Invalid);
     };
-    replaced(alloc, old.as_str(), new.as_str(), text.as_str(), limit)
+    replace(alloc, old.as_str(), new.as_str(), text.as_str(), limit)
 }
 
 /// The separator that a value gives: the first character of its String.
@@ -308,7 +308,7 @@ fn string_squeeze(alloc: Global, value: &Value) -> Result<Value, NoMemory>
     ensures { IfOk result (λ answer. answer ≡ string_squeeze value.now) }
 {
     match characters_of(alloc, value)? {
-        Some(characters) => squeezed(alloc, characters.as_slice()).map(Value::Str),
+        Some(characters) => squeeze(alloc, characters.as_slice()).map(Value::Str),
         None => Ok(Value::Invalid),
     }
 }
@@ -317,7 +317,7 @@ fn string_trim(alloc: Global, value: &Value) -> Result<Value, NoMemory>
     ensures { IfOk result (λ answer. answer ≡ string_trim value.now) }
 {
     match characters_of(alloc, value)? {
-        Some(characters) => text(alloc, trimmed(characters.as_slice())).map(Value::Str),
+        Some(characters) => text(alloc, trim(characters.as_slice())).map(Value::Str),
         None => Ok(Value::Invalid),
     }
 }
@@ -347,7 +347,7 @@ fn order_value(order: Ordering) -> Value
 fn string_to_string(alloc: Global, value: &Value) -> Result<Value, NoMemory>
     ensures { IfOk result (λ answer. answer ≡ string_to_string value.now) }
 {
-    shown(alloc, value).map(Value::Str)
+    show(alloc, value).map(Value::Str)
 }
 
 fn string_format(alloc: Global, format: &Value, value: &Value) -> Result<Value, NoMemory>
@@ -355,7 +355,7 @@ fn string_format(alloc: Global, format: &Value, value: &Value) -> Result<Value, 
 {
     match characters_of(alloc, format)? {
         Some(format) if !matches!(value, Value::Invalid) => {
-            Ok(text_value(formatted(alloc, format.as_slice(), value)?))
+            Ok(text_value(format_value(alloc, format.as_slice(), value)?))
         }
         _ => Ok(Value::Invalid),
     }

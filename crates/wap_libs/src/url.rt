@@ -14,8 +14,8 @@ ghost use Rattle.wap_library.specs.Url.{url_get_port, url_get_path, url_get_para
 ghost use Rattle.wap_library.specs.Url.{url_get_query, url_get_fragment, url_resolve};
 ghost use Rattle.wap_library.specs.Url.{url_escape_string, url_unescape_string};
 
-use crate::argument::{argument, characters, kept, text_value};
-use crate::elements::{element_at, elements, joined, without_element};
+use crate::argument::{argument, characters, keep_within, text_value};
+use crate::elements::{element_at, elements, join_elements, without_element};
 use std::alloc::Global;
 use wap_base::{Bytes, NoMemory, Rows, Text};
 use wap_library::{LibFault, UrlFunction};
@@ -47,7 +47,7 @@ pub fn call_url(
         UrlFunction::EscapeString => url_escape_string(alloc, first),
         UrlFunction::UnescapeString => url_unescape_string(alloc, first),
     };
-    kept(value?, limit)
+    keep_within(value?, limit)
 }
 
 /// The URL that a value spells.
@@ -190,7 +190,7 @@ fn without_parameters(alloc: Global, path: &Text) -> Result<Text, NoMemory>
     let mut segments = segments(alloc, path)?;
     let place = segments.len() - 1;
     segments[place] = element_at(alloc, ';', 0, last.as_slice())?;
-    joined(alloc, '/', &segments)
+    join_elements(alloc, '/', &segments)
 }
 
 fn url_resolve(alloc: Global, base: &Value, reference: &Value) -> Result<Value, NoMemory>
@@ -206,13 +206,13 @@ fn resolve_on(alloc: Global, base: &Url, reference: &Value) -> Result<Value, NoM
     ensures { IfOk result (λ answer. answer ≡ on_url reference.now (λ u. resolved base.now u)) }
 {
     match url_of(alloc, reference)? {
-        Some(reference) => resolved(alloc, base, &reference),
+        Some(reference) => resolve(alloc, base, &reference),
         None => Ok(Value::Invalid),
     }
 }
 
 /// The text of the reference joined to the base, where the base has a scheme and a host.
-fn resolved(alloc: Global, base: &Url, reference: &Url) -> Result<Value, NoMemory>
+fn resolve(alloc: Global, base: &Url, reference: &Url) -> Result<Value, NoMemory>
     ensures { IfOk result (λ answer. answer ≡ resolved base.now reference.now) }
 {
     if !is_base(base) {

@@ -52,7 +52,7 @@ fn page_url(url: Url) -> Result<Url, Refusal>
 }
 
 /// The URL that a reference stands for; without a base it is joined to itself.
-fn joined(alloc: Global, base: &Option<Url>, reference: &Url) -> Result<Url, NoMemory>
+fn join_to(alloc: Global, base: &Option<Url>, reference: &Url) -> Result<Url, NoMemory>
     ensures { IfOk result (λ url. url ≡ joined (unwrap_or base.now reference.now) reference.now) }
 {
     match base {
@@ -70,7 +70,7 @@ pub fn target(
     ensures { IfOk result (λ target. target ≡ target_of base.now href.now) }
 {
     match Url::read(alloc, href) {
-        Ok(reference) => Ok(page_url(joined(alloc, base, &reference)?)),
+        Ok(reference) => Ok(page_url(join_to(alloc, base, &reference)?)),
         Err(UrlFault::NoMemory) => Err(NoMemory),
         Err(UrlFault::BadChar { at: _ }) => Ok(Err(Refusal::Url)),
         Err(UrlFault::BadScheme | UrlFault::BadHost | UrlFault::BadPort) => Ok(Err(Refusal::Url)),

@@ -12,7 +12,7 @@ ghost use Rattle.wap_context.specs.Browsers.{place_held, Shows};
 ghost use Rattle.wap_context.specs.Acting.{Acts};
 ghost use Rattle.wap_session.specs.inside.Pressing.{typed};
 
-use crate::lines::{add_lines, refused, variable_lines};
+use crate::lines::{add_lines, refusal_lines, variable_lines};
 use std::alloc::Global;
 use wap_base::{NoMemory, Rows, RunErr, Text};
 use wap_cardrules::{Chosen, Entered, Task};
@@ -44,7 +44,10 @@ pub(crate) fn press<P: Pages>(
         Key::Choose(field, option) => choose_option(context, alloc, *field, *option, pages),
         Key::Back => go_back(context, alloc, pages),
         Key::Tick(time) => context.tick(alloc, pages, *time),
-        Key::Ok | Key::Cancel | Key::Answer(_) | Key::Stop => Ok(refused(alloc, Refusal::Ignored)?),
+        Key::Ok | Key::Cancel | Key::Answer(_) | Key::Stop => Ok(refusal_lines(
+            alloc,
+            Refusal::Ignored,
+        )?),
         Key::Vars => Ok(variable_lines(alloc, context.vars())?),
     }
 }
@@ -61,7 +64,7 @@ fn act_or_ignore<P: Pages>(
 {
     match task {
         Some(task) => context.act(alloc, pages, task),
-        None => Ok(refused(alloc, Refusal::Ignored)?),
+        None => Ok(refusal_lines(alloc, Refusal::Ignored)?),
     }
 }
 
@@ -106,7 +109,7 @@ fn run_do<P: Pages>(
     if context.has_card() {
         return run_do_here(context, alloc, name, pages);
     }
-    Ok(refused(alloc, Refusal::Ignored)?)
+    Ok(refusal_lines(alloc, Refusal::Ignored)?)
 }
 
 /// Runs the do of a name of the current card.
@@ -160,7 +163,7 @@ fn go_back<P: Pages>(
     if context.has_card() {
         return context.act(alloc, pages, Task::Prev(Rows::new(alloc)));
     }
-    Ok(refused(alloc, Refusal::Ignored)?)
+    Ok(refusal_lines(alloc, Refusal::Ignored)?)
 }
 
 /// Lines, and then the screen of the current card alone.
@@ -168,7 +171,7 @@ fn then_screen(context: &Context, alloc: Global, refusal: Refusal) -> Result<Row
     ensures { IfOk result (λ lines. Shows context.now context.now lines
         (λ told world. behind (refusal_line refusal ∷ []) (show_screen told world))) }
 {
-    let mut lines = refused(alloc, refusal)?;
+    let mut lines = refusal_lines(alloc, refusal)?;
     add_lines(&mut lines, context.screen(alloc)?)?;
     Ok(lines)
 }
@@ -178,7 +181,7 @@ fn refuse(context: &mut Context, alloc: Global, refusal: Refusal) -> Result<Rows
     ensures { IfOk result (λ lines. Shows context.old context.new lines
         (λ told world. refuse told refusal world)) }
 {
-    let mut lines = refused(alloc, refusal)?;
+    let mut lines = refusal_lines(alloc, refusal)?;
     add_lines(&mut lines, context.show(alloc)?)?;
     Ok(lines)
 }
@@ -193,7 +196,7 @@ fn enter_text(
     ensures { IfOk result (λ lines. Shows context.old context.new lines (typed number text.now)) }
 {
     match context.enter_text(alloc, number, text)? {
-        Entered::NoInput => refused(alloc, Refusal::Ignored),
+        Entered::NoInput => refusal_lines(alloc, Refusal::Ignored),
         Entered::Refused => then_screen(context, alloc, Refusal::Mask),
         Entered::Full => refuse(context, alloc, Refusal::Full),
         Entered::Set => context.show(alloc),
@@ -212,7 +215,7 @@ fn choose_option<P: Pages>(
         (P.seen pages.old) (P.seen pages.new) context.old context.new result }
 {
     match context.choose(alloc, field, option)? {
-        Chosen::NoOption => Ok(refused(alloc, Refusal::Ignored)?),
+        Chosen::NoOption => Ok(refusal_lines(alloc, Refusal::Ignored)?),
         Chosen::Set(faults, task) => {
             let mut lines = Rows::new(alloc);
             add_fault_lines(alloc, faults.as_slice(), &mut lines)?;

@@ -18,8 +18,8 @@ pub(crate) fn add_lines(lines: &mut Rows<Text>, more: Rows<Text>) -> Result<(), 
     Ok(())
 }
 
-/// The line of a refusal, and no more.
-pub(crate) fn refused(alloc: Global, refusal: Refusal) -> Result<Rows<Text>, NoMemory>
+/// The lines of a refusal, which is one line.
+pub(crate) fn refusal_lines(alloc: Global, refusal: Refusal) -> Result<Rows<Text>, NoMemory>
     ensures { IfOk result (λ lines. lines ≡ refusal_line refusal ∷ []) }
 {
     Ok(Rows::from_vec(vec![in alloc; refusal_line(alloc, refusal)?]?))

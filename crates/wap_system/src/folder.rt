@@ -222,7 +222,7 @@ fn page_at<R: Files + AllocGlobal>(rt: &R, path: &str) -> Result<Fetched, StoreE
         return Err(StoreErr::Failed);
     }
     match if_there(read_front(rt, path))? {
-        Some(bytes) => found(bytes),
+        Some(bytes) => page_of(bytes),
         None => Ok(Fetched::Missing),
     }
 }
@@ -237,7 +237,7 @@ fn read_front<R: Files + AllocGlobal>(rt: &R, path: &str) -> io::Result<Vec<u8>>
 }
 
 /// The page of these bytes. They are too many where the file grew since its length was compared.
-fn found(bytes: Vec<u8>) -> Result<Fetched, StoreErr>
+fn page_of(bytes: Vec<u8>) -> Result<Fetched, StoreErr>
     ensures { IfOk result IsSmall }
 {
     if bytes.len() >= PAGE_LIMIT {
@@ -297,16 +297,16 @@ fn read_folder<R: Files + AllocGlobal + Clone + Drop>(
     names: &mut Vec<Text>,
     below: &mut Vec<String>,
 ) -> Result<(), StoreErr> {
-    let path = joined(rt.alloc(), folder, "/", prefix)?;
+    let path = join(rt.alloc(), folder, "/", prefix)?;
     for entry in fs::read_dir(rt, path.as_str()).map_err(fault)? {
         let entry = entry.map_err(fault)?;
         let path = entry.path();
         match kind_of(rt, path)? {
             Kind::Page => {
-                let name = joined(rt.alloc(), prefix, entry.file_name(), "")?;
+                let name = join(rt.alloc(), prefix, entry.file_name(), "")?;
                 names.push(Text::from_string(name))?;
             }
-            Kind::Folder => below.push(joined(rt.alloc(), prefix, entry.file_name(), "/")?)?,
+            Kind::Folder => below.push(join(rt.alloc(), prefix, entry.file_name(), "/")?)?,
             Kind::Other => {}
         }
     }
@@ -328,7 +328,7 @@ fn kind_of<R: Files>(rt: &R, path: Path<'_>) -> Result<Kind, StoreErr> {
 }
 
 /// Three texts in a row.
-fn joined(alloc: Global, front: &str, middle: &str, end: &str) -> Result<String, AllocError> {
+fn join(alloc: Global, front: &str, middle: &str, end: &str) -> Result<String, AllocError> {
     let mut joined = String::from_str(alloc, front)?;
     joined.push_str(middle)?;
     joined.push_str(end)?;

@@ -32,7 +32,7 @@ impl Read for Listing {
     }
 }
 
-fn refused<T>() -> io::Result<T> {
+fn refuse<T>() -> io::Result<T> {
     Err(Error::from(ErrorKind::NotFound))
 }
 
@@ -62,27 +62,27 @@ impl Files for Odd {
     }
 
     fn copy(&self, _from: &str, _to: &str) -> io::Result<u64> {
-        refused()
+        refuse()
     }
 
     fn rename(&self, _from: &str, _to: &str) -> io::Result<()> {
-        refused()
+        refuse()
     }
 
     fn remove_file(&self, _path: &str) -> io::Result<()> {
-        refused()
+        refuse()
     }
 
     fn create_dir(&self, _path: &str) -> io::Result<()> {
-        refused()
+        refuse()
     }
 
     fn remove_dir(&self, _path: &str) -> io::Result<()> {
-        refused()
+        refuse()
     }
 
     fn remove_dir_all<B: Allocator>(&self, _alloc: B, _path: &str) -> io::Result<()> {
-        refused()
+        refuse()
     }
 }
 

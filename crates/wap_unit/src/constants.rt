@@ -7,7 +7,7 @@ ghost use Rattle.wap_unit.specs.inside.Reading.{constant_at, constants_at};
 
 use crate::UnitFault;
 use crate::charset::{coded_text, utf8_text};
-use crate::front::{byte, number, place, sized, taken};
+use crate::front::{byte, number, place, take_bytes, take_sized};
 use crate::kind::{ConstantKind, constant_kind};
 use std::alloc::Global;
 use wap_base::{Charset, Rows};
@@ -83,21 +83,21 @@ fn read_value(
 {
     match kind {
         ConstantKind::Int8 => {
-            let (value, rest) = taken(1, end, bytes)?;
+            let (value, rest) = take_bytes(1, end, bytes)?;
             Ok((Constant::Int8(i8::from_be_bytes([value[0]])), rest))
         }
         ConstantKind::Int16 => {
-            let (value, rest) = taken(2, end, bytes)?;
+            let (value, rest) = take_bytes(2, end, bytes)?;
             let number = i16::from_be_bytes([value[0], value[1]]);
             Ok((Constant::Int16(number), rest))
         }
         ConstantKind::Int32 => {
-            let (value, rest) = taken(4, end, bytes)?;
+            let (value, rest) = take_bytes(4, end, bytes)?;
             let number = i32::from_be_bytes([value[0], value[1], value[2], value[3]]);
             Ok((Constant::Int32(number), rest))
         }
         ConstantKind::Float => {
-            let (value, rest) = taken(4, end, bytes)?;
+            let (value, rest) = take_bytes(4, end, bytes)?;
             let bits = u32::from_be_bytes([value[0], value[1], value[2], value[3]]);
             Ok((Constant::Float(bits), rest))
         }
@@ -117,7 +117,7 @@ fn read_utf8(
 ) -> Result<(Constant, &[u8]), UnitFault>
     ensures { Meets NoMemory (λ read. (read.0, read.1.now)) result (utf8_at at end bytes.now) }
 {
-    let (content, rest) = sized(end, bytes)?;
+    let (content, rest) = take_sized(end, bytes)?;
     let (text, rest) = utf8_text(alloc, at, content, end, rest)?;
     Ok((Constant::Utf8(text), rest))
 }
@@ -136,7 +136,7 @@ fn read_coded(
     match set {
         None => Err(UnitFault::Charset { at }),
         Some(set) => {
-            let (content, rest) = sized(end, bytes)?;
+            let (content, rest) = take_sized(end, bytes)?;
             let (text, rest) = coded_text(alloc, set, at, content, end, rest)?;
             Ok((Constant::Coded(text), rest))
         }

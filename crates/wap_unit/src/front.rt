@@ -26,7 +26,7 @@ pub fn byte(end: usize, bytes: &[u8]) -> Result<(u8, &[u8]), UnitFault>
 }
 
 /// So many bytes.
-pub fn taken(size: usize, end: usize, bytes: &[u8]) -> Result<(&[u8], &[u8]), UnitFault>
+pub fn take_bytes(size: usize, end: usize, bytes: &[u8]) -> Result<(&[u8], &[u8]), UnitFault>
     ensures read { Meets NoMemory (λ read. (read.0.now, read.1.now)) result
         (taken_at size end bytes.now) }
     ensures size { IfOk result (λ read. length read.0.now ≡ size) }
@@ -53,9 +53,9 @@ pub fn number(end: usize, bytes: &[u8]) -> Result<(u32, &[u8]), UnitFault>
 
 /// Bytes after their number.
 #[tactic(auto, unfolding(crate::specs::inside::Reading::sized_at))]
-pub fn sized(end: usize, bytes: &[u8]) -> Result<(&[u8], &[u8]), UnitFault>
+pub fn take_sized(end: usize, bytes: &[u8]) -> Result<(&[u8], &[u8]), UnitFault>
     ensures { Meets NoMemory (λ read. (read.0.now, read.1.now)) result (sized_at end bytes.now) }
 {
     let (size, rest) = number(end, bytes)?;
-    taken(size as usize, end, rest)
+    take_bytes(size as usize, end, rest)
 }

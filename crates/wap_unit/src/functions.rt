@@ -7,7 +7,7 @@ ghost use Rattle.wap_unit.specs.inside.Reading.{named_functions_at, functions_at
 
 use crate::UnitFault;
 use crate::charset::utf8_text;
-use crate::front::{byte, place, sized, taken};
+use crate::front::{byte, place, take_bytes, take_sized};
 use std::alloc::Global;
 use wap_base::{Bytes, Rows, Text};
 use wap_code::Code;
@@ -99,7 +99,7 @@ fn read_name_text(
     ensures { Meets NoMemory (λ read. (read.0, read.1.now)) result (name_text_at at end bytes.now) }
 {
     let (size, rest) = byte(end, bytes)?;
-    let (content, rest) = taken(size as usize, end, rest)?;
+    let (content, rest) = take_bytes(size as usize, end, rest)?;
     utf8_text(alloc, at, content, end, rest)
 }
 
@@ -130,7 +130,7 @@ fn read_function(alloc: Global, end: usize, bytes: &[u8]) -> Result<(Code, &[u8]
 {
     let (args, rest) = byte(end, bytes)?;
     let (locals, rest) = byte(end, rest)?;
-    let (code, rest) = sized(end, rest)?;
+    let (code, rest) = take_sized(end, rest)?;
     let code = Bytes::of(alloc, code)?;
     Ok((Code { args, locals, code }, rest))
 }

@@ -30,7 +30,7 @@ fn plain_path(alloc: Global, url: &Url) -> Result<Text, NoMemory>
         ≡ rooted (is_some url.now.host) (resolved_path url.now.path)) }
 {
     let path = resolved_path(alloc, &url.path)?;
-    rooted(alloc, path, url.host.is_some())
+    default_to_root(alloc, path, url.host.is_some())
 }
 
 /// The reference with what it takes from the base.
@@ -116,7 +116,7 @@ fn begins_at_root(path: &Text) -> bool
 }
 
 /// Under a host an empty path is the root.
-fn rooted(alloc: Global, path: Text, under_host: bool) -> Result<Text, NoMemory>
+fn default_to_root(alloc: Global, path: Text, under_host: bool) -> Result<Text, NoMemory>
     ensures { IfOk result (λ root. root ≡ rooted under_host path) }
 {
     if under_host && path.is_empty() {

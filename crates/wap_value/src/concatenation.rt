@@ -23,11 +23,11 @@ pub fn concatenation(
     if bytes > limit {
         return Err(ValueFault::TooLong { bytes });
     }
-    Ok(Value::Str(concatenated(alloc, left, right, bytes)?))
+    Ok(Value::Str(concatenate(alloc, left, right, bytes)?))
 }
 
 /// The two texts, one after the other, in room of so many bytes.
-fn concatenated(alloc: Global, left: &Text, right: &Text, bytes: usize) -> Result<Text, NoMemory>
+fn concatenate(alloc: Global, left: &Text, right: &Text, bytes: usize) -> Result<Text, NoMemory>
     ensures { IfOk result (λ text. text ≡ left.now ++ right.now) }
 {
     let mut text = Text::from_string(String::with_capacity(alloc, bytes)?);

@@ -87,7 +87,7 @@ returns-in-Ok-Ended g c =
     let is = c.in-Ok-Ended.field-0-is in
     let answers = c.in-Ok-Ended.ensures in
     let last = read_to (played_to now new) left ends faults in
-    subst (λ (status : Status). Browses begun old last status) (sym c.ended.ensures)
+    subst (λ (status : Status). Browses begun old last status) (sym c.status_of.ensures)
     (browses_by begun old last _
     (ended_browses begun old now c.loop-status.reader c.next.new.self c.loop-status.session
     c.loop-status.key new left ends faults ending c.loop-status.invariant c.in_default.ensures

@@ -1,8 +1,8 @@
 use Rattle.std.proofs.Common.{◌≡◌, drop}
-use Rattle.wap_fakes.specs.Fakes.{page_named}
+use Rattle.wap_fakes.specs.Fakes.{page_under}
 use Rattle.wap_fakes.proofs.answer.find.Given as goal
 
 -- the pages passed have other names
 abbrev pub invariant-loop-page_name : goal.invariant-loop-page_name
 invariant-loop-page_name l =
-    page_named l.name (drop l.page_name-index l.pages) ≡ page_named l.name l.pages
+    page_under l.name (drop l.page_name-index l.pages) ≡ page_under l.name l.pages

@@ -17,12 +17,12 @@ returns-in-Some c =
     Meets NoMemory (λ (key : Key). key) c.read_rest.result reading)
     (sym (word_key c.args.line.now c.split_word.result.0.now
     (option_map (λ rest. rest.now) c.split_word.result.1) c.in-Some.word
-    c.if-line-gt-LINE_LIMIT.false c.split_word.ensures.is (sym c.named.ensures ∙ c.in-Some.is)))
+    c.if-line-gt-LINE_LIMIT.false c.split_word.ensures.is (sym c.of.ensures ∙ c.in-Some.is)))
     c.read_rest.ensures
 
 pub returns-in-None : goal.returns-in-None
 returns-in-None c = λ _.
     unknown_key c.args.line.now c.split_word.result.0.now
     (option_map (λ rest. rest.now) c.split_word.result.1) c.if-line-gt-LINE_LIMIT.false
-    c.split_word.ensures.is c.split_word.ensures.word (sym c.named.ensures ∙ c.in-None.is)
+    c.split_word.ensures.is c.split_word.ensures.word (sym c.of.ensures ∙ c.in-None.is)
     ∙ ap Err (sym c.unknown_fault.ensures)

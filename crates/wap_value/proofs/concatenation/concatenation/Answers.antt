@@ -19,4 +19,4 @@ returns c =
     (joined_len c.args.left.now c.args.right.now c.as_str.result.now c.as_str-2.result.now
     c.as_str.ensures.bytes c.as_str-2.ensures.bytes)
     c.if-bytes-limit.false
-    ∙ ap (λ text. Ok (Str text)) (sym c.in_ok-concatenated.ensures)
+    ∙ ap (λ text. Ok (Str text)) (sym c.in_ok-concatenate.ensures)

@@ -20,17 +20,17 @@ returns-in_ok-request-in-Ok g c =
     c.in_ok-base.ensures (sym c.in-Ok.is ∙ c.in_ok-url.ensures) c.in_ok-request-in-Ok.ensures)
     c.stay_or_ask.ensures
 
-pub returns-in_ok-refused-in-Err : goal.returns-in_ok-refused-in-Err
-returns-in_ok-refused-in-Err g c =
+pub returns-in_ok-refuse-in-Err : goal.returns-in_ok-refuse-in-Err
+returns-in_ok-refuse-in-Err g c =
     refused_takes (g.P.Pages.seen c.args.pages.now)
-    c.args.self.now c.refused.new.self c.args.lines.now
+    c.args.self.now c.refuse.new.self c.args.lines.now
     (λ told world. go told [] (url_now told world) c.args.one world)
-    c.refused.new.lines c.in_ok-refused-in-Err.field-0 c.in-Err.refusal
+    c.refuse.new.lines c.in_ok-refuse-in-Err.field-0 c.in-Err.refusal
     (λ pages over.
     go_refused pages c.args.self.now over c.in_ok-base.base c.args.one c.in-Err.refusal
     c.in_ok-base.ensures
     (sym c.in-Err.is ∙ c.in_ok-url.ensures))
-    c.in_ok-refused-in-Err.ensures
+    c.in_ok-refuse-in-Err.ensures
 
 pub returns-in_err-url : goal.returns-in_err-url
 returns-in_err-url g c =
@@ -48,10 +48,10 @@ returns-in_err-request-in-Ok g c =
     c.from_residual-in_err-request-in-Ok.result c.from_residual-in_err-request-in-Ok.ensures.0
     c.from_residual-in_err-request-in-Ok.ensures.1
 
-pub returns-in_err-refused-in-Err : goal.returns-in_err-refused-in-Err
-returns-in_err-refused-in-Err g c =
+pub returns-in_err-refuse-in-Err : goal.returns-in_err-refuse-in-Err
+returns-in_err-refuse-in-Err g c =
     takes_rejected (λ told world. go told [] (url_now told world) c.args.one world)
     (g.P.Pages.seen c.args.pages.now)
-    c.args.self.now c.refused.new.self c.args.lines.now c.refused.new.lines
-    c.from_residual-in_err-refused-in-Err.result c.from_residual-in_err-refused-in-Err.ensures.0
-    c.from_residual-in_err-refused-in-Err.ensures.1
+    c.args.self.now c.refuse.new.self c.args.lines.now c.refuse.new.lines
+    c.from_residual-in_err-refuse-in-Err.result c.from_residual-in_err-refuse-in-Err.ensures.0
+    c.from_residual-in_err-refuse-in-Err.ensures.1

@@ -24,11 +24,11 @@ returns-in-Ok g c =
 pub returns : goal.returns
 returns g c =
     refused_takes (g.P.Pages.seen c.args.pages.now)
-    c.args.self.now c.refused.new.self c.args.lines.now
+    c.args.self.now c.refuse.new.self c.args.lines.now
     (λ told world. open_url told [] c.args.url.now world)
-    c.refused.new.lines c.in_ok-refused-in-Err.field-0 c.in-Err.refusal
+    c.refuse.new.lines c.in_ok-refuse-in-Err.field-0 c.in-Err.refusal
     (λ pages over.
     open_refused pages c.args.self.now over c.in_ok-base.base c.args.url.now c.in-Err.refusal
     c.in_ok-base.ensures
     (sym c.in-Err.is ∙ c.in_ok-url.ensures))
-    c.in_ok-refused-in-Err.ensures
+    c.in_ok-refuse-in-Err.ensures

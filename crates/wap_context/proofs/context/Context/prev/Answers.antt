@@ -21,13 +21,13 @@ returns-in-Some g c =
     c.in-Some.is)
     c.back_to.ensures
 
-pub returns-in_ok-refused-in-None : goal.returns-in_ok-refused-in-None
-returns-in_ok-refused-in-None g c =
+pub returns-in_ok-refuse-in-None : goal.returns-in_ok-refuse-in-None
+returns-in_ok-refuse-in-None g c =
     refused_takes (g.P.Pages.seen c.args.pages.now)
-    c.args.self.now c.refused.new.self c.args.lines.now
+    c.args.self.now c.refuse.new.self c.args.lines.now
     (λ told world. prev told [] c.args.sets world)
-    c.refused.new.lines c.in_ok-refused-in-None.field-0 refusals.First
+    c.refuse.new.lines c.in_ok-refuse-in-None.field-0 refusals.First
     (λ pages over. prev_none pages c.args.sets c.args.self.now.world c.in_ok-earlier.field-0
     (c.in_ok-earlier.ensures ∙ ap (λ (b : Browser). earlier_entry b.world) c.self.view_is)
     c.in-None.is)
-    c.in_ok-refused-in-None.ensures
+    c.in_ok-refuse-in-None.ensures

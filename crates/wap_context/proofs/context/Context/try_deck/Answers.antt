@@ -18,11 +18,11 @@ returns-then-is_allowed c =
 
 pub returns-else-is_allowed : goal.returns-else-is_allowed
 returns-else-is_allowed c =
-    if_ok c.refused.result
+    if_ok c.refuse.result
     (λ next.
     tries_denied c.args.sets c.args.caller.now c.args.url c.args.deck c.args.self.now
-    c.refused.new.self
-    c.args.lines.now c.refused.new.lines next
+    c.refuse.new.self
+    c.args.lines.now c.refuse.new.lines next
     (ap (λ (d : Deck). may_enter c.args.url d c.args.caller.now) (sym c.deref.ensures)
     ∙ sym c.in_ok-is_allowed.ensures ∙ c.if-is_allowed.false))
-    c.refused.ensures
+    c.refuse.ensures

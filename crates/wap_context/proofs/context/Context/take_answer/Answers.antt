@@ -1,0 +1,27 @@
+use Rattle.wap_context.specs.Browsers.{IsOver, place_held}
+use Rattle.wap_context.specs.inside.Held.{try_deck_at}
+use Rattle.wap_context.specs.inside.Moving.{HasDeck}
+use Rattle.wap_context.proofs.Plays.{if_ok}
+use Rattle.wap_context.proofs.Arrivals.{moves_ok, moves_no}
+use Rattle.wap_context.proofs.context.Context.take_answer.Goals as goal
+
+pub returns-in-Ok : goal.returns-in-Ok
+returns-in-Ok c =
+    if_ok c.try_deck.result
+    (λ next.
+    moves_ok (try_deck_at c.args.sets c.args.caller.now c.args.url
+    (place_held c.args.self.now) c.args.self.now.world) c.args.url c.args.self.now
+    c.try_deck.new.self c.args.lines.now c.try_deck.new.lines next c.args.answer c.in-Ok.deck
+    (λ pages. IsOver pages c.args.self.now × HasDeck c.args.url c.in-Ok.deck pages) c.in-Ok.is
+    (λ pages over has. (over, has)))
+    c.try_deck.ensures
+
+pub returns-in-Err : goal.returns-in-Err
+returns-in-Err c =
+    if_ok c.refuse.result
+    (λ next.
+    moves_no (try_deck_at c.args.sets c.args.caller.now c.args.url
+    (place_held c.args.self.now) c.args.self.now.world) c.args.url c.args.self.now
+    c.refuse.new.self c.args.lines.now c.refuse.new.lines next c.args.answer
+    c.in-Err.refusal c.in-Err.is)
+    c.refuse.ensures
