@@ -21,7 +21,7 @@ pub enum Charset {
 
 impl Charset {
     /// The character set of a number (IANA's MIBenum), where it is one that is read.
-    pub fn numbered(number: u32) -> Option<Charset>
+    pub fn of_number(number: u32) -> Option<Charset>
         ensures { result ≡ charset_of number }
     {
         match number {

@@ -86,6 +86,7 @@ impl Name {
         })
     }
 
+    /// The name as a text.
     pub fn text(&self) -> &Text
         ensures same { result.now ≡ self.now }
         ensures name { is_name self.now ≡ true }

@@ -88,6 +88,7 @@ impl Text {
         self.as_str().len()
     }
 
+    /// Whether it has no character.
     pub fn is_empty(&self) -> bool
         ensures { IsTrue result ↔ (self.now ≡ []) }
     {

@@ -10,5 +10,6 @@ pub struct Beginning {
     pub seed: u32,
     /// How many turns each key has.
     pub budget: u32,
+    /// What a run may keep and how deep it may call.
     pub limits: Limits,
 }

@@ -4,9 +4,13 @@ use crate::row::OpName;
 /// An instruction. Operands that it doesn't have are 0.
 #[derive(Clone, Copy, Debug, PartialEq, Eq)]
 pub struct Instr {
+    /// What it does.
     pub name: OpName,
+    /// Its first operand.
     pub a: u32,
+    /// Its second operand.
     pub b: u32,
+    /// Its third operand.
     pub c: u32,
     /// The place of the first byte after it.
     pub next: usize,

@@ -135,17 +135,25 @@ pub enum After {
 /// One spelling of an operation: its codes are `count` from `first` on.
 #[derive(Clone, Copy, Debug)]
 pub struct Row {
+    /// The least of its codes.
     pub first: u8,
+    /// How many codes it has: more than one where their low bits hold an operand.
     pub count: u8,
+    /// What it does, however it is spelled.
     pub operation: OpName,
+    /// The name of this spelling.
     pub name: OpName,
+    /// Where each operand stands.
     pub a: Slot,
     pub b: Slot,
     pub c: Slot,
+    /// What its operands are.
     pub operands: Operands,
+    /// How many values it takes.
     pub takes: Takes,
     /// How many values it gives. A pair gives none where it goes on, and one where it jumps.
     pub gives: u8,
+    /// Where it goes on.
     pub after: After,
 }
 

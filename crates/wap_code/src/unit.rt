@@ -9,10 +9,13 @@ pub struct Unit {
     pub version: u8,
     /// The number of the character set, as IANA counts them (MIBenum): 106 is UTF-8.
     pub charset: u32,
+    /// The constants that instructions and pragmas name by their index.
     pub constants: Rows<Constant>,
+    /// What the source says of access and to the user agent.
     pub pragmas: Rows<Pragma>,
     /// The names by which functions are called from outside, each with its function's index.
     pub names: Rows<(u8, Text)>,
+    /// The functions, each known by its index.
     pub functions: Rows<Code>,
 }
 
@@ -49,7 +52,10 @@ pub enum Pragma {
 /// instructions.
 #[derive(Debug, Drop)]
 pub struct Code {
+    /// How many arguments it takes; they are its first variables.
     pub args: u8,
+    /// How many variables it has besides.
     pub locals: u8,
+    /// Its instructions, as they are spelled.
     pub code: Bytes,
 }

@@ -9,7 +9,9 @@ use wap_site::Shared;
 /// A card and its deck. A contract sees both.
 #[derive(Drop)]
 pub struct Current<'a> {
+    /// The deck that is shown.
     pub deck: &'a GoodDeck,
+    /// The card of this deck that is shown.
     pub card: View<'a>,
 }
 

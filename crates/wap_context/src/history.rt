@@ -92,6 +92,7 @@ impl History {
         }
     }
 
+    /// How many entries there are, the current card's among them.
     pub fn len(&self) -> usize
         ensures value { result ≡ length self.now }
         ensures fits { result ≤ MOST_HISTORY }

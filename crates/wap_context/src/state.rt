@@ -13,12 +13,19 @@ use wap_world::Timer;
 /// Variables, history, timer, turns and the generator. A contract sees the world.
 #[derive(Drop)]
 pub struct State {
+    /// The variables of the context.
     pub vars: Vars,
+    /// The cards that were entered, the current one last.
     pub history: History,
+    /// The timer of the current card, if one runs.
     pub timer: Timer,
+    /// How many turns each key has.
     pub budget: u32,
+    /// How many of them are left to the key at hand.
     pub turns: u32,
+    /// The generator of random numbers, from the seed on.
     pub generator: Gen,
+    /// What the run may keep and how deep it may call.
     pub limits: Limits,
 }
 

@@ -99,6 +99,7 @@ impl<'a> Model for Names<'a> {
 }
 
 impl<'a> Names<'a> {
+    /// No name yet, and the allocator for those to come.
     pub fn new(alloc: Global) -> Names<'a>
         ensures { result ≡ [] }
     {

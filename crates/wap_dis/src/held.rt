@@ -9,7 +9,9 @@ use wap_base::{Failed, Sink, write_all};
 /// What is written next, and whether an earlier write failed; then nothing more is written.
 #[derive(Drop)]
 pub struct Held {
+    /// What isn't written yet.
     pub bytes: ArrayVec<u8, 512>,
+    /// Whether an earlier write failed.
     pub failed: bool,
 }
 

@@ -7,7 +7,10 @@ use wap_verify::Verified;
 /// A unit with its URL and that of the unit that called it, if one did.
 #[derive(Drop)]
 pub struct Script {
+    /// What runs; functions that are at work share it.
     pub unit: Arc<Verified, Global>,
+    /// The unit's URL, to which its references are joined.
     pub base: Url,
+    /// The URL of the unit that called it; none where a deck did.
     pub referer: Option<Url>,
 }

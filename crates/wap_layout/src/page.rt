@@ -97,8 +97,10 @@ fn add_ended(
 /// The lines so far, and the text after them, which has not ended yet.
 #[derive(Debug, Drop)]
 pub struct Page {
+    /// The lines that have ended.
     pub lines: Rows<Text>,
     pub mode: Mode,
+    /// What stands after them.
     pub text: Text,
 }
 

@@ -1,10 +1,13 @@
 //! Tokens.
 
-/// A token: its kind, the place of its first byte, and the place after its last.
+/// A token of a source.
 #[derive(Clone, Copy, Debug, PartialEq, Eq)]
 pub struct Token {
+    /// What it is.
     pub kind: Kind,
+    /// The place of its first byte.
     pub from: u32,
+    /// The place after its last byte.
     pub to: u32,
 }
 

@@ -19,6 +19,7 @@ pub struct Specifier {
     /// Of an Integer, how many digits are written at least; of a String, how many characters at
     /// most.
     pub precision: Option<u16>,
+    /// As what the value is written.
     pub conversion: Conversion,
 }
 

@@ -61,6 +61,7 @@ pub fn length(text: &Text) -> usize
     count(text.as_str())
 }
 
+/// How many characters there are.
 #[tactic(auto, using(std::proofs::lemmas::Str::chars_from_encodes))]
 pub fn count(text: &str) -> usize
     ensures { result ≡ length (chars text.now) }

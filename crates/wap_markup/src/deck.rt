@@ -5,6 +5,7 @@ use wap_base::{Part, Rows};
 /// A deck of cards.
 #[derive(Debug, Drop, PartialEq, Eq)]
 pub struct Deck {
+    /// The `wml` element.
     pub root: Node,
 }
 
@@ -12,8 +13,11 @@ pub struct Deck {
 #[cycle(node)]
 #[derive(Debug, Drop, PartialEq, Eq)]
 pub struct Node {
+    /// Which element it is.
     pub tag: Tag,
+    /// Its attributes with their values; the first of a name counts.
     pub attrs: Rows<(AttrName, Rows<Part>)>,
+    /// Its texts and elements, in the order of the document.
     pub kids: Rows<Item>,
 }
 

@@ -15,6 +15,7 @@ pub struct Document {
     pub public: u32,
     /// The number of the character set, as IANA counts them (MIBenum): 106 is UTF-8.
     pub charset: u32,
+    /// The element that holds all others.
     pub root: Element,
 }
 
@@ -31,17 +32,24 @@ pub enum Token {
 #[cycle(tree)]
 #[derive(Debug, Drop, PartialEq, Eq)]
 pub struct Element {
+    /// The page of codes on which its tag stands.
     pub page: u8,
+    /// Which element it is.
     pub tag: Token,
+    /// Its attributes, in the order of the document.
     pub attrs: Rows<Attr>,
+    /// Its content, in the order of the document.
     pub kids: Rows<Kid>,
 }
 
 /// An attribute, or a processing instruction, its start on a page of codes.
 #[derive(Debug, Drop, PartialEq, Eq)]
 pub struct Attr {
+    /// The page of codes on which its start stands.
     pub page: u8,
+    /// Its name; a code may stand for the beginning of a value too.
     pub start: Token,
+    /// The parts of its value, or of what follows the beginning.
     pub value: Rows<Piece>,
 }
 

@@ -5,7 +5,9 @@ use wap_base::{Rows, Text};
 /// A program of one unit.
 #[derive(Debug, Drop, PartialEq, Eq)]
 pub struct Program {
+    /// The pragmas, which stand before the functions.
     pub uses: Rows<Use>,
+    /// The functions, in the order of the source.
     pub functions: Rows<Function>,
 }
 
@@ -25,23 +27,30 @@ pub enum Use {
 /// A function of a unit.
 #[derive(Debug, Drop, PartialEq, Eq)]
 pub struct Function {
+    /// How it is called.
     pub name: Id,
     /// Whether other units may call it.
     pub external: bool,
+    /// The names of its parameters.
     pub params: Rows<Id>,
+    /// Its statements.
     pub body: Rows<Stmt>,
 }
 
 /// A name, and where it stands.
 #[derive(Debug, Drop, PartialEq, Eq)]
 pub struct Id {
+    /// The name as it is written.
     pub name: Text,
+    /// Where it stands.
     pub span: Span,
 }
 
-/// A part of a source: the place of its first byte, and the place after its last.
+/// A part of a source.
 #[derive(Clone, Copy, Debug, PartialEq, Eq)]
 pub struct Span {
+    /// The place of its first byte.
     pub from: u32,
+    /// The place after its last byte.
     pub to: u32,
 }

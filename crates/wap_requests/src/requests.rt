@@ -14,6 +14,7 @@ use wap_url::{Url, relative};
 /// What is asked for.
 #[derive(Drop)]
 pub struct Request {
+    /// Where the page stands.
     pub url: Url,
     /// The body of a post; without one it is a get.
     pub body: Option<Text>,

@@ -14,7 +14,9 @@ use wap_program::Function;
 /// What every function of a program may name.
 #[derive(Drop)]
 pub struct Globals {
+    /// The names of units that pragmas make known.
     pub units: Names,
+    /// How many parameters each function has.
     pub arities: Arities,
 }
 

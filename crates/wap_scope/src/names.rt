@@ -22,6 +22,7 @@ impl Model for Names {
 }
 
 impl Names {
+    /// No name yet, and the allocator for those to come.
     pub fn new(alloc: Global) -> Names
         ensures { result ≡ [] }
     {
@@ -30,12 +31,14 @@ impl Names {
         }
     }
 
+    /// How many names there are.
     pub fn len(&self) -> usize
         ensures { result ≡ length self.now }
     {
         self.names.len()
     }
 
+    /// Whether the name is among them.
     pub fn has(&self, name: &Text) -> bool
         ensures { result ≡ is_among name.now self.now }
     {

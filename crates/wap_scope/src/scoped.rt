@@ -32,6 +32,7 @@ impl Model for Scoped {
 }
 
 impl Scoped {
+    /// The program, whose names are in order.
     pub fn program(&self) -> &Program
         ensures same { result.now ≡ self.now }
         ensures scoped { IsScoped result.now }

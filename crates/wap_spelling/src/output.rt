@@ -12,14 +12,18 @@ use wap_markup::{ENTITY, EXT_0, EXT_I_0, EXT_I_1, EXT_I_2, OPAQUE, STR_I, SWITCH
 /// The pages of codes, of tags and of attributes.
 #[derive(Clone, Copy)]
 pub struct Pages {
+    /// The page on which tags stand.
     pub tag: u8,
+    /// The page on which starts and values of attributes stand.
     pub attribute: u8,
 }
 
 /// Bytes, and the pages on which they end.
 #[derive(Drop)]
 pub struct Output {
+    /// What is written so far.
     pub bytes: Bytes,
+    /// The pages that a reader is on after it.
     pub pages: Pages,
 }
 
@@ -52,6 +56,7 @@ fn variable(conv: Conv) -> u8
 }
 
 impl Output {
+    /// Writes a byte.
     pub fn push(&mut self, byte: u8) -> Result<(), NoMemory>
         ensures { OnOk result (self.new ≡ written (plain (byte ∷ [])) self.old) }
     {
@@ -74,12 +79,14 @@ impl Output {
         add_string(&mut self.bytes, text)
     }
 
+    /// Writes a string in place.
     pub fn write_text(&mut self, text: &Text) -> Result<(), NoMemory>
         ensures { OnOk result (self.new ≡ written (plain (STR_I ∷ string text.now)) self.old) }
     {
         self.write_string(STR_I, text)
     }
 
+    /// Writes a character by its number.
     pub fn write_entity(&mut self, number: u32) -> Result<(), NoMemory>
         ensures { OnOk result (self.new ≡ written (plain (ENTITY ∷ mb_spelling number)) self.old) }
     {
@@ -94,6 +101,7 @@ impl Output {
         self.write_string(variable(conv), name)
     }
 
+    /// Writes an extension that stands alone, one of three.
     pub fn write_extension(&mut self, number: u8) -> Result<(), NoMemory>
         requires { number < 3 }
         ensures { OnOk result (self.new ≡ written (plain ((EXT_0 + number) ∷ [])) self.old) }
@@ -101,6 +109,7 @@ impl Output {
         self.push(EXT_0 + number)
     }
 
+    /// Writes bytes that aren't looked at.
     pub fn write_opaque(&mut self, bytes: &[u8]) -> Result<(), NoMemory>
         requires { length bytes.now < 2 ^ 32 }
         ensures { OnOk result (self.new ≡ written (plain (OPAQUE ∷ sized bytes.now)) self.old) }

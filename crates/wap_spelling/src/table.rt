@@ -47,6 +47,7 @@ impl Table {
         })
     }
 
+    /// The string table as it stands in a document.
     pub fn as_bytes(&self) -> &[u8]
         ensures bytes { result.now ≡ table_of self.now }
         ensures fits { length result.now < 2 ^ 32 }

@@ -25,7 +25,7 @@ pub fn read_constants(
 {
     let (count, rest) = number(end, bytes)?;
     let (charset, rest) = number(end, rest)?;
-    let (constants, rest) = read_pool(alloc, Charset::numbered(charset), count, end, rest)?;
+    let (constants, rest) = read_pool(alloc, Charset::of_number(charset), count, end, rest)?;
     Ok((charset, constants, rest))
 }
 

@@ -13,7 +13,9 @@ use wap_base::Text;
 /// with the segments of `path`.
 #[derive(Debug, Drop)]
 pub struct Access {
+    /// Labels in which a caller's host has to end.
     pub domain: Text,
+    /// Segments with which a caller's path has to begin.
     pub path: Text,
 }
 

@@ -17,7 +17,9 @@ pub struct Slices<'a> {
     pub host: Option<&'a [u8]>,
     /// What follows the authority's first `:`.
     pub port: Option<&'a [u8]>,
+    /// What follows the authority, up to the first `?`.
     pub path: &'a [u8],
+    /// What follows the first `?`.
     pub query: Option<&'a [u8]>,
 }
 

@@ -33,6 +33,7 @@ pub fn text_of(alloc: Global, bytes: &[u8]) -> Result<Text, NoMemory>
     Text::from_latin1(alloc, bytes)
 }
 
+/// The text of a part, if it is given.
 pub fn text_of_part(alloc: Global, part: Option<&[u8]>) -> Result<Option<Text>, NoMemory>
     ensures { IfOk result (λ text. text ≡ option_copied part.entry) }
 {
@@ -42,6 +43,7 @@ pub fn text_of_part(alloc: Global, part: Option<&[u8]>) -> Result<Option<Text>, 
     }
 }
 
+/// The text of a part in lower case, if it is given.
 pub fn lowered_part(alloc: Global, part: Option<&[u8]>) -> Result<Option<Text>, NoMemory>
     ensures { IfOk result
         (λ text. text ≡ option_map (map to_ascii_lowercase) (option_copied part.entry)) }

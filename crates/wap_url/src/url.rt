@@ -9,12 +9,17 @@ use wap_base::{NoMemory, Text};
 /// A URL that is read has its scheme and host in lower case; no part is unescaped.
 #[derive(Debug, PartialEq, Eq, Drop)]
 pub struct Url {
+    /// The scheme, without its `:`. A reference may lack it.
     pub scheme: Option<Text>,
+    /// The host. A reference may lack it.
     pub host: Option<Text>,
     /// A given port, also where it is 80. A port that is given as empty is none.
     pub port: Option<u16>,
+    /// The path with its leading `/`, if it has one.
     pub path: Text,
+    /// What follows the `?`.
     pub query: Option<Text>,
+    /// What follows the `#`: in a deck, the name of a card.
     pub fragment: Option<Text>,
 }
 

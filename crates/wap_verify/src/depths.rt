@@ -17,8 +17,11 @@ use wap_code::{Code, Unit};
 /// and the greatest number.
 #[derive(Drop)]
 pub struct Work {
+    /// How many values there are at each place, where it was reached.
     pub depths: Vec<Option<u32>>,
+    /// Places whose ways aren't followed yet, each with its number of values.
     pub pending: Vec<(usize, u32)>,
+    /// The greatest number of values so far.
     pub room: u32,
 }
 

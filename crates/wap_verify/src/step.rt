@@ -14,7 +14,9 @@ use wap_code::{After, Code, Instr, Operands, Row, Takes, Unit};
 /// A place where it may go on, and how many values are given on the way there.
 #[derive(Clone, Copy, Debug, PartialEq, Eq)]
 pub struct Way {
+    /// The place where it goes on.
     pub to: usize,
+    /// How many values are given on the way.
     pub gives: u8,
 }
 

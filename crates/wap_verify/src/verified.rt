@@ -69,13 +69,14 @@ fn examine(alloc: Global, unit: &Unit) -> Result<(Rows<Option<Text>>, Rows<u32>)
     let rooms = rooms(alloc, unit)?;
     let texts = texts(
         alloc,
-        Charset::numbered(unit.charset),
+        Charset::of_number(unit.charset),
         unit.constants.as_slice(),
     )?;
     Ok((texts, rooms))
 }
 
 impl Verified {
+    /// The unit, which is spelled by bytes and passed the verifier.
     pub fn unit(&self) -> &Unit
         ensures unit { result.now ≡ self.now }
         ensures spelled { HasSpelling self.now }

@@ -54,7 +54,7 @@ pub fn read_charset(total: usize, bytes: &[u8]) -> Result<((u32, Charset), &[u8]
     ensures { Meets NoMemory (λ read. (read.0, read.1.now)) result (charset_at total bytes.now) }
 {
     let (number, rest) = read_number(total, bytes)?;
-    match Charset::numbered(number) {
+    match Charset::of_number(number) {
         Some(charset) => Ok(((number, charset), rest)),
         None => Err(DocFault::Charset),
     }

@@ -25,6 +25,7 @@ impl<'a> Model for Input<'a> {
 }
 
 impl<'a> Input<'a> {
+    /// What the head of a document tells its readers.
     pub fn new(total: usize, charset: Charset, table: &'a [u8]) -> Input<'a>
         ensures total { result.total ≡ total }
         ensures charset { result.strings.charset ≡ charset }
@@ -37,18 +38,21 @@ impl<'a> Input<'a> {
         }
     }
 
+    /// How many bytes the document has, by which places are told.
     pub fn total(&self) -> usize
         ensures { result ≡ self.now.total }
     {
         self.total
     }
 
+    /// The character set of its strings.
     pub fn charset(&self) -> Charset
         ensures { result ≡ self.now.strings.charset }
     {
         self.charset
     }
 
+    /// Its string table.
     pub fn table(&self) -> &'a [u8]
         ensures { result.now ≡ self.now.strings.table }
     {

@@ -42,6 +42,7 @@ impl Model for State {
 }
 
 impl State {
+    /// Both pages are 0, and no name is known yet.
     pub fn new(alloc: Global) -> State
         ensures { result ≡ first_state }
     {
@@ -54,36 +55,42 @@ impl State {
         }
     }
 
+    /// The page on which tags stand.
     pub fn tag_page(&self) -> u8
         ensures { result ≡ self.now.tag_page }
     {
         self.tag_page
     }
 
+    /// The page on which starts and values of attributes stand.
     pub fn attribute_page(&self) -> u8
         ensures { result ≡ self.now.attribute_page }
     {
         self.attribute_page
     }
 
+    /// Goes to another page of tags.
     pub fn go_to_tag_page(&mut self, page: u8)
         ensures { self.new ≡ on_tag_page page self.old }
     {
         self.tag_page = page;
     }
 
+    /// Goes to another page of attributes.
     pub fn go_to_attribute_page(&mut self, page: u8)
         ensures { self.new ≡ on_attribute_page page self.old }
     {
         self.attribute_page = page;
     }
 
+    /// Names count from here on.
     pub fn enter_root(&mut self)
         ensures { self.new ≡ into_root self.old }
     {
         self.in_root = true;
     }
 
+    /// Names count no more.
     pub fn leave_root(&mut self)
         ensures { self.new ≡ out_of_root self.old }
     {

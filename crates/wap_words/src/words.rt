@@ -16,6 +16,7 @@ use wap_keys::decimal_of;
 /// What is browsed, and how.
 #[derive(Debug, Drop, PartialEq, Eq)]
 pub struct Browse {
+    /// The page with which it begins.
     pub url: Text,
     /// What the first random number hangs on.
     pub seed: u32,

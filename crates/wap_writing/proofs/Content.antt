@@ -23,25 +23,25 @@ use Rattle.wap_spelling.specs.Writings.{Writing, plain, ◌⨾◌, each, ended, 
 use Rattle.wap_spelling.specs.Spelling.{bit, bits, attr_spelling, kid_spelling, element_spelling}
 use Rattle.wap_spelling.specs.inside.Written.{written}
 use Rattle.wap_spelling.proofs.Appending.{in_turn, each_none}
-use Rattle.wap_writing.specs.Parts.{part_spelling, content_bit, some}
+use Rattle.wap_writing.specs.Parts.{part_spelling, content_bit, has_any}
 use Rattle.wap_writing.proofs.Lists.{each_one, each_flat}
 use Rattle.wap_writing.proofs.Parts.{opened, parts_kids}
 
 -- ---- whether content follows
 
 pub item_gives : (inner : Node → List Kid) (one : Item) (parts : List Part) → one ≡ item.Text parts
-    → some (flat_map part_kids parts) ≡ some (item_kids inner one)
+    → has_any (flat_map part_kids parts) ≡ has_any (item_kids inner one)
 item_gives inner one parts is =
-    ap (λ level. some (kids_from inner level)) (sym (ap out-Item is ∙ item.outs-Text parts))
+    ap (λ level. has_any (kids_from inner level)) (sym (ap out-Item is ∙ item.outs-Text parts))
 
 pub node_gives : (levels : ℕ) (one : Item) (node : Node) → one ≡ item.Node node
-    → nat_lt 0 levels ≡ some (item_kids (node_kids levels) one)
+    → nat_lt 0 levels ≡ has_any (item_kids (node_kids levels) one)
 node_gives zero one node is =
-    ap (λ level. some (kids_from (node_kids zero) level))
+    ap (λ level. has_any (kids_from (node_kids zero) level))
     (sym (ap out-Item is ∙ item.outs-Node node))
 node_gives (suc levels) one node is =
     lt-ltb 0 (suc levels) (omega arith)
-    ∙ ap (λ level. some (kids_from (node_kids (suc levels)) level))
+    ∙ ap (λ level. has_any (kids_from (node_kids (suc levels)) level))
     (sym (ap out-Item is ∙ item.outs-Node node))
 
 -- ---- tags
@@ -58,7 +58,7 @@ bit_map : {A B : Type 0} (value : ℕ) (f : A → B) (xs : List A) → bit value
 bit_map value f [] = refl
 bit_map value f (x ∷ xs) = refl
 
-bit_some : {A : Type 0} (xs : List A) → content_bit (some xs) ≡ bit 64 xs
+bit_some : {A : Type 0} (xs : List A) → content_bit (has_any xs) ≡ bit 64 xs
 bit_some [] = refl
 bit_some (x ∷ xs) = refl
 
@@ -71,7 +71,7 @@ content_within true = omega arith
 content_within false = omega arith
 
 pub bits_are : (node : Node) (kids : List Kid)
-    → bit 128 node.attrs + content_bit (some kids) ≡ bits (element_of node kids)
+    → bit 128 node.attrs + content_bit (has_any kids) ≡ bits (element_of node kids)
 bits_are node kids = ap₂ (λ (a b : ℕ). a + b) (bit_map 128 attr_of node.attrs) (bit_some kids)
 
 -- ---- content
@@ -134,14 +134,14 @@ module _ (names : List (List ℕ)) where
   -- ---- its end
 
   module _ {A : Type 0} (write : A → Writing) where
-    pub end_none : (xs : List A) → false ≡ some xs → (before after : Output)
+    pub end_none : (xs : List A) → false ≡ has_any xs → (before after : Output)
         → after ≡ written (each write xs) before
         → after ≡ written (ended write xs) before
     unfolding each
     end_none [] none before after so = so
     end_none (x ∷ xs) none before after so = absurd cc
 
-    pub end_some : (xs : List A) → true ≡ some xs → (before between after : Output)
+    pub end_some : (xs : List A) → true ≡ has_any xs → (before between after : Output)
         → between ≡ written (each write xs) before
         → after ≡ written (plain (END ∷ [])) between → after ≡ written (ended write xs) before
     end_some [] more before between after so end = absurd cc

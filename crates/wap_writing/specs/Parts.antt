@@ -24,6 +24,6 @@ content_bit true = 64
 content_bit false = 0
 
 -- whether there is one
-abbrev pub some : {A : Type 0} → List A → Bool
-some [] = false
-some (x ∷ xs) = true
+abbrev pub has_any : {A : Type 0} → List A → Bool
+has_any [] = false
+has_any (x ∷ xs) = true

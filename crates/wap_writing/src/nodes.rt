@@ -4,7 +4,7 @@ ghost use Rattle.wap_markup.specs.Writing.{item_kids, items_kids, node_kids, ele
 ghost use Rattle.wap_spelling.specs.Writings.{each, ended};
 ghost use Rattle.wap_spelling.specs.Spelling.{bit, kid_spelling, element_spelling};
 ghost use Rattle.wap_spelling.specs.inside.Written.{written};
-ghost use Rattle.wap_writing.specs.Parts.{content_bit, some};
+ghost use Rattle.wap_writing.specs.Parts.{content_bit, has_any};
 
 use crate::attributes::write_attributes;
 use crate::texts::{have_content, write_parts};
@@ -16,7 +16,7 @@ use wap_tokens::code_of;
 
 /// Whether an item, a node with so many levels, gives content.
 fn gives(levels: u32, item: &Item) -> bool
-    ensures { result ≡ some (item_kids (node_kids levels) item.now) }
+    ensures { result ≡ has_any (item_kids (node_kids levels) item.now) }
 {
     match item {
         Item::Text(parts) => have_content(parts.as_slice()),
@@ -26,7 +26,7 @@ fn gives(levels: u32, item: &Item) -> bool
 
 /// Whether one of some items does.
 fn give_content(levels: u32, items: &[Item]) -> bool
-    ensures { result ≡ some (items_kids (node_kids levels) items.now) }
+    ensures { result ≡ has_any (items_kids (node_kids levels) items.now) }
 {
     for item in items {
         if gives(levels, item) {

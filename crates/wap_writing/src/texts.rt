@@ -4,7 +4,7 @@ ghost use Rattle.std.specs.List.{flat_map};
 ghost use Rattle.wap_markup.specs.Writing.{runs_of, part_kids};
 ghost use Rattle.wap_spelling.specs.Writings.{each};
 ghost use Rattle.wap_spelling.specs.inside.Written.{written};
-ghost use Rattle.wap_writing.specs.Parts.{run_spelling, part_spelling, some};
+ghost use Rattle.wap_writing.specs.Parts.{run_spelling, part_spelling, has_any};
 
 use std::alloc::Global;
 use wap_base::{NoMemory, Part, Text};
@@ -67,7 +67,7 @@ pub fn write_parts(alloc: Global, output: &mut Output, parts: &[Part]) -> Result
 
 /// Whether a part gives a string, a U+0000 or a reference.
 fn gives(part: &Part) -> bool
-    ensures { result ≡ some (part_kids part.now) }
+    ensures { result ≡ has_any (part_kids part.now) }
 {
     match part {
         Part::Lit(text) => !text.is_empty(),
@@ -77,7 +77,7 @@ fn gives(part: &Part) -> bool
 
 /// Whether one of some parts does.
 pub fn have_content(parts: &[Part]) -> bool
-    ensures { result ≡ some (flat_map part_kids parts.now) }
+    ensures { result ≡ has_any (flat_map part_kids parts.now) }
 {
     for part in parts {
         if gives(part) {

@@ -9,7 +9,7 @@ use Rattle.wap_spelling.specs.Writings.{plain, each, ended}
 use Rattle.wap_spelling.specs.Spelling.{bit, attr_spelling, kid_spelling, element_spelling}
 use Rattle.wap_spelling.specs.inside.Written.{written}
 use Rattle.wap_spelling.proofs.Appending.{each_none, each_step}
-use Rattle.wap_writing.specs.Parts.{part_spelling, content_bit, some}
+use Rattle.wap_writing.specs.Parts.{part_spelling, content_bit, has_any}
 use Rattle.wap_writing.proofs.Content.{code_small, bit_within, content_within, bits_are}
 use Rattle.wap_writing.proofs.Content.{text_written, none_written, node_written, items_written}
 use Rattle.wap_writing.proofs.Content.{end_none, end_some, element_written}
@@ -20,7 +20,7 @@ write_content-returns-then-not-give_content t c =
     let names = c.args.table.now in
     let spell = kid_spelling names (element_spelling names c.args.levels) in
     let kids = items_kids (node_kids c.args.levels) c.args.items.now in
-    let none : false ≡ some kids =
+    let none : false ≡ has_any kids =
     (let is = c.if-not-give_content.true in let gives = c.give_content.ensures in cc) in
     end_none names spell kids none c.args.output.now c.write_items.new.output
     c.in_ok-write_items.ensures
@@ -30,7 +30,7 @@ write_content-returns t c =
     let names = c.args.table.now in
     let spell = kid_spelling names (element_spelling names c.args.levels) in
     let kids = items_kids (node_kids c.args.levels) c.args.items.now in
-    let more : true ≡ some kids =
+    let more : true ≡ has_any kids =
     (let is = c.if-not-give_content.false in let gives = c.give_content.ensures in cc) in
     end_some names spell kids more c.args.output.now c.write_items.new.output c.push.new.self
     c.in_ok-write_items.ensures
@@ -102,8 +102,9 @@ write_node-returns t c =
     let names = c.args.table.now in
     let spell = kid_spelling names (element_spelling names levels) in
     let kids = items_kids (node_kids levels) node.kids in
-    let gives : c.give_content.result ≡ some kids =
-    c.give_content.ensures ∙ ap (λ (items : List Item). some (items_kids (node_kids levels) items))
+    let gives : c.give_content.result ≡ has_any kids =
+    c.give_content.ensures
+    ∙ ap (λ (items : List Item). has_any (items_kids (node_kids levels) items))
     c.as_slice-items.ensures in
     let bits =
     c.bits.ensures ∙ ap (λ (content : Bool). bit 128 node.attrs + content_bit content) gives

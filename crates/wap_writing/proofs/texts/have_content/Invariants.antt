@@ -1,10 +1,10 @@
 use Rattle.std.proofs.Common.{◌≡◌, drop}
 use Rattle.std.specs.List.{flat_map}
 use Rattle.wap_markup.specs.Writing.{part_kids}
-use Rattle.wap_writing.specs.Parts.{some}
+use Rattle.wap_writing.specs.Parts.{has_any}
 use Rattle.wap_writing.proofs.texts.have_content.Given as goal
 
 -- what is left tells it
 abbrev pub invariant-loop-part : goal.invariant-loop-part
 invariant-loop-part l =
-    some (flat_map part_kids (drop l.part-index l.parts)) ≡ some (flat_map part_kids l.parts)
+    has_any (flat_map part_kids (drop l.part-index l.parts)) ≡ has_any (flat_map part_kids l.parts)
