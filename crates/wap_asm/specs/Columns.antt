@@ -1,4 +1,4 @@
--- The columns of the table of libraries, as the code keeps it.
+-- The columns of the table of libraries, as the code keeps it. This project's own.
 use Rattle.std.specs.Prelude.{ℕ, Bool, ◌&&◌, bytes_eq, List}
 use Rattle.std.specs.Borrow.{Bor}
 

@@ -1,4 +1,5 @@
--- What the table keeps: what is spelled is read, and the row that is taken is the shortest.
+-- What the table keeps: what is spelled is read, and the row that is taken is the shortest. This
+-- project's own.
 use Rattle.std.specs.Prelude.{take, drop, slice_index, ◌<◌, ◌≡◌, ℕ, ◌+◌, ◌≤◌, true}
 use Rattle.std.specs.Prelude.{List, [], ◌∷◌, ◌++◌, ◌⊎◌, length, Some, Ok}
 use Rattle.wap_code.specs.declared.row.OpName.{OpName}

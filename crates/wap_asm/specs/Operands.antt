@@ -1,4 +1,4 @@
--- How great the operands of an instruction are, by where they stand.
+-- How great the operands of an instruction are, by where they stand (WAP-193, section 10).
 use Rattle.std.specs.Prelude.{◌<◌}
 use Rattle.wap_code.specs.declared.row.Row.{Row}
 use Rattle.wap_code.specs.declared.instr.Instr.{Instr}

@@ -1,4 +1,4 @@
--- The bytes of an instruction, and the shortest spelling of an operation.
+-- The bytes of an instruction, and the shortest spelling of an operation (WAP-193, section 10).
 use Rattle.std.specs.Prelude.{ℕ, ◌+◌, ◌/◌, ◌%◌, nat_lt, Bool, ◌&&◌, List}
 use Rattle.std.specs.Prelude.{[], ◌∷◌, ◌++◌, Option, find}
 use Rattle.wap_code.specs.declared.row.OpName.{OpName}

@@ -1,4 +1,4 @@
--- A host that tells nothing has any meaning.
+-- A host that tells nothing has any meaning. This project's own.
 use Rattle.std.specs.Prelude.{⊤}
 use Rattle.wap_value.specs.declared.value.Value.TheVariants.{Invalid}
 use Rattle.wap_execution.specs.declared.fatal.Fatal.TheVariants.{NoUnit}

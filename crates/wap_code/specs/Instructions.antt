@@ -1,4 +1,4 @@
--- The instruction at a place of a function's code.
+-- The instruction at a place of a function's code (WAP-193, section 10).
 use Rattle.std.specs.Prelude.{ℕ, ◌+◌, ◌-◌, ◌*◌, nat_lt, nat_le, Bool, ◌&&◌, if◌then◌else◌, List}
 use Rattle.std.specs.Prelude.{length, slice_index, find, Option, Some, None, Result, Ok, Err}
 use Rattle.wap_code.specs.declared.row.Slot.{Slot}

@@ -1,4 +1,4 @@
--- Which constants are strings, and their characters.
+-- Which constants are strings, and their characters (WAP-193, section 9).
 use Rattle.std.specs.Prelude.{ℕ, Bool, true, false, List, [], Option, Some}
 use Rattle.std.specs.Prelude.{None, slice_get, option_and_then}
 use Rattle.std.specs.Option.{option_map, option_map_or}

@@ -113,7 +113,7 @@ impl Context {
     }
 
     /// Shows the current card, if there is one: its fields get their defaults, its timer starts,
-    /// and its screen is drawn.
+    /// unless it has since the card was entered, and its screen is drawn.
     pub fn show(&mut self, alloc: Global) -> Result<Rows<Text>, NoMemory>
         ensures { IfOk result (λ lines. Shows self.old self.new lines show) }
     {

@@ -42,7 +42,8 @@ impl State {
         add_fault_lines(alloc, refused.as_slice(), lines)
     }
 
-    /// Shows a card: its fields get their defaults, its timer starts, and its screen is drawn.
+    /// Shows a card: its fields get their defaults, its timer starts unless it has since the card
+    /// was entered, and its screen is drawn.
     pub fn show(
         &mut self,
         alloc: Global,

@@ -1,4 +1,4 @@
--- What was done to a frame, by the effect of its instruction.
+-- What was done to a frame, by the effect of its instruction. This project's own.
 use Rattle.std.specs.Prelude.{⊤, ◌≡◌, ◌≢◌, ℕ, ◌<◌, length}
 use Rattle.wap_execution.specs.declared.fatal.Fatal.TheVariants.{Budget}
 use Rattle.wap_execution.specs.Frames.{Function, Frame}

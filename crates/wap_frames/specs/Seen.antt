@@ -1,4 +1,4 @@
--- The machine's types as the definitions see them.
+-- The machine's types as the definitions see them. This project's own.
 use Rattle.std.specs.Prelude.{ℕ, List, reverse, slice_set, Option}
 use Rattle.std.specs.Arc.{arc_value}
 use Rattle.wap_value.specs.declared.value.Value.{Value}

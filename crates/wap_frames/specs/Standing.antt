@@ -1,5 +1,5 @@
 -- Where a frame of a unit that may be run stands (by the paths of `wap_verify`), and that an effect
--- leads on only to where such a frame stands.
+-- leads on only to where such a frame stands. This project's own.
 use Rattle.std.specs.Prelude.{⊤, ◌≡◌, ℕ, ◌+◌, ◌<◌, ◌≤◌, List, length, Some}
 use Rattle.wap_value.specs.declared.value.Value.{Value}
 use Rattle.wap_code.specs.declared.unit.Code.{Code}

@@ -1,4 +1,5 @@
--- What a first byte tells: the shapes that may begin with it, and how a mark may go on.
+-- What a first byte tells: the shapes that may begin with it, and how a mark may go on. This
+-- project's own.
 use Rattle.std.specs.Prelude.{ℕ, suc, Bool, ◌==◌, if◌then◌else◌, nat_eq}
 use Rattle.std.specs.Prelude.{List, [], ◌∷◌, length, map, codes}
 use Rattle.std.specs.Borrow.{Bor}

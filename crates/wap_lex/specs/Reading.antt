@@ -1,4 +1,5 @@
--- The same by calculation: how far each shape reaches, and what bytes begin with.
+-- The same by calculation: how far each shape reaches, and what bytes begin with. This project's
+-- own.
 use Rattle.std.specs.Prelude.{ℕ, zero, suc, ◌+◌, nat_le, nat_lt, Bool, false, ◌==◌, ◌||◌}
 use Rattle.std.specs.Prelude.{◌&&◌, if◌then◌else◌, nat_eq, List, [], ◌∷◌, length, take}
 use Rattle.std.specs.Prelude.{drop, Option, Some, None, Result, Ok, Err}

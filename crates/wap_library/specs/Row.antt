@@ -1,4 +1,4 @@
--- What a function does with its arguments: a row of the tables of libraries.
+-- What a function does with its arguments: a row of the tables of libraries. This project's own.
 use Rattle.std.specs.Prelude.{ℕ, List, slice_index_or}
 use Rattle.wap_value.specs.declared.value.Value.{Value}
 use Rattle.wap_value.specs.declared.value.Value.TheVariants.{Invalid}

@@ -1,4 +1,4 @@
--- A String that is being made under a limit.
+-- A String that is being made under a limit. This project's own.
 use Rattle.std.specs.Prelude.{ℕ, ◌+◌, nat_le, if◌then◌else◌, List, ◌++◌, Some, None, option_map}
 use Rattle.wap_base.specs.Utf8.{utf8_len}
 use Rattle.wap_library.specs.Outcome.{counted}

@@ -1,4 +1,4 @@
--- What was read from the beginning of a text, and what follows it.
+-- What was read from the beginning of a text, and what follows it. This project's own.
 use Rattle.std.specs.Prelude.{List, ℕ}
 use denote.Ref.{Bor}
 

@@ -1,4 +1,4 @@
--- What machines' runs come to, by the definitions.
+-- What machines' runs come to, by the definitions. This project's own.
 use Rattle.std.specs.Prelude.{⊤, ◌≡◌, ℕ, ◌-◌, ◌≤◌, length, Option, Some}
 use Rattle.wap_base.specs.declared.limits.Limits.{Limits}
 use Rattle.wap_execution.specs.Outcomes.{Outcome as Meant, value, exit}

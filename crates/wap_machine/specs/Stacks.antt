@@ -1,4 +1,4 @@
--- Machines as the definitions see them.
+-- Machines as the definitions see them. This project's own.
 use Rattle.std.specs.Prelude.{◌≡◌, List, [], ◌∷◌, Some}
 use Rattle.wap_base.specs.declared.limits.Limits.{Limits}
 use Rattle.wap_value.specs.declared.value.Value.{Value}

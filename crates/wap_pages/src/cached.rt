@@ -19,10 +19,10 @@ use std::num::NonZeroUsize;
 use wap_base::{Fetched, NoMemory, RunErr, Store, Text};
 use wap_site::{Page, Pages};
 
-/// The least that the most pages in a cache may be.
+/// The least capacity of a cache, in pages.
 pub const LEAST_CAPACITY: usize = 1;
 
-/// The most that the most pages in a cache may be.
+/// The greatest capacity of a cache, in pages.
 pub const MOST_CAPACITY: usize = 256;
 
 /// The pages of a store, judged, of which those that were asked for last are kept, also where one
@@ -69,7 +69,7 @@ impl<S: Store> Cached<S> {
         }
     }
 
-    /// The store, which takes no memory.
+    /// Gives the store back; the pages that are kept go.
     pub fn into_store(self) -> S
         ensures { result ≡ self.store }
     {

@@ -1,5 +1,5 @@
 -- The documents that have a spelling: what bytes can spell, whatever its version and its character
--- set. Numbers are in the ranges of their types without a word here.
+-- set. Numbers are in the ranges of their types without a word here. This project's own.
 use Rattle.std.specs.Prelude.{◌≡◌, ℕ, zero, suc, ◌%◌, ◌^◌, ◌<◌, ◌≤◌, true, List, length}
 use Rattle.std.specs.List.{list_all, AllByRecursion}
 use Rattle.std.specs.Str.{all_scalars}

@@ -750,9 +750,7 @@ module _ (unit : Unit) (index : ℕ) (function : Code) (state : State)
   room_at_end = record {
     covers = λ at values reached. (covered reached.before at values reached.path).0;
     at = works.sane.room_at;
-    values = state.room;
     reached = works.sane.room_reached;
-    within = omega arith;
   }
 
 -- ---- the beginning

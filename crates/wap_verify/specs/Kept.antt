@@ -1,5 +1,5 @@
 -- What is kept of a unit that may be run: room for the values of each function, and the texts of
--- its coded strings.
+-- its coded strings. This project's own.
 use Rattle.std.specs.Prelude.{◌≡◌, ⊤, ℕ, ◌<◌, true, List, length, map}
 use Rattle.std.specs.Prelude.{slice_get, slice_index, Option, Some, None}
 use Rattle.std.specs.Map.{lookup}

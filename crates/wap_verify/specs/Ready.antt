@@ -1,5 +1,5 @@
 -- What a verified unit means for who runs it: wherever a function is reached, what its instruction
--- needs is there.
+-- needs is there. This project's own.
 use Rattle.std.specs.Prelude.{◌≡◌, ℕ, ◌<◌, ◌≤◌, false, length, slice_get}
 use Rattle.std.specs.Prelude.{slice_index, Some, None, Ok}
 use Rattle.wap_code.specs.declared.unit.Unit.{Unit}

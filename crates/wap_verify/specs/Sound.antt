@@ -1,4 +1,4 @@
--- Units that may be run.
+-- Units that may be run. This project's own.
 use Rattle.std.specs.Prelude.{◌≡◌, ℕ, ◌+◌, ◌<◌, ◌≤◌, Bool, true, false, not, ◌&&◌, ◌||◌, ◌==◌, List}
 use Rattle.std.specs.Prelude.{[], ◌∷◌, length, find, Option, Some, None, slice_get, Result, Ok, Err}
 use Rattle.std.specs.List.{list_any, list_all, flat_map}
@@ -74,10 +74,8 @@ pub record IsVerified (unit : Unit) : Type 0 where
   pub pragmas : stray_pragma unit ≡ None
   pub functions : AreSound unit (length unit.functions)
 
--- room for all values of a function, and for no more than one further
+-- room for as many values as a function has at most
 pub record IsRoom (unit : Unit) (index : ℕ) (function : Code) (room : ℕ) : Type 0 where
   pub covers : (at values : ℕ) → Reaches unit index function at values → values ≤ room
   pub at : ℕ
-  pub values : ℕ
-  pub reached : Reaches unit index function at values
-  pub within : room ≤ values + 1
+  pub reached : Reaches unit index function at room

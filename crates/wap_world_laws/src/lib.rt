@@ -23,7 +23,7 @@ ghost use Rattle.wap_world.specs.Tasks.{request};
 ghost use Rattle.wap_world.specs.Keys.{react, renewed, ignored};
 ghost use Rattle.wap_world.specs.Sessions.{played};
 
-/// Within a key turns never grow, and the history keeps to its limit.
+/// After a key no more turns are left than a key has, and the history keeps to its limit.
 pub fn keys_keep_bounds()
     ensures turns { (pages : Pages) (one : Key) (keys : List Key) (world : World)
         → (react pages one keys world).world.turns ≤ world.budget }
@@ -54,9 +54,9 @@ pub fn keys_that_fit_nothing_are_ignored()
         → (quiet keys (ignored world)).world ≡ world }
 {}
 
-/// A deck that may not be entered adds its request's line, its name and its test, and the current
-/// card is shown again after the refusal; nothing is left, set or entered.
-pub fn denied_decks_change_nothing()
+/// A deck that may not be entered adds its request's line, its name and its test; then the current
+/// card is shown again after the refusal, and that is all.
+pub fn denied_decks_are_not_entered()
     ensures { (pages : Pages) (keys : List Key) (sets : Pairs) (caller : Option Url)
         (one : Request) (world : World) (deck : Deck)
         → answer_to pages one ≡ Ok deck → may_enter one.url deck caller ≡ false

@@ -19,7 +19,7 @@ rooms-requires-clause-small c = (unit_fits c.requires.0 c.args.unit.now c.requir
 
 pub texts-requires : goal.texts-requires
 texts-requires c =
-    subst (λ (l : List Constant). AllByRecursion (IsReadable c.numbered.result) l)
+    subst (λ (l : List Constant). AllByRecursion (IsReadable c.of_number.result) l)
     (sym c.as_slice.ensures)
     (subst (λ (o : Option Charset). AllByRecursion (IsReadable o) c.args.unit.now.constants)
-    (sym c.numbered.ensures) (all_readable c.requires.0 c.args.unit.now c.requires.1))
+    (sym c.of_number.ensures) (all_readable c.requires.0 c.args.unit.now c.requires.1))
