@@ -9,7 +9,7 @@ use Rattle.wap_words.specs.declared.words.Command.TheVariants.{Browse, Page}
 use Rattle.wap_words.specs.declared.words.PageCommand.{PageCommand}
 use Rattle.wap_world.specs.Sessions.{Begun}
 use Rattle.wap_status.specs.declared.status.Status.{Status}
-use Rattle.wap_status.specs.declared.status.Status.TheVariants.{Done, Usage, StoreFault}
+use Rattle.wap_status.specs.declared.status.Status.TheVariants.{Usage, StoreFault}
 use Rattle.wap_status.specs.declared.status.Status.TheVariants.{WriteFault, NoMemory}
 use Rattle.wap_status.specs.Statuses.{IsOrWants}
 use Rattle.wap_browse.specs.Headline.{Browses}
@@ -32,8 +32,9 @@ pub record Serves (command : PageCommand) (name : List ℕ) (old new : Devices) 
   pub store_fault : status ≡ StoreFault → Rose old.store_faults new.store_faults
   pub write_fault : status ≡ WriteFault → Rose old.write_faults new.write_faults
   pub unwritten : status ≡ StoreFault → new.written ≡ old.written
-  -- no fault of the store is passed over on Done, and none of the sink but on WriteFault
-  pub store_steady : status ≡ Done → new.store_faults ≡ old.store_faults
+  -- no fault of the store is passed over but out of memory, and none of the sink but on WriteFault
+  pub store_steady : status ≢ StoreFault → status ≢ NoMemory
+      → new.store_faults ≡ old.store_faults
   pub write_steady : status ≢ WriteFault → new.write_faults ≡ old.write_faults
   -- one page is asked for, or none where memory ran out, and no names
   pub asked : status ≢ NoMemory → new.fetches ≡ raised old.fetches

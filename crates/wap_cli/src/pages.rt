@@ -125,7 +125,8 @@ pub(crate) fn answer<S: Store, O: Sink>(
     ensures unwritten { result ≡ Status.StoreFault → O.written out.new ≡ O.written out.old }
     ensures write_fault { result ≡ Status.WriteFault
         → Rose (O.faults out.old) (O.faults out.new) }
-    ensures store_steady { result ≡ Status.Done → S.faults store.new ≡ S.faults store.old }
+    ensures store_steady { result ≢ Status.StoreFault → result ≢ Status.NoMemory
+        → S.faults store.new ≡ S.faults store.old }
     ensures write_steady { result ≢ Status.WriteFault → O.faults out.new ≡ O.faults out.old }
     ensures kept { S.contents store.new ≡ S.contents store.old }
     ensures store_faults { S.faults store.old ≤ S.faults store.new }
