@@ -36,7 +36,7 @@ use Rattle.wap_good.proofs.spelled.Strings.{indexed_read}
 use Rattle.wap_good.proofs.spelled.Characters.{known_name}
 use Rattle.wap_good.specs.Readers.{◌>>=◌, number_from, number_at, all_of}
 use Rattle.wap_good.specs.Texts.{part_at, value_at, behind_value}
-use Rattle.wap_good.specs.Nodes.{named_at, start_at, attr_at}
+use Rattle.wap_good.specs.inside.Nodes.{named_at, start_at, attr_at}
 use Rattle.wap_good.specs.Characters.{OfAttr}
 use Rattle.wap_good.proofs.Runs.{all_on, all_end}
 use Rattle.wap_good.proofs.Taking.{attr_takes}

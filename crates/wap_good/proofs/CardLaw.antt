@@ -17,9 +17,9 @@ use Rattle.wap_markup.specs.Tables.{is_same_tag}
 use Rattle.wap_markup.specs.Cards.{cards_of, id_of, card_numbered}
 use Rattle.wap_good.specs.Readers.{◌>>=◌, all_of, Ends, IsBehind}
 use Rattle.wap_good.specs.Texts.{part_at, value_at, behind_value}
-use Rattle.wap_good.specs.Nodes.{item_by, node_at, item_at, front_node, IsRead, IsContent}
+use Rattle.wap_good.specs.inside.Nodes.{item_by, node_at, item_at, front_node, IsRead, IsContent}
 use Rattle.wap_good.specs.declared.cards.Place.{Place}
-use Rattle.wap_good.specs.Held.{table_in, deck_in, IsHeld, StandsAt, StandAt, tagged}
+use Rattle.wap_good.specs.inside.Held.{deck_in, IsHeld, StandsAt, StandAt, tagged}
 use Rattle.wap_base.specs.declared.fault.NoMemory.{NoMemory}
 use Rattle.wap_good.proofs.Runs.{fewer}
 use Rattle.wap_good.proofs.Taking.{item_takes}
@@ -152,28 +152,28 @@ child_shorter table bytes one rest e =
 
 -- ---- the nodes of a tag in a deck that is held
 
-module _ (table root : ℕ) (bytes : List ℕ) (held : IsHeld table root bytes) (content : List ℕ)
-    (there : IsContent (drop root bytes) content) where
+module _ (table : List ℕ) (root : ℕ) (bytes : List ℕ) (held : IsHeld table root bytes)
+    (content : List ℕ) (there : IsContent (drop root bytes) content) where
   tagged_are : (tag : Tag)
-      → tagged_in tag (all_of (item_at (table_in table root bytes) levels_below) content).0
+      → tagged_in tag (all_of (item_at table levels_below) content).0
       ≡ tagged tag (deck_in table root bytes)
   unfolding deck_in
   tagged_are tag =
       ap (tagged_in tag)
-      (kids_seen (table_in table root bytes) LEVEL_LIMIT (drop root bytes) held.read
-      (front_node (table_in table root bytes) LEVEL_LIMIT (drop root bytes)) refl content there)
+      (kids_seen table LEVEL_LIMIT (drop root bytes) held.read
+      (front_node table LEVEL_LIMIT (drop root bytes)) refl content there)
 
-  pub content_ends : Ends (item_at (table_in table root bytes) levels_below) content
+  pub content_ends : Ends (item_at table levels_below) content
   content_ends =
-      kids_end (table_in table root bytes) LEVEL_LIMIT (drop root bytes) held.read content there
+      kids_end table LEVEL_LIMIT (drop root bytes) held.read content there
 
   pub stand_in : (tag : Tag) (result : Result (List Place) NoMemory) → IfOk result (λ places.
-      StandAt (table_in table root bytes) bytes places
-      (tagged_in tag (all_of (item_at (table_in table root bytes) levels_below) content).0))
+      StandAt table bytes places
+      (tagged_in tag (all_of (item_at table levels_below) content).0))
       → IfOk result (λ places.
-      StandAt (table_in table root bytes) bytes places (tagged tag (deck_in table root bytes)))
+      StandAt table bytes places (tagged tag (deck_in table root bytes)))
   stand_in tag (Ok places) stand =
-      subst (StandAt (table_in table root bytes) bytes places) (tagged_are tag) stand
+      subst (StandAt table bytes places) (tagged_are tag) stand
   stand_in tag (Err want) stand = tt
 
 -- ---- cards by their numbers

@@ -8,7 +8,7 @@ use Rattle.wap_markup.specs.declared.deck.Item.{Item}
 use Rattle.wap_markup.specs.declared.deck.Item.TheVariants as item
 use Rattle.wap_good.specs.Readers.{◌>>=◌, IsBehind, Ends, Leaves, is_end, all_of}
 use Rattle.wap_good.specs.Texts.{part_at, part_end, value_at, behind_value, AreParts}
-use Rattle.wap_good.specs.Nodes.{item_by, node_at, item_at, front_node, IsRead}
+use Rattle.wap_good.specs.inside.Nodes.{item_by, node_at, item_at, front_node, IsRead}
 use Rattle.wap_good.proofs.Runs.{turn, all_on, all_end}
 use Rattle.wap_good.proofs.Taking.{part_takes, item_takes}
 use Rattle.wap_good.proofs.Seen.{read_front}

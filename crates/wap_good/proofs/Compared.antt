@@ -18,7 +18,7 @@ use Rattle.wap_base.specs.declared.name.Part.{Part}
 use Rattle.wap_base.specs.declared.name.Part.TheVariants.{Lit, Var}
 use Rattle.wap_markup.specs.Decks.{before}
 use Rattle.wap_markup.specs.Trees.{plain_text, is_text}
-use Rattle.wap_good.specs.Runs.{is_utf8_of, TakesPart, IsFirstBit}
+use Rattle.wap_good.specs.Runs.{is_utf8_of, TakesPart}
 
 -- ---- texts and their bytes
 
@@ -121,21 +121,20 @@ slice_taken front bytes result utf8 is =
 -- ---- a turn
 
 pub stepped : (part : Part) (bytes : List ℕ) (rest : Bor (List ℕ)) (parts others : List Part)
-    → IsFirstBit parts part others → TakesPart part bytes (Some rest)
+    → parts ≡ before part others → TakesPart part bytes (Some rest)
     → is_utf8_of bytes (plain_text parts) ≡ is_utf8_of rest.now (plain_text others)
-stepped (Lit text) bytes rest parts others is takes =
+stepped (Lit text) bytes rest parts others together takes =
     ap (λ (l : List ℕ). is_utf8_of l (plain_text parts)) takes
-    ∙ ap (λ (v : List Part). is_utf8_of (encode_utf8_all text ++ rest.now) (plain_text v))
-    is.together
+    ∙ ap (λ (v : List Part). is_utf8_of (encode_utf8_all text ++ rest.now) (plain_text v)) together
     ∙ taken text rest.now others
-stepped (Var name conv) bytes rest parts others is takes = absurd (cc takes)
+stepped (Var name conv) bytes rest parts others together takes = absurd (cc takes)
 
 pub missed : (part : Part) (bytes : List ℕ) (parts others : List Part)
-    → IsFirstBit parts part others → TakesPart part bytes None
+    → parts ≡ before part others → TakesPart part bytes None
     → is_utf8_of bytes (plain_text parts) ≡ false
-missed (Lit text) bytes parts others is takes =
-    ap (λ (v : List Part). is_utf8_of bytes (plain_text v)) is.together
+missed (Lit text) bytes parts others together takes =
+    ap (λ (v : List Part). is_utf8_of bytes (plain_text v)) together
     ∙ not_taken text bytes others takes
-missed (Var name conv) bytes parts others is takes =
-    ap (λ (v : List Part). is_utf8_of bytes (plain_text v)) is.together
+missed (Var name conv) bytes parts others together takes =
+    ap (λ (v : List Part). is_utf8_of bytes (plain_text v)) together
     ∙ variable_none name conv bytes others

@@ -19,9 +19,9 @@ use Rattle.wap_spelling.specs.Names.{table_of, with_element, names_of}
 use Rattle.wap_spelling.specs.Spelling.{header_spelling, root_spelling, spelling}
 use Rattle.wap_spelling.specs.Spelling.{element_spelling, first_pages}
 use Rattle.wap_spelling.specs.Spellable.{IsSpellable}
-use Rattle.wap_good.specs.Nodes.{node_at}
+use Rattle.wap_good.specs.inside.Nodes.{node_at}
 use Rattle.wap_good.specs.Characters.{OfNode}
-use Rattle.wap_good.specs.Held.{table_in, deck_in, IsHeld}
+use Rattle.wap_good.specs.inside.Held.{table_in, deck_in, IsHeld}
 use Rattle.wap_good.proofs.spelled.Growing.{grows_same}
 use Rattle.wap_good.proofs.spelled.Tables.{length-table}
 use Rattle.wap_good.proofs.Opening.{seen}
@@ -142,15 +142,14 @@ module _ (deck : Deck) (good : IsGood deck) (normal : IsNormal deck)
         ap (λ (t : List ℕ). node_at t LEVEL_LIMIT (drop root bytes)) table_there
         ∙ ap (node_at table LEVEL_LIMIT) root_there ∙ root_read
 
-    pub deck_seen : deck_in at root bytes ≡ deck
+    pub deck_seen : deck_in (table_in at root bytes) root bytes ≡ deck
     unfolding deck_in
     deck_seen =
         ap (λ (n : Node). let d : Deck = record { root = n } in d)
         (seen (table_in at root bytes) LEVEL_LIMIT (drop root bytes) deck.root [] front_read)
 
-    pub held : root ≤ length bytes → IsHeld at root bytes
+    pub held : root ≤ length bytes → IsHeld (table_in at root bytes) root bytes
     held within = record {
-      ordered = ordered;
       within = within;
       read = record { node = deck.root; rest = []; read = front_read };
       spelled = are ∙ ap (λ (d : Deck). spelling (document_of d)) (sym deck_seen);

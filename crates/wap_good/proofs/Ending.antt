@@ -6,7 +6,7 @@ use Rattle.std.proofs.Common.{sym, ap, subst, ◌∙◌, append_assoc, eq-eqb, a
 use Rattle.wap_base.specs.Numbers.{mb_at}
 use Rattle.wap_base.specs.declared.number.ReadFault.{ReadFault}
 use Rattle.wap_markup.specs.Strings.{string_from}
-use Rattle.std.specs.Prelude.{is_some, if◌then◌else◌, ◌==◌, ◌%◌, nat_lt}
+use Rattle.std.specs.Prelude.{is_some, if◌then◌else◌, ◌==◌, ◌%◌}
 use Rattle.std.proofs.lemmas.Bool.{eqb-true}
 use Rattle.std.proofs.lemmas.List.{append-nil, length-append, drop_at}
 use Rattle.wap_base.specs.declared.name.Conv.{Conv}
@@ -27,8 +27,8 @@ use Rattle.wap_good.specs.Readers.{closed, closed_if, is_end, Ends, Leaves, rest
 use Rattle.wap_good.specs.Texts.{string_at, reference_at, character_at, string_part}
 use Rattle.wap_good.specs.Texts.{name_part, part_from, part_at, part_end_from}
 use Rattle.wap_good.specs.Texts.{part_end, value_at, behind_value}
-use Rattle.wap_good.specs.Nodes.{named_at, start_at, attr_at, node, node_by, item_by}
-use Rattle.wap_good.specs.Nodes.{node_at, item_at, kids_begin, IsContent}
+use Rattle.wap_good.specs.inside.Nodes.{named_at, start_at, attr_at, node, node_by, item_by}
+use Rattle.wap_good.specs.inside.Nodes.{node_at, item_at, kids_begin, IsContent}
 use Rattle.wap_good.proofs.Runs.{Takes, fewer, all_on, all_end, turn, closed_rest, rest_some}
 use Rattle.wap_good.proofs.Opening.{bind_some, same_value, all_nothing}
 use Rattle.wap_good.proofs.Skipping.{item_by_rest}
@@ -133,9 +133,10 @@ reference_told conv rest = told (reference_at conv rest) (behind_zero rest) (λ 
 character_told : (rest : List ℕ) → Tells (character_at rest) (Some (drop 1 rest))
 unfolding character_at
 character_told [] = tt
-character_told (number ∷ rest) = either (nat_lt number 128)
+character_told (number ∷ rest) = either (number == 0)
   where
-    either : (b : Bool) → Tells (if b then Some (Lit (number ∷ []), rest) else None) (Some rest)
+    either : (b : Bool)
+        → Tells ((if b then Some rest else None) >>= λ rest. Some (Lit (0 ∷ []), rest)) (Some rest)
     either true = refl
     either false = tt
 

@@ -10,14 +10,15 @@ use Rattle.std.proofs.lemmas.Nat.Bits.{bit_at_or, bit_at-pow_same, bit_at_ones, 
 use Rattle.wap_base.specs.declared.name.Part.{Part}
 use Rattle.wap_markup.specs.declared.codes.TheConstants.{LITERAL}
 use Rattle.wap_markup.specs.declared.name.AttrName.{AttrName}
-use Rattle.wap_markup.specs.Codes.{has_attributes}
+use Rattle.wap_markup.specs.Codes.{has_attributes, has_content}
 use Rattle.wap_markup.specs.Tables.{Start, attr_start, is_same_attr}
 use Rattle.wap_good.specs.Readers.{◌>>=◌, first_at, is_end, all_of, Ends}
-use Rattle.wap_good.specs.Nodes.{named_at, start_at, attr_at, attrs_begin}
-use Rattle.wap_good.specs.Starts.{value_in}
-use Rattle.wap_good.specs.Notes.{mark_place, lacks, HaveNames, LacksName}
+use Rattle.wap_good.specs.inside.Nodes.{named_at, start_at, attr_at, attrs_begin}
+use Rattle.wap_good.specs.inside.Starts.{value_in}
+use Rattle.wap_good.specs.inside.Notes.{mark_place, lacks, HaveNames, LacksName, IsHead}
 use Rattle.wap_good.proofs.Opening.{same_value, all_nothing}
 use Rattle.wap_good.proofs.Ending.{attr_lists, ends_on, nothing_read}
+use Rattle.wap_good.proofs.Ending.{content_there, no_list_leaves}
 use Rattle.wap_good.proofs.Seen.{value_behind, value_end}
 
 pub coded_start : (table bytes : List ℕ) (mark : ℕ) (rest : List ℕ) (start : Start)
@@ -85,6 +86,15 @@ lacks_none name without =
     bit_at_ones 16 (mark_place name) (omega arith) in
     let zero : bit_at 65535 (mark_place name) ≡ 0 = eqb-true _ 0 without in
     absurd (cc (one, zero))
+
+-- ---- what a mark tells
+
+pub marked_all : (mark : ℕ) (rest : List ℕ) → IsHead (mark ∷ rest) 65535 0
+marked_all mark rest = record {
+  names = λ name without. absurd (lacks_none name without);
+  content = λ some. absurd (omega arith);
+  within = omega arith;
+}
 
 -- ---- names
 
@@ -159,3 +169,36 @@ pub nothing_lacks : (bytes : List ℕ) → first_at bytes ≡ None → (name : A
     → LacksName bytes name
 nothing_lacks [] e asked = λ table rest begin ends. absurd (no_attrs rest begin)
 nothing_lacks (byte ∷ bytes) e asked = absurd cc
+
+-- ---- nodes without attributes
+
+module _ (mark : ℕ) (rest : List ℕ) (none : has_attributes mark ≡ false) where
+  pub bare_content : has_content mark ≡ true → IsHead (mark ∷ rest) 0 1
+  bare_content has = record {
+    names = λ name without. bare_lacks (mark ∷ rest) mark rest refl none name;
+    content = λ some.
+        content_there (mark ∷ rest) mark rest rest refl has
+        (λ table. no_list_leaves (has_attributes mark) (attr_at table) rest none);
+    within = omega arith;
+  }
+
+  pub bare_alone : IsHead (mark ∷ rest) 0 0
+  bare_alone = record {
+    names = λ name without. bare_lacks (mark ∷ rest) mark rest refl none name;
+    content = λ some. absurd (omega arith);
+    within = omega arith;
+  }
+
+pub nothing_known : (bytes : List ℕ) → first_at bytes ≡ None → IsHead bytes 0 0
+nothing_known bytes e = record {
+  names = λ name without. nothing_lacks bytes e name;
+  content = λ some. absurd (omega arith);
+  within = omega arith;
+}
+
+pub attrs_here : (bytes : List ℕ) (mark : ℕ) (rest : List ℕ) → first_at bytes ≡ Some (mark, rest)
+    → has_attributes mark ≡ true → attrs_begin bytes ≡ Some rest
+unfolding attrs_begin
+attrs_here bytes mark rest e has =
+    ap (λ (o : Option (ℕ × List ℕ)). o >>= λ x. Some (if has_attributes x.0 then x.1 else [])) e
+    ∙ ap (λ (b : Bool). Some (if b then rest else [])) has

@@ -5,10 +5,10 @@ use Rattle.std.specs.List.{filter_map, flat_map, cons_option, list_any}
 use Rattle.std.proofs.lemmas.List.Folds.{list_any-append}
 use Rattle.wap_markup.specs.Trees.{node_from, node_of}
 use Rattle.wap_markup.specs.Good.{nodes_in}
-use Rattle.wap_base.specs.declared.name.Conv.{Conv}
 use Rattle.wap_base.specs.declared.name.Part.TheVariants.{Lit, Var}
 use Rattle.wap_markup.specs.Decks.{before}
-use Rattle.wap_good.specs.Runs.{is_reference, IsFirstBit}
+use Rattle.wap_good.specs.Runs.{part_of, is_reference, IsFirstBit}
+use Rattle.wap_good.specs.declared.bits.Bit.{Bit}
 use Rattle.wap_base.specs.declared.name.Part.{Part}
 use Rattle.wap_markup.specs.declared.deck.Node.{Node}
 use Rattle.wap_markup.specs.declared.deck.Item.{Item, out-Item}
@@ -82,16 +82,15 @@ found_after_text p levels parts items = ap (list_any p) (nodes_after_text levels
 
 -- ---- texts
 
-pub literal_first : (parts : List Part) (text : List ℕ) (rest : List Part)
-    → IsFirstBit parts (Lit text) rest → list_any is_reference parts ≡ list_any is_reference rest
-literal_first parts text rest is = ap (list_any is_reference) is.together ∙ joins rest
-  where
-    joins : (rest : List Part)
-        → list_any is_reference (before (Lit text) rest) ≡ list_any is_reference rest
-    joins [] = refl
-    joins (Lit more ∷ rest) = refl
-    joins (Var name conv ∷ rest) = refl
+joins : (first : Part) (rest : List Part) → list_any is_reference (before first rest)
+    ≡ (is_reference first || list_any is_reference rest)
+joins (Lit text) [] = refl
+joins (Lit text) (Lit more ∷ rest) = refl
+joins (Lit text) (Var name conv ∷ rest) = refl
+joins (Var name conv) rest = refl
 
-pub reference_first : (parts : List Part) (name : List ℕ) (conv : Conv) (rest : List Part)
-    → IsFirstBit parts (Var name conv) rest → list_any is_reference parts ≡ true
-reference_first parts name conv rest is = ap (list_any is_reference) is.together
+pub reference_first : (parts : List Part) (first : Bit) (rest : List Part)
+    → IsFirstBit parts first rest
+    → list_any is_reference parts ≡ (is_reference (part_of first) || list_any is_reference rest)
+reference_first parts first rest is =
+    ap (list_any is_reference) is.together ∙ joins (part_of first) rest

@@ -29,7 +29,7 @@ use Rattle.wap_spelling.specs.Names.{table_of}
 use Rattle.wap_spelling.specs.Spelling.{bit}
 use Rattle.wap_good.specs.Readers.{Reader, ◌>>=◌, after, all_of, closed, closed_if}
 use Rattle.wap_good.specs.Texts.{part_at, value_at, behind_value}
-use Rattle.wap_good.specs.Nodes.{attr_at, node, node_by, item_by, node_at, item_at}
+use Rattle.wap_good.specs.inside.Nodes.{attr_at, node, node_by, item_by, node_at, item_at}
 use Rattle.wap_good.specs.Characters.{OfPart}
 use Rattle.wap_good.proofs.Runs.{Takes, all_on, all_end}
 use Rattle.wap_good.proofs.Taking.{item_takes}

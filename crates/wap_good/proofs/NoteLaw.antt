@@ -11,7 +11,7 @@ use Rattle.wap_markup.specs.Tables.{tag_of, tag_rows}
 use Rattle.wap_good.specs.declared.notes.Note.{Note}
 use Rattle.wap_good.specs.Readers.{IsBehind, first_at, is_end}
 use Rattle.wap_good.specs.Texts.{part_at}
-use Rattle.wap_good.specs.Notes.{last_bytes, IsOwn, IsNote, AreNotes}
+use Rattle.wap_good.specs.inside.Notes.{last_bytes, IsOwn, IsNote, AreNotes}
 use Rattle.wap_good.proofs.AttrLaw.{no_part}
 use Rattle.wap_good.proofs.Ending.{behind_left, behind_place, behind_drop, drop_behind, first_is}
 
@@ -93,9 +93,7 @@ pub note_again : (bytes : List ℕ) (note : Note) (inside : ℕ) → IsNote byte
     → IsNote bytes (record {
       begin = note.begin;
       end = note.end;
-      names = note.names;
-      head = note.head;
-      inside = inside;
+      known = record { names = note.known.names; head = note.known.head; inside = inside };
     })
 note_again bytes note inside is = record {
   order = is.order;

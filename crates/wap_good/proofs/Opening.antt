@@ -12,8 +12,8 @@ use Rattle.wap_markup.specs.Codes.{has_attributes, has_content}
 use Rattle.wap_markup.specs.Tables.{tag_of}
 use Rattle.wap_good.specs.Readers.{Reader, ◌>>=◌, rest_of, first_at}
 use Rattle.wap_good.specs.Readers.{after, all_of, closed, closed_if}
-use Rattle.wap_good.specs.Nodes.{attr_at, node, node_by, node_at, item_at, node_or}
-use Rattle.wap_good.specs.Nodes.{front_node, IsRead, attrs_begin, kids_begin}
+use Rattle.wap_good.specs.inside.Nodes.{attr_at, node, node_by, node_at, item_at, node_or}
+use Rattle.wap_good.specs.inside.Nodes.{front_node, IsRead, attrs_begin, kids_begin}
 
 pub bind_some : {A B : Type 0} (o : Option A) (next : A → Option B) (y : B) → (o >>= next) ≡ Some y
     → (x : A) × (o ≡ Some x) × (next x ≡ Some y)

@@ -1,7 +1,7 @@
 -- The parts of a value, one by one.
 use Rattle.std.proofs.Common.{◌≡◌, ◌≢◌, ℕ, ◌+◌, ◌<◌, Bool, true, false, List, [], ◌∷◌, length}
 use Rattle.std.proofs.Common.{Option, Some, None, refl, sym, ap, subst, ◌∙◌, arith}
-use Rattle.std.specs.Prelude.{if◌then◌else◌, ◌&&◌, nat_lt, ◌==◌, IfSome}
+use Rattle.std.specs.Prelude.{if◌then◌else◌, ◌&&◌, ◌==◌, IfSome}
 use Rattle.std.specs.Str.{chars, is_utf8, IsUtf8}
 use Rattle.std.proofs.lemmas.Bool.{and_parts, eqb-true}
 use Rattle.std.proofs.lemmas.List.{length-append, nil_from_length}
@@ -16,12 +16,14 @@ use Rattle.wap_base.specs.declared.name.Part.TheVariants.{Lit, Var}
 use Rattle.wap_markup.specs.declared.codes.TheConstants.{ENTITY, STR_I, EXT_I_0, EXT_I_1, EXT_I_2}
 use Rattle.wap_markup.specs.Decks.{literal, before, joined}
 use Rattle.wap_markup.specs.Normal.{IsPart}
-use Rattle.wap_good.specs.Readers.{Reads, ◌>>=◌, first_at, ended_at}
+use Rattle.wap_spelling.specs.Spellable.{HasNoZero}
+use Rattle.wap_good.specs.Readers.{Reads, ◌>>=◌, first_at, after, ended_at}
 use Rattle.std.specs.Borrow.{Bor}
 use Rattle.wap_good.specs.declared.bits.Bit.{Bit}
+use Rattle.wap_good.specs.declared.bits.Bit.TheVariants as bit
 use Rattle.wap_good.specs.Texts.{string_part, name_part, string_at, reference_at}
 use Rattle.wap_good.specs.Texts.{character_at, part_from, part_at, value_at, AreParts}
-use Rattle.wap_good.specs.Runs.{part_of, part_size, parts_size, IsFirstBit, FindsBit}
+use Rattle.wap_good.specs.Runs.{part_of, IsOfKind, part_size, parts_size, IsFirstBit, FindsBit}
 use Rattle.wap_good.proofs.Runs.{Each, each_bind, all_on, all_end}
 use Rattle.wap_good.proofs.Taking.{each_if, part_takes}
 use Rattle.wap_good.proofs.Spoken.{filled, parts_on}
@@ -80,14 +82,11 @@ reference_read conv bytes =
     each_bind Any IsRead (ended_at bytes) (λ x. name_part conv x.0 >>= λ part. Some (part, x.1))
     (any (ended_at bytes)) (λ x t. given_on (name_part conv x.0) x.1 (name_given conv x.0))
 
-one_given : (c : ℕ) → (c ∷ []) ≢ []
-one_given c e = cc
-
 character_read : (bytes : List ℕ) → Each IsRead (character_at bytes)
 unfolding character_at
 character_read bytes =
-    each_bind Any IsRead (first_at bytes) _ (any (first_at bytes))
-    (λ x t. each_if IsRead (nat_lt x.0 128) _ None (one_given x.0) tt)
+    each_bind Any IsRead (after 0 bytes) (λ rest. Some (Lit (0 ∷ []), rest)) (any (after 0 bytes))
+    (λ rest t e. cc)
 
 from_read : (mark : ℕ) (rest : List ℕ) → Each IsRead (part_from mark rest)
 from_read mark rest =
@@ -151,19 +150,24 @@ size_some (Lit []) is = absurd (is refl)
 size_some (Lit (c ∷ cs)) is = omega arith
 size_some (Var name conv) is = omega arith
 
-pub size_less : (parts : List Part) (part : Part) (rest : List Part) → IsFirstBit parts part rest
+pub size_less : (parts : List Part) (first : Bit) (rest : List Part) → IsFirstBit parts first rest
     → parts_size rest < parts_size parts
-size_less parts part rest is =
-    omega (arith, ap parts_size is.together, size_before part rest, size_some part is.part)
+size_less parts first rest is =
+    omega (
+      arith,
+      ap parts_size is.together,
+      size_before (part_of first) rest,
+      size_some (part_of first) is.part,
+    )
 
-pub first_bit : (bytes : List ℕ) (part : Part) (rest : List ℕ) → part_at bytes ≡ Some (part, rest)
-    → IsFirstBit (value_at [] bytes) part (value_at [] rest)
-first_bit bytes part rest e =
-    record { together = value_next bytes part rest e; part = part_is bytes part rest e }
-
-pub first_text : (text bytes : List ℕ) → text ≢ []
-    → IsFirstBit (value_at text bytes) (Lit text) (value_at [] bytes)
-first_text text bytes some = record { together = value_begun text bytes some; part = some }
+first_bit : (bytes : List ℕ) (first : Bit) (rest : List ℕ)
+    → part_at bytes ≡ Some (part_of first, rest) → IsOfKind first
+    → IsFirstBit (value_at [] bytes) first (value_at [] rest)
+first_bit bytes first rest e kind = record {
+  together = value_next bytes (part_of first) rest e;
+  part = part_is bytes (part_of first) rest e;
+  kind = kind;
+}
 
 -- ---- a text before what bytes say
 
@@ -177,20 +181,27 @@ begun_none text bytes empty =
 chars_filled : (text : List ℕ) → IsUtf8 text → (length text == 0) ≡ false → chars text ≢ []
 chars_filled text utf8 some none = filled text some (nil-from_chars text utf8 none)
 
-pub begun_first : (text bytes : List ℕ) → IsUtf8 text → (length text == 0) ≡ false
-    → IsFirstBit (value_at (chars text) bytes) (Lit (chars text)) (value_at [] bytes)
-begun_first text bytes utf8 some = first_text (chars text) bytes (chars_filled text utf8 some)
+pub begun_first : (text : Bor (List ℕ)) (bytes : List ℕ) → IsUtf8 text.now
+    → (length text.now == 0) ≡ false → HasNoZero (chars text.now)
+    → IsFirstBit (value_at (chars text.now) bytes) (bit.Slice text) (value_at [] bytes)
+begun_first text bytes utf8 some no_zero =
+    let filled = chars_filled text.now utf8 some in
+    record {
+      together = value_begun (chars text.now) bytes filled;
+      part = filled;
+      kind = no_zero;
+    }
 
 -- ---- the first bit, as calls give it
 
 pub bit_found : (text bytes : List ℕ) → (length text == 0) ≡ true
     → (result : Option (Bit × Bor (List ℕ)))
     → Reads (λ read. (part_of read.0, read.1.now)) result (part_at bytes)
-    → FindsBit (value_at (chars text) bytes) result
-bit_found text bytes empty (Some read) e =
-    subst (λ (parts : List Part). IsFirstBit parts (part_of read.0) (value_at [] read.1.now))
-    (sym (begun_none text bytes empty)) (first_bit bytes (part_of read.0) read.1.now e)
-bit_found text bytes empty None e = begun_none text bytes empty ∙ value_none bytes e
+    → IfSome result (λ read. IsOfKind read.0) → FindsBit (value_at (chars text) bytes) result
+bit_found text bytes empty (Some read) e kind =
+    subst (λ (parts : List Part). IsFirstBit parts read.0 (value_at [] read.1.now))
+    (sym (begun_none text bytes empty)) (first_bit bytes read.0 read.1.now e kind)
+bit_found text bytes empty None e kind = begun_none text bytes empty ∙ value_none bytes e
 
 pub bits_on : (bytes : List ℕ) → AreParts bytes → (result : Option (Bit × Bor (List ℕ)))
     → Reads (λ read. (part_of read.0, read.1.now)) result (part_at bytes)
@@ -198,6 +209,6 @@ pub bits_on : (bytes : List ℕ) → AreParts bytes → (result : Option (Bit ×
 bits_on bytes are (Some read) e = parts_on bytes (part_of read.0) read.1.now e are
 bits_on bytes are None e = tt
 
-pub bit_some : (parts : List Part) (part : Part) (rest : List Part)
-    → IsFirstBit parts part rest → parts ≢ []
-bit_some parts part rest is none = before_some part rest (sym is.together ∙ none)
+pub bit_some : (parts : List Part) (first : Bit) (rest : List Part)
+    → IsFirstBit parts first rest → parts ≢ []
+bit_some parts first rest is none = before_some (part_of first) rest (sym is.together ∙ none)

@@ -10,10 +10,10 @@ use Rattle.wap_markup.specs.Tables.{tag_of, is_same_attr}
 use Rattle.wap_markup.specs.Trees.{value_of}
 use Rattle.wap_markup.specs.Codes.{has_attributes, has_content}
 use Rattle.wap_good.specs.Readers.{first_at, all_of, Ends}
-use Rattle.wap_good.specs.Nodes.{attr_at, node_at, item_at, front_node}
-use Rattle.wap_good.specs.Nodes.{IsRead, attrs_begin, IsContent}
-use Rattle.wap_good.specs.Starts.{value_in}
-use Rattle.wap_good.specs.Notes.{LacksName}
+use Rattle.wap_good.specs.inside.Nodes.{attr_at, node_at, item_at, front_node}
+use Rattle.wap_good.specs.inside.Nodes.{IsRead, attrs_begin, IsContent}
+use Rattle.wap_good.specs.inside.Starts.{value_in}
+use Rattle.wap_good.specs.inside.Notes.{LacksName}
 use Rattle.wap_good.proofs.Runs.{all_on, all_end, all_few}
 use Rattle.wap_good.proofs.Taking.{attr_takes, item_takes}
 use Rattle.wap_good.proofs.Ending.{attr_lists, item_lists, closed_ends}

@@ -5,7 +5,7 @@ use Rattle.wap_markup.specs.declared.deck.Node.{Node}
 use Rattle.wap_markup.specs.declared.deck.Item.TheVariants as item
 use Rattle.wap_good.specs.Readers.{Reader, ◌>>=◌, rest_of}
 use Rattle.wap_good.specs.Texts.{part_at, value_at, behind_value}
-use Rattle.wap_good.specs.Nodes.{item_by}
+use Rattle.wap_good.specs.inside.Nodes.{item_by}
 
 pub item_by_rest : (inner : Reader Node) (bytes : List ℕ)
     → rest_of (item_by inner bytes)

@@ -1,26 +1,43 @@
 -- What strings give, where they give a part.
-use Rattle.std.proofs.Common.{◌≡◌, ◌≢◌, ℕ, Bool, true, false, List, [], ◌∷◌, length}
+use Rattle.std.proofs.Common.{◌≡◌, ◌≢◌, ℕ, Bool, true, false, List, [], ◌∷◌, length, take, drop}
 use Rattle.std.proofs.Common.{Option, Some, None, refl, sym, ap, subst, ◌∙◌}
 use Rattle.std.specs.Prelude.{if◌then◌else◌, ◌&&◌, ◌==◌, is_some}
+use Rattle.std.specs.List.{list_all}
 use Rattle.std.specs.Str.{chars, is_utf8}
+use Rattle.std.proofs.lemmas.Str.{IsUtf8-from_is_utf8}
 use Rattle.wap_base.specs.Names.{is_name}
 use Rattle.wap_base.specs.declared.name.Conv.{Conv}
 use Rattle.wap_base.specs.declared.name.Conv.TheVariants.{Escape, Unescape, Plain}
 use Rattle.wap_base.specs.declared.name.Part.{Part}
 use Rattle.wap_base.specs.declared.name.Part.TheVariants.{Lit, Var}
-use Rattle.wap_markup.specs.declared.codes.TheConstants.{STR_I, EXT_I_0, EXT_I_1, EXT_I_2}
+use Rattle.wap_markup.specs.declared.codes.TheConstants.{ENTITY, STR_I, EXT_I_0, EXT_I_1, EXT_I_2}
 use Rattle.wap_markup.specs.Decks.{literal}
-use Rattle.wap_good.specs.Readers.{◌>>=◌, first_at, ended_at, behind_zero}
-use Rattle.wap_good.specs.Texts.{string_part, name_part, string_at, reference_at}
+use Rattle.wap_markup.specs.Strings.{is_not_zero}
+use Rattle.wap_spelling.specs.Spellable.{HasNoZero}
+use Rattle.wap_good.specs.Readers.{◌>>=◌, first_at, after, zero_place, ended_at, behind_zero}
+use Rattle.wap_good.specs.Texts.{string_part, name_part, string_at, reference_at, character_at}
 use Rattle.wap_good.specs.Texts.{part_at, part_end, behind_value, AreParts}
 use Rattle.wap_good.proofs.Runs.{all_end, turn}
 use Rattle.wap_good.proofs.Taking.{part_takes}
-use Rattle.wap_good.proofs.Opening.{same_value}
+use Rattle.wap_good.proofs.Zeros.{before_zero, chars_no_zero}
+use Rattle.wap_good.proofs.Opening.{bind_some, same_value}
 use Rattle.wap_good.proofs.Ending.{first_is}
 
 pub filled : (text : List ℕ) → (length text == 0) ≡ false → text ≢ []
 filled [] some e = cc
 filled (c ∷ cs) some e = cc
+
+-- ---- a string up to a 0 has none
+
+ended_none : (bytes : List ℕ) (x : List ℕ × List ℕ) → ended_at bytes ≡ Some x
+    → list_all is_not_zero x.0 ≡ true
+unfolding ended_at
+ended_none bytes x e =
+    let a = bind_some (after 0 (drop (zero_place bytes) bytes)) _ x e in
+    let front = take (zero_place bytes) bytes in
+    ap (list_all is_not_zero)
+    (sym (ap (λ (y : List ℕ × List ℕ). y.0) (same_value (front, a.0) x a.2)))
+    ∙ before_zero bytes
 
 -- ---- a string that gives a part is of UTF-8
 
@@ -67,6 +84,12 @@ module _ (bytes string rest : List ℕ) (e : ended_at bytes ≡ Some (string, re
     pub string_utf8 : is_utf8 string ≡ true
     string_utf8 = string_told.0
 
+    pub string_kind : (text : List ℕ) → text ≡ string → HasNoZero (chars text)
+    string_kind text same =
+        subst (λ (l : List ℕ). HasNoZero (chars l)) (sym same)
+        (chars_no_zero string (IsUtf8-from_is_utf8 string string_utf8)
+        (ended_none bytes (string, rest) e))
+
     pub string_read : (text : List ℕ) → text ≡ string
         → string_at bytes ≡ Some (Lit (chars text), rest)
     string_read text same =
@@ -102,6 +125,22 @@ module _ (bytes string rest : List ℕ) (e : ended_at bytes ≡ Some (string, re
         ∙ ap (λ (part : Part). with_rest rest part) reference_told.1
         ∙ ap (λ (l : List ℕ). with_rest rest (Var (chars l) conv)) (sym same)
 
+-- ---- a character is U+0000
+
+pub character_read : (bytes : List ℕ) → is_some (character_at bytes) ≡ true
+    → character_at bytes ≡ Some (Lit (0 ∷ []), drop 1 bytes)
+unfolding character_at
+character_read [] some = absurd cc
+character_read (number ∷ rest) some = either (number == 0) some
+  where
+    read : Option (List ℕ) → Option (Part × List ℕ)
+    read after = after >>= λ rest. Some (Lit (0 ∷ []), rest)
+
+    either : (b : Bool) → is_some (read (if b then Some rest else None)) ≡ true
+        → read (if b then Some rest else None) ≡ Some (Lit (0 ∷ []), rest)
+    either true some = refl
+    either false some = absurd cc
+
 -- ---- each mark begins a part
 
 marked_some : (bytes end : List ℕ) → AreParts bytes → part_end bytes ≡ Some end
@@ -124,6 +163,10 @@ module _ (bytes : List ℕ) (mark : ℕ) (rest : List ℕ) (are : AreParts bytes
   pub string_there : mark ≡ STR_I → is_some (string_at rest) ≡ true
   unfolding part_at part_end
   string_there is = marked_some (STR_I ∷ rest) (behind_zero rest) (begun_by STR_I is) refl
+
+  pub character_there : mark ≡ ENTITY → is_some (character_at rest) ≡ true
+  unfolding part_at part_end
+  character_there is = marked_some (ENTITY ∷ rest) (drop 1 rest) (begun_by ENTITY is) refl
 
   pub escape_there : mark ≡ EXT_I_0 → is_some (reference_at Escape rest) ≡ true
   unfolding part_at part_end

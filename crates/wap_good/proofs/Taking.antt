@@ -2,7 +2,7 @@
 use Rattle.std.proofs.Common.{◌≡◌, ℕ, zero, suc, ◌<◌, ◌≤◌, Bool, true, false, List, []}
 use Rattle.std.proofs.Common.{◌∷◌, length, take, drop, Option, Some, None, Result, Ok}
 use Rattle.std.proofs.Common.{Err, refl, ap, length-drop, arith}
-use Rattle.std.specs.Prelude.{is_some, if◌then◌else◌, ◌==◌, ◌%◌, nat_lt}
+use Rattle.std.specs.Prelude.{is_some, if◌then◌else◌, ◌==◌, ◌%◌}
 use Rattle.wap_base.specs.Numbers.{mb_at}
 use Rattle.wap_base.specs.declared.number.ReadFault.{ReadFault}
 use Rattle.wap_base.specs.declared.name.Conv.{Conv}
@@ -22,8 +22,8 @@ use Rattle.wap_good.specs.Readers.{Reader, ◌>>=◌, first_at, after, number_fr
 use Rattle.wap_good.specs.Readers.{zero_place, ended_at, all_of, closed, closed_if}
 use Rattle.wap_good.specs.Texts.{string_part, name_part, string_at, reference_at, character_at}
 use Rattle.wap_good.specs.Texts.{part_from, part_at, value_at, behind_value}
-use Rattle.wap_good.specs.Nodes.{named_at, start_at, attr_at, node}
-use Rattle.wap_good.specs.Nodes.{node_by, item_by, node_at, item_at}
+use Rattle.wap_good.specs.inside.Nodes.{named_at, start_at, attr_at, node}
+use Rattle.wap_good.specs.inside.Nodes.{node_by, item_by, node_at, item_at}
 use Rattle.wap_good.proofs.Runs.{Each, each_bind, Fewer, Takes, fewer, all_on, all_left}
 
 pub each_if : {A : Type 0} (P : A → Type 0) (b : Bool) (x y : Option A) → Each P x → Each P y
@@ -88,8 +88,8 @@ reference_fewer conv rest n less =
 character_fewer : (rest : List ℕ) (n : ℕ) → length rest < n → Each (Fewer n) (character_at rest)
 unfolding character_at
 character_fewer rest n less =
-    each_bind (Fewer (length rest)) (Fewer n) (first_at rest) _ (first_fewer rest)
-    (λ x h. each_if (Fewer n) (nat_lt x.0 128) (Some (Lit (x.0 ∷ []), x.1)) None (omega arith) tt)
+    each_bind (λ (behind : List ℕ). length behind < length rest) (Fewer n) (after 0 rest)
+    (λ behind. Some (Lit (0 ∷ []), behind)) (after_fewer 0 rest) (λ behind h. omega arith)
 
 from_fewer : (first : ℕ) (rest : List ℕ) (n : ℕ) → length rest < n
     → Each (Fewer n) (part_from first rest)

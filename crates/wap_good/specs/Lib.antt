@@ -2,8 +2,5 @@ pub mod Runs
 pub mod Lent
 pub mod Readers
 pub mod Texts
-pub mod Nodes
-pub mod Starts
 pub mod Characters
-pub mod Notes
-pub mod Held
+pub mod inside

@@ -9,6 +9,7 @@ use Rattle.wap_base.specs.declared.name.Part.TheVariants.{Lit, Var}
 use Rattle.wap_base.specs.Texts.{is_same_text}
 use Rattle.wap_markup.specs.Decks.{before}
 use Rattle.wap_markup.specs.Normal.{IsPart}
+use Rattle.wap_spelling.specs.Spellable.{HasNoZero}
 use Rattle.wap_good.specs.Texts.{value_at}
 use Rattle.wap_good.specs.declared.bits.Bit.{Bit}
 use Rattle.wap_good.specs.declared.bits.Bit.TheVariants as bit
@@ -23,21 +24,29 @@ abbrev pub is_reference : Part → Bool
 is_reference (Lit text) = false
 is_reference (Var name conv) = true
 
+-- a string in place can hold any character but U+0000: a slice has only such as it can hold, and a
+-- character is the one that it can't
+abbrev pub IsOfKind : Bit → Type 0
+IsOfKind (bit.Slice text) = HasNoZero (chars text.now)
+IsOfKind (bit.Char character) = character ≡ 0
+IsOfKind (bit.Var name conv) = Unit {0}
+
 -- a bit comes first, and the rest after it; characters join a literal that follows them
-pub record IsFirstBit (parts : List Part) (first : Part) (rest : List Part) : Type 0 where
-  pub together : parts ≡ before first rest
-  pub part : IsPart first
+pub record IsFirstBit (parts : List Part) (first : Bit) (rest : List Part) : Type 0 where
+  pub together : parts ≡ before (part_of first) rest
+  pub part : IsPart (part_of first)
+  pub kind : IsOfKind first
 
 -- the first bit of a value and the bytes after it, or nothing where it has no parts
 abbrev pub FindsBit : List Part → Option (Bit × Bor (List ℕ)) → Type 0
 FindsBit parts result =
     MatchOption result (parts ≡ [])
-    (λ read. IsFirstBit parts (part_of read.0) (value_at [] read.1.now))
+    (λ read. IsFirstBit parts read.0 (value_at [] read.1.now))
 
 -- a call gives the first bit, or nothing where nothing is left
 abbrev pub GivesBit : List Part → Option Bit → List Part → Type 0
 GivesBit parts given rest =
-    MatchOption given ((parts ≡ []) × (rest ≡ [])) (λ one. IsFirstBit parts (part_of one) rest)
+    MatchOption given ((parts ≡ []) × (rest ≡ [])) (λ one. IsFirstBit parts one rest)
 
 -- a character counts as one, and so does a reference
 abbrev pub part_size : Part → ℕ

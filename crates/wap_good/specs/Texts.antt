@@ -1,7 +1,7 @@
 -- Texts and values of attributes, as they stand in the bytes of a deck (WAP-192, section 5.8.4):
--- strings in place, characters by their numbers, of which one byte is read, and references to
+-- strings in place, U+0000, which no string in place can hold, by its number, and references to
 -- variables.
-use Rattle.std.specs.Prelude.{◌≡◌, ℕ, ◌==◌, ◌&&◌, nat_lt, if◌then◌else◌, List}
+use Rattle.std.specs.Prelude.{◌≡◌, ℕ, ◌==◌, ◌&&◌, if◌then◌else◌, List}
 use Rattle.std.specs.Prelude.{[], ◌∷◌, drop, Option, Some, None}
 use Rattle.std.specs.List.{cons_option}
 use Rattle.std.specs.Str.{chars, is_utf8}
@@ -12,7 +12,8 @@ use Rattle.wap_base.specs.declared.name.Part.{Part}
 use Rattle.wap_base.specs.declared.name.Part.TheVariants.{Lit, Var}
 use Rattle.wap_markup.specs.declared.codes.TheConstants.{ENTITY, STR_I, EXT_I_0, EXT_I_1, EXT_I_2}
 use Rattle.wap_markup.specs.Decks.{literal, joined}
-use Rattle.wap_good.specs.Readers.{Reader, ◌>>=◌, first_at, ended_at, behind_zero, all_of}
+use Rattle.wap_spelling.specs.Spellable.{HasNoZero}
+use Rattle.wap_good.specs.Readers.{Reader, ◌>>=◌, first_at, after, ended_at, behind_zero, all_of}
 
 -- the text of a string, if it has a character
 abbrev pub string_part : List ℕ → Option Part
@@ -29,9 +30,9 @@ string_at bytes = ended_at bytes >>= λ x. string_part x.0 >>= λ part. Some (pa
 unfoldable pub reference_at : Conv → Reader Part
 reference_at conv bytes = ended_at bytes >>= λ x. name_part conv x.0 >>= λ part. Some (part, x.1)
 
+-- no other character stands by its number
 unfoldable pub character_at : Reader Part
-character_at bytes =
-    first_at bytes >>= λ x. if nat_lt x.0 128 then Some (Lit (x.0 ∷ []), x.1) else None
+character_at bytes = after 0 bytes >>= λ rest. Some (Lit (0 ∷ []), rest)
 
 abbrev pub part_from : ℕ → Reader Part
 part_from mark rest =
@@ -63,6 +64,11 @@ value_at text bytes = joined (cons_option (literal text) (all_of part_at bytes).
 abbrev pub behind_value : List ℕ → List ℕ
 behind_value bytes = (all_of part_at bytes).1
 
--- each mark of a part begins one, up to what follows them
+-- each mark of a part begins one, up to what follows them: a character is U+0000
 abbrev pub AreParts : List ℕ → Type 0
 AreParts bytes = part_end (behind_value bytes) ≡ None
+
+-- a text without U+0000, and bytes of parts after it
+pub record IsRun (begun bytes : List ℕ) : Type 0 where
+  pub text : HasNoZero (chars begun)
+  pub parts : AreParts bytes

@@ -1,12 +1,12 @@
 //! Texts bit by bit, as their bytes stand in a deck.
-ghost use Rattle.std.specs.Prelude.{◌≡◌, true, is_some};
+ghost use Rattle.std.specs.Prelude.{◌≡◌, true, is_some, IfSome};
 ghost use Rattle.std.specs.Str.{is_utf8};
 ghost use Rattle.wap_good.specs.Readers.{Reads, IsBehind};
 ghost use Rattle.wap_good.specs.Texts.{string_at, reference_at, character_at, part_at};
 ghost use Rattle.wap_good.specs.Texts.{part_end, behind_value, AreParts};
-ghost use Rattle.wap_good.specs.Runs.{part_of};
+ghost use Rattle.wap_good.specs.Runs.{part_of, IsOfKind};
 
-use crate::front::{after_first, after_zero, ended, first};
+use crate::front::{after_first, after_zero, first, split_at_zero};
 use std::str;
 use wap_base::Conv;
 use wap_markup::{ENTITY, EXT_I_0, EXT_I_1, EXT_I_2, STR_I};
@@ -15,8 +15,9 @@ use wap_markup::{ENTITY, EXT_I_0, EXT_I_1, EXT_I_2, STR_I};
 /// Neighbouring characters belong to one literal.
 #[derive(Clone, Copy, Debug)]
 pub enum Bit<'a> {
+    /// Characters that a string in place can hold: all but U+0000.
     Slice(&'a str),
-    /// A character that no inline string can hold.
+    /// The character that no string in place can hold, U+0000.
     Char(char),
     /// The name of a variable, and how it is written out.
     Var(&'a str, Conv),
@@ -27,7 +28,8 @@ pub enum Bit<'a> {
 #[inline(always)]
 pub fn next_bit(bytes: &[u8]) -> Option<(Bit<'_>, &[u8])>
     requires { AreParts bytes.now }
-    ensures { Reads (λ read. (part_of read.0, read.1.now)) result (part_at bytes.now) }
+    ensures exact { Reads (λ read. (part_of read.0, read.1.now)) result (part_at bytes.now) }
+    ensures kind { IfSome result (λ read. IsOfKind read.0) }
 {
     let (mark, rest) = first(bytes)?;
     match mark {
@@ -53,32 +55,32 @@ fn text_of(bytes: &[u8]) -> &str
 #[inline(always)]
 fn next_string(bytes: &[u8]) -> Option<(Bit<'_>, &[u8])>
     requires { is_some (string_at bytes.now) ≡ true }
-    ensures { Reads (λ read. (part_of read.0, read.1.now)) result (string_at bytes.now) }
+    ensures exact { Reads (λ read. (part_of read.0, read.1.now)) result (string_at bytes.now) }
+    ensures kind { IfSome result (λ read. IsOfKind read.0) }
 {
-    let (string, rest) = ended(bytes)?;
+    let (string, rest) = split_at_zero(bytes)?;
     Some((Bit::Slice(text_of(string)), rest))
 }
 
-/// A character by its number, and what follows it.
-#[tactic(auto, unfolding(crate::specs::Texts::character_at))]
+/// The character that no string in place can hold, and what follows its number.
+#[inline(always)]
 fn next_character(bytes: &[u8]) -> Option<(Bit<'_>, &[u8])>
-    ensures { Reads (λ read. (part_of read.0, read.1.now)) result (character_at bytes.now) }
+    requires { is_some (character_at bytes.now) ≡ true }
+    ensures exact { Reads (λ read. (part_of read.0, read.1.now)) result (character_at bytes.now) }
+    ensures kind { IfSome result (λ read. IsOfKind read.0) }
 {
-    let (number, rest) = first(bytes)?;
-    if number < 128 {
-        Some((Bit::Char(char::from(number)), rest))
-    } else {
-        None
-    }
+    Some((Bit::Char('\0'), after_first(bytes)))
 }
 
 /// A reference to a variable, and what follows it.
 #[tactic(auto, unfolding(crate::specs::Texts::reference_at))]
 fn next_reference(conv: Conv, bytes: &[u8]) -> Option<(Bit<'_>, &[u8])>
     requires { is_some (reference_at conv bytes.now) ≡ true }
-    ensures { Reads (λ read. (part_of read.0, read.1.now)) result (reference_at conv bytes.now) }
+    ensures exact { Reads (λ read. (part_of read.0, read.1.now)) result
+        (reference_at conv bytes.now) }
+    ensures kind { IfSome result (λ read. IsOfKind read.0) }
 {
-    let (string, rest) = ended(bytes)?;
+    let (string, rest) = split_at_zero(bytes)?;
     Some((Bit::Var(text_of(string), conv), rest))
 }
 

@@ -4,9 +4,9 @@ ghost use Rattle.std.specs.List.{filter_map};
 ghost use Rattle.wap_markup.specs.Trees.{node_with};
 ghost use Rattle.wap_good.specs.Lent.{item_of};
 ghost use Rattle.wap_good.specs.Readers.{all_of, IsBehind};
-ghost use Rattle.wap_good.specs.Nodes.{item_at, front_node, IsRead};
-ghost use Rattle.wap_good.specs.Notes.{AreNotes, AreLent};
-ghost use Rattle.wap_good.specs.Held.{table_in, deck_in, IsHeld, StandAt, tagged, IsKept};
+ghost use Rattle.wap_good.specs.inside.Nodes.{item_at, front_node, IsRead};
+ghost use Rattle.wap_good.specs.inside.Notes.{AreNotes, AreLent};
+ghost use Rattle.wap_good.specs.inside.Held.{deck_in, IsHeld, StandAt, tagged, IsKept};
 
 use crate::children::next_child;
 use crate::head::kids_begin;
@@ -14,7 +14,7 @@ use crate::kids::Child;
 use crate::notes::{Note, notes_from, notes_left};
 use crate::view::View;
 use std::alloc::Global;
-use wap_base::{NoMemory, Rows};
+use wap_base::{Bytes, NoMemory, Rows};
 use wap_markup::{LEVEL_LIMIT, Tag};
 
 /// The child as a node of this tag, if it is one.
@@ -44,7 +44,7 @@ pub struct Cards {
 /// Where the nodes of a tag in a content begin, in the bytes that end with it.
 fn places_in(
     alloc: Global,
-    table: &[u8],
+    table: &Bytes,
     bytes: &[u8],
     notes: &[Note],
     content: &[u8],
@@ -74,32 +74,32 @@ fn places_in(
 /// Where the nodes of a tag in the root of a deck begin.
 fn places_of(
     alloc: Global,
-    table: usize,
+    table: &Bytes,
     root: usize,
     bytes: &[u8],
     notes: &[Note],
     tag: Tag,
 ) -> Result<Rows<Place>, NoMemory>
-    requires held { IsHeld table root bytes.now }
+    requires held { IsHeld table.now root bytes.now }
     requires noted { AreNotes bytes.now notes.now }
-    ensures { let nodes = tagged tag (deck_in table root bytes.now) in
-        IfOk result (λ places. StandAt (table_in table root bytes.now) bytes.now places nodes) }
+    ensures { let nodes = tagged tag (deck_in table.now root bytes.now) in
+        IfOk result (λ places. StandAt table.now bytes.now places nodes) }
 {
     let content = kids_begin(&bytes[root..]);
-    places_in(alloc, &bytes[table..root], bytes, notes, content, tag)
+    places_in(alloc, table, bytes, notes, content, tag)
 }
 
 /// Where the cards and the templates of a deck begin.
 pub fn card_places(
     alloc: Global,
-    table: usize,
+    table: &Bytes,
     root: usize,
     bytes: &[u8],
     notes: &[Note],
 ) -> Result<Cards, NoMemory>
-    requires held { IsHeld table root bytes.now }
+    requires held { IsHeld table.now root bytes.now }
     requires noted { AreNotes bytes.now notes.now }
-    ensures { IfOk result (λ cards. IsKept table root bytes.now cards notes.now) }
+    ensures { IfOk result (λ cards. IsKept table.now root bytes.now cards notes.now) }
 {
     let places = places_of(alloc, table, root, bytes, notes, Tag::Card)?;
     let templates = places_of(alloc, table, root, bytes, notes, Tag::Template)?;
@@ -107,26 +107,12 @@ pub fn card_places(
 }
 
 /// The view of the node in the root's content that begins at a place.
-pub fn view_at<'a>(
-    table: usize,
-    root: usize,
-    bytes: &'a [u8],
-    notes: &'a [Note],
-    place: Place,
-) -> View<'a>
-    requires held { IsHeld table root bytes.now }
+pub fn view_at<'a>(table: &'a Bytes, bytes: &'a [u8], notes: &'a [Note], place: Place) -> View<'a>
     requires within { place.begin ≤ length bytes.now }
-    requires read { let names = table_in table root bytes.now in
-        IsRead names (LEVEL_LIMIT - 1) (drop place.begin bytes.now) }
+    requires read { IsRead table.now (LEVEL_LIMIT - 1) (drop place.begin bytes.now) }
     requires noted { AreNotes bytes.now notes.now }
-    ensures { let names = table_in table root bytes.now in
-        result ≡ front_node names (LEVEL_LIMIT - 1) (drop place.begin bytes.now) }
+    ensures { result ≡ front_node table.now (LEVEL_LIMIT - 1) (drop place.begin bytes.now) }
 {
     let notes = notes_from(notes, place.note);
-    View::of(
-        &bytes[table..root],
-        LEVEL_LIMIT - 1,
-        &bytes[place.begin..],
-        notes,
-    )
+    View::of(table, LEVEL_LIMIT - 1, &bytes[place.begin..], notes)
 }

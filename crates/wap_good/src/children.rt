@@ -2,8 +2,8 @@
 ghost use Rattle.std.specs.Prelude.{◌≡◌, IfSome, drop};
 ghost use Rattle.wap_good.specs.Lent.{child_seen};
 ghost use Rattle.wap_good.specs.Readers.{Reads, IsBehind};
-ghost use Rattle.wap_good.specs.Nodes.{item_at};
-ghost use Rattle.wap_good.specs.Notes.{AreNotes, AreLent};
+ghost use Rattle.wap_good.specs.inside.Nodes.{item_at};
+ghost use Rattle.wap_good.specs.inside.Notes.{AreNotes, AreLent};
 
 use crate::bits::{after_bits, next_bit};
 use crate::front::is_end;
@@ -12,11 +12,12 @@ use crate::notes::{Note, after_noted, own_note};
 use crate::run::Run;
 use crate::skip::after_node;
 use crate::view::View;
+use wap_base::Bytes;
 
 /// The next child, what follows it, and the notes of that.
 #[inline(always)]
 pub fn next_child<'a>(
-    table: &'a [u8],
+    table: &'a Bytes,
     levels: u32,
     bytes: &'a [u8],
     notes: &'a [Note],
@@ -26,13 +27,13 @@ pub fn next_child<'a>(
     ensures behind { IfSome result (λ read. IsBehind read.1.now (drop 1 bytes.now)) }
     ensures noted { IfSome result (λ read. AreNotes bytes.now read.2.now) }
 {
-    if let Some((note, inside)) = own_note(notes, bytes) {
-        let node = View::noted(table, levels, bytes, note, inside);
-        let (rest, left) = after_noted(note, inside, bytes);
-        return Some((Child::Node(node), rest, left));
-    }
     if is_end(bytes) {
         return None;
+    }
+    if let Some((note, inside)) = own_note(notes, bytes) {
+        let node = View::from_note(table, levels, bytes, note, inside);
+        let (rest, left) = after_noted(note, inside, bytes);
+        return Some((Child::Node(node), rest, left));
     }
     match next_bit(bytes) {
         Some((bit, rest)) => {
@@ -40,7 +41,7 @@ pub fn next_child<'a>(
             Some((Child::Text(run), after_bits(rest), notes))
         }
         None => {
-            let node = View::bare(table, levels, bytes, notes);
+            let node = View::without_note(table, levels, bytes, notes);
             Some((Child::Node(node), after_node(levels, bytes), notes))
         }
     }

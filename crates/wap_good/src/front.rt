@@ -31,7 +31,7 @@ pub fn number(bytes: &[u8]) -> Option<(u32, &[u8])>
 
 /// The bytes up to the first 0, and those after it.
 #[tactic(auto, unfolding(crate::specs::Readers::ended_at))]
-pub fn ended(bytes: &[u8]) -> Option<(&[u8], &[u8])>
+pub fn split_at_zero(bytes: &[u8]) -> Option<(&[u8], &[u8])>
     ensures { Reads (λ read. (read.0.now, read.1.now)) result (ended_at bytes.now) }
 {
     match memchr(0, bytes) {

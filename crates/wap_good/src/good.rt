@@ -27,9 +27,9 @@ use wap_writing::spell;
 #[derive(Drop)]
 pub struct GoodDeck {
     bytes: Bytes,
-    /// Where the string table begins.
-    table: usize,
-    /// Where the root begins, after the table.
+    /// The string table once more, so that a view has it by one word.
+    table: Bytes,
+    /// Where the root begins in the bytes.
     root: usize,
     /// Where each card begins, and the template.
     cards: Cards,
@@ -46,7 +46,7 @@ impl Model for GoodDeck {
 
     ghost coded = { Prim.hlevel (codes, item.the_row.coded) };
 
-    ghost use Rattle.wap_good.specs.Held.{deck_in, IsKept};
+    ghost use Rattle.wap_good.specs.inside.Held.{deck_in, IsKept};
 
     ghost view = { λ good. deck_in good.table good.root good.bytes };
 
@@ -75,8 +75,8 @@ fn places(bytes: &[u8]) -> Result<(usize, usize), NoMemory>
     Ok((table, root))
 }
 
-/// The deck as bytes.
-fn held(alloc: Global, deck: &Deck) -> Result<GoodDeck, NoMemory>
+/// Keeps the deck as bytes.
+fn keep(alloc: Global, deck: &Deck) -> Result<GoodDeck, NoMemory>
     requires good { IsGood deck.now }
     requires normal { IsNormal deck.now }
     ensures { IfOk result (λ good. good ≡ deck.now) }
@@ -88,11 +88,12 @@ fn held(alloc: Global, deck: &Deck) -> Result<GoodDeck, NoMemory>
     let bytes = Bytes::of(alloc, spelled.as_slice())?;
     let whole = bytes.as_slice();
     let (table, root) = places(whole)?;
+    let names = Bytes::of(alloc, &whole[table..root])?;
     let notes = notes_of(alloc, whole, root)?;
-    let cards = card_places(alloc, table, root, whole, notes.as_slice())?;
+    let cards = card_places(alloc, &names, root, whole, notes.as_slice())?;
     Ok(GoodDeck {
         bytes,
-        table,
+        table: names,
         root,
         cards,
         notes,
@@ -117,7 +118,7 @@ impl GoodDeck {
         ensures same { IfOk result (λ good. good ≡ deck) }
         ensures back { IfErr result (λ refused. refused.0 ≡ deck) }
     {
-        match held(alloc, &deck) {
+        match keep(alloc, &deck) {
             Ok(good) => Ok(good),
             Err(want) => Err((deck, want)),
         }
@@ -153,7 +154,7 @@ impl GoodDeck {
     {
         let bytes = self.bytes.as_slice();
         View::of(
-            &bytes[self.table..self.root],
+            &self.table,
             LEVEL_LIMIT,
             &bytes[self.root..],
             self.notes.as_slice(),
@@ -188,7 +189,7 @@ impl GoodDeck {
         let place = *self.cards.places.get(number)?;
         let bytes = self.bytes.as_slice();
         let notes = self.notes.as_slice();
-        Some(view_at(self.table, self.root, bytes, notes, place))
+        Some(view_at(&self.table, bytes, notes, place))
     }
 
     /// The template.
@@ -198,6 +199,6 @@ impl GoodDeck {
         let place = *self.cards.templates.get(0)?;
         let bytes = self.bytes.as_slice();
         let notes = self.notes.as_slice();
-        Some(view_at(self.table, self.root, bytes, notes, place))
+        Some(view_at(&self.table, bytes, notes, place))
     }
 }

@@ -2,8 +2,8 @@
 ghost use Rattle.std.specs.Prelude.{◌≡◌};
 ghost use Rattle.std.specs.Option.{option_map};
 ghost use Rattle.wap_markup.specs.Codes.{has_attributes, has_content};
-ghost use Rattle.wap_good.specs.Readers.{Reads, IsBehind};
-ghost use Rattle.wap_good.specs.Nodes.{attrs_begin, IsContent};
+ghost use Rattle.wap_good.specs.Readers.{IsBehind};
+ghost use Rattle.wap_good.specs.inside.Nodes.{IsContent};
 
 use crate::front::first;
 use crate::skip::after_head;
@@ -20,20 +20,6 @@ pub fn has_content(tag: u8) -> bool
     ensures { result ≡ has_content tag }
 {
     tag % 128 >= 64
-}
-
-/// The attributes of the node that bytes begin with, and what follows them; nothing where it has
-/// none.
-#[tactic(auto, unfolding(crate::specs::Nodes::attrs_begin))]
-pub fn attrs_begin(bytes: &[u8]) -> Option<&[u8]>
-    ensures { Reads (λ rest. rest.now) result (attrs_begin bytes.now) }
-{
-    let (mark, rest) = first(bytes)?;
-    if has_attributes(mark) {
-        Some(rest)
-    } else {
-        Some(&[])
-    }
 }
 
 /// The content of the node that bytes begin with, and what follows it; nothing where it has none.

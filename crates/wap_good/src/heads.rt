@@ -1,14 +1,15 @@
 //! What nodes begin with: the names of their attributes, and where their content begins.
-ghost use Rattle.std.specs.Prelude.{◌≡◌, ℕ, List, ◌^◌, ◌<◌, ◌≤◌, length, drop, true, IfSome};
+ghost use Rattle.std.specs.Prelude.{◌≡◌, ℕ, List, ◌∷◌, ◌^◌, ◌<◌, ◌≤◌, length, drop, true, IfSome};
 ghost use Rattle.wap_base.specs.declared.name.Part.{Part};
 ghost use Rattle.wap_markup.specs.declared.name.AttrName.{AttrName};
 ghost use Rattle.wap_good.specs.Readers.{Ends, IsBehind};
-ghost use Rattle.wap_good.specs.Nodes.{attr_at, IsContent};
-ghost use Rattle.wap_good.specs.Notes.{mark_place, lacks, HaveNames, LacksName};
+ghost use Rattle.wap_good.specs.inside.Nodes.{attr_at, IsContent};
+ghost use Rattle.wap_good.specs.inside.Notes.{mark_place, lacks, HaveNames, LacksName, IsHead};
 
 use crate::bits::after_bits;
 use crate::front::{first, is_end};
 use crate::head::{has_attributes, has_content, kids_begin};
+use crate::notes::Known;
 use crate::skip::after_head;
 use wap_markup::{AttrName, LITERAL};
 use wap_tokens::attr_start;
@@ -72,6 +73,45 @@ pub fn names_of(bytes: &[u8]) -> u16
     }
 }
 
+/// What is known of the node that bytes begin with by its mark alone: it may have all attributes or
+/// has none, and then its content follows the mark.
+#[inline(always)]
+pub fn known_by_mark(bytes: &[u8]) -> Known
+    ensures { IsHead bytes.now result.names result.head }
+{
+    match first(bytes) {
+        Some((mark, _)) => known_of_mark(mark),
+        None => known(0, 0),
+    }
+}
+
+/// The names that are marked, and how many bytes stand before the content.
+#[inline(always)]
+fn known(names: u16, head: u8) -> Known
+    ensures names { result.names ≡ names }
+    ensures head { result.head ≡ head }
+{
+    Known {
+        names,
+        head,
+        inside: 0,
+    }
+}
+
+/// What is known of a node by its mark.
+#[inline(always)]
+fn known_of_mark(mark: u8) -> Known
+    ensures { (rest : List ℕ) → IsHead (mark ∷ rest) result.names result.head }
+{
+    if has_attributes(mark) {
+        return known(u16::MAX, 0);
+    }
+    if has_content(mark) {
+        return known(0, 1);
+    }
+    known(0, 0)
+}
+
 /// How many bytes stand before the content of the node that bytes begin with; 0 where it has none,
 /// or 8 bits can't count them.
 pub fn head_of(bytes: &[u8]) -> u8
@@ -89,7 +129,7 @@ pub fn head_of(bytes: &[u8]) -> u8
 /// The content of the node that bytes begin with, and what follows it, where so many bytes stand
 /// before it; 0 where that isn't known.
 #[inline(always)]
-pub fn content_of(head: u16, bytes: &[u8]) -> &[u8]
+pub fn content_of(head: u8, bytes: &[u8]) -> &[u8]
     requires known { 0 < head → IsContent bytes.now (drop head bytes.now) }
     requires within { head ≤ length bytes.now }
     ensures exact { IsContent bytes.now result.now }

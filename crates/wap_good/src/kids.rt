@@ -1,19 +1,20 @@
 //! The content of a node, child by child.
 ghost use Rattle.std.specs.Prelude.{◌≡◌};
 ghost use Rattle.wap_good.specs.Readers.{all_of};
-ghost use Rattle.wap_good.specs.Nodes.{item_at};
-ghost use Rattle.wap_good.specs.Notes.{AreLent};
+ghost use Rattle.wap_good.specs.inside.Nodes.{item_at};
+ghost use Rattle.wap_good.specs.inside.Notes.{AreLent};
 
 use crate::children::next_child;
 use crate::notes::Note;
 use crate::run::Run;
 use crate::view::View;
 use std::marker::Model;
+use wap_base::Bytes;
 
 /// The content of a node. A contract sees the items that are still to come.
 #[derive(Drop)]
 pub struct Kids<'a> {
-    table: &'a [u8],
+    table: &'a Bytes,
     levels: u32,
     bytes: &'a [u8],
     notes: &'a [Note],
@@ -30,8 +31,8 @@ impl<'a> Model for Kids<'a> {
     ghost coded = { Prim.hlevel (codes, item.the_row.coded) };
 
     ghost use Rattle.wap_good.specs.Readers.{all_of};
-    ghost use Rattle.wap_good.specs.Nodes.{item_at};
-    ghost use Rattle.wap_good.specs.Notes.{AreLent};
+    ghost use Rattle.wap_good.specs.inside.Nodes.{item_at};
+    ghost use Rattle.wap_good.specs.inside.Notes.{AreLent};
 
     ghost view = { λ kids. (all_of (item_at kids.table.now kids.levels) kids.bytes.now).0 };
 
@@ -41,13 +42,14 @@ impl<'a> Model for Kids<'a> {
 /// A part of a node's content.
 #[derive(Drop)]
 pub enum Child<'a> {
+    /// A text with at least one part, between nodes.
     Text(Run<'a>),
     Node(View<'a>),
 }
 
 impl<'a> Kids<'a> {
     /// The children that bytes spell, nodes of so many levels at most.
-    pub(crate) fn of(table: &'a [u8], levels: u32, bytes: &'a [u8], notes: &'a [Note]) -> Kids<'a>
+    pub(crate) fn of(table: &'a Bytes, levels: u32, bytes: &'a [u8], notes: &'a [Note]) -> Kids<'a>
         requires { AreLent table.now levels bytes.now notes.now }
         ensures { result ≡ (all_of (item_at table.now levels) bytes.now).0 }
     {

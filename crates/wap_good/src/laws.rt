@@ -9,7 +9,7 @@ ghost use Rattle.wap_markup.specs.Writing.{document_of};
 ghost use Rattle.wap_spelling.specs.Spelling.{spelling};
 ghost use Rattle.wap_spelling.specs.Spellable.{IsSpellable};
 ghost use Rattle.wap_good.specs.Characters.{OfNode};
-ghost use Rattle.wap_good.specs.Held.{IsHeld, deck_in};
+ghost use Rattle.wap_good.specs.inside.Held.{IsHeld, table_in, deck_in};
 
 /// A deck is read from the bytes that spell its document. The function does nothing.
 pub fn decks_are_read()
@@ -17,5 +17,6 @@ pub fn decks_are_read()
         → OfNode LEVEL_LIMIT deck.root → IsSpellable (document_of deck)
         → bytes ≡ spelling (document_of deck) → mb_at bytes 3 ≡ Ok (root - table, table)
         → table ≤ root → root ≤ length bytes
-        → IsHeld table root bytes × (deck_in table root bytes ≡ deck) }
+        → let names = table_in table root bytes in
+        IsHeld names root bytes × (deck_in names root bytes ≡ deck) }
 {}

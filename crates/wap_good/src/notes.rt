@@ -1,7 +1,7 @@
 //! Notes of where nodes end and what they begin with, by which nodes are seen and skipped at once.
 ghost use Rattle.std.specs.Prelude.{◌≡◌, ℕ, ◌<◌, ◌≤◌, List, [], length, drop, IfOk, IfSome};
 ghost use Rattle.wap_good.specs.Readers.{IsBehind};
-ghost use Rattle.wap_good.specs.Notes.{IsNote, IsOwn, AreNotes, last_bytes};
+ghost use Rattle.wap_good.specs.inside.Notes.{IsNote, IsOwn, AreNotes, last_bytes};
 
 use crate::bits::after_bit;
 use crate::front::first;
@@ -18,6 +18,12 @@ use wap_tokens::tag_of;
 pub struct Note {
     pub begin: u32,
     pub end: u32,
+    pub known: Known,
+}
+
+/// What is known of a node. Four bytes, so that they are handed on at once.
+#[derive(Clone, Copy, Debug)]
+pub struct Known {
     /// The marks of its attributes' names.
     pub names: u16,
     /// So many of its bytes stand before its content; 0 where that isn't known.
@@ -47,9 +53,11 @@ fn note_of(bytes: &[u8]) -> Option<Note>
     Some(Note {
         begin: bytes.len() as u32,
         end: rest.len() as u32,
-        names: names_of(bytes),
-        head: head_of(bytes),
-        inside: 0,
+        known: Known {
+            names: names_of(bytes),
+            head: head_of(bytes),
+            inside: 0,
+        },
     })
 }
 
@@ -109,7 +117,11 @@ fn with_inside(alloc: Global, bytes: &[u8], notes: &[Note]) -> Result<Rows<Note>
     let mut left = notes;
     while let Some((note, behind)) = first_note(left) {
         let inside = count_inside(behind, note.end);
-        told.add(Note { inside, ..note })?;
+        let known = Known {
+            inside,
+            ..note.known
+        };
+        told.add(Note { known, ..note })?;
         left = behind;
     }
     Ok(told)
@@ -135,6 +147,8 @@ pub fn notes_from(notes: &[Note], place: usize) -> &[Note]
 }
 
 /// The notes of what begins in the last bytes.
+// A call, since few nodes have as many notes inside that walks need it.
+#[inline(never)]
 pub fn notes_left<'a>(notes: &'a [Note], bytes: &[u8]) -> &'a [Note]
     ensures { (whole : List ℕ) → AreNotes whole notes.now → AreNotes whole result.now }
 {
@@ -197,5 +211,5 @@ pub fn after_noted<'a>(note: &Note, inside: &'a [Note], bytes: &'a [u8]) -> (&'a
     ensures notes { (whole : List ℕ) → AreNotes whole inside.now → AreNotes whole result.1.now }
 {
     let rest = &bytes[bytes.len() - note.end as usize..];
-    (rest, notes_past(note.inside, inside, rest))
+    (rest, notes_past(note.known.inside, inside, rest))
 }

@@ -2,8 +2,9 @@
 ghost use Rattle.std.specs.Prelude.{◌≡◌, ◌↔◌, IsTrue, [], Some, IfSome};
 ghost use Rattle.std.specs.Str.{chars};
 ghost use Rattle.wap_markup.specs.Trees.{plain_text, is_text};
-ghost use Rattle.wap_good.specs.Texts.{part_at, value_at, AreParts};
-ghost use Rattle.wap_good.specs.Runs.{FindsBit, TakesPart, part_of};
+ghost use Rattle.wap_spelling.specs.Spellable.{HasNoZero};
+ghost use Rattle.wap_good.specs.Texts.{part_at, value_at, AreParts, IsRun};
+ghost use Rattle.wap_good.specs.Runs.{FindsBit, TakesPart, IsOfKind, part_of};
 
 use crate::bits::{Bit, next_bit};
 use std::marker::Model;
@@ -22,13 +23,13 @@ impl<'a> Model for Run<'a> {
     ghost use Rattle.std.specs.Prelude.{List};
     ghost use Rattle.std.specs.Str.{chars};
     ghost use Rattle.wap_base.specs.declared.name.Part.{Part};
-    ghost use Rattle.wap_good.specs.Texts.{value_at, AreParts};
+    ghost use Rattle.wap_good.specs.Texts.{value_at, IsRun};
 
     ghost Value = { List Part };
 
     ghost view = { λ run. value_at (chars run.begun.now) run.bytes.now };
 
-    ghost invariant = { λ run. AreParts run.bytes.now };
+    ghost invariant = { λ run. IsRun run.begun.now run.bytes.now };
 }
 
 impl<'a> Run<'a> {
@@ -43,6 +44,7 @@ impl<'a> Run<'a> {
     /// The run of a text by its first bit and what follows that.
     pub(crate) fn begun_by(bit: Bit<'a>, bytes: &'a [u8], rest: &'a [u8]) -> Run<'a>
         requires bit { part_at bytes.now ≡ Some (part_of bit, rest.now) }
+        requires kind { IsOfKind bit }
         requires parts { AreParts bytes.now }
         ensures { result ≡ value_at [] bytes.now }
     {
@@ -54,7 +56,8 @@ impl<'a> Run<'a> {
 
     /// The run of a value that begins with a text.
     pub(crate) fn value(begun: &'a str, bytes: &'a [u8]) -> Run<'a>
-        requires { AreParts bytes.now }
+        requires text { HasNoZero (chars begun.now) }
+        requires parts { AreParts bytes.now }
         ensures { result ≡ value_at (chars begun.now) bytes.now }
     {
         Run { begun, bytes }
@@ -70,6 +73,7 @@ impl<'a> Run<'a> {
         }
     }
 
+    /// Whether no part is to come, without a text being gone through.
     pub fn is_empty(&self) -> bool
         ensures { IsTrue result ↔ (self.now ≡ []) }
     {
@@ -97,7 +101,7 @@ impl<'a> Run<'a> {
 /// The first bit of a value that begins with a text, and the bytes after it.
 #[inline(always)]
 fn first_bit<'a>(begun: &'a str, bytes: &'a [u8]) -> Option<(Bit<'a>, &'a [u8])>
-    requires { AreParts bytes.now }
+    requires { IsRun begun.now bytes.now }
     ensures bit { FindsBit (value_at (chars begun.now) bytes.now) result }
     ensures rest { IfSome result (λ read. AreParts read.1.now) }
 {

@@ -2,8 +2,8 @@
 ghost use Rattle.std.specs.Prelude.{ℕ, ◌∷◌, List, drop};
 ghost use Rattle.wap_markup.specs.Codes.{has_attributes};
 ghost use Rattle.wap_good.specs.Readers.{Leaves, Ends, IsBehind, number_at, closed, closed_if};
-ghost use Rattle.wap_good.specs.Nodes.{attr_at, FollowsNode, FollowsContent};
-ghost use Rattle.wap_good.specs.Nodes.{FollowsItems, FollowsItem};
+ghost use Rattle.wap_good.specs.inside.Nodes.{attr_at, FollowsNode, FollowsContent};
+ghost use Rattle.wap_good.specs.inside.Nodes.{FollowsItems, FollowsItem};
 
 use crate::bits::{after_bit, after_bits};
 use crate::front::{after_first, first, is_end, number};
@@ -36,6 +36,8 @@ fn after_attr(mark: u8, bytes: &[u8]) -> &[u8]
 }
 
 /// What follows attributes and their end.
+// A call, so that a node without attributes takes none.
+#[inline(never)]
 fn after_attrs(bytes: &[u8]) -> &[u8]
     ensures exact { (table : List ℕ) → Leaves (closed (attr_at table)) bytes.now result.now }
     ensures behind { IsBehind result.now bytes.now }
@@ -51,6 +53,7 @@ fn after_attrs(bytes: &[u8]) -> &[u8]
 }
 
 /// What follows the attributes after a mark, if it says that there are any.
+#[inline(always)]
 pub fn after_head(mark: u8, bytes: &[u8]) -> &[u8]
     ensures exact { (table : List ℕ) →
         Leaves (closed_if (has_attributes mark) (attr_at table)) bytes.now result.now }

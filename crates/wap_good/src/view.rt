@@ -1,17 +1,18 @@
 //! Nodes of a good deck.
 ghost use Rattle.std.specs.Prelude.{◌≡◌, ◌≤◌, length};
 ghost use Rattle.wap_markup.specs.Trees.{value_of};
-ghost use Rattle.wap_good.specs.Nodes.{front_node};
-ghost use Rattle.wap_good.specs.Notes.{IsLent, IsHead};
+ghost use Rattle.wap_good.specs.inside.Nodes.{front_node};
+ghost use Rattle.wap_good.specs.inside.Notes.{IsLent, IsHead};
 
 use crate::attrs::find_attr;
 use crate::front::first;
-use crate::head::attrs_begin;
-use crate::heads::{content_of, lacks, names_of};
+use crate::head::has_attributes;
+use crate::heads::{content_of, known_by_mark, lacks};
 use crate::kids::Kids;
-use crate::notes::{Note, own_note};
+use crate::notes::{Known, Note, own_note};
 use crate::run::Run;
 use std::marker::Model;
+use wap_base::Bytes;
 use wap_markup::{AttrName, Tag};
 use wap_tokens::tag_of;
 
@@ -19,16 +20,13 @@ use wap_tokens::tag_of;
 /// lent.
 #[derive(Drop)]
 pub struct View<'a> {
-    table: &'a [u8],
+    table: &'a Bytes,
     bytes: &'a [u8],
     /// Those of the nodes in it and behind it.
     notes: &'a [Note],
     /// So many levels it has at most.
     levels: u32,
-    /// The marks of its attributes' names.
-    names: u16,
-    /// So many bytes stand before its content; 0 where that isn't known.
-    head: u16,
+    known: Known,
 }
 
 impl<'a> Model for View<'a> {
@@ -40,38 +38,38 @@ impl<'a> Model for View<'a> {
 
     ghost coded = { Prim.hlevel (codes, item.the_row.coded) };
 
-    ghost use Rattle.wap_good.specs.Nodes.{front_node};
-    ghost use Rattle.wap_good.specs.Notes.{IsSeen};
+    ghost use Rattle.wap_good.specs.inside.Nodes.{front_node};
+    ghost use Rattle.wap_good.specs.inside.Notes.{IsSeen};
 
     ghost view = { λ view. front_node view.table.now view.levels view.bytes.now };
 
     ghost invariant = { λ view. IsSeen view.table.now view.levels view.bytes.now view.notes.now
-        view.names view.head };
+        view.known.names view.known.head };
 }
 
 impl<'a> View<'a> {
     /// The view of the node that bytes begin with; the notes are true of the bytes.
-    pub(crate) fn of(table: &'a [u8], levels: u32, bytes: &'a [u8], notes: &'a [Note]) -> View<'a>
+    pub(crate) fn of(table: &'a Bytes, levels: u32, bytes: &'a [u8], notes: &'a [Note]) -> View<'a>
         requires { IsLent table.now levels bytes.now notes.now }
         ensures { result ≡ front_node table.now levels bytes.now }
     {
         match own_note(notes, bytes) {
-            Some((note, inside)) => View::noted(table, levels, bytes, note, inside),
-            None => View::bare(table, levels, bytes, notes),
+            Some((note, inside)) => View::from_note(table, levels, bytes, note, inside),
+            None => View::without_note(table, levels, bytes, notes),
         }
     }
 
     /// The same by the node's own note; the notes are those behind it.
     #[inline(always)]
-    pub(crate) fn noted(
-        table: &'a [u8],
+    pub(crate) fn from_note(
+        table: &'a Bytes,
         levels: u32,
         bytes: &'a [u8],
         note: &Note,
         notes: &'a [Note],
     ) -> View<'a>
         requires lent { IsLent table.now levels bytes.now notes.now }
-        requires head { IsHead bytes.now note.now.names note.now.head }
+        requires head { IsHead bytes.now note.now.known.names note.now.known.head }
         ensures { result ≡ front_node table.now levels bytes.now }
     {
         View {
@@ -79,14 +77,18 @@ impl<'a> View<'a> {
             bytes,
             notes,
             levels,
-            names: note.names,
-            head: note.head as u16,
+            known: note.known,
         }
     }
 
     /// The same of a node that has no note.
     #[inline(always)]
-    pub(crate) fn bare(table: &'a [u8], levels: u32, bytes: &'a [u8], notes: &'a [Note]) -> View<'a>
+    pub(crate) fn without_note(
+        table: &'a Bytes,
+        levels: u32,
+        bytes: &'a [u8],
+        notes: &'a [Note],
+    ) -> View<'a>
         requires { IsLent table.now levels bytes.now notes.now }
         ensures { result ≡ front_node table.now levels bytes.now }
     {
@@ -95,8 +97,7 @@ impl<'a> View<'a> {
             bytes,
             notes,
             levels,
-            names: names_of(bytes),
-            head: 0,
+            known: known_by_mark(bytes),
         }
     }
 
@@ -109,11 +110,11 @@ impl<'a> View<'a> {
             levels: self.levels,
             bytes: self.bytes,
             notes: self.notes,
-            names: self.names,
-            head: self.head,
+            known: self.known,
         }
     }
 
+    /// Its tag; that of a good deck's node is never `Tag::Other`.
     pub fn tag(&self) -> Tag
         ensures { result ≡ self.now.tag }
     {
@@ -129,7 +130,7 @@ impl<'a> View<'a> {
     pub fn attr(&self, name: AttrName) -> Option<Run<'a>>
         ensures { result ≡ value_of name self.now }
     {
-        if lacks(self.names, name) {
+        if lacks(self.known.names, name) {
             return None;
         }
         self.value(name)
@@ -141,7 +142,10 @@ impl<'a> View<'a> {
     fn value(&self, name: AttrName) -> Option<Run<'a>>
         ensures { result ≡ value_of name self.now }
     {
-        let attrs = attrs_begin(self.bytes)?;
+        let (mark, attrs) = first(self.bytes)?;
+        if !has_attributes(mark) {
+            return None;
+        }
         find_attr(self.table, name, attrs)
     }
 
@@ -150,7 +154,7 @@ impl<'a> View<'a> {
         ensures kids { result ≡ self.now.kids }
         ensures few { length self.now.kids ≤ usize.MAX }
     {
-        let bytes = content_of(self.head, self.bytes);
+        let bytes = content_of(self.known.head, self.bytes);
         let _few = bytes.len();
         Kids::of(self.table, self.levels.saturating_sub(1), bytes, self.notes)
     }

@@ -33,7 +33,7 @@ pub fn holds_tagged(levels: u32, view: &View<'_>, tag: Tag) -> bool
 }
 
 /// Whether a reference to a variable stands in a text.
-#[tactic(auto, using(crate::proofs::Layers::reference_first, crate::proofs::Layers::literal_first))]
+#[tactic(auto, using(crate::proofs::Layers::reference_first))]
 pub fn has_reference(run: Run<'_>) -> bool
     ensures { result ≡ list_any is_reference run.entry }
 {

@@ -40,7 +40,10 @@ values_are : list_all (λ row. all_scalars row.1) value_rows ≡ true
 unfolding value_rows
 values_are = refl
 
-starts_are : list_all (λ row. all_scalars row.1.1) (map start_by_code start_rows) ≡ true
+abbrev is_string : List ℕ → Bool
+is_string text = list_all is_not_zero text && all_scalars text
+
+starts_are : list_all (λ row. is_string row.1.1) (map start_by_code start_rows) ≡ true
 unfolding start_rows
 starts_are = refl
 
@@ -66,14 +69,16 @@ value_text page code text found =
       | inr none ↦ absurd (cc none.1)
     ]
 
-coded_text : (page code : ℕ) (start : Start) → attr_start page code ≡ Some start
-    → OfCharacters start.1
+pub coded_text : (page code : ℕ) (start : Start) → attr_start page code ≡ Some start
+    → IsString start.1
 unfolding attr_start
 coded_text page code start found =
     let rows = map start_by_code start_rows in
     elim (chosen (page == 0) (lookup (nat_eq code) rows) None (Some start) found) [
       | inl here ↦
-          (found_passes (nat_eq code) (λ row. all_scalars row.1.1) rows start starts_are here.1).2
+          let row =
+          found_passes (nat_eq code) (λ row. is_string row.1.1) rows start starts_are here.1 in
+          and_parts (list_all is_not_zero start.1) (all_scalars start.1) row.2
       | inr none ↦ absurd (cc none.1)
     ]
 
@@ -87,7 +92,7 @@ named_text (Some attr) start is =
 -- the text with which a value begins
 pub start_text : (page : ℕ) (token : Token) (start : Start) → start_of page token ≡ Some start
     → OfCharacters start.1
-start_text page (Code code) start found = coded_text page code start found
+start_text page (Code code) start found = (coded_text page code start found).1
 start_text page (Literal name) start found = named_text (attr_named name) start found
 
 -- ---- names of variables

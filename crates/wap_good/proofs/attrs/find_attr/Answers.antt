@@ -1,71 +1,24 @@
-use Rattle.std.proofs.Common.{◌∙◌, sym, ap, Some, List}
-use Rattle.wap_base.specs.declared.name.Part.{Part}
-use Rattle.wap_markup.specs.declared.name.AttrName.{AttrName}
+use Rattle.std.proofs.Common.{◌∙◌, sym, ap, Some}
 use Rattle.std.specs.Str.{chars}
 use Rattle.wap_good.specs.Texts.{value_at, behind_value}
-use Rattle.wap_good.specs.Nodes.{attr_at}
-use Rattle.wap_good.proofs.Runs.{fewer}
-use Rattle.wap_good.proofs.Ending.{ends_on, attr_lists, attr_read, no_attr, attr_followed}
-use Rattle.wap_good.proofs.Taking.{attr_takes}
-use Rattle.wap_good.proofs.Seen.{value_here, value_behind, value_end}
+use Rattle.wap_good.proofs.Ending.{attr_read, attr_followed}
+use Rattle.wap_good.proofs.Seen.{value_here}
 use Rattle.wap_good.proofs.attrs.find_attr.Goals as goal
 
-pub value-requires : goal.value-requires
-value-requires c =
+pub value-requires-clause-parts : goal.value-requires-clause-parts
+value-requires-clause-parts c =
     let read =
-    attr_read c.args.table.now c.loop-found.rest.now c.in-Some.found
-    (chars c.in-Some.begun.now) c.in-Some.value.now c.in-Some.ensures in
-    attr_followed c.args.table.now c.loop-found.rest.now _
-    (behind_value c.in-Some.value.now) read c.loop-found.invariant.ends
+    attr_read c.args.table.now c.args.bytes.now c.in-Some.found (chars c.in-Some.begun.now)
+    c.in-Some.value.now (c.in-Some.ensures.exact c.args.table.now) in
+    attr_followed c.args.table.now c.args.bytes.now _ (behind_value c.in-Some.value.now) read
+    c.requires
 
-pub returns-then-eq : goal.returns-then-eq
-returns-then-eq c =
+pub returns-in-Some : goal.returns-in-Some
+returns-in-Some c =
     let read =
-    attr_read c.args.table.now c.loop-found.rest.now c.in-Some.found
-    (chars c.in-Some.begun.now) c.in-Some.value.now c.in-Some.ensures in
+    attr_read c.args.table.now c.args.bytes.now c.in-Some.found (chars c.in-Some.begun.now)
+    c.in-Some.value.now (c.in-Some.ensures.exact c.args.table.now) in
     ap Some c.value.ensures
-    ∙ sym (value_here c.args.table.now c.args.name c.loop-found.rest.now c.in-Some.found
+    ∙ sym (value_here c.args.table.now c.args.name c.args.bytes.now c.in-Some.found
     (value_at (chars c.in-Some.begun.now) c.in-Some.value.now)
     (behind_value c.in-Some.value.now) read (sym c.eq.ensures ∙ c.if-eq.true))
-    ∙ c.loop-found.invariant.value
-
-pub loop-found-smaller : goal.loop-found-smaller
-loop-found-smaller c =
-    let read =
-    attr_read c.args.table.now c.loop-found.rest.now c.in-Some.found
-    (chars c.in-Some.begun.now) c.in-Some.value.now c.in-Some.ensures in
-    let are =
-    attr_followed c.args.table.now c.loop-found.rest.now _
-    (behind_value c.in-Some.value.now) read c.loop-found.invariant.ends in
-    rw (c.after_bits-rest.ensures.exact are)
-    (fewer (attr_at c.args.table.now) (attr_takes c.args.table.now) c.loop-found.rest.now (
-      c.in-Some.found,
-      value_at (chars c.in-Some.begun.now) c.in-Some.value.now,
-    ) (behind_value c.in-Some.value.now) read)
-
-pub loop-found-preserved : goal.loop-found-preserved
-loop-found-preserved c =
-    let attr : AttrName × List Part =
-    (c.in-Some.found, value_at (chars c.in-Some.begun.now) c.in-Some.value.now) in
-    let read =
-    attr_read c.args.table.now c.loop-found.rest.now c.in-Some.found
-    (chars c.in-Some.begun.now) c.in-Some.value.now c.in-Some.ensures in
-    let are =
-    attr_followed c.args.table.now c.loop-found.rest.now attr
-    (behind_value c.in-Some.value.now) read c.loop-found.invariant.ends in
-    rw (c.after_bits-rest.ensures.exact are)
-    (record {
-      value =
-          sym (value_behind c.args.table.now c.args.name c.loop-found.rest.now c.in-Some.found
-          attr.1 (behind_value c.in-Some.value.now) read (sym c.eq.ensures ∙ c.if-eq.false))
-          ∙ c.loop-found.invariant.value;
-      ends =
-          ends_on (attr_at c.args.table.now) (attr_lists c.args.table.now) c.loop-found.rest.now
-          attr (behind_value c.in-Some.value.now) read c.loop-found.invariant.ends;
-    })
-
-pub returns : goal.returns
-returns c =
-    sym (value_end c.args.table.now c.args.name c.loop-found.rest.now
-    (no_attr c.args.table.now c.loop-found.rest.now c.in_default.ensures))
-    ∙ c.loop-found.invariant.value

@@ -1,10 +1,16 @@
-use Rattle.wap_good.proofs.Spoken.{string_there, escape_there, unescape_there, plain_there}
+use Rattle.wap_good.proofs.Spoken.{string_there, character_there}
+use Rattle.wap_good.proofs.Spoken.{escape_there, unescape_there, plain_there}
 use Rattle.wap_good.proofs.bits.next_bit.Goals as goal
 
 pub next_string-requires : goal.next_string-requires
 next_string-requires c =
     string_there c.args.bytes.now c.in_ok-mark.mark c.in_ok-mark.rest.now c.requires
     c.in_ok-mark.ensures c.in-3.is
+
+pub next_character-requires : goal.next_character-requires
+next_character-requires c =
+    character_there c.args.bytes.now c.in_ok-mark.mark c.in_ok-mark.rest.now c.requires
+    c.in_ok-mark.ensures c.in-2.is
 
 pub next_reference-requires : goal.next_reference-requires
 next_reference-requires c =

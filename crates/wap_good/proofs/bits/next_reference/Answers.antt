@@ -6,7 +6,7 @@ text_of-requires c =
     reference_utf8 c.args.bytes.now c.in_ok-string.string.now c.in_ok-string.rest.now
     c.in_ok-string.ensures c.args.conv c.requires
 
-pub returns : goal.returns
-returns c =
+pub returns-clause-exact : goal.returns-clause-exact
+returns-clause-exact c =
     reference_read c.args.bytes.now c.in_ok-string.string.now c.in_ok-string.rest.now
     c.in_ok-string.ensures c.args.conv c.requires c.text_of.result.now c.text_of.ensures

@@ -1,10 +1,10 @@
 use Rattle.std.proofs.Common.{◌∙◌, ◌≡◌, ◌-◌, [], ◌∷◌, ◌++◌, length, List, sym, subst, refl}
 use Rattle.std.proofs.lemmas.List.{append-nil}
 use Rattle.wap_good.specs.Readers.{all_of}
-use Rattle.wap_good.specs.Nodes.{item_at}
+use Rattle.wap_good.specs.inside.Nodes.{item_at}
 use Rattle.wap_good.specs.Lent.{item_of}
 use Rattle.wap_good.specs.declared.cards.Place.{Place}
-use Rattle.wap_good.specs.Held.{StandAt}
+use Rattle.wap_good.specs.inside.Held.{StandAt}
 use Rattle.wap_good.proofs.Ending.{behind_on, drop_behind}
 use Rattle.wap_good.proofs.ChildLaw.{children_end}
 use Rattle.wap_good.proofs.NoteLaw.{notes_behind}

@@ -1,7 +1,7 @@
 use Rattle.std.proofs.Common.{length}
 use Rattle.wap_good.specs.Readers.{all_of, IsBehind}
-use Rattle.wap_good.specs.Nodes.{item_at}
-use Rattle.wap_good.specs.Notes.{AreLent}
+use Rattle.wap_good.specs.inside.Nodes.{item_at}
+use Rattle.wap_good.specs.inside.Notes.{AreLent}
 use Rattle.wap_good.proofs.CardLaw.{levels_below, tagged_in, Placed}
 use Rattle.wap_good.proofs.cards.places_in.Given as goal
 

@@ -1,7 +1,7 @@
 use Rattle.std.proofs.Common.{List, ℕ, subst, drop, arith}
 use Rattle.std.proofs.lemmas.List.{take_rest}
 use Rattle.wap_good.specs.Readers.{IsBehind}
-use Rattle.wap_good.specs.Nodes.{IsContent}
+use Rattle.wap_good.specs.inside.Nodes.{IsContent}
 use Rattle.wap_good.proofs.Ending.{behind_on, behind_drop}
 use Rattle.wap_good.proofs.NoteLaw.{notes_behind}
 use Rattle.wap_good.proofs.CardLaw.{content_ends, stand_in}
@@ -21,7 +21,7 @@ places_in-requires-clause-lent c =
     record {
       few = omega arith;
       ends =
-          content_ends c.args.table c.args.root c.args.bytes.now c.requires.held
+          content_ends c.args.table.now c.args.root c.args.bytes.now c.requires.held
           c.kids_begin-content.result.now content;
       noted =
           notes_behind c.kids_begin-content.result.now c.args.bytes.now
@@ -33,5 +33,5 @@ returns c =
     let content =
     subst (λ (l : List ℕ). IsContent l c.kids_begin-content.result.now)
     (take_rest c.args.bytes.now c.args.root) c.kids_begin-content.ensures.exact in
-    stand_in c.args.table c.args.root c.args.bytes.now c.requires.held
+    stand_in c.args.table.now c.args.root c.args.bytes.now c.requires.held
     c.kids_begin-content.result.now content c.args.tag c.places_in.result c.places_in.ensures

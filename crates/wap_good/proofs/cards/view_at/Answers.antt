@@ -1,8 +1,7 @@
 use Rattle.std.proofs.Common.{◌∙◌, ap, sym, subst, drop, List, ℕ, arith}
 use Rattle.std.proofs.lemmas.List.{take_rest}
-use Rattle.wap_good.specs.Nodes.{front_node, IsRead}
-use Rattle.wap_good.specs.Held.{table_in}
-use Rattle.wap_good.specs.Notes.{AreNotes}
+use Rattle.wap_good.specs.inside.Nodes.{front_node, IsRead}
+use Rattle.wap_good.specs.inside.Notes.{AreNotes}
 use Rattle.wap_good.proofs.Ending.{behind_drop}
 use Rattle.wap_good.proofs.NoteLaw.{notes_behind}
 use Rattle.wap_good.proofs.CardLaw.{levels_below}
@@ -19,8 +18,7 @@ of-requires c =
     record {
       few = omega arith;
       read =
-          subst (IsRead (table_in c.args.table c.args.root bytes) levels_below)
-          (sym rest) c.requires.read;
+          subst (IsRead c.args.table.now levels_below) (sym rest) c.requires.read;
       noted =
           c.notes_from-notes.ensures _
           (subst (λ (l : List ℕ). AreNotes l c.args.notes.now) (sym rest) noted);
@@ -28,5 +26,5 @@ of-requires c =
 
 pub returns : goal.returns
 returns c =
-    c.of.ensures ∙ ap (front_node (table_in c.args.table c.args.root c.args.bytes.now) levels_below)
+    c.of.ensures ∙ ap (front_node c.args.table.now levels_below)
     (take_rest c.args.bytes.now c.args.place.begin)

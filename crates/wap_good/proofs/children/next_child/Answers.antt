@@ -4,7 +4,7 @@ use Rattle.wap_markup.specs.declared.deck.Node.{Node}
 use Rattle.wap_markup.specs.declared.deck.Item.{Item}
 use Rattle.wap_markup.specs.declared.deck.Item.TheVariants as item
 use Rattle.wap_good.specs.Readers.{Leaves, IsBehind}
-use Rattle.wap_good.specs.Nodes.{node_at}
+use Rattle.wap_good.specs.inside.Nodes.{node_at}
 use Rattle.wap_good.specs.Runs.{part_of}
 use Rattle.wap_good.proofs.ChildLaw.{are_parts, part_behind, none_read}
 use Rattle.wap_good.proofs.ChildLaw.{text_read, node_there, node_read}
@@ -23,8 +23,8 @@ pub begun_by-run-requires-clause-parts : goal.begun_by-run-requires-clause-parts
 begun_by-run-requires-clause-parts c =
     are_parts c.args.table.now c.args.levels c.args.bytes.now c.requires.ends
 
-pub noted-node-requires-clause-lent : goal.noted-node-requires-clause-lent
-noted-node-requires-clause-lent c = record {
+pub from_note-node-requires-clause-lent : goal.from_note-node-requires-clause-lent
+from_note-node-requires-clause-lent c = record {
   few = c.requires.few;
   read =
       node_there c.args.table.now c.args.levels c.args.bytes.now c.requires.ends
@@ -32,12 +32,12 @@ noted-node-requires-clause-lent c = record {
   noted = c.in-Some.ensures.inside;
 }
 
-pub bare-node-requires : goal.bare-node-requires
-bare-node-requires c = record {
+pub without_note-node-requires : goal.without_note-node-requires
+without_note-node-requires c = record {
   few = c.requires.few;
   read =
-      node_there c.args.table.now c.args.levels c.args.bytes.now c.requires.ends c.in-None.ensures
-      (sym c.is_end.ensures ∙ c.if-is_end.false);
+      node_there c.args.table.now c.args.levels c.args.bytes.now c.requires.ends
+      c.in-None.ensures.exact (sym c.is_end.ensures ∙ c.if-is_end.false);
   noted = c.requires.noted;
 }
 
@@ -53,7 +53,7 @@ returns-in-Some-clause-exact c =
     (own.follows table levels c.requires.few) in
     node_read table levels bytes c.requires.ends own.none own.more rest leaves
     ∙ ap (λ (node : Node). let read : Option (Item × List ℕ) = Some (item.Node node, rest) in read)
-    (sym c.noted-node.ensures)
+    (sym c.from_note-node.ensures)
 
 pub returns-in-Some-clause-behind : goal.returns-in-Some-clause-behind
 returns-in-Some-clause-behind c =
@@ -69,7 +69,7 @@ pub returns-in-Some-next_bit-clause-exact : goal.returns-in-Some-next_bit-clause
 returns-in-Some-next_bit-clause-exact c =
     text_read c.args.table.now c.args.levels c.args.bytes.now c.requires.ends
     (part_of c.in-Some-next_bit.bit)
-    c.in-Some-next_bit.rest.now c.after_bits.result.now c.in-Some-next_bit.ensures
+    c.in-Some-next_bit.rest.now c.after_bits.result.now c.in-Some-next_bit.ensures.exact
     c.after_bits.ensures.exact
     ∙ ap (λ (parts : List Part).
     let read : Option (Item × List ℕ) = Some (item.Text parts, c.after_bits.result.now) in read)
@@ -78,14 +78,14 @@ returns-in-Some-next_bit-clause-exact c =
 pub returns-in-Some-next_bit-clause-behind : goal.returns-in-Some-next_bit-clause-behind
 returns-in-Some-next_bit-clause-behind c =
     part_behind c.args.bytes.now (part_of c.in-Some-next_bit.bit)
-    c.in-Some-next_bit.rest.now c.after_bits.result.now c.in-Some-next_bit.ensures
+    c.in-Some-next_bit.rest.now c.after_bits.result.now c.in-Some-next_bit.ensures.exact
     c.after_bits.ensures.behind
 
 pub returns-in-None-clause-exact : goal.returns-in-None-clause-exact
 returns-in-None-clause-exact c =
-    node_read c.args.table.now c.args.levels c.args.bytes.now c.requires.ends c.in-None.ensures
-    (sym c.is_end.ensures ∙ c.if-is_end.false) c.after_node.result.now
+    node_read c.args.table.now c.args.levels c.args.bytes.now c.requires.ends
+    c.in-None.ensures.exact (sym c.is_end.ensures ∙ c.if-is_end.false) c.after_node.result.now
     (c.after_node.ensures.exact c.args.table.now c.args.levels (omega arith))
     ∙ ap (λ (node : Node).
     let read : Option (Item × List ℕ) = Some (item.Node node, c.after_node.result.now) in read)
-    (sym c.bare-node.ensures)
+    (sym c.without_note-node.ensures)

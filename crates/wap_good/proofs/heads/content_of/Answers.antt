@@ -1,7 +1,7 @@
 use Rattle.std.proofs.Common.{sym, subst, List, ℕ, arith}
 use Rattle.std.proofs.lemmas.List.{take_rest}
 use Rattle.wap_good.specs.Readers.{IsBehind}
-use Rattle.wap_good.specs.Nodes.{IsContent}
+use Rattle.wap_good.specs.inside.Nodes.{IsContent}
 use Rattle.wap_good.proofs.Ending.{behind_drop}
 use Rattle.wap_good.proofs.heads.content_of.Goals as goal
 

@@ -1,5 +1,5 @@
 use Rattle.std.proofs.Common.{◌∙◌, sym, ap, subst, drop, ℕ}
-use Rattle.wap_good.specs.Nodes.{IsContent}
+use Rattle.wap_good.specs.inside.Nodes.{IsContent}
 use Rattle.wap_good.proofs.Ending.{behind_place}
 use Rattle.wap_good.proofs.heads.head_of.Goals as goal
 

@@ -1,8 +1,8 @@
 use Rattle.std.proofs.Common.{length, sym, refl, subst}
 use Rattle.wap_markup.specs.declared.document.TheConstants.{LEVEL_LIMIT}
 use Rattle.wap_good.specs.declared.notes.Note.{Note}
-use Rattle.wap_good.specs.Nodes.{FollowsNode}
-use Rattle.wap_good.specs.Notes.{IsOwn}
+use Rattle.wap_good.specs.inside.Nodes.{FollowsNode}
+use Rattle.wap_good.specs.inside.Notes.{IsOwn}
 use Rattle.wap_good.proofs.Ending.{rest_shorter}
 use Rattle.wap_good.proofs.NoteLaw.{note_here, last_here, tag_no_end, tag_no_part}
 use Rattle.wap_good.proofs.notes.note_of.Goals as goal
@@ -14,9 +14,7 @@ returns-clause-noted c =
     let note : Note = record {
       begin = length bytes;
       end = length rest;
-      names = c.names_of.result;
-      head = c.head_of.result;
-      inside = 0;
+      known = record { names = c.names_of.result; head = c.head_of.result; inside = 0 };
     } in
     let found = sym c.in_ok-tag_of.ensures in
     let own : IsOwn bytes note = record {

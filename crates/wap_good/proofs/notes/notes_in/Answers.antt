@@ -1,7 +1,7 @@
 use Rattle.std.proofs.Common.{◌≡◌, ◌∙◌, [], ◌∷◌, ◌++◌, List, ℕ, sym, subst}
 use Rattle.std.proofs.lemmas.List.{take_rest}
 use Rattle.wap_good.specs.Readers.{IsBehind}
-use Rattle.wap_good.specs.Notes.{AreNotes}
+use Rattle.wap_good.specs.inside.Notes.{AreNotes}
 use Rattle.wap_good.proofs.Ending.{behind_on, behind_drop, drop_behind}
 use Rattle.wap_good.proofs.NoteLaw.{note_whole, notes_more}
 use Rattle.wap_good.proofs.notes.notes_in.Goals as goal

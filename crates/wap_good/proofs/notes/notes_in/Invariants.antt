@@ -1,6 +1,6 @@
 use Rattle.std.proofs.Common.{length}
 use Rattle.wap_good.specs.Readers.{IsBehind}
-use Rattle.wap_good.specs.Notes.{AreNotes}
+use Rattle.wap_good.specs.inside.Notes.{AreNotes}
 use Rattle.wap_good.proofs.notes.notes_in.Given as goal
 
 abbrev pub invariant-loop-rest : goal.invariant-loop-rest

@@ -1,5 +1,5 @@
 use Rattle.std.proofs.Common.{sym, subst}
-use Rattle.wap_good.specs.Notes.{AreNotes}
+use Rattle.wap_good.specs.inside.Notes.{AreNotes}
 use Rattle.wap_good.proofs.NoteLaw.{notes_more, note_again}
 use Rattle.wap_good.proofs.notes.with_inside.Goals as goal
 

@@ -1,5 +1,5 @@
 use Rattle.std.proofs.Common.{length}
-use Rattle.wap_good.specs.Notes.{AreNotes}
+use Rattle.wap_good.specs.inside.Notes.{AreNotes}
 use Rattle.wap_good.proofs.notes.with_inside.Given as goal
 
 abbrev pub invariant-loop-note : goal.invariant-loop-note

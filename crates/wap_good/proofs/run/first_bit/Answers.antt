@@ -9,15 +9,17 @@ returns-then-not-is_empty-clause-bit c =
     let some : (length c.args.begun.now == 0) ≡ false =
     ap (λ (l : List ℕ). length l == 0) (sym c.as_bytes.ensures.value) ∙ sym c.is_empty.ensures
     ∙ c.if-not-is_empty.true in
-    begun_first c.args.begun.now c.args.bytes.now
-    (subst IsUtf8 c.as_bytes.ensures.value c.as_bytes.ensures.utf8) some
+    begun_first c.args.begun c.args.bytes.now
+    (subst IsUtf8 c.as_bytes.ensures.value c.as_bytes.ensures.utf8) some c.requires.text
 
 pub returns-clause-bit : goal.returns-clause-bit
 returns-clause-bit c =
     let empty : (length c.args.begun.now == 0) ≡ true =
     ap (λ (l : List ℕ). length l == 0) (sym c.as_bytes.ensures.value) ∙ sym c.is_empty.ensures
     ∙ c.if-not-is_empty.false in
-    bit_found c.args.begun.now c.args.bytes.now empty c.next_bit.result c.next_bit.ensures
+    bit_found c.args.begun.now c.args.bytes.now empty c.next_bit.result c.next_bit.ensures.exact
+    c.next_bit.ensures.kind
 
 pub returns-clause-rest : goal.returns-clause-rest
-returns-clause-rest c = bits_on c.args.bytes.now c.requires c.next_bit.result c.next_bit.ensures
+returns-clause-rest c =
+    bits_on c.args.bytes.now c.requires.parts c.next_bit.result c.next_bit.ensures.exact

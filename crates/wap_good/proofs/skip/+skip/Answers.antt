@@ -1,7 +1,7 @@
 use Rattle.std.proofs.Common.{◌≡◌, ◌∙◌, ◌-◌, drop, sym, subst, true, rules, arith}
 use Rattle.wap_markup.specs.Codes.{has_content}
 use Rattle.wap_good.specs.Readers.{IsBehind, Leaves, closed, is_end}
-use Rattle.wap_good.specs.Nodes.{item_at}
+use Rattle.wap_good.specs.inside.Nodes.{item_at}
 use Rattle.wap_good.proofs.Ending.{behind_all, behind_on, drop_behind, behind_drop, end_behind}
 use Rattle.wap_good.proofs.Ending.{behind_of_first, item_text, item_node, node_leaves}
 use Rattle.wap_good.proofs.Ending.{none_leaves, list_leaves, no_list_leaves, item_lists}

@@ -1,6 +1,6 @@
 use Rattle.std.proofs.Common.{ℕ, ◌+◌, ◌*◌, ◌≤◌, List, length}
 use Rattle.wap_good.specs.Readers.{IsBehind}
-use Rattle.wap_good.specs.Nodes.{item_at}
+use Rattle.wap_good.specs.inside.Nodes.{item_at}
 use Rattle.wap_good.proofs.Ending.{Closes}
 use Rattle.wap_good.proofs.skip.+skip.Given as goal
 

@@ -1,6 +1,6 @@
 use Rattle.std.proofs.Common.{◌≡◌, sym, subst, true, false}
 use Rattle.wap_good.specs.Readers.{IsBehind, Leaves, closed, is_end}
-use Rattle.wap_good.specs.Nodes.{attr_at}
+use Rattle.wap_good.specs.inside.Nodes.{attr_at}
 use Rattle.wap_good.proofs.Ending.{behind_all, behind_on, behind_drop, behind_first}
 use Rattle.wap_good.proofs.Ending.{first_leaves, closes_turn, attr_lists, closed_leaves}
 use Rattle.wap_good.proofs.skip.after_attrs.Goals as goal

@@ -1,6 +1,6 @@
 use Rattle.std.proofs.Common.{◌∙◌, sym}
 use Rattle.wap_markup.specs.Codes.{has_attributes}
-use Rattle.wap_good.specs.Nodes.{attr_at}
+use Rattle.wap_good.specs.inside.Nodes.{attr_at}
 use Rattle.wap_good.proofs.Ending.{list_leaves, no_list_leaves}
 use Rattle.wap_good.proofs.skip.after_head.Goals as goal
 

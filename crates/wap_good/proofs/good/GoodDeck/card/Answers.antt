@@ -2,21 +2,18 @@ use Rattle.std.proofs.Common.{◌∙◌, ap, sym}
 use Rattle.std.specs.Prelude.{slice_get}
 use Rattle.wap_markup.specs.declared.deck.Deck.{Deck}
 use Rattle.wap_markup.specs.Cards.{cards_of}
-use Rattle.wap_good.specs.Held.{table_in, deck_in}
+use Rattle.wap_good.specs.inside.Held.{deck_in}
 use Rattle.wap_good.proofs.CardLaw.{no_card_at, place_within, place_read, place_seen}
 use Rattle.wap_good.proofs.good.GoodDeck.card.Goals as goal
 
 pub returns-in_err-place : goal.returns-in_err-place
 returns-in_err-place c =
-    let table = table_in c.self.inside.table c.self.inside.root c.self.inside.bytes in
+    let table = c.self.inside.table in
     let deck = deck_in c.self.inside.table c.self.inside.root c.self.inside.bytes in
     c.from_residual.ensures
     ∙ sym (no_card_at table c.self.inside.bytes c.self.inside.cards.places
     (cards_of deck) c.self.invariant.placed c.args.number (sym c.in_err-place.ensures.value))
     ∙ ap (λ (d : Deck). slice_get (cards_of d) c.args.number) c.self.view_is
-
-pub view_at-requires-clause-held : goal.view_at-requires-clause-held
-view_at-requires-clause-held c = rw c.as_slice-bytes.ensures c.self.invariant.held
 
 pub view_at-requires-clause-noted : goal.view_at-requires-clause-noted
 view_at-requires-clause-noted c =
@@ -24,7 +21,7 @@ view_at-requires-clause-noted c =
 
 pub view_at-requires-clause-within : goal.view_at-requires-clause-within
 view_at-requires-clause-within c =
-    let table = table_in c.self.inside.table c.self.inside.root c.self.inside.bytes in
+    let table = c.self.inside.table in
     let deck = deck_in c.self.inside.table c.self.inside.root c.self.inside.bytes in
     rw c.as_slice-bytes.ensures
     (place_within table c.self.inside.bytes c.self.inside.cards.places
@@ -33,7 +30,7 @@ view_at-requires-clause-within c =
 
 pub view_at-requires-clause-read : goal.view_at-requires-clause-read
 view_at-requires-clause-read c =
-    let table = table_in c.self.inside.table c.self.inside.root c.self.inside.bytes in
+    let table = c.self.inside.table in
     let deck = deck_in c.self.inside.table c.self.inside.root c.self.inside.bytes in
     rw c.as_slice-bytes.ensures
     (place_read table c.self.inside.bytes c.self.inside.cards.places
@@ -42,7 +39,7 @@ view_at-requires-clause-read c =
 
 pub returns : goal.returns
 returns c =
-    let table = table_in c.self.inside.table c.self.inside.root c.self.inside.bytes in
+    let table = c.self.inside.table in
     let deck = deck_in c.self.inside.table c.self.inside.root c.self.inside.bytes in
     rw (c.view_at.ensures, c.as_slice-bytes.ensures)
     (place_seen table c.self.inside.bytes c.self.inside.cards.places

@@ -1,13 +1,13 @@
 use Rattle.std.proofs.Common.{◌∙◌, ap, length}
 use Rattle.wap_markup.specs.declared.deck.Deck.{Deck}
 use Rattle.wap_markup.specs.Cards.{cards_of}
-use Rattle.wap_good.specs.Held.{table_in, deck_in}
+use Rattle.wap_good.specs.inside.Held.{deck_in}
 use Rattle.wap_good.proofs.CardLaw.{length-places}
 use Rattle.wap_good.proofs.good.GoodDeck.card_count.Goals as goal
 
 pub returns : goal.returns
 returns c =
-    let table = table_in c.self.inside.table c.self.inside.root c.self.inside.bytes in
+    let table = c.self.inside.table in
     let deck = deck_in c.self.inside.table c.self.inside.root c.self.inside.bytes in
     c.len.ensures
     ∙ length-places table c.self.inside.bytes c.self.inside.cards.places

@@ -2,13 +2,13 @@ use Rattle.std.proofs.Common.{◌∙◌, ap, sym}
 use Rattle.wap_markup.specs.declared.deck.Deck.{Deck}
 use Rattle.wap_markup.specs.declared.name.Tag.TheVariants as tags
 use Rattle.wap_markup.specs.Trees.{first_with}
-use Rattle.wap_good.specs.Held.{table_in, deck_in, tagged}
+use Rattle.wap_good.specs.inside.Held.{deck_in, tagged}
 use Rattle.wap_good.proofs.CardLaw.{no_card_at, place_within, place_read, place_seen, first_node}
 use Rattle.wap_good.proofs.good.GoodDeck.template.Goals as goal
 
 pub returns-in_err-place : goal.returns-in_err-place
 returns-in_err-place c =
-    let table = table_in c.self.inside.table c.self.inside.root c.self.inside.bytes in
+    let table = c.self.inside.table in
     let deck = deck_in c.self.inside.table c.self.inside.root c.self.inside.bytes in
     c.from_residual.ensures
     ∙ sym (no_card_at table c.self.inside.bytes c.self.inside.cards.templates
@@ -16,16 +16,13 @@ returns-in_err-place c =
     ∙ first_node (tagged tags.Template deck)
     ∙ ap (λ (d : Deck). first_with tags.Template d.root.kids) c.self.view_is
 
-pub view_at-requires-clause-held : goal.view_at-requires-clause-held
-view_at-requires-clause-held c = rw c.as_slice-bytes.ensures c.self.invariant.held
-
 pub view_at-requires-clause-noted : goal.view_at-requires-clause-noted
 view_at-requires-clause-noted c =
     rw (c.as_slice-bytes.ensures, c.as_slice-notes.ensures) c.self.invariant.noted
 
 pub view_at-requires-clause-within : goal.view_at-requires-clause-within
 view_at-requires-clause-within c =
-    let table = table_in c.self.inside.table c.self.inside.root c.self.inside.bytes in
+    let table = c.self.inside.table in
     let deck = deck_in c.self.inside.table c.self.inside.root c.self.inside.bytes in
     rw c.as_slice-bytes.ensures
     (place_within table c.self.inside.bytes c.self.inside.cards.templates (tagged tags.Template
@@ -33,7 +30,7 @@ view_at-requires-clause-within c =
 
 pub view_at-requires-clause-read : goal.view_at-requires-clause-read
 view_at-requires-clause-read c =
-    let table = table_in c.self.inside.table c.self.inside.root c.self.inside.bytes in
+    let table = c.self.inside.table in
     let deck = deck_in c.self.inside.table c.self.inside.root c.self.inside.bytes in
     rw c.as_slice-bytes.ensures
     (place_read table c.self.inside.bytes c.self.inside.cards.templates (tagged tags.Template deck)
@@ -41,7 +38,7 @@ view_at-requires-clause-read c =
 
 pub returns : goal.returns
 returns c =
-    let table = table_in c.self.inside.table c.self.inside.root c.self.inside.bytes in
+    let table = c.self.inside.table in
     let deck = deck_in c.self.inside.table c.self.inside.root c.self.inside.bytes in
     rw (c.view_at.ensures, c.as_slice-bytes.ensures)
     (place_seen table c.self.inside.bytes c.self.inside.cards.templates (tagged tags.Template deck)

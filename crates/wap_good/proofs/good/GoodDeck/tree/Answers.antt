@@ -3,7 +3,7 @@ use Rattle.wap_markup.specs.Decks.{deck_of}
 use Rattle.wap_markup.specs.Documents.{IsDocument}
 use Rattle.wap_markup.specs.Writing.{document_of}
 use Rattle.wap_deck.proofs.Nodes.{deck_read}
-use Rattle.wap_good.specs.Held.{deck_in}
+use Rattle.wap_good.specs.inside.Held.{deck_in}
 use Rattle.wap_good.proofs.DeckLaw.{root_known}
 use Rattle.wap_good.proofs.FitLaw.{deck_fits}
 use Rattle.wap_good.proofs.good.GoodDeck.tree.Goals as goal

@@ -7,8 +7,8 @@ use Rattle.wap_good.proofs.Parted.{begun_value}
 use Rattle.wap_good.proofs.Spoken.{parts_on}
 use Rattle.wap_good.proofs.run.Run.begun_by.Goals as goal
 
-pub value-requires : goal.value-requires
-value-requires c =
+pub value-requires-clause-parts : goal.value-requires-clause-parts
+value-requires-clause-parts c =
     parts_on c.args.bytes.now (part_of c.args.bit) c.args.rest.now c.requires.bit c.requires.parts
 
 pub returns-in-Slice : goal.returns-in-Slice

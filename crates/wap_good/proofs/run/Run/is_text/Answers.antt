@@ -17,9 +17,11 @@ pub loop-bit-preserved : goal.loop-bit-preserved
 loop-bit-preserved c =
     c.loop-bit.invariant
     ∙ stepped (part_of c.in-Some.bit) c.loop-bit.left.now c.in-Some-behind.rest
-    c.loop-bit.bit-iterator c.next.new.self c.in-Some.ensures.steps c.in-Some-behind.ensures
+    c.loop-bit.bit-iterator c.next.new.self c.in-Some.ensures.steps.together
+    c.in-Some-behind.ensures
 
 pub returns-in-None-behind : goal.returns-in-None-behind
 returns-in-None-behind c =
     sym (c.loop-bit.invariant ∙ missed (part_of c.in-Some.bit) c.loop-bit.left.now
-    c.loop-bit.bit-iterator c.next.new.self c.in-Some.ensures.steps c.in-None-behind.ensures)
+    c.loop-bit.bit-iterator c.next.new.self c.in-Some.ensures.steps.together
+    c.in-None-behind.ensures)

@@ -2,7 +2,7 @@ use Rattle.std.proofs.Common.{rules, ◌∙◌, sym, subst, List}
 use Rattle.std.specs.Str.{chars}
 use Rattle.wap_base.specs.declared.name.Part.{Part}
 use Rattle.wap_good.specs.Texts.{value_at}
-use Rattle.wap_good.specs.Runs.{part_of, IsFirstBit}
+use Rattle.wap_good.specs.Runs.{IsFirstBit}
 use Rattle.wap_good.proofs.Parted.{size_less}
 use Rattle.wap_good.proofs.run.RunIterator.next.Goals as goal
 
@@ -13,16 +13,16 @@ returns-in_err-bit-clause-steps c =
 
 pub returns-clause-steps : goal.returns-clause-steps
 returns-clause-steps c =
-    let part = part_of c.in_ok-bit.bit in
+    let bit = c.in_ok-bit.bit in
     let old = value_at (chars c.self.inside.begun.now) c.self.inside.bytes.now in
-    subst (λ (rest : List Part). IsFirstBit c.args.self.now part rest) (sym c.self-2.view_is)
-    (subst (λ (parts : List Part). IsFirstBit parts part c.text.result) c.self.view_is
-    (subst (λ (rest : List Part). IsFirstBit old part rest)
+    subst (λ (rest : List Part). IsFirstBit c.args.self.now bit rest) (sym c.self-2.view_is)
+    (subst (λ (parts : List Part). IsFirstBit parts bit c.text.result) c.self.view_is
+    (subst (λ (rest : List Part). IsFirstBit old bit rest)
     (sym c.text.ensures) c.in_ok-bit.ensures.bit))
 
 pub returns-clause-goes : goal.returns-clause-goes
 returns-clause-goes c =
-    let less = size_less c.args.self.now (part_of c.in_ok-bit.bit) _ (returns-clause-steps c) in
+    let less = size_less c.args.self.now c.in_ok-bit.bit _ (returns-clause-steps c) in
     search rules
 
 pub text-requires : goal.text-requires

@@ -1,8 +1,8 @@
 use Rattle.std.proofs.Common.{◌≡◌, length}
 use Rattle.wap_good.specs.Readers.{all_of, Ends}
-use Rattle.wap_good.specs.Nodes.{attr_at}
-use Rattle.wap_good.specs.Starts.{value_in}
-use Rattle.wap_good.proofs.attrs.find_attr.Given as goal
+use Rattle.wap_good.specs.inside.Nodes.{attr_at}
+use Rattle.wap_good.specs.inside.Starts.{value_in}
+use Rattle.wap_good.proofs.attrs.find_among.Given as goal
 
 -- no attribute passed has that name
 abbrev pub invariant-loop-found : goal.invariant-loop-found

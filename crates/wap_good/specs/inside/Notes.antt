@@ -11,8 +11,9 @@ use Rattle.wap_markup.specs.contracts.name.AttrName as attr_names
 use Rattle.wap_good.specs.declared.notes.Note.{Note}
 use Rattle.wap_good.specs.Readers.{is_end, Ends, all_of}
 use Rattle.wap_good.specs.Texts.{part_at}
-use Rattle.wap_good.specs.Nodes.{FollowsNode, IsRead, IsContent, attrs_begin, attr_at, item_at}
-use Rattle.wap_good.specs.Starts.{value_in}
+use Rattle.wap_good.specs.inside.Nodes.{FollowsNode, IsRead, IsContent}
+use Rattle.wap_good.specs.inside.Nodes.{attrs_begin, attr_at, item_at}
+use Rattle.wap_good.specs.inside.Starts.{value_in}
 
 -- the last bytes, so many of them
 abbrev pub last_bytes : ℕ → List ℕ → List ℕ
@@ -51,7 +52,7 @@ pub record IsOwn (bytes : List ℕ) (note : Note) : Type 0 where
   pub more : is_end bytes ≡ false
   pub none : part_at bytes ≡ None
   pub follows : FollowsNode LEVEL_LIMIT bytes (last_bytes note.end bytes)
-  pub head : IsHead bytes note.names note.head
+  pub head : IsHead bytes note.known.names note.known.head
 
 -- what a note says is so where it says that a node begins
 pub record IsNote (bytes : List ℕ) (note : Note) : Type 0 where

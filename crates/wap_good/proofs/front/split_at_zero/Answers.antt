@@ -1,7 +1,7 @@
 use Rattle.std.proofs.Common.{ℕ, Option, subst}
 use Rattle.memchr.specs.Find.{IsFirstByte, is_byte}
 use Rattle.wap_good.proofs.Zeros.{ended_there, never_ended}
-use Rattle.wap_good.proofs.front.ended.Goals as goal
+use Rattle.wap_good.proofs.front.split_at_zero.Goals as goal
 
 pub returns-in-Some : goal.returns-in-Some
 returns-in-Some c =

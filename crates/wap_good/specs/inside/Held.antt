@@ -1,5 +1,5 @@
--- A deck as it is held: its bytes, and where in them the string table, the root, the cards and the
--- template begin. This project's own.
+-- A deck as it is held: its bytes, the string table once more, and where in the bytes the root, the
+-- cards and the template begin. This project's own.
 use Rattle.std.specs.Prelude.{◌≡◌, ℕ, ◌-◌, ◌≤◌, List, [], ◌∷◌, Some, length, take, drop}
 use Rattle.std.specs.List.{filter_map}
 use Rattle.wap_markup.specs.declared.document.TheConstants.{LEVEL_LIMIT}
@@ -16,20 +16,22 @@ use Rattle.wap_good.specs.Characters.{OfNode}
 use Rattle.wap_good.specs.declared.cards.Place.{Place}
 use Rattle.wap_good.specs.declared.cards.Cards.{Cards}
 use Rattle.wap_good.specs.declared.notes.Note.{Note}
-use Rattle.wap_good.specs.Nodes.{node_at, front_node, IsRead}
-use Rattle.wap_good.specs.Notes.{AreNotes}
+use Rattle.wap_good.specs.inside.Nodes.{node_at, front_node, IsRead}
+use Rattle.wap_good.specs.inside.Notes.{AreNotes}
 
+-- a string table, which stands between its place and the root's
 abbrev pub table_in : ℕ → ℕ → List ℕ → List ℕ
-table_in table root bytes = take (root - table) (drop table bytes)
+table_in place root bytes = take (root - place) (drop place bytes)
 
-unfoldable pub deck_in : ℕ → ℕ → List ℕ → Deck
-deck_in table root bytes =
-    record { root = front_node (table_in table root bytes) LEVEL_LIMIT (drop root bytes) }
+-- the deck by its string table, and where its root begins in bytes
+unfoldable pub deck_in : List ℕ → ℕ → List ℕ → Deck
+deck_in table root bytes = record { root = front_node table LEVEL_LIMIT (drop root bytes) }
 
-pub record IsHeld (table root : ℕ) (bytes : List ℕ) : Type 0 where
-  pub ordered : table ≤ root
+-- a good, normal deck stands there, which the bytes spell: the root begins in them and is read, and
+-- its texts are of characters
+pub record IsHeld (table : List ℕ) (root : ℕ) (bytes : List ℕ) : Type 0 where
   pub within : root ≤ length bytes
-  pub read : IsRead (table_in table root bytes) LEVEL_LIMIT (drop root bytes)
+  pub read : IsRead table LEVEL_LIMIT (drop root bytes)
   pub spelled : bytes ≡ spelling (document_of (deck_in table root bytes))
   pub good : IsGood (deck_in table root bytes)
   pub normal : IsNormal (deck_in table root bytes)
@@ -56,11 +58,10 @@ abbrev pub tagged : Tag → Deck → List Node
 tagged tag deck = filter_map (node_with tag) deck.root.kids
 
 -- a deck that is held, where its cards and templates begin, and notes of its nodes
-pub record IsKept (table root : ℕ) (bytes : List ℕ) (cards : Cards)
+pub record IsKept (table : List ℕ) (root : ℕ) (bytes : List ℕ) (cards : Cards)
     (notes : List Note) : Type 0 where
   pub held : IsHeld table root bytes
   pub noted : AreNotes bytes notes
-  pub placed : StandAt (table_in table root bytes) bytes cards.places
-      (tagged tags.Card (deck_in table root bytes))
-  pub templates : StandAt (table_in table root bytes) bytes cards.templates
+  pub placed : StandAt table bytes cards.places (tagged tags.Card (deck_in table root bytes))
+  pub templates : StandAt table bytes cards.templates
       (tagged tags.Template (deck_in table root bytes))

@@ -1,9 +1,9 @@
-use Rattle.std.proofs.Common.{◌∙◌, ◌≤◌, sym, ap, subst, length, List, ℕ}
+use Rattle.std.proofs.Common.{◌≡◌, ◌∙◌, ◌≤◌, sym, ap, subst, length, List, ℕ}
 use Rattle.wap_base.specs.Numbers.{mb_at}
-use Rattle.wap_good.specs.Notes.{AreNotes}
-use Rattle.wap_good.specs.Held.{IsHeld, IsKept}
+use Rattle.wap_good.specs.inside.Notes.{AreNotes}
+use Rattle.wap_good.specs.inside.Held.{table_in, deck_in, IsHeld, IsKept}
 use Rattle.wap_good.proofs.DeckLaw.{root_known}
-use Rattle.wap_good.proofs.good.held.Goals as goal
+use Rattle.wap_good.proofs.good.keep.Goals as goal
 
 pub spell-requires : goal.spell-requires
 spell-requires c =
@@ -27,7 +27,11 @@ card_places-requires-clause-held c =
     c.in_ok-table.root
     c.requires.good c.requires.normal c.tell_node.ensures spellable are found
     c.in_ok-table.ensures.table within).0 in
-    subst (IsHeld c.in_ok-table.table c.in_ok-table.root) (sym c.as_slice-whole.ensures) held
+    subst (λ (l : List ℕ). IsHeld l c.in_ok-table.root c.as_slice-whole.result.now)
+    (sym c.in_ok-names.ensures)
+    (subst (λ (l : List ℕ). IsHeld
+    (table_in c.in_ok-table.table c.in_ok-table.root l) c.in_ok-table.root l)
+    (sym c.as_slice-whole.ensures) held)
 
 pub card_places-requires-clause-noted : goal.card_places-requires-clause-noted
 card_places-requires-clause-noted c =
@@ -37,9 +41,9 @@ pub invariant_of-result : goal.invariant_of-result
 invariant_of-result c =
     let kept =
     subst (λ (l : List ℕ).
-    IsKept c.in_ok-table.table c.in_ok-table.root l c.in_ok-cards.cards c.as_slice-2.result.now)
+    IsKept c.in_ok-names.names c.in_ok-table.root l c.in_ok-cards.cards c.as_slice-2.result.now)
     c.as_slice-whole.ensures c.in_ok-cards.ensures in
-    subst (IsKept c.in_ok-table.table c.in_ok-table.root c.in_ok-bytes.bytes c.in_ok-cards.cards)
+    subst (IsKept c.in_ok-names.names c.in_ok-table.root c.in_ok-bytes.bytes c.in_ok-cards.cards)
     c.as_slice-2.ensures kept
 
 pub returns : goal.returns
@@ -54,7 +58,12 @@ returns c =
     let within =
     subst (λ (l : List ℕ). c.in_ok-table.root ≤ length l)
     c.as_slice-whole.ensures c.in_ok-table.ensures.root in
-    (c.decks_are_read.ensures c.args.deck.now c.in_ok-bytes.bytes c.in_ok-table.table
+    let table : c.in_ok-names.names
+    ≡ table_in c.in_ok-table.table c.in_ok-table.root c.in_ok-bytes.bytes =
+    c.in_ok-names.ensures
+    ∙ ap (table_in c.in_ok-table.table c.in_ok-table.root) c.as_slice-whole.ensures in
+    ap (λ (l : List ℕ). deck_in l c.in_ok-table.root c.in_ok-bytes.bytes) table
+    ∙ (c.decks_are_read.ensures c.args.deck.now c.in_ok-bytes.bytes c.in_ok-table.table
     c.in_ok-table.root
     c.requires.good c.requires.normal c.tell_node.ensures spellable are found
     c.in_ok-table.ensures.table within).1

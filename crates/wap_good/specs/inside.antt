@@ -1,0 +1,4 @@
+pub mod Nodes
+pub mod Starts
+pub mod Notes
+pub mod Held
