@@ -1,6 +1,6 @@
 -- Expressions by the levels that are left for them.
 use Rattle.std.proofs.Common.{◌≡◌, ◌≢◌, ℕ, zero, suc, ◌-◌, ◌<◌, Bool, true}
-use Rattle.std.proofs.Common.{false, cond, List, ap, ◌∙◌, arith}
+use Rattle.std.proofs.Common.{false, cond, List, refl, ap, ◌∙◌, arith}
 use Rattle.std.specs.Prelude.{nat_eq}
 use Rattle.std.proofs.lemmas.Bool.{ne_eqb, eq-eqb}
 use Rattle.wap_grammar.specs.declared.lexeme.Lexeme.{Lexeme}
@@ -29,7 +29,7 @@ looser src inner (suc level) lexemes some =
 -- ---- by the level of precedence
 
 module _ (src : List ℕ) (inner : Reader) (level : ℕ) (lexemes : List Lexeme) where
-  pub at_conditional : level ≡ CONDITIONAL → part_at src inner level lexemes
+  at_conditional : level ≡ CONDITIONAL → part_at src inner level lexemes
       ≡ conditional_at src inner (part_at src inner (level - 1)) lexemes
   at_conditional is =
       let some : 0 < level = omega arith in
@@ -53,7 +53,7 @@ module _ (src : List ℕ) (inner : Reader) (level : ℕ) (lexemes : List Lexeme)
       (assignment_at src inner (part_at src inner (level - 1)) lexemes)
       (chain_at level (part_at src inner (level - 1)) lexemes))) apart
 
-  pub at_assignment : level ≢ UNARY → level ≢ CONDITIONAL → level ≡ ASSIGNMENT →
+  at_assignment : level ≢ UNARY → level ≢ CONDITIONAL → level ≡ ASSIGNMENT →
       part_at src inner level lexemes
       ≡ assignment_at src inner (part_at src inner (level - 1)) lexemes
   at_assignment tight other is =
@@ -70,3 +70,17 @@ module _ (src : List ℕ) (inner : Reader) (level : ℕ) (lexemes : List Lexeme)
       otherwise tight other
       ∙ ap (λ (b : Bool). cond b (assignment_at src inner (part_at src inner (level - 1)) lexemes)
       (chain_at level (part_at src inner (level - 1)) lexemes)) apart
+
+-- ---- the levels of `?:` and of assignments
+
+pub at_choice : (src : List ℕ) (inner : Reader) (lexemes : List Lexeme) →
+    part_at src inner CONDITIONAL lexemes
+    ≡ conditional_at src inner (part_at src inner (CONDITIONAL - 1)) lexemes
+at_choice src inner lexemes = at_conditional src inner CONDITIONAL lexemes refl
+
+pub at_value : (src : List ℕ) (inner : Reader) (lexemes : List Lexeme) →
+    part_at src inner ASSIGNMENT lexemes
+    ≡ assignment_at src inner (part_at src inner CONDITIONAL) lexemes
+at_value src inner lexemes =
+    at_assignment src inner ASSIGNMENT lexemes (λ e. absurd (omega (arith, e)))
+    (λ e. absurd (omega (arith, e))) refl

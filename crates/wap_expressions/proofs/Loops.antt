@@ -1,9 +1,11 @@
 -- Reading items one after the other, as a loop does.
-use Rattle.std.proofs.Common.{◌≡◌, ℕ, suc, ◌+◌, ◌-◌, ◌<◌, ◌≤◌, List, [], ◌∷◌, ◌++◌, length, Option}
-use Rattle.std.proofs.Common.{Some, None, Ok, Err, refl, sym, ap, ◌∙◌, append_assoc, arith}
+use Rattle.std.proofs.Common.{◌≡◌, ◌≢◌, ℕ, suc, ◌+◌, ◌-◌, ◌<◌, ◌≤◌, List, [], ◌∷◌, ◌++◌, length}
+use Rattle.std.proofs.Common.{Option, Some, None, Result, Ok, Err, refl, sym, ap, subst, ◌∙◌}
+use Rattle.std.proofs.Common.{append_assoc, arith}
 use Rattle.std.proofs.lemmas.List.{append-nil}
-use Rattle.wap_base.specs.Outcome.{◌>>=◌}
+use Rattle.wap_base.specs.Outcome.{◌>>=◌, Meets}
 use Rattle.wap_grammar.specs.declared.fault.ParseFault.{ParseFault}
+use Rattle.wap_grammar.specs.declared.fault.ParseFault.TheVariants as faults
 use Rattle.wap_grammar.specs.declared.lexeme.Lexeme.{Lexeme}
 use Rattle.wap_grammar.specs.inside.Steps.{Reading, Next, told, one_more, run_at, items_at}
 
@@ -91,3 +93,10 @@ begins_with {A = A} next item front lexemes one =
     ap (λ (items : List A). with_front items (run_at next (length lexemes - 0) lexemes)) one
     ∙ one_before item (run_at next (length lexemes - 0) lexemes)
     ∙ ap (λ (n : ℕ). told (λ items. item ∷ items) (run_at next n lexemes)) all
+
+-- a loop that is left at a fault, unless memory ran out
+pub at_exit : {X Y : Type 0} (view : X → Y) (result : Result X ParseFault) (fault : ParseFault)
+    (whole : Result Y ParseFault) → result ≡ Err fault →
+    (fault ≢ faults.NoMemory → whole ≡ Err fault) → Meets faults.NoMemory view result whole
+at_exit {X = X} view result fault whole is fails =
+    subst (λ (r : Result X ParseFault). Meets faults.NoMemory view r whole) (sym is) fails

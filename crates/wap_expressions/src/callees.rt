@@ -7,7 +7,7 @@ ghost use Rattle.wap_grammar.specs.inside.Steps.{told, id_at};
 ghost use Rattle.wap_grammar.specs.inside.Expressions.{callee_after, callee_at};
 ghost use Rattle.wap_grammar.specs.inside.Expressions.{variable_at, prefixed};
 
-use crate::steps::{read_id, syntax};
+use crate::steps::{read_id, syntax_fault};
 use crate::words::{after, is_sign, step_of, word_of};
 use std::alloc::Global;
 use wap_base::Rows;
@@ -74,7 +74,7 @@ pub(crate) fn read_variable<'a>(
             }
             None => Ok((Expr::Var(id), lexemes)),
         },
-        Callee::External(_, _) | Callee::Library(_, _) => Err(syntax(src, lexemes)),
+        Callee::External(_, _) | Callee::Library(_, _) => Err(syntax_fault(src, lexemes)),
     }
 }
 
@@ -98,7 +98,7 @@ pub(crate) fn read_prefixed<'a>(
 }
 
 /// The call of what is named.
-pub(crate) fn called(callee: Callee, arguments: Rows<Expr>) -> Expr
+pub(crate) fn call_of(callee: Callee, arguments: Rows<Expr>) -> Expr
     ensures { result ≡ called callee arguments }
 {
     match callee {

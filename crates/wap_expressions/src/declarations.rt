@@ -1,5 +1,5 @@
 //! Variables that are declared (WAP-193, section 6.5).
-ghost use Rattle.std.specs.Prelude.{◌≡◌, [], ◌∷◌, IfOk};
+ghost use Rattle.std.specs.Prelude.{◌∷◌};
 ghost use Rattle.wap_base.specs.Outcome.{Meets};
 ghost use Rattle.wap_grammar.specs.declared.fault.ParseFault.TheVariants as faults;
 ghost use Rattle.wap_grammar.specs.inside.Steps.{told, items_at};
@@ -8,10 +8,11 @@ ghost use Rattle.wap_grammar.specs.inside.Statements.{next_listed, listed_at, de
 ghost use Rattle.wap_grammar.specs.inside.Statements.{declaration_at, variables_at};
 
 use crate::expressions::read_expression;
+use crate::making::list_of_one;
 use crate::steps::{expect, read_id};
 use crate::words::{after, is_comma, is_equals};
 use std::alloc::Global;
-use wap_base::{NoMemory, Rows};
+use wap_base::Rows;
 use wap_grammar::{ASSIGNMENT, Lexeme, ParseFault, Sign};
 use wap_program::{Expr, Id, Stmt};
 
@@ -60,44 +61,17 @@ fn read_other_declarations<'a>(
         (items_at (next_listed (declaration_at src.now (expression_at src.now levels)))
         lexemes.now)) }
 {
-    let mut declarations = one(alloc, first)?;
+    let mut declarations = list_of_one(alloc, first)?;
     let mut rest = lexemes;
     for _ in 0..lexemes.len() {
-        let (declaration, behind) = next_declaration(alloc, src, levels, rest)?;
-        rest = behind;
-        match declaration {
-            Some(declaration) => declarations.add(declaration)?,
-            None => return Ok((declarations, rest)),
+        if !is_comma(rest) {
+            return Ok((declarations, rest));
         }
+        let (declaration, behind) = read_declaration(alloc, src, levels, after(rest))?;
+        rest = behind;
+        declarations.add(declaration)?;
     }
     Ok((declarations, rest))
-}
-
-/// A list of one declaration.
-fn one(alloc: Global, declaration: (Id, Option<Expr>)) -> Result<Rows<(Id, Option<Expr>)>, NoMemory>
-    ensures { IfOk result (λ items. items ≡ declaration ∷ []) }
-{
-    let mut declarations = Rows::new(alloc);
-    declarations.add(declaration)?;
-    Ok(declarations)
-}
-
-/// The next declaration, or none.
-#[tactic(auto, unfolding(wap_grammar::specs::inside::Statements::next_listed))]
-fn next_declaration<'a>(
-    alloc: Global,
-    src: &[u8],
-    levels: u32,
-    lexemes: &'a [Lexeme],
-) -> Result<(Option<(Id, Option<Expr>)>, &'a [Lexeme]), ParseFault>
-    ensures { Meets faults.NoMemory (λ read. (read.0, read.1.now)) result
-        (next_listed (declaration_at src.now (expression_at src.now levels)) lexemes.now) }
-{
-    if !is_comma(lexemes) {
-        return Ok((None, lexemes));
-    }
-    let (declaration, rest) = read_declaration(alloc, src, levels, after(lexemes))?;
-    Ok((Some(declaration), rest))
 }
 
 /// A variable, and what it begins with if that is said.

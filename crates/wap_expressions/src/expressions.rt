@@ -5,14 +5,14 @@ ghost use Rattle.wap_grammar.specs.declared.fault.ParseFault.TheVariants as faul
 ghost use Rattle.wap_grammar.specs.inside.Steps.{told, items_at};
 ghost use Rattle.wap_grammar.specs.inside.Expressions.{next_argument, arguments_at, named_at};
 ghost use Rattle.wap_grammar.specs.inside.Expressions.{primary_at, unary_at, next_operand};
-ghost use Rattle.wap_grammar.specs.inside.Expressions.{branches_at, conditional_at, assignment_at};
+ghost use Rattle.wap_grammar.specs.inside.Expressions.{branches_at};
 ghost use Rattle.wap_grammar.specs.inside.Expressions.{part_at, expression_at};
 ghost use Rattle.wap_expressions.specs.inside.Climbing.{climbed_at, climbed_after, chained_after};
 
-use crate::callees::{called, read_callee, read_prefixed, read_variable};
+use crate::callees::{call_of, read_callee, read_prefixed, read_variable};
 use crate::literals::literal_of;
-use crate::making::{chained, one};
-use crate::steps::{expect, id_of, nested};
+use crate::making::{chain_of, list_of_one};
+use crate::steps::{close, expect, id_of, nesting_fault};
 use crate::words::{
     after, assignment_of, is_comma, is_name, is_sign, looser_of, operator_of, span_of, step_of,
     unary_of, word_of,
@@ -38,7 +38,7 @@ pub fn read_expression<'a>(
         (expression_at src.now levels level lexemes.now) }
 {
     if levels == 0 {
-        return Err(nested(src, lexemes));
+        return Err(nesting_fault(src, lexemes));
     }
     read_part(alloc, src, levels - 1, level, lexemes)
 }
@@ -70,8 +70,10 @@ fn read_part<'a>(
     read_loosest(alloc, src, levels, level, level - 1, lexemes)
 }
 
-/// An expression of a level that is tighter than that of `?:`.
+/// An expression of a level that is tighter than that of `?:`: an operand, and the operators up to
+/// the level, each with the operand after it.
 #[cycle(expressions)]
+#[tactic(auto, using(crate::proofs::Climbing::at_operators))]
 fn read_tight<'a>(
     alloc: Global,
     src: &[u8],
@@ -83,11 +85,13 @@ fn read_tight<'a>(
     ensures { Meets faults.NoMemory (λ read. (read.0, read.1.now)) result
         (part_at src.now (expression_at src.now levels) level lexemes.now) }
 {
-    read_operators(alloc, src, levels, level, lexemes)
+    let (first, rest) = read_unary(alloc, src, levels, lexemes)?;
+    read_looser(alloc, src, levels, UNARY, level, first, rest)
 }
 
-/// An expression of the level of `?:`.
+/// A condition with its branches, or an expression of the next tighter level.
 #[cycle(expressions)]
+#[tactic(auto, using(crate::proofs::Levels::at_choice), unfolding(wap_grammar::specs::inside::Expressions::conditional_at))]
 fn read_choice<'a>(
     alloc: Global,
     src: &[u8],
@@ -97,11 +101,16 @@ fn read_choice<'a>(
     ensures { Meets faults.NoMemory (λ read. (read.0, read.1.now)) result
         (part_at src.now (expression_at src.now levels) CONDITIONAL lexemes.now) }
 {
-    read_conditional(alloc, src, levels, CONDITIONAL - 1, lexemes)
+    let (condition, rest) = read_tight(alloc, src, levels, CONDITIONAL - 1, lexemes)?;
+    if !is_sign(Sign::Question, rest) {
+        return Ok((condition, rest));
+    }
+    read_branches(alloc, src, levels, condition, after(rest))
 }
 
-/// An expression of the level of assignments.
+/// An assignment to a variable, or an expression of the next tighter level.
 #[cycle(expressions)]
+#[tactic(auto, using(crate::proofs::Levels::at_value), unfolding(wap_grammar::specs::inside::Expressions::assignment_at))]
 fn read_value<'a>(
     alloc: Global,
     src: &[u8],
@@ -111,7 +120,18 @@ fn read_value<'a>(
     ensures { Meets faults.NoMemory (λ read. (read.0, read.1.now)) result
         (part_at src.now (expression_at src.now levels) ASSIGNMENT lexemes.now) }
 {
-    read_assignment(alloc, src, levels, lexemes)
+    if !is_name(lexemes) {
+        return read_choice(alloc, src, levels, lexemes);
+    }
+    let rest = after(lexemes);
+    match assignment_of(word_of(rest)) {
+        Some(op) => {
+            let (value, rest) = read_boxed(alloc, src, levels, ASSIGNMENT, after(rest))?;
+            let id = id_of(alloc, src, span_of(lexemes))?;
+            Ok((Expr::Assign(id, op, value), rest))
+        }
+        None => read_choice(alloc, src, levels, lexemes),
+    }
 }
 
 /// Expressions with commas between them.
@@ -146,23 +166,6 @@ fn read_loosest<'a>(
 {
     let (first, rest) = read_part(alloc, src, levels, tighter, lexemes)?;
     read_looser(alloc, src, levels, tighter, level, first, rest)
-}
-
-/// An operand, and the operators up to a level of precedence, each with the operand after it.
-#[cycle(expressions)]
-fn read_operators<'a>(
-    alloc: Global,
-    src: &[u8],
-    levels: u32,
-    level: u8,
-    lexemes: &'a [Lexeme],
-) -> Result<(Expr, &'a [Lexeme]), ParseFault>
-    ensures { Meets faults.NoMemory (λ read. (read.0, read.1.now)) result
-        (climbed_after (part_at src.now (expression_at src.now levels)) 0 level
-        (unary_at src.now (expression_at src.now levels) lexemes.now)) }
-{
-    let (first, rest) = read_unary(alloc, src, levels, lexemes)?;
-    read_looser(alloc, src, levels, UNARY, level, first, rest)
 }
 
 /// An expression and the operators after it that are looser than one level, up to another. Levels
@@ -205,9 +208,17 @@ fn read_chain<'a>(
         (items_at (next_operand found (part_at src.now (expression_at src.now levels) tighter))
         lexemes.now)) }
 {
+    let first = Boxed::new(alloc, first)?;
     let (operands, rest) = read_operands(alloc, src, levels, found, tighter, lexemes)?;
-    let chain = chained(alloc, first, operands)?;
-    read_looser(alloc, src, levels, found, level, chain, rest)
+    read_looser(
+        alloc,
+        src,
+        levels,
+        found,
+        level,
+        chain_of(first, operands),
+        rest,
+    )
 }
 
 /// The operands after the first, each with the operator before it.
@@ -227,59 +238,14 @@ fn read_operands<'a>(
     let mut operands = Rows::new(alloc);
     let mut rest = lexemes;
     for _ in 0..lexemes.len() {
-        let (operand, behind) = next_operand(alloc, src, levels, level, tighter, rest)?;
+        let Some(op) = operator_of(level, word_of(rest)) else {
+            return Ok((operands, rest));
+        };
+        let (operand, behind) = read_part(alloc, src, levels, tighter, after(rest))?;
         rest = behind;
-        match operand {
-            Some(operand) => operands.add(operand)?,
-            None => return Ok((operands, rest)),
-        }
+        operands.add((op, operand))?;
     }
     Ok((operands, rest))
-}
-
-/// The next operand and the operator before it, or none.
-#[cycle(expressions)]
-#[tactic(auto, unfolding(wap_grammar::specs::inside::Expressions::next_operand))]
-fn next_operand<'a>(
-    alloc: Global,
-    src: &[u8],
-    levels: u32,
-    level: u8,
-    tighter: u8,
-    lexemes: &'a [Lexeme],
-) -> Result<(Option<(BinOp, Expr)>, &'a [Lexeme]), ParseFault>
-    ensures { Meets faults.NoMemory (λ read. (read.0, read.1.now)) result
-        (next_operand level (part_at src.now (expression_at src.now levels) tighter) lexemes.now) }
-{
-    match operator_of(level, word_of(lexemes)) {
-        Some(op) => {
-            let (operand, rest) = read_part(alloc, src, levels, tighter, after(lexemes))?;
-            Ok((Some((op, operand)), rest))
-        }
-        None => Ok((None, lexemes)),
-    }
-}
-
-/// A condition with its branches, or an expression of the next tighter level.
-#[cycle(expressions)]
-#[tactic(auto, unfolding(wap_grammar::specs::inside::Expressions::conditional_at))]
-fn read_conditional<'a>(
-    alloc: Global,
-    src: &[u8],
-    levels: u32,
-    tighter: u8,
-    lexemes: &'a [Lexeme],
-) -> Result<(Expr, &'a [Lexeme]), ParseFault>
-    requires { tighter < CONDITIONAL }
-    ensures { Meets faults.NoMemory (λ read. (read.0, read.1.now)) result
-        (conditional_at src.now (expression_at src.now levels)
-        (part_at src.now (expression_at src.now levels) tighter) lexemes.now) }
-{
-    let (condition, rest) = read_tight(alloc, src, levels, tighter, lexemes)?;
-    if !is_sign(Sign::Question, rest) {
-        return Ok((condition, rest));
-    }
-    read_branches(alloc, src, levels, condition, after(rest))
 }
 
 /// The branches of a condition, after the `?`.
@@ -316,33 +282,6 @@ fn read_boxed<'a>(
 {
     let (value, rest) = read_expression(alloc, src, levels, level, lexemes)?;
     Ok((Boxed::new(alloc, value)?, rest))
-}
-
-/// An assignment to a variable, or an expression of the next tighter level.
-#[cycle(expressions)]
-#[tactic(auto, unfolding(wap_grammar::specs::inside::Expressions::assignment_at))]
-fn read_assignment<'a>(
-    alloc: Global,
-    src: &[u8],
-    levels: u32,
-    lexemes: &'a [Lexeme],
-) -> Result<(Expr, &'a [Lexeme]), ParseFault>
-    ensures { Meets faults.NoMemory (λ read. (read.0, read.1.now)) result
-        (assignment_at src.now (expression_at src.now levels)
-        (part_at src.now (expression_at src.now levels) CONDITIONAL) lexemes.now) }
-{
-    if !is_name(lexemes) {
-        return read_choice(alloc, src, levels, lexemes);
-    }
-    let rest = after(lexemes);
-    match assignment_of(word_of(rest)) {
-        Some(op) => {
-            let (value, rest) = read_boxed(alloc, src, levels, ASSIGNMENT, after(rest))?;
-            let id = id_of(alloc, src, span_of(lexemes))?;
-            Ok((Expr::Assign(id, op, value), rest))
-        }
-        None => read_choice(alloc, src, levels, lexemes),
-    }
 }
 
 /// A unary operator and its operand, `++` or `--` and a variable, or what has no operator before
@@ -390,8 +329,7 @@ fn read_primary<'a>(
         return read_named(alloc, src, levels, lexemes);
     }
     let (inside, rest) = read_expression(alloc, src, levels, COMMA, after(lexemes))?;
-    let rest = expect(src, Sign::Close, rest)?;
-    Ok((inside, rest))
+    close(src, Sign::Close, inside, rest)
 }
 
 /// A call or a variable.
@@ -412,7 +350,7 @@ fn read_named<'a>(
         return read_variable(src, callee, rest);
     }
     let (arguments, rest) = read_arguments(alloc, src, levels, after(rest))?;
-    Ok((called(callee, arguments), rest))
+    Ok((call_of(callee, arguments), rest))
 }
 
 /// Arguments, and the parenthesis after them.
@@ -432,8 +370,7 @@ fn read_arguments<'a>(
     }
     let (first, rest) = read_expression(alloc, src, levels, ASSIGNMENT, lexemes)?;
     let (arguments, rest) = read_other_arguments(alloc, src, levels, first, rest)?;
-    let rest = expect(src, Sign::Close, rest)?;
-    Ok((arguments, rest))
+    close(src, Sign::Close, arguments, rest)
 }
 
 /// The first argument, and those after it.
@@ -449,34 +386,15 @@ fn read_other_arguments<'a>(
         (told (λ others. first ∷ others)
         (items_at (next_argument (expression_at src.now levels)) lexemes.now)) }
 {
-    let mut arguments = one(alloc, first)?;
+    let mut arguments = list_of_one(alloc, first)?;
     let mut rest = lexemes;
     for _ in 0..lexemes.len() {
-        let (argument, behind) = next_argument(alloc, src, levels, rest)?;
-        rest = behind;
-        match argument {
-            Some(argument) => arguments.add(argument)?,
-            None => return Ok((arguments, rest)),
+        if !is_comma(rest) {
+            return Ok((arguments, rest));
         }
+        let (argument, behind) = read_expression(alloc, src, levels, ASSIGNMENT, after(rest))?;
+        rest = behind;
+        arguments.add(argument)?;
     }
     Ok((arguments, rest))
-}
-
-/// The next argument, or none.
-#[cycle(expressions)]
-#[tactic(auto, unfolding(wap_grammar::specs::inside::Expressions::next_argument))]
-fn next_argument<'a>(
-    alloc: Global,
-    src: &[u8],
-    levels: u32,
-    lexemes: &'a [Lexeme],
-) -> Result<(Option<Expr>, &'a [Lexeme]), ParseFault>
-    ensures { Meets faults.NoMemory (λ read. (read.0, read.1.now)) result
-        (next_argument (expression_at src.now levels) lexemes.now) }
-{
-    if !is_comma(lexemes) {
-        return Ok((None, lexemes));
-    }
-    let (argument, rest) = read_expression(alloc, src, levels, ASSIGNMENT, after(lexemes))?;
-    Ok((Some(argument), rest))
 }

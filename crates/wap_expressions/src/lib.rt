@@ -23,6 +23,7 @@ mod words;
 pub use declarations::read_variables;
 pub use expressions::read_expression;
 pub use lexemes::lexemes_of;
+pub use making::list_of_one;
 pub use pragmas::read_uses;
-pub use steps::{expect, nested, read_id, syntax};
+pub use steps::{close, expect, join, nesting_fault, read_id, syntax_fault};
 pub use words::{after, is_comma, is_sign, span_of, word_of};

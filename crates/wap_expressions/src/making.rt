@@ -1,6 +1,6 @@
-//! Expressions made of their parts.
+//! Expressions and lists made of their parts.
 ghost use Rattle.std.specs.Prelude.{◌≡◌, [], ◌∷◌, IfOk};
-ghost use Rattle.wap_grammar.specs.Values.{chained};
+ghost use Rattle.wap_grammar.specs.inside.Expressions.{chained};
 
 use std::alloc::Global;
 use wap_base::{NoMemory, Rows};
@@ -8,22 +8,17 @@ use wap_program::{Boxed, Expr};
 use wap_value::BinOp;
 
 /// Operands, which are the first alone where there is no other.
-pub(crate) fn chained(
-    alloc: Global,
-    first: Expr,
-    operands: Rows<(BinOp, Expr)>,
-) -> Result<Expr, NoMemory>
-    ensures { IfOk result (λ chain. chain ≡ chained first operands) }
+pub(crate) fn chain_of(first: Boxed<Expr>, operands: Rows<(BinOp, Expr)>) -> Expr
+    ensures { result ≡ chained first operands }
 {
     if operands.is_empty() {
-        return Ok(first);
+        return first.into_inner();
     }
-    let first = Boxed::new(alloc, first)?;
-    Ok(Expr::Chain(first, operands))
+    Expr::Chain(first, operands)
 }
 
-/// A list of one expression.
-pub(crate) fn one(alloc: Global, item: Expr) -> Result<Rows<Expr>, NoMemory>
+/// A list of one item.
+pub fn list_of_one<T: Drop>(alloc: Global, item: T) -> Result<Rows<T>, NoMemory>
     ensures { IfOk result (λ items. items ≡ item ∷ []) }
 {
     let mut items = Rows::new(alloc);

@@ -8,7 +8,7 @@ ghost use Rattle.wap_grammar.specs.inside.Programs.{agent_of, note_of, url_at, w
 ghost use Rattle.wap_grammar.specs.inside.Programs.{meta_at, use_at, next_use};
 ghost use Rattle.wap_expressions.specs.inside.Properties.{ended_at};
 
-use crate::steps::{expect, read_id};
+use crate::steps::{close, expect, read_id};
 use crate::texts::{read_access, read_ended, read_text};
 use crate::words::{after, is_sign, span_of};
 use std::alloc::Global;
@@ -29,31 +29,14 @@ pub fn read_uses<'a>(
     let mut uses = Rows::new(alloc);
     let mut rest = lexemes;
     for _ in 0..lexemes.len() {
-        let (pragma, behind) = next_use(alloc, src, rest)?;
-        rest = behind;
-        match pragma {
-            Some(pragma) => uses.add(pragma)?,
-            None => return Ok((uses, rest)),
+        if !is_sign(Sign::Use, rest) {
+            return Ok((uses, rest));
         }
+        let (pragma, behind) = read_use(alloc, src, span_of(rest), after(rest))?;
+        rest = behind;
+        uses.add(pragma)?;
     }
     Ok((uses, rest))
-}
-
-/// The next pragma, or none.
-#[tactic(auto, unfolding(wap_grammar::specs::inside::Programs::next_use))]
-fn next_use<'a>(
-    alloc: Global,
-    src: &[u8],
-    lexemes: &'a [Lexeme],
-) -> Result<(Option<Use>, &'a [Lexeme]), ParseFault>
-    ensures { Meets faults.NoMemory (λ read. (read.0, read.1.now)) result
-        (next_use src.now lexemes.now) }
-{
-    if !is_sign(Sign::Use, lexemes) {
-        return Ok((None, lexemes));
-    }
-    let (pragma, rest) = read_use(alloc, src, span_of(lexemes), after(lexemes))?;
-    Ok((Some(pragma), rest))
 }
 
 /// A pragma after its `use`, whose place is given.
@@ -78,7 +61,7 @@ fn read_use<'a>(
 }
 
 /// A name for the unit of a URL.
-#[tactic(auto, unfolding(wap_grammar::specs::inside::Programs::url_at))]
+#[tactic(auto, using(crate::proofs::Closings::told_closed), unfolding(wap_grammar::specs::inside::Programs::url_at))]
 fn read_url<'a>(
     alloc: Global,
     src: &[u8],
@@ -89,8 +72,7 @@ fn read_url<'a>(
 {
     let (unit, rest) = read_id(alloc, src, lexemes)?;
     let (url, rest) = read_text(alloc, src, rest)?;
-    let rest = expect(src, Sign::Semicolon, rest)?;
-    Ok((Use::Url(unit, url), rest))
+    close(src, Sign::Semicolon, Use::Url(unit, url), rest)
 }
 
 /// Who may call the unit. The pragma stands from its first word, which is given, to its `;`.
@@ -106,9 +88,8 @@ fn read_who<'a>(
 {
     let (who, rest) = read_access(alloc, src, lexemes)?;
     let span = from_to(word, span_of(rest));
-    let rest = expect(src, Sign::Semicolon, rest)?;
     let (domain, path) = who;
-    Ok((Use::Access(domain, path, span), rest))
+    close(src, Sign::Semicolon, Use::Access(domain, path, span), rest)
 }
 
 /// From the first byte of a part of the source to the last of another.

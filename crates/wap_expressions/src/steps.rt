@@ -4,7 +4,7 @@ ghost use Rattle.wap_base.specs.Outcome.{Meets};
 ghost use Rattle.wap_grammar.specs.declared.fault.ParseFault.TheVariants.{Syntax, Nested, NoMemory};
 ghost use Rattle.wap_grammar.specs.Values.{id_of};
 ghost use Rattle.wap_grammar.specs.Refusal.{place_of};
-ghost use Rattle.wap_grammar.specs.inside.Steps.{expect_at, id_at};
+ghost use Rattle.wap_grammar.specs.inside.Steps.{Reading, told, expect_at, closed, id_at};
 
 use crate::lexemes::text_in;
 use crate::words::{after, is_name, is_sign, span_of};
@@ -24,7 +24,7 @@ fn place_of(src: &[u8], lexemes: &[Lexeme]) -> usize
 }
 
 /// No program goes on with these tokens.
-pub fn syntax(src: &[u8], lexemes: &[Lexeme]) -> ParseFault
+pub fn syntax_fault(src: &[u8], lexemes: &[Lexeme]) -> ParseFault
     ensures { result ≡ Syntax (place_of src.now lexemes.now) }
 {
     ParseFault::Syntax {
@@ -33,7 +33,7 @@ pub fn syntax(src: &[u8], lexemes: &[Lexeme]) -> ParseFault
 }
 
 /// A part that begins with these tokens is too deep.
-pub fn nested(src: &[u8], lexemes: &[Lexeme]) -> ParseFault
+pub fn nesting_fault(src: &[u8], lexemes: &[Lexeme]) -> ParseFault
     ensures { result ≡ Nested (place_of src.now lexemes.now) }
 {
     ParseFault::Nested {
@@ -47,9 +47,38 @@ pub fn expect<'a>(src: &[u8], sign: Sign, lexemes: &'a [Lexeme]) -> Result<&'a [
     ensures { Meets NoMemory (λ rest. rest.now) result (expect_at src.now sign lexemes.now) }
 {
     if !is_sign(sign, lexemes) {
-        return Err(syntax(src, lexemes));
+        return Err(syntax_fault(src, lexemes));
     }
     Ok(after(lexemes))
+}
+
+/// What was read, if a sign stands after it, and the tokens after the sign.
+#[inline(always)]
+pub fn close<'a, T: Drop>(
+    src: &[u8],
+    sign: Sign,
+    value: T,
+    lexemes: &'a [Lexeme],
+) -> Result<(T, &'a [Lexeme]), ParseFault>
+    ensures { Meets NoMemory (λ read. (read.0, read.1.now)) result
+        (closed src.now sign (value, lexemes.now)) }
+{
+    let rest = expect(src, sign, lexemes)?;
+    Ok((value, rest))
+}
+
+/// What was read before, with what was read after it.
+pub fn join<'a, A: Drop, B>(
+    first: A,
+    second: Result<(B, &'a [Lexeme]), ParseFault>,
+) -> Result<((A, B), &'a [Lexeme]), ParseFault>
+    ensures { (reading : Reading B) →
+        Meets NoMemory (λ read. (read.0, read.1.now)) second.entry reading →
+        Meets NoMemory (λ read. (read.0, read.1.now)) result
+        (told (λ after. (first, after)) reading) }
+{
+    let (second, rest) = second?;
+    Ok(((first, second), rest))
 }
 
 /// The name of a part of the source.
@@ -72,7 +101,7 @@ pub fn read_id<'a>(
     ensures { Meets NoMemory (λ read. (read.0, read.1.now)) result (id_at src.now lexemes.now) }
 {
     if !is_name(lexemes) {
-        return Err(syntax(src, lexemes));
+        return Err(syntax_fault(src, lexemes));
     }
     let id = id_of(alloc, src, span_of(lexemes))?;
     Ok((id, after(lexemes)))

@@ -11,7 +11,7 @@ use std::alloc::Global;
 use wap_base::{NoMemory, Text};
 
 /// Where reading stands among the characters of a string.
-#[derive(Clone, Copy, Debug, PartialEq, Eq)]
+#[derive(Clone, Copy)]
 enum Place {
     Plain,
     /// After a backslash.
@@ -30,13 +30,13 @@ pub(crate) fn string_of(alloc: Global, bytes: &[u8]) -> Result<Text, NoMemory>
     let (_, inside) = bytes.split_at(bytes.len().min(1));
     let (inside, _) = inside.split_at(bytes.len().saturating_sub(2));
     match str::from_utf8(inside) {
-        Ok(inside) => unescaped(alloc, inside),
+        Ok(inside) => unescape(alloc, inside),
         Err(_) => Err(NoMemory),
     }
 }
 
 /// What the characters between quotes stand for.
-fn unescaped(alloc: Global, inside: &str) -> Result<Text, NoMemory>
+fn unescape(alloc: Global, inside: &str) -> Result<Text, NoMemory>
     ensures { IfOk result (λ text. text ≡ unescaped (chars inside.now)) }
 {
     let mut text = Text::new(alloc);

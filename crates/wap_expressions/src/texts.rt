@@ -7,7 +7,7 @@ ghost use Rattle.wap_grammar.specs.inside.Programs.{access_at, scheme_at, proper
 ghost use Rattle.wap_expressions.specs.inside.Properties.{ended_at};
 
 use crate::lexemes::text_in;
-use crate::steps::{expect, syntax};
+use crate::steps::{close, syntax_fault};
 use crate::strings::string_of;
 use crate::words::{after, is_sign, is_text, span_of};
 use std::alloc::Global;
@@ -25,7 +25,7 @@ pub(crate) fn read_text<'a>(
         (text_at src.now lexemes.now) }
 {
     if !is_text(lexemes) {
-        return Err(syntax(src, lexemes));
+        return Err(syntax_fault(src, lexemes));
     }
     let text = string_of(alloc, text_in(src, span_of(lexemes)))?;
     Ok((text, after(lexemes)))
@@ -75,7 +75,7 @@ fn one_of<'a>(
         (access_by src.now domain path lexemes.now) }
 {
     match (domain, path) {
-        (None, None) => Err(syntax(src, lexemes)),
+        (None, None) => Err(syntax_fault(src, lexemes)),
         (Some(domain), None) => Ok(((Some(domain), None), lexemes)),
         (None, Some(path)) => Ok(((None, Some(path)), lexemes)),
         (Some(domain), Some(path)) => Ok(((Some(domain), Some(path)), lexemes)),
@@ -125,6 +125,5 @@ pub(crate) fn read_ended<'a>(
         (ended_at src.now lexemes.now) }
 {
     let (property, rest) = read_property(alloc, src, lexemes)?;
-    let rest = expect(src, Sign::Semicolon, rest)?;
-    Ok((property, rest))
+    close(src, Sign::Semicolon, property, rest)
 }

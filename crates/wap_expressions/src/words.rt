@@ -6,7 +6,7 @@ ghost use Rattle.wap_grammar.specs.Words.{is_text, is_comma, is_equals};
 ghost use Rattle.wap_grammar.specs.inside.Steps.{span_of, after};
 ghost use Rattle.wap_expressions.specs.inside.Climbing.{looser_of};
 
-use wap_grammar::{Lexeme, Sign, Word};
+use wap_grammar::{COMMA, Lexeme, Sign, Word};
 use wap_program::Span;
 use wap_value::{BinOp, UnOp};
 
@@ -166,6 +166,6 @@ fn precedence(op: BinOp) -> u8
         BinOp::BitOr => 8,
         BinOp::And => 9,
         BinOp::Or => 10,
-        BinOp::Comma => 13,
+        BinOp::Comma => COMMA,
     }
 }

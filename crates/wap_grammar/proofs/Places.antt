@@ -22,11 +22,12 @@ use Rattle.wap_grammar.specs.declared.word.Sign.TheVariants as signs
 use Rattle.wap_grammar.specs.declared.word.Sign.{Sign}
 use Rattle.wap_grammar.specs.Words.{word_of, unary_of, step_of, assignment_of, operator_of}
 use Rattle.wap_grammar.specs.Words.{is_sign, is_name, is_comma, is_equals, start_of}
-use Rattle.wap_grammar.specs.Values.{id_of, literal_of, chained, called}
+use Rattle.wap_grammar.specs.Values.{id_of, literal_of, called}
 use Rattle.wap_grammar.specs.Statements.{done_first}
 use Rattle.wap_grammar.specs.inside.Steps.{Reading, span_of, after, told, closed, id_at, items_at}
 use Rattle.wap_grammar.specs.inside.Expressions.{
   Reader,
+  chained,
   callee_after,
   callee_at,
   stepped,

@@ -1,13 +1,12 @@
 -- What names and literals are in a program (WAP-193, sections 6.1.5 and 6.1.6).
 use Rattle.std.specs.Prelude.{ℕ, true, false, nat_le, if◌then◌else◌, List}
-use Rattle.std.specs.Prelude.{[], ◌∷◌, Option, Some, None, pos}
+use Rattle.std.specs.Prelude.{Option, Some, None, pos}
 use Rattle.wap_program.specs.declared.program.Span.{Span}
 use Rattle.wap_program.specs.declared.program.Id.{Id}
 use Rattle.wap_program.specs.declared.expression.Literal.{Literal}
 use Rattle.wap_program.specs.declared.expression.Literal.TheVariants as lit
 use Rattle.wap_program.specs.declared.expression.Expr.{Expr}
 use Rattle.wap_program.specs.declared.expression.Expr.TheVariants as expr
-use Rattle.wap_value.specs.declared.operator.BinOp.{BinOp}
 use Rattle.wap_lex.specs.Numbers.{integer_value, integer_limit}
 use Rattle.wap_grammar.specs.declared.callee.Callee.{Callee}
 use Rattle.wap_grammar.specs.declared.callee.Callee.TheVariants as callee
@@ -34,11 +33,6 @@ literal_of src span word.True = Some (lit.Bool true)
 literal_of src span word.False = Some (lit.Bool false)
 literal_of src span word.Invalid = Some lit.Invalid
 literal_of src span _ = None
-
--- operands of one level of precedence, which are an operand alone where there is no other
-abbrev pub chained : Expr → List (BinOp × Expr) → Expr
-chained first [] = first
-chained first (pair ∷ pairs) = expr.Chain first (pair ∷ pairs)
 
 abbrev pub called : Callee → List Expr → Expr
 called (callee.Local f) arguments = expr.Call f arguments

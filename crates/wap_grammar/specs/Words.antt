@@ -11,6 +11,7 @@ use Rattle.wap_program.specs.declared.program.Span.{Span}
 use Rattle.wap_lex.specs.declared.token.Kind.{Kind}
 use Rattle.wap_lex.specs.declared.token.Kind.TheVariants as kind
 use Rattle.wap_lex.specs.declared.token.Token.{Token}
+use Rattle.wap_grammar.specs.declared.precedence.TheConstants.{COMMA}
 use Rattle.wap_grammar.specs.declared.words.TheConstants.{WORDS}
 use Rattle.wap_grammar.specs.declared.lexeme.Lexeme.{Lexeme}
 use Rattle.wap_grammar.specs.declared.word.Word.{Word}
@@ -78,14 +79,15 @@ precedence op.BitXor = 7
 precedence op.BitOr = 8
 precedence op.And = 9
 precedence op.Or = 10
-precedence op.Comma = 13
+precedence op.Comma = COMMA
 
--- the unary operator that a word may be
+-- of the operators of two operands, `+` and `-` may stand before one operand too, as its sign
 abbrev pub sign_of : BinOp → Option UnOp
 sign_of op.Add = Some un.Plus
 sign_of op.Sub = Some un.Minus
 sign_of _ = None
 
+-- the unary operator that a word may be
 abbrev pub unary_of : Word → Option UnOp
 unary_of (word.Unary o) = Some o
 unary_of (word.Operator o) = sign_of o

@@ -6,9 +6,10 @@ use wap_base::NoMemory;
 pub enum ParseFault {
     /// No program spells the tokens.
     Syntax { at: usize },
-    /// Where a program spells the tokens, the first byte of its first part at level 65; else a place
-    /// after 64 tokens or more.
+    /// Where a program spells the tokens, the first byte of its first part deeper than
+    /// `LEVEL_LIMIT`; else a place after that many tokens or more.
     Nested { at: usize },
+    /// Memory ran out before the answer.
     NoMemory,
 }
 

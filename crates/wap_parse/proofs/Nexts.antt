@@ -1,11 +1,9 @@
 -- The next condition of an `if`, and the next statement of a block.
-use Rattle.std.proofs.Common.{◌≡◌, ◌≢◌, ℕ, Bool, true, false, ◌&&◌, List, Some, None}
-use Rattle.std.proofs.Common.{Result, Ok, Err, refl, sym, ap, subst, ◌∙◌}
-use Rattle.wap_base.specs.Outcome.{Meets}
+use Rattle.std.proofs.Common.{◌≡◌, ℕ, Bool, true, false, ◌&&◌, List, Some, None, Ok, Err, refl}
+use Rattle.std.proofs.Common.{sym, ap, ◌∙◌}
 use Rattle.wap_program.specs.declared.expression.Expr.{Expr}
 use Rattle.wap_program.specs.declared.statement.Stmt.{Stmt}
 use Rattle.wap_grammar.specs.declared.fault.ParseFault.{ParseFault}
-use Rattle.wap_grammar.specs.declared.fault.ParseFault.TheVariants as faults
 use Rattle.wap_grammar.specs.declared.lexeme.Lexeme.{Lexeme}
 use Rattle.wap_grammar.specs.declared.word.Sign.TheVariants as sign
 use Rattle.wap_grammar.specs.Words.{word_of, is_sign}
@@ -54,10 +52,3 @@ module _ (statement : Statements) (rest : List Lexeme) (held : Bool)
   pub no_statement : held ≡ true → next_statement statement rest ≡ Ok (None, rest)
   unfolding next_statement
   no_statement so = rw (sym is ∙ so) refl
-
--- a loop that is left at a fault, unless memory ran out
-pub at_exit : {X Y : Type 0} (view : X → Y) (result : Result X ParseFault) (fault : ParseFault)
-    (whole : Result Y ParseFault) → result ≡ Err fault →
-    (fault ≢ faults.NoMemory → whole ≡ Err fault) → Meets faults.NoMemory view result whole
-at_exit {X = X} view result fault whole is fails =
-    subst (λ (r : Result X ParseFault). Meets faults.NoMemory view r whole) (sym is) fails

@@ -13,7 +13,9 @@ ghost use Rattle.wap_grammar.specs.inside.Statements.{initial_at, condition_at};
 ghost use Rattle.wap_parse.specs.inside.Headers.{limits_at, turns_at, header_at};
 
 use std::alloc::Global;
-use wap_expressions::{after, expect, is_sign, read_expression, read_variables, span_of};
+use wap_expressions::{
+    after, close, expect, is_sign, join, read_expression, read_variables, span_of,
+};
 use wap_grammar::{COMMA, Lexeme, ParseFault, Sign};
 use wap_program::{Boxed, Expr, Stmt};
 
@@ -31,8 +33,7 @@ fn read_closed<'a>(
         (closed_at src.now sign (expression_at src.now levels COMMA) lexemes.now) }
 {
     let (value, rest) = read_expression(alloc, src, levels, COMMA, lexemes)?;
-    let rest = expect(src, sign, rest)?;
-    Ok((value, rest))
+    close(src, sign, value, rest)
 }
 
 /// An expression or none, and the sign after it.
@@ -99,8 +100,10 @@ fn read_limits<'a>(
         (limits_at src.now (expression_at src.now levels) lexemes.now) }
 {
     let (condition, rest) = read_optional(alloc, src, levels, Sign::Semicolon, lexemes)?;
-    let (update, rest) = read_optional(alloc, src, levels, Sign::Close, rest)?;
-    Ok(((condition, update), rest))
+    join(
+        condition,
+        read_optional(alloc, src, levels, Sign::Close, rest),
+    )
 }
 
 /// The parentheses of `for`, and what stands in them.
@@ -131,8 +134,7 @@ fn read_turns<'a>(
 {
     let (first, rest) = read_initial(alloc, src, levels, lexemes)?;
     let first = Boxed::new(alloc, first)?;
-    let (limits, rest) = read_limits(alloc, src, levels, rest)?;
-    Ok(((first, limits), rest))
+    join(first, read_limits(alloc, src, levels, rest))
 }
 
 /// A condition in parentheses.

@@ -1,5 +1,5 @@
 //! Functions (WAP-193, section 6.4).
-ghost use Rattle.std.specs.Prelude.{◌≡◌, [], ◌∷◌, IfOk};
+ghost use Rattle.std.specs.Prelude.{◌≡◌, ◌∷◌};
 ghost use Rattle.wap_base.specs.Outcome.{Meets};
 ghost use Rattle.wap_grammar.specs.declared.fault.ParseFault.TheVariants as faults;
 ghost use Rattle.wap_grammar.specs.inside.Steps.{told, id_at, items_at};
@@ -10,8 +10,8 @@ ghost use Rattle.wap_parse.specs.inside.Signatures.{signature_at};
 
 use crate::statements::read_block;
 use std::alloc::Global;
-use wap_base::{NoMemory, Rows};
-use wap_expressions::{after, expect, is_comma, is_sign, read_id};
+use wap_base::Rows;
+use wap_expressions::{after, close, expect, is_comma, is_sign, list_of_one, read_id};
 use wap_grammar::{Lexeme, ParseFault, Sign};
 use wap_program::{Function, Id, Stmt};
 
@@ -148,8 +148,7 @@ fn read_parameters<'a>(
         return Ok((Rows::new(alloc), after(lexemes)));
     }
     let (parameters, rest) = read_names(alloc, src, lexemes)?;
-    let rest = expect(src, Sign::Close, rest)?;
-    Ok((parameters, rest))
+    close(src, Sign::Close, parameters, rest)
 }
 
 /// Names, one at least, with commas between them.
@@ -176,7 +175,7 @@ fn read_other_names<'a>(
     ensures { Meets faults.NoMemory (λ read. (read.0, read.1.now)) result
         (told (λ others. first ∷ others) (items_at (next_listed (id_at src.now)) lexemes.now)) }
 {
-    let mut names = one(alloc, first)?;
+    let mut names = list_of_one(alloc, first)?;
     let mut rest = lexemes;
     for _ in 0..lexemes.len() {
         let (name, behind) = next_name(alloc, src, rest)?;
@@ -187,15 +186,6 @@ fn read_other_names<'a>(
         }
     }
     Ok((names, rest))
-}
-
-/// A list of one name.
-fn one(alloc: Global, name: Id) -> Result<Rows<Id>, NoMemory>
-    ensures { IfOk result (λ items. items ≡ name ∷ []) }
-{
-    let mut names = Rows::new(alloc);
-    names.add(name)?;
-    Ok(names)
 }
 
 /// The next name, or none.

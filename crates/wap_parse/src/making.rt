@@ -1,20 +1,11 @@
 //! Statements made of their parts.
-ghost use Rattle.std.specs.Prelude.{◌≡◌, [], ◌∷◌, IfOk};
+ghost use Rattle.std.specs.Prelude.{◌≡◌, IfOk};
 ghost use Rattle.wap_program.specs.declared.statement.Stmt.TheVariants as stmt;
 
 use crate::clauses::Header;
 use std::alloc::Global;
-use wap_base::{NoMemory, Rows};
+use wap_base::NoMemory;
 use wap_program::{Boxed, Expr, Stmt};
-
-/// A list of one condition with what is done where it holds.
-pub(crate) fn one(alloc: Global, arm: (Expr, Stmt)) -> Result<Rows<(Expr, Stmt)>, NoMemory>
-    ensures { IfOk result (λ items. items ≡ arm ∷ []) }
-{
-    let mut arms = Rows::new(alloc);
-    arms.add(arm)?;
-    Ok(arms)
-}
 
 /// `while`, from its condition and what is done as long as it holds.
 pub(crate) fn while_of(alloc: Global, arm: (Expr, Stmt)) -> Result<Stmt, NoMemory>

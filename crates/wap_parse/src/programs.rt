@@ -13,7 +13,7 @@ ghost use Rattle.wap_grammar.specs.inside.Statements.{statement_at};
 use crate::functions::read_functions;
 use std::alloc::Global;
 use wap_base::Rows;
-use wap_expressions::{lexemes_of, read_uses, syntax};
+use wap_expressions::{lexemes_of, read_uses, syntax_fault};
 use wap_grammar::{LEVEL_LIMIT, Lexeme, ParseFault};
 use wap_lex::Token;
 use wap_program::{Function, Program, Use};
@@ -70,7 +70,7 @@ fn program_of(
         (program_by src.now uses functions rest.now) }
 {
     if functions.is_empty() || !rest.is_empty() {
-        return Err(syntax(src, rest));
+        return Err(syntax_fault(src, rest));
     }
     Ok(Program { uses, functions })
 }

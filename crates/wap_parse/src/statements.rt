@@ -12,11 +12,13 @@ ghost use Rattle.wap_grammar.specs.inside.Statements.{last_at, if_at, statement_
 use crate::clauses::{
     Header, read_break, read_condition, read_continue, read_evaluation, read_header, read_return,
 };
-use crate::making::{for_of, one, while_of};
+use crate::making::{for_of, while_of};
 use crate::starts::{is_else_if, start_of};
 use std::alloc::Global;
 use wap_base::Rows;
-use wap_expressions::{after, expect, is_sign, nested, read_variables, syntax, word_of};
+use wap_expressions::{
+    after, close, is_sign, join, list_of_one, nesting_fault, read_variables, syntax_fault, word_of,
+};
 use wap_grammar::{Lexeme, ParseFault, Sign, Start};
 use wap_program::{Boxed, Expr, Stmt};
 
@@ -33,7 +35,7 @@ fn read_statement<'a>(
         (statement_at src.now levels lexemes.now) }
 {
     if levels == 0 {
-        return Err(nested(src, lexemes));
+        return Err(nesting_fault(src, lexemes));
     }
     read_parts(alloc, src, levels - 1, lexemes)
 }
@@ -90,7 +92,7 @@ fn read_arms<'a>(
         lexemes.now) }
 {
     let (first, rest) = read_arm(alloc, src, levels, lexemes)?;
-    let arms = one(alloc, first)?;
+    let arms = list_of_one(alloc, first)?;
     read_other_arms(alloc, src, levels, arms, rest)
 }
 
@@ -108,8 +110,7 @@ fn read_arm<'a>(
         lexemes.now) }
 {
     let (condition, rest) = read_condition(alloc, src, levels, lexemes)?;
-    let (done, rest) = read_statement(alloc, src, levels, rest)?;
-    Ok(((condition, done), rest))
+    join(condition, read_statement(alloc, src, levels, rest))
 }
 
 /// Some conditions with what is done, and those of each `else if` that follows.
@@ -181,7 +182,7 @@ fn read_simple<'a>(
             Ok((Stmt::Block(statements), rest))
         }
         Start::Vars => read_variables(alloc, src, levels, rest),
-        Start::If => Err(syntax(src, lexemes)),
+        Start::If => Err(syntax_fault(src, lexemes)),
         Start::While => read_while(alloc, src, levels, rest),
         Start::For => read_for(alloc, src, levels, rest),
         Start::Break => read_break(src, lexemes),
@@ -205,8 +206,7 @@ pub(crate) fn read_block<'a>(
         (block_at src.now (statement_at src.now levels) lexemes.now) }
 {
     let (statements, rest) = read_statements(alloc, src, levels, lexemes)?;
-    let rest = expect(src, Sign::CloseBlock, rest)?;
-    Ok((statements, rest))
+    close(src, Sign::CloseBlock, statements, rest)
 }
 
 /// Statements up to a `}`.

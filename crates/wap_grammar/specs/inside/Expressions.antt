@@ -16,7 +16,7 @@ use Rattle.wap_grammar.specs.declared.precedence.TheConstants.{ASSIGNMENT, COMMA
 use Rattle.wap_grammar.specs.declared.word.Sign.TheVariants as sign
 use Rattle.wap_grammar.specs.Words.{unary_of, step_of, assignment_of, operator_of}
 use Rattle.wap_grammar.specs.Words.{is_sign, is_name, is_comma}
-use Rattle.wap_grammar.specs.Values.{id_of, literal_of, chained, called}
+use Rattle.wap_grammar.specs.Values.{id_of, literal_of, called}
 use Rattle.wap_grammar.specs.inside.Steps.{Reading, word_of, span_of, after, syntax, nested}
 use Rattle.wap_grammar.specs.inside.Steps.{told, closed, id_at, Next, items_at}
 
@@ -105,6 +105,11 @@ operand_by tighter lexemes None = Ok (None, lexemes)
 unfoldable pub next_operand : ℕ → (List Lexeme → Reading Expr) → Next (BinOp × Expr)
 next_operand level tighter lexemes = operand_by tighter lexemes (operator_of level
     (word_of lexemes))
+
+-- operands of one level of precedence, which are an operand alone where there is no other
+abbrev pub chained : Expr → List (BinOp × Expr) → Expr
+chained first [] = first
+chained first (pair ∷ pairs) = expr.Chain first (pair ∷ pairs)
 
 unfoldable pub chain_at : ℕ → (List Lexeme → Reading Expr) → List Lexeme → Reading Expr
 chain_at level tighter lexemes =

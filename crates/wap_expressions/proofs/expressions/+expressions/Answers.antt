@@ -1,15 +1,17 @@
-use Rattle.std.proofs.Common.{length, ◌∷◌, Option, Ok, refl, sym, ap, ◌∙◌, arith}
-use Rattle.wap_value.specs.declared.operator.BinOp.{BinOp}
+use Rattle.std.proofs.Common.{◌≡◌, true, false, List, length, ◌∷◌, Err, sym, ap, ◌∙◌, arith}
+use Rattle.std.proofs.lemmas.Result.{err_from_is_err_and}
 use Rattle.wap_program.specs.declared.expression.Expr.{Expr}
-use Rattle.wap_grammar.specs.declared.precedence.TheConstants.{CONDITIONAL}
 use Rattle.wap_grammar.specs.declared.precedence.TheConstants.{ASSIGNMENT, COMMA}
-use Rattle.wap_grammar.specs.inside.Steps.{told, items_at}
+use Rattle.wap_grammar.specs.Words.{word_of, operator_of, is_comma}
+use Rattle.wap_grammar.specs.inside.Steps.{Reading, after, told, items_at}
 use Rattle.wap_grammar.specs.inside.Expressions.{next_argument, next_operand}
 use Rattle.wap_grammar.specs.inside.Expressions.{part_at, expression_at}
-use Rattle.wap_expressions.proofs.Loops.{begins, begins_with, another}
+use Rattle.wap_expressions.proofs.Loops.{begins, begins_with, another, no_other, at_fault, at_exit}
+use Rattle.wap_expressions.proofs.Nexts.{argument_if, found, failed, missing}
+use Rattle.wap_expressions.proofs.Nexts.{operand_found, operand_fault, no_operand}
 use Rattle.wap_expressions.specs.inside.Climbing.{looser_of}
-use Rattle.wap_expressions.proofs.Levels.{deeper, at_conditional, at_assignment}
-use Rattle.wap_expressions.proofs.Climbing.{at_operators, at_loosest, no_looser, next_looser}
+use Rattle.wap_expressions.proofs.Levels.{deeper}
+use Rattle.wap_expressions.proofs.Climbing.{at_loosest, no_looser, next_looser}
 use Rattle.wap_expressions.proofs.expressions.+expressions.Goals as goal
 
 pub read_expression-returns : goal.read_expression-returns
@@ -38,22 +40,6 @@ read_part-returns t c =
     c.args.lexemes.now c.args.level (omega (arith, c.if-level-lt-CONDITIONAL.false))
     c.if-level-eq-CONDITIONAL.false c.if-level-eq-ASSIGNMENT.false) c.read_loosest.ensures
 
-pub read_tight-returns : goal.read_tight-returns
-read_tight-returns t c =
-    rw (at_operators c.args.src.now (expression_at c.args.src.now c.args.levels)
-    c.args.lexemes.now c.args.level c.requires) c.read_operators.ensures
-
-pub read_choice-returns : goal.read_choice-returns
-read_choice-returns t c =
-    rw (at_conditional c.args.src.now (expression_at c.args.src.now c.args.levels) CONDITIONAL
-    c.args.lexemes.now refl) c.read_conditional.ensures
-
-pub read_value-returns : goal.read_value-returns
-read_value-returns t c =
-    rw (at_assignment c.args.src.now (expression_at c.args.src.now c.args.levels) ASSIGNMENT
-    c.args.lexemes.now (λ e. absurd (omega (arith, e))) (λ e. absurd (omega (arith, e))) refl)
-    c.read_assignment.ensures
-
 pub read_looser-returns-in-None : goal.read_looser-returns-in-None
 read_looser-returns-in-None t c =
     let none = ap (looser_of c.args.from c.args.level) (sym c.word_of.ensures)
@@ -77,15 +63,47 @@ read_operands-loop-init t c =
 
 pub read_operands-loop-preserved : goal.read_operands-loop-preserved
 read_operands-loop-preserved t c =
-    let next = next_operand c.args.level
-    (part_at c.args.src.now (expression_at c.args.src.now c.args.levels) c.args.tighter) in
-    let first = c.in_ok-operand.ensures
-    ∙ ap (λ (item : Option (BinOp × Expr)). Ok (item, c.in_ok-operand.behind.now))
-    c.in-Some.is in
-    rw c.in_ok-add-in-Some.ensures.ok
+    let tighter = part_at c.args.src.now (expression_at c.args.src.now c.args.levels)
+    c.args.tighter in
+    let next = next_operand c.args.level tighter in
+    let is : c.operator_of.result ≡ operator_of c.args.level (word_of c.loop.rest.now) = cc in
+    let there : c.after.result.now ≡ after c.loop.rest.now = cc in
+    let first = operand_found c.args.level tighter c.loop.rest.now c.operator_of.result is
+    c.after.result.now c.in-Some.op c.in_ok-operand.operand c.in_ok-operand.behind.now
+    c.in-Some.is there c.in_ok-operand.ensures in
+    rw c.in_ok-add.ensures.ok
     (another next (length c.args.lexemes.now) c.loop.counter c.loop.operands c.loop.rest.now
-    (items_at next c.args.lexemes.now) c.in-Some.operand c.in_ok-operand.behind.now
-    c.loop-test.true first c.loop.invariant)
+    (items_at next c.args.lexemes.now) (c.in-Some.op, c.in_ok-operand.operand)
+    c.in_ok-operand.behind.now c.loop-test.true first c.loop.invariant)
+
+pub read_operands-returns-in_default : goal.read_operands-returns-in_default
+read_operands-returns-in_default t c =
+    let tighter = part_at c.args.src.now (expression_at c.args.src.now c.args.levels)
+    c.args.tighter in
+    let next = next_operand c.args.level tighter in
+    let is : c.operator_of.result ≡ operator_of c.args.level (word_of c.loop.rest.now) = cc in
+    let none = no_operand c.args.level tighter c.loop.rest.now c.operator_of.result is
+    c.in_default.is in
+    no_other next (length c.args.lexemes.now) c.loop.counter c.loop.operands c.loop.rest.now
+    (items_at next c.args.lexemes.now) c.loop.rest.now c.loop-test.true none c.loop.invariant
+
+pub read_operands-returns-in_err-operand : goal.read_operands-returns-in_err-operand
+read_operands-returns-in_err-operand t c =
+    let tighter = part_at c.args.src.now (expression_at c.args.src.now c.args.levels)
+    c.args.tighter in
+    let next = next_operand c.args.level tighter in
+    let whole = items_at next c.args.lexemes.now in
+    let is : c.operator_of.result ≡ operator_of c.args.level (word_of c.loop.rest.now) = cc in
+    let there : c.after.result.now ≡ after c.loop.rest.now = cc in
+    let fault = c.in_err-operand.field-0.0 in
+    let left = err_from_is_err_and c.from_residual.result c.from_residual.ensures.1 in
+    at_exit (λ read. (read.0, read.1.now)) c.from_residual.result fault whole
+    (left.1 ∙ ap Err left.2)
+    (λ other. at_fault next (length c.args.lexemes.now) c.loop.counter c.loop.operands
+    c.loop.rest.now whole fault c.loop-test.true
+    (operand_fault c.args.level tighter c.loop.rest.now c.operator_of.result is
+    c.after.result.now c.in-Some.op fault c.in-Some.is there (c.in_err-operand.ensures other))
+    c.loop.invariant)
 
 pub read_other_arguments-loop-init : goal.read_other_arguments-loop-init
 read_other_arguments-loop-init t c =
@@ -94,10 +112,49 @@ read_other_arguments-loop-init t c =
 
 pub read_other_arguments-loop-preserved : goal.read_other_arguments-loop-preserved
 read_other_arguments-loop-preserved t c =
-    let next = next_argument (expression_at c.args.src.now c.args.levels) in
-    let first = c.in_ok-argument.ensures
-    ∙ ap (λ (item : Option Expr). Ok (item, c.in_ok-argument.behind.now)) c.in-Some.is in
-    rw c.in_ok-add-in-Some.ensures.ok
+    let inner = expression_at c.args.src.now c.args.levels in
+    let next = next_argument inner in
+    let whole : Reading (List Expr) = told (λ others. c.args.first ∷ others)
+    (items_at next c.args.lexemes.now) in
+    let held : c.is_comma.result ≡ true = cc in
+    let there : c.after.result.now ≡ after c.loop.rest.now = cc in
+    let first = argument_if inner c.loop.rest.now ∙ found (inner ASSIGNMENT) c.loop.rest.now
+    (is_comma (word_of c.loop.rest.now)) c.is_comma.result c.is_comma.ensures c.after.result.now
+    c.in_ok-argument.argument c.in_ok-argument.behind.now held there c.in_ok-argument.ensures in
+    rw c.in_ok-add.ensures.ok
     (another next (length c.args.lexemes.now) c.loop.counter c.loop.arguments c.loop.rest.now
-    (told (λ others. c.args.first ∷ others) (items_at next c.args.lexemes.now))
-    c.in-Some.argument c.in_ok-argument.behind.now c.loop-test.true first c.loop.invariant)
+    whole c.in_ok-argument.argument c.in_ok-argument.behind.now c.loop-test.true first
+    c.loop.invariant)
+
+pub read_other_arguments-returns-then-not-is_comma :
+    goal.read_other_arguments-returns-then-not-is_comma
+read_other_arguments-returns-then-not-is_comma t c =
+    let inner = expression_at c.args.src.now c.args.levels in
+    let next = next_argument inner in
+    let whole : Reading (List Expr) = told (λ others. c.args.first ∷ others)
+    (items_at next c.args.lexemes.now) in
+    let held : c.is_comma.result ≡ false = cc in
+    let none = argument_if inner c.loop.rest.now ∙ missing (inner ASSIGNMENT) c.loop.rest.now
+    (is_comma (word_of c.loop.rest.now)) c.is_comma.result c.is_comma.ensures held in
+    no_other next (length c.args.lexemes.now) c.loop.counter c.loop.arguments c.loop.rest.now
+    whole c.loop.rest.now c.loop-test.true none c.loop.invariant
+
+pub read_other_arguments-returns-in_err-argument : goal.read_other_arguments-returns-in_err-argument
+read_other_arguments-returns-in_err-argument t c =
+    let inner = expression_at c.args.src.now c.args.levels in
+    let next = next_argument inner in
+    let whole : Reading (List Expr) = told (λ others. c.args.first ∷ others)
+    (items_at next c.args.lexemes.now) in
+    let held : c.is_comma.result ≡ true = cc in
+    let there : c.after.result.now ≡ after c.loop.rest.now = cc in
+    let fault = c.in_err-argument.field-0.0 in
+    let left = err_from_is_err_and c.from_residual-in_err-argument.result
+    c.from_residual-in_err-argument.ensures.1 in
+    at_exit (λ read. (read.0, read.1.now)) c.from_residual-in_err-argument.result fault whole
+    (left.1 ∙ ap Err left.2)
+    (λ other. at_fault next (length c.args.lexemes.now) c.loop.counter c.loop.arguments
+    c.loop.rest.now whole fault c.loop-test.true
+    (argument_if inner c.loop.rest.now ∙ failed (inner ASSIGNMENT) c.loop.rest.now
+    (is_comma (word_of c.loop.rest.now)) c.is_comma.result c.is_comma.ensures c.after.result.now
+    fault
+    held there (c.in_err-argument.ensures other)) c.loop.invariant)

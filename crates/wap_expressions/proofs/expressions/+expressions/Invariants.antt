@@ -29,9 +29,6 @@ abbrev pub decreases-read_loosest : goal.decreases-read_loosest
 decreases-read_loosest l =
     1048576 * l.levels + 1024 * l.level + 600 + 1024 * (l.tighter + 1 - l.level)
 
-abbrev pub decreases-read_operators : goal.decreases-read_operators
-decreases-read_operators l = 1048576 * l.levels + 1024 * l.level + 800
-
 abbrev pub decreases-read_looser : goal.decreases-read_looser
 decreases-read_looser l = 1048576 * l.levels + 1024 * l.level + 2 * (l.level - l.from) + 1
 
@@ -42,15 +39,6 @@ decreases-read_chain l =
 
 abbrev pub decreases-read_operands : goal.decreases-read_operands
 decreases-read_operands l = 1048576 * l.levels + 1024 * l.tighter + 1002
-
-abbrev pub decreases-next_operand : goal.decreases-next_operand
-decreases-next_operand l = 1048576 * l.levels + 1024 * l.tighter + 1001
-
-abbrev pub decreases-read_conditional : goal.decreases-read_conditional
-decreases-read_conditional l = 1048576 * l.levels + 1024 * l.tighter + 1000
-
-abbrev pub decreases-read_assignment : goal.decreases-read_assignment
-decreases-read_assignment l = 1048576 * l.levels + 1024 * CONDITIONAL + 600
 
 abbrev pub decreases-read_branches : goal.decreases-read_branches
 decreases-read_branches l = 1048576 * l.levels + 2
@@ -72,9 +60,6 @@ decreases-read_arguments l = 1048576 * l.levels + 3
 
 abbrev pub decreases-read_other_arguments : goal.decreases-read_other_arguments
 decreases-read_other_arguments l = 1048576 * l.levels + 2
-
-abbrev pub decreases-next_argument : goal.decreases-next_argument
-decreases-next_argument l = 1048576 * l.levels + 1
 
 abbrev pub invariant-read_operands-loop : goal.invariant-read_operands-loop
 invariant-read_operands-loop l =

@@ -4,11 +4,11 @@ use Rattle.wap_program.specs.declared.expression.Expr.{Expr}
 use Rattle.wap_program.specs.declared.statement.Stmt.{Stmt}
 use Rattle.wap_grammar.specs.inside.Steps.{Reading, after, told, items_at}
 use Rattle.wap_grammar.specs.inside.Expressions.{expression_at}
-use Rattle.wap_grammar.specs.inside.Statements.{next_statement, next_arm, statement_at}
-use Rattle.wap_expressions.proofs.Loops.{begins, another, no_other, at_fault}
+use Rattle.wap_grammar.specs.inside.Statements.{next_statement, arm_at, next_arm, statement_at}
+use Rattle.wap_expressions.proofs.Loops.{begins, another, no_other, at_fault, at_exit}
 use Rattle.wap_parse.proofs.Lists.{begins_after}
 use Rattle.wap_parse.proofs.Nexts.{arm_found, arm_fault, no_arm, statement_found}
-use Rattle.wap_parse.proofs.Nexts.{statement_fault, no_statement, at_exit}
+use Rattle.wap_parse.proofs.Nexts.{statement_fault, no_statement}
 use Rattle.wap_parse.proofs.Levels.{deeper_statement}
 use Rattle.wap_parse.proofs.statements.+statements.Goals as goal
 
@@ -18,6 +18,13 @@ read_statement-returns t c =
     c.read_parts.ensures
 
 -- ---- conditions
+
+pub read_arm-returns : goal.read_arm-returns
+unfolding arm_at
+read_arm-returns t c =
+    rw c.in_ok-condition.ensures
+    (c.join.ensures (statement_at c.args.src.now c.args.levels c.in_ok-condition.rest.now)
+    c.read_statement.ensures)
 
 pub read_other_arms-loop-init : goal.read_other_arms-loop-init
 read_other_arms-loop-init t c =

@@ -1,7 +1,7 @@
 use Rattle.std.proofs.Common.{◌≡◌, ℕ, List, ◌++◌}
 use Rattle.wap_grammar.specs.Strings.{unescaped}
 use Rattle.wap_expressions.specs.inside.Escapes.{left_of}
-use Rattle.wap_expressions.proofs.strings.unescaped.Given as goal
+use Rattle.wap_expressions.proofs.strings.unescape.Given as goal
 
 -- whatever follows, the text so far and what is still to come are the whole text
 abbrev pub invariant-loop-character : goal.invariant-loop-character

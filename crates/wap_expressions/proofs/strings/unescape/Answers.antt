@@ -1,9 +1,9 @@
-use Rattle.std.proofs.Common.{sym, ap, ◌∙◌, []}
+use Rattle.std.proofs.Common.{sym, ap, ◌∙◌, [], ◌∷◌, append_assoc}
 use Rattle.std.proofs.lemmas.List.{map-id, append-nil}
 use Rattle.std.proofs.lemmas.Iterator.{YieldsList-from_chars}
 use Rattle.std.proofs.lemmas.Iterator.Consumers.{YieldsList-end}
 use Rattle.wap_grammar.specs.Strings.{unescaped}
-use Rattle.wap_expressions.proofs.strings.unescaped.Goals as goal
+use Rattle.wap_expressions.proofs.strings.unescape.Goals as goal
 
 pub returns : goal.returns
 returns c =
@@ -14,3 +14,9 @@ returns c =
     ∙ c.loop-character.invariant []
     ∙ ap unescaped
     (append-nil c.loop-character.yielded ∙ sym (map-id c.loop-character.yielded) ∙ all.0)
+
+pub loop-character-preserved : goal.loop-character-preserved
+loop-character-preserved c = λ rest.
+    sym (c.in_ok-place.ensures rest)
+    ∙ c.loop-character.invariant (c.in-Some.character ∷ rest)
+    ∙ ap unescaped (sym (append_assoc c.loop-character.yielded (c.in-Some.character ∷ []) rest))
