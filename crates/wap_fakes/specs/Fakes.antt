@@ -1,25 +1,10 @@
 -- Pages in memory, and what is seen of them. This project's own.
-use Rattle.std.specs.Prelude.{◌≡◌, ◌≢◌, ℕ, All, if◌then◌else◌, List, [], Option, Some, None}
-use Rattle.std.specs.Map.{keys_of, lookup}
+use Rattle.std.specs.Prelude.{ℕ, if◌then◌else◌, [], Some, None}
 use Rattle.wap_base.specs.Count.{raised}
-use Rattle.wap_base.specs.Texts.{is_same_text, AreDistinct}
 use Rattle.wap_base.specs.Fakes.{Schedule, fails_next, called}
 use Rattle.wap_site.specs.Pages.{Pages}
 use Rattle.wap_site.specs.Misses.{Cache, Asked, is_miss, after_asking}
 use Rattle.wap_site.specs.Asking.{Seen}
-use Rattle.wap_site.specs.declared.page.Page.{Page}
-use Rattle.wap_site.specs.declared.page.Page.TheVariants.{Missing}
-
-abbrev pub page_under : List ℕ → Pages → Option Page
-page_under name pages = lookup (λ other. is_same_text other name) pages
-
-abbrev pub IsThere : Page → Type 0
-IsThere page = page ≢ Missing
-
--- pages that a site may have: no name stands twice, and each page is there
-pub record AreSitePages (pages : Pages) : Type 0 where
-  pub distinct : AreDistinct (keys_of pages)
-  pub there : All (λ page. IsThere page.1) pages
 
 -- pages of which all is known: what a cache keeps of them, and how often the store below it was
 -- asked

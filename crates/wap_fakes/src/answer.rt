@@ -2,8 +2,7 @@
 ghost use Rattle.std.specs.Prelude.{◌≡◌, All, IfOk, IsTrue, ◌↔◌};
 ghost use Rattle.std.specs.Option.{option_copied};
 ghost use Rattle.std.specs.Map.{keys_of};
-ghost use Rattle.wap_site.specs.Pages.{page_of};
-ghost use Rattle.wap_fakes.specs.Fakes.{page_under, IsThere, AreSitePages};
+ghost use Rattle.wap_site.specs.Pages.{page_under, page_of, IsThere, AreSitePages};
 
 use std::alloc::Global;
 use wap_base::{NoMemory, Text, are_distinct};

@@ -1,9 +1,9 @@
 //! Pages that fail at listed calls.
 ghost use Rattle.std.specs.Prelude.{◌≡◌, [], ◌∷◌, true, IfOk, OnOk, IsErrOf, ◌↔◌};
 ghost use Rattle.wap_base.specs.Fakes.{fresh, fails_next};
-ghost use Rattle.wap_site.specs.Pages.{page_of};
+ghost use Rattle.wap_site.specs.Pages.{page_of, AreSitePages};
 ghost use Rattle.wap_site.specs.Asking.{Stays, Asks, Fails};
-ghost use Rattle.wap_fakes.specs.Fakes.{AreSitePages, seen_at, after_call};
+ghost use Rattle.wap_fakes.specs.Fakes.{seen_at, after_call};
 
 use crate::answer::answer;
 use std::alloc::Global;
@@ -22,7 +22,8 @@ pub struct FailingPages {
 impl Model for FailingPages {
     ghost use Rattle.wap_markup.specs.contracts.deck.Item as item;
     ghost use Rattle.std.specs.Coded.{codes};
-    ghost use Rattle.wap_fakes.specs.Fakes.{FailingState, AreSitePages};
+    ghost use Rattle.wap_site.specs.Pages.{AreSitePages};
+    ghost use Rattle.wap_fakes.specs.Fakes.{FailingState};
 
     ghost Value = { FailingState };
 
@@ -51,6 +52,7 @@ impl Pages for FailingPages {
 
     fn page(&mut self, _alloc: Global, name: &Text, fresh: bool) -> Result<Page, RunErr>
         ensures found { IfOk result (λ page. page ≡ page_of name.now self.old.pages) }
+        ensures site { AreSitePages self.old.pages }
         ensures after { self.new ≡ after_call self.old }
         ensures fails { IsErrOf result RunErr.Store ↔ (fails_next self.old.calls ≡ true) }
         ensures asks { OnOk result

@@ -4,9 +4,9 @@ ghost use Rattle.std.specs.Prelude.{IfOk, OnOk, IfErr, IsErrOf};
 ghost use Rattle.std.specs.List.{list_any};
 ghost use Rattle.wap_base.specs.Count.{raised};
 ghost use Rattle.wap_base.specs.Texts.{is_same_text};
-ghost use Rattle.wap_site.specs.Pages.{page_of};
+ghost use Rattle.wap_site.specs.Pages.{page_of, AreSitePages};
 ghost use Rattle.wap_site.specs.Asking.{Stays, Asks, Fails};
-ghost use Rattle.wap_fakes.specs.Fakes.{AreSitePages, seen_of, after_page};
+ghost use Rattle.wap_fakes.specs.Fakes.{seen_of, after_page};
 
 use crate::answer::answer;
 use std::alloc::Global;
@@ -27,7 +27,8 @@ pub struct MemPages {
 impl Model for MemPages {
     ghost use Rattle.wap_markup.specs.contracts.deck.Item as item;
     ghost use Rattle.std.specs.Coded.{codes};
-    ghost use Rattle.wap_fakes.specs.Fakes.{MemState, AreSitePages};
+    ghost use Rattle.wap_site.specs.Pages.{AreSitePages};
+    ghost use Rattle.wap_fakes.specs.Fakes.{MemState};
 
     ghost Value = { MemState };
 
@@ -102,6 +103,7 @@ impl Pages for MemPages {
 
     fn page(&mut self, alloc: Global, name: &Text, fresh: bool) -> Result<Page, RunErr>
         ensures found { IfOk result (λ page. page ≡ page_of name.now self.old.pages) }
+        ensures site { AreSitePages self.old.pages }
         ensures after { OnOk result (self.new ≡ after_page (name.now, fresh) self.old) }
         ensures never { IfErr result (λ fault. fault ≡ RunErr.NoMemory) }
         ensures asks { OnOk result

@@ -1,8 +1,8 @@
 //! Pages of which nothing is known.
 ghost use Rattle.std.specs.Prelude.{◌≡◌, [], ◌∷◌, IfOk, OnOk, IfErr, IsErrOf};
-ghost use Rattle.wap_site.specs.Pages.{page_of};
+ghost use Rattle.wap_site.specs.Pages.{page_of, AreSitePages};
 ghost use Rattle.wap_site.specs.Asking.{Stays, Asks, Fails};
-ghost use Rattle.wap_fakes.specs.Fakes.{AreSitePages, nothing_seen};
+ghost use Rattle.wap_fakes.specs.Fakes.{nothing_seen};
 
 use crate::answer::answer;
 use std::alloc::Global;
@@ -20,8 +20,7 @@ pub struct UntoldPages {
 impl Model for UntoldPages {
     ghost use Rattle.wap_markup.specs.contracts.deck.Item as item;
     ghost use Rattle.std.specs.Coded.{codes};
-    ghost use Rattle.wap_site.specs.Pages.{Pages as Site};
-    ghost use Rattle.wap_fakes.specs.Fakes.{AreSitePages};
+    ghost use Rattle.wap_site.specs.Pages.{Pages as Site, AreSitePages};
 
     ghost Value = { Site };
 
@@ -47,6 +46,7 @@ impl Pages for UntoldPages {
 
     fn page(&mut self, _alloc: Global, name: &Text, fresh: bool) -> Result<Page, RunErr>
         ensures answer { IfOk result (λ page. page ≡ page_of name.now self.old) }
+        ensures pages { AreSitePages self.old }
         ensures same { self.new ≡ self.old }
         ensures never { IfErr result (λ fault. fault ≡ RunErr.NoMemory) }
         ensures asks { OnOk result (Asks ((name.now, fresh) ∷ []) nothing_seen nothing_seen) }

@@ -7,7 +7,7 @@ use Rattle.wap_site.specs.declared.page.Page.{Page}
 use Rattle.wap_site.specs.declared.page.Page.TheVariants as page
 use Rattle.wap_pages.specs.declared.fault.PageFault.{PageFault}
 use Rattle.wap_pages.specs.Judged.{page_of_bytes, page_where, Refuses}
-use Rattle.wap_pages.specs.inside.Keeping.{IsRight}
+use Rattle.wap_pages.specs.inside.Keeping.{HaveDistinctNames, IsRight}
 use Rattle.wap_pages.proofs.Judgements.{page_of-judged, refused_page}
 
 was_found : (bytes : List ℕ) (found : Option (List ℕ)) → fetched.Found bytes ≡ answer_of found
@@ -24,23 +24,31 @@ was_missing None is = refl
 
 pub found_right : (contents : Option Contents) (name bytes : List ℕ) (one : Page)
     → IfSome contents (λ pages. fetched.Found bytes ≡ answer_for name pages)
+    → HaveDistinctNames contents
     → one ≡ page_of_bytes name bytes → IsRight contents name one
-found_right None name bytes one found is = tt
-found_right (Some pages) name bytes one found is =
-    is ∙ sym (page_of-judged name pages
-    ∙ ap (page_where name) (was_found bytes (page_named name pages) found))
+found_right None name bytes one found distinct is = tt
+found_right (Some pages) name bytes one found distinct is = record {
+  named =
+      is ∙ sym (page_of-judged name pages
+      ∙ ap (page_where name) (was_found bytes (page_named name pages) found));
+  distinct = distinct;
+}
 
 pub refused_right : (contents : Option Contents) (name bytes : List ℕ) (why : PageFault)
     → IfSome contents (λ pages. fetched.Found bytes ≡ answer_for name pages)
+    → HaveDistinctNames contents
     → Refuses name bytes why → IsRight contents name page.Refused
-refused_right contents name bytes why found refused =
-    found_right contents name bytes page.Refused found
+refused_right contents name bytes why found distinct refused =
+    found_right contents name bytes page.Refused found distinct
     (sym ((refused_page name bytes).1 (why, refused)))
 
 pub missing_right : (contents : Option Contents) (name : List ℕ)
     → IfSome contents (λ pages. fetched.Missing ≡ answer_for name pages)
-    → IsRight contents name page.Missing
-missing_right None name found = tt
-missing_right (Some pages) name found =
-    sym
-    (page_of-judged name pages ∙ ap (page_where name) (was_missing (page_named name pages) found))
+    → HaveDistinctNames contents → IsRight contents name page.Missing
+missing_right None name found distinct = tt
+missing_right (Some pages) name found distinct = record {
+  named =
+      sym (page_of-judged name pages
+      ∙ ap (page_where name) (was_missing (page_named name pages) found));
+  distinct = distinct;
+}

@@ -1,10 +1,12 @@
 -- What judgements of bytes are, by the relations of bytes, documents and decks.
 use Rattle.std.proofs.Common.{◌≡◌, ◌≢◌, ◌↔◌, ℕ, Bool, true, false, List, [], ◌∷◌, Option, Some}
 use Rattle.std.proofs.Common.{None, Result, Ok, Err, refl, sym, ap, subst, ◌∙◌}
-use Rattle.std.specs.Prelude.{IfOk}
+use Rattle.std.specs.Prelude.{All, IfOk}
 use Rattle.std.specs.Cmp.Lexicographic.{bytes_decides}
-use Rattle.wap_base.specs.Texts.{is_same_text}
-use Rattle.wap_base.specs.Contents.{Contents, page_named}
+use Rattle.std.specs.Map.{keys_of}
+use Rattle.std.proofs.lemmas.List.Elements.{All-nil, All-cons}
+use Rattle.wap_base.specs.Texts.{is_same_text, AreDistinct}
+use Rattle.wap_base.specs.Contents.{Contents, names_of, page_named}
 use Rattle.wap_base.specs.Charsets.{text_in}
 use Rattle.wap_base.specs.Outcome.{Meets}
 use Rattle.wap_base.specs.declared.charset.Charset.TheVariants.{Utf8}
@@ -26,7 +28,7 @@ use Rattle.wap_deckcheck.specs.declared.fault.DeckFault.{DeckFault}
 use Rattle.wap_deckcheck.specs.declared.fault.DeckFault.TheVariants as deck_fault
 use Rattle.wap_deckcheck.proofs.GoodDecks.{good_without_faults}
 use Rattle.wap_deckcheck.proofs.Completeness.{no_faults_where_good}
-use Rattle.wap_site.specs.Pages.{page_of}
+use Rattle.wap_site.specs.Pages.{page_of, IsThere, AreSitePages}
 use Rattle.wap_site.specs.declared.page.Page.{Page}
 use Rattle.wap_site.specs.declared.page.Page.TheVariants as page
 use Rattle.wap_pages.specs.declared.kind.Kind.{Kind}
@@ -342,6 +344,26 @@ pub page_of-judged : (name : List ℕ) (contents : Contents)
 page_of-judged name [] = refl
 page_of-judged name (entry ∷ contents) =
     named name entry contents (is_same_text entry.0 name) refl (page_of-judged name contents)
+
+names_judged : (contents : Contents) → keys_of (judged contents) ≡ names_of contents
+names_judged [] = refl
+names_judged (entry ∷ contents) =
+    ap (λ (names : List (List ℕ)). entry.0 ∷ names) (names_judged contents)
+
+judged_there : (contents : Contents)
+    → All (λ (one : List ℕ × Page). IsThere one.1) (judged contents)
+judged_there [] = All-nil (λ (one : List ℕ × Page). IsThere one.1)
+judged_there (entry ∷ contents) =
+    All-cons (λ (one : List ℕ × Page). IsThere one.1)
+    (entry.0, page_of_bytes entry.0 entry.1) (judged contents)
+    (page_there entry.0 entry.1) (judged_there contents)
+
+pub judged_pages_fit : (contents : Contents) → AreDistinct (names_of contents)
+    → AreSitePages (judged contents)
+judged_pages_fit contents distinct = record {
+  distinct = subst AreDistinct (sym (names_judged contents)) distinct;
+  there = judged_there contents;
+}
 
 -- ---- calls, step by step
 

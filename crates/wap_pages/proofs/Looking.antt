@@ -12,6 +12,7 @@ use Rattle.wap_pages.specs.Caches.{KeepsNoMore}
 use Rattle.wap_pages.specs.inside.Keeping.{Kept, names_in, IsRight, IsSound, LooksUp, Keeps}
 use Rattle.wap_pages.proofs.Keeping.{kept_some, kept_none, promoted_none, found_right, found_sound}
 use Rattle.wap_pages.proofs.Keeping.{found_first, no_more_asking, put_sound, put_first}
+use Rattle.wap_pages.proofs.Seeing.{right_distinct}
 
 module _ (contents : Option Contents) (name : List ℕ) (kept : Kept)
     (sound : IsSound contents kept) where
@@ -32,6 +33,7 @@ module _ (contents : Option Contents) (name : List ℕ) (kept : Kept)
     sound = found_sound contents name kept sound page (sym is);
     capacity = refl;
     right = found_right contents name kept sound page (sym is);
+    distinct = tt;
     hit = ap (λ (b : Bool). false || not b) (kept_some name kept.entries page (sym is));
     first = found_first contents name kept sound page false (sym is);
     miss = λ e. absurd (differ e);
@@ -49,6 +51,7 @@ module _ (contents : Option Contents) (name : List ℕ) (kept : Kept)
         sound = subst (IsSound contents) (sym same) sound;
         capacity = refl;
         right = tt;
+        distinct = tt;
         hit = tt;
         first = tt;
         miss = λ e. ap (λ (b : Bool). false || not b) (kept_none name kept.entries (sym is));
@@ -61,6 +64,8 @@ module _ (contents : Option Contents) (name : List ℕ) (kept : Kept)
     sound = found_sound contents name kept sound page was;
     capacity = refl;
     right = tt;
+    distinct =
+        right_distinct contents name page (found_right contents name kept sound page was);
     hit = tt;
     first = tt;
     miss = λ so. absurd (differ so);

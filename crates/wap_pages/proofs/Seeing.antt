@@ -4,13 +4,14 @@ use Rattle.std.proofs.Common.{◌∷◌, Option, Some, None, refl, sym, ap, ◌�
 use Rattle.std.specs.Prelude.{IfSome, option_map}
 use Rattle.wap_base.specs.Contents.{Contents}
 use Rattle.wap_base.specs.Count.{raised, Rose}
-use Rattle.wap_site.specs.Pages.{page_of}
+use Rattle.wap_site.specs.Pages.{page_of, AreSitePages}
 use Rattle.wap_site.specs.Misses.{Cache, Asked, is_miss, after_asking, misses}
 use Rattle.wap_site.specs.Asking.{Seen, raised_by, Stays, Asks, Fails}
 use Rattle.wap_site.specs.declared.page.Page.{Page}
 use Rattle.wap_pages.specs.Caches.{seen_over}
 use Rattle.wap_pages.specs.Judged.{judged}
-use Rattle.wap_pages.specs.inside.Keeping.{IsRight}
+use Rattle.wap_pages.specs.inside.Keeping.{HaveDistinctNames, IsRight}
+use Rattle.wap_pages.proofs.Judgements.{judged_pages_fit}
 
 none_missed : (asked : Asked) (cache : Cache) → is_miss asked cache ≡ false
     → misses (asked ∷ []) cache ≡ 0
@@ -25,7 +26,18 @@ pub right_seen : (contents : Option Contents) (name : List ℕ) (page : Page)
     → IsRight contents name page
     → IfSome (option_map judged contents) (λ pages. page ≡ page_of name pages)
 right_seen None name page right = tt
-right_seen (Some contents) name page right = right
+right_seen (Some contents) name page right = right.named
+
+pub right_distinct : (contents : Option Contents) (name : List ℕ) (page : Page)
+    → IsRight contents name page → HaveDistinctNames contents
+right_distinct None name page right = tt
+right_distinct (Some contents) name page right = right.distinct
+
+-- the pages that are seen are those of a site
+pub site_seen : (contents : Option Contents) → HaveDistinctNames contents
+    → IfSome (option_map judged contents) AreSitePages
+site_seen None distinct = tt
+site_seen (Some contents) distinct = judged_pages_fit contents distinct
 
 module _ (behind : Option Contents) (before after : Cache) (faults fetches listings : ℕ) where
   pub hit_stays : after.capacity ≡ before.capacity

@@ -6,10 +6,11 @@ ghost use Rattle.std.specs.Map.{lookup};
 ghost use Rattle.wap_base.specs.Contents.{Contents};
 ghost use Rattle.wap_base.specs.Count.{raised, Rose};
 ghost use Rattle.wap_base.specs.Texts.{is_same_text};
-ghost use Rattle.wap_site.specs.Pages.{page_of};
+ghost use Rattle.wap_site.specs.Pages.{page_of, AreSitePages};
 ghost use Rattle.wap_site.specs.Asking.{Stays, Asks, Fails};
 ghost use Rattle.wap_pages.specs.Caches.{cache_of, seen_over, KeepsNoMore};
-ghost use Rattle.wap_pages.specs.inside.Keeping.{IsRight, IsSound, LooksUp, Keeps};
+ghost use Rattle.wap_pages.specs.inside.Keeping.{HaveDistinctNames, IsRight, IsSound};
+ghost use Rattle.wap_pages.specs.inside.Keeping.{LooksUp, Keeps};
 
 use crate::{PageErr, judge};
 use lru::LruCache;
@@ -128,6 +129,7 @@ fn keep(
 /// The page of a name, from the store.
 fn fetch<S: Store>(alloc: Global, store: &mut S, name: &Text) -> Result<Page, RunErr>
     ensures found { IfOk result (IsRight (S.contents store.old) name.now) }
+    ensures distinct { HaveDistinctNames (S.contents store.old) }
     ensures kept { S.contents store.new ≡ S.contents store.old }
     ensures counted { S.fetches store.new ≡ raised (S.fetches store.old) }
     ensures listings { S.listings store.new ≡ S.listings store.old }
@@ -153,6 +155,7 @@ impl<S: Store> Pages for Cached<S> {
     fn page(&mut self, alloc: Global, name: &Text, fresh: bool) -> Result<Page, RunErr>
         ensures found { IfOk result (λ page. IfSome (⟦<Cached<S> as Pages>⟧.seen self.old).contents
             (λ pages. page ≡ page_of name.now pages)) }
+        ensures site { IfSome (⟦<Cached<S> as Pages>⟧.seen self.old).contents AreSitePages }
         ensures asks { OnOk result (Asks ((name.now, fresh) ∷ [])
             (⟦<Cached<S> as Pages>⟧.seen self.old) (⟦<Cached<S> as Pages>⟧.seen self.new)) }
         ensures failed { IsErrOf result RunErr.Store → Fails ((name.now, fresh) ∷ [])

@@ -1,8 +1,9 @@
 //! What the judging of pages means.
 ghost use Rattle.std.specs.Prelude.{◌≡◌, ◌≢◌, ◌↔◌, ℕ, List};
-ghost use Rattle.wap_base.specs.Contents.{Contents, page_named};
+ghost use Rattle.wap_base.specs.Contents.{Contents, names_of, page_named};
+ghost use Rattle.wap_base.specs.Texts.{AreDistinct};
 ghost use Rattle.wap_markup.specs.declared.deck.Deck.{Deck};
-ghost use Rattle.wap_site.specs.Pages.{page_of};
+ghost use Rattle.wap_site.specs.Pages.{page_of, AreSitePages};
 ghost use Rattle.wap_site.specs.declared.page.Page.TheVariants as page;
 ghost use Rattle.wap_pages.specs.declared.fault.PageFault.{PageFault};
 ghost use Rattle.wap_pages.specs.Judged.{page_of_bytes, judged, page_where};
@@ -11,7 +12,7 @@ ghost use Rattle.wap_pages.specs.Judged.{IsDeckPage, IsTextPage, Refuses};
 /// A law of `judged`, which does nothing when it is called. A name's page is that of its bytes, and
 /// missing where it has none. It is a deck where the bytes are a document that means this deck, and
 /// it is good; it is a text where the bytes are this text; and it is refused where there is
-/// neither.
+/// neither. Where no name of the store stands twice, they are pages that a site may have.
 pub fn pages_are_judged()
     ensures pages { (name : List ℕ) (contents : Contents)
         → page_of name (judged contents) ≡ page_where name (page_named name contents) }
@@ -23,6 +24,8 @@ pub fn pages_are_judged()
         ↔ (((deck : Deck) → ¬ IsDeckPage name bytes deck)
         × ((text : List ℕ) → ¬ IsTextPage name bytes text)) }
     ensures found { (name bytes : List ℕ) → page_of_bytes name bytes ≢ page.Missing }
+    ensures site { (contents : Contents) → AreDistinct (names_of contents)
+        → AreSitePages (judged contents) }
 {}
 
 /// A law of the faults for which pages are refused: a page that is refused has one, and one alone.

@@ -1,6 +1,7 @@
 //! The pages of a site: what they are, and how a browser asks for them.
 #![tactic(auto)]
 
+pub mod laws;
 mod page;
 mod pages;
 mod shared;

@@ -1,6 +1,6 @@
 //! Where pages come from.
 ghost use Rattle.std.specs.Prelude.{◌≡◌, ◌∷◌, [], IfOk, OnOk, IfSome, IsErrOf};
-ghost use Rattle.wap_site.specs.Pages.{page_of};
+ghost use Rattle.wap_site.specs.Pages.{page_of, AreSitePages};
 ghost use Rattle.wap_site.specs.Asking.{Seen, Stays, Asks, Fails};
 
 use crate::Page;
@@ -12,13 +12,15 @@ pub trait Pages {
     /// What a contract sees of them.
     ghost seen: { Self → Seen };
 
-    /// The page of a name. One that has to be `fresh` is fetched anew.
+    /// The page of a name: `laws` say where it is `Missing`. One that has to be `fresh` is fetched
+    /// anew.
     ///
     /// # Errors
     /// `Store` where a page couldn't be fetched, and `NoMemory`.
     fn page(&mut self, alloc: Global, name: &Text, fresh: bool) -> Result<Page, RunErr>
         ensures found { IfOk result (λ page. IfSome (seen self.old).contents
             (λ pages. page ≡ page_of name.now pages)) }
+        ensures site { IfSome (seen self.old).contents AreSitePages }
         ensures asks { OnOk result
             (Asks ((name.now, fresh) ∷ []) (seen self.old) (seen self.new)) }
         ensures failed { IsErrOf result RunErr.Store

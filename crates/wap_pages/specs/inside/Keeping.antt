@@ -4,7 +4,7 @@ use Rattle.std.specs.Prelude.{None, IfSome, IfOk, OnOk, OnErr, Result, Ok}
 use Rattle.std.specs.List.{AllByRecursion}
 use Rattle.std.specs.Map.{keys_of}
 use Rattle.lru.specs.LruCache.{LruCache}
-use Rattle.wap_base.specs.Contents.{Contents}
+use Rattle.wap_base.specs.Contents.{Contents, names_of}
 use Rattle.wap_base.specs.Texts.{AreDistinct}
 use Rattle.wap_base.specs.declared.fault.NoMemory.{NoMemory}
 use Rattle.wap_site.specs.Pages.{page_of}
@@ -19,9 +19,18 @@ Kept = LruCache (List ℕ) Page
 abbrev pub names_in : Kept → Cache
 names_in kept = record { names = keys_of kept.entries; capacity = kept.cap }
 
--- a page is the one of its name, where the contents are known
+-- no name stands twice, where the contents are known
+abbrev pub HaveDistinctNames : Option Contents → Type 0
+HaveDistinctNames contents = IfSome contents (λ contents. AreDistinct (names_of contents))
+
+-- a page is the one of its name, and no name stands twice
+pub record IsRightIn (contents : Contents) (name : List ℕ) (page : Page) : Type 0 where
+  pub named : page ≡ page_of name (judged contents)
+  pub distinct : AreDistinct (names_of contents)
+
+-- the same, where the contents are known
 abbrev pub IsRight : Option Contents → List ℕ → Page → Type 0
-IsRight contents name page = IfSome contents (λ contents. page ≡ page_of name (judged contents))
+IsRight contents name page = IfSome contents (λ contents. IsRightIn contents name page)
 
 abbrev pub IsRightEntry : Option Contents → List ℕ × Page → Type 0
 IsRightEntry contents entry = IsRight contents entry.0 entry.1
@@ -39,6 +48,7 @@ pub record LooksUp (contents : Option Contents) (asked : Asked) (before after : 
   pub sound : IsSound contents after
   pub capacity : after.cap ≡ before.cap
   pub right : IfOk result (λ found. IfSome found (IsRight contents asked.0))
+  pub distinct : OnErr result (HaveDistinctNames contents)
   pub hit : IfOk result (λ found. IfSome found (λ _. is_miss asked (names_in before) ≡ false))
   pub first : IfOk result
       (λ found. IfSome found (λ _. names_in after ≡ after_asking asked (names_in before)))

@@ -1,5 +1,5 @@
 use Rattle.std.proofs.Common.{◌≡◌, drop}
-use Rattle.wap_fakes.specs.Fakes.{page_under}
+use Rattle.wap_site.specs.Pages.{page_under}
 use Rattle.wap_fakes.proofs.answer.find.Given as goal
 
 -- the pages passed have other names

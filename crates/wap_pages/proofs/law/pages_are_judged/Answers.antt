@@ -1,5 +1,6 @@
 use Rattle.wap_pages.proofs.Judgements.{deck_page, page_deck, text_page, page_text_is}
 use Rattle.wap_pages.proofs.Judgements.{neither_page, page_there, page_of-judged}
+use Rattle.wap_pages.proofs.Judgements.{judged_pages_fit}
 use Rattle.wap_pages.proofs.law.pages_are_judged.Goals as goal
 
 pub returns-clause-pages : goal.returns-clause-pages
@@ -17,3 +18,6 @@ returns-clause-refused c = neither_page
 
 pub returns-clause-found : goal.returns-clause-found
 returns-clause-found c = page_there
+
+pub returns-clause-site : goal.returns-clause-site
+returns-clause-site c = judged_pages_fit

@@ -5,8 +5,8 @@ use Rattle.wap_base.specs.declared.fault.NoMemory.{NoMemory}
 use Rattle.wap_site.specs.Misses.{Asked, after_asking, is_miss}
 use Rattle.wap_site.specs.declared.page.Page.{Page}
 use Rattle.wap_pages.specs.Caches.{KeepsNoMore}
-use Rattle.wap_pages.specs.inside.Keeping.{Kept, names_in, IsRight, IsSound}
-use Rattle.wap_pages.proofs.Seeing.{right_seen, hit_stays, hit_asks}
+use Rattle.wap_pages.specs.inside.Keeping.{Kept, names_in, HaveDistinctNames, IsRight, IsSound}
+use Rattle.wap_pages.proofs.Seeing.{right_seen, right_distinct, site_seen, hit_stays, hit_asks}
 use Rattle.wap_pages.proofs.Seeing.{miss_stays, miss_asks, miss_fails}
 use Rattle.wap_pages.proofs.Looking.{on_fault}
 use Rattle.wap_pages.proofs.cached.CachedPages.page.Goals as goal
@@ -16,6 +16,15 @@ use Rattle.wap_pages.proofs.cached.CachedPages.page.Goals as goal
 pub invariant_of-self : goal.invariant_of-self
 invariant_of-self g c =
     (c.look_up.ensures (g.S.Store.contents c.self.inside.store) c.self.invariant).sound
+
+pub returns-in_err-page-clause-site : goal.returns-in_err-page-clause-site
+returns-in_err-page-clause-site g c =
+    let behind = g.S.Store.contents c.self.inside.store in
+    let looked = c.look_up.ensures behind c.self.invariant in
+    rw (← c.self.view_is)
+    (site_seen behind
+    (subst (λ (r : Result (Option Page) NoMemory). OnErr r (HaveDistinctNames behind))
+    c.in_err-page.was looked.distinct))
 
 pub returns-in_err-page-clause-stays : goal.returns-in_err-page-clause-stays
 returns-in_err-page-clause-stays g c =
@@ -49,6 +58,16 @@ returns-in-Some-clause-found g c =
     (subst (λ (r : Result (Option Page) NoMemory).
     IfOk r (λ found. IfSome found (IsRight behind c.args.name.now))) is looked.right))
 
+pub returns-in-Some-clause-site : goal.returns-in-Some-clause-site
+returns-in-Some-clause-site g c =
+    let behind = g.S.Store.contents c.self.inside.store in
+    let looked = c.look_up.ensures behind c.self.invariant in
+    let is = c.in_ok-page.was ∙ ap (λ (found : Option Page). Ok found) c.in-Some.is in
+    rw (← c.self.view_is)
+    (site_seen behind (right_distinct behind c.args.name.now c.in-Some.page
+    (subst (λ (r : Result (Option Page) NoMemory).
+    IfOk r (λ found. IfSome found (IsRight behind c.args.name.now))) is looked.right)))
+
 pub returns-in-Some-clause-asks : goal.returns-in-Some-clause-asks
 returns-in-Some-clause-asks g c =
     let behind = g.S.Store.contents c.self.inside.store in
@@ -81,6 +100,11 @@ invariant_of-self-in-Err g c =
     let looked = c.look_up.ensures (g.S.Store.contents c.self.inside.store) c.self.invariant in
     subst (λ (behind : Option Contents). IsSound behind c.look_up.new.kept)
     (sym c.fetch.ensures.kept) looked.sound
+
+pub returns-in-Err-clause-site : goal.returns-in-Err-clause-site
+returns-in-Err-clause-site g c =
+    rw (← c.self.view_is)
+    (site_seen (g.S.Store.contents c.self.inside.store) c.fetch.ensures.distinct)
 
 pub returns-in-Err-clause-failed : goal.returns-in-Err-clause-failed
 returns-in-Err-clause-failed g c = λ why.
@@ -129,6 +153,11 @@ invariant_of-self-in_err-keep-in-Ok g c =
     subst (λ (b : Option Contents). IsRight b c.args.name.now c.in-Ok.page)
     (sym c.fetch.ensures.kept) c.in-Ok.ensures.found in
     (c.keep.ensures behind sound right).sound
+
+pub returns-in_err-keep-in-Ok-clause-site : goal.returns-in_err-keep-in-Ok-clause-site
+returns-in_err-keep-in-Ok-clause-site g c =
+    rw (← c.self.view_is)
+    (site_seen (g.S.Store.contents c.self.inside.store) c.fetch.ensures.distinct)
 
 pub returns-in_err-keep-in-Ok-clause-stays : goal.returns-in_err-keep-in-Ok-clause-stays
 returns-in_err-keep-in-Ok-clause-stays g c =
@@ -184,6 +213,11 @@ invariant_of-self-in-Ok g c =
     subst (λ (b : Option Contents). IsRight b c.args.name.now c.in-Ok.page)
     (sym c.fetch.ensures.kept) c.in-Ok.ensures.found in
     (c.keep.ensures behind sound right).sound
+
+pub returns-in_ok-keep-in-Ok-clause-site : goal.returns-in_ok-keep-in-Ok-clause-site
+returns-in_ok-keep-in-Ok-clause-site g c =
+    rw (← c.self.view_is)
+    (site_seen (g.S.Store.contents c.self.inside.store) c.fetch.ensures.distinct)
 
 pub returns-in_ok-keep-in-Ok-clause-asks : goal.returns-in_ok-keep-in-Ok-clause-asks
 returns-in_ok-keep-in-Ok-clause-asks g c =
