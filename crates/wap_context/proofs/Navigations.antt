@@ -256,7 +256,7 @@ module _ (pages : Pages) (old : Browser) (over : IsOver pages old) where
       → base ≡ option_map (λ (p : Place). p.url) (place_held old)
       → Err refusal ≡ target_of base one.href
       → go pages [] (url_now pages old.world) one old.world ≡ refused pages [] refusal old.world
-  go_refused base one refusal is target =
+  go_refused base one why is target =
       ap (λ (b : Option Url). go pages [] b one old.world) (url_is base is)
       ∙ sym (ap (with_url pages [] old.world
       (λ found. stay_or_ask pages [] one.sets base (request_of base one found) old.world
@@ -275,7 +275,7 @@ module _ (pages : Pages) (old : Browser) (over : IsOver pages old) where
       → base ≡ option_map (λ (p : Place). p.url) (place_held old)
       → Err refusal ≡ target_of base text
       → open_url pages [] text old.world ≡ refused pages [] refusal old.world
-  open_refused base text refusal is target =
+  open_refused base text why is target =
       ap (λ (b : Option Url). with_url pages [] old.world (λ found.
       request pages [] [] None (plain_get found) old.world) (target_of b text)) (url_is base is)
       ∙ sym (ap (with_url pages [] old.world
