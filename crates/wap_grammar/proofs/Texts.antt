@@ -2,7 +2,7 @@
 -- has the number of a surrogate.
 use Rattle.std.proofs.Common.{◌≡◌, ℕ, zero, suc, ◌+◌, ◌-◌, ◌<◌, ◌≤◌, nat_le, nat_lt, Bool, true}
 use Rattle.std.proofs.Common.{false, cond, ◌==◌, ◌&&◌, ◌||◌, List, [], ◌∷◌, ◌++◌, length, take}
-use Rattle.std.proofs.Common.{drop, Some, None, encode_utf8, encode_utf8_all, refl, sym, ap, subst}
+use Rattle.std.proofs.Common.{drop, encode_utf8, encode_utf8_all, refl, sym, ap, subst}
 use Rattle.std.proofs.Common.{◌∙◌, inl, inr, ◌⊎◌, length-append, append_assoc, arith}
 use Rattle.std.specs.List.{All}
 use Rattle.std.specs.Str.{IsUtf8, chars, all_scalars}

@@ -9,7 +9,7 @@ use Rattle.std.proofs.lemmas.Bool.{ltb-false, leb-true}
 use Rattle.wap_base.proofs.Choices.{chosen, some_same}
 use Rattle.wap_keys.specs.Decimal.{decimal_of}
 use Rattle.wap_words.specs.declared.words.Browse.{Browse as Browsing}
-use Rattle.wap_words.specs.declared.words.Command.TheVariants.{Browse, Page}
+use Rattle.wap_words.specs.declared.words.Command.TheVariants.{Browse}
 use Rattle.wap_words.specs.declared.words.PageCommand.{PageCommand}
 use Rattle.wap_words.specs.declared.word.Word.{Word}
 use Rattle.wap_words.specs.declared.word.Word.TheVariants as word
