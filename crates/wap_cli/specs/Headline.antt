@@ -32,7 +32,8 @@ pub record Serves (command : PageCommand) (name : List ℕ) (old new : Devices) 
   pub store_fault : status ≡ StoreFault → Rose old.store_faults new.store_faults
   pub write_fault : status ≡ WriteFault → Rose old.write_faults new.write_faults
   pub unwritten : status ≡ StoreFault → new.written ≡ old.written
-  -- no fault of the store is passed over but out of memory, and none of the sink but on WriteFault
+  -- after a fault of the store the status is StoreFault, or out of memory; after one of the sink it
+  -- is WriteFault
   pub store_steady : status ≢ StoreFault → status ≢ NoMemory
       → new.store_faults ≡ old.store_faults
   pub write_steady : status ≢ WriteFault → new.write_faults ≡ old.write_faults

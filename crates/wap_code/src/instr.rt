@@ -4,7 +4,7 @@ use crate::row::OpName;
 /// An instruction. Operands that it doesn't have are 0.
 #[derive(Clone, Copy, Debug, PartialEq, Eq)]
 pub struct Instr {
-    /// What it does.
+    /// The name of its spelling, as its row has it.
     pub name: OpName,
     /// Its first operand.
     pub a: u32,

@@ -17,7 +17,7 @@ pub struct State {
     pub vars: Vars,
     /// The cards that were entered, the current one last.
     pub history: History,
-    /// The timer of the current card, if one runs.
+    /// The timer of the current card.
     pub timer: Timer,
     /// How many turns each key has.
     pub budget: u32,

@@ -201,7 +201,7 @@ pub fn put_instr_line<O: Sink>(out: &mut O, held: &mut Held, at: u64, row: Row, 
     );
 }
 
-/// Adds the line of a byte of code that begins no instruction.
+/// Adds the line of a byte of code: the first that begins no instruction, or one after it.
 pub fn put_byte_line<O: Sink>(out: &mut O, held: &mut Held, at: u64, byte: u8)
     ensures { Puts (O.written out.old) (O.written out.new) (O.faults out.old) (O.faults out.new)
         (state held.old) (state held.new) (byte_line (at, byte)) }

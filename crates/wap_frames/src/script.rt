@@ -11,6 +11,6 @@ pub struct Script {
     pub unit: Arc<Verified, Global>,
     /// The unit's URL, to which its references are joined.
     pub base: Url,
-    /// The URL of the unit that called it; none where a deck did.
+    /// The URL of the unit that called it, if one did.
     pub referer: Option<Url>,
 }

@@ -80,7 +80,7 @@ fn coded_start(bytes: &[u8]) -> Option<Start<'_>>
 }
 
 /// The value of the first attribute of that name.
-// The first of all is looked at here, with few words at hand: mostly it is that one.
+// The first of all is looked at here, apart from the loop: mostly it is that one.
 #[inline(never)]
 pub fn find_attr<'a>(table: &Bytes, name: AttrName, bytes: &'a [u8]) -> Option<Run<'a>>
     requires { Ends (attr_at table.now) bytes.now }

@@ -73,8 +73,8 @@ pub fn names_of(bytes: &[u8]) -> u16
     }
 }
 
-/// What is known of the node that bytes begin with by its mark alone: it may have all attributes or
-/// has none, and then its content follows the mark.
+/// What is known of the node that bytes begin with by its mark alone: it may have any attributes, or
+/// it has none; then its content, if it has one, follows the mark.
 #[inline(always)]
 pub fn known_by_mark(bytes: &[u8]) -> Known
     ensures { IsHead bytes.now result.names result.head }

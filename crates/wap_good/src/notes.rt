@@ -28,7 +28,8 @@ pub struct Known {
     pub names: u16,
     /// So many of its bytes stand before its content; 0 where that isn't known.
     pub head: u8,
-    /// How many notes of nodes in it follow, 255 where there are as many or more.
+    /// In a note: how many notes of nodes in it follow, 255 where there are as many or more. Else it
+    /// isn't counted.
     pub inside: u8,
 }
 

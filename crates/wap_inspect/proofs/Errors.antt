@@ -6,7 +6,6 @@ use Rattle.wap_wbxml.specs.Refusal as documents
 use Rattle.wap_wbxml.specs.declared.fault.DocFault.{DocFault}
 use Rattle.wap_wbxml.specs.declared.fault.DocFault.TheVariants as document
 use Rattle.std.specs.Prelude.{Some}
-use Rattle.wap_markup.specs.declared.deck.Deck.{Deck}
 use Rattle.wap_markup.specs.Decks.{deck_of}
 use Rattle.wap_deckcheck.specs.Faults.{faults, first_fault}
 use Rattle.wap_deckcheck.specs.declared.fault.DeckFault.{DeckFault}

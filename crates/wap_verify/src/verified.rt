@@ -85,8 +85,8 @@ impl Verified {
         &self.unit
     }
 
-    /// Room for all values of a function: at least each number of values that is reached, and at
-    /// most the greatest of them and one more.
+    /// Room for the values of a function: the greatest number of values with which a place of it is
+    /// reached.
     pub fn room(&self, function: u8) -> usize
         requires { function < length self.now.functions }
         ensures { (code : Code) → slice_get self.now.functions function ≡ Some code

@@ -25,7 +25,7 @@ impl<'a> Model for Input<'a> {
 }
 
 impl<'a> Input<'a> {
-    /// What the head of a document tells its readers.
+    /// How long a document is, and how its strings are spelled.
     pub fn new(total: usize, charset: Charset, table: &'a [u8]) -> Input<'a>
         ensures total { result.total ≡ total }
         ensures charset { result.strings.charset ≡ charset }
@@ -38,7 +38,7 @@ impl<'a> Input<'a> {
         }
     }
 
-    /// How many bytes the document has, by which places are told.
+    /// How many bytes the document has; places are counted by it.
     pub fn total(&self) -> usize
         ensures { result ≡ self.now.total }
     {
