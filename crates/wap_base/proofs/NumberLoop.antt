@@ -28,30 +28,6 @@ ends_short input start counter before place whole turns at_end so_far =
     let left : 5 - counter ≡ suc (4 - counter) = omega arith in
     sym so_far ∙ rw (left, at_end, drop-length input) refl
 
-pub ends_over : (input : List ℕ) (start counter before place : ℕ) (whole : Reading) → counter < 5
-    → place < length input → 33554431 < before
-    → mb_after start (length input) (5 - counter) before place (drop place input) ≡ whole
-    → whole ≡ Err (TooLong start)
-ends_over input start counter before place whole turns within over so_far =
-    let left : 5 - counter ≡ suc (4 - counter) = omega arith in
-    let big : 2 ^ 32 ≤ 128 * before + get_or input place 0 % 128 = omega arith in
-    sym so_far
-    ∙ rw left (step input start (4 - counter) before place within ∙ rw (le-ltb _ _ big) refl)
-
-pub ends_whole : (input : List ℕ) (start counter before place byte : ℕ) (whole : Reading)
-    → counter < 5
-    → place < length input → before ≤ 33554431 → byte ≡ get_or input place 0 → byte < 128
-    → mb_after start (length input) (5 - counter) before place (drop place input) ≡ whole
-    → whole ≡ Ok (before * 128 + byte % 128, place + 1)
-ends_whole input start counter before place byte whole turns within fits byte_is last so_far =
-    let left : 5 - counter ≡ suc (4 - counter) = omega arith in
-    let small : 128 * before + get_or input place 0 % 128 < 2 ^ 32 = omega arith in
-    let lone : get_or input place 0 < 128 = omega arith in
-    let value_is : 128 * before + get_or input place 0 % 128 ≡ before * 128 + byte % 128 =
-    omega (arith, ap (λ (b : ℕ). b % 128) byte_is) in
-    sym so_far ∙ rw left (step input start (4 - counter) before place within
-    ∙ rw (lt-ltb _ _ small, lt-ltb _ _ lone, value_is) refl)
-
 pub goes_on : (input : List ℕ) (start counter before place byte : ℕ) (whole : Reading) → counter < 5
     → place < length input → before ≤ 33554431 → byte ≡ get_or input place 0 → 128 ≤ byte
     → mb_after start (length input) (5 - counter) before place (drop place input) ≡ whole
@@ -70,10 +46,3 @@ goes_on input start counter before place byte whole turns within fits byte_is ca
     rw left (step input start (5 - (counter + 1)) before place within
     ∙ rw (lt-ltb _ _ small, le-ltb _ _ more, value_is) refl) in
     sym one ∙ so_far
-
-pub ends_long : (input : List ℕ) (start counter before place : ℕ) (whole : Reading) → 5 ≤ counter
-    → mb_after start (length input) (5 - counter) before place (drop place input) ≡ whole
-    → whole ≡ Err (TooLong start)
-ends_long input start counter before place whole turns so_far =
-    let left : 5 - counter ≡ 0 = omega arith in
-    sym so_far ∙ rw left refl

@@ -1,6 +1,6 @@
 -- Texts that ascend, and texts of which none stands twice.
-use Rattle.std.proofs.Common.{◌≡◌, ℕ, ◌+◌, ◌-◌, ◌<◌, ◌≤◌, Bool, true, false, List, []}
-use Rattle.std.proofs.Common.{length, get_or, refl, sym, ap, ◌∙◌, subst₂, arith}
+use Rattle.std.proofs.Common.{◌≡◌, ℕ, ◌+◌, ◌-◌, ◌<◌, ◌≤◌, Bool, false, List, []}
+use Rattle.std.proofs.Common.{length, get_or, sym, ap, ◌∙◌, subst₂, arith}
 use Rattle.std.specs.Prelude.{encode_utf8_all, IsTrue, ◌↔◌}
 use Rattle.std.specs.List.{IsDistinct}
 use Rattle.std.specs.List.Sorted.{IsPermutation, IsSorted}
@@ -23,11 +23,6 @@ pub less_from : (ab ba : Ordering) → ab ≡ ordering_reverse ba → is_lt ba �
 less_from ab Less flips not_after not_it = absurd cc
 less_from ab Equal flips not_after not_it = absurd (cc (ap is_eq flips))
 less_from ab Greater flips not_after not_it = flips
-
-pub less_from_is_lt : (o : Ordering) → is_lt o ≡ true → o ≡ Less
-less_from_is_lt Less lt = refl
-less_from_is_lt Equal lt = absurd cc
-less_from_is_lt Greater lt = absurd cc
 
 -- texts of which each comes before the next
 pub ascending_from_adjacent : (texts : List (List ℕ))

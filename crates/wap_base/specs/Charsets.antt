@@ -1,5 +1,6 @@
 -- Strings in a character set (the numbers are IANA's MIBenum): which sets are read, when bytes
--- spell a text in one, and which.
+-- spell a text in one, and which. This project's own: that these three sets are read and no other,
+-- and that 0 is UTF-8.
 use Rattle.std.specs.Prelude.{ℕ, Bool, true, nat_lt, ◌==◌, ◌||◌}
 use Rattle.std.specs.Prelude.{if◌then◌else◌, List, Option, Some, None}
 use Rattle.std.specs.List.{list_all}

@@ -1,6 +1,7 @@
 -- Counts of calls and of faults, which stand still at their greatest value. This project's own.
 use Rattle.std.specs.Prelude.{ℕ, ◌+◌, ◌≤◌, min}
 
+-- 2 ^ 64 - 1
 abbrev pub greatest_count : ℕ
 greatest_count = 18446744073709551615
 

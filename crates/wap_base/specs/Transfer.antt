@@ -14,9 +14,9 @@ abbrev pub Appends : Option (List ℕ) → Option (List ℕ) → List ℕ → Ty
 Appends before after bytes = after ≡ option_map (λ written. written ++ bytes) before
 
 -- the sink has some prefix of these bytes after what it had
-abbrev pub AppendsFront : Option (List ℕ) → Option (List ℕ) → List ℕ → Type 0
-AppendsFront before after bytes =
-    (front : List ℕ) × (rest : List ℕ) × (bytes ≡ front ++ rest) × Appends before after front
+abbrev pub AppendsPrefix : Option (List ℕ) → Option (List ℕ) → List ℕ → Type 0
+AppendsPrefix before after bytes =
+    (prefix : List ℕ) × (rest : List ℕ) × (bytes ≡ prefix ++ rest) × Appends before after prefix
 
 -- no bytes are left, where they are known
 abbrev pub IsAtEnd : Option (List ℕ) → Type 0

@@ -23,10 +23,12 @@ impl<T: Drop> From<AllocFailed<T>> for NoMemory {
 #[derive(Clone, Copy, Debug, PartialEq, Eq)]
 pub struct Failed;
 
-/// Why a call that asks for pages gave up: the store failed, or memory ran out.
+/// Why a call that asks for pages gave up.
 #[derive(Clone, Copy, Debug, PartialEq, Eq)]
 pub enum RunErr {
+    /// The store failed.
     Store,
+    /// Memory ran out.
     NoMemory,
 }
 
@@ -36,7 +38,7 @@ impl From<NoMemory> for RunErr {
 
     ghost from_gives = { λ _ fault. fault ≡ NoMemory };
 
-    fn from(_want: NoMemory) -> RunErr {
+    fn from(_error: NoMemory) -> RunErr {
         RunErr::NoMemory
     }
 }

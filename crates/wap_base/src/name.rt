@@ -29,7 +29,9 @@ impl Model for Name {
 /// Why a text became no name.
 #[derive(Clone, Copy, Debug, PartialEq, Eq)]
 pub enum NameFault {
+    /// The text isn't one that a name may be.
     BadName,
+    /// Memory ran out.
     NoMemory,
 }
 
@@ -39,7 +41,7 @@ impl From<NoMemory> for NameFault {
 
     ghost from_gives = { λ _ fault. fault ≡ NoMemory };
 
-    fn from(_want: NoMemory) -> NameFault {
+    fn from(_error: NoMemory) -> NameFault {
         NameFault::NoMemory
     }
 }
@@ -159,14 +161,19 @@ impl Ord for Name {
 /// How a reference to a variable is written out (WAP-191, section 10.3.1).
 #[derive(Clone, Copy, Debug, PartialEq, Eq)]
 pub enum Conv {
+    /// With escapes of URLs in place of characters that need them.
     Escape,
+    /// With characters in place of the escapes of URLs.
     Unescape,
+    /// As the variable's text stands.
     Plain,
 }
 
 /// A part of a value: text as it stands, or a reference to a variable.
 #[derive(Debug, Drop, PartialEq, Eq)]
 pub enum Part {
+    /// A text as it stands.
     Lit(Text),
+    /// The text of a variable, written out so.
     Var(Name, Conv),
 }

@@ -2,7 +2,7 @@
 ghost use Rattle.std.specs.Prelude.{◌≡◌, ℕ, ◌<◌, ◌≤◌, List, [], length, take, true, ◌↔◌};
 ghost use Rattle.std.specs.Prelude.{Option, Some, Ok, IfOk, OnOk, OnErr, IsErr};
 ghost use Rattle.wap_base.specs.Count.{Rose};
-ghost use Rattle.wap_base.specs.Transfer.{Appends, AppendsFront};
+ghost use Rattle.wap_base.specs.Transfer.{Appends, AppendsPrefix};
 ghost use Rattle.wap_base.specs.Fakes.{SinkState, fresh, fails_write, write_count, after_write};
 
 use crate::calls::Calls;
@@ -40,7 +40,8 @@ pub trait Sink {
 /// written.
 pub fn write_all<O: Sink>(out: &mut O, piece: &[u8]) -> Result<(), Failed>
     ensures whole { OnOk result (Appends (O.written out.old) (O.written out.new) piece.now) }
-    ensures front { OnErr result (AppendsFront (O.written out.old) (O.written out.new) piece.now) }
+    ensures prefix { OnErr result
+        (AppendsPrefix (O.written out.old) (O.written out.new) piece.now) }
     ensures steady { OnOk result (O.faults out.new ≡ O.faults out.old) }
     ensures faults { O.faults out.old ≤ O.faults out.new }
     ensures failed { OnErr result (Rose (O.faults out.old) (O.faults out.new)) }

@@ -21,7 +21,9 @@ pub const PAGE_LIMIT: usize = 1 << 31;
 /// What a store answers for a name.
 #[derive(Debug, Drop, PartialEq, Eq)]
 pub enum Fetched {
+    /// The bytes of the page.
     Found(Bytes),
+    /// The store has no page of this name.
     Missing,
 }
 
@@ -30,6 +32,7 @@ pub enum Fetched {
 pub enum StoreErr {
     /// It comes only where the store's count of faults rose.
     Failed,
+    /// Memory ran out.
     NoMemory,
 }
 
@@ -39,7 +42,7 @@ impl From<NoMemory> for StoreErr {
 
     ghost from_gives = { λ _ fault. fault ≡ NoMemory };
 
-    fn from(_want: NoMemory) -> StoreErr {
+    fn from(_error: NoMemory) -> StoreErr {
         StoreErr::NoMemory
     }
 }

@@ -1,7 +1,7 @@
 //! How a run of the program ended.
 ghost use Rattle.std.specs.Prelude.{◌≡◌, ◌++◌, ◌≤◌, OnOk, OnErr, codes};
 ghost use Rattle.wap_base.specs.Count.{Rose};
-ghost use Rattle.wap_base.specs.Transfer.{Appends, AppendsFront};
+ghost use Rattle.wap_base.specs.Transfer.{Appends, AppendsPrefix};
 ghost use Rattle.wap_status.specs.Statuses.{number_of, fault_name, fixed_line, status_line};
 
 use itoa::Buffer;
@@ -49,7 +49,7 @@ fn fault_end(fault: KeyFault) -> &'static [u8]
 fn print_bad_key<O: Sink>(out: &mut O, line: u32, fault: KeyFault) -> Result<(), Failed>
     ensures whole { OnOk result (Appends (O.written out.old) (O.written out.new)
         (status_line (Status.BadKey line fault))) }
-    ensures front { OnErr result (AppendsFront (O.written out.old) (O.written out.new)
+    ensures prefix { OnErr result (AppendsPrefix (O.written out.old) (O.written out.new)
         (status_line (Status.BadKey line fault))) }
     ensures steady { OnOk result (O.faults out.new ≡ O.faults out.old) }
     ensures faults { O.faults out.old ≤ O.faults out.new }
@@ -65,7 +65,7 @@ fn print_bad_key<O: Sink>(out: &mut O, line: u32, fault: KeyFault) -> Result<(),
 fn print_refused<O: Sink>(out: &mut O, fault: &PageFault) -> Result<(), Failed>
     ensures whole { OnOk result (Appends (O.written out.old) (O.written out.new)
         (status_line (Status.Refused fault.now))) }
-    ensures front { OnErr result (AppendsFront (O.written out.old) (O.written out.new)
+    ensures prefix { OnErr result (AppendsPrefix (O.written out.old) (O.written out.new)
         (status_line (Status.Refused fault.now))) }
     ensures steady { OnOk result (O.faults out.new ≡ O.faults out.old) }
     ensures faults { O.faults out.old ≤ O.faults out.new }
@@ -113,7 +113,7 @@ impl Status {
     pub fn print<O: Sink>(&self, out: &mut O) -> Result<(), Failed>
         ensures whole { OnOk result (Appends (O.written out.old) (O.written out.new)
             (status_line self.now)) }
-        ensures front { OnErr result (AppendsFront (O.written out.old) (O.written out.new)
+        ensures prefix { OnErr result (AppendsPrefix (O.written out.old) (O.written out.new)
             (status_line self.now)) }
         ensures steady { OnOk result (O.faults out.new ≡ O.faults out.old) }
         ensures faults { O.faults out.old ≤ O.faults out.new }

@@ -10,14 +10,14 @@ loop-rest-preserved g c =
     let count = c.in_ok-count.count in
     let written = g.O.Sink.written in
     record {
-      front = so_far.front ++ take count rest;
+      prefix = so_far.prefix ++ take count rest;
       split =
-          so_far.split ∙ ap (λ (l : List ℕ). so_far.front ++ l) (sym (take-append-drop count rest))
-          ∙ sym (append_assoc so_far.front (take count rest) (drop count rest))
-          ∙ ap (λ (l : List ℕ). (so_far.front ++ take count rest) ++ l)
+          so_far.split ∙ ap (λ (l : List ℕ). so_far.prefix ++ l) (sym (take-append-drop count rest))
+          ∙ sym (append_assoc so_far.prefix (take count rest) (drop count rest))
+          ∙ ap (λ (l : List ℕ). (so_far.prefix ++ take count rest) ++ l)
           (sym c.split_at.ensures.back);
       written =
           Appends-then (written c.args.out.now) (written c.loop-rest.out) (written c.write.new.self)
-          so_far.front (take count rest) so_far.written c.in_ok-count.ensures.bytes;
+          so_far.prefix (take count rest) so_far.written c.in_ok-count.ensures.bytes;
       faults = c.in_ok-count.ensures.steady (omega (arith, c.if-count-eq0.false)) ∙ so_far.faults;
     }
