@@ -1,6 +1,7 @@
 //! Why a variable isn't set.
 ghost use Rattle.std.specs.Prelude.{◌≡◌};
 
+use crate::{TEXT_LIMIT, VAR_LIMIT};
 use std::alloc::AllocFailed;
 use thiserror::Error;
 use wap_base::{NameFault, NoMemory};
@@ -11,10 +12,10 @@ pub enum VarFault {
     #[error("a variable's name is a letter or `_`, and then letters, digits and `_`")]
     BadName,
     /// The text has `bytes` bytes in UTF-8, which are more than 65,535.
-    #[error("the text has {bytes} bytes, more than 65535")]
+    #[error("the text has {bytes} bytes, more than {TEXT_LIMIT}")]
     TooLong { bytes: usize },
     /// 1,024 variables are kept, and this would be another.
-    #[error("1024 variables are kept")]
+    #[error("{VAR_LIMIT} variables are kept")]
     Full,
     #[error("out of memory")]
     NoMemory,

@@ -1,19 +1,11 @@
 -- Numbers of at most five digits.
-use Rattle.std.proofs.Common.{◌≡◌, ℕ, zero, suc, ◌^◌, ◌<◌, ◌≤◌, true, List}
-use Rattle.std.proofs.Common.{length, get_or, arith, lit≤}
+use Rattle.std.proofs.Common.{◌≡◌, ℕ, ◌<◌, true, List}
+use Rattle.std.proofs.Common.{length, get_or, arith}
 use Rattle.std.specs.List.{list_all}
 use Rattle.std.specs.Char.{is_ascii_digit}
 use Rattle.std.specs.Int.{IsInRange}
 use Rattle.std.proofs.lemmas.Bool.Decides.{nat_tests}
 use Rattle.std.proofs.lemmas.List.Sums.{AllPass-from_list_all}
-
-pub ten_pow : (i : ℕ) → i < 5 → 10 ^ i ≤ 10000
-ten_pow zero h = lit≤ tt
-ten_pow (suc zero) h = lit≤ tt
-ten_pow (suc (suc zero)) h = lit≤ tt
-ten_pow (suc (suc (suc zero))) h = lit≤ tt
-ten_pow (suc (suc (suc (suc zero)))) h = lit≤ tt
-ten_pow (suc (suc (suc (suc (suc i))))) h = absurd (omega arith)
 
 pub digit_in_range : (c : ℕ) → is_ascii_digit c ≡ true → IsInRange 48 57 c
 digit_in_range c h = grind (arith, nat_tests)

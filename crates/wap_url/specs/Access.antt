@@ -1,5 +1,5 @@
--- Who may enter a page (the access element of WAP-191 and the access pragma of WAP-193): labels of
--- the host and segments of the path.
+-- Who may enter a page (the access element of WAP-191, section 11.3.1, and the access pragma of
+-- WAP-193, section 6.7): labels of the host and segments of the path.
 use Rattle.std.specs.Prelude.{ℕ, ◌==◌, if◌then◌else◌, IsSomeAnd, List, map, length, drop}
 use Rattle.std.specs.Char.{to_ascii_lowercase}
 use Rattle.wap_url.specs.declared.url.Url.{Url}

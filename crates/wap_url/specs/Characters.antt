@@ -33,7 +33,8 @@ abbrev pub is_one_of : List ℕ → ℕ → Bool
 is_one_of cs c = list_any (λ d. c == d) cs
 
 -- may stand before a fragment: the characters 21 to 7E but for `"`, `<` and `>` (sections 2.4.3 and
--- 4.1), and for the `#` that ends what stands there
+-- 4.1), and for the `#` that ends what stands there. That `{`, `}`, `|`, `\`, `^`, `[`, `]`, a
+-- backquote and a `%` without two digits after it may stand there too is this project's own.
 abbrev pub is_allowed : ℕ → Bool
 is_allowed c = is_ascii_graphic c && not (is_one_of (codes "\"<>#") c)
 
@@ -44,7 +45,8 @@ is_scheme_character c = is_ascii_alphanumeric c || is_one_of (codes "+-.") c
 abbrev pub is_scheme : List ℕ → Bool
 is_scheme scheme = begins_with is_ascii_alphabetic scheme && list_all is_scheme_character scheme
 
--- letters, digits, `-` and `.` (the characters of section 3.2.2)
+-- letters, digits, `-` and `.` (the characters of section 3.2.2). That they may stand in any order,
+-- and that no userinfo may stand before them, is this project's own.
 abbrev pub is_host_character : ℕ → Bool
 is_host_character c = is_ascii_alphanumeric c || is_one_of (codes "-.") c
 

@@ -1,4 +1,7 @@
--- A reference joined to a base (RFC 2396, section 5.2).
+-- A reference joined to a base (RFC 2396, section 5.2). This project's own: dot segments go from
+-- every path, also from that of a reference with a scheme, an authority or a leading slash; `..`
+-- never goes above the root; an empty reference gives the base; and under a host an empty path
+-- becomes the root.
 use Rattle.std.specs.Prelude.{ℕ, Bool, ◌||◌, ◌&&◌, if◌then◌else◌, is_some}
 use Rattle.std.specs.Prelude.{is_none, List, [], ◌∷◌, ◌++◌, ◌==◌, length}
 use Rattle.std.specs.List.{fold}

@@ -39,7 +39,7 @@ spelled p =
     ++ (authority p.host p.port
     ++ (p.path ++ (led_by (question_mark ∷ []) p.query ++ led_by (number_sign ∷ []) p.fragment)))
 
--- an empty port, or one to five digits up to 65535
+-- an empty port, or one to five digits up to 65535, which bounds are this project's own
 abbrev pub is_port : List ℕ → Bool
 is_port ds =
     list_all is_ascii_digit ds && (nat_le (length ds) 5 && nat_le (digits_value 10 ds) 65535)

@@ -1,4 +1,5 @@
-//! Paths without dot segments (RFC 2396, section 5.2, step 6).
+//! Paths without dot segments (RFC 2396, section 5.2, step 6, but of every path, and with a `..`
+//! that never goes above the root, which is this project's own).
 ghost use Rattle.std.specs.Prelude.{◌≡◌, ◌++◌, map, IfOk, OnOk};
 ghost use Rattle.std.specs.Str.{chars};
 ghost use Rattle.wap_url.specs.Segments.{segments, path_of};

@@ -1,4 +1,5 @@
-//! Joining a reference to a base (RFC 2396, section 5.2).
+//! Joining a reference to a base (RFC 2396, section 5.2, but for what `specs/Joining.antt` names as
+//! this project's own).
 ghost use Rattle.std.specs.Prelude.{◌≡◌, ◌++◌, IfOk, OnOk, is_some};
 ghost use Rattle.wap_url.specs.Joining.{target, merged_path, lead_segments, rooted, joined};
 ghost use Rattle.wap_url.specs.Joining.{resolved_path};

@@ -1,5 +1,5 @@
 //! A URL as text, and the name of its page in the store.
-ghost use Rattle.std.specs.Prelude.{◌≡◌, ◌++◌, ◌∷◌, [], IfOk, OnOk, IsSome};
+ghost use Rattle.std.specs.Prelude.{◌≡◌, ◌++◌, ◌∷◌, [], IfOk, OnOk};
 ghost use Rattle.std.specs.Fmt.{decimal};
 ghost use Rattle.wap_url.specs.Parts.{followed_by, led_by, authority, IsUrl};
 ghost use Rattle.wap_url.specs.Printing.{printed, text_without_fragment, parts_for, named_port};
@@ -79,9 +79,9 @@ pub fn add_led(text: &mut Text, lead: char, part: &Option<Text>) -> Result<(), N
 }
 
 /// The name under which the store has the URL's page: host, a port other than 80, and path, where
-/// `index.wmlc` stands for a folder's page. Scheme and query are no part of it.
+/// `index.wmlc` stands for a folder's page. Scheme and query are no part of it; where there is no
+/// host it begins with the path.
 pub fn name_of(alloc: Global, url: &Url) -> Result<Text, NoMemory>
-    requires { IsSome url.now.host }
     ensures exact { IfOk result (λ name. name ≡ name_for url.now) }
 {
     let mut name = Text::new(alloc);

@@ -1,4 +1,4 @@
--- The parts of a URL as slices of its text.
+-- The parts of a URL as slices of its text. This project's own.
 use Rattle.std.specs.Prelude.{ℕ, List, Option}
 use Rattle.std.specs.Option.{option_copied}
 use Rattle.wap_url.specs.declared.parts.Slices.{Slices}
