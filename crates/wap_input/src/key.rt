@@ -6,7 +6,7 @@ use wap_base::Text;
 pub enum Key {
     /// Opens a URL.
     Open(Text),
-    /// Runs the do of a type.
+    /// Runs the active do of a name, which is a do's `name`, or else its `type`.
     Do(Text),
     /// Follows the link of a number.
     Pick(u16),

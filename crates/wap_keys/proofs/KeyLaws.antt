@@ -1,14 +1,13 @@
 -- What a line says, by its length and its text.
 use Rattle.std.proofs.Common.{◌≡◌, ℕ, ◌<◌, ◌≤◌, Bool, true, false, cond, List}
-use Rattle.std.proofs.Common.{length, Result, Err, refl, sym, ap, subst, ◌∙◌}
+use Rattle.std.proofs.Common.{length, Result, Err, refl, ap, ◌∙◌}
 use Rattle.std.specs.Str.{IsUtf8, is_utf8}
 use Rattle.std.proofs.lemmas.Bool.{lt-ltb, le-ltb}
 use Rattle.std.proofs.lemmas.Str.{is_utf8-from_IsUtf8, IsUtf8-from_is_utf8}
-use Rattle.wap_base.specs.Outcome.{Meets}
 use Rattle.wap_input.specs.declared.key.Key.{Key}
 use Rattle.wap_keys.specs.declared.limits.TheConstants.{LINE_LIMIT}
 use Rattle.wap_keys.specs.declared.fault.KeyFault.{KeyFault}
-use Rattle.wap_keys.specs.declared.fault.KeyFault.TheVariants.{TooLong, NotText, NoMemory}
+use Rattle.wap_keys.specs.declared.fault.KeyFault.TheVariants.{TooLong, NotText}
 use Rattle.wap_keys.specs.Forms.{front_of, rest_of, word_named, key_of_word, key_at}
 
 abbrev said : List ℕ → Result Key KeyFault
@@ -41,10 +40,3 @@ pub good_text : (line : List ℕ) → length line ≤ LINE_LIMIT → IsUtf8 line
 good_text line short text =
     short_key line short
     ∙ ap (λ (b : Bool). cond b (said line) (Err NotText)) (is_utf8-from_IsUtf8 line text)
-
-pub text_key : (result : Result Key KeyFault) (line text : List ℕ) → length line ≤ LINE_LIMIT
-    → text ≡ line → IsUtf8 line → Meets NoMemory (λ (key : Key). key) result (said text)
-    → Meets NoMemory (λ (key : Key). key) result (key_at line)
-text_key result line text short same utf8 meets =
-    subst (λ (reading : Result Key KeyFault). Meets NoMemory (λ (key : Key). key) result reading)
-    (ap said same ∙ sym (good_text line short utf8)) meets

@@ -34,9 +34,6 @@ Keeps before now old reader =
     → HasRead start before taken keys old
     → (piece : List ℕ) × HasRead start now (taken ++ piece) keys reader
 
-pub keeps_all : (before : Option (List ℕ)) (reader : Reading) → Keeps before before reader reader
-keeps_all before reader start taken keys read = ([], rw append-nil read)
-
 still_open : (old new : Reading) → new.over ≡ old.over → old.over ≡ false → new.over ≡ true → ⊥
 still_open old new same goes_on over = cc
 

@@ -30,7 +30,7 @@ impl From<NoMemory> for KeyFault {
 
     ghost from_gives = { λ _ fault. fault ≡ fault_variants.NoMemory };
 
-    fn from(_want: NoMemory) -> KeyFault {
+    fn from(_error: NoMemory) -> KeyFault {
         KeyFault::NoMemory
     }
 }

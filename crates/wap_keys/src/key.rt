@@ -23,7 +23,7 @@ use wap_base::{NoMemory as WantOfMemory, Text};
 
 /// What stands before the first space, and what stands after it.
 fn split(text: &str) -> (&str, Option<&str>)
-    ensures front { result.0.now ≡ front_of text.now }
+    ensures prefix { result.0.now ≡ front_of text.now }
     ensures rest { option_map (λ rest. rest.now) result.1 ≡ rest_of text.now }
 {
     match text.split_once(' ') {

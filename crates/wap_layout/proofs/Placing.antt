@@ -1,45 +1,24 @@
 -- One more word after the lines so far, and the parts of a word that is longer than the width.
-use Rattle.std.proofs.Common.{◌≡◌, ℕ, ◌+◌, ◌≤◌, ◌<◌, List, [], ◌∷◌, ◌++◌, length, true}
-use Rattle.std.proofs.Common.{false, cond, refl, sym, ap, ◌∙◌, append_assoc, arith}
+use Rattle.std.proofs.Common.{◌≡◌, ℕ, ◌+◌, ◌≤◌, ◌<◌, List, [], ◌∷◌, ◌++◌, length}
+use Rattle.std.proofs.Common.{false, refl, sym, ap, ◌∙◌, append_assoc, arith}
 use Rattle.std.specs.List.{flat_map}
 use Rattle.std.proofs.lemmas.Bool.Decides.{nat_tests}
 use Rattle.std.proofs.lemmas.List.{append-nil}
-use Rattle.std.proofs.lemmas.List.Concat.{flat_map-append}
 use Rattle.wap_layout.specs.Words.{unless_empty}
 use Rattle.wap_layout.specs.Calculation.{cut_word, fill, has_room}
 use Rattle.wap_layout.proofs.Cutting.{cut_word-short, cut_word-at_width}
-use Rattle.wap_layout.proofs.Filling.{parts_of, fill-first, fill-before}
+use Rattle.wap_layout.proofs.Filling.{fill-first, fill-before}
 
 -- ---- a word
-
-room-short : (width columns needed : ℕ) → has_room width columns needed ≡ true → needed ≤ width
-room-short width columns needed room = grind (arith, nat_tests)
 
 room-over : (width columns needed : ℕ) → 1 ≤ columns → has_room width columns needed ≡ false
     → width < columns + 1 + needed
 room-over width columns needed some room = grind (arith, nat_tests)
 
--- the parts of one word, or of none
-pub no_parts : (width : ℕ) (word : List ℕ) → length word ≡ 0
-    → flat_map (cut_word width) (unless_empty word) ≡ []
-no_parts width [] none = refl
-no_parts width (c ∷ word) none = absurd (omega arith)
-
 pub some_parts : (width : ℕ) (word : List ℕ) → 1 ≤ length word
     → flat_map (cut_word width) (unless_empty word) ≡ cut_word width word
 some_parts width [] some = absurd (omega arith)
 some_parts width (c ∷ word) some = append-nil (cut_word width (c ∷ word))
-
--- it goes on the line
-pub word-follows : (width : ℕ) (line new word : List ℕ) (more : List (List ℕ))
-    → has_room width (length line) (length word) ≡ true → new ≡ line ++ 32 ∷ word
-    → fill width new more ≡ fill width line (cut_word width word ++ more)
-word-follows width line new word more room is =
-    ap (λ l. fill width l more) is
-    ∙ sym (ap (λ fits.
-    cond fits [] (unless_empty line) ++ fill width (cond fits (line ++ 32 ∷ word) word) more) room)
-    ∙ ap (λ parts. fill width line (parts ++ more))
-    (sym (cut_word-short width word (room-short width (length line) (length word) room)))
 
 -- or ends it
 pub word-begins : (width : ℕ) (line word : List ℕ) (more : List (List ℕ)) → 1 ≤ width
@@ -69,21 +48,6 @@ on_next_line width lines new line word more rest one some room is =
     ∙ append_assoc lines (unless_empty line) (fill width [] (cut_word width word ++ more))
     ∙ ap (λ ls. lines ++ ls) (sym (word-begins width line word more one room))
     ∙ ap (λ parts. lines ++ fill width line (parts ++ more)) (sym (some_parts width word some))
-
--- ---- the words of a text
-
-pub fill-step : (width : ℕ) (lines new : List (List ℕ)) (line next word : List ℕ)
-    (left rest whole : List (List ℕ)) → left ≡ unless_empty word ++ rest
-    → ((more : List (List ℕ))
-    → new ++ fill width next more
-    ≡ lines ++ fill width line (flat_map (cut_word width) (unless_empty word) ++ more))
-    → lines ++ fill width line (parts_of width left) ≡ whole
-    → new ++ fill width next (parts_of width rest) ≡ whole
-fill-step width lines new line next word left rest whole is step was =
-    step (parts_of width rest)
-    ∙ ap (λ parts. lines ++ fill width line parts)
-    (sym (flat_map-append (cut_word width) (unless_empty word) rest) ∙ ap (parts_of width) (sym is))
-    ∙ was
 
 -- ---- the parts of a word
 

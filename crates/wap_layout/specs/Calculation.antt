@@ -2,6 +2,7 @@
 use Rattle.std.specs.Prelude.{◌≡◌, ℕ, zero, suc, ◌+◌, Bool, ◌&&◌, nat_lt, nat_le, if◌then◌else◌}
 use Rattle.std.specs.Prelude.{List, [], ◌∷◌, ◌++◌, length, take, drop, map}
 use Rattle.std.specs.List.{flat_map}
+use Rattle.wap_base.specs.Ascii.{space}
 use Rattle.wap_layout.specs.declared.flow.Flow.{Flow}
 use Rattle.wap_layout.specs.declared.flow.Mode.{Mode}
 use Rattle.wap_layout.specs.declared.flow.Mode.TheVariants.{Wrapped, Unwrapped, Preformatted}
@@ -37,7 +38,7 @@ fill width line [] = unless_empty line
 fill width line (word ∷ words) =
     let room = has_room width (length line) (length word) in
     (if room then [] else unless_empty line)
-    ++ fill width (if room then line ++ 32 ∷ word else word) words
+    ++ fill width (if room then line ++ space ∷ word else word) words
 
 abbrev pub filled : ℕ → List (List ℕ) → List (List ℕ)
 filled width words = fill width [] (flat_map (cut_word width) words)

@@ -178,20 +178,6 @@ symbols_of-goes_on c text =
     goes_on-same (symbols_at (length text)) symbols_of (c ∷ text) (symbol_at (c ∷ text)) refl
     (λ rest less. symbols_at-enough (length text) (length rest) rest (omega arith) (omega arith))
 
--- where no symbol begins, the text is at its end, or there is no mask
-pub symbols_of-stops : (text : List ℕ) → symbol_at text ≡ None
-    → symbols_of text ≡ cond (is_empty text) (Some []) None
-symbols_of-stops [] e = refl
-symbols_of-stops (c ∷ text) e = symbols_of-goes_on c text ∙ ap (λ o. o >>= goes_on symbols_of) e
-
--- where a symbol repeats before the end, there is none either
-pub symbols_of-misplaced : (text rest : List ℕ) (s : Symbol) → symbol_at text ≡ Some (s, rest)
-    → is_misplaced s rest ≡ true → symbols_of text ≡ None
-symbols_of-misplaced [] rest s e bad = cc
-symbols_of-misplaced (c ∷ text) rest s e bad =
-    symbols_of-goes_on c text ∙ ap (λ o. o >>= goes_on symbols_of) e
-    ∙ ap (λ test. cond test None (option_map (λ mask. s ∷ mask) (symbols_of rest))) bad
-
 -- else the symbol comes before the others
 pub symbols_of-next : (text rest : List ℕ) (s : Symbol) → symbol_at text ≡ Some (s, rest)
     → is_misplaced s rest ≡ false

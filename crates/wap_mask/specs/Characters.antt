@@ -1,4 +1,6 @@
 -- Which characters a letter of a mask stands for (WAP-191, section 11.6.3, the attribute `format`).
+-- This project's own: letters, digits and punctuation are those of ASCII, a space is punctuation,
+-- and M and m take any character, control characters among them.
 use Rattle.std.specs.Prelude.{ℕ, Bool, true, ◌&&◌, ◌||◌, not, Option, Some}
 use Rattle.std.specs.Prelude.{None, ◌==◌, if◌then◌else◌}
 use Rattle.std.specs.Char.{is_ascii_digit, is_ascii_uppercase}

@@ -1,7 +1,7 @@
 -- The text under a name, looked up by the order of names.
 use Rattle.std.proofs.Common.{◌≡◌, ◌≢◌, ℕ, Bool, true, false, cond, List, [], ◌∷◌}
 use Rattle.std.proofs.Common.{Option, Some, None, refl, ap, sym, ◌∙◌}
-use Rattle.std.specs.Option.{IfSome, is_some, option_copied}
+use Rattle.std.specs.Option.{IfSome, option_copied}
 use Rattle.std.specs.List.{All}
 use Rattle.std.specs.BTreeMap.{is_at}
 use Rattle.std.specs.Map.{lookup, remove_entry, values_of}
@@ -61,7 +61,3 @@ pub if_copied : (P : List ℕ → Type 0) (found : Option (Bor (List ℕ)))
     → IfSome (option_copied found) P → IfSome found (λ x. P x.now)
 if_copied P None p = tt
 if_copied P (Some x) p = p
-
-pub none_found : {X : Type 0} (found : Option X) → is_some found ≡ false → found ≡ None
-none_found None none = refl
-none_found (Some x) none = absurd cc

@@ -13,7 +13,7 @@ use Rattle.clap.specs.Faults.{defaults_fault, default_fault, given_default_fault
 use Rattle.clap.specs.Faults.{check_fault, long_fault, use_fault}
 use Rattle.clap.specs.Kinds.{Kinds, check_kinds, or_else}
 use Rattle.clap.specs.declared.error.kind.ErrorKind.TheVariants as kind
-use Rattle.wap_words.specs.Reading.{Use, Read, is_given, is_option, behind_dashes, with_words}
+use Rattle.wap_words.specs.Reading.{Use, Read, is_given, is_option, after_dashes, with_words}
 use Rattle.wap_words.specs.Reading.{uses_in, uses_of, with_use, with_value, with_text, with_first}
 use Rattle.wap_words.specs.inside.Matching.{AreTexts}
 use Rattle.wap_words.proofs.WordKinds.{IsPlain, IsShort, by_kind}
@@ -327,12 +327,12 @@ module _ (p : Spoken) where
 
     ready_word : (uses : List Use) (rows : List Row) (pending : Option (Text × List Text))
         → IsReady p uses rows pending → (word : Text) → IsUtf8 word
-        → Good p (then_read (with_first p.form (reading uses None false) word (behind_dashes word))
+        → Good p (then_read (with_first p.form (reading uses None false) word (after_dashes word))
         words) (at (held rows pending) idle (position_of uses) false) (word ∷ words)
     ready_word uses rows pending is_ready =
         by_kind (λ (word : Text).
         IsUtf8 word → Good p (then_read (with_first p.form (reading uses None false) word
-        (behind_dashes word)) words) (at h idle (position_of uses) false) (word ∷ words))
+        (after_dashes word)) words) (at h idle (position_of uses) false) (word ∷ words))
         (λ _.
         goes_on p (then_read (Some (reading uses None true)) words) (at h idle
         (position_of uses) false) (at h idle (position_of uses) true) (codes "--") words refl
@@ -341,7 +341,7 @@ module _ (p : Spoken) where
         (λ c cs _.
         give_long uses rows pending c cs (is_option p.form (name_in (c ∷ cs))) refl is_ready)
         (λ word flags short text.
-        let refused : with_first p.form (reading uses None false) word (behind_dashes word) ≡ None =
+        let refused : with_first p.form (reading uses None false) word (after_dashes word) ≡ None =
         ap (with_first p.form (reading uses None false) word) short.behind ∙ ap (λ (b : Bool).
         cond b None (with_use (reading uses None false) (positional p) word)) short.dashed in
         subst (λ (read : Option Read).
@@ -352,7 +352,7 @@ module _ (p : Spoken) where
         (sym (ap (λ (b : Bool). cond b [] (flag_word_fault (rules p) false (long_of word) word h))
         short.ender)) (short_fails p rows pending word flags text short)))))
         (λ word plain _.
-        let taken : with_first p.form (reading uses None false) word (behind_dashes word)
+        let taken : with_first p.form (reading uses None false) word (after_dashes word)
         ≡ with_use (reading uses None false) (positional p) word =
         ap (with_first p.form (reading uses None false) word) plain.behind ∙ ap (λ (b : Bool).
         cond b None (with_use (reading uses None false) (positional p) word)) plain.dashed in

@@ -5,14 +5,14 @@ use Rattle.std.specs.Prelude.{◌==◌, ◌&&◌, slice_get, option_and_then}
 use Rattle.std.specs.Str.{IsUtf8, bytes_eq, chars, encode_utf8_all}
 use Rattle.std.proofs.lemmas.Str.{IsUtf8-drop, IsCharBoundary-after_ascii, chars-encodes}
 use Rattle.clap.specs.Lexer.{strip_byte, long_of, long_of_rest, short_of, short_of_rest}
-use Rattle.wap_words.specs.Reading.{is_dashed, behind_dashes}
+use Rattle.wap_words.specs.Reading.{is_dashed, after_dashes}
 
 pub record IsPlain (word : List ℕ) : Type 0 where
   pub long : long_of word ≡ None
   pub short : short_of word ≡ None
   pub ender : bytes_eq word (45 ∷ 45 ∷ []) ≡ false
   pub dashed : is_dashed word ≡ false
-  pub behind : behind_dashes word ≡ None
+  pub behind : after_dashes word ≡ None
 
 pub record IsShort (word flags : List ℕ) : Type 0 where
   pub is : word ≡ 45 ∷ flags
@@ -21,7 +21,7 @@ pub record IsShort (word flags : List ℕ) : Type 0 where
   pub short : short_of word ≡ Some flags
   pub ender : bytes_eq word (45 ∷ 45 ∷ []) ≡ false
   pub dashed : is_dashed word ≡ true
-  pub behind : behind_dashes word ≡ None
+  pub behind : after_dashes word ≡ None
 
 empty_plain : IsPlain []
 empty_plain = record { long = refl; short = refl; ender = refl; dashed = refl; behind = refl }

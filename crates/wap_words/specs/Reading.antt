@@ -3,6 +3,7 @@
 use Rattle.std.specs.Prelude.{ℕ, Bool, true, false, ◌==◌, ◌&&◌, if◌then◌else◌, List, []}
 use Rattle.std.specs.Prelude.{◌∷◌, ◌++◌, Option, Some, None, option_map, find}
 use Rattle.std.specs.List.{list_any, before_first, after_first}
+use Rattle.wap_base.specs.Ascii.{equals_sign, hyphen}
 use Rattle.wap_base.specs.Texts.{is_same_text}
 
 -- what words may be given for: the name of the positional, and those of the options
@@ -38,7 +39,7 @@ abbrev pub is_option : Form → List ℕ → Bool
 is_option form name = list_any (λ option. is_same_text option name) form.options
 
 abbrev pub is_equals : ℕ → Bool
-is_equals c = c == 61
+is_equals c = c == equals_sign
 
 abbrev pub with_value : Read → List ℕ → Option (List ℕ) → Option Read
 with_value read name None = Some (record read { waits = Some name })
@@ -57,13 +58,13 @@ with_option form read bytes =
 abbrev pub is_dashed : List ℕ → Bool
 is_dashed [] = false
 is_dashed (c ∷ []) = false
-is_dashed (c ∷ d ∷ ds) = c == 45
+is_dashed (c ∷ d ∷ ds) = c == hyphen
 
 -- what follows `--`
-abbrev pub behind_dashes : List ℕ → Option (List ℕ)
-behind_dashes [] = None
-behind_dashes (c ∷ []) = None
-behind_dashes (c ∷ d ∷ ds) = if (c == 45) && (d == 45) then Some ds else None
+abbrev pub after_dashes : List ℕ → Option (List ℕ)
+after_dashes [] = None
+after_dashes (c ∷ []) = None
+after_dashes (c ∷ d ∷ ds) = if (c == hyphen) && (d == hyphen) then Some ds else None
 
 abbrev pub with_text : Read → List ℕ → List ℕ → Option Read
 with_text read name word = if is_dashed word then None else with_use read name word
@@ -76,7 +77,7 @@ with_first form read word None = with_text read form.positional word
 
 abbrev pub with_next : Form → Read → Option (List ℕ) → List ℕ → Option Read
 with_next form read (Some name) word = with_text read name word
-with_next form read None word = with_first form read word (behind_dashes word)
+with_next form read None word = with_first form read word (after_dashes word)
 
 -- one word more
 abbrev pub with_word : Form → Read → List ℕ → Option Read

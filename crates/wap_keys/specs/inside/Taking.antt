@@ -1,4 +1,4 @@
--- Lines that are taken from a reader, and bytes that are read after them.
+-- Lines that are taken from a reader, and bytes that are read after them. This project's own.
 use Rattle.std.specs.Prelude.{◌≡◌, ◌≢◌, ℕ, ◌+◌, ◌<◌, ◌≤◌, Bool, true, ◌==◌, not, List, [], ◌∷◌}
 use Rattle.std.specs.Prelude.{◌++◌, length, take, drop, Option, Some, None, Result, Ok, Err}
 use Rattle.std.specs.List.{list_all}

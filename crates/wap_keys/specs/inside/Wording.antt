@@ -1,4 +1,5 @@
--- What a line says, by its word and by what follows that, which may be no UTF-8.
+-- What a line says, by its word and by what follows that, which may be no UTF-8. This project's
+-- own.
 use Rattle.std.specs.Prelude.{◌≡◌, if◌then◌else◌, ℕ, List, Option, Some, None, Result, Ok, Err}
 use Rattle.std.specs.Borrow.{Bor}
 use Rattle.std.specs.Option.{option_map}

@@ -1,4 +1,5 @@
--- What the kit's parser of command lines is asked for, and what its matches say.
+-- What the kit's parser of command lines is asked for, and what its matches say. This project's
+-- own.
 use Rattle.std.specs.Prelude.{◌≡◌, true, false, List, [], ◌∷◌, map, Option, Some, None, ⊤}
 use Rattle.std.specs.Borrow.{Bor}
 use Rattle.std.specs.Str.{IsUtf8}
