@@ -18,7 +18,8 @@ conversion_of c =
     else (if c == 115 then Some String
     else None))
 
--- the digits are those of a number up to 65535; of none it is 0
+-- the digits are those of a number; of none it is 0. That it is 65535 at most is this project's
+-- own.
 abbrev pub IsNumber : List ℕ → ℕ → Type 0
 IsNumber digits n = (all_ascii_digits digits ≡ true) × (digits_value 10 digits ≡ n) × (n ≤ 65535)
 

@@ -18,7 +18,7 @@ o >>= f = option_and_then f o
 abbrev pub behind_digits : List ℕ → List ℕ
 behind_digits s = drop (prefix_len is_ascii_digit s) s
 
--- widths and precisions end at 65535
+-- widths and precisions end at 65535: this project's own, as in the grammar
 abbrev pub up_to_65535 : ℕ → Option ℕ
 up_to_65535 n = if nat_le n 65535 then Some n else None
 

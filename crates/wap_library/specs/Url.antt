@@ -62,7 +62,8 @@ without_parameters path =
 abbrev pub is_base : UrlParts → Bool
 is_base u = is_some u.scheme && is_some u.host
 
--- a reference joined to a base
+-- A reference joined to a base. That an absolute one changes too, by its dot segments and the case
+-- of its scheme and host, is this project's own; the standard gives it back as it is.
 abbrev pub resolved : UrlParts → UrlParts → Value
 resolved base reference = if is_base base then Str (printed (joined base reference)) else Invalid
 
@@ -107,11 +108,12 @@ abbrev pub url_resolve : Value → Value → Value
 url_resolve v w =
     on_url v (λ base. on_url w (λ u. resolved base u))
 
--- WAP-194, "escapeString"
+-- WAP-194, "escapeString"; by bytes of UTF-8, where the standard refuses characters past U+00FF,
+-- which is this project's own
 abbrev pub url_escape_string : Value → Value
 url_escape_string v = on_text v (λ s. Str (escaped s))
 
--- WAP-194, "unescapeString"
+-- WAP-194, "unescapeString"; by bytes of UTF-8 too, and invalid where those given are none
 abbrev pub url_unescape_string : Value → Value
 url_unescape_string v = on_text v (λ s. text_value (text_of_bytes (unescaped s)))
 

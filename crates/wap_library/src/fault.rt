@@ -17,7 +17,7 @@ pub enum LibFault {
 impl From<NoMemory> for LibFault {
     ghost from_gives = { λ _ fault. fault ≡ OutOfMemory };
 
-    fn from(_want: NoMemory) -> LibFault {
+    fn from(_error: NoMemory) -> LibFault {
         LibFault::NoMemory
     }
 }
@@ -25,7 +25,7 @@ impl From<NoMemory> for LibFault {
 impl From<AllocError> for LibFault {
     ghost from_gives = { λ _ fault. fault ≡ OutOfMemory };
 
-    fn from(_want: AllocError) -> LibFault {
+    fn from(_error: AllocError) -> LibFault {
         LibFault::NoMemory
     }
 }
@@ -33,7 +33,7 @@ impl From<AllocError> for LibFault {
 impl<T: Drop> From<AllocFailed<T>> for LibFault {
     ghost from_gives = { λ _ fault. fault ≡ OutOfMemory };
 
-    fn from(_want: AllocFailed<T>) -> LibFault {
+    fn from(_error: AllocFailed<T>) -> LibFault {
         LibFault::NoMemory
     }
 }

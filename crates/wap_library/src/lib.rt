@@ -1,7 +1,7 @@
 //! The standard libraries of WMLScript (WAP-194), as far as they need no browser: Lang, Float,
-//! String and URL. There is no code here: `src/` has the names of the functions, in the order of
-//! their numbers, and `specs/` what each makes of its arguments. `wap_libs` is proved against these
-//! definitions.
+//! String and URL. `src/` has the names of the functions, in the order of their numbers, and the
+//! faults, with no code but what makes out of memory one of them; `specs/` has what each makes of
+//! its arguments. `wap_texts` and `wap_libs` are proved against these definitions.
 #![tactic(auto)]
 
 mod fault;

@@ -1,9 +1,2 @@
 pub mod Names
-pub mod Drafts
 pub mod Draws
-pub mod Blanks
-pub mod FormatLaws
-pub mod Reading
-pub mod Parting
-pub mod Occurs
-pub mod Grammar

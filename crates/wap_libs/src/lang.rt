@@ -8,11 +8,11 @@ ghost use Rattle.wap_library.specs.Outcome.{limited};
 ghost use Rattle.wap_library.specs.Row.{applied, arguments};
 
 use crate::Gen;
-use crate::argument::{argument, characters_of, integer_value, keep_within, show, text};
-use crate::characters::{behind_blanks, digits};
 use std::alloc::Global;
 use wap_base::{NoMemory, Rows, Text};
 use wap_library::{LangFunction, LibFault, LibOut};
+use wap_texts::argument::{argument, characters_of, integer_value, keep_within, show, text};
+use wap_texts::characters::{behind_blanks, digits};
 use wap_value::{Value, to_int};
 
 /// The number of UTF-8 in the list of character sets (IANA, MIBenum).

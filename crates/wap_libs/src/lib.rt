@@ -2,22 +2,14 @@
 //! function of Lang, Float, String or URL comes to. `wap_library` has the definitions.
 //!
 //! A function converts its arguments first, and gives invalid where one has no conversion. Then it
-//! works on Integers and characters, and knows nothing of values any more.
+//! works on Integers and characters (`wap_texts`), and knows nothing of values any more.
 #![tactic(auto)]
 
-mod argument;
 mod arity;
 mod call;
-mod characters;
-mod draft;
-mod elements;
 mod float;
-mod format;
 mod generator;
 mod lang;
-pub mod laws;
-mod occurrences;
-mod pieces;
 mod string;
 mod url;
 

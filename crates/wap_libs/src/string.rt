@@ -11,17 +11,19 @@ ghost use Rattle.wap_library.specs.String.{string_replace_at, string_insert_at, 
 ghost use Rattle.wap_library.specs.String.{string_trim, string_compare, string_to_string};
 ghost use Rattle.wap_library.specs.String.{string_format, character_at, place_value, order_value};
 
-use crate::argument::{
-    argument, characters_of, from_zero, keep_within, length, number, show, text, text_value,
-};
-use crate::characters::{part, squeeze, trim};
-use crate::elements::{element_at, elements, with_element, with_element_before, without_element};
-use crate::format::format_value;
-use crate::occurrences::{place_of, replace};
 use std::alloc::Global;
 use std::cmp::Ordering;
 use wap_base::{NoMemory, Text};
 use wap_library::{LibFault, StringFunction};
+use wap_texts::argument::{
+    argument, characters_of, from_zero, keep_within, length, number, show, text, text_value,
+};
+use wap_texts::characters::{part, squeeze, trim};
+use wap_texts::elements::{
+    element_at, elements, with_element, with_element_before, without_element,
+};
+use wap_texts::format::format_value;
+use wap_texts::occurrences::{place_of, replace};
 use wap_value::{Value, to_int, to_str};
 
 /// Calls a function of String.
@@ -74,6 +76,9 @@ pub fn call_string(
 fn string_length(alloc: Global, value: &Value) -> Result<Value, NoMemory>
     ensures { IfOk result (λ answer. answer ≡ string_length value.now) }
 {
+    if let Value::Str(text) = value {
+        return Ok(number(length(text)));
+    }
     match to_str(alloc, value)? {
         Some(text) => Ok(number(length(&text))),
         None => Ok(Value::Invalid),
@@ -83,6 +88,9 @@ fn string_length(alloc: Global, value: &Value) -> Result<Value, NoMemory>
 fn string_is_empty(alloc: Global, value: &Value) -> Result<Value, NoMemory>
     ensures { IfOk result (λ answer. answer ≡ string_is_empty value.now) }
 {
+    if let Value::Str(text) = value {
+        return Ok(Value::Bool(text.is_empty()));
+    }
     match to_str(alloc, value)? {
         Some(text) => Ok(Value::Bool(text.is_empty())),
         None => Ok(Value::Invalid),

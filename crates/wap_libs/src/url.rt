@@ -14,11 +14,11 @@ ghost use Rattle.wap_library.specs.Url.{url_get_port, url_get_path, url_get_para
 ghost use Rattle.wap_library.specs.Url.{url_get_query, url_get_fragment, url_resolve};
 ghost use Rattle.wap_library.specs.Url.{url_escape_string, url_unescape_string};
 
-use crate::argument::{argument, characters, keep_within, text_value};
-use crate::elements::{element_at, elements, join_elements, without_element};
 use std::alloc::Global;
 use wap_base::{Bytes, NoMemory, Rows, Text};
 use wap_library::{LibFault, UrlFunction};
+use wap_texts::argument::{argument, characters, keep_within, text_value};
+use wap_texts::elements::{element_at, elements, join_elements, without_element};
 use wap_url::{Url, UrlFault, escape, join, print, unescape};
 use wap_value::{Value, to_str};
 
@@ -150,7 +150,7 @@ fn url_get_fragment(alloc: Global, value: &Value) -> Result<Value, NoMemory>
     }
 }
 
-#[tactic(auto, using(crate::proofs::Names::decimal_is_itself))]
+#[tactic(auto, using(wap_texts::proofs::Names::decimal_is_itself))]
 fn decimal(alloc: Global, port: Option<u16>) -> Result<Option<Text>, NoMemory>
     ensures { IfOk result (λ text. text ≡ option_map decimal port) }
 {

@@ -1,16 +1,15 @@
 -- Which results are kept.
 use Rattle.std.proofs.Common.{◌≡◌, ℕ, ◌+◌, ◌<◌, ◌≤◌, ℤ, List, ◌++◌, length, Option, Some, None}
-use Rattle.std.proofs.Common.{Bool, Ok, Err, refl, ap, ◌∙◌, subst, inl, inr, arith}
+use Rattle.std.proofs.Common.{Ok, Err, refl, ap, ◌∙◌, arith}
 use Rattle.std.specs.Prelude.{encode_utf8_all, nat_lt}
-use Rattle.std.proofs.lemmas.Bool.{cond-true, cond-false, lt-ltb, le-ltb, cases_lt}
-use Rattle.wap_value.specs.declared.value.Value.{Value}
-use Rattle.wap_value.specs.declared.value.Value.TheVariants.{Int, Bool as Boolean, Str, Invalid}
+use Rattle.std.proofs.lemmas.Bool.{cond-true, cond-false, lt-ltb, le-ltb}
+use Rattle.wap_value.specs.declared.value.Value.TheVariants.{Str}
 use Rattle.wap_value.specs.declared.fault.ValueFault.TheVariants.{TooLong}
 use Rattle.wap_value.specs.declared.operator.BinOp.{BinOp}
-use Rattle.wap_value.specs.Conversion.{integer_value, boolean_value}
+use Rattle.wap_value.specs.Conversion.{integer_value}
 use Rattle.wap_value.specs.Arithmetic.{integer_result_of}
 use Rattle.wap_value.specs.Binary.{on_integers}
-use Rattle.wap_value.specs.TooLong.{kept_within, IsTooLong}
+use Rattle.wap_value.specs.TooLong.{kept_within}
 use Rattle.wap_base.specs.Utf8.{utf8_len}
 use Rattle.wap_base.proofs.Utf8Lengths.{length-encode_utf8_all, utf8_len-append}
 
@@ -40,31 +39,8 @@ pub integer_is_kept : (limit : ℕ) (n : Option ℤ)
 integer_is_kept limit (Some z) = refl
 integer_is_kept limit None = refl
 
-pub boolean_is_kept : (limit : ℕ) (b : Option Bool)
-    → kept_within limit (boolean_value b) ≡ Ok (boolean_value b)
-boolean_is_kept limit (Some b) = refl
-boolean_is_kept limit None = refl
-
 pub on_integers_is_kept : (limit : ℕ) (op : BinOp) (x y : Option ℤ)
     → kept_within limit (on_integers op x y) ≡ Ok (on_integers op x y)
 on_integers_is_kept limit op (Some x) (Some y) = integer_is_kept limit (integer_result_of op x y)
 on_integers_is_kept limit op (Some x) None = refl
 on_integers_is_kept limit op None y = refl
-
--- a refusal is of a String past the limit, with its bytes
-pub refused_is_long : (limit bytes : ℕ) (v : Value) → kept_within limit v ≡ Err (TooLong bytes)
-    → IsTooLong limit v bytes
-refused_is_long limit bytes (Str text) refused = elim (cases_lt limit (utf8_len text)) [
-  | inl past ↦
-      let same : utf8_len text ≡ bytes =
-      (let is : kept_within limit (Str text) ≡ Err (TooLong (utf8_len text)) =
-      long_is_refused limit (utf8_len text) text refl past in cc) in
-      (same, let P : ℕ → Type 0 = λ n. limit < n in subst P same past)
-  | inr within ↦
-      let is : kept_within limit (Str text) ≡ Ok (Str text) =
-      short_is_kept limit (utf8_len text) text refl within in
-      cc
-]
-refused_is_long limit bytes (Int z) refused = cc
-refused_is_long limit bytes (Boolean b) refused = cc
-refused_is_long limit bytes Invalid refused = cc

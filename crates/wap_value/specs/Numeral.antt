@@ -1,6 +1,7 @@
 -- The Integer that a text spells: an optional sign and decimal digits, and nothing else (WAP-193,
--- "Conversions to Integer"). Whether it is in range is asked after the sign is applied. 43 is `+`
--- and 45 is `-`.
+-- "Conversions to Integer"). That no white space may stand around them, as it may in the standard's
+-- numeric strings, is this project's own. Whether it is in range is asked after the sign is
+-- applied. 43 is `+` and 45 is `-`.
 use Rattle.std.specs.Prelude.{ℕ, List, [], ◌∷◌, ℤ, pos, neg_ℤ, ◌==◌, Option, Some}
 use Rattle.std.specs.Prelude.{None, option_and_then, if◌then◌else◌}
 use Rattle.std.specs.Option.{option_map}

@@ -1,8 +1,8 @@
 //! The values of scripts and what the operators make of them (WAP-193).
 //!
 //! A value is an Integer of 32 bits, a Boolean, a String or invalid. An operator converts its
-//! operands first, and a conversion that isn't there gives invalid, never an error. The one error
-//! of an operation is a String that is too long to be kept.
+//! operands first, and a conversion that isn't there gives invalid, never an error. An operation
+//! has two errors: a String that is too long to be kept, and out of memory.
 #![tactic(auto)]
 
 mod arithmetic;

@@ -1,0 +1,8 @@
+pub mod Names
+pub mod Drafts
+pub mod Blanks
+pub mod FormatLaws
+pub mod Reading
+pub mod Parting
+pub mod Occurs
+pub mod Grammar
