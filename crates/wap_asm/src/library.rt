@@ -7,14 +7,7 @@ ghost use Rattle.wap_code.specs.Libraries.{is_function, lib_args, lib_named};
 use wap_base::Text;
 use wap_code::LIBRARY;
 
-/// How many arguments a function of a library takes.
-pub fn lib_args(library: u16, function: u8) -> Option<u8>
-    ensures { result ≡ lib_args library function }
-{
-    args_of(u32::from(library), u32::from(function))
-}
-
-/// The same, by the operands of a call.
+/// How many arguments a function of a library takes, by the operands of a call.
 pub fn args_of(library: u32, function: u32) -> Option<u8>
     ensures { result ≡ lib_args library function }
 {

@@ -143,9 +143,11 @@ pub struct Row {
     pub operation: OpName,
     /// The name of this spelling.
     pub name: OpName,
-    /// Where each operand stands.
+    /// Where the first operand stands.
     pub a: Slot,
+    /// Where the second stands.
     pub b: Slot,
+    /// Where the third stands.
     pub c: Slot,
     /// What its operands are.
     pub operands: Operands,

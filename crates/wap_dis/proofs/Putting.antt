@@ -6,8 +6,8 @@ use Rattle.std.proofs.lemmas.Bool.{cases_Bool}
 use Rattle.std.specs.List.{flat_map}
 use Rattle.std.proofs.lemmas.List.{append-nil, take_more, map-append}
 use Rattle.wap_base.specs.Count.{Rose}
-use Rattle.wap_base.specs.Transfer.{Appends, AppendsFront}
-use Rattle.wap_base.proofs.Transfers.{Appends-then, Appends-nil}
+use Rattle.wap_base.specs.Transfer.{Appends, AppendsPrefix}
+use Rattle.wap_base.proofs.Transfers.{Appends-then}
 use Rattle.wap_dis.specs.inside.Puts.{State, Moves, Puts}
 
 abbrev pub Written : Type 0
@@ -17,15 +17,15 @@ unlike : (b : Bool) → b ≡ true → b ≡ false → ⊥
 unlike b yes_is no_is = cc
 
 -- a prefix of a text is a prefix of a longer one
-front_longer : (before after : Written) (text more : List ℕ) → AppendsFront before after text
-    → AppendsFront before after (text ++ more)
-front_longer before after text more is =
+prefix_longer : (before after : Written) (text more : List ℕ) → AppendsPrefix before after text
+    → AppendsPrefix before after (text ++ more)
+prefix_longer before after text more is =
     (is.0, is.1 ++ more, ap (λ (l : List ℕ). l ++ more) is.2 ∙ append_assoc is.0 is.1 more, is.3)
 
 -- a whole text, and a prefix of what follows
-front_then : (before between after : Written) (text more : List ℕ) → Appends before between text
-    → AppendsFront between after more → AppendsFront before after (text ++ more)
-front_then before between after text more whole is = (
+prefix_then : (before between after : Written) (text more : List ℕ) → Appends before between text
+    → AppendsPrefix between after more → AppendsPrefix before after (text ++ more)
+prefix_then before between after text more whole is = (
   text ++ is.0,
   is.1,
   ap (λ (l : List ℕ). text ++ l) is.2 ∙ sym (append_assoc text is.0 is.1),
@@ -53,7 +53,7 @@ module _ (a b c : Written) (m n o : ℕ) (p q r : State) (x y : List ℕ) (first
       )
 
   both_broken : r.failed ≡ true → p.failed ≡ false
-      → AppendsFront a c (p.bytes ++ (x ++ y)) × Rose m o
+      → AppendsPrefix a c (p.bytes ++ (x ++ y)) × Rose m o
   both_broken bad good =
       let counts_one = first.counts in
       let counts_two = second.counts in
@@ -62,9 +62,9 @@ module _ (a b c : Written) (m n o : ℕ) (p q r : State) (x y : List ℕ) (first
             let broken = first.broken early good in
             let stays = second.stays early in
             let rose = broken.1 in (
-              subst (λ (w : Written). AppendsFront a w (p.bytes ++ (x ++ y))) (sym stays.1)
-                  (subst (AppendsFront a b) (append_assoc p.bytes x y)
-                  (front_longer a b (p.bytes ++ x) y broken.0)),
+              subst (λ (w : Written). AppendsPrefix a w (p.bytes ++ (x ++ y))) (sym stays.1)
+                  (subst (AppendsPrefix a b) (append_assoc p.bytes x y)
+                  (prefix_longer a b (p.bytes ++ x) y broken.0)),
               omega arith,
             )
         | inr fine ↦
@@ -74,8 +74,8 @@ module _ (a b c : Written) (m n o : ℕ) (p q r : State) (x y : List ℕ) (first
             let all : one.moved ++ (q.bytes ++ y) ≡ p.bytes ++ (x ++ y) =
             sym (append_assoc one.moved q.bytes y) ∙ ap (λ (l : List ℕ). l ++ y) (sym one.same)
             ∙ append_assoc p.bytes x y in (
-              subst (AppendsFront a c) all
-                  (front_then a b c one.moved (q.bytes ++ y) one.written broken.0),
+              subst (AppendsPrefix a c) all
+                  (prefix_then a b c one.moved (q.bytes ++ y) one.written broken.0),
               omega arith,
             )
       ]
@@ -94,16 +94,6 @@ module _ (a b c : Written) (m n o : ℕ) (p q r : State) (x y : List ℕ) (first
             λ bad.
             let one = first.stays bad in let two = second.stays one.0 in (two.0, two.1 ∙ one.1);
       }
-
--- nothing is put
-pub Puts-nil : (a : Written) (m : ℕ) (p : State) → Puts a a m m p p []
-Puts-nil a m p = record {
-  counts = omega arith;
-  steady = λ good. refl;
-  whole = λ good. (good, record { moved = []; written = Appends-nil a; same = append-nil p.bytes });
-  broken = λ bad good. absurd (unlike p.failed bad good);
-  stays = λ bad. (bad, refl);
-}
 
 -- what is held goes out, and a piece after it
 pub writes_both : (a b c : Written) (m n o : ℕ) (p r : State) (piece : List ℕ) → p.failed ≡ false
@@ -127,46 +117,24 @@ writes_both a b c m n o p r piece fine good empty first second one two = record 
 }
 
 pub fails_first : (a b : Written) (m n : ℕ) (p r : State) (piece : List ℕ) → p.failed ≡ false
-    → r.failed ≡ true → AppendsFront a b p.bytes → m ≤ n → Rose m n → Puts a b m n p r piece
+    → r.failed ≡ true → AppendsPrefix a b p.bytes → m ≤ n → Rose m n → Puts a b m n p r piece
 fails_first a b m n p r piece fine bad front counts rose = record {
   counts = counts;
   steady = λ good. absurd (unlike r.failed bad good);
   whole = λ good. absurd (unlike r.failed bad good);
-  broken = λ also good. (front_longer a b p.bytes piece front, rose);
+  broken = λ also good. (prefix_longer a b p.bytes piece front, rose);
   stays = λ broke. absurd (unlike p.failed broke fine);
 }
 
 pub fails_second : (a b c : Written) (m n o : ℕ) (p r : State) (piece : List ℕ) → p.failed ≡ false
-    → r.failed ≡ true → Appends a b p.bytes → AppendsFront b c piece → m ≤ n → n ≤ o → Rose n o
+    → r.failed ≡ true → Appends a b p.bytes → AppendsPrefix b c piece → m ≤ n → n ≤ o → Rose n o
     → Puts a c m o p r piece
 fails_second a b c m n o p r piece fine bad first front one two rose = record {
   counts = omega arith;
   steady = λ good. absurd (unlike r.failed bad good);
   whole = λ good. absurd (unlike r.failed bad good);
-  broken = λ also good. (front_then a b c p.bytes piece first front, omega arith);
+  broken = λ also good. (prefix_then a b c p.bytes piece first front, omega arith);
   stays = λ broke. absurd (unlike p.failed broke fine);
-}
-
--- bytes are held, where there is room for them
-pub holds_more : (a : Written) (m : ℕ) (p r : State) (piece : List ℕ) → p.failed ≡ false
-    → r.failed ≡ false → r.bytes ≡ p.bytes ++ piece → Puts a a m m p r piece
-holds_more a m p r piece fine good more = record {
-  counts = omega arith;
-  steady = λ same. refl;
-  whole = λ same. (fine, record { moved = []; written = Appends-nil a; same = sym more });
-  broken = λ bad same. absurd (unlike r.failed bad good);
-  stays = λ bad. absurd (unlike p.failed bad fine);
-}
-
--- after a fault nothing is put
-pub puts_nothing : (a : Written) (m : ℕ) (p : State) (piece : List ℕ) → p.failed ≡ true
-    → Puts a a m m p p piece
-puts_nothing a m p piece broke = record {
-  counts = omega arith;
-  steady = λ good. absurd (unlike p.failed broke good);
-  whole = λ good. absurd (unlike p.failed broke good);
-  broken = λ bad good. absurd (unlike p.failed broke good);
-  stays = λ bad. (bad, refl);
 }
 
 -- ---- one thing after the other
@@ -184,16 +152,6 @@ flat_map-map f g [] = refl
 flat_map-map f g (x ∷ xs) = ap (λ (l : List ℕ). f (g x) ++ l) (flat_map-map f g xs)
 
 module _ (a b c : Written) (m n o : ℕ) (p q r : State) where
-  -- one thing more of a list
-  pub puts_more : {A : Type 0} (f : A → List ℕ) (xs : List A) (i : ℕ) (x : A) → i < length xs
-      → x ≡ get_or xs i x → Puts a b m n p q (flat_map f (take i xs)) → Puts b c n o q r (f x)
-      → Puts a c m o p r (flat_map f (take (i + 1) xs))
-  puts_more {A} f xs i x within is before now =
-      let longer : take (i + 1) xs ≡ take i xs ++ x ∷ [] =
-      take_more xs i x within ∙ ap (λ (y : A). take i xs ++ y ∷ []) (sym is) in
-      subst (Puts a c m o p r) (sym (ap (flat_map f) longer ∙ flat_map-push f (take i xs) x))
-      (Puts-then a b c m n o p q r (flat_map f (take i xs)) (f x) before now)
-
   -- the same, of a thing that is read at a default
   pub puts_at : {A : Type 0} (d : A) (f : A → List ℕ) (xs : List A) (i : ℕ) (piece : List ℕ)
       → i < length xs → piece ≡ f (get_or xs i d) → Puts a b m n p q (flat_map f (take i xs))

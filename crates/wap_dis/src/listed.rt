@@ -2,7 +2,7 @@
 ghost use Rattle.std.specs.Prelude.{◌≡◌, ◌≤◌, ◌<◌, length, OnOk, OnErr, List};
 ghost use Rattle.std.specs.List.{flat_map, enumerate_from};
 ghost use Rattle.wap_base.specs.Count.{Rose};
-ghost use Rattle.wap_base.specs.Transfer.{Appends, AppendsFront};
+ghost use Rattle.wap_base.specs.Transfer.{Appends, AppendsPrefix};
 ghost use Rattle.wap_dis.specs.Listing.{whole_at, constant_line, pragma_line, byte_lines};
 ghost use Rattle.wap_dis.specs.Listing.{code_from, function_lines, listing};
 ghost use Rattle.wap_dis.specs.inside.Puts.{Puts};
@@ -20,8 +20,8 @@ use wap_code::{Code, Constant, Instr, Pragma, Row, Unit};
 pub fn listing<O: Sink>(unit: &Unit, out: &mut O) -> Result<(), Failed>
     ensures whole { OnOk result
         (Appends (O.written out.old) (O.written out.new) (listing unit.now)) }
-    ensures front { OnErr result
-        (AppendsFront (O.written out.old) (O.written out.new) (listing unit.now)) }
+    ensures prefix { OnErr result
+        (AppendsPrefix (O.written out.old) (O.written out.new) (listing unit.now)) }
     ensures steady { OnOk result (O.faults out.new ≡ O.faults out.old) }
     ensures faults { O.faults out.old ≤ O.faults out.new }
     ensures failed { OnErr result (Rose (O.faults out.old) (O.faults out.new)) }

@@ -1,5 +1,6 @@
--- What each operation does (WAP-193, section 10), a row for each. The names of short forms are no
--- operations of their own.
+-- What each operation does (WAP-193, section 10), a row for each name. The name of a short form has
+-- the row of its operation, which is never asked for: a row of the table of instructions names its
+-- operation beside its form.
 use Rattle.std.specs.Prelude.{pos, negsuc, true, false}
 use Rattle.wap_code.specs.declared.row.OpName.{OpName}
 use Rattle.wap_code.specs.declared.row.OpName.TheVariants as op

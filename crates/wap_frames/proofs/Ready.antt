@@ -119,7 +119,7 @@ use Rattle.wap_frames.specs.declared.next.Next.TheVariants.{Onward, Back, Call}
 use Rattle.wap_frames.specs.declared.next.Next.TheVariants.{Return as Gives, End}
 use Rattle.wap_frames.specs.Seen.{effect_after}
 use Rattle.wap_frames.specs.Doing.{StandsFor, Does, Acts}
-use Rattle.wap_frames.specs.inside.Parts.{IsSmall, IsInstruction, IsJump, given, given_by, jumping}
+use Rattle.wap_frames.specs.inside.Parts.{IsSmall, IsInstruction, given}
 use Rattle.wap_frames.specs.Standing.{Stands, CanCall, Onwards, Fits}
 use Rattle.wap_frames.proofs.Rows.{Traits, traits_of, has_traits, is_short}
 use Rattle.wap_frames.proofs.Rows.{operator_takes_both, is_fine, fine_row}
@@ -935,89 +935,11 @@ no_instr frame row fault stands within row_is short =
 
 -- ---- the jump after a short-circuit
 
-jumps_by : (decides truth : Bool) (jump : Instr) (variables operands : List Value)
-    → decided (Some truth) decides (jump.next + jump.a) jump.next variables operands
-    ≡ jumping jump variables operands (given_by decides (Some truth))
-jumps_by true true jump variables operands = refl
-jumps_by true false jump variables operands = refl
-jumps_by false true jump variables operands = refl
-jumps_by false false jump variables operands = refl
-
-jumps_as : (decides : Bool) (truth : Option Bool) (jump : Instr) (variables operands : List Value)
-    → decided truth decides (jump.next + jump.a) jump.next variables operands
-    ≡ jumping jump variables operands (given_by decides truth)
-jumps_as decides None jump variables operands = refl
-jumps_as decides (Some truth) jump variables operands =
-    jumps_by decides truth jump variables operands
-
-with_top_same : (operands : List Value) (some other : Value → List Value → Effect)
-    → ((v : Value) (rest : List Value) → some v rest ≡ other v rest)
-    → with_top operands some ≡ with_top operands other
-with_top_same [] some other same = refl
-with_top_same (v ∷ rest) some other same = same v rest
-
 module _ (frame : Frame) (decides : Bool) (next : ℕ) where
-  abbrev pair_here : Effect
-  pair_here =
-      pair_by frame decides (code_of frame.function) next
-      (row_of (slice_index (code_of frame.function) next))
-
   past_end : length (code_of frame.function) ≤ next
       → row_of (slice_index (code_of frame.function) next) ≡ None
   unfolding row_of
   past_end past = rw (get_or_past (code_of frame.function) next 0 past) refl
-
-  pub no_jump_past : Fits frame pair_here → length (code_of frame.function) ≤ next → ⊥
-  no_jump_past fits past =
-      subst (λ (o : Option Row). Fits frame (pair_by frame decides (code_of frame.function) next o))
-      (past_end past) fits
-
-  pub no_jump_row : Fits frame pair_here
-      → None ≡ row_of (slice_index (code_of frame.function) next) → ⊥
-  no_jump_row fits none =
-      subst (λ (o : Option Row). Fits frame (pair_by frame decides (code_of frame.function) next o))
-      (sym none) fits
-
-  pub no_jump_instr : (row : Row) (fault : InstrFault) → Fits frame pair_here
-      → Some row ≡ row_of (slice_index (code_of frame.function) next)
-      → Err fault ≡ read_row row (code_of frame.function) next → ⊥
-  no_jump_instr row fault fits row_is short =
-      let fits' =
-      subst (λ (o : Option Row). Fits frame (pair_by frame decides (code_of frame.function) next o))
-      (sym row_is) fits in
-      subst (λ (r : Result Instr InstrFault).
-      Fits frame (pair_with frame decides (action_of row.operation) r)) (sym short) fits'
-
-  pub jump_is : (row : Row) (jump : Instr) → next < length (code_of frame.function)
-      → Fits frame pair_here → Some row ≡ row_of (slice_index (code_of frame.function) next)
-      → Ok jump ≡ read_row row (code_of frame.function) next → Holds row jump
-      → IsJump frame decides next jump
-  jump_is row jump inside fits row_is read holds = record {
-    effect = one ∙ by (is_jump_unless (action_of row.operation)) refl (subst (Fits frame) one fits);
-    within = next_within row (code_of frame.function) next jump inside (sym read);
-    small = any_slot row.a jump.a holds.a;
-  }
-    where
-      one : pair_here ≡ pair_with frame decides (action_of row.operation) (Ok jump)
-      one =
-          ap (λ (o : Option Row). pair_by frame decides (code_of frame.function) next o)
-          (sym row_is)
-          ∙ ap (λ (r : Result Instr InstrFault).
-          pair_with frame decides (action_of row.operation) r) (sym read)
-
-      by : (test : Bool) → is_jump_unless (action_of row.operation) ≡ test
-          → Fits frame (pair_with frame decides (action_of row.operation) (Ok jump))
-          → pair_with frame decides (action_of row.operation) (Ok jump) ≡ with_top frame.operands
-          (λ value operands. jumping jump frame.variables operands (given decides value))
-      by true is fits =
-          rw is (with_top_same frame.operands (λ value operands. decided (boolean_of value) decides
-          (jump.next + jump.a) jump.next frame.variables operands)
-          (λ value operands. jumping jump frame.variables operands (given decides value))
-          (λ v rest. jumps_as decides (boolean_of v) jump frame.variables rest))
-      by false is fits =
-          absurd (subst (λ (b : Bool).
-          Fits frame (cond b (with_top frame.operands (λ value operands. decided (boolean_of value)
-          decides (jump.next + jump.a) jump.next frame.variables operands)) stuck)) is fits)
 
 -- ---- one instruction
 

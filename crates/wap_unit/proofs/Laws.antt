@@ -19,7 +19,8 @@ use Rattle.wap_unit.specs.Sequences.{Then, IsByte, IsRow}
 use Rattle.wap_unit.specs.Refusal.{Refusal, Never, LacksByte, LacksBytes, RefusesNumber}
 use Rattle.wap_unit.specs.Refusal.{RefusesInTurn, RefusesUnless, RefusesRow, IsTaken}
 use Rattle.wap_unit.specs.inside.Steps.{Reader, byte_at, taken_at, numbered, number_at}
-use Rattle.wap_unit.specs.inside.Steps.{in_turn, given, failing, passing, told, many}
+use Rattle.wap_unit.specs.inside.Steps.{in_turn, given, judged, failing, passing, told}
+use Rattle.wap_unit.specs.inside.Steps.{many}
 
 -- read reads a prefix that is such, and gives up exactly where it is refused
 pub record Reads {A : Type 0} (read : Reader A) (Is : List ℕ → A → Type 0)
@@ -313,23 +314,6 @@ module _ {A : Type 0} {read : Reader A} {Is : List ℕ → A → Type 0} {Refuse
         r >>= λ x. Ok (made x.0, x.1)) (reads.fails end bytes found refuses);
   }
 
-  -- the same relation and the same refusal in other words
-  pub reads_those : {Are : List ℕ → A → Type 0} {Refused : Refusal}
-      → ((bytes : List ℕ) (x : A) → Is bytes x → Are bytes x)
-      → ((bytes : List ℕ) (x : A) → Are bytes x → Is bytes x)
-      → ((end : ℕ) (bytes : List ℕ) (found : UnitFault) → Refuses end bytes found
-      → Refused end bytes found)
-      → ((end : ℕ) (bytes : List ℕ) (found : UnitFault) → Refused end bytes found
-      → Refuses end bytes found)
-      → Reads read Are Refused
-  reads_those forth back out home = record {
-    takes =
-        λ end bytes x rest e. let a = reads.takes end bytes x rest e in (a.0, a.1, forth a.0 x a.2);
-    again = λ end front x rest is. reads.again end front x rest (back front x is);
-    stops = λ end bytes found e. out end bytes found (reads.stops end bytes found e);
-    fails = λ end bytes found refuses. reads.fails end bytes found (home end bytes found refuses);
-  }
-
   -- the same relation in other words
   pub reads_as : {Are : List ℕ → A → Type 0} → ((bytes : List ℕ) (x : A) → Is bytes x → Are bytes x)
       → ((bytes : List ℕ) (x : A) → Are bytes x → Is bytes x) → Reads read Are Refuses
@@ -340,6 +324,13 @@ module _ {A : Type 0} {read : Reader A} {Is : List ℕ → A → Type 0} {Refuse
     stops = reads.stops;
     fails = reads.fails;
   }
+
+-- what is judged is read where the test is passed
+pub reads_judged : {A : Type 0} (x : A) (test : Bool) (failed : UnitFault)
+    → Reads (judged (cond test (Ok x) (Err failed)))
+    (λ bytes y. (test ≡ true) × ((bytes ≡ []) × (y ≡ x))) (RefusesUnless test failed Never)
+reads_judged x true failed = reads_passing (reads_given x) true failed
+reads_judged x false failed = reads_passing (reads_given x) false failed
 
 -- what depends on its own place is read at that place
 pub reads_here : {A : Type 0} {read : ℕ → Reader A} {Is : List ℕ → A → Type 0}

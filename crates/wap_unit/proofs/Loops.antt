@@ -1,7 +1,6 @@
 -- Reading so many things one after the other, as a loop does.
-use Rattle.std.proofs.Common.{◌≡◌, ◌≢◌, ℕ, suc, ◌+◌, ◌-◌, ◌<◌, ◌≤◌, List, [], ◌∷◌, ◌++◌, Result, Ok}
+use Rattle.std.proofs.Common.{◌≡◌, ◌≢◌, ℕ, suc, ◌+◌, ◌-◌, ◌<◌, List, [], ◌∷◌, ◌++◌, Result, Ok}
 use Rattle.std.proofs.Common.{Err, refl, sym, ap, subst, ◌∙◌, append_assoc, arith}
-use Rattle.std.proofs.lemmas.List.{append-nil}
 use Rattle.wap_base.specs.Outcome.{◌>>=◌, Meets}
 use Rattle.wap_unit.specs.declared.fault.UnitFault.{UnitFault}
 use Rattle.wap_unit.specs.declared.fault.UnitFault.TheVariants.{NoMemory}
@@ -49,24 +48,6 @@ module _ {A : Type 0} (read : Reader A) (end turns done : ℕ) (front : List A) 
       → Continues read end turns done front bytes whole → whole ≡ Err fault
   at_fault fault more first so_far =
       sym (turn more so_far) ∙ ap (λ (r : Read A). with_front front (r >>= rest_of)) first
-
-  pub run_out : turns ≤ done → Continues read end turns done front bytes whole
-      → whole ≡ Ok (front, bytes)
-  run_out none so_far =
-      let left : turns - done ≡ 0 = omega arith in
-      sym so_far ∙ ap (λ (n : ℕ). with_front front (many read n end bytes)) left
-      ∙ ap (λ (xs : List A). Ok (xs, bytes)) (append-nil front)
-
-nothing_before : {A : Type 0} (read : Read (List A)) → with_front [] read ≡ read
-nothing_before (Ok x) = refl
-nothing_before (Err f) = refl
-
-pub begins : {A : Type 0} (read : Reader A) (end turns : ℕ) (front : List A) (bytes : List ℕ)
-    → front ≡ [] → Continues read end turns 0 front bytes (many read turns end bytes)
-begins {A = A} read end turns front bytes none =
-    let all : turns - 0 ≡ turns = omega arith in
-    ap (λ (xs : List A). with_front xs (many read (turns - 0) end bytes)) none
-    ∙ nothing_before (many read (turns - 0) end bytes) ∙ ap (λ (n : ℕ). many read n end bytes) all
 
 -- a loop that is left at a fault, unless memory ran out
 pub at_exit : {X Y : Type 0} (view : X → Y) (result : Result X UnitFault) (fault : UnitFault)

@@ -67,10 +67,10 @@ use Rattle.wap_unit.specs.inside.Reading.{
   functions_at,
   body_at,
 }
-use Rattle.wap_unit.specs.inside.Steps.{in_turn}
+use Rattle.wap_unit.specs.inside.Steps.{in_turn, judged}
 use Rattle.wap_unit.proofs.Laws.{Reads, reads_byte, reads_taken, reads_number, reads_in_turn}
-use Rattle.wap_unit.proofs.Laws.{reads_given, reads_failing, reads_passing, reads_told}
-use Rattle.wap_unit.proofs.Laws.{reads_as, reads_here, reads_many}
+use Rattle.wap_unit.proofs.Laws.{reads_given, reads_judged, reads_failing, reads_passing}
+use Rattle.wap_unit.proofs.Laws.{reads_told, reads_as, reads_here, reads_many}
 
 -- a prefix after which nothing stands is all
 whole : (Is : List ℕ → Type 0) (bytes front back : List ℕ) → bytes ≡ front ++ back → back ≡ []
@@ -106,12 +106,13 @@ reads_sized = reads_as (reads_in_turn reads_number reads_taken)
       },
     ))
 
-reads_utf8 : (at : ℕ) → Reads (in_turn sized_at (utf8_text at)) (λ bytes text.
+reads_utf8 : (at : ℕ)
+    → Reads (in_turn sized_at (λ content. judged (utf8_text at content))) (λ bytes text.
     Sized (λ content. IsUtf8Text content text) bytes) (RefusesText is_utf8 (fault.Text at))
 unfolding utf8_text
 reads_utf8 at =
     reads_as (reads_in_turn reads_sized
-    (λ content. reads_passing (reads_given (chars content)) (is_utf8 content) (fault.Text at)))
+    (λ content. reads_judged (chars content) (is_utf8 content) (fault.Text at)))
     (λ bytes text is. (
       is.0,
       whole (λ l. IsSized l is.0) bytes is.1.front is.1.back is.1.split is.1.second.1.0 is.1.first,
@@ -132,12 +133,12 @@ abbrev IsCoded : ℕ → List ℕ → List ℕ → Type 0
 IsCoded charset bytes text = Sized (λ content. (content ≡ text) × IsCodedText charset content) bytes
 
 reads_text : (charset at : ℕ) (set : Charset) → charset_of charset ≡ Some set
-    → Reads (in_turn sized_at (coded_text set at)) (IsCoded charset)
+    → Reads (in_turn sized_at (λ content. judged (coded_text set at content))) (IsCoded charset)
     (RefusesText (is_text set) (fault.Text at))
 unfolding coded_text
 reads_text charset at set known =
     reads_as (reads_in_turn reads_sized
-    (λ content. reads_passing (reads_given content) (is_text set content) (fault.Text at)))
+    (λ content. reads_judged content (is_text set content) (fault.Text at)))
     (λ bytes text is. (
       is.0,
       whole (λ l. IsSized l is.0) bytes is.1.front is.1.back is.1.split is.1.second.1.0 is.1.first,
@@ -379,10 +380,6 @@ reads_pair =
       },
     ))
 
-abbrev IsTriple : List ℕ → ℕ → ℕ → ℕ → Type 0
-IsTriple bytes one two three =
-    InTurn (λ front. IsMb front one) (λ back. IsPair back two three) bytes
-
 -- what follows the first byte of a pragma
 abbrev IsIndexes : PragmaKind → List ℕ → Pragma → Type 0
 IsIndexes pragma.Domain bytes p = (text : ℕ) × IsMb bytes text × (p ≡ Domain text)
@@ -536,7 +533,7 @@ unfolding name_text_at utf8_text
 reads_name_text at =
     reads_as (reads_in_turn reads_byte (λ size.
     reads_in_turn (reads_taken size) (λ content.
-    reads_passing (reads_given (chars content)) (is_utf8 content) (fault.Text at))))
+    reads_judged (chars content) (is_utf8 content) (fault.Text at))))
     (λ bytes text is.
     let size : ℕ = is.0 in
     let inner = is.1.second in

@@ -6,17 +6,16 @@ use Rattle.wap_base.proofs.CharsetLaws.{is_utf8-no}
 use Rattle.wap_unit.specs.declared.fault.UnitFault.TheVariants as fault
 use Rattle.wap_unit.specs.inside.Reading.{utf8_text}
 
-pub text_found : (at : ℕ) (content : List ℕ) (end : ℕ) (rest text : List ℕ) → IsUtf8 content
-    → text ≡ chars content → utf8_text at content end rest ≡ Ok (text, rest)
+pub text_found : (at : ℕ) (content text : List ℕ) → IsUtf8 content → text ≡ chars content
+    → utf8_text at content ≡ Ok text
 unfolding utf8_text
-text_found at content end rest text utf8 is =
-    ap (λ (b : Bool). cond b (Ok (chars content, rest)) (Err (fault.Text at)))
+text_found at content text utf8 is =
+    ap (λ (b : Bool). cond b (Ok (chars content)) (Err (fault.Text at)))
     (is_utf8-from_IsUtf8 content utf8)
-    ∙ ap (λ (t : List ℕ). Ok (t, rest)) (sym is)
+    ∙ ap Ok (sym is)
 
-pub text_missed : (at : ℕ) (content : List ℕ) (end : ℕ) (rest : List ℕ) → ¬ (IsUtf8 content)
-    → utf8_text at content end rest ≡ Err (fault.Text at)
+pub text_missed : (at : ℕ) (content : List ℕ) → ¬ (IsUtf8 content)
+    → utf8_text at content ≡ Err (fault.Text at)
 unfolding utf8_text
-text_missed at content end rest none =
-    ap (λ (b : Bool). cond b (Ok (chars content, rest)) (Err (fault.Text at)))
-    (is_utf8-no content none)
+text_missed at content none =
+    ap (λ (b : Bool). cond b (Ok (chars content)) (Err (fault.Text at))) (is_utf8-no content none)

@@ -1,5 +1,6 @@
 -- Compiled units (WAP-193, section 9): which bytes are which unit. This project's own are the
--- version bytes that are read and the character sets.
+-- version bytes that are read, the character sets, and that the counts of constants and of pragmas
+-- and the indexes of constants have 32 bits, where the standard has 16.
 use Rattle.std.specs.Prelude.{◌≡◌, ℕ, ◌<◌, ◌≤◌, true, List, [], ◌∷◌, ◌++◌, length, Some}
 use Rattle.std.specs.List.{AllByRecursion}
 use Rattle.std.specs.Str.{is_utf8, chars}

@@ -10,37 +10,27 @@ use wap_base::{Bytes, Charset, Text};
 
 /// The characters of bytes that have to be UTF-8, as part of the item at this place.
 #[tactic(auto, unfolding(crate::specs::inside::Reading::utf8_text))]
-pub fn utf8_text<'a>(
-    alloc: Global,
-    at: usize,
-    content: &[u8],
-    end: usize,
-    rest: &'a [u8],
-) -> Result<(Text, &'a [u8]), UnitFault>
-    ensures { Meets NoMemory (λ read. (read.0, read.1.now)) result
-        (utf8_text at content.now end rest.now) }
+pub fn utf8_text(alloc: Global, at: usize, content: &[u8]) -> Result<Text, UnitFault>
+    ensures { Meets NoMemory (λ text. text) result (utf8_text at content.now) }
 {
     match str::from_utf8(content) {
-        Ok(text) => Ok((Text::of(alloc, text)?, rest)),
+        Ok(text) => Ok(Text::of(alloc, text)?),
         Err(_) => Err(UnitFault::Text { at }),
     }
 }
 
 /// Bytes that have to be a text in a character set, as part of the item at this place.
 #[tactic(auto, unfolding(crate::specs::inside::Reading::coded_text))]
-pub fn coded_text<'a>(
+pub fn coded_text(
     alloc: Global,
     set: Charset,
     at: usize,
     content: &[u8],
-    end: usize,
-    rest: &'a [u8],
-) -> Result<(Bytes, &'a [u8]), UnitFault>
-    ensures { Meets NoMemory (λ read. (read.0, read.1.now)) result
-        (coded_text set at content.now end rest.now) }
+) -> Result<Bytes, UnitFault>
+    ensures { Meets NoMemory (λ text. text) result (coded_text set at content.now) }
 {
     if !set.is_text(content) {
         return Err(UnitFault::Text { at });
     }
-    Ok((Bytes::of(alloc, content)?, rest))
+    Ok(Bytes::of(alloc, content)?)
 }

@@ -118,7 +118,7 @@ fn read_utf8(
     ensures { Meets NoMemory (λ read. (read.0, read.1.now)) result (utf8_at at end bytes.now) }
 {
     let (content, rest) = take_sized(end, bytes)?;
-    let (text, rest) = utf8_text(alloc, at, content, end, rest)?;
+    let text = utf8_text(alloc, at, content)?;
     Ok((Constant::Utf8(text), rest))
 }
 
@@ -137,7 +137,7 @@ fn read_coded(
         None => Err(UnitFault::Charset { at }),
         Some(set) => {
             let (content, rest) = take_sized(end, bytes)?;
-            let (text, rest) = coded_text(alloc, set, at, content, end, rest)?;
+            let text = coded_text(alloc, set, at, content)?;
             Ok((Constant::Coded(text), rest))
         }
     }

@@ -32,7 +32,7 @@ pub enum UnitFault {
 impl From<wap_base::NoMemory> for UnitFault {
     ghost from_gives = { λ _ fault. fault ≡ NoMemory };
 
-    fn from(_want: wap_base::NoMemory) -> UnitFault {
+    fn from(_error: wap_base::NoMemory) -> UnitFault {
         UnitFault::NoMemory
     }
 }

@@ -100,7 +100,7 @@ fn read_name_text(
 {
     let (size, rest) = byte(end, bytes)?;
     let (content, rest) = take_bytes(size as usize, end, rest)?;
-    utf8_text(alloc, at, content, end, rest)
+    Ok((utf8_text(alloc, at, content)?, rest))
 }
 
 /// So many functions.

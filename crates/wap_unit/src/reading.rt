@@ -27,7 +27,6 @@ pub fn decode(alloc: Global, bytes: &[u8]) -> Result<Unit, UnitFault>
     ensures refused { IfErr result (λ fault. fault ≢ NoMemory → IsRefused bytes.now fault) }
     ensures first { (fault : UnitFault) → IsRefused bytes.now fault
         → Meets {Y = Unit} NoMemory (λ u. u) result (Err fault) }
-    ensures exact { Meets NoMemory (λ u. u) result (unit_at bytes.now) }
 {
     read_unit(alloc, bytes)
 }

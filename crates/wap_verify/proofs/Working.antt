@@ -21,7 +21,7 @@ use Rattle.wap_verify.specs.Sound.{Runs, leads_within, has_target, is_aimed}
 use Rattle.wap_verify.specs.Sound.{IsSplit, IsSound, IsRoom}
 use Rattle.wap_verify.specs.Faults.{IsFunctionFault, underflow, depths}
 use Rattle.wap_verify.specs.inside.Work.{GoesOn, is_place, State, depth_of, noted, arrived, Agrees}
-use Rattle.wap_verify.specs.inside.Work.{followed, AgreesWith, unseen, effort, Among, Sane}
+use Rattle.wap_verify.specs.inside.Work.{followed, AgreesWith, unseen, Among, Sane}
 use Rattle.wap_verify.specs.inside.Work.{Arrived, Settled, Grows, Works, Visits}
 use Rattle.wap_verify.specs.inside.Kept.{IsConflictOn}
 
@@ -687,15 +687,6 @@ module _ (unit : Unit) (index : ℕ) (function : Code) (state : State) (rest : L
     ];
   }
 
-  pub less_work : (new : State) → state.pending ≡ rest ++ (at, values) ∷ []
-      → Grows (popped state rest) new → effort new < effort state
-  less_work new pops grows =
-      let less = grows.less in
-      let longer : length state.pending ≡ length rest + 1 =
-      ap (λ (l : List Stand). length l) pops
-      ∙ omega (arith, length-append rest ((at, values) ∷ [])) in
-      omega arith
-
 -- ---- at the end
 
 module _ (unit : Unit) (index : ℕ) (function : Code) (state : State)
@@ -774,9 +765,6 @@ abbrev pub first_state : ℕ → State
 first_state count =
     record { depths = set (replicate count None) 0 (Some 0); pending = (0, 0) ∷ []; room = 0 }
 
-abbrev empty_state : State
-empty_state = record { depths = []; pending = []; room = 0 }
-
 get_first : (count : ℕ) → 0 < count → slice_get (replicate count none_yet) 0 ≡ Some None
 get_first zero some = absurd (omega arith)
 get_first (suc count) some = refl
@@ -833,18 +821,3 @@ works_first unit index function some =
     first_stand : (at v : ℕ) → at ≡ 0 → 0 ≡ v → ◌≡◌ {A = Stand} (at, v) (0, 0)
     first_stand at v first second =
         ap (λ (n : ℕ). (n, v)) first ∙ ap (λ (n : ℕ). (0, n)) (sym second)
-
-pub works_empty : (unit : Unit) (index : ℕ) (function : Code) → length function.code ≡ 0
-    → Works unit index function empty_state
-works_empty unit index function empty = record {
-  sane = record {
-    long = sym empty;
-    reached = λ at v e. absurd (cc e);
-    waiting = λ stand among. absurd among;
-    bounded = λ at v e. absurd (cc e);
-    room_at = 0;
-    room_reached = starts unit index function;
-  };
-  start = λ some. absurd (omega arith);
-  each = λ at v e. absurd (cc e);
-}

@@ -67,7 +67,7 @@ pub enum VerifyFault {
 impl From<wap_base::NoMemory> for VerifyFault {
     ghost from_gives = { λ _ fault. fault ≡ NoMemory };
 
-    fn from(_want: wap_base::NoMemory) -> VerifyFault {
+    fn from(_error: wap_base::NoMemory) -> VerifyFault {
         VerifyFault::NoMemory
     }
 }

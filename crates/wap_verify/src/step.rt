@@ -70,67 +70,38 @@ fn values_taken(unit: &Unit, takes: Takes, operands: Operands, instr: Instr) -> 
 /// Why an operand of the instruction at this place names nothing.
 fn operand_fault(
     unit: &Unit,
-    index: u8,
-    function: &Code,
+    function: u8,
+    code: &Code,
     at: usize,
     operands: Operands,
     instr: Instr,
 ) -> Option<VerifyFault>
-    ensures { result ≡ operand_fault unit.now index function.now at operands instr }
+    ensures { result ≡ operand_fault unit.now function code.now at operands instr }
 {
-    match operands {
-        Operands::Plain => None,
-        Operands::Variable => {
-            if instr.a < u32::from(function.args) + u32::from(function.locals) {
-                None
-            } else {
-                Some(VerifyFault::Variable {
-                    function: index,
-                    at,
-                })
-            }
-        }
-        Operands::Constant => {
-            if (instr.a as usize) < unit.constants.len() {
-                None
-            } else {
-                Some(VerifyFault::Constant {
-                    function: index,
-                    at,
-                })
-            }
-        }
-        Operands::Function => {
-            if (instr.a as usize) < unit.functions.len() {
-                None
-            } else {
-                Some(VerifyFault::Function {
-                    function: index,
-                    at,
-                })
-            }
-        }
-        Operands::Library => {
-            if args_of(instr.b, instr.a).is_some() {
-                None
-            } else {
-                Some(VerifyFault::Library {
-                    function: index,
-                    at,
-                })
-            }
-        }
-        Operands::Address => {
-            if is_string(unit, instr.a) && is_string(unit, instr.b) {
-                None
-            } else {
-                Some(VerifyFault::Constant {
-                    function: index,
-                    at,
-                })
-            }
-        }
-    }
+    let (is_there, fault) = match operands {
+        Operands::Plain => return None,
+        Operands::Variable => (
+            instr.a < u32::from(code.args) + u32::from(code.locals),
+            VerifyFault::Variable { function, at },
+        ),
+        Operands::Constant => (
+            (instr.a as usize) < unit.constants.len(),
+            VerifyFault::Constant { function, at },
+        ),
+        Operands::Function => (
+            (instr.a as usize) < unit.functions.len(),
+            VerifyFault::Function { function, at },
+        ),
+        Operands::Library => (
+            args_of(instr.b, instr.a).is_some(),
+            VerifyFault::Library { function, at },
+        ),
+        Operands::Address => (
+            is_string(unit, instr.a) && is_string(unit, instr.b),
+            VerifyFault::Constant { function, at },
+        ),
+    };
+    if is_there { None } else { Some(fault) }
 }
 
 fn way_to(to: usize, gives: u8) -> Option<Way>
@@ -152,34 +123,24 @@ fn step_of(after: After, at: usize, instr: Instr, takes: u32, gives: u8) -> Step
         jump_at: at,
         strays: false,
     };
-    let on = Some(gives);
-    let forward = way_to(instr.next + instr.a as usize, gives);
-    let backward = way_to(at.saturating_sub(instr.a as usize), gives);
+    let forward = Step {
+        jump: way_to(instr.next + instr.a as usize, gives),
+        ..stay
+    };
     let strays = at < instr.a as usize;
+    let backward = Step {
+        jump: way_to(at.saturating_sub(instr.a as usize), gives),
+        strays,
+        ..stay
+    };
+    let on = Some(gives);
     match after {
         After::On => Step { on, ..stay },
-        After::Forward => Step {
-            jump: forward,
-            ..stay
-        },
-        After::Backward => Step {
-            jump: backward,
-            strays,
-            ..stay
-        },
-        After::ForwardOrOn => Step {
-            on,
-            jump: forward,
-            ..stay
-        },
-        After::BackwardOrOn => Step {
-            on,
-            jump: backward,
-            strays,
-            ..stay
-        },
-        After::Pair => stay,
-        After::Leave => stay,
+        After::Forward => forward,
+        After::Backward => backward,
+        After::ForwardOrOn => Step { on, ..forward },
+        After::BackwardOrOn => Step { on, ..backward },
+        After::Pair | After::Leave => stay,
     }
 }
 
@@ -211,62 +172,40 @@ fn pair(takes: u32, at: usize, jump: Instr) -> Step
 fn is_conditional_forward(after: After) -> bool
     ensures { result ≡ is_conditional_forward after }
 {
-    match after {
-        After::ForwardOrOn => true,
-        After::On => false,
-        After::Forward => false,
-        After::Backward => false,
-        After::BackwardOrOn => false,
-        After::Pair => false,
-        After::Leave => false,
-    }
+    matches!(after, After::ForwardOrOn)
 }
 
 fn is_pair(after: After) -> bool
     ensures { result ≡ is_pair after }
 {
-    match after {
-        After::Pair => true,
-        After::On => false,
-        After::Forward => false,
-        After::Backward => false,
-        After::ForwardOrOn => false,
-        After::BackwardOrOn => false,
-        After::Leave => false,
-    }
+    matches!(after, After::Pair)
 }
 
 /// The short-circuit at a place, with the jump that has to stand next.
 #[tactic(auto, unfolding(crate::specs::Steps::pair_at))]
-fn pair_at(index: u8, code: &[u8], at: usize, next: usize, takes: u32) -> Result<Step, VerifyFault>
+fn pair_at(
+    function: u8,
+    code: &[u8],
+    at: usize,
+    next: usize,
+    takes: u32,
+) -> Result<Step, VerifyFault>
     requires { length code.now < 2 ^ 32 }
-    ensures step { result ≡ pair_at index code.now at next takes }
+    ensures step { result ≡ pair_at function code.now at next takes }
     ensures onward { at < next → IfOk result (GoesOn at (length code.now)) }
 {
     if next >= code.len() {
-        return Err(VerifyFault::LoneShort {
-            function: index,
-            at,
-        });
+        return Err(VerifyFault::LoneShort { function, at });
     }
     let Some(row) = row_of(code[next]) else {
-        return Err(VerifyFault::LoneShort {
-            function: index,
-            at,
-        });
+        return Err(VerifyFault::LoneShort { function, at });
     };
     if !is_conditional_forward(row.after) {
-        return Err(VerifyFault::LoneShort {
-            function: index,
-            at,
-        });
+        return Err(VerifyFault::LoneShort { function, at });
     }
     match read_row(row, code, next) {
         Ok(jump) => Ok(pair(takes, next, jump)),
-        Err(_) => Err(VerifyFault::Operand {
-            function: index,
-            at: next,
-        }),
+        Err(_) => Err(VerifyFault::Operand { function, at: next }),
     }
 }
 

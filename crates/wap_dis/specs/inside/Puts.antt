@@ -1,7 +1,7 @@
 -- Bytes that are put after others, of which some are written and some are held.
 use Rattle.std.specs.Prelude.{◌≡◌, ℕ, ◌≤◌, Bool, true, false, List, ◌++◌, Option}
 use Rattle.wap_base.specs.Count.{Rose}
-use Rattle.wap_base.specs.Transfer.{Appends, AppendsFront}
+use Rattle.wap_base.specs.Transfer.{Appends, AppendsPrefix}
 
 pub record State : Type 0 where
   pub bytes : List ℕ
@@ -21,5 +21,5 @@ pub record Puts (before after : Option (List ℕ)) (faults rest : ℕ) (old new 
   pub whole : new.failed ≡ false
       → (old.failed ≡ false) × Moves before after old.bytes new.bytes text
   pub broken : new.failed ≡ true → old.failed ≡ false
-      → AppendsFront before after (old.bytes ++ text) × Rose faults rest
+      → AppendsPrefix before after (old.bytes ++ text) × Rose faults rest
   pub stays : old.failed ≡ true → (new.failed ≡ true) × (after ≡ before)

@@ -21,28 +21,29 @@ use Rattle.wap_unit.specs.declared.kind.PragmaKind.{PragmaKind}
 use Rattle.wap_unit.specs.declared.kind.PragmaKind.TheVariants as pragma
 use Rattle.wap_unit.specs.Kinds.{constant_kind, pragma_kind}
 use Rattle.wap_unit.specs.inside.Steps.{Reader, byte_at, taken_at, number_at, in_turn}
-use Rattle.wap_unit.specs.inside.Steps.{given, failing, passing, told, many}
+use Rattle.wap_unit.specs.inside.Steps.{given, judged, failing, passing, told, many}
 
 -- bytes after their number
 unfoldable pub sized_at : Reader (List ℕ)
 sized_at = in_turn number_at taken_at
 
 -- the characters of bytes that have to be UTF-8, and bytes that have to be a text of a character
--- set; neither reads on
-unfoldable pub utf8_text : ℕ → List ℕ → Reader (List ℕ)
-utf8_text at content = passing (is_utf8 content) (fault.Text at) (given (chars content))
+-- set
+unfoldable pub utf8_text : ℕ → List ℕ → Result (List ℕ) UnitFault
+utf8_text at content = if is_utf8 content then Ok (chars content) else Err (fault.Text at)
 
-unfoldable pub coded_text : Charset → ℕ → List ℕ → Reader (List ℕ)
-coded_text set at content = passing (is_text set content) (fault.Text at) (given content)
+unfoldable pub coded_text : Charset → ℕ → List ℕ → Result (List ℕ) UnitFault
+coded_text set at content = if is_text set content then Ok content else Err (fault.Text at)
 
 -- ---- constants
 
 unfoldable pub coded_at : ℕ → Option Charset → Reader Constant
 coded_at at None = failing (fault.Charset at)
-coded_at at (Some set) = told Coded (in_turn sized_at (coded_text set at))
+coded_at at (Some set) =
+    told Coded (in_turn sized_at (λ content. judged (coded_text set at content)))
 
 unfoldable pub utf8_at : ℕ → Reader Constant
-utf8_at at = told Utf8 (in_turn sized_at (utf8_text at))
+utf8_at at = told Utf8 (in_turn sized_at (λ content. judged (utf8_text at content)))
 
 unfoldable pub value_at : Option Charset → ℕ → ConstantKind → Reader Constant
 value_at set at constant.Int8 =
@@ -96,7 +97,9 @@ pragmas_at = in_turn number_at (many pragma_at)
 -- ---- functions
 
 unfoldable pub name_text_at : ℕ → Reader (List ℕ)
-name_text_at at = in_turn byte_at (λ size. in_turn (taken_at size) (utf8_text at))
+name_text_at at =
+    in_turn byte_at (λ size.
+    in_turn (taken_at size) (λ content. judged (utf8_text at content)))
 
 unfoldable pub name_at : ℕ → Reader (ℕ × List ℕ)
 name_at count end bytes =

@@ -37,6 +37,10 @@ in_turn read next end bytes = read end bytes >>= λ x. next x.0 end x.1
 abbrev pub given : {A : Type 0} → A → Reader A
 given x end bytes = Ok (x, bytes)
 
+-- what was made of bytes that are read already
+abbrev pub judged : {A : Type 0} → Result A UnitFault → Reader A
+judged made end bytes = made >>= λ x. Ok (x, bytes)
+
 abbrev pub failing : {A : Type 0} → UnitFault → Reader A
 failing failed end bytes = Err failed
 

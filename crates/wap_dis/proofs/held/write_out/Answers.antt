@@ -1,5 +1,5 @@
 use Rattle.std.proofs.Common.{List, ℕ, true, refl, subst}
-use Rattle.wap_base.specs.Transfer.{Appends, AppendsFront}
+use Rattle.wap_base.specs.Transfer.{Appends, AppendsPrefix}
 use Rattle.wap_dis.specs.inside.Held.{state}
 use Rattle.wap_dis.proofs.Putting.{writes_both, fails_first, fails_second}
 use Rattle.wap_dis.proofs.held.write_out.Goals as goal
@@ -11,8 +11,8 @@ returns-in-Err-clause-puts g c =
     let new = state (record { bytes = c.args.held.now.bytes; failed = true }) in
     fails_first before after (g.O.Sink.faults c.args.out.now) (g.O.Sink.faults c.write_all.new.out)
     (state c.args.held.now) new c.args.piece.now c.requires refl
-    (subst (λ (l : List ℕ). AppendsFront before after l) c.as_slice.ensures.value
-    c.in-Err.ensures.front) c.write_all.ensures.faults c.in-Err.ensures.failed
+    (subst (λ (l : List ℕ). AppendsPrefix before after l) c.as_slice.ensures.value
+    c.in-Err.ensures.prefix) c.write_all.ensures.faults c.in-Err.ensures.failed
 
 pub returns-in-Ok-write_all-clause-puts : goal.returns-in-Ok-write_all-clause-puts
 returns-in-Ok-write_all-clause-puts g c =
@@ -37,5 +37,5 @@ returns-in-Err-write_all-clause-puts g c =
     (g.O.Sink.faults c.write_all-in-Ok.new.out)
     (state c.args.held.now) new c.args.piece.now c.requires refl
     (subst (λ (l : List ℕ). Appends before between l)
-    c.as_slice.ensures.value c.in-Ok.ensures.whole) c.in-Err-write_all.ensures.front
+    c.as_slice.ensures.value c.in-Ok.ensures.whole) c.in-Err-write_all.ensures.prefix
     c.write_all.ensures.faults c.write_all-in-Ok.ensures.faults c.in-Err-write_all.ensures.failed

@@ -6,10 +6,10 @@ use Rattle.wap_unit.proofs.charset.utf8_text.Goals as goal
 pub returns-in_ok-of-in-Ok : goal.returns-in_ok-of-in-Ok
 returns-in_ok-of-in-Ok c =
     let read = c.in-Ok.ensures.cases in
-    text_found c.args.at c.args.content.now c.args.end c.args.rest.now c.in_ok-of-in-Ok.field-0
-    read.1 (c.in_ok-of-in-Ok.ensures ∙ ap chars read.0)
+    text_found c.args.at c.args.content.now c.in_ok-of-in-Ok.field-0 read.1
+    (c.in_ok-of-in-Ok.ensures ∙ ap chars read.0)
 
 pub returns-in-Err : goal.returns-in-Err
 returns-in-Err c =
     λ other.
-    text_missed c.args.at c.args.content.now c.args.end c.args.rest.now c.in-Err.ensures.cases.0
+    text_missed c.args.at c.args.content.now c.in-Err.ensures.cases.0
