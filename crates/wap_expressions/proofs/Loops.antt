@@ -1,5 +1,5 @@
 -- Reading items one after the other, as a loop does.
-use Rattle.std.proofs.Common.{◌≡◌, ◌≢◌, ℕ, suc, ◌+◌, ◌-◌, ◌<◌, ◌≤◌, List, [], ◌∷◌, ◌++◌, length}
+use Rattle.std.proofs.Common.{◌≡◌, ◌≢◌, ℕ, suc, ◌+◌, ◌-◌, ◌<◌, List, [], ◌∷◌, ◌++◌, length}
 use Rattle.std.proofs.Common.{Option, Some, None, Result, Ok, Err, refl, sym, ap, subst, ◌∙◌}
 use Rattle.std.proofs.Common.{append_assoc, arith}
 use Rattle.std.proofs.lemmas.List.{append-nil}
@@ -56,13 +56,6 @@ module _ {A : Type 0} (next : Next A) (turns done : ℕ) (front : List A) (rest 
       sym (turn more so_far)
       ∙ ap (λ (r : Reading (Option A)). with_front front
       (r >>= one_more (run_at next (turns - (done + 1))))) first
-
-  pub run_out : turns ≤ done → Continues next turns done front rest whole →
-      whole ≡ Ok (front, rest)
-  run_out none so_far =
-      let left : turns - done ≡ 0 = omega arith in
-      sym so_far ∙ ap (λ (n : ℕ). with_front front (run_at next n rest)) left
-      ∙ ap (λ (items : List A). Ok (items, rest)) (append-nil front)
 
 nothing_before : {A : Type 0} (read : Reading (List A)) → with_front [] read ≡ read
 nothing_before (Ok x) = refl

@@ -33,10 +33,6 @@ both : (p q : Bool) → (p && q) ≡ true → (p ≡ true) × (q ≡ true)
 both true q e = (refl, e)
 both false q e = absurd cc
 
-not_second : (p q : Bool) → q ≡ false → (p && q) ≡ false
-not_second true q e = e
-not_second false q e = refl
-
 module _ (src : List ℕ) (Inner : Expressions) (inner : Reader) (deep : AllRead Inner inner)
     (begin : AllStart Inner)
     (Statement : Spelling Stmt) (statement : Statements)

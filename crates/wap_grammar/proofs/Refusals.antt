@@ -43,7 +43,7 @@ use Rattle.wap_grammar.specs.inside.Programs.{
   program_at,
 }
 use Rattle.wap_grammar.proofs.Guards.{Guard, IsRest, Forks, forks_then, forks_told, forks_if}
-use Rattle.wap_grammar.proofs.Guards.{rest_after, after_less, forks_after, forks_value}
+use Rattle.wap_grammar.proofs.Guards.{rest_after, forks_after, forks_value}
 use Rattle.wap_grammar.proofs.Guards.{forks_next, forks_syntax, forks_expect, forks_closed}
 use Rattle.wap_grammar.proofs.Guards.{forks_id, forks_items}
 use Rattle.wap_grammar.proofs.Places.{splits_block}
@@ -90,9 +90,6 @@ module _ (src : List ℕ) (whole : List Lexeme) (limit : ℕ) where
 
   abbrev after_left : (c : List Lexeme) → Left c → Left (after c)
   after_left = rest_after src whole limit
-
-  abbrev no_more : (c : List Lexeme) → length (after c) ≤ length c
-  no_more = after_less src whole limit
 
   -- ---- pragmas
 

@@ -89,15 +89,6 @@ pub record Finds (bytes : List ℕ) (s : Shape) (n : ℕ) : Type 0 where
   pub some : 0 < n
   pub within : n ≤ length bytes
 
-abbrev is_integer_shape : Shape → Bool
-is_integer_shape shape.Blank = false
-is_integer_shape shape.Comment = false
-is_integer_shape shape.Word = false
-is_integer_shape shape.Integer = true
-is_integer_shape shape.Float = false
-is_integer_shape shape.Str = false
-is_integer_shape shape.Mark = false
-
 -- what an integer past the limit gives, and anything else
 in_range_cases : (at : ℕ) (s : Shape) (n : ℕ) (bytes : List ℕ)
     → ((in_range at s n bytes ≡ Ok (s, n)) × IsInRange s (take n bytes))

@@ -20,9 +20,6 @@ use Rattle.wap_lex.proofs.Loops.{goes_on, pieces_step}
 use Rattle.wap_lex.proofs.Longest.{reach}
 use Rattle.wap_lex.proofs.Fronts.{piece_ok, piece_again, piece_err, piece_stops}
 
-cons_some : (c : ℕ) (bytes : List ℕ) → c ∷ bytes ≡ [] → ⊥
-cons_some c bytes e = cc
-
 pub read_ok : (most at : ℕ) (bytes : List ℕ) (tokens : List Token) → length bytes ≤ most
     → pieces_at most at bytes ≡ Ok tokens → Lexes at bytes tokens
 unfolding pieces_at

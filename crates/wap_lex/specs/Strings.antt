@@ -11,7 +11,8 @@ is_simple c =
     || ((c == 92)
     || ((c == 47) || ((c == 98) || ((c == 102) || ((c == 110) || ((c == 114) || (c == 116)))))))
 
--- the first two of four hexadecimal digits are those of a surrogate, D8 to DF
+-- the first two of four hexadecimal digits are those of a surrogate, D8 to DF. That \uD800 to
+-- \uDFFF are no escapes is this project's own.
 abbrev pub is_surrogate : ℕ → ℕ → Bool
 is_surrogate a b =
     ((a == 68) || (a == 100))

@@ -26,7 +26,7 @@ impl From<NoMemory> for LexFault {
 
     ghost from_gives = { λ _ fault. fault ≡ NoMemory };
 
-    fn from(_want: NoMemory) -> LexFault {
+    fn from(_error: NoMemory) -> LexFault {
         LexFault::NoMemory
     }
 }

@@ -39,7 +39,7 @@ impl From<NoMemory> for ScopeFault {
 
     ghost from_gives = { λ _ fault. fault ≡ NoMemory };
 
-    fn from(_want: NoMemory) -> ScopeFault {
+    fn from(_error: NoMemory) -> ScopeFault {
         ScopeFault::NoMemory
     }
 }

@@ -29,7 +29,7 @@ fn judge_use(
 {
     match pragma {
         Use::Url(unit, _) => {
-            if known.take(alloc, &unit.name)? {
+            if !known.insert(alloc, &unit.name)? {
                 return Err(ScopeFault::TwoUnits { span: unit.span });
             }
             Ok(())
@@ -97,7 +97,7 @@ fn judge_function(
 {
     let span = function.name.span;
     let count = earlier.len();
-    if earlier.take(alloc, &function.name.name)? {
+    if !earlier.insert(alloc, &function.name.name)? {
         return Err(ScopeFault::TwoFunctions { span });
     }
     if count >= FUNCTION_LIMIT {

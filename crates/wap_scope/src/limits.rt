@@ -1,4 +1,4 @@
-//! What a compiled unit has one byte to count.
+//! What a compiled unit has one byte to count (WAP-193, section 9).
 
 /// How many variables and parameters a function may have.
 pub const VARIABLE_LIMIT: usize = 255;

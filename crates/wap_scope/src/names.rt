@@ -1,5 +1,5 @@
 //! Names that are known.
-ghost use Rattle.std.specs.Prelude.{◌≡◌, ◌++◌, [], ◌∷◌, false, length, IfOk};
+ghost use Rattle.std.specs.Prelude.{◌≡◌, ◌++◌, [], ◌∷◌, true, false, not, length, IfOk};
 ghost use Rattle.wap_scope.specs.Scoped.{is_among};
 
 use indexmap::IndexSet;
@@ -45,15 +45,17 @@ impl Names {
         self.names.contains(name)
     }
 
-    /// Adds a copy of a name. The answer is whether it is known already, in which case none is
-    /// added.
-    pub fn take(&mut self, alloc: Global, name: &Text) -> Result<bool, NoMemory>
-        ensures taken { IfOk result (λ taken. taken ≡ is_among name.now self.old) }
-        ensures added { IfOk result (λ taken.
-            taken ≡ false → self.new ≡ self.old ++ name.now ∷ []) }
+    /// Adds a copy of a name that isn't among them yet, and answers whether it was new.
+    pub fn insert(&mut self, alloc: Global, name: &Text) -> Result<bool, NoMemory>
+        ensures new { IfOk result (λ new. new ≡ not (is_among name.now self.old)) }
+        ensures added { IfOk result (λ new. new ≡ true → self.new ≡ self.old ++ name.now ∷ []) }
+        ensures kept { IfOk result (λ new. new ≡ false → self.new ≡ self.old) }
     {
+        if self.has(name) {
+            return Ok(false);
+        }
         match self.names.insert(name.copy(alloc)?) {
-            Ok(added) => Ok(!added),
+            Ok(new) => Ok(new),
             Err(_) => Err(NoMemory),
         }
     }

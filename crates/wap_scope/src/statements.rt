@@ -26,7 +26,7 @@ pub fn declare(
 {
     let span = variable.span;
     let count = known.len();
-    if known.take(alloc, &variable.name)? {
+    if !known.insert(alloc, &variable.name)? {
         return Err(ScopeFault::TwoVariables { span });
     }
     if count >= VARIABLE_LIMIT {
