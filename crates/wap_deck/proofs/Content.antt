@@ -1,6 +1,6 @@
 -- What is added for elements and their content.
 use Rattle.std.proofs.Common.{◌≡◌, ◌≢◌, ℕ, zero, suc, ◌+◌, ◌-◌, ◌<◌, List, [], ◌∷◌, ◌++◌}
-use Rattle.std.proofs.Common.{length, get_or, take, Some, None, refl, sym, ap, ◌∙◌, arith}
+use Rattle.std.proofs.Common.{length, get_or, take, Some, refl, sym, ap, ◌∙◌, arith}
 use Rattle.std.specs.Prelude.{unwrap_or}
 use Rattle.std.specs.List.{filter_map}
 use Rattle.std.proofs.lemmas.List.{append-nil}
@@ -17,7 +17,7 @@ use Rattle.wap_markup.specs.declared.name.Tag.TheVariants as tags
 use Rattle.wap_markup.specs.declared.name.AttrName.{AttrName}
 use Rattle.wap_markup.specs.Decks.{Mark, items_of, tag_in, attribute, element_from}
 use Rattle.wap_markup.specs.Decks.{kid_marks, kids_marks, element_marks, deck_of}
-use Rattle.wap_deck.specs.Adding.{marks_after}
+use Rattle.wap_deck.specs.inside.Adding.{marks_after}
 use Rattle.wap_deck.proofs.Kept.{take_to}
 use Rattle.wap_deck.proofs.Joining.{added_to_none, marks_after_append}
 
@@ -30,15 +30,6 @@ element_marks-levels (suc levels) element some =
     let one_less : suc levels - 1 ≡ levels = omega arith in
     ap (λ (n : ℕ). element_from (tag_in element.page element.tag) element.attrs
     (kids_marks (element_marks n) element.kids)) (sym one_less)
-
-pub element_unknown : (levels : ℕ) (element : Element) (old new : List Item) → levels ≢ 0 →
-    tag_in element.page element.tag ≡ None →
-    new ≡ marks_after old (kids_marks (element_marks (levels - 1)) element.kids) →
-    new ≡ marks_after old (element_marks levels element)
-element_unknown levels element old new some unknown added =
-    let inner = kids_marks (element_marks (levels - 1)) element.kids in
-    added ∙ ap (marks_after old) (ap (λ tag. element_from tag element.attrs inner) (sym unknown)
-    ∙ sym (element_marks-levels levels element some))
 
 pub element_known : (levels : ℕ) (element : Element) (tag : Tag)
     (attrs : List (AttrName × List Part)) (kids old new : List Item) → levels ≢ 0 →

@@ -15,8 +15,8 @@ use Rattle.wap_deck.proofs.Kept.{take_to}
 use Rattle.wap_deck.proofs.Items.{words_of-Text, words_of-Node}
 use Rattle.wap_markup.specs.Decks.{literal, piece_part, value_after, before, joined, Mark, part}
 use Rattle.wap_markup.specs.Decks.{node, text_before, part_before, mark_before, items_of}
-use Rattle.wap_deck.specs.Adding.{part_added, any_added, after_last}
-use Rattle.wap_deck.specs.Adding.{part_after, mark_after, marks_after}
+use Rattle.wap_deck.specs.inside.Adding.{part_added, any_added, after_last}
+use Rattle.wap_deck.specs.inside.Adding.{part_after, mark_after, marks_after}
 
 -- ---- parts
 

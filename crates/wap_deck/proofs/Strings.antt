@@ -2,7 +2,8 @@
 use Rattle.std.proofs.Common.{◌≡◌, ◌≢◌, ℕ, zero, suc, ◌==◌, ◌≤◌, Bool, true, false, ◌||◌, List, []}
 use Rattle.std.proofs.Common.{◌∷◌, ◌++◌, Option, Some, None, refl, sym, ap, ap₂, ◌∙◌, append_assoc}
 use Rattle.std.proofs.Common.{arith, inl, inr, encode_utf8, encode_utf8_all}
-use Rattle.std.specs.List.{filter_map}
+use Rattle.std.specs.List.{filter_map, list_any}
+use Rattle.std.specs.Option.{is_none}
 use Rattle.std.proofs.lemmas.Bool.{or_parts, or_from, cases_lt, ne_eqb}
 use Rattle.std.proofs.lemmas.List.Folds.{list_any-append}
 use Rattle.std.proofs.lemmas.Str.{encode_ascii}
@@ -11,7 +12,7 @@ use Rattle.wap_base.specs.declared.name.Part.{Part}
 use Rattle.wap_base.specs.declared.name.Part.TheVariants.{Lit, Var}
 use Rattle.wap_markup.specs.Decks.{literal, character, before}
 use Rattle.wap_markup.specs.Writing.{run_before, runs_of}
-use Rattle.wap_deck.specs.Adding.{has_zero, string_after, character_after}
+use Rattle.wap_deck.specs.inside.Adding.{has_zero, string_after, character_after}
 
 -- what a string of a text, or a U+0000, is read as
 abbrev pub run_part : Option (List ℕ) → Option Part
@@ -114,6 +115,32 @@ string_from (suc c) (d ∷ ds) none =
 pub one_string : (text : List ℕ) → text ≢ [] → has_zero text ≡ false → runs_of text ≡ Some text ∷ []
 one_string [] some none = absurd (some refl)
 one_string (c ∷ cs) some none = string_from c cs none
+
+-- ---- and a text that is one string has none
+
+none_before : (c : ℕ) (runs : List (Option (List ℕ)))
+    → list_any is_none (run_before c runs) ≡ list_any is_none runs
+none_before c [] = refl
+none_before c (None ∷ runs) = refl
+none_before c (Some text ∷ runs) = refl
+
+none_among : (text : List ℕ) → list_any is_none (runs_of text) ≡ has_zero text
+none_among [] = refl
+none_among (zero ∷ cs) = refl
+none_among (suc c ∷ cs) =
+    none_before (suc c) (runs_of cs) ∙ none_among cs
+    ∙ sym (ap (λ (b : Bool). b || has_zero cs) (ne_eqb (suc c) 0 (λ e. differ e))) where
+      differ : suc c ≡ 0 → ⊥
+      differ e = omega arith
+
+pub string_has_no_zero : (text : List ℕ) → runs_of text ≡ Some text ∷ [] → has_zero text ≡ false
+string_has_no_zero text one = sym (none_among text) ∙ ap (list_any is_none) one
+
+pub string_has_some : (text : List ℕ) → runs_of text ≡ Some text ∷ [] → text ≢ []
+string_has_some [] one = absurd (cc one)
+string_has_some (c ∷ cs) one = λ empty. absurd (cc empty)
+
+-- ---- bytes
 
 high : (b : ℕ) → 128 ≤ b → (b == 0) ≡ false
 high b past = ne_eqb b 0 (λ e. differ e past) where

@@ -4,7 +4,7 @@ ghost use Rattle.wap_base.specs.declared.name.Part.{Part};
 ghost use Rattle.wap_markup.specs.Decks.{tag_in, part_marks, kid_marks};
 ghost use Rattle.wap_markup.specs.Decks.{kids_marks, element_marks, deck_of};
 ghost use Rattle.wap_markup.specs.Normal.{IsNormal};
-ghost use Rattle.wap_deck.specs.Adding.{part_added, part_after, marks_after};
+ghost use Rattle.wap_deck.specs.inside.Adding.{part_added, part_after, marks_after};
 
 use crate::attributes::attributes;
 use crate::pieces::{add_part, character, literal, reference};

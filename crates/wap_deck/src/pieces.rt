@@ -2,7 +2,7 @@
 ghost use Rattle.std.specs.Prelude.{◌≡◌, [], ◌∷◌, ◌++◌, IfOk, OnOk};
 ghost use Rattle.wap_markup.specs.Decks.{literal, character, reference, before};
 ghost use Rattle.wap_markup.specs.Decks.{piece_part, value_after};
-ghost use Rattle.wap_deck.specs.Adding.{part_added, any_added};
+ghost use Rattle.wap_deck.specs.inside.Adding.{part_added, any_added};
 ghost use Rattle.std.specs.Str.{chars};
 
 use crate::room::rows_for;
@@ -77,7 +77,7 @@ fn add_both(parts: &mut Rows<Part>, first: Part, second: Part) -> Result<(), NoM
 }
 
 /// Adds a literal and then a part, as one literal if that is one too.
-fn add_behind(parts: &mut Rows<Part>, mut text: Text, part: Part) -> Result<(), NoMemory>
+fn add_after(parts: &mut Rows<Part>, mut text: Text, part: Part) -> Result<(), NoMemory>
     ensures { OnOk result (parts.new ≡ parts.old ++ before (Part.Lit text) (part ∷ [])) }
 {
     match part {
@@ -95,7 +95,7 @@ pub fn add_part(parts: &mut Rows<Part>, part: Part) -> Result<(), NoMemory>
     ensures { OnOk result (parts.new ≡ part_added parts.old part) }
 {
     match parts.pop() {
-        Some(Part::Lit(text)) => add_behind(parts, text, part),
+        Some(Part::Lit(text)) => add_after(parts, text, part),
         Some(Part::Var(name, conv)) => add_both(parts, Part::Var(name, conv), part),
         None => parts.add(part),
     }

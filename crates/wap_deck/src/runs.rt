@@ -1,8 +1,8 @@
 //! The strings of a text, between its U+0000.
-ghost use Rattle.std.specs.Prelude.{◌≡◌, ◌≢◌, ℕ, true, [], ◌∷◌, ◌++◌, Some, IfOk, OnOk};
+ghost use Rattle.std.specs.Prelude.{◌≡◌, ℕ, [], ◌∷◌, ◌++◌, Some, IfOk, OnOk, IsTrue, ◌↔◌};
 ghost use Rattle.std.specs.Str.{chars};
 ghost use Rattle.wap_markup.specs.Writing.{runs_of};
-ghost use Rattle.wap_deck.specs.Adding.{has_zero, string_after, character_after};
+ghost use Rattle.wap_deck.specs.inside.Adding.{has_zero, string_after, character_after};
 
 use std::alloc::Global;
 use wap_base::{NoMemory, Rows, Text};
@@ -102,9 +102,9 @@ fn has_zero(text: &Text) -> bool
 }
 
 /// Whether a text is one string, which most are.
-#[tactic(auto, using(crate::proofs::Strings::one_string))]
+#[tactic(auto, using(crate::proofs::Strings::string_has_some))]
 pub fn is_string(text: &Text) -> bool
-    ensures { result ≡ true → runs_of text.now ≡ Some text.now ∷ [] }
+    ensures { IsTrue result ↔ (runs_of text.now ≡ Some text.now ∷ []) }
 {
     !text.is_empty() && !has_zero(text)
 }

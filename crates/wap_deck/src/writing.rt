@@ -10,7 +10,9 @@ use crate::runs::{is_string, runs_of};
 use crate::starts::attrs_of;
 use std::alloc::Global;
 use wap_base::{NoMemory, Part, Rows, Text};
-use wap_markup::{Deck, Document, Element, Item, Kid, LEVEL_LIMIT, Node, Tag, Token};
+use wap_markup::{
+    CHARSET, Deck, Document, Element, Item, Kid, LEVEL_LIMIT, Node, Tag, Token, VERSION, WML_1_3,
+};
 use wap_tokens::code_of;
 
 /// A string of a text, or a U+0000.
@@ -128,9 +130,9 @@ pub fn document_of(alloc: Global, deck: &Deck) -> Result<Document, NoMemory>
 {
     let root = element_of(alloc, LEVEL_LIMIT - 1, &deck.root)?;
     Ok(Document {
-        version: 3,
-        public: 10,
-        charset: 106,
+        version: VERSION,
+        public: WML_1_3,
+        charset: CHARSET,
         root,
     })
 }

@@ -96,9 +96,6 @@ tags_of-append (item ∷ items) more =
     cons_tag (Some node) all some rest same = ap (λ tags. node.tag ∷ tags) same
 
 module _ (rule : Rule) (items : List Item) (item : Item) (place : ℕ) where
-  behind : Tag → Bool
-  behind first = is_not_behind (place_in rule.groups first) (Some place)
-
   one_more : list_all (λ first. is_not_behind (place_in rule.groups first) (Some place))
       (tags_of (items ++ item ∷ [])) ≡
       (list_all (λ first. is_not_behind (place_in rule.groups first) (Some place)) (tags_of items)

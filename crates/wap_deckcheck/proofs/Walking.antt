@@ -12,7 +12,6 @@ use Rattle.wap_deckcheck.specs.inside.Reached.{HasReached}
 use Rattle.std.specs.Option.{option_and_then, option_to_list}
 use Rattle.std.proofs.lemmas.Grind.{flat_map-append}
 use Rattle.std.proofs.lemmas.List.Elements.{filter_map-append}
-use Rattle.wap_base.specs.declared.name.Part.{Part}
 use Rattle.wap_markup.specs.declared.deck.Node.{Node}
 use Rattle.wap_markup.specs.declared.deck.Item.{Item, out-Item}
 use Rattle.wap_markup.specs.declared.deck.Item.TheOpen.{Item-F}
@@ -122,27 +121,11 @@ names_in_node apart levels item node is =
     ap (λ nodes. option_to_list (own_name apart node) ++ filter_map (own_name apart) nodes)
     (append-none (nodes_in levels node.kids))
 
-pub names_in_text : (apart : Bool) (levels : ℕ) (item : Item) (parts : List Part) →
-    out-Item item ≡ Item-F.Text parts → names_among apart (suc levels) (item ∷ []) ≡ []
-names_in_text apart levels item parts is =
-    let below : Node → List Node = λ one. one ∷ nodes_in levels one.kids in
-    ap (λ level. filter_map (own_name apart) (flat_map below (cons_option (node_from level) []))) is
-
 pub ids-append : (items more : List Item) →
     ids_among (items ++ more) ≡ ids_among items ++ ids_among more
 ids-append items more =
     ap (filter_map own_id) (filter_map-append node_of items more)
     ∙ filter_map-append own_id (filter_map node_of items) (filter_map node_of more)
-
-pub ids_in_node : (item : Item) (node : Node) → out-Item item ≡ Item-F.Node node →
-    ids_among (item ∷ []) ≡ option_to_list (own_id node)
-ids_in_node item node is =
-    ap (λ level. filter_map own_id (cons_option (node_from level) [])) is
-    ∙ cons_to_list (own_id node) [] ∙ append-none (option_to_list (own_id node))
-
-pub ids_in_text : (item : Item) (parts : List Part) → out-Item item ≡ Item-F.Text parts →
-    ids_among (item ∷ []) ≡ []
-ids_in_text item parts is = ap (λ level. filter_map own_id (cons_option (node_from level) [])) is
 
 pub names_none : (apart : Bool) (levels : ℕ) → names_among apart levels [] ≡ []
 names_none apart zero = refl

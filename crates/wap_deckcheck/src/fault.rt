@@ -21,6 +21,7 @@ pub enum DeckFault {
     DuplicateId { path: Rows<usize> },
     /// There is no card.
     NoCard,
+    /// Memory ran out, which says nothing of the deck.
     NoMemory,
 }
 
@@ -30,7 +31,7 @@ impl From<NoMemory> for DeckFault {
 
     ghost from_gives = { λ _ fault. fault ≡ NoMemory };
 
-    fn from(_want: NoMemory) -> DeckFault {
+    fn from(_error: NoMemory) -> DeckFault {
         DeckFault::NoMemory
     }
 }

@@ -1,12 +1,11 @@
 -- A value compared with a text, part by part.
 use Rattle.std.proofs.Common.{◌≡◌, ◌≢◌, ℕ, false, List, [], ◌∷◌, ◌++◌, length, Option, Some}
 use Rattle.std.proofs.Common.{None, inl, inr, refl, sym, ap, ◌∙◌, arith}
-use Rattle.std.specs.Prelude.{encode_utf8_all, ◌==◌, MatchOption}
+use Rattle.std.specs.Prelude.{encode_utf8_all, MatchOption}
 use Rattle.std.specs.Borrow.{Bor}
 use Rattle.std.specs.Str.{chars, IsUtf8}
 use Rattle.std.specs.Bool.{Decides, one_answer}
 use Rattle.std.specs.Cmp.Lexicographic.{bytes_decides}
-use Rattle.std.proofs.Math.Dec.{eqb-suc-zero}
 use Rattle.std.proofs.lemmas.Bool.{cases_Bool}
 use Rattle.std.proofs.lemmas.List.{append-nil, append_cancel_left, length-append}
 use Rattle.std.proofs.lemmas.Str.{chars-encodes, encode_same, encodes-append}
@@ -94,10 +93,6 @@ not_taken text bytes (Var name conv ∷ parts) none = refl
 pub variable_none : (name : List ℕ) (conv : Conv) (bytes : List ℕ) (parts : List Part)
     → is_utf8_of bytes (plain_text (before (Var name conv) parts)) ≡ false
 variable_none name conv bytes parts = refl
-
-pub all_taken : (bytes : List ℕ) → is_utf8_of bytes (plain_text []) ≡ (length bytes == 0)
-all_taken [] = refl
-all_taken (byte ∷ bytes) = sym (eqb-suc-zero (length bytes))
 
 -- ---- what follows a part
 

@@ -58,9 +58,6 @@ module _ (all : List (List ℕ)) (size : table_size all < 2 ^ 32) where
   -- ---- texts
 
   module _ (inner : Element → Writing) where
-    spell : Kid → Writing
-    spell = kid_spelling all inner
-
     kid_flat : (k : Kid) (level : KidLevel) (bytes : List ℕ) → out-Kid k ≡ level
         → Flat (opened_spelling all inner level) bytes → Flat (kid_spelling all inner k) bytes
     kid_flat k level bytes opened flat =
@@ -132,12 +129,6 @@ module _ (all : List (List ℕ)) (size : table_size all < 2 ^ 32) where
       → Filled (kids_from (node_kids levels) level)
   level_filled levels (Item-F.Text parts) items is = parts_filled parts is.0 is.1.each
   level_filled levels (Item-F.Node one) items is = node_filled levels one is
-
-  Spells : ℕ → Type 0
-  Spells levels =
-      (one : Node) → IsGoodNode all size levels one
-      → Flat (each (kid_spelling all (element_spelling all levels)) (node_kids levels one))
-      (node_bytes all size levels one)
 
   module _ (levels : ℕ) (spells : (one : Node) → IsGoodNode all size levels one
       → Flat (each (kid_spelling all (element_spelling all levels)) (node_kids levels one))

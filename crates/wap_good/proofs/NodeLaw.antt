@@ -289,10 +289,6 @@ module _ (all : List (List ℕ)) (size : table_size all < 2 ^ 32) where
       marks (code_of one.tag) one.attrs one.kids ((Decides-ltb LITERAL (code_of one.tag)).0 fits.0)
       ((Decides-ltb (code_of one.tag) 64).0 fits.1)
 
-  abbrev kids_of : (kid : Reader Item) → Tag → List (AttrName × List Part)
-      → Option (List Item × List ℕ) → Option (Node × List ℕ)
-  kids_of kid tag attrs o = o >>= λ kids. Some (node tag attrs kids.0, kids.1)
-
   node_by_read : (kid : Reader Item) (spell : Item → List ℕ) (n : Node) (rest : List ℕ)
       → n.tag ≢ tags.Other → AllByRecursion (IsGoodAttr all size) n.attrs
       → ((rest : List ℕ)

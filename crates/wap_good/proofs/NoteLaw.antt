@@ -1,5 +1,5 @@
 -- Notes are true of what is left of the bytes that they are true of.
-use Rattle.std.proofs.Common.{◌≡◌, ◌≢◌, ℕ, zero, suc, ◌+◌, ◌-◌, ◌%◌, ◌<◌, ◌≤◌, false, eqb, List}
+use Rattle.std.proofs.Common.{◌≡◌, ◌≢◌, ℕ, ◌+◌, ◌-◌, ◌%◌, ◌<◌, ◌≤◌, false, eqb, List}
 use Rattle.std.proofs.Common.{[], ◌∷◌, ◌++◌, length, drop, Option, Some, None, refl, sym, ap}
 use Rattle.std.proofs.Common.{subst, ◌∙◌, arith}
 use Rattle.std.proofs.lemmas.List.{drop-drop}
@@ -56,13 +56,6 @@ module _ (rest whole : List ℕ) (is : IsBehind rest whole) where
 -- ---- lists of notes
 
 module _ (whole : List ℕ) where
-  pub notes_drop : (notes : List Note) (count : ℕ) → AreNotes whole notes
-      → AreNotes whole (drop count notes)
-  notes_drop [] zero are = tt
-  notes_drop [] (suc count) are = tt
-  notes_drop (note ∷ notes) zero are = are
-  notes_drop (note ∷ notes) (suc count) are = notes_drop notes count are.1
-
   pub notes_more : (notes : List Note) (note : Note) → AreNotes whole notes → IsNote whole note
       → AreNotes whole (notes ++ note ∷ [])
   notes_more [] note are is = (is, tt)

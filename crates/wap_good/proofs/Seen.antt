@@ -29,11 +29,6 @@ module _ (table : List ℕ) (levels : ℕ) (bytes : List ℕ) (is : IsRead table
   pub some_first : first_at bytes ≡ None → ⊥
   some_first e = let first = front.first in cc
 
-  pub some_attrs : attrs_begin bytes ≡ None → ⊥
-  some_attrs e =
-      let some = attrs_there table levels bytes (front_node table levels bytes) front in
-      cc
-
   attrs_is : (begin : List ℕ) → attrs_begin bytes ≡ Some begin
       → begin ≡ attrs_from table levels bytes (front_node table levels bytes) front
   attrs_is begin e =

@@ -7,9 +7,10 @@ ghost use Rattle.wap_markup.specs.Cards.{cards_of, id_of, card_numbered};
 ghost use Rattle.wap_markup.specs.Trees.{is_text, first_with};
 ghost use Rattle.wap_markup.specs.Good.{IsGood};
 ghost use Rattle.wap_markup.specs.Normal.{IsNormal};
+ghost use Rattle.wap_good.specs.declared.laws.TheConstants.{HEADER_LENGTH};
 
 use crate::cards::{Cards, card_places, view_at};
-use crate::laws::decks_are_read;
+use crate::laws::{HEADER_LENGTH, decks_are_read};
 use crate::notes::{Note, notes_of};
 use crate::texts::tell_node;
 use crate::view::View;
@@ -58,12 +59,12 @@ impl Model for GoodDeck {
 fn places(bytes: &[u8]) -> Result<(usize, usize), NoMemory>
     ensures table { IfOk result (λ at. at.0 ≤ at.1) }
     ensures root { IfOk result (λ at. at.1 ≤ length bytes.now) }
-    ensures exact { IfOk result (λ at. mb_at bytes.now 3 ≡ Ok (at.1 - at.0, at.0)) }
+    ensures exact { IfOk result (λ at. mb_at bytes.now HEADER_LENGTH ≡ Ok (at.1 - at.0, at.0)) }
 {
-    if bytes.len() < 3 {
+    if bytes.len() < HEADER_LENGTH {
         return Err(NoMemory);
     }
-    let Ok((count, table)) = read_mb(bytes, 3) else {
+    let Ok((count, table)) = read_mb(bytes, HEADER_LENGTH) else {
         return Err(NoMemory);
     };
     let Some(root) = table.checked_add(count as usize) else {
@@ -81,10 +82,12 @@ fn keep(alloc: Global, deck: &Deck) -> Result<GoodDeck, NoMemory>
     requires normal { IsNormal deck.now }
     ensures { IfOk result (λ good. good ≡ deck.now) }
 {
+    // A walk without effect, in which is proved that each text of the deck is of characters.
     tell_node(LEVEL_LIMIT, &deck.root);
     decks_are_spellable();
     decks_are_read();
     let spelled = spell(alloc, deck)?;
+    // The copy takes as much memory as it has bytes; what was written has grown beyond that.
     let bytes = Bytes::of(alloc, spelled.as_slice())?;
     let whole = bytes.as_slice();
     let (table, root) = places(whole)?;
@@ -120,7 +123,7 @@ impl GoodDeck {
     {
         match keep(alloc, &deck) {
             Ok(good) => Ok(good),
-            Err(want) => Err((deck, want)),
+            Err(error) => Err((deck, error)),
         }
     }
 

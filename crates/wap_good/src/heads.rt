@@ -73,21 +73,21 @@ pub fn names_of(bytes: &[u8]) -> u16
     }
 }
 
-/// What is known of the node that bytes begin with by its mark alone: it may have any attributes, or
-/// it has none; then its content, if it has one, follows the mark.
+/// What is known of the node that bytes begin with by its mark alone: it may have any attributes,
+/// or it has none; then its content, if it has one, follows the mark.
 #[inline(always)]
-pub fn known_by_mark(bytes: &[u8]) -> Known
+pub fn known_at(bytes: &[u8]) -> Known
     ensures { IsHead bytes.now result.names result.head }
 {
     match first(bytes) {
-        Some((mark, _)) => known_of_mark(mark),
-        None => known(0, 0),
+        Some((mark, _)) => known_by_mark(mark),
+        None => known_with(0, 0),
     }
 }
 
 /// The names that are marked, and how many bytes stand before the content.
 #[inline(always)]
-fn known(names: u16, head: u8) -> Known
+fn known_with(names: u16, head: u8) -> Known
     ensures names { result.names ≡ names }
     ensures head { result.head ≡ head }
 {
@@ -100,16 +100,16 @@ fn known(names: u16, head: u8) -> Known
 
 /// What is known of a node by its mark.
 #[inline(always)]
-fn known_of_mark(mark: u8) -> Known
+fn known_by_mark(mark: u8) -> Known
     ensures { (rest : List ℕ) → IsHead (mark ∷ rest) result.names result.head }
 {
     if has_attributes(mark) {
-        return known(u16::MAX, 0);
+        return known_with(u16::MAX, 0);
     }
     if has_content(mark) {
-        return known(0, 1);
+        return known_with(0, 1);
     }
-    known(0, 0)
+    known_with(0, 0)
 }
 
 /// How many bytes stand before the content of the node that bytes begin with; 0 where it has none,

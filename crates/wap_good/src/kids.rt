@@ -44,6 +44,7 @@ impl<'a> Model for Kids<'a> {
 pub enum Child<'a> {
     /// A text with at least one part, between nodes.
     Text(Run<'a>),
+    /// A node, by a view of it.
     Node(View<'a>),
 }
 

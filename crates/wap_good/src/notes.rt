@@ -28,8 +28,8 @@ pub struct Known {
     pub names: u16,
     /// So many of its bytes stand before its content; 0 where that isn't known.
     pub head: u8,
-    /// In a note: how many notes of nodes in it follow, 255 where there are as many or more. Else it
-    /// isn't counted.
+    /// In a note: how many notes of nodes in it follow, 255 where there are as many or more. Else
+    /// it isn't counted.
     pub inside: u8,
 }
 
@@ -114,7 +114,7 @@ fn with_inside(alloc: Global, bytes: &[u8], notes: &[Note]) -> Result<Rows<Note>
     requires { AreNotes bytes.now notes.now }
     ensures { IfOk result (AreNotes bytes.now) }
 {
-    let mut told = notes_for(alloc, notes.len())?;
+    let mut counted = notes_for(alloc, notes.len())?;
     let mut left = notes;
     while let Some((note, behind)) = first_note(left) {
         let inside = count_inside(behind, note.end);
@@ -122,10 +122,10 @@ fn with_inside(alloc: Global, bytes: &[u8], notes: &[Note]) -> Result<Rows<Note>
             inside,
             ..note.known
         };
-        told.add(Note { known, ..note })?;
+        counted.add(Note { known, ..note })?;
         left = behind;
     }
-    Ok(told)
+    Ok(counted)
 }
 
 /// The notes of the nodes in a document, in their order, by its bytes and where its root begins.

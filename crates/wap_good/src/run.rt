@@ -89,7 +89,7 @@ impl<'a> Run<'a> {
     {
         let mut left = text.as_str().as_bytes();
         for bit in self.again() {
-            match behind(bit, left) {
+            match rest_after(bit, left) {
                 Some(rest) => left = rest,
                 None => return false,
             }
@@ -112,7 +112,7 @@ fn first_bit<'a>(begun: &'a str, bytes: &'a [u8]) -> Option<(Bit<'a>, &'a [u8])>
 }
 
 /// What follows a bit in the UTF-8 of a text, where it begins with the bit's.
-fn behind<'a>(bit: Bit<'_>, text: &'a [u8]) -> Option<&'a [u8]>
+fn rest_after<'a>(bit: Bit<'_>, text: &'a [u8]) -> Option<&'a [u8]>
     ensures { TakesPart (part_of bit.entry) text.now result }
 {
     match bit {

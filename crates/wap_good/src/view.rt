@@ -7,7 +7,7 @@ ghost use Rattle.wap_good.specs.inside.Notes.{IsLent, IsHead};
 use crate::attrs::find_attr;
 use crate::front::first;
 use crate::head::has_attributes;
-use crate::heads::{content_of, known_by_mark, lacks};
+use crate::heads::{content_of, known_at, lacks};
 use crate::kids::Kids;
 use crate::notes::{Known, Note, own_note};
 use crate::run::Run;
@@ -97,7 +97,7 @@ impl<'a> View<'a> {
             bytes,
             notes,
             levels,
-            known: known_by_mark(bytes),
+            known: known_at(bytes),
         }
     }
 

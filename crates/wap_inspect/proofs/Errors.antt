@@ -53,17 +53,6 @@ module _ (bytes : List ℕ) (fault : UnitFault) where
       inner : (one : PageFault) → Refused one ≡ Refused why → one ≡ why
       inner one e = cc
 
-  -- nor one that may be run
-  pub unit_refused_so : (why : PageFault) → (fault ≢ unit.NoMemory → units.IsRefused bytes fault)
-      → unit_error fault ≡ Refused why → RefusesVerify bytes why
-  unit_refused_so why is = unit_cases (λ error. error ≡ Refused why → RefusesVerify bytes why) fault
-      (λ none e. absurd cc)
-      (λ some e.
-      subst (RefusesVerify bytes) (inner (page.Unit fault) e) (RefusesVerify.unit fault (is some)))
-    where
-      inner : (one : PageFault) → Refused one ≡ Refused why → one ≡ why
-      inner one e = cc
-
 -- ---- the bytes are no document
 
 module _ (bytes : List ℕ) (fault : DocFault) where
@@ -93,10 +82,6 @@ module _ (bytes : List ℕ) (fault : DocFault) where
 -- ---- the deck isn't good
 
 module _ (one : Document) (fault : DeckFault) where
-  pub deck_only : {X : Type 0} (x : X) → (fault ≢ deck.NoMemory → ⊥) → Only x (deck_error fault)
-  deck_only x is =
-      deck_cases (Only x) fault (λ none e. absurd (e refl)) (λ some e. absurd (is some))
-
   pub deck_refused : (why : PageFault)
       → (fault ≢ deck.NoMemory → first_fault (faults (deck_of one)) ≡ Some fault)
       → deck_error fault ≡ Refused why → IsDeckRefused one why

@@ -1,4 +1,6 @@
--- What each byte of a document's body says (WAP-192, section 7.1).
+-- What each byte of a document's body says (WAP-192, section 7.1). That the extensions 0, 1 and 2
+-- with a string are references, to be escaped, to be unescaped and plain, is WML's (WAP-191,
+-- section 14.3.1).
 use Rattle.std.specs.Prelude.{ℕ, ◌%◌, Bool, true, false, not, ◌==◌, ◌&&◌, nat_lt}
 use Rattle.std.specs.Prelude.{nat_le, if◌then◌else◌, Option, Some, None}
 use Rattle.wap_base.specs.declared.name.Conv.TheVariants.{Escape, Unescape, Plain}

@@ -1,8 +1,8 @@
--- Documents and the decks that they mean (WAP-191, sections 11.1 to 11.5; the rules for what is
--- unknown are this project's own). A deck has the elements and attributes that have names, their
--- texts and their references to variables. Another element stands for its content; another
--- attribute, a reference whose name is none of a variable, a processing instruction, an extension
--- and opaque data are left out.
+-- Documents and the decks that they mean (WAP-191: elements, sections 11.1 to 11.5; references to
+-- variables, section 10; codes, section 14; the rules for what is unknown are this project's own).
+-- A deck has the elements and attributes that have names, their texts and their references to
+-- variables. Another element stands for its content; another attribute, a reference whose name is
+-- none of a variable, a processing instruction, an extension and opaque data are left out.
 use Rattle.std.specs.Prelude.{ℕ, zero, suc, ◌-◌, if◌then◌else◌, unwrap_or, List}
 use Rattle.std.specs.Prelude.{[], ◌∷◌, ◌++◌, Option, Some, None}
 use Rattle.std.specs.List.{filter_map, flat_map, cons_option}

@@ -3,7 +3,7 @@ use Rattle.std.specs.Prelude.{◌≡◌, ℕ, Bool, true, false, ◌==◌, ◌||
 use Rattle.std.specs.Prelude.{if◌then◌else◌, codes, List, [], ◌∷◌, Option, Some, None}
 use Rattle.wap_base.specs.Numbers.{IsMb}
 use Rattle.wap_base.specs.Texts.{is_same_text}
-use Rattle.wap_markup.specs.declared.codes.TheConstants.{PI}
+use Rattle.wap_markup.specs.declared.codes.TheConstants.{PI, VERSION, WML_1_1, WML_1_2, WML_1_3}
 use Rattle.wap_markup.specs.declared.document.Document.{Document}
 use Rattle.wap_markup.specs.declared.document.TheConstants.{LEVEL_LIMIT}
 use Rattle.wap_markup.specs.declared.document.Element.{Element}
@@ -22,20 +22,20 @@ use Rattle.wap_markup.specs.Grammar.{State, IsLead, IsOpaque, IsInstruction, IsE
 
 -- WBXML 1.1 to 1.3
 abbrev pub is_version : ℕ → Bool
-is_version byte = nat_le 1 byte && nat_le byte 3
+is_version byte = nat_le 1 byte && nat_le byte VERSION
 
 abbrev pub IsVersion : List ℕ → ℕ → Type 0
 IsVersion bytes version = (bytes ≡ version ∷ []) × (is_version version ≡ true)
 
 -- WML 1.1 to 1.3, by number and by name (section 7.2)
 abbrev pub is_public : ℕ → Bool
-is_public number = number == 4 || (number == 9 || number == 10)
+is_public number = number == WML_1_1 || (number == WML_1_2 || number == WML_1_3)
 
 unfoldable pub public_named : List ℕ → Option ℕ
 public_named name =
-    if is_same_text name (codes "-//WAPFORUM//DTD WML 1.1//EN") then Some 4 else
-    if is_same_text name (codes "-//WAPFORUM//DTD WML 1.2//EN") then Some 9 else
-    if is_same_text name (codes "-//WAPFORUM//DTD WML 1.3//EN") then Some 10 else None
+    if is_same_text name (codes "-//WAPFORUM//DTD WML 1.1//EN") then Some WML_1_1 else
+    if is_same_text name (codes "-//WAPFORUM//DTD WML 1.2//EN") then Some WML_1_2 else
+    if is_same_text name (codes "-//WAPFORUM//DTD WML 1.3//EN") then Some WML_1_3 else None
 
 -- 0 stands before the index of a name in the string table
 abbrev pub IsIdentifierBehind : ℕ → Bool → List ℕ → Identifier → Type 0

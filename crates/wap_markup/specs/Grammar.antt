@@ -1,4 +1,6 @@
--- The body of a document: bytes and the elements that they spell (WAP-192, sections 5.2 and 5.8).
+-- The body of a document: bytes and the elements that they spell (WAP-192, sections 5.3 and 5.8).
+-- This project's own are the limits of levels and of the names in the root, and that there may be
+-- no attribute where a tag says that attributes follow.
 use Rattle.std.specs.Prelude.{◌≡◌, ◌≢◌, ℕ, zero, suc, ◌+◌, ◌%◌, ◌^◌, ◌<◌, Bool, true}
 use Rattle.std.specs.Prelude.{false, if◌then◌else◌, List, [], ◌∷◌, ◌++◌, length}
 use Rattle.std.specs.List.{list_any}

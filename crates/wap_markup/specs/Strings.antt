@@ -1,4 +1,5 @@
--- Strings in place and in the string table (WAP-192, sections 5.7 and 5.8.4.1).
+-- Strings in place and in the string table (WAP-192, sections 5.7 and 5.8.4.1). That a string of
+-- the table may end with the table, without a 0, is this project's own.
 use Rattle.std.specs.Prelude.{◌≡◌, ℕ, ◌<◌, Bool, true, not, ◌==◌, List, []}
 use Rattle.std.specs.Prelude.{◌∷◌, ◌++◌, length, drop, take_while}
 use Rattle.std.specs.List.{list_all}

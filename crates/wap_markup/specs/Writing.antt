@@ -2,6 +2,7 @@
 use Rattle.std.specs.Prelude.{ℕ, zero, suc, ◌-◌, map, List, [], ◌∷◌, Option, Some, None}
 use Rattle.std.specs.List.{flat_map}
 use Rattle.std.specs.Option.{option_and_then}
+use Rattle.wap_markup.specs.declared.codes.TheConstants.{VERSION, CHARSET, WML_1_3}
 use Rattle.wap_markup.specs.declared.document.TheConstants.{LEVEL_LIMIT}
 use Rattle.wap_base.specs.declared.name.Part.{Part}
 use Rattle.wap_base.specs.declared.name.Part.TheVariants.{Lit, Var}
@@ -97,8 +98,8 @@ node_kids (suc levels) node =
 -- WML 1.3 in UTF-8, by WBXML 1.3
 abbrev pub document_of : Deck → Document
 document_of deck = record {
-  version = 3;
-  public = 10;
-  charset = 106;
+  version = VERSION;
+  public = WML_1_3;
+  charset = CHARSET;
   root = element_of deck.root (items_kids (node_kids (LEVEL_LIMIT - 1)) deck.root.kids);
 }

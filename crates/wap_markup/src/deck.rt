@@ -25,6 +25,8 @@ pub struct Node {
 #[cycle(node)]
 #[derive(Debug, Drop, PartialEq, Eq)]
 pub enum Item {
+    /// A text, by its literals and its references to variables.
     Text(Rows<Part>),
+    /// An element.
     Node(Node),
 }

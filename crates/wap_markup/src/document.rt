@@ -2,18 +2,18 @@
 //! table resolved, nothing yet of what they mean.
 use wap_base::{Bytes, Conv, Rows, Text};
 
-/// The most levels that the elements of a document have, the root's being the first.
+/// The most levels that the elements of a document have, the root's being the first. This limit is
+/// this project's own.
 pub const LEVEL_LIMIT: u32 = 64;
 
 /// A document.
 #[derive(Debug, Drop, PartialEq, Eq)]
 pub struct Document {
-    /// The version byte: the major number minus one, and the minor number, in four bits each: 3 is
-    /// WBXML 1.3.
+    /// The version byte: the major number minus one, and the minor number, in four bits each.
     pub version: u8,
-    /// The number of the public identifier: 10 is WML 1.3.
+    /// The number of the public identifier.
     pub public: u32,
-    /// The number of the character set, as IANA counts them (MIBenum): 106 is UTF-8.
+    /// The number of the character set, as IANA counts them (MIBenum).
     pub charset: u32,
     /// The element that holds all others.
     pub root: Element,
@@ -58,6 +58,7 @@ pub struct Attr {
 pub enum Piece {
     /// A page, and a code of it.
     Code(u8, u8),
+    /// A string.
     Str(Text),
     /// A character by its number.
     Entity(u32),
@@ -65,6 +66,7 @@ pub enum Piece {
     Var(Text, Conv),
     /// An extension without a value.
     Ext(u8),
+    /// Bytes that aren't looked at.
     Opaque(Bytes),
 }
 
@@ -72,7 +74,9 @@ pub enum Piece {
 #[cycle(tree)]
 #[derive(Debug, Drop, PartialEq, Eq)]
 pub enum Kid {
+    /// An element in the content.
     Element(Element),
+    /// A string.
     Str(Text),
     /// A character by its number.
     Entity(u32),
@@ -80,6 +84,7 @@ pub enum Kid {
     Var(Text, Conv),
     /// An extension without a value.
     Ext(u8),
+    /// Bytes that aren't looked at.
     Opaque(Bytes),
     /// A processing instruction.
     Pi(Attr),

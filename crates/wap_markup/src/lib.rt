@@ -11,8 +11,8 @@ mod rules;
 mod tables;
 
 pub use codes::{
-    END, ENTITY, EXT_0, EXT_1, EXT_2, EXT_I_0, EXT_I_1, EXT_I_2, EXT_T_0, EXT_T_1, EXT_T_2,
-    LITERAL, LITERAL_A, LITERAL_AC, LITERAL_C, OPAQUE, PI, STR_I, STR_T, SWITCH_PAGE,
+    CHARSET, END, ENTITY, EXT_0, EXT_1, EXT_2, EXT_I_0, EXT_I_1, EXT_I_2, EXT_T_0, EXT_T_1,
+    EXT_T_2, LITERAL, OPAQUE, PI, STR_I, STR_T, SWITCH_PAGE, VERSION, WML_1_1, WML_1_2, WML_1_3,
 };
 pub use deck::{Deck, Item, Node};
 pub use document::{Attr, Document, Element, Kid, LEVEL_LIMIT, Piece, Token};

@@ -6,13 +6,16 @@ use wap_base::{Bytes, Conv, Text};
 pub struct Lead {
     /// Whether a switch to the page stands before the byte.
     pub switched: bool,
+    /// The page that counts for the byte.
     pub page: u8,
+    /// The byte, after the switch if there is one.
     pub byte: u8,
 }
 
 /// What a string stands for.
 #[derive(Clone, Copy, Debug, PartialEq, Eq)]
 pub enum Role {
+    /// Itself: it is a part of a text or of a value.
     Shown,
     /// A reference to the variable of this name.
     Variable(Conv),
@@ -29,25 +32,29 @@ pub enum LeafMark {
     Entity,
     /// So many bytes stand after it.
     Opaque,
-    /// Nothing stands after it.
+    /// An extension by its number, 0, 1 or 2; nothing stands after it.
     Extension(u8),
 }
 
 /// What a byte says in content.
 #[derive(Clone, Copy, Debug, PartialEq, Eq)]
 pub enum ContentMark {
+    /// The content ends.
     End,
     /// An element begins, and this is its tag.
     Element,
     /// A processing instruction begins.
     Pi,
+    /// What means the same in content and in values.
     Leaf(LeafMark),
+    /// Nothing that can stand here.
     Nothing,
 }
 
 /// What a byte says in attributes.
 #[derive(Clone, Copy, Debug, PartialEq, Eq)]
 pub enum AttributeMark {
+    /// The attributes end.
     End,
     /// An attribute, its start by a code.
     Coded,
@@ -55,13 +62,16 @@ pub enum AttributeMark {
     Named,
     /// A part of a value by a code.
     Value,
+    /// What means the same in content and in values.
     Leaf(LeafMark),
+    /// Nothing that can stand here.
     Nothing,
 }
 
 /// What stands in content and in the value of an attribute alike.
 #[derive(Debug, Drop, PartialEq, Eq)]
 pub enum Leaf {
+    /// A string.
     Str(Text),
     /// A character by its number.
     Entity(u32),
@@ -69,12 +79,14 @@ pub enum Leaf {
     Var(Text, Conv),
     /// An extension without a value.
     Ext(u8),
+    /// Bytes that aren't looked at.
     Opaque(Bytes),
 }
 
 /// A public identifier.
 #[derive(Clone, Copy, Debug, PartialEq, Eq)]
 pub enum Identifier {
+    /// By its number.
     Numbered(u32),
     /// By the index of its name in the string table.
     Named(u32),

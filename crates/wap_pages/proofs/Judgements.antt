@@ -37,8 +37,8 @@ use Rattle.wap_pages.specs.declared.fault.PageErr.{PageErr}
 use Rattle.wap_pages.specs.declared.fault.PageErr.TheVariants as error
 use Rattle.wap_pages.specs.declared.fault.PageFault.{PageFault}
 use Rattle.wap_pages.specs.declared.fault.PageFault.TheVariants as fault
-use Rattle.wap_pages.specs.Faults.{document_error, deck_error}
-use Rattle.wap_pages.proofs.Errors.{document_cases, deck_cases}
+use Rattle.wap_pages.specs.Faults.{document_error}
+use Rattle.wap_pages.proofs.Errors.{document_cases}
 use Rattle.wap_pages.specs.Judged.{kind_of, deck_or_fault, judged_document, judged_text}
 use Rattle.wap_pages.specs.Judged.{judgement, page_or_refused, page_of_bytes, judged}
 use Rattle.wap_pages.specs.Judged.{page_where, IsDeckPage, IsTextPage, Refuses}
@@ -396,22 +396,3 @@ document_refused bytes why is =
     document_cases (λ (e : PageErr). Judges (Err e) (judgement kind.Deck bytes)) why
     (λ none. tt)
     (λ some. deck_judgement bytes ∙ ap judged_document (is some))
-
-pub deck_accepted : (document : Document) (deck good : Deck) (answer : Result Page PageErr)
-    → deck ≡ deck_of document → good ≡ deck → IsGood deck
-    → Judges answer (Ok (page.Deck good)) → Judges answer (judged_document (Ok document))
-deck_accepted document deck good answer is same fine so =
-    subst (Judges answer)
-    (ap (λ (d : Deck). Ok (page.Deck d)) (same ∙ is)
-    ∙ sym (ap (deck_or_fault (deck_of document)) (faultless document (subst IsGood is fine))))
-    so
-
-pub deck_refused : (document : Document) (deck : Deck) (why : DeckFault) → deck ≡ deck_of document
-    → (why ≢ deck_fault.NoMemory → first_fault (faults deck) ≡ Some why)
-    → Judges (Err (deck_error why)) (judged_document (Ok document))
-deck_refused document deck why is first =
-    deck_cases (λ (e : PageErr). Judges (Err e) (judged_document (Ok document))) why
-    (λ none. tt)
-    (λ some.
-    ap (deck_or_fault (deck_of document))
-    (subst (λ (d : Deck). first_fault (faults d) ≡ Some why) is (first some)))

@@ -5,7 +5,7 @@ use Rattle.std.proofs.Common.{sym, ap, ◌∙◌, append_assoc, arith}
 use Rattle.std.specs.List.{flat_map}
 use Rattle.std.proofs.lemmas.List.{append-nil, take_more, take-append-drop}
 use Rattle.wap_base.specs.Count.{Rose}
-use Rattle.wap_base.specs.Transfer.{Appends, AppendsFront}
+use Rattle.wap_base.specs.Transfer.{Appends, AppendsPrefix}
 use Rattle.wap_base.proofs.Transfers.{Appends-then}
 use Rattle.wap_pages.specs.inside.Wrote.{Wrote}
 
@@ -13,15 +13,15 @@ abbrev pub Written : Type 0
 Written = Option (List ℕ)
 
 -- a prefix of a text is one of a longer text
-pub prefix_longer : (before after : Written) (text more : List ℕ) → AppendsFront before after text
-    → AppendsFront before after (text ++ more)
+pub prefix_longer : (before after : Written) (text more : List ℕ) → AppendsPrefix before after text
+    → AppendsPrefix before after (text ++ more)
 prefix_longer before after text more is =
     (is.0, is.1 ++ more, ap (λ (l : List ℕ). l ++ more) is.2 ∙ append_assoc is.0 is.1 more, is.3)
 
 -- a whole text, and a prefix of what follows
 pub prefix_then : (before between after : Written) (text more : List ℕ)
-    → Appends before between text → AppendsFront between after more
-    → AppendsFront before after (text ++ more)
+    → Appends before between text → AppendsPrefix between after more
+    → AppendsPrefix before after (text ++ more)
 prefix_then before between after text more whole is = (
   text ++ is.0,
   is.1,
@@ -50,7 +50,7 @@ module _ {A E : Type 0} (a b c : Written) (m n o : ℕ) (x y : List ℕ) where
 
 module _ {A E : Type 0} (a b : Written) (m n : ℕ) (x y : List ℕ) where
   -- the first text failed
-  pub Wrote-stops : (r : Result A E) → AppendsFront a b x → m ≤ n → Rose m n → (e : E) → r ≡ Err e
+  pub Wrote-stops : (r : Result A E) → AppendsPrefix a b x → m ≤ n → Rose m n → (e : E) → r ≡ Err e
       → Wrote a b m n r (x ++ y)
   Wrote-stops (Ok v) first counts rose e is = absurd cc
   Wrote-stops (Err f) first counts rose e is = record {

@@ -8,7 +8,8 @@ use wap_unit::UnitFault;
 use wap_verify::VerifyFault;
 use wap_wbxml::DocFault;
 
-/// Why a page is refused. A fault in it is never the one that memory ran out.
+/// Why a page is refused. A fault in it can say that memory ran out; neither `judge` nor the
+/// conversions below ever answer that.
 #[derive(Debug, Drop, PartialEq, Eq)]
 pub enum PageFault {
     /// There is no such page.
@@ -30,14 +31,16 @@ pub enum PageFault {
 /// Why a call on a page gives nothing.
 #[derive(Debug, Drop, PartialEq, Eq)]
 pub enum PageErr {
+    /// The page is refused, for this.
     Refused(PageFault),
+    /// Memory ran out, which says nothing of the page.
     NoMemory,
 }
 
 impl From<wap_base::NoMemory> for PageErr {
     ghost from_gives = { λ _ error. error ≡ NoMemory };
 
-    fn from(_out: wap_base::NoMemory) -> PageErr {
+    fn from(_error: wap_base::NoMemory) -> PageErr {
         PageErr::NoMemory
     }
 }

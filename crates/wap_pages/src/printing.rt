@@ -1,7 +1,7 @@
 //! Printing why a page is refused.
 ghost use Rattle.std.specs.Prelude.{◌≡◌, ◌≤◌, [], ◌∷◌, OnOk, OnErr};
 ghost use Rattle.wap_base.specs.Count.{Rose};
-ghost use Rattle.wap_base.specs.Transfer.{Appends, AppendsFront};
+ghost use Rattle.wap_base.specs.Transfer.{Appends, AppendsPrefix};
 ghost use Rattle.std.specs.List.{flat_map};
 ghost use Rattle.wap_pages.specs.Printing.{field_text, fault_text, document_text, unit_text};
 ghost use Rattle.wap_pages.specs.Printing.{step_text, path_text, at_path, deck_text};
@@ -21,7 +21,7 @@ impl PageFault {
     pub fn print<O: Sink>(&self, out: &mut O) -> Result<(), Failed>
         ensures whole { OnOk result (Appends (O.written out.old) (O.written out.new)
             (page_text self.now)) }
-        ensures prefix { OnErr result (AppendsFront (O.written out.old) (O.written out.new)
+        ensures prefix { OnErr result (AppendsPrefix (O.written out.old) (O.written out.new)
             (page_text self.now)) }
         ensures steady { OnOk result (O.faults out.new ≡ O.faults out.old) }
         ensures faults { O.faults out.old ≤ O.faults out.new }

@@ -15,7 +15,7 @@ use Rattle.wap_markup.specs.Grammar.{State, IsOpaque}
 use Rattle.wap_markup.specs.Documents.{is_public, IsIdentifier, IsIdentifierBehind}
 use Rattle.wap_markup.specs.Documents.{IsRootBehind, IsRoot, first_state, into_root}
 use Rattle.wap_markup.specs.Documents.{out_of_root, IsBody, IsDocument}
-use Rattle.wap_spelling.specs.declared.documents.TheConstants.{VERSION, CHARSET}
+use Rattle.wap_markup.specs.declared.codes.TheConstants.{VERSION, CHARSET}
 use Rattle.wap_spelling.specs.Names.{table_of, names_of}
 use Rattle.wap_spelling.specs.Spelling.{sized, first_pages, element_spelling}
 use Rattle.wap_spelling.specs.Spelling.{root_spelling, spelling, canon}

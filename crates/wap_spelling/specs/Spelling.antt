@@ -8,6 +8,7 @@ use Rattle.wap_base.specs.declared.name.Conv.{Conv}
 use Rattle.wap_base.specs.declared.name.Conv.TheVariants.{Escape, Unescape, Plain}
 use Rattle.wap_markup.specs.declared.codes.TheConstants.{END, ENTITY, STR_I, LITERAL, EXT_I_0}
 use Rattle.wap_markup.specs.declared.codes.TheConstants.{EXT_I_1, EXT_I_2, PI, EXT_0, OPAQUE}
+use Rattle.wap_markup.specs.declared.codes.TheConstants.{VERSION, CHARSET}
 use Rattle.wap_markup.specs.declared.document.TheConstants.{LEVEL_LIMIT}
 use Rattle.wap_markup.specs.declared.document.Document.{Document}
 use Rattle.wap_markup.specs.declared.document.Element.{Element}
@@ -18,7 +19,6 @@ use Rattle.wap_markup.specs.declared.document.Piece.{Piece}
 use Rattle.wap_markup.specs.declared.document.Piece.TheVariants as piece
 use Rattle.wap_markup.specs.declared.document.Kid.{Kid, out-Kid}
 use Rattle.wap_markup.specs.declared.document.Kid.TheOpen.{Kid-F}
-use Rattle.wap_spelling.specs.declared.documents.TheConstants.{VERSION, CHARSET}
 use Rattle.wap_spelling.specs.declared.output.Pages.{Pages}
 use Rattle.wap_spelling.specs.Writings.{Writing, plain, ◌⨾◌, each, ended}
 use Rattle.wap_spelling.specs.Writings.{on_tag_page, on_attribute_page}

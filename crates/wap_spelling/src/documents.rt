@@ -14,14 +14,10 @@ use crate::output::{Output, Pages, add_sized};
 use crate::table::Table;
 use std::alloc::Global;
 use wap_base::{Bytes, NoMemory, write_mb};
-use wap_markup::{Document, LEVEL_LIMIT, Tag};
+use wap_markup::{CHARSET, Document, LEVEL_LIMIT, Tag, VERSION};
 
-/// The version that is written: WBXML 1.3.
-pub const VERSION: u8 = 3;
-/// The character set that is written: UTF-8.
-pub const CHARSET: u32 = 106;
-
-/// The document's one spelling: WBXML 1.3 in UTF-8, with a string table of the names alone. It is
+/// The document's one spelling: WBXML 1.3 in UTF-8, with a string table of the names alone. Where
+/// the document's strings are of characters, as those of every document that bytes spell are, it is
 /// read again as the document in that version and that character set.
 pub fn encode(alloc: Global, document: &Document) -> Result<Bytes, NoMemory>
     requires { IsSpellable document.now }

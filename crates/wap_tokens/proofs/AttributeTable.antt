@@ -1,6 +1,6 @@
 -- The tables of attributes and of their starts, computed.
 use Rattle.std.proofs.Common.{◌≡◌, ◌≢◌, ℕ, ◌<◌, Bool, true, false, ◌==◌, ◌&&◌, nat_eq, map}
-use Rattle.std.proofs.Common.{unwrap_or, List, [], Option, Some, None, refl, sym, ap, ◌∙◌, inl, inr}
+use Rattle.std.proofs.Common.{List, [], Option, Some, None, refl, sym, ap, ◌∙◌, inl, inr}
 use Rattle.std.specs.Prelude.{slice_get, encode_utf8_all, IfSome}
 use Rattle.std.specs.Borrow.{Bor}
 use Rattle.std.specs.List.{list_all}
@@ -18,7 +18,7 @@ use Rattle.wap_markup.specs.Tables.{StartRow, Start, is_same_attr, is_same_start
 use Rattle.wap_markup.specs.Tables.{attr_by_name, attr_named, name_of_attr, start_rows}
 use Rattle.wap_markup.specs.Tables.{start_by_code, code_by_start, attr_start, code_of_start}
 use Rattle.wap_markup.specs.Tables.{first_code, start_code}
-use Rattle.wap_tokens.specs.Places.{start_place}
+use Rattle.wap_tokens.specs.inside.Places.{start_place}
 use Rattle.wap_tokens.specs.Rows.{lent_start}
 use Rattle.wap_tokens.proofs.Found.{found_passes, lookup_alike, is_same_option, same_option}
 use Rattle.wap_tokens.proofs.Plain.{is_plain, chars-plain, same-plain}
@@ -211,20 +211,6 @@ pub chars-start : (page code : ℕ) (result : Option (AttrName × Bor (List ℕ)
 chars-start page code None is = tt
 chars-start page code (Some begun) is =
     chars-plain begun.1.now (start_is_plain page code (lent_start begun) (sym is))
-
--- an attribute's code alone, or else its first
-pub start_code-bare : (attr : AttrName) (none : List ℕ) (found : Option ℕ) (code : ℕ) → none ≡ []
-    → found ≡ code_of_start (attr, none) → found ≡ Some code → start_code attr ≡ code
-start_code-bare attr none found code empty is some =
-    ap (λ o. unwrap_or o (unwrap_or (first_code attr) 0))
-    (ap (λ text. code_of_start (attr, text)) (sym empty) ∙ sym is ∙ some)
-
-pub start_code-first : (attr : AttrName) (none : List ℕ) (found : Option ℕ) → none ≡ []
-    → found ≡ code_of_start (attr, none)
-    → found ≡ None → start_code attr ≡ unwrap_or (first_code attr) 0
-start_code-first attr none found empty is no_code =
-    ap (λ o. unwrap_or o (unwrap_or (first_code attr) 0))
-    (ap (λ text. code_of_start (attr, text)) (sym empty) ∙ sym is ∙ no_code)
 
 -- starts are looked up by bytes
 pub code_of_start-bytes : (attr : AttrName) (bytes text : List ℕ) → bytes ≡ encode_utf8_all text

@@ -14,7 +14,7 @@ use Rattle.wap_markup.specs.declared.name.Tag.TheVariants as tags
 use Rattle.wap_markup.specs.contracts.name.Tag as type
 use Rattle.wap_markup.specs.Tables.{TagRow, is_same_tag, tag_rows, tag_by_code, tag_by_name}
 use Rattle.wap_markup.specs.Tables.{tag_of, code_of, tag_named, name_of_tag}
-use Rattle.wap_tokens.specs.Places.{tag_place}
+use Rattle.wap_tokens.specs.inside.Places.{tag_place}
 use Rattle.wap_tokens.proofs.Found.{found_passes, lookup_alike, is_same_option, same_option}
 use Rattle.wap_tokens.proofs.Plain.{is_plain, same-plain}
 use denote.Enum.Bare.{same_true}

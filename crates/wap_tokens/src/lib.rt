@@ -7,7 +7,7 @@ mod places;
 mod tags;
 mod values;
 
-pub use attrs::{attr_named, attr_start, code_of_start, name_of_attr, start_code};
+pub use attrs::{attr_named, attr_start, code_of_start, name_of_attr};
 pub use laws::tables_agree;
 pub use tags::{code_of, tag_named, tag_of};
 pub use values::attr_value;

@@ -1,6 +1,6 @@
 //! Where the tables have their rows: in the order of the codes, a few of which are free.
 ghost use Rattle.std.specs.Prelude.{◌≡◌};
-ghost use Rattle.wap_tokens.specs.Places.{tag_place, start_place, value_place};
+ghost use Rattle.wap_tokens.specs.inside.Places.{tag_place, start_place, value_place};
 
 /// The place of a code among the tags.
 pub fn tag_place(code: u8) -> Option<usize>

@@ -574,13 +574,3 @@ pub one_document : (bytes : List ℕ) (a b : Document) → IsDocument bytes a
     → IsDocument bytes b → a ≡ b
 one_document bytes a b first second =
     ok_same a b (sym (document_again bytes a first) ∙ document_again bytes b second)
-
--- nor are they refused where they have one, or in two ways
-pub not_both : (bytes : List ℕ) (document : Document) (fault : DocFault) → IsDocument bytes document
-    → IsRefused bytes fault → ⊥
-not_both bytes document fault is refused =
-    no_value (sym (document_fails bytes fault refused) ∙ document_again bytes document is)
-
-pub one_fault : (bytes : List ℕ) (a b : DocFault) → IsRefused bytes a → IsRefused bytes b → a ≡ b
-one_fault bytes a b first second =
-    err_same a b (sym (document_fails bytes a first) ∙ document_fails bytes b second)

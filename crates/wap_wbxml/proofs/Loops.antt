@@ -1,9 +1,7 @@
 -- Reading items one after the other, as a loop does.
-use Rattle.std.proofs.Common.{◌≡◌, ℕ, suc, ◌+◌, ◌-◌, ◌<◌, ◌≤◌, List, [], ◌∷◌, ◌++◌, Option, Some}
-use Rattle.std.proofs.Common.{None, Ok, Err, refl, sym, ap, ◌∙◌, append_assoc, arith}
-use Rattle.std.proofs.lemmas.List.{append-nil}
+use Rattle.std.proofs.Common.{◌≡◌, ℕ, suc, ◌+◌, ◌-◌, ◌<◌, List, [], ◌∷◌, ◌++◌, Option, Some}
+use Rattle.std.proofs.Common.{Ok, Err, refl, sym, ap, ◌∙◌, append_assoc, arith}
 use Rattle.wap_base.specs.Outcome.{◌>>=◌}
-use Rattle.wap_wbxml.specs.declared.fault.DocFault.{DocFault}
 use Rattle.wap_wbxml.specs.reading.Steps.{Reading, Next, told, chained, run_at}
 
 -- what was read before, and what is still read
@@ -45,28 +43,6 @@ module _ {A S : Type 0} (next : Next A S) (spent : S → List ℕ → Reading (L
       (sym first)
       ∙ turn more so_far
 
-  pub at_end : (after : S) (rest : List ℕ) → done < turns
-      → next state bytes ≡ Ok ((None, after), rest)
-      → Continues next spent turns done front state bytes whole → whole ≡ Ok ((front, after), rest)
-  at_end after rest more first so_far =
-      sym (turn more so_far)
-      ∙ ap (λ (r : Reading (Option A × S)). with_front front
-      (r >>= chained (run_at next spent (turns - (done + 1))))) first
-      ∙ ap (λ (items : List A). Ok ((items, after), rest)) (append-nil front)
-
-  pub at_fault : (fault : DocFault) → done < turns → next state bytes ≡ Err fault
-      → Continues next spent turns done front state bytes whole → whole ≡ Err fault
-  at_fault fault more first so_far =
-      sym (turn more so_far)
-      ∙ ap (λ (r : Reading (Option A × S)). with_front front
-      (r >>= chained (run_at next spent (turns - (done + 1))))) first
-
-  pub run_out : turns ≤ done → Continues next spent turns done front state bytes whole
-      → whole ≡ with_front front (spent state bytes)
-  run_out none so_far =
-      let left : turns - done ≡ 0 = omega arith in
-      sym so_far ∙ ap (λ (n : ℕ). with_front front (run_at next spent n state bytes)) left
-
 nothing_before : {A S : Type 0} (read : Reading (List A × S)) → with_front [] read ≡ read
 nothing_before (Ok x) = refl
 nothing_before (Err f) = refl
@@ -81,8 +57,3 @@ begins {A = A} next spent turns front state bytes none =
     ap (λ (items : List A). with_front items (run_at next spent (turns - 0) state bytes)) none
     ∙ nothing_before (run_at next spent (turns - 0) state bytes)
     ∙ ap (λ (n : ℕ). run_at next spent n state bytes) all
-
-pub nothing_behind : {A S : Type 0} (front : List A) (state : S) (bytes : List ℕ)
-    → with_front front (Ok (([], state), bytes)) ≡ Ok ((front, state), bytes)
-nothing_behind {A = A} front state bytes =
-    ap (λ (items : List A). Ok ((items, state), bytes)) (append-nil front)

@@ -188,17 +188,6 @@ module _ {A : Type 0} {Ends : A → List ℕ → Type 0} {read : List ℕ → Re
     fails = reads.fails;
   }
 
-  pub reads_refusing : {Others : Refusal}
-      → ((bytes : List ℕ) (fault : DocFault) → Refused bytes fault → Others bytes fault)
-      → ((bytes : List ℕ) (fault : DocFault) → Others bytes fault → Refused bytes fault)
-      → Reads Ends read Is Others
-  reads_refusing forth back = record {
-    takes = reads.takes;
-    again = reads.again;
-    stops = λ bytes fault e. forth bytes fault (reads.stops bytes fault e);
-    fails = λ bytes fault refused. reads.fails bytes fault (back bytes fault refused);
-  }
-
 -- a reading that is given the place where it stands
 pub reads_placed : {A : Type 0} {Ends : A → List ℕ → Type 0} {read : ℕ → List ℕ → Reading A}
     {Is : List ℕ → A

@@ -12,17 +12,6 @@ use Rattle.wap_base.specs.declared.charset.Charset.TheVariants.{Ascii, Latin1, U
 use Rattle.wap_markup.specs.Charsets.{IsText}
 use Rattle.wap_base.specs.Charsets.{is_ascii, text_in}
 
-pub utf8_some : (bytes : List ℕ) → IsUtf8 bytes → text_in Utf8 bytes ≡ Some (chars bytes)
-utf8_some bytes is =
-    ap (λ (b : Bool). cond b (Some (chars bytes)) None) (is_utf8-from_IsUtf8 bytes is)
-
-pub utf8_none : (bytes : List ℕ) → (IsUtf8 bytes → ⊥) → text_in Utf8 bytes ≡ None
-utf8_none bytes not = by (is_utf8 bytes) refl
-  where
-    by : (b : Bool) → is_utf8 bytes ≡ b → cond b (Some (chars bytes)) None ≡ None
-    by true e = absurd (not (IsUtf8-from_is_utf8 bytes e))
-    by false e = refl
-
 pub and_parts : (a b : Bool) → (a && b) ≡ true → (a ≡ true) × (b ≡ true)
 and_parts true b e = (refl, e)
 and_parts false b e = absurd cc

@@ -112,14 +112,7 @@ fn next_attribute<'a>(
 fn is_end(mark: AttributeMark) -> bool
     ensures { result ≡ is_end mark }
 {
-    match mark {
-        AttributeMark::End => true,
-        AttributeMark::Coded => false,
-        AttributeMark::Named => false,
-        AttributeMark::Value => false,
-        AttributeMark::Leaf(_) => false,
-        AttributeMark::Nothing => false,
-    }
+    matches!(mark, AttributeMark::End)
 }
 
 /// An attribute after the byte that it begins with: its start, and its value.

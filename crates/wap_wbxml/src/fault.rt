@@ -30,13 +30,14 @@ pub enum DocFault {
     Table { at: usize },
     /// The first byte after the document.
     Rest { at: usize },
+    /// Memory ran out, which says nothing of the bytes.
     NoMemory,
 }
 
 impl From<wap_base::NoMemory> for DocFault {
     ghost from_gives = { λ _ fault. fault ≡ NoMemory };
 
-    fn from(_want: wap_base::NoMemory) -> DocFault {
+    fn from(_error: wap_base::NoMemory) -> DocFault {
         DocFault::NoMemory
     }
 }

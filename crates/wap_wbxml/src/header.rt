@@ -10,7 +10,7 @@ ghost use Rattle.wap_wbxml.specs.reading.Whole.{version_at, identifier_at, chars
 use crate::DocFault;
 use crate::fronts::{read_number, string_from};
 use wap_base::Charset;
-use wap_markup::Identifier;
+use wap_markup::{Identifier, VERSION, WML_1_1, WML_1_2, WML_1_3};
 
 /// The version.
 #[tactic(auto, unfolding(crate::specs::reading::Whole::version_at))]
@@ -20,7 +20,7 @@ pub fn read_version(total: usize, bytes: &[u8]) -> Result<(u8, &[u8]), DocFault>
     let Some((version, rest)) = bytes.split_first() else {
         return Err(DocFault::Short { at: total });
     };
-    if !(1..=3).contains(version) {
+    if !(1..=VERSION).contains(version) {
         return Err(DocFault::Version);
     }
     Ok((*version, rest))
@@ -45,7 +45,7 @@ pub fn read_identifier(total: usize, bytes: &[u8]) -> Result<(Identifier, &[u8])
 fn is_public(number: u32) -> bool
     ensures { result ≡ is_public number }
 {
-    number == 4 || number == 9 || number == 10
+    number == WML_1_1 || number == WML_1_2 || number == WML_1_3
 }
 
 /// The character set, with its number.
@@ -79,13 +79,13 @@ fn public_named(name: &[u8]) -> Option<u32>
     ensures { result ≡ public_named name.now }
 {
     if name == b"-//WAPFORUM//DTD WML 1.1//EN".as_slice() {
-        return Some(4);
+        return Some(WML_1_1);
     }
     if name == b"-//WAPFORUM//DTD WML 1.2//EN".as_slice() {
-        return Some(9);
+        return Some(WML_1_2);
     }
     if name == b"-//WAPFORUM//DTD WML 1.3//EN".as_slice() {
-        return Some(10);
+        return Some(WML_1_3);
     }
     None
 }

@@ -88,15 +88,12 @@ fn leaf_mark(byte: u8) -> Option<LeafMark>
 fn is_extension(mark: LeafMark) -> bool
     ensures { result ≡ is_extension mark }
 {
-    match mark {
-        LeafMark::Inline(Role::Variable(_)) => true,
-        LeafMark::Indexed(Role::Variable(_)) => true,
-        LeafMark::Extension(_) => true,
-        LeafMark::Inline(Role::Shown) => false,
-        LeafMark::Indexed(Role::Shown) => false,
-        LeafMark::Entity => false,
-        LeafMark::Opaque => false,
-    }
+    matches!(
+        mark,
+        LeafMark::Inline(Role::Variable(_))
+            | LeafMark::Indexed(Role::Variable(_))
+            | LeafMark::Extension(_)
+    )
 }
 
 /// Whether a tag is a name of the string table.

@@ -2,7 +2,6 @@
 use Rattle.std.proofs.Common.{◌≡◌, ℕ, zero, suc, ◌+◌, ◌-◌, ◌<◌, ◌≤◌, Bool, true, false, List, []}
 use Rattle.std.proofs.Common.{◌∷◌, map, refl, sym, ap, ap₂, ◌∙◌, arith, ltb-true}
 use Rattle.std.specs.Prelude.{nat_lt}
-use Rattle.std.specs.List.{flat_map}
 use Rattle.std.proofs.lemmas.Bool.{lt-ltb}
 use Rattle.wap_base.specs.declared.name.Part.{Part}
 use Rattle.wap_markup.specs.declared.codes.TheConstants.{END}
@@ -16,23 +15,18 @@ use Rattle.wap_markup.specs.declared.deck.Item.TheVariants as item
 use Rattle.wap_markup.specs.declared.name.Tag.{Tag}
 use Rattle.wap_markup.specs.declared.name.Tag.TheVariants as tags
 use Rattle.wap_markup.specs.Tables.{tag_rows, code_of}
-use Rattle.wap_markup.specs.Writing.{attr_of, part_kids, kids_from, item_kids}
+use Rattle.wap_markup.specs.Writing.{attr_of, kids_from, item_kids}
 use Rattle.wap_markup.specs.Writing.{items_kids, element_of, node_kids}
 use Rattle.wap_spelling.specs.declared.output.Output.{Output}
 use Rattle.wap_spelling.specs.Writings.{Writing, plain, ◌⨾◌, each, ended, on_tag_page}
 use Rattle.wap_spelling.specs.Spelling.{bit, bits, attr_spelling, kid_spelling, element_spelling}
 use Rattle.wap_spelling.specs.inside.Written.{written}
 use Rattle.wap_spelling.proofs.Appending.{in_turn, each_none}
-use Rattle.wap_writing.specs.Parts.{part_spelling, content_bit, has_any}
+use Rattle.wap_writing.specs.inside.Parts.{part_spelling, content_bit, has_any}
 use Rattle.wap_writing.proofs.Lists.{each_one, each_flat}
 use Rattle.wap_writing.proofs.Parts.{opened, parts_kids}
 
 -- ---- whether content follows
-
-pub item_gives : (inner : Node → List Kid) (one : Item) (parts : List Part) → one ≡ item.Text parts
-    → has_any (flat_map part_kids parts) ≡ has_any (item_kids inner one)
-item_gives inner one parts is =
-    ap (λ level. has_any (kids_from inner level)) (sym (ap out-Item is ∙ item.outs-Text parts))
 
 pub node_gives : (levels : ℕ) (one : Item) (node : Node) → one ≡ item.Node node
     → nat_lt 0 levels ≡ has_any (item_kids (node_kids levels) one)

@@ -7,7 +7,7 @@ use Rattle.std.specs.List.{flat_map}
 use Rattle.std.proofs.Math.Seq.{drop-cons}
 use Rattle.wap_base.specs.declared.name.Part.TheVariants.{Lit}
 use Rattle.wap_markup.specs.Writing.{run_before, runs_of, run_kid, part_kids}
-use Rattle.wap_writing.specs.Parts.{has_any}
+use Rattle.wap_writing.specs.inside.Parts.{has_any}
 
 -- ---- a literal
 

@@ -29,11 +29,6 @@ fold_flat step gives (x ∷ xs) names =
     fold_flat step gives xs (fold step names (gives x))
     ∙ sym (fold-append step names (gives x) (flat_map gives xs))
 
-pub fold_map : {A B : Type 0} (step : Names → B → Names) (f : A → B) (xs : List A) (names : Names)
-    → fold (λ names x. step names (f x)) names xs ≡ fold step names (map f xs)
-fold_map step f [] names = refl
-fold_map step f (x ∷ xs) names = fold_map step f xs (step names (f x))
-
 module _ (inner : Naming) where
   opened : (names : Names) (one : Kid) (level : KidLevel) → out-Kid one ≡ level
       → with_opened inner names level ≡ with_kid inner names one
@@ -71,14 +66,6 @@ text_adds levels one parts is names =
     parts_add (with_element levels) parts names
     ∙ ap (λ level. fold (with_kid (with_element levels)) names (kids_from (node_kids levels) level))
     (sym (ap out-Item is ∙ item.outs-Text parts))
-
-pub none_adds : (levels : ℕ) (one : Item) (node : Node) → one ≡ item.Node node → levels ≡ 0
-    → (names : Names)
-    → names ≡ fold (with_kid (with_element levels)) names (item_kids (node_kids levels) one)
-none_adds (suc levels) one node is none names = absurd (omega arith)
-none_adds zero one node is none names =
-    ap (λ level. fold (with_kid (with_element zero)) names (kids_from (node_kids zero) level))
-    (sym (ap out-Item is ∙ item.outs-Node node))
 
 abbrev element : ℕ → Node → Element
 element levels node = element_of node (items_kids (node_kids levels) node.kids)

@@ -15,7 +15,7 @@ use Rattle.wap_spelling.specs.Writings.{Writing, ◌⨾◌, each}
 use Rattle.wap_spelling.specs.Names.{KidLevel}
 use Rattle.wap_spelling.specs.Spelling.{piece_spelling, opened_spelling, kid_spelling}
 use Rattle.wap_spelling.specs.inside.Written.{written}
-use Rattle.wap_writing.specs.Parts.{run_spelling, part_spelling}
+use Rattle.wap_writing.specs.inside.Parts.{run_spelling, part_spelling}
 use Rattle.wap_writing.proofs.Lists.{each_one, each_flat}
 
 -- ---- pieces

@@ -8,17 +8,16 @@ use Rattle.wap_markup.specs.declared.document.Attr.{Attr}
 use Rattle.wap_markup.specs.declared.document.Piece.{Piece}
 use Rattle.wap_markup.specs.declared.document.Token.TheVariants.{Literal}
 use Rattle.wap_markup.specs.declared.name.AttrName.{AttrName}
-use Rattle.wap_markup.specs.Grammar.{with_name}
 use Rattle.wap_markup.specs.Tables.{code_of_start, name_of_attr}
 use Rattle.wap_markup.specs.Writing.{part_pieces, coded_attr, attr_without}
 use Rattle.wap_markup.specs.Writing.{whole_code, attr_with, attr_of}
 use Rattle.wap_spelling.specs.declared.output.Output.{Output}
 use Rattle.wap_spelling.specs.Writings.{plain, ◌⨾◌, each, on_attribute_page}
-use Rattle.wap_spelling.specs.Names.{with_attr, place_of}
+use Rattle.wap_spelling.specs.Names.{place_of}
 use Rattle.wap_spelling.specs.Spelling.{piece_spelling, attr_spelling}
 use Rattle.wap_spelling.specs.inside.Written.{written}
 use Rattle.wap_spelling.proofs.Appending.{in_turn, written_none}
-use Rattle.wap_writing.specs.Parts.{part_spelling}
+use Rattle.wap_writing.specs.inside.Parts.{part_spelling}
 use Rattle.wap_writing.proofs.Parts.{parts_pieces}
 
 module _ (attribute : AttrName × List Part) where
@@ -93,20 +92,3 @@ module _ (attribute : AttrName × List Part) where
         }) after (named none neither)
         (in_turn (on_attribute_page 0) (start ⨾ value) before paged after turned
         (in_turn start value paged begun after first (then ∙ parts_pieces attribute.1 begun)))
-
-  -- ---- names
-
-  module _ (names : List (List ℕ)) where
-    pub own_adds : (code : ℕ) → code_of_start (attribute.0, []) ≡ Some code
-        → names ≡ with_attr names (attr_of attribute)
-    own_adds code found = sym (ap (with_attr names) (own code found))
-
-    pub whole_adds : (code : ℕ) → code_of_start (attribute.0, []) ≡ None
-        → whole_code attribute.0 attribute.1 ≡ Some code
-        → names ≡ with_attr names (attr_of attribute)
-    whole_adds code none found = sym (ap (with_attr names) (whole code none found))
-
-    pub name_adds : code_of_start (attribute.0, []) ≡ None
-        → whole_code attribute.0 attribute.1 ≡ None
-        → with_name names (name_of_attr attribute.0) ≡ with_attr names (attr_of attribute)
-    name_adds none neither = sym (ap (with_attr names) (named none neither))

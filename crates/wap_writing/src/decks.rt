@@ -8,11 +8,8 @@ use crate::names::names_of;
 use crate::nodes::write_node;
 use std::alloc::Global;
 use wap_base::{Bytes, NoMemory};
-use wap_markup::{Deck, LEVEL_LIMIT};
+use wap_markup::{Deck, LEVEL_LIMIT, WML_1_3};
 use wap_spelling::{Output, Pages, Table, write_header};
-
-/// The number of the public identifier of WML 1.3.
-const PUBLIC: u32 = 10;
 
 /// The one spelling of a deck's document, which isn't built.
 pub fn spell(alloc: Global, deck: &Deck) -> Result<Bytes, NoMemory>
@@ -27,7 +24,7 @@ pub fn spell(alloc: Global, deck: &Deck) -> Result<Bytes, NoMemory>
             attribute: 0,
         },
     };
-    write_header(&mut output.bytes, PUBLIC, &table)?;
+    write_header(&mut output.bytes, WML_1_3, &table)?;
     write_node(alloc, &mut output, &table, LEVEL_LIMIT - 1, &deck.root)?;
     let Output { bytes, .. } = output;
     Ok(bytes)

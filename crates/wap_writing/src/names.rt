@@ -22,10 +22,10 @@ fn add_attribute(
     ensures { OnOk result (names.new.keys ≡ with_attr names.old.keys (attr_of attribute.now)) }
 {
     let name = attribute.0;
-    if let Some(_code) = own_code(name) {
+    if own_code(name).is_some() {
         return Ok(());
     }
-    if let Some(_code) = whole_code(name, attribute.1.as_slice()) {
+    if whole_code(name, attribute.1.as_slice()).is_some() {
         return Ok(());
     }
     let text = Text::of(alloc, name_of_attr(name))?;

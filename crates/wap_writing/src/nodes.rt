@@ -4,7 +4,7 @@ ghost use Rattle.wap_markup.specs.Writing.{item_kids, items_kids, node_kids, ele
 ghost use Rattle.wap_spelling.specs.Writings.{each, ended};
 ghost use Rattle.wap_spelling.specs.Spelling.{bit, kid_spelling, element_spelling};
 ghost use Rattle.wap_spelling.specs.inside.Written.{written};
-ghost use Rattle.wap_writing.specs.Parts.{content_bit, has_any};
+ghost use Rattle.wap_writing.specs.inside.Parts.{content_bit, has_any};
 
 use crate::attributes::write_attributes;
 use crate::texts::{have_content, write_parts};

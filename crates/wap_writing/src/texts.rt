@@ -4,7 +4,7 @@ ghost use Rattle.std.specs.List.{flat_map};
 ghost use Rattle.wap_markup.specs.Writing.{runs_of, part_kids};
 ghost use Rattle.wap_spelling.specs.Writings.{each};
 ghost use Rattle.wap_spelling.specs.inside.Written.{written};
-ghost use Rattle.wap_writing.specs.Parts.{run_spelling, part_spelling, has_any};
+ghost use Rattle.wap_writing.specs.inside.Parts.{run_spelling, part_spelling, has_any};
 
 use std::alloc::Global;
 use wap_base::{NoMemory, Part, Text};

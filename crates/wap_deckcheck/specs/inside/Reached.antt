@@ -1,4 +1,4 @@
--- How far the elements before have come in the order of a rule's groups.
+-- How far the elements before have come in the order of a rule's groups. This project's own.
 use Rattle.std.specs.Prelude.{◌≡◌, ℕ, Bool, ◌&&◌, Some, List, nat_le}
 use Rattle.std.specs.List.{list_any, list_all}
 use Rattle.wap_markup.specs.declared.deck.Item.{Item}

@@ -1,4 +1,4 @@
--- The tables' rows as a program has them, their lists lent.
+-- The tables' rows as a program has them, their lists lent. This project's own.
 use Rattle.std.specs.Prelude.{ℕ, Bool, true, not, ◌||◌, nat_lt, List, map}
 use Rattle.std.specs.List.{list_all}
 use Rattle.std.specs.Borrow.{Bor}

@@ -1,4 +1,4 @@
--- What a step of the walk over a deck finds.
+-- What a step of the walk over a deck finds. This project's own.
 use Rattle.std.specs.Prelude.{ℕ, List, [], ◌++◌, Option, Some, None}
 use Rattle.std.specs.List.{flat_map}
 use Rattle.std.specs.Option.{option_to_list}

@@ -38,13 +38,6 @@ unfolding table_size
 size_append [] more = omega arith
 size_append (name ∷ names) more = let rest = size_append names more in omega arith
 
-pub grows-size : (names others : List (List ℕ)) → Grows names others
-    → table_size names ≤ table_size others
-grows-size names others grown =
-    let within = size_append names grown.more in
-    let same = ap table_size grown.are in
-    omega arith
-
 or_left : (a b : Bool) → a ≡ true → (a || b) ≡ true
 or_left true b e = refl
 or_left false b e = absurd cc

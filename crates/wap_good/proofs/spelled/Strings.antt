@@ -14,7 +14,7 @@ use Rattle.wap_base.specs.Numbers.{IsMb, mb_spelling}
 use Rattle.wap_base.specs.Texts.{is_same_text}
 use Rattle.wap_base.specs.declared.charset.Charset.TheVariants.{Utf8}
 use Rattle.wap_base.proofs.NumberSpelling.{IsShortest-mb_spelling}
-use Rattle.wap_markup.specs.Strings.{Strings, IsInline, IsIndexed, is_not_zero}
+use Rattle.wap_markup.specs.Strings.{Strings, IsIndexed, is_not_zero}
 use Rattle.wap_markup.specs.Grammar.{table_size}
 use Rattle.wap_spelling.specs.Names.{string, table_of, place_of}
 use Rattle.wap_spelling.specs.Spellable.{IsString}
@@ -84,15 +84,6 @@ text_bytes (c ∷ text) all =
 
 abbrev pub in_utf8 : List ℕ → Strings
 in_utf8 table = record { charset = Utf8; table = table }
-
-pub inline_read : (table text : List ℕ) → IsString text
-    → IsInline (in_utf8 table) (string text) text
-inline_read table text is = record {
-  string = encode_utf8_all text;
-  spelled = refl;
-  no_zero = text_bytes text is.0;
-  text_is = (is.1, refl);
-}
 
 -- ---- in the table
 

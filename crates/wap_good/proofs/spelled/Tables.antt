@@ -61,11 +61,6 @@ places_one_more place (first ∷ names) name =
 
 -- ---- places
 
-pub length-places : (place : ℕ) (names : List (List ℕ))
-    → length (places_from place names) ≡ length names
-length-places place [] = refl
-length-places place (name ∷ names) = ap suc (length-places (place + length (string name)) names)
-
 pub place_at : (place : ℕ) (names : List (List ℕ)) (i other : ℕ) → i < length names
     → get_or (places_from place names) i other ≡ place + length (table_of (take i names))
 unfolding table_of

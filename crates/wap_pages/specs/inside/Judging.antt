@@ -1,4 +1,4 @@
--- What a call that judges has to do with the judgement.
+-- What a call that judges has to do with the judgement. This project's own.
 use Rattle.std.specs.Prelude.{◌≡◌, ℕ, List, Result, Ok, Err}
 use Rattle.wap_markup.specs.declared.document.Document.{Document}
 use Rattle.wap_markup.specs.Documents.{IsDocument}

@@ -1,4 +1,4 @@
--- What calls do with the pages that are kept.
+-- What calls do with the pages that are kept. This project's own.
 use Rattle.std.specs.Prelude.{◌≡◌, ℕ, ◌<◌, ◌≤◌, Bool, true, false, List, length, Option}
 use Rattle.std.specs.Prelude.{None, IfSome, IfOk, OnOk, OnErr, Result, Ok}
 use Rattle.std.specs.List.{AllByRecursion}

@@ -1,4 +1,4 @@
--- Where each name stands in the string table.
+-- Where each name stands in the string table. This project's own.
 use Rattle.std.specs.Prelude.{◌≡◌, ℕ, ◌+◌, ◌^◌, ◌<◌, List, [], ◌∷◌, length}
 use Rattle.wap_spelling.specs.Names.{string, table_of}
 

@@ -1,4 +1,4 @@
--- Bytes with what is written after them.
+-- Bytes with what is written after them. This project's own.
 use Rattle.std.specs.Prelude.{◌++◌}
 use Rattle.wap_spelling.specs.declared.output.Output.{Output}
 use Rattle.wap_spelling.specs.Writings.{Writing}

@@ -3,7 +3,7 @@ use Rattle.std.specs.List.{filter_map}
 use Rattle.wap_markup.specs.declared.document.Kid.{Kid}
 use Rattle.wap_markup.specs.declared.deck.Item.{Item}
 use Rattle.wap_markup.specs.Decks.{attribute, kids_marks, element_marks}
-use Rattle.wap_deck.specs.Adding.{marks_after}
+use Rattle.wap_deck.specs.inside.Adding.{marks_after}
 use Rattle.wap_deck.proofs.Content.{element_known, kid_added}
 use Rattle.wap_deck.proofs.build.+content.Goals as goal
 

@@ -5,7 +5,7 @@ use Rattle.wap_markup.specs.declared.name.Tag.TheVariants as tags
 use Rattle.wap_markup.specs.declared.document.Kid.{Kid}
 use Rattle.wap_markup.specs.declared.deck.Item.{Item}
 use Rattle.wap_markup.specs.Decks.{attribute, kids_marks, element_marks}
-use Rattle.wap_deck.specs.Adding.{marks_after}
+use Rattle.wap_deck.specs.inside.Adding.{marks_after}
 use Rattle.wap_markup.specs.Normal.{IsNormal}
 use Rattle.wap_deck.proofs.Content.{deck_from}
 use Rattle.wap_deck.proofs.Normality.{deck_is_normal}

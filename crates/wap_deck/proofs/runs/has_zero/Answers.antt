@@ -1,5 +1,5 @@
 use Rattle.std.proofs.Common.{◌≡◌, ap, ◌∙◌, encode_utf8_all}
-use Rattle.wap_deck.specs.Adding.{has_zero}
+use Rattle.wap_deck.specs.inside.Adding.{has_zero}
 use Rattle.wap_deck.proofs.Strings.{zero_bytes}
 use Rattle.wap_deck.proofs.runs.has_zero.Goals as goal
 

@@ -3,7 +3,7 @@ use Rattle.std.proofs.lemmas.List.{map-id}
 use Rattle.std.proofs.lemmas.Iterator.{YieldsList-from_chars}
 use Rattle.std.proofs.lemmas.Iterator.Consumers.{YieldsList-end}
 use Rattle.wap_markup.specs.Writing.{runs_of}
-use Rattle.wap_deck.specs.Adding.{character_after}
+use Rattle.wap_deck.specs.inside.Adding.{character_after}
 use Rattle.wap_deck.proofs.Strings.{runs_of-last}
 use Rattle.wap_deck.proofs.runs.runs_in.Goals as goal
 

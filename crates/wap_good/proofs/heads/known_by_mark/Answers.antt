@@ -1,17 +1,18 @@
-use Rattle.std.proofs.Common.{sym, subst, List, ℕ}
-use Rattle.wap_good.specs.inside.Notes.{IsHead}
-use Rattle.wap_good.proofs.Ending.{first_is}
-use Rattle.wap_good.proofs.HeadLaw.{nothing_known}
+use Rattle.std.proofs.Common.{◌∙◌, sym}
+use Rattle.wap_good.proofs.HeadLaw.{marked_all, bare_content, bare_alone}
 use Rattle.wap_good.proofs.heads.known_by_mark.Goals as goal
 
-pub returns-in-Some : goal.returns-in-Some
-returns-in-Some c =
-    let known = c.known_of_mark.result in
-    subst (λ (l : List ℕ). IsHead l known.names known.head)
-    (sym (first_is c.args.bytes.now c.in-Some.mark c.in-Some.field-0-1.now c.in-Some.ensures))
-    (c.known_of_mark.ensures c.in-Some.field-0-1.now)
+pub returns-then-has_attributes : goal.returns-then-has_attributes
+returns-then-has_attributes c = λ rest.
+    rw (c.known_with.ensures.names, c.known_with.ensures.head) (marked_all c.args.mark rest)
 
-pub returns-in-None : goal.returns-in-None
-returns-in-None c =
-    rw (c.known.ensures.names, c.known.ensures.head)
-    (nothing_known c.args.bytes.now c.in-None.ensures)
+pub returns-then-has_content : goal.returns-then-has_content
+returns-then-has_content c = λ rest.
+    rw (c.known_with-then-has_content.ensures.names, c.known_with-then-has_content.ensures.head)
+    (bare_content c.args.mark rest (sym c.has_attributes.ensures ∙ c.if-has_attributes.false)
+    (sym c.has_content.ensures ∙ c.if-has_content.true))
+
+pub returns : goal.returns
+returns c = λ rest.
+    rw (c.known_with-2.ensures.names, c.known_with-2.ensures.head)
+    (bare_alone c.args.mark rest (sym c.has_attributes.ensures ∙ c.if-has_attributes.false))

@@ -5,7 +5,7 @@ use Rattle.wap_good.proofs.notes.with_inside.Goals as goal
 
 pub loop-note-init : goal.loop-note-init
 loop-note-init c = record {
-  told = subst (AreNotes c.args.bytes.now) (sym c.in_ok-told.ensures) tt;
+  counted = subst (AreNotes c.args.bytes.now) (sym c.in_ok-counted.ensures) tt;
   left = c.requires;
 }
 
@@ -13,8 +13,8 @@ pub loop-note-preserved : goal.loop-note-preserved
 loop-note-preserved c =
     let are = c.in-Some.ensures.notes c.args.bytes.now c.loop-note.invariant.left in
     record {
-      told = subst (AreNotes c.args.bytes.now) (sym c.in_ok-add.ensures.ok)
-          (notes_more c.args.bytes.now c.loop-note.told _ c.loop-note.invariant.told
+      counted = subst (AreNotes c.args.bytes.now) (sym c.in_ok-add.ensures.ok)
+          (notes_more c.args.bytes.now c.loop-note.counted _ c.loop-note.invariant.counted
           (note_again c.args.bytes.now c.in-Some.note c.count_inside-inside.result are.0));
       left = are.1;
     }

@@ -4,7 +4,7 @@ use Rattle.wap_good.proofs.notes.with_inside.Given as goal
 
 abbrev pub invariant-loop-note : goal.invariant-loop-note
 invariant-loop-note l = record {
-  told : AreNotes l.bytes l.told;
+  counted : AreNotes l.bytes l.counted;
   left : AreNotes l.bytes l.left;
 }
 

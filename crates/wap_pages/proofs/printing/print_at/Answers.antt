@@ -11,7 +11,7 @@ returns-in_err-write_all g c =
     Wrote-stops (g.O.Sink.written c.args.out.now) (g.O.Sink.written c.write_all.new.out)
     (g.O.Sink.faults c.args.out.now) (g.O.Sink.faults c.write_all.new.out)
     c.args.name.now (32 ∷ path_text c.args.path.now)
-    c.from_residual.result failed.front failed.faults failed.failed left.0 left.1
+    c.from_residual.result failed.prefix failed.faults failed.failed left.0 left.1
 
 pub returns : goal.returns
 returns g c =

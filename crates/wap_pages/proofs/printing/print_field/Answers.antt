@@ -17,7 +17,7 @@ returns g c =
     (c.as_bytes.ensures.value ∙ c.format.ensures.text)
     (record {
       whole = c.write_all-2.ensures.whole;
-      prefix = c.write_all-2.ensures.front;
+      prefix = c.write_all-2.ensures.prefix;
       steady = c.write_all-2.ensures.steady;
       counts = c.write_all-2.ensures.faults;
       failed = c.write_all-2.ensures.failed;

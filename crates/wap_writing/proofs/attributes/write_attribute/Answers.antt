@@ -6,7 +6,7 @@ use Rattle.wap_markup.specs.Writing.{whole_code}
 use Rattle.wap_spelling.specs.Names.{place_of}
 use Rattle.wap_spelling.specs.Writings.{plain, each}
 use Rattle.wap_spelling.specs.inside.Written.{written}
-use Rattle.wap_writing.specs.Parts.{part_spelling}
+use Rattle.wap_writing.specs.inside.Parts.{part_spelling}
 use Rattle.wap_writing.proofs.Starts.{by_own, by_whole, by_name}
 use Rattle.wap_writing.proofs.attributes.write_attribute.Goals as goal
 

@@ -9,7 +9,7 @@ use Rattle.wap_spelling.specs.Writings.{plain, each, ended}
 use Rattle.wap_spelling.specs.Spelling.{bit, attr_spelling, kid_spelling, element_spelling}
 use Rattle.wap_spelling.specs.inside.Written.{written}
 use Rattle.wap_spelling.proofs.Appending.{each_none, each_step}
-use Rattle.wap_writing.specs.Parts.{part_spelling, content_bit, has_any}
+use Rattle.wap_writing.specs.inside.Parts.{part_spelling, content_bit, has_any}
 use Rattle.wap_writing.proofs.Content.{code_small, bit_within, content_within, bits_are}
 use Rattle.wap_writing.proofs.Content.{text_written, none_written, node_written, items_written}
 use Rattle.wap_writing.proofs.Content.{end_none, end_some, element_written}

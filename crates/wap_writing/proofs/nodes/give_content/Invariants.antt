@@ -1,6 +1,6 @@
 use Rattle.std.proofs.Common.{◌≡◌, drop}
 use Rattle.wap_markup.specs.Writing.{items_kids, node_kids}
-use Rattle.wap_writing.specs.Parts.{has_any}
+use Rattle.wap_writing.specs.inside.Parts.{has_any}
 use Rattle.wap_writing.proofs.nodes.give_content.Given as goal
 
 -- what is left tells it

@@ -1,7 +1,7 @@
 use Rattle.std.proofs.Common.{ap, ◌∙◌, sym}
 use Rattle.wap_base.specs.declared.name.Part.{Part}
 use Rattle.wap_markup.specs.Writing.{part_kids}
-use Rattle.wap_writing.specs.Parts.{has_any}
+use Rattle.wap_writing.specs.inside.Parts.{has_any}
 use Rattle.wap_writing.proofs.Emptiness.{literal_gives}
 use Rattle.wap_writing.proofs.texts.gives.Goals as goal
 

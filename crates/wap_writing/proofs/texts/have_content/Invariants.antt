@@ -1,7 +1,7 @@
 use Rattle.std.proofs.Common.{◌≡◌, drop}
 use Rattle.std.specs.List.{flat_map}
 use Rattle.wap_markup.specs.Writing.{part_kids}
-use Rattle.wap_writing.specs.Parts.{has_any}
+use Rattle.wap_writing.specs.inside.Parts.{has_any}
 use Rattle.wap_writing.proofs.texts.have_content.Given as goal
 
 -- what is left tells it

@@ -1,7 +1,7 @@
 use Rattle.std.proofs.Common.{List, ℕ, Option, Some, ap, ◌∙◌, sym}
 use Rattle.wap_spelling.specs.Writings.{each}
 use Rattle.wap_spelling.specs.inside.Written.{written}
-use Rattle.wap_writing.specs.Parts.{run_spelling}
+use Rattle.wap_writing.specs.inside.Parts.{run_spelling}
 use Rattle.wap_writing.proofs.Lists.{each_one}
 use Rattle.wap_writing.proofs.texts.write_literal.Goals as goal
 
@@ -10,4 +10,4 @@ returns-then-is_string c =
     c.in_ok-write_text.ensures
     ∙ each_one run_spelling (Some c.args.text.now) c.args.output.now
     ∙ ap (λ (runs : List (Option (List ℕ))). written (each run_spelling runs) c.args.output.now)
-    (sym (c.is_string.ensures c.if-is_string.true))
+    (sym (c.is_string.ensures.0 c.if-is_string.true))

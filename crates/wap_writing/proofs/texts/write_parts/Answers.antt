@@ -1,5 +1,5 @@
 use Rattle.wap_spelling.proofs.Appending.{each_none, each_step}
-use Rattle.wap_writing.specs.Parts.{part_spelling}
+use Rattle.wap_writing.specs.inside.Parts.{part_spelling}
 use Rattle.wap_writing.proofs.texts.write_parts.Goals as goal
 
 pub loop-part-init : goal.loop-part-init

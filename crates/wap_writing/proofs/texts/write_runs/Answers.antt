@@ -1,5 +1,5 @@
 use Rattle.wap_spelling.proofs.Appending.{each_none, each_step}
-use Rattle.wap_writing.specs.Parts.{run_spelling}
+use Rattle.wap_writing.specs.inside.Parts.{run_spelling}
 use Rattle.wap_writing.proofs.texts.write_runs.Goals as goal
 
 pub loop-run-init : goal.loop-run-init

@@ -16,12 +16,12 @@ loop-bit-init c =
 pub loop-bit-preserved : goal.loop-bit-preserved
 loop-bit-preserved c =
     c.loop-bit.invariant
-    ∙ stepped (part_of c.in-Some.bit) c.loop-bit.left.now c.in-Some-behind.rest
+    ∙ stepped (part_of c.in-Some.bit) c.loop-bit.left.now c.in-Some-rest_after.rest
     c.loop-bit.bit-iterator c.next.new.self c.in-Some.ensures.steps.together
-    c.in-Some-behind.ensures
+    c.in-Some-rest_after.ensures
 
-pub returns-in-None-behind : goal.returns-in-None-behind
-returns-in-None-behind c =
+pub returns-in-None-rest_after : goal.returns-in-None-rest_after
+returns-in-None-rest_after c =
     sym (c.loop-bit.invariant ∙ missed (part_of c.in-Some.bit) c.loop-bit.left.now
     c.loop-bit.bit-iterator c.next.new.self c.in-Some.ensures.steps.together
-    c.in-None-behind.ensures)
+    c.in-None-rest_after.ensures)

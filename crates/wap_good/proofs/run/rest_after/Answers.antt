@@ -6,7 +6,7 @@ use Rattle.wap_base.specs.declared.name.Part.TheVariants.{Lit}
 use Rattle.wap_good.specs.declared.bits.Bit.{Bit}
 use Rattle.wap_good.specs.Runs.{part_of, TakesPart}
 use Rattle.wap_good.proofs.Compared.{slice_taken}
-use Rattle.wap_good.proofs.run.behind.Goals as goal
+use Rattle.wap_good.proofs.run.rest_after.Goals as goal
 
 pub returns-in-Slice : goal.returns-in-Slice
 returns-in-Slice c =
