@@ -16,8 +16,11 @@ use wap_markup::{AttrName, LEVEL_LIMIT, RULES, Tag};
 /// A text, or an element that begins or ends.
 #[derive(Drop)]
 pub enum Mark<'a> {
+    /// A text that shows.
     Words(Run<'a>),
+    /// An element begins; what it holds follows, where its content shows.
     Begins(View<'a>),
+    /// An element ends.
     Ends(View<'a>),
 }
 

@@ -1,4 +1,4 @@
-//! The dos of a card (WAP-191, sections 9.4 and 9.6).
+//! The dos of a card (WAP-191, sections 9.6 and 9.7).
 ghost use Rattle.std.specs.Prelude.{◌≡◌, ◌++◌, [], not, filter, find, is_some, IfOk, OnOk, ℕ, List};
 ghost use Rattle.std.specs.List.{list_any};
 ghost use Rattle.std.specs.Option.{option_map_or};

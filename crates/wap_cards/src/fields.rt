@@ -1,4 +1,4 @@
-//! The fields of a card (WAP-191, sections 9.7 and 11.6).
+//! The fields of a card (WAP-191, sections 9.8, 9.9 and 11.6).
 ghost use Rattle.std.specs.Prelude.{◌≡◌, filter, IfOk};
 ghost use Rattle.wap_cardrules.specs.Fields.{is_field, fields_of, numbered};
 ghost use Rattle.wap_cardrules.specs.Fields.{task_of_link, link_task};
@@ -42,10 +42,7 @@ pub fn numbered_view<'a>(views: &[View<'a>], number: u16) -> Option<View<'a>>
     if number == 0 {
         return None;
     }
-    match views.get(usize::from(number) - 1) {
-        Some(view) => Some(view.again()),
-        None => None,
-    }
+    views.get(usize::from(number) - 1).map(|view| view.again())
 }
 
 /// The task of a link, filled.

@@ -14,14 +14,14 @@ mod timers;
 mod titles;
 mod values;
 
-pub use content::{Mark, content_of, elements_of, is_among};
+pub use content::{Mark, content_of};
 pub use dos::{active_dos, do_task};
-pub use events::{binding, onpick, template_of};
+pub use events::{binding, onpick};
 pub use fields::{fields_of, is_field, link_task, numbered_view};
 pub use filling::{fill, fill_value, value_if};
 pub use numbers::number_in;
-pub use tasks::{first_with, go_to, is_filled, task_in, task_of};
+pub use tasks::{first_with, is_filled};
 pub use texts::Texts;
 pub use timers::{text_under, timer_of};
 pub use titles::title;
-pub use values::{is_true, is_word, plain_text, plain_value, variable_in};
+pub use values::{is_true, is_word, plain_value, variable_in};

@@ -16,19 +16,17 @@ use Rattle.wap_world.specs.declared.history.Entry.{Entry}
 use Rattle.wap_world.specs.declared.refusal.Refusal.{Refusal}
 use Rattle.wap_world.specs.declared.refusal.Refusal.TheVariants as refusals
 use Rattle.wap_world.specs.World.{World, Place, place_now}
-use Rattle.wap_world.specs.Steps.{Scene, Once, and_then, quiet, settled}
+use Rattle.wap_world.specs.Steps.{Once}
 use Rattle.wap_world.specs.Requests.{Request, plain_get, request_of, ask}
 use Rattle.wap_world.specs.History.{earlier_entry}
-use Rattle.wap_world.specs.Screens.{at_place}
 use Rattle.wap_world.specs.Urls.{target_of, is_same_page}
 use Rattle.wap_world.specs.Tasks.{after_step, refused, with_deck, with_url, try_deck, return}
 use Rattle.wap_world.specs.Tasks.{arrive, request, ask_back, stay_or_ask, back_from, back_to}
 use Rattle.wap_world.specs.Tasks.{is_here, here_with, card_here, url_now, go, open_url, prev}
-use Rattle.wap_world.specs.Tasks.{with_turn, task_once, refresh_place}
+use Rattle.wap_world.specs.Tasks.{with_turn, task_once}
 use Rattle.wap_context.specs.Browsers.{Browser, IsOver, place_held}
 use Rattle.wap_context.specs.inside.Held.{answered_at, returned_at, arrive_at, return_at}
 use Rattle.wap_context.specs.inside.Held.{refused_at, page_under, page_here}
-use Rattle.wap_context.specs.inside.Held.{leave_and_set_at, restart_place, refresh_at}
 use Rattle.wap_context.specs.inside.Moving.{Line, Moves, Answers, Asked, HasDeck, Takes}
 use Rattle.wap_context.proofs.Places.{held_now}
 use Rattle.wap_context.proofs.HeldDecks.{Page, page_of_place, under_has, here_has}
@@ -219,19 +217,6 @@ module _ (seen : Seen) (old new : Browser) (before : List Line) where
             ∙ return_is pages old over sets at page.1 (has pages over),
       ))
 
-  pub back_asks : (sets : Pairs) (earlier : Entry) (after : Seen) (shown : List Line)
-      (found : Option Page)
-      (result : Result (Option Task) RunErr)
-      → found ≡ page_under earlier.url (place_held old) → found ≡ None
-      → Takes (λ told world. ask_back told [] sets earlier world)
-      seen after old new before shown result
-      → Takes (Goes_back sets earlier) seen after old new before shown result
-  back_asks sets earlier after shown found result here is takes =
-      takes_from (Goes_back sets earlier)
-      (λ told world. ask_back told [] sets earlier world) seen after old new before shown result
-      (λ pages over. sym
-      (back_found pages over sets earlier found here ∙ ap (back_by pages sets earlier) is)) takes
-
 -- ---- a URL that was read
 
 module _ (pages : Pages) (old : Browser) (over : IsOver pages old) where
@@ -330,23 +315,3 @@ open_turn pages old mid text is spent =
 pub over_turn : (pages : Pages) (old mid : Browser) → mid ≡ less_turn old mid.world.turns
     → IsOver pages old → IsOver pages mid
 over_turn pages old mid is over = subst (IsOver pages) (sym is) over
-
-pub no_turn : (pages : Pages) (world : World) (next : World → Once) → world.turns ≡ 0
-    → with_turn pages [] world world.turns next ≡ refused pages [] refusals.Budget world
-no_turn pages world next is = ap (λ (t : ℕ). with_turn pages [] world t next) is
-
-refresh_by : (pages : Pages) (sets : Pairs) (w : World) (q p : Option Place) → place_now pages w ≡ q
-    → at_place (refresh_place pages sets) p w
-    ≡ at_place (λ one v. and_then (leave_and_set_at sets q v) (restart_place one)) p w
-refresh_by pages sets w q None is = refl
-refresh_by pages sets w q (Some one) is =
-    ap (λ (place : Option Place). and_then (leave_and_set_at sets place w) (restart_place one)) is
-
-pub refresh_is : (pages : Pages) (old : Browser) → IsOver pages old → (sets : Pairs)
-    → task_once pages [] old.world (task.Refresh sets)
-    ≡ settled (quiet [] (refresh_at sets (place_held old) old.world))
-refresh_is pages old over sets =
-    let now = held_now pages old over in
-    ap (λ (s : Scene). settled (quiet [] s))
-    (ap (λ (p : Option Place). at_place (refresh_place pages sets) p old.world) now
-    ∙ refresh_by pages sets old.world (place_held old) (place_held old) now)

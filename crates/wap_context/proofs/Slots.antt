@@ -1,10 +1,8 @@
 -- Slots of the history, each with an entry.
 use Rattle.std.proofs.Common.{◌≡◌, ◌∙◌, ℕ, List, [], ◌∷◌, ◌++◌, map, length, take}
 use Rattle.std.proofs.Common.{drop, Option, Some, refl, sym, ap}
-use Rattle.std.specs.List.{slice_get, remove}
-use Rattle.std.specs.Option.{option_map}
+use Rattle.std.specs.List.{remove}
 use Rattle.std.proofs.lemmas.List.{map-append, length-map, take-map}
-use Rattle.std.proofs.lemmas.Option.{slice_get-map}
 use Rattle.wap_world.specs.declared.history.Entry.{Entry}
 use Rattle.wap_context.specs.inside.History.{entries_in, AreFilled}
 
@@ -28,11 +26,6 @@ are_filled slots entries is = is ∙ ap (map Some) (sym (entries_of slots entrie
 
 pub filled_count : (slots : Slots) → AreFilled slots → length slots ≡ length (entries_in slots)
 filled_count slots is = ap length is ∙ length-map (entries_in slots) Some
-
-pub filled_get : (slots : Slots) (at : ℕ) → AreFilled slots
-    → slice_get slots at ≡ option_map Some (slice_get (entries_in slots) at)
-filled_get slots at is =
-    ap (λ (s : Slots). slice_get s at) is ∙ slice_get-map Some (entries_in slots) at
 
 pub filled_push : (slots after : Slots) (entry : Entry) → AreFilled slots
     → after ≡ slots ++ Some entry ∷ [] → after ≡ map Some (entries_in slots ++ entry ∷ [])

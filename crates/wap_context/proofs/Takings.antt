@@ -4,13 +4,13 @@ use Rattle.std.proofs.Common.{None, Ok, Err, refl, sym, ap, subst, append_assoc}
 use Rattle.std.specs.Prelude.{Result, IfSome, IfOk, OnOk, IsErr, IsErrAnd}
 use Rattle.std.proofs.lemmas.Bool.{false≢true}
 use Rattle.wap_base.specs.declared.fault.RunErr.{RunErr}
-use Rattle.wap_base.specs.declared.fault.RunErr.TheVariants.{Store, NoMemory}
+use Rattle.wap_base.specs.declared.fault.RunErr.TheVariants.{NoMemory}
 use Rattle.wap_url.specs.Printing.{name_for}
 use Rattle.wap_markup.specs.declared.deck.Deck.{Deck}
 use Rattle.wap_cardrules.specs.declared.task.Task.{Task}
 use Rattle.wap_site.specs.Pages.{Pages}
 use Rattle.wap_site.specs.Asking.{Seen, Stays, Asks, Fails}
-use Rattle.wap_site.proofs.Asking.{Asks-nil, Fails-more, Stays-same}
+use Rattle.wap_site.proofs.Asking.{Asks-nil, Stays-same}
 use Rattle.wap_world.specs.declared.refusal.Refusal.{Refusal}
 use Rattle.wap_world.specs.World.{World}
 use Rattle.wap_world.specs.Steps.{Once}
@@ -149,38 +149,6 @@ onces_from rule other seen after old mid new before shown result onto is spent s
   spends = spends_in old mid new result spent so.turns;
 }
 
--- a navigation that is settled
-pub onces_settled : (rule : Rule) (seen : Seen) (old new : Browser) (before shown : List Line)
-    (next : Option Task)
-    → next ≡ None → Takes rule seen seen old new before shown (Ok next)
-    → Onces rule seen seen old new before shown (Ok next)
-onces_settled rule seen old new before shown next is so = record {
-  follows = so.follows;
-  asks = so.asks;
-  steady = so.steady;
-  failed = so.failed;
-  rose = so.rose;
-  stays = so.stays;
-  spends = subst (Spends old new) (sym is) tt;
-}
-
-pub onces_rejected : (rule : Rule) (seen : Seen) (old new : Browser) (before shown : List Line)
-    (result : Result (Option Task) RunErr)
-    → IsErr result → IsErrAnd result (λ err. err ≡ NoMemory)
-    → Onces rule seen seen old new before shown result
-onces_rejected rule seen old new before shown (Ok next) is so = absurd (false≢true is)
-onces_rejected rule seen old new before shown (Err err) is so =
-    let takes = takes_err rule seen seen old new before shown err (Stays-same seen) so in
-    record {
-      follows = tt;
-      asks = tt;
-      steady = tt;
-      failed = takes.failed;
-      rose = takes.rose;
-      stays = takes.stays;
-      spends = tt;
-    }
-
 -- ---- a page that was asked for
 
 module _ (one : Request) where
@@ -218,34 +186,6 @@ module _ (one : Request) where
     stays = asked.stays;
     turns = moves.turns;
   }
-
-  -- the store failed
-  pub takes_failed : (rule : Rule) (seen after : Seen) (old new : Browser)
-      (before shown : List Line) (err : RunErr)
-      → Asked one seen after before shown (Err err)
-      → ((pages : Pages) → IsOver pages old
-      → (rest : List (List ℕ × Bool)) × ((rule pages old.world).step.asked ≡ first ++ rest))
-      → Takes rule seen after old new before shown (Err err)
-  takes_failed rule seen after old new before shown err asked is = record {
-    follows = tt;
-    asks = tt;
-    steady = tt;
-    failed = λ failed. over_all seen.contents old (λ pages over.
-        let rest = is pages over in
-        subst (λ (l : List (List ℕ × Bool)). Fails l seen after) (sym rest.1)
-        (Fails-more first rest.0 seen after (asked.failed (failed_as err failed))));
-    rose = λ failed. (asked.failed (failed_as err failed)).rose;
-    stays = asked.stays;
-    turns = tt;
-  } where
-    failed_as : (err : RunErr) → ◌≡◌ {A = Result (Option Task) RunErr} (Err err) (Err Store)
-        → ◌≡◌ {A = Result (Result Deck Refusal) RunErr} (Err err) (Err Store)
-    failed_as err is = cc
-
-pub takes_no_memory : (rule : Rule) (seen : Seen) (old new : Browser) (before shown : List Line)
-    → Takes rule seen seen old new before shown (Err NoMemory)
-takes_no_memory rule seen old new before shown =
-    takes_err rule seen seen old new before shown NoMemory (Stays-same seen) refl
 
 pub takes_rejected : (rule : Rule) (seen : Seen) (old new : Browser) (before shown : List Line)
     (result : Result (Option Task) RunErr)

@@ -1,6 +1,5 @@
 //! Asking for a page.
-ghost use Rattle.std.specs.Prelude.{◌≡◌, IfOk};
-ghost use Rattle.wap_url.specs.Printing.{name_for};
+ghost use Rattle.std.specs.Prelude.{◌≡◌};
 ghost use Rattle.wap_world.specs.Requests.{plain_get, deck_answer};
 ghost use Rattle.wap_context.specs.inside.Moving.{Asked};
 
@@ -23,18 +22,6 @@ fn deck_answer(page: Page) -> Result<Shared<GoodDeck>, Refusal>
     }
 }
 
-/// The store's name of a page; a URL without a host has that of an empty one.
-pub fn page_name(alloc: Global, url: &Url) -> Result<Text, NoMemory>
-    ensures { IfOk result (λ name. name ≡ name_for url.now) }
-{
-    if url.host.is_some() {
-        return name_of(alloc, url);
-    }
-    let mut page = url.copy(alloc)?;
-    page.host = Some(Text::new(alloc));
-    name_of(alloc, &page)
-}
-
 /// Adds the line of a request, and asks for the page.
 pub fn ask<P: Pages>(
     alloc: Global,
@@ -45,7 +32,7 @@ pub fn ask<P: Pages>(
     ensures { Asked request.now (P.seen pages.old) (P.seen pages.new) lines.old lines.new result }
 {
     lines.add(request_line(alloc, request)?)?;
-    let name = page_name(alloc, &request.url)?;
+    let name = name_of(alloc, &request.url)?;
     let page = pages.page(alloc, &name, request.fresh)?;
     Ok(deck_answer(page))
 }

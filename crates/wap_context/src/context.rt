@@ -19,7 +19,8 @@ use wap_vars::Vars;
 use wap_world::Timer;
 
 /// A browser's variables, history, timer and turns, and the deck of its current card. A contract
-/// sees its world and that deck.
+/// sees its world and that deck. After a call that ends with a fault it is not to be used further:
+/// what such a call leaves isn't said.
 #[derive(Drop)]
 pub struct Context {
     pub(crate) state: State,

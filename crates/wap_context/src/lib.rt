@@ -1,5 +1,5 @@
-//! The context of a browser: the variables, the history and the timer that decks share, and what
-//! tasks do to it.
+//! The context of a browser: the variables and the history that decks share, the timer of the
+//! current card, and what tasks do to these.
 #![tactic(auto)]
 
 mod asking;

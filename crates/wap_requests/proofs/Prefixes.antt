@@ -43,12 +43,17 @@ both true b P Q one two = (λ so. (one.0 refl, two.0 so), λ so. two.1 so.1)
 both false b P Q one two = (λ so. absurd (false≢true so), λ so. one.1 so.0)
 
 -- the test by calculation is the relation
-pub allows_is : (r : Bool) (access : Access) (caller : Url) → (IsTrue r ↔ IsAllowed access caller)
-    → r ≡ allows access caller
-allows_is r access caller is = same_from_decides r (allows access caller) is
-    (both (allows_host access caller) (allows_path access caller)
+pub allows_decides : (access : Access) (caller : Url)
+    → IsTrue (allows access caller) ↔ IsAllowed access caller
+allows_decides access caller =
+    both (allows_host access caller) (allows_path access caller)
     (IsSomeAnd caller.host
     (λ host. IsSuffix (labels (map to_ascii_lowercase access.domain)) (labels host)))
     (IsPrefix (access_segments access.path) (segments (below_root caller.path)))
     (host_decides access caller caller.host refl)
-    (prefix_decides (access_segments access.path) (segments (below_root caller.path))))
+    (prefix_decides (access_segments access.path) (segments (below_root caller.path)))
+
+pub allows_is : (r : Bool) (access : Access) (caller : Url) → (IsTrue r ↔ IsAllowed access caller)
+    → r ≡ allows access caller
+allows_is r access caller is =
+    same_from_decides r (allows access caller) is (allows_decides access caller)

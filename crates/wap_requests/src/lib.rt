@@ -4,11 +4,13 @@
 
 mod access;
 mod forms;
+mod laws;
 mod lines;
 mod requests;
 mod urls;
 
 pub use access::may_enter;
+pub use laws::access_is_by_labels_and_segments;
 pub use lines::request_line;
 pub use requests::{Request, plain_get, request_of};
 pub use urls::{is_same_page, target};

@@ -1,5 +1,4 @@
-//! The screen of a card, and the lines of refusals and variables. What these are stands in
-//! `wap_world`.
+//! The screen of a card, and the lines of refusals. What these are stands in `wap_world`.
 #![tactic(auto)]
 
 mod lines;

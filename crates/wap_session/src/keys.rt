@@ -166,7 +166,7 @@ fn go_back<P: Pages>(
     Ok(refusal_lines(alloc, Refusal::Ignored)?)
 }
 
-/// Lines, and then the screen of the current card alone.
+/// A refusal, and then the screen of the current card alone.
 fn then_screen(context: &Context, alloc: Global, refusal: Refusal) -> Result<Rows<Text>, NoMemory>
     ensures { IfOk result (λ lines. Shows context.now context.now lines
         (λ told world. behind (refusal_line refusal ∷ []) (show_screen told world))) }

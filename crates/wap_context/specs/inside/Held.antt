@@ -1,4 +1,5 @@
--- The rules over the place that a browser has at hand, in place of pages. It only carries proofs.
+-- The rules over the place that a browser has at hand, in place of pages. Contracts inside the
+-- crate cite them; those of its public calls don't. This project's own.
 use Rattle.std.specs.Prelude.{ℕ, Bool, true, false, if◌then◌else◌, slice_get, List, []}
 use Rattle.std.specs.Prelude.{◌∷◌, Option, Some, None, Result, Ok, Err}
 use Rattle.std.specs.Option.{option_map, option_and_then}
@@ -47,10 +48,6 @@ card_number browser = option_map (λ entry. entry.card) (last_entry browser.worl
 
 abbrev pub held : Browser → Option Held
 held browser = held_in browser.deck (card_number browser)
-
-abbrev pub at_held : (Held → World → Scene) → Option Held → World → Scene
-at_held rule None world = still world
-at_held rule (Some held) world = rule held world
 
 -- ---- scenes of a card
 

@@ -1,4 +1,5 @@
--- What the parts of a navigation come to. It only carries proofs.
+-- What the parts of a navigation come to. Contracts inside the crate cite it; those of its public
+-- calls don't. This project's own.
 use Rattle.std.specs.Prelude.{◌≡◌, ℕ, ◌+◌, List, [], ◌∷◌, ◌++◌, Option, Some}
 use Rattle.std.specs.Prelude.{None, IfSome, IfOk, OnOk, Result, Err}
 use Rattle.wap_base.specs.declared.fault.RunErr.{RunErr}

@@ -1,4 +1,5 @@
--- The passing of time over the place that a browser has at hand. It only carries proofs.
+-- The passing of time over the place that a browser has at hand. Contracts inside the crate cite
+-- it; those of its public calls don't. This project's own.
 use Rattle.std.specs.Prelude.{ℕ, [], Option, Some, None, is_some, if◌then◌else◌}
 use Rattle.wap_cardrules.specs.declared.event.Event.TheVariants as event
 use Rattle.wap_site.specs.Pages.{Pages}

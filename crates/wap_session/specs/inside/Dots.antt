@@ -1,4 +1,4 @@
--- Characters that are shown as dots.
+-- Characters that are shown as dots. This project's own.
 use Rattle.std.specs.Prelude.{ℕ, Bool, ◌||◌, ◌==◌, nat_lt}
 use Rattle.wap_base.specs.Ascii.{space, delete}
 

@@ -1,4 +1,4 @@
--- A key that asks for no pages, as a scene.
+-- A key that asks for no pages, as a scene. This project's own.
 use Rattle.std.specs.Prelude.{ℕ, List}
 use Rattle.std.specs.Option.{option_map_or}
 use Rattle.wap_site.specs.Pages.{Pages}

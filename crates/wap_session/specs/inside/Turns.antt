@@ -1,4 +1,4 @@
--- A key within a session.
+-- A key within a session. This project's own.
 use Rattle.std.specs.Prelude.{ℕ, []}
 use Rattle.wap_base.specs.declared.fault.RunErr.{RunErr}
 use Rattle.wap_base.specs.declared.fault.RunErr.TheVariants as run

@@ -1,4 +1,5 @@
-use Rattle.wap_world.proofs.Laws.{ignores_do, ignores_pick}
+use Rattle.wap_world_laws.proofs.Ignored.{ignores_do, ignores_pick, ignores_type, ignores_option}
+use Rattle.wap_world_laws.proofs.Ignored.{ignores_tick, ignores_dialog_keys, ignores_without_card}
 use Rattle.wap_world_laws.proofs.keys_that_fit_nothing_are_ignored.Goals as goal
 
 pub returns-clause-of_do : goal.returns-clause-of_do
@@ -6,3 +7,20 @@ returns-clause-of_do c = ignores_do
 
 pub returns-clause-of_link : goal.returns-clause-of_link
 returns-clause-of_link c = ignores_pick
+
+pub returns-clause-of_input : goal.returns-clause-of_input
+returns-clause-of_input c = ignores_type
+
+pub returns-clause-of_option : goal.returns-clause-of_option
+returns-clause-of_option c = ignores_option
+
+pub returns-clause-of_timer : goal.returns-clause-of_timer
+returns-clause-of_timer c = ignores_tick
+
+pub returns-clause-of_dialog : goal.returns-clause-of_dialog
+returns-clause-of_dialog c = λ pages keys world text.
+    let dialog = ignores_dialog_keys pages keys world in
+    (dialog.ok, dialog.cancel, dialog.answer text, dialog.stop)
+
+pub returns-clause-without_card : goal.returns-clause-without_card
+returns-clause-without_card c = ignores_without_card

@@ -1,0 +1,3 @@
+pub mod FieldNumbers
+pub mod Denied
+pub mod Ignored

@@ -1,0 +1,44 @@
+-- Keys that fit nothing, outside a dialog. This project's own.
+use Rattle.std.specs.Prelude.{◌≡◌, ℕ, Bool, true, false, List, Option}
+use Rattle.std.specs.Option.{option_and_then}
+use Rattle.wap_input.specs.declared.key.Key.{Key}
+use Rattle.wap_input.specs.declared.key.Key.TheVariants as key
+use Rattle.wap_markup.specs.declared.deck.Node.{Node}
+use Rattle.wap_markup.specs.declared.name.Tag.TheVariants as tags
+use Rattle.wap_cardrules.specs.Fields.{field_with, numbered}
+use Rattle.wap_cardrules.specs.Selects.{options_of}
+use Rattle.wap_site.specs.Pages.{Pages}
+use Rattle.wap_world.specs.declared.timer.Timer.{Timer}
+use Rattle.wap_world.specs.declared.timer.Timer.TheVariants.{NotStarted, Running, Off}
+use Rattle.wap_world.specs.World.{World}
+use Rattle.wap_world.specs.Steps.{quiet}
+use Rattle.wap_world.specs.Keys.{react, renewed, ignored}
+
+-- the key shows the line of an ignored key, and changes nothing but that it has its turns
+abbrev pub IsIgnored : Pages → Key → List Key → World → Type 0
+IsIgnored pages one keys world = react pages one keys world ≡ quiet keys (ignored (renewed world))
+
+-- whether a key is for a card: all but one that opens a URL and one that shows the variables
+abbrev pub is_for_card : Key → Bool
+is_for_card (key.Open url) = false
+is_for_card (key.Do name) = true
+is_for_card (key.Pick n) = true
+is_for_card (key.Enter n text) = true
+is_for_card (key.Choose n m) = true
+is_for_card key.Back = true
+is_for_card (key.Tick n) = true
+is_for_card key.Ok = true
+is_for_card key.Cancel = true
+is_for_card (key.Answer text) = true
+is_for_card key.Stop = true
+is_for_card key.Vars = false
+
+-- the option of a number, in the select of another
+abbrev pub option_with : Node → ℕ → ℕ → Option Node
+option_with card n m =
+    option_and_then (λ select. numbered (options_of select) m) (field_with tags.Select card n)
+
+abbrev pub is_running : Timer → Bool
+is_running NotStarted = false
+is_running (Running time) = true
+is_running Off = false
