@@ -10,6 +10,7 @@ ghost use Rattle.wap_base.specs.Pages.{IsSmall};
 
 use std::alloc::{AllocError, Global};
 use std::io::{ErrorKind, Read};
+use std::marker::Model;
 use std::path::Path;
 use std::rt::Files;
 use std::{fs, io};
@@ -33,9 +34,23 @@ pub struct FolderStore<R> {
     listings: u64,
 }
 
+impl<R> Model for FolderStore<R> {
+    ghost use Rattle.wap_system.specs.Adapters.{FolderState};
+
+    ghost Value = { FolderState };
+
+    ghost view = { λ store. record {
+      faults = store.faults;
+      fetches = store.fetches;
+      listings = store.listings;
+    } };
+}
+
 impl<R> FolderStore<R> {
     /// The store of a folder, which is looked at only when pages are asked for.
-    pub fn new(rt: R, folder: String) -> FolderStore<R> {
+    pub fn new(rt: R, folder: String) -> FolderStore<R>
+        ensures { result ≡ record { faults = 0; fetches = 0; listings = 0 } }
+    {
         FolderStore {
             rt,
             folder,
@@ -72,7 +87,7 @@ impl<R: Files + AllocGlobal + Clone + Drop> Store for FolderStore<R> {
 
     fn fetch(&mut self, name: &Text) -> Result<Fetched, StoreErr>
         ensures small { IfOk result IsSmall }
-        // No name leaves the folder.
+        // No step of a name leads out of the folder; a link to a file may.
         ensures inside { IfOk result (IsFoundInside (encode_utf8_all name.now)) }
         ensures outside { ¬ IsInside (encode_utf8_all name.now) → result ≡ Ok Fetched.Missing }
 
@@ -163,14 +178,12 @@ fn path_of<R: Files + AllocGlobal>(
     name: &str,
 ) -> Result<Option<String>, StoreErr> {
     let mut path = String::from_str(rt.alloc(), folder)?;
-    let mut is_in_folder = true;
     for segment in name.split('/') {
-        if !is_in_folder {
+        if path.len() > folder.len() && !is_folder(rt, path.as_str())? {
             return Ok(None);
         }
         path.push('/')?;
         path.push_str(segment)?;
-        is_in_folder = is_folder(rt, path.as_str())?;
     }
     Ok(Some(path))
 }
@@ -328,9 +341,9 @@ fn kind_of<R: Files>(rt: &R, path: Path<'_>) -> Result<Kind, StoreErr> {
 }
 
 /// Three texts in a row.
-fn join(alloc: Global, front: &str, middle: &str, end: &str) -> Result<String, AllocError> {
-    let mut joined = String::from_str(alloc, front)?;
-    joined.push_str(middle)?;
-    joined.push_str(end)?;
+fn join(alloc: Global, first: &str, second: &str, third: &str) -> Result<String, AllocError> {
+    let mut joined = String::from_str(alloc, first)?;
+    joined.push_str(second)?;
+    joined.push_str(third)?;
     Ok(joined)
 }

@@ -6,6 +6,7 @@ ghost use Rattle.wap_base.specs.Count.{raised};
 ghost use Rattle.wap_base.specs.Transfer.{ends_after};
 
 use std::io::Read;
+use std::marker::Model;
 use wap_base::{Failed, Source};
 
 /// The most bytes that one read takes.
@@ -20,9 +21,23 @@ pub struct StdinSource<I> {
     ends: u64,
 }
 
+impl<I> Model for StdinSource<I> {
+    ghost use Rattle.wap_system.specs.Adapters.{ReaderState};
+
+    ghost Value = { ReaderState I };
+
+    ghost view = { λ source. record {
+      reader = source.reader;
+      faults = source.faults;
+      ends = source.ends;
+    } };
+}
+
 impl<I> StdinSource<I> {
     /// The source of the bytes that the reader still has.
-    pub fn new(reader: I) -> StdinSource<I> {
+    pub fn new(reader: I) -> StdinSource<I>
+        ensures { result ≡ record { reader = reader; faults = 0; ends = 0 } }
+    {
         StdinSource {
             reader,
             faults: 0,

@@ -4,6 +4,7 @@ ghost use Rattle.std.specs.Io.KnownBytes.{WriteAppends};
 ghost use Rattle.wap_system.specs.Writes.{faults_after};
 
 use std::io::Write;
+use std::marker::Model;
 use wap_base::{Failed, Sink};
 
 /// Standard output, or what else is written to. It tells no bytes, since they leave the program. A
@@ -14,9 +15,19 @@ pub struct StdoutSink<O> {
     faults: u64,
 }
 
+impl<O> Model for StdoutSink<O> {
+    ghost use Rattle.wap_system.specs.Adapters.{WriterState};
+
+    ghost Value = { WriterState O };
+
+    ghost view = { λ sink. record { writer = sink.writer; faults = sink.faults } };
+}
+
 impl<O> StdoutSink<O> {
     /// The sink of the bytes that the writer takes.
-    pub fn new(writer: O) -> StdoutSink<O> {
+    pub fn new(writer: O) -> StdoutSink<O>
+        ensures { result ≡ record { writer = writer; faults = 0 } }
+    {
         StdoutSink { writer, faults: 0 }
     }
 }
