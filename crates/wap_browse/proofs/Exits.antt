@@ -3,7 +3,7 @@ use Rattle.std.proofs.Common.{◌≡◌, ◌≢◌, ℕ, ◌≤◌, List, [], �
 use Rattle.std.proofs.Common.{refl, sym, ap, subst, inl, map, ◌∙◌, arith}
 use Rattle.std.specs.Prelude.{IfSome}
 use Rattle.wap_base.specs.Count.{Rose}
-use Rattle.wap_base.specs.Transfer.{Appends, AppendsFront}
+use Rattle.wap_base.specs.Transfer.{Appends, AppendsPrefix}
 use Rattle.wap_input.specs.declared.key.Key.{Key}
 use Rattle.wap_input.specs.declared.key.Key.TheVariants.{Open}
 use Rattle.wap_keys.specs.declared.fault.KeyFault.{KeyFault}
@@ -285,9 +285,9 @@ stopped_by begun old now reader state key new status goes written ends store rea
 front_unwritten : (pages : Pages) (begun : Begun) (pressed given all : List Key) (key : Key)
     (old now : Outside) (state : State) (written : Option (List ℕ))
     → Pressing begun pressed given all key → Stands pages begun pressed old now state
-    → written ≡ now.written → AppendsFront old.written written (transcript pages begun all)
+    → written ≡ now.written → AppendsPrefix old.written written (transcript pages begun all)
 front_unwritten pages begun pressed given all key old now state written so stands unwritten =
-    subst (λ (w : Option (List ℕ)). AppendsFront old.written w (transcript pages begun all))
+    subst (λ (w : Option (List ℕ)). AppendsPrefix old.written w (transcript pages begun all))
     (sym unwritten)
     (front_of pages begun pressed all old.written now.written
     (pressed_first begun pressed given all key so)

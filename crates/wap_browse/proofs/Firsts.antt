@@ -3,7 +3,7 @@ use Rattle.std.proofs.Common.{◌≡◌, ℕ, ◌+◌, ◌-◌, ◌≤◌, List,
 use Rattle.std.proofs.Common.{Option, sym, ap, ◌∙◌, append_assoc, arith}
 use Rattle.std.proofs.Math.Seq.{take-append-add}
 use Rattle.std.proofs.lemmas.List.{append-nil, take_at, length-append}
-use Rattle.wap_base.specs.Transfer.{Appends, AppendsFront}
+use Rattle.wap_base.specs.Transfer.{Appends, AppendsPrefix}
 use Rattle.wap_input.specs.declared.key.Key.{Key}
 use Rattle.wap_input.specs.declared.key.Key.TheVariants.{Open}
 use Rattle.wap_keys.specs.Read.{AreFirst, IsPrompt}
@@ -70,7 +70,7 @@ steps_of pages begun pressed all count many (others, split) =
 -- ---- bytes
 
 pub front_more : (before after : Option (List ℕ)) (bytes more all : List ℕ)
-    → all ≡ bytes ++ more → AppendsFront before after bytes → AppendsFront before after all
+    → all ≡ bytes ++ more → AppendsPrefix before after bytes → AppendsPrefix before after all
 front_more before after bytes more all is (front, rest, split, wrote) = (
   front,
   rest ++ more,
@@ -79,14 +79,14 @@ front_more before after bytes more all is (front, rest, split, wrote) = (
 )
 
 pub front_whole : (before after : Option (List ℕ)) (bytes : List ℕ)
-    → Appends before after bytes → AppendsFront before after bytes
+    → Appends before after bytes → AppendsPrefix before after bytes
 front_whole before after bytes wrote = (bytes, [], sym (append-nil bytes), wrote)
 
 -- a prefix of the bytes of first keys is one of the transcript over all
 pub front_of : (pages : Pages) (begun : Begun) (pressed all : List Key)
     (before after : Option (List ℕ)) → AreFirst pressed (Open begun.url ∷ all)
-    → AppendsFront before after (lines_bytes (shown_by (played pages pressed (world_of begun))))
-    → AppendsFront before after (transcript pages begun all)
+    → AppendsPrefix before after (lines_bytes (shown_by (played pages pressed (world_of begun))))
+    → AppendsPrefix before after (transcript pages begun all)
 front_of pages begun pressed all before after (others, split) front =
     let world = world_of begun in
     let step = played pages pressed world in

@@ -2,7 +2,7 @@
 use Rattle.std.proofs.Common.{◌≡◌, ℕ, ◌+◌, ◌≤◌, List, [], ◌∷◌, ◌++◌, length, take, Option}
 use Rattle.std.proofs.Common.{refl, sym, ap, subst, ◌∙◌, append_assoc, arith}
 use Rattle.std.specs.Prelude.{IfSome}
-use Rattle.wap_base.specs.Transfer.{Appends, AppendsFront}
+use Rattle.wap_base.specs.Transfer.{Appends, AppendsPrefix}
 use Rattle.wap_base.proofs.Transfers.{Appends-then}
 use Rattle.wap_input.specs.declared.key.Key.{Key}
 use Rattle.wap_input.specs.declared.key.Key.TheVariants.{Open}
@@ -123,7 +123,7 @@ AsksStep old new step = IfSome old.pages.cache (λ cache. new.pages.fetches
     ≡ raised_by (misses step.asked cache) old.pages.fetches)
 
 part_behind : (before now after : Option (List ℕ)) (first one both : List ℕ)
-    → both ≡ first ++ one → Appends before now first → AppendsFront now after one
+    → both ≡ first ++ one → Appends before now first → AppendsPrefix now after one
     → WritesPart before after first both
 part_behind before now after first one both is wrote (front, rest, split, more) = record {
   part = front;
@@ -133,7 +133,7 @@ part_behind before now after first one both is wrote (front, rest, split, more) 
 }
 
 pub part_front : (before after : Option (List ℕ)) (first both : List ℕ)
-    → WritesPart before after first both → AppendsFront before after both
+    → WritesPart before after first both → AppendsPrefix before after both
 part_front before after first both so = (
   first ++ so.part,
   so.rest,

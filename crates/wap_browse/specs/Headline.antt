@@ -1,7 +1,7 @@
 -- What browsing comes to: what is written, what is asked for, and how it ends. This project's own.
 use Rattle.std.specs.Prelude.{◌≡◌, ◌≢◌, ℕ, ◌+◌, ◌≤◌, List, ◌++◌, Some, IfSome}
 use Rattle.wap_base.specs.Count.{Rose}
-use Rattle.wap_base.specs.Transfer.{AppendsFront}
+use Rattle.wap_base.specs.Transfer.{AppendsPrefix}
 use Rattle.wap_keys.specs.declared.limits.TheConstants.{KEYS_LIMIT}
 use Rattle.wap_keys.specs.declared.fault.KeyFault.{KeyFault}
 use Rattle.wap_keys.specs.declared.ending.Ending.TheVariants as ending
@@ -25,7 +25,7 @@ use Rattle.wap_browse.specs.Endings.{ended}
 pub record Shows (pages : Pages) (begun : Begun) (bytes taken rest : List ℕ) (old new : Outside)
     (status : Status) : Type 0 where
   -- with any status no more than a prefix of the transcript over all keys
-  pub prefix : AppendsFront old.written new.written (transcript pages begun (keys_of bytes).keys)
+  pub prefix : AppendsPrefix old.written new.written (transcript pages begun (keys_of bytes).keys)
   -- the transcript over all keys
   pub done : status ≡ Done → IsPlayed pages begun (keys_of bytes).keys old new
   -- the transcript over the keys before the line that is no key line, or the byte that is too many

@@ -1,27 +1,21 @@
 -- What a command on one page comes to, by what the calls below answered.
 use Rattle.std.proofs.Common.{◌≡◌, ◌≢◌, ◌≤◌, arith, ℕ, List, Option, Some}
-use Rattle.std.proofs.Common.{None, Result, Ok, Err, refl}
+use Rattle.std.proofs.Common.{Result, Ok, Err, refl}
 use Rattle.std.specs.Prelude.{OnOk, OnErr}
-use Rattle.wap_base.specs.Contents.{answer_of}
 use Rattle.wap_base.specs.Count.{Rose}
-use Rattle.wap_base.specs.Transfer.{Appends, AppendsFront}
+use Rattle.wap_base.specs.Transfer.{Appends, AppendsPrefix}
 use Rattle.wap_words.specs.declared.words.PageCommand.{PageCommand}
 use Rattle.wap_pages.specs.declared.fault.PageFault.{PageFault}
-use Rattle.wap_pages.specs.declared.fault.PageFault.TheVariants.{Missing}
 use Rattle.wap_pages.specs.declared.fault.PageErr.{PageErr}
 use Rattle.wap_pages.specs.declared.fault.PageErr.TheVariants as error
 use Rattle.wap_status.specs.declared.status.Status.TheVariants.{Refused, NoMemory}
-use Rattle.wap_cli.specs.Answers.{IsText, IsReason, Answers, page_of, refused_by, written_so}
-
-pub page_answered : (page : Option (List ℕ)) → page_of (answer_of page) ≡ page
-page_answered None = refl
-page_answered (Some bytes) = refl
+use Rattle.wap_cli.specs.Answers.{IsText, IsReason, Answers, refused_by, written_so}
 
 module _ (command : PageCommand) (bytes : List ℕ) (before after : Option (List ℕ))
     (faults rest : ℕ) where
   -- its text was written, or the sink failed
   pub answers_text : {A E : Type 0} (wrote : Result A E) (text : List ℕ) → IsText command bytes text
-      → OnOk wrote (Appends before after text) → OnErr wrote (AppendsFront before after text)
+      → OnOk wrote (Appends before after text) → OnErr wrote (AppendsPrefix before after text)
       → OnOk wrote (rest ≡ faults) → faults ≤ rest → OnErr wrote (Rose faults rest)
       → Answers command (Some bytes) before after faults rest (written_so wrote)
   answers_text (Ok x) text is whole prefix steady counts failed = record {
@@ -78,39 +72,6 @@ module _ (command : PageCommand) (bytes : List ℕ) (before after : Option (List
     ends = tt;
     told = λ e. absurd cc;
   }
-
-module _ (command : PageCommand) (page : Option (List ℕ)) (before : Option (List ℕ))
-    (faults : ℕ) where
-  -- memory ran out before the page was there
-  pub answers_no_memory : Answers command page before before faults faults NoMemory
-  answers_no_memory = record {
-    done = λ e. absurd cc;
-    refused = λ fault e. absurd cc;
-    accepted = λ text fault has e. absurd cc;
-    prefix = λ e. absurd cc;
-    failed = λ e. absurd cc;
-    quiet = λ undone other. refl;
-    steady = λ e. refl;
-    counts = omega arith;
-    ends = tt;
-    told = λ e. absurd cc;
-  }
-
--- there is no page
-pub answers_missing : (command : PageCommand) (before : Option (List ℕ)) (faults : ℕ)
-    → Answers command None before before faults faults (Refused Missing)
-answers_missing command before faults = record {
-  done = λ e. absurd cc;
-  refused = λ fault e. cc;
-  accepted = λ text fault has e. has;
-  prefix = λ e. absurd cc;
-  failed = λ e. absurd cc;
-  quiet = λ undone other. refl;
-  steady = λ e. refl;
-  counts = omega arith;
-  ends = tt;
-  told = λ e. absurd cc;
-}
 
 -- a value isn't an error
 pub no_value : {X : Type 0} (x : X) (why : PageErr)

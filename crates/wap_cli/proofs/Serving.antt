@@ -1,18 +1,17 @@
 -- What a run comes to where memory runs out before anything is done.
 use Rattle.std.proofs.Common.{ℕ, List, Option, Some, None, inl, inr, refl, arith}
-use Rattle.wap_base.specs.Contents.{page_named}
+use Rattle.wap_base.specs.Contents.{Contents, page_named}
 use Rattle.wap_words.specs.declared.words.Command.{Command}
 use Rattle.wap_words.specs.declared.words.Command.TheVariants.{Browse, Page}
 use Rattle.wap_words.specs.declared.words.PageCommand.{PageCommand}
 use Rattle.wap_status.specs.declared.status.Status.TheVariants.{NoMemory}
-use Rattle.wap_browse.proofs.Optional.{if_some}
 use Rattle.wap_browse.proofs.Exits.{nothing_browses}
 use Rattle.wap_browse.proofs.Summary.{browses_by}
-use Rattle.wap_cli.specs.Answers.{Answers}
+use Rattle.wap_cli.specs.Answers.{IsPageOf, Answers}
 use Rattle.wap_cli.specs.Devices.{Devices, browsed}
 use Rattle.wap_cli.specs.Headline.{begun_by, Serves, Runs}
 
-nothing_answered : (command : PageCommand) (page : Option (List ℕ)) (written : Option (List ℕ))
+pub nothing_answered : (command : PageCommand) (page : Option (List ℕ)) (written : Option (List ℕ))
     (faults : ℕ) → Answers command page written written faults faults NoMemory
 nothing_answered command page written faults = record {
   done = λ e. absurd cc;
@@ -27,18 +26,29 @@ nothing_answered command page written faults = record {
   told = λ e. absurd cc;
 }
 
+-- the page that contents have, and none where they aren't told
+abbrev pub page_in : Option Contents → List ℕ → Option (List ℕ)
+page_in None name = None
+page_in (Some pages) name = page_named name pages
+
+pub page_there : (contents : Option Contents) (name : List ℕ)
+    → IsPageOf contents name (page_in contents name)
+page_there None name = tt
+page_there (Some pages) name = refl
+
 nothing_served : (command : PageCommand) (name : List ℕ) (old : Devices)
     → Serves command name old old NoMemory
 nothing_served command name old = record {
-  told = λ other. if_some old.contents
-      (λ pages. Answers command (page_named name pages) old.written old.written
-      old.write_faults old.write_faults NoMemory)
-      (λ pages told. nothing_answered command (page_named name pages) old.written
-      old.write_faults);
+  told = λ other.
+      let page = page_in old.contents name in (
+        page,
+        page_there old.contents name,
+        nothing_answered command page old.written old.write_faults,
+      );
   ends = tt;
   store_fault = λ e. absurd cc;
   write_fault = λ e. absurd cc;
-  unwritten = λ e. refl;
+  unwritten = λ undone other. refl;
   store_steady = λ read remembered. refl;
   write_steady = λ e. refl;
   asked = λ other. absurd (other refl);

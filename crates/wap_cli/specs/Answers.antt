@@ -1,9 +1,11 @@
 -- What a command on one page comes to: verify, list, check and canon. This project's own.
-use Rattle.std.specs.Prelude.{◌≡◌, ◌≢◌, ◌≤◌, ℕ, List, Option, Some, None, Result, Ok, Err}
+use Rattle.std.specs.Prelude.{◌≡◌, ◌≢◌, ◌≤◌, ℕ, List, Option, Some, None, IfSome, Result, Ok}
+use Rattle.std.specs.Prelude.{Err}
 use Rattle.wap_base.specs.declared.store.Fetched.{Fetched}
 use Rattle.wap_base.specs.declared.store.Fetched.TheVariants as fetched
+use Rattle.wap_base.specs.Contents.{Contents, page_named}
 use Rattle.wap_base.specs.Count.{Rose}
-use Rattle.wap_base.specs.Transfer.{Appends, AppendsFront}
+use Rattle.wap_base.specs.Transfer.{Appends, AppendsPrefix}
 use Rattle.wap_words.specs.declared.words.PageCommand.{PageCommand}
 use Rattle.wap_words.specs.declared.words.PageCommand.TheVariants as command
 use Rattle.wap_pages.specs.declared.fault.PageErr.{PageErr}
@@ -41,6 +43,10 @@ abbrev pub IsReasonOf : PageCommand → Option (List ℕ) → PageFault → Type
 IsReasonOf command None fault = fault ≡ Missing
 IsReasonOf command (Some bytes) fault = IsReason command bytes fault
 
+-- the page of a name, which a store that tells its contents has among them
+abbrev pub IsPageOf : Option Contents → List ℕ → Option (List ℕ) → Type 0
+IsPageOf contents name page = IfSome contents (λ pages. page ≡ page_named name pages)
+
 -- what the store answered
 abbrev pub page_of : Fetched → Option (List ℕ)
 page_of fetched.Missing = None
@@ -58,8 +64,7 @@ IsOfPage NoMemory = Unit {0}
 IsOfPage (BadKey line fault) = ⊥
 IsOfPage TooManyKeys = ⊥
 
--- what a command comes to on a page of a store that tells its contents: the sink and its faults
--- before and after, and how it ended
+-- what a command comes to on a page: the sink and its faults before and after, and how it ended
 pub record Answers (command : PageCommand) (page : Option (List ℕ)) (before after : Option (List ℕ))
     (faults rest : ℕ)
     (status : Status) : Type 0 where
@@ -72,7 +77,7 @@ pub record Answers (command : PageCommand) (page : Option (List ℕ)) (before af
       → status ≢ Refused fault
   -- where the sink failed, a prefix of its text was written
   pub prefix : status ≡ WriteFault
-      → (text : List ℕ) × IsTextOf command page text × AppendsFront before after text
+      → (text : List ℕ) × IsTextOf command page text × AppendsPrefix before after text
   pub failed : status ≡ WriteFault → Rose faults rest
   -- and else nothing
   pub quiet : status ≢ Done → status ≢ WriteFault → after ≡ before

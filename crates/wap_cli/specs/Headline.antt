@@ -1,6 +1,5 @@
 -- What a run comes to, by its command. This project's own.
-use Rattle.std.specs.Prelude.{◌≡◌, ◌≢◌, ◌⊎◌, ℕ, ◌≤◌, List, Option, Some, None, IfSome}
-use Rattle.wap_base.specs.Contents.{page_named}
+use Rattle.std.specs.Prelude.{◌≡◌, ◌≢◌, ◌⊎◌, ℕ, ◌≤◌, List, Option, Some, None}
 use Rattle.wap_base.specs.Count.{raised, Rose}
 use Rattle.wap_base.specs.Limits.{default_limits}
 use Rattle.wap_words.specs.declared.words.Browse.{Browse as Browsing}
@@ -9,11 +8,11 @@ use Rattle.wap_words.specs.declared.words.Command.TheVariants.{Browse, Page}
 use Rattle.wap_words.specs.declared.words.PageCommand.{PageCommand}
 use Rattle.wap_world.specs.Sessions.{Begun}
 use Rattle.wap_status.specs.declared.status.Status.{Status}
-use Rattle.wap_status.specs.declared.status.Status.TheVariants.{Usage, StoreFault}
+use Rattle.wap_status.specs.declared.status.Status.TheVariants.{Done, Usage, StoreFault}
 use Rattle.wap_status.specs.declared.status.Status.TheVariants.{WriteFault, NoMemory}
 use Rattle.wap_status.specs.Statuses.{IsOrWants}
 use Rattle.wap_browse.specs.Headline.{Browses}
-use Rattle.wap_cli.specs.Answers.{IsOfPage, Answers}
+use Rattle.wap_cli.specs.Answers.{IsOfPage, IsPageOf, Answers}
 use Rattle.wap_cli.specs.Devices.{Devices, browsed}
 
 -- what a command browses; the limits can't be chosen yet
@@ -24,14 +23,15 @@ begun_by one =
 -- a command on the page of a name
 pub record Serves (command : PageCommand) (name : List ℕ) (old new : Devices) (status : Status)
     : Type 0 where
-  -- its text was written, or it was refused for a reason, where the store tells its contents
-  pub told : status ≢ StoreFault → IfSome old.contents (λ pages. Answers command
-      (page_named name pages) old.written new.written old.write_faults new.write_faults status)
+  -- its text was written, or it was refused for a reason, on the page that the store answered
+  pub told : status ≢ StoreFault → (page : Option (List ℕ)) × IsPageOf old.contents name page
+      × Answers command page old.written new.written old.write_faults new.write_faults status
   pub ends : IsOfPage status
   -- these statuses come only where a count of faults rose
   pub store_fault : status ≡ StoreFault → Rose old.store_faults new.store_faults
   pub write_fault : status ≡ WriteFault → Rose old.write_faults new.write_faults
-  pub unwritten : status ≡ StoreFault → new.written ≡ old.written
+  -- but on Done and WriteFault nothing was written
+  pub unwritten : status ≢ Done → status ≢ WriteFault → new.written ≡ old.written
   -- after a fault of the store the status is StoreFault, or out of memory; after one of the sink it
   -- is WriteFault
   pub store_steady : status ≢ StoreFault → status ≢ NoMemory

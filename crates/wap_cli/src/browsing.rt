@@ -1,6 +1,7 @@
 //! Browsing over a store.
 ghost use Rattle.std.specs.Prelude.{◌≤◌};
 ghost use Rattle.wap_browse.specs.Headline.{Browses};
+ghost use Rattle.wap_pages.specs.declared.cached.TheConstants.{LEAST_CAPACITY, MOST_CAPACITY};
 ghost use Rattle.wap_cli.specs.Devices.{browsed};
 ghost use Rattle.wap_cli.specs.Headline.{begun_by};
 
@@ -19,8 +20,8 @@ pub(crate) fn browse<S: Store, I: Source, O: Sink>(
     keys: &mut I,
     out: &mut O,
 ) -> (Status, S)
-    requires some { 1 ≤ begun.cache }
-    requires few { begun.cache ≤ 256 }
+    requires some { LEAST_CAPACITY ≤ begun.cache }
+    requires few { begun.cache ≤ MOST_CAPACITY }
     ensures { Browses (begun_by begun)
         (browsed begun.cache (record {
           contents = S.contents store;

@@ -1,9 +1,9 @@
 //! Commands on one page.
-ghost use Rattle.std.specs.Prelude.{◌≡◌, ◌≢◌, ◌≤◌, ◌<◌, ◌^◌, Some, IfSome, length};
-ghost use Rattle.wap_base.specs.Contents.{page_named};
+ghost use Rattle.std.specs.Prelude.{◌≡◌, ◌≢◌, ℕ, ◌≤◌, ◌<◌, ◌^◌, List, Option, Some, length};
 ghost use Rattle.wap_base.specs.Count.{raised, Rose};
 ghost use Rattle.wap_base.specs.Pages.{IsSmall};
-ghost use Rattle.wap_cli.specs.Answers.{IsOfPage, Answers, page_of, refused_by, written_so};
+ghost use Rattle.wap_cli.specs.Answers.{IsOfPage, IsPageOf, Answers, page_of};
+ghost use Rattle.wap_cli.specs.Answers.{refused_by, written_so};
 
 use crate::Status;
 use std::alloc::Global;
@@ -114,15 +114,17 @@ pub(crate) fn answer<S: Store, O: Sink>(
     store: &mut S,
     out: &mut O,
 ) -> Status
-    ensures told { result ≢ Status.StoreFault → IfSome (S.contents store.old) (λ pages.
-        Answers command (page_named name.now pages) (O.written out.old) (O.written out.new)
-        (O.faults out.old) (O.faults out.new) result) }
+    ensures told { result ≢ Status.StoreFault → (page : Option (List ℕ))
+        × IsPageOf (S.contents store.old) name.now page
+        × Answers command page (O.written out.old) (O.written out.new)
+        (O.faults out.old) (O.faults out.new) result }
     ensures ends { IsOfPage result }
     ensures asked { S.fetches store.new ≡ raised (S.fetches store.old) }
     ensures listings { S.listings store.new ≡ S.listings store.old }
     ensures store_fault { result ≡ Status.StoreFault
         → Rose (S.faults store.old) (S.faults store.new) }
-    ensures unwritten { result ≡ Status.StoreFault → O.written out.new ≡ O.written out.old }
+    ensures unwritten { result ≢ Status.Done → result ≢ Status.WriteFault
+        → O.written out.new ≡ O.written out.old }
     ensures write_fault { result ≡ Status.WriteFault
         → Rose (O.faults out.old) (O.faults out.new) }
     ensures store_steady { result ≢ Status.StoreFault → result ≢ Status.NoMemory

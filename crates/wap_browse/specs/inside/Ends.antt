@@ -1,7 +1,7 @@
--- What browsing comes to, status by status.
+-- What browsing comes to, status by status. This project's own.
 use Rattle.std.specs.Prelude.{◌≡◌, ℕ, ◌+◌, ◌≤◌, List, ◌++◌, Some, IfSome}
 use Rattle.wap_base.specs.Count.{Rose}
-use Rattle.wap_base.specs.Transfer.{AppendsFront}
+use Rattle.wap_base.specs.Transfer.{AppendsPrefix}
 use Rattle.wap_keys.specs.declared.limits.TheConstants.{KEYS_LIMIT}
 use Rattle.wap_keys.specs.declared.ending.Ending.TheVariants as ending
 use Rattle.wap_keys.specs.Lines.{keys_of, keys_at}
@@ -50,7 +50,7 @@ ShowsTo TooManyKeys pages begun bytes taken rest old new =
 
 pub record Written (status : Status) (pages : Pages) (begun : Begun) (bytes taken rest : List ℕ)
     (old new : Outside) : Type 0 where
-  pub prefix : AppendsFront old.written new.written (transcript pages begun (keys_of bytes).keys)
+  pub prefix : AppendsPrefix old.written new.written (transcript pages begun (keys_of bytes).keys)
   pub shows : ShowsTo status pages begun bytes taken rest old new
 
 pub record Comes (begun : Begun) (bytes : List ℕ) (old new : Outside) (status : Status) : Type 0

@@ -1,7 +1,7 @@
--- A key that is played, and whose lines are written.
+-- A key that is played, and whose lines are written. This project's own.
 use Rattle.std.specs.Prelude.{◌≡◌, ℕ, ◌≤◌, false, List, [], Option, Result, Ok, Err}
 use Rattle.wap_base.specs.Count.{Rose}
-use Rattle.wap_base.specs.Transfer.{Appends, AppendsFront}
+use Rattle.wap_base.specs.Transfer.{Appends, AppendsPrefix}
 use Rattle.wap_input.specs.declared.key.Key.{Key}
 use Rattle.wap_site.specs.Pages.{Pages}
 use Rattle.wap_site.specs.Asking.{Seen, Stays, Asks, Fails}
@@ -38,7 +38,7 @@ pub record Leads (pages : Pages) (step : Step) (old new : Moment) : Type 0 where
 -- a step that was played, and a prefix of its lines written
 pub record LeadsPart (step : Step) (old new : Moment) : Type 0 where
   pub asks : Asks step.asked old.pages new.pages
-  pub wrote : AppendsFront old.written new.written (lines_bytes (shown_by step))
+  pub wrote : AppendsPrefix old.written new.written (lines_bytes (shown_by step))
 
 -- ---- what each answer says
 

@@ -1,6 +1,6 @@
 use Rattle.std.proofs.Common.{ℕ, List, Some, Err, ap, sym, subst}
 use Rattle.std.specs.Prelude.{OnOk, OnErr}
-use Rattle.wap_base.specs.Transfer.{Appends, AppendsFront}
+use Rattle.wap_base.specs.Transfer.{Appends, AppendsPrefix}
 use Rattle.wap_words.specs.declared.words.PageCommand.TheVariants as command
 use Rattle.wap_status.specs.declared.status.Status.{Status}
 use Rattle.wap_cli.specs.Answers.{Answers}
@@ -21,8 +21,8 @@ returns-in-Ok g c =
     c.in-Ok.ensures.found
     (subst (λ (l : List ℕ). OnOk wrote (Appends before after l))
     c.as_slice.ensures c.write_all.ensures.whole)
-    (subst (λ (l : List ℕ). OnErr wrote (AppendsFront before after l))
-    c.as_slice.ensures c.write_all.ensures.front)
+    (subst (λ (l : List ℕ). OnErr wrote (AppendsPrefix before after l))
+    c.as_slice.ensures c.write_all.ensures.prefix)
     c.write_all.ensures.steady c.write_all.ensures.faults c.write_all.ensures.failed)
 
 pub returns-in-Err : goal.returns-in-Err

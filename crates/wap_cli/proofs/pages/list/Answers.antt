@@ -17,7 +17,7 @@ returns-in-Ok g c =
     (sym c.written_so.ensures)
     (answers_text command.List c.args.bytes.now before after faults rest c.listing.result
     (listing c.in-Ok.unit) (c.in-Ok.unit, c.in-Ok.ensures.found, refl)
-    c.listing.ensures.whole c.listing.ensures.front c.listing.ensures.steady
+    c.listing.ensures.whole c.listing.ensures.prefix c.listing.ensures.steady
     c.listing.ensures.faults c.listing.ensures.failed)
 
 pub returns-in-Err : goal.returns-in-Err
