@@ -98,20 +98,11 @@ fn give_told(call: &mut Call) -> Result<(), CaseFault> {
     Ok(())
 }
 
-/// Gives the name of a URL's page in a store.
-fn give_name_of(call: &mut Call, url: &Url) -> Result<(), CaseFault> {
-    if url.host.is_none() {
-        call.give_word("none");
-        return Ok(());
-    }
-    call.give_text(&name_of(call.alloc(), url)?);
-    Ok(())
-}
-
 /// Gives the name of the next URL's page in a store.
 fn give_name(call: &mut Call) -> Result<(), CaseFault> {
     let url = url(call)?;
-    give_name_of(call, &url)
+    call.give_text(&name_of(call.alloc(), &url)?);
+    Ok(())
 }
 
 /// Gives what a reference is from a URL.

@@ -4,6 +4,7 @@
 mod keys;
 mod pages;
 mod sessions;
+mod threads;
 
 use std::process::ExitCode;
 use wap_casebook::{Call, Calls, CaseFault, play_calls};
@@ -18,5 +19,6 @@ impl Calls for SessionCalls {
 }
 
 fn main(rt: HostRuntime) -> ExitCode {
+    threads::all_cross();
     play_calls(&rt, &SessionCalls)
 }

@@ -27,7 +27,7 @@ impl CaseFault {
 }
 
 impl From<NoMemory> for CaseFault {
-    fn from(_want: NoMemory) -> CaseFault {
+    fn from(_error: NoMemory) -> CaseFault {
         CaseFault::NoMemory
     }
 }

@@ -1,0 +1,10 @@
+//! What may be sent to threads and shared by them.
+use std::marker::{Send, Sync};
+use wap_session::SessionFault;
+
+fn crosses<T: Send + Sync>() {}
+
+/// Stands only where each type that is named here may be sent to threads and shared by them.
+pub fn all_cross() {
+    crosses::<SessionFault>();
+}
