@@ -23,7 +23,8 @@ begun_by one =
 -- a command on the page of a name
 pub record Serves (command : PageCommand) (name : List ℕ) (old new : Devices) (status : Status)
     : Type 0 where
-  -- its text was written, or it was refused for a reason, on the page that the store answered
+  -- its text was written, or it was refused for a reason, for some page, which is that of the name
+  -- where the store tells its contents
   pub told : status ≢ StoreFault → (page : Option (List ℕ)) × IsPageOf old.contents name page
       × Answers command page old.written new.written old.write_faults new.write_faults status
   pub ends : IsOfPage status
