@@ -5,6 +5,9 @@ use Rattle.std.specs.Prelude.{ℕ}
 abbrev pub nul : ℕ
 nul = 0
 
+abbrev pub backspace : ℕ
+backspace = 8
+
 abbrev pub tab : ℕ
 tab = 9
 
@@ -71,6 +74,18 @@ slash = 47
 abbrev pub digit_zero : ℕ
 digit_zero = 48
 
+abbrev pub digit_one : ℕ
+digit_one = 49
+
+abbrev pub digit_seven : ℕ
+digit_seven = 55
+
+abbrev pub digit_eight : ℕ
+digit_eight = 56
+
+abbrev pub digit_nine : ℕ
+digit_nine = 57
+
 abbrev pub colon : ℕ
 colon = 58
 
@@ -92,6 +107,27 @@ question_mark = 63
 abbrev pub at_sign : ℕ
 at_sign = 64
 
+abbrev pub capital_a : ℕ
+capital_a = 65
+
+abbrev pub capital_d : ℕ
+capital_d = 68
+
+abbrev pub capital_e : ℕ
+capital_e = 69
+
+abbrev pub capital_f : ℕ
+capital_f = 70
+
+abbrev pub capital_m : ℕ
+capital_m = 77
+
+abbrev pub capital_n : ℕ
+capital_n = 78
+
+abbrev pub capital_x : ℕ
+capital_x = 88
+
 abbrev pub left_bracket : ℕ
 left_bracket = 91
 
@@ -109,6 +145,42 @@ underscore = 95
 
 abbrev pub grave_accent : ℕ
 grave_accent = 96
+
+abbrev pub small_a : ℕ
+small_a = 97
+
+abbrev pub small_b : ℕ
+small_b = 98
+
+abbrev pub small_d : ℕ
+small_d = 100
+
+abbrev pub small_e : ℕ
+small_e = 101
+
+abbrev pub small_f : ℕ
+small_f = 102
+
+abbrev pub small_m : ℕ
+small_m = 109
+
+abbrev pub small_n : ℕ
+small_n = 110
+
+abbrev pub small_r : ℕ
+small_r = 114
+
+abbrev pub small_s : ℕ
+small_s = 115
+
+abbrev pub small_t : ℕ
+small_t = 116
+
+abbrev pub small_u : ℕ
+small_u = 117
+
+abbrev pub small_x : ℕ
+small_x = 120
 
 abbrev pub left_brace : ℕ
 left_brace = 123

@@ -1,11 +1,13 @@
 -- The listing of a unit. This project's own.
-use Rattle.std.specs.Prelude.{ℕ, zero, suc, ◌+◌, ◌/◌, ◌%◌, ◌||◌, ◌==◌, nat_lt, if◌then◌else◌, List}
+use Rattle.std.specs.Prelude.{ℕ, zero, suc, ◌+◌, ◌-◌, ◌/◌, ◌%◌, ◌||◌, ◌==◌, nat_lt}
+use Rattle.std.specs.Prelude.{if◌then◌else◌, List}
 use Rattle.std.specs.Prelude.{[], ◌∷◌, ◌++◌, length, map, take, drop, slice_index, codes, decimal}
 use Rattle.std.specs.Prelude.{encode_utf8_all, Option, Some, None, Result, Ok, Err}
 use Rattle.std.specs.Int.{w32, to_be_bytes}
 use Rattle.std.specs.Fmt.{signed_decimal}
 use Rattle.std.specs.List.{flat_map, enumerate_from}
 use Rattle.std.specs.Map.{lookup}
+use Rattle.wap_base.specs.Ascii.{line_feed, space, full_stop, digit_zero, small_a, delete}
 use Rattle.wap_code.specs.declared.unit.Unit.{Unit}
 use Rattle.wap_code.specs.declared.unit.Constant.{Constant}
 use Rattle.wap_code.specs.declared.unit.Constant.TheVariants.{Int8, Int16, Int32, Float, Utf8}
@@ -25,7 +27,7 @@ use Rattle.wap_dis.specs.Names.{name_of}
 
 -- a digit of base 16, in small letters
 abbrev pub hex_digit : ℕ → ℕ
-hex_digit value = if nat_lt value 10 then 48 + value else 87 + value
+hex_digit value = if nat_lt value 10 then digit_zero + value else small_a - 10 + value
 
 abbrev pub hex_byte : ℕ → List ℕ
 hex_byte byte = hex_digit (byte / 16) ∷ hex_digit (byte % 16) ∷ []
@@ -35,17 +37,17 @@ hex bytes = flat_map hex_byte bytes
 
 -- the UTF-8 of a text, its control characters as dots
 abbrev pub shown_byte : ℕ → ℕ
-shown_byte byte = if nat_lt byte 32 || (byte == 127) then 46 else byte
+shown_byte byte = if nat_lt byte space || (byte == delete) then full_stop else byte
 
 abbrev pub shown : List ℕ → List ℕ
 shown text = map shown_byte (encode_utf8_all text)
 
 abbrev pub spaced : List ℕ → List ℕ
-spaced word = 32 ∷ word
+spaced word = space ∷ word
 
 -- a word, more words with a space before each, and the end of the line
 abbrev pub line : List ℕ → List (List ℕ) → List ℕ
-line first words = first ++ (flat_map spaced words ++ 10 ∷ [])
+line first words = first ++ (flat_map spaced words ++ line_feed ∷ [])
 
 -- ---- constants and pragmas
 

@@ -1,8 +1,9 @@
 //! The text that a string stands for (WAP-193, section 6.1.5.3).
 ghost use Rattle.std.specs.Prelude.{◌≡◌, ◌≤◌, ℕ, ◌++◌, [], ◌∷◌, List, IfOk, OnOk};
+ghost use Rattle.std.specs.Char.{is_ascii_hexdigit};
 ghost use Rattle.std.specs.Str.{chars};
 ghost use Rattle.wap_lex.specs.Numbers.{with_digit, digit_value};
-ghost use Rattle.wap_lex.specs.Characters.{is_octal_digit, is_hexadecimal_digit};
+ghost use Rattle.wap_lex.specs.Characters.{is_octal_digit};
 ghost use Rattle.wap_grammar.specs.Strings.{named_by, goes_on, unescaped};
 ghost use Rattle.wap_grammar.specs.Strings.{escaped, numbered, string_of};
 ghost use Rattle.wap_expressions.specs.inside.Escapes.{left_of};

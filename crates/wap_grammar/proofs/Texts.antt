@@ -4,6 +4,7 @@ use Rattle.std.proofs.Common.{◌≡◌, ℕ, zero, suc, ◌+◌, ◌-◌, ◌<�
 use Rattle.std.proofs.Common.{false, cond, ◌==◌, ◌&&◌, ◌||◌, List, [], ◌∷◌, ◌++◌, length, take}
 use Rattle.std.proofs.Common.{drop, encode_utf8, encode_utf8_all, refl, sym, ap, subst}
 use Rattle.std.proofs.Common.{◌∙◌, inl, inr, ◌⊎◌, length-append, append_assoc, arith}
+use Rattle.std.specs.Char.{is_ascii_digit, is_ascii_hexdigit}
 use Rattle.std.specs.List.{All}
 use Rattle.std.specs.Str.{IsUtf8, chars, all_scalars}
 use Rattle.std.specs.Int.{is_in_range}
@@ -21,7 +22,7 @@ use Rattle.wap_lex.specs.declared.shape.Shape.TheVariants as shape
 use Rattle.wap_lex.specs.Words.{is_reserved}
 use Rattle.wap_lex.specs.Tokens.{IsShape, kind_of, token_before, Lexes, ends, piece, AreTokens}
 use Rattle.wap_base.proofs.Utf8Cuts.{AllHigh, high_bytes, encode_some}
-use Rattle.wap_lex.specs.Characters.{is_digit, is_octal_digit, is_hexadecimal_digit, is_quote}
+use Rattle.wap_lex.specs.Characters.{is_octal_digit, is_quote}
 use Rattle.wap_lex.specs.Numbers.{with_digit, digit_value}
 use Rattle.wap_lex.specs.Strings.{is_simple, is_surrogate, IsEscape, simple, octal, hexadecimal}
 use Rattle.wap_lex.specs.Strings.{unicode, escape, plain, AreItems, none, more, IsString, quoted}
@@ -248,41 +249,42 @@ out_of_range low high c fails above = elim (cases_lt high c) [
 abbrev IsDigit : ℕ → ℕ → ℕ → ℕ → Type 0
 IsDigit low high by c = (low ≤ c) × (c ≤ high) × (digit_value c ≡ c - by)
 
-digit_of : (c : ℕ) → is_hexadecimal_digit c ≡ true →
+digit_of : (c : ℕ) → is_ascii_hexdigit c ≡ true →
     IsDigit 48 57 48 c ⊎ (IsDigit 65 70 55 c ⊎ IsDigit 97 102 87 c)
-digit_of c is = elim (or_cases (is_digit c) (is_in_range 65 70 c || is_in_range 97 102 c) is) [
-  | inl so ↦ (
-      let range = in_range 48 57 c so in
-      inl (
-        range.0,
-        range.1,
-        ap (λ (b : Bool). cond b (c - 48) (cond (nat_le c 70) (c - 55)
-            (c - 87))) (le-leb c 57 range.1),
-      ))
-  | inr other ↦ inr (by_letter (or_cases (is_in_range 65 70 c) (is_in_range 97 102 c) other))
-] where
-  by_letter : (is_in_range 65 70 c ≡ true) ⊎ (is_in_range 97 102 c ≡ true) →
-      IsDigit 65 70 55 c ⊎ IsDigit 97 102 87 c
-  by_letter (inl so) =
-      let range = in_range 65 70 c so in
-      inl (
-        range.0,
-        range.1,
-        ap (λ (b : Bool). cond b (c - 48) (cond (nat_le c 70) (c - 55) (c - 87)))
-            (lt-leb c 57 (omega (arith, range.0)))
-            ∙ ap (λ (b : Bool). cond b (c - 55) (c - 87)) (le-leb c 70 range.1),
-      )
-  by_letter (inr so) =
-      let range = in_range 97 102 c so in
-      inr (
-        range.0,
-        range.1,
-        ap (λ (b : Bool). cond b (c - 48) (cond (nat_le c 70) (c - 55) (c - 87)))
-            (lt-leb c 57 (omega (arith, range.0)))
-            ∙ ap (λ (b : Bool). cond b (c - 55) (c - 87)) (lt-leb c 70 (omega (arith, range.0))),
-      )
+digit_of c is = elim (or_cases (is_ascii_digit c || is_in_range 65 70 c) (is_in_range 97 102 c)
+    is) [
+      | inl front ↦ by_front (or_cases (is_ascii_digit c) (is_in_range 65 70 c) front)
+      | inr so ↦ (
+          let range = in_range 97 102 c so in
+          inr (inr (
+            range.0,
+            range.1,
+            ap (λ (b : Bool). cond b (c - 48) (cond (nat_le c 70) (c - 55) (c - 87)))
+                (lt-leb c 57 (omega (arith, range.0)))
+                ∙ ap (λ (b : Bool). cond b (c - 55) (c - 87)) (lt-leb c 70 (omega (arith, range.0))),
+          )))
+    ] where
+      by_front : (is_ascii_digit c ≡ true) ⊎ (is_in_range 65 70 c ≡ true) →
+          IsDigit 48 57 48 c ⊎ (IsDigit 65 70 55 c ⊎ IsDigit 97 102 87 c)
+      by_front (inl so) =
+          let range = in_range 48 57 c so in
+          inl (
+            range.0,
+            range.1,
+            ap (λ (b : Bool). cond b (c - 48) (cond (nat_le c 70) (c - 55)
+                (c - 87))) (le-leb c 57 range.1),
+          )
+      by_front (inr so) =
+          let range = in_range 65 70 c so in
+          inr (inl (
+            range.0,
+            range.1,
+            ap (λ (b : Bool). cond b (c - 48) (cond (nat_le c 70) (c - 55) (c - 87)))
+                (lt-leb c 57 (omega (arith, range.0)))
+                ∙ ap (λ (b : Bool). cond b (c - 55) (c - 87)) (le-leb c 70 range.1),
+          ))
 
-digit_small : (c : ℕ) → is_hexadecimal_digit c ≡ true → digit_value c ≤ 15
+digit_small : (c : ℕ) → is_ascii_hexdigit c ≡ true → digit_value c ≤ 15
 digit_small c is = by_digit (digit_of c is) where
   by_digit : IsDigit 48 57 48 c ⊎ (IsDigit 65 70 55 c ⊎ IsDigit 97 102 87 c) → digit_value c ≤ 15
   by_digit (inl d) = omega (arith, d.0, d.1, d.2)
@@ -293,7 +295,7 @@ digit_small c is = by_digit (digit_of c is) where
 abbrev IsApart : ℕ → ℕ → Type 0
 IsApart a b = (digit_value a ≤ 12) ⊎ ((14 ≤ digit_value a) ⊎ (digit_value b ≤ 7))
 
-other_first : (a b : ℕ) → is_hexadecimal_digit a ≡ true → (a == 68) ≡ false →
+other_first : (a b : ℕ) → is_ascii_hexdigit a ≡ true → (a == 68) ≡ false →
     (a == 100) ≡ false → IsApart a b
 other_first a b is upper lower = by_digit (digit_of a is) where
   by_place : (k : ℕ) → (a == k) ≡ false → (a < k) ⊎ (k < a)
@@ -317,7 +319,7 @@ other_first a b is upper lower = by_digit (digit_of a is) where
     by_lower (inl less) = inl (omega (arith, d.0, d.1, d.2, less))
     by_lower (inr above) = inr (inl (omega (arith, d.0, d.1, d.2, above)))
 
-low_second : (b : ℕ) → is_hexadecimal_digit b ≡ true →
+low_second : (b : ℕ) → is_ascii_hexdigit b ≡ true →
     (is_in_range 56 57 b || (is_in_range 65 70 b || is_in_range 97 102 b)) ≡ false →
     digit_value b ≤ 7
 low_second b is fails = by_digit (digit_of b is) where
@@ -335,7 +337,7 @@ low_second b is fails = by_digit (digit_of b is) where
   by_digit (inr (inl d)) = absurd (omega (arith, d.1, out_of_range 65 70 b letters.0 d.0))
   by_digit (inr (inr d)) = absurd (omega (arith, d.1, out_of_range 97 102 b letters.1 d.0))
 
-apart : (a b : ℕ) → is_hexadecimal_digit a ≡ true → is_hexadecimal_digit b ≡ true →
+apart : (a b : ℕ) → is_ascii_hexdigit a ≡ true → is_ascii_hexdigit b ≡ true →
     is_surrogate a b ≡ false → IsApart a b
 apart a b first second fails = by_first ((a == 68) || (a == 100)) refl where
   by_first : (d : Bool) → ((a == 68) || (a == 100)) ≡ d → IsApart a b
@@ -353,8 +355,8 @@ high_scalar c low high =
 abbrev four : ℕ → ℕ → ℕ → ℕ → ℕ
 four a b c d = with_digit 16 (with_digit 16 (with_digit 16 (with_digit 16 0 a) b) c) d
 
-four_scalar : (a b c d : ℕ) → is_hexadecimal_digit a ≡ true → is_hexadecimal_digit b ≡ true →
-    is_hexadecimal_digit c ≡ true → is_hexadecimal_digit d ≡ true → is_surrogate a b ≡ false →
+four_scalar : (a b c d : ℕ) → is_ascii_hexdigit a ≡ true → is_ascii_hexdigit b ≡ true →
+    is_ascii_hexdigit c ≡ true → is_ascii_hexdigit d ≡ true → is_surrogate a b ≡ false →
     scalar (four a b c d) ≡ true
 four_scalar a b c d one two three last fails = by_first (apart a b one two fails) where
   by_first : IsApart a b → scalar (four a b c d) ≡ true
@@ -475,7 +477,7 @@ step_sound : (test : Bool) (on off : List ℕ) → test ≡ true → all_scalars
 step_sound test on off so one =
     subst (λ (b : Bool). all_scalars (cond b on off) ≡ true) (sym so) one
 
-hexadecimal_low : (c : ℕ) → is_hexadecimal_digit c ≡ true → c < 128
+hexadecimal_low : (c : ℕ) → is_ascii_hexdigit c ≡ true → c < 128
 hexadecimal_low c is = by_digit (digit_of c is) where
   by_digit : IsDigit 48 57 48 c ⊎ (IsDigit 65 70 55 c ⊎ IsDigit 97 102 87 c) → c < 128
   by_digit (inl d) = omega (arith, d.1)
@@ -514,8 +516,8 @@ module _ (quote most : ℕ) (sound : Sound quote most) where
       (sym (ne_eqb c 117 (λ f. absurd (omega (arith, f, digit.1)))))
       (step_sound (is_octal_digit c) number other is value)))
 
-  two_escape : (cs rest : List ℕ) (a b : ℕ) → is_hexadecimal_digit a ≡ true →
-      is_hexadecimal_digit b ≡ true → encode_utf8_all cs ≡ 120 ∷ a ∷ b ∷ rest →
+  two_escape : (cs rest : List ℕ) (a b : ℕ) → is_ascii_hexdigit a ≡ true →
+      is_ascii_hexdigit b ≡ true → encode_utf8_all cs ≡ 120 ∷ a ∷ b ∷ rest →
       length cs ≤ most → AllSound cs → AreItems quote rest → AllSound (escaped cs)
   two_escape cs rest a b one two e few scalars are =
       let x = peeled most cs 120 (a ∷ b ∷ rest) e (omega arith) few scalars in
@@ -527,17 +529,17 @@ module _ (quote most : ℕ) (sound : Sound quote most) where
       let low : with_digit 16 first b < 55296 = omega
       (arith, digit_small a one, digit_small b two) in
       subst (λ (z : List ℕ). AllSound (escaped z)) (sym whole)
-      (step_sound (is_hexadecimal_digit a) (numbered 16 1 first (b ∷ q.left))
+      (step_sound (is_ascii_hexdigit a) (numbered 16 1 first (b ∷ q.left))
       (0 ∷ unescaped (a ∷ b ∷ q.left)) one
-      (step_sound (is_hexadecimal_digit b) (numbered 16 0 (with_digit 16 first b) q.left)
+      (step_sound (is_ascii_hexdigit b) (numbered 16 0 (with_digit 16 first b) q.left)
       (first ∷ unescaped (b ∷ q.left)) two
       (ended_sound quote most sound q.left (with_digit 16 first b) q.few
       (low_scalar (with_digit 16 first b) low) q.scalars
       (subst (AreItems quote) (sym q.bytes) are))))
 
-  four_escape : (cs rest : List ℕ) (a b c d : ℕ) → is_hexadecimal_digit a ≡ true →
-      is_hexadecimal_digit b ≡ true → is_hexadecimal_digit c ≡ true →
-      is_hexadecimal_digit d ≡ true → is_surrogate a b ≡ false →
+  four_escape : (cs rest : List ℕ) (a b c d : ℕ) → is_ascii_hexdigit a ≡ true →
+      is_ascii_hexdigit b ≡ true → is_ascii_hexdigit c ≡ true →
+      is_ascii_hexdigit d ≡ true → is_surrogate a b ≡ false →
       encode_utf8_all cs ≡ 117 ∷ a ∷ b ∷ c ∷ d ∷ rest → length cs ≤ most → AllSound cs →
       AreItems quote rest → AllSound (escaped cs)
   four_escape cs rest a b c d one two three last fails e few scalars are =
@@ -555,13 +557,13 @@ module _ (quote most : ℕ) (sound : Sound quote most) where
       let v2 = with_digit 16 v1 b in
       let v3 = with_digit 16 v2 c in
       subst (λ (z : List ℕ). AllSound (escaped z)) (sym whole)
-      (step_sound (is_hexadecimal_digit a) (numbered 16 3 v1 (b ∷ c ∷ d ∷ s.left))
+      (step_sound (is_ascii_hexdigit a) (numbered 16 3 v1 (b ∷ c ∷ d ∷ s.left))
       (0 ∷ unescaped (a ∷ b ∷ c ∷ d ∷ s.left)) one
-      (step_sound (is_hexadecimal_digit b) (numbered 16 2 v2 (c ∷ d ∷ s.left))
+      (step_sound (is_ascii_hexdigit b) (numbered 16 2 v2 (c ∷ d ∷ s.left))
       (v1 ∷ unescaped (b ∷ c ∷ d ∷ s.left)) two
-      (step_sound (is_hexadecimal_digit c) (numbered 16 1 v3 (d ∷ s.left))
+      (step_sound (is_ascii_hexdigit c) (numbered 16 1 v3 (d ∷ s.left))
       (v2 ∷ unescaped (c ∷ d ∷ s.left)) three
-      (step_sound (is_hexadecimal_digit d) (numbered 16 0 (with_digit 16 v3 d) s.left)
+      (step_sound (is_ascii_hexdigit d) (numbered 16 0 (with_digit 16 v3 d) s.left)
       (v3 ∷ unescaped (d ∷ s.left)) last
       (ended_sound quote most sound s.left (with_digit 16 v3 d) s.few
       (four_scalar a b c d one two three last fails) s.scalars
@@ -574,16 +576,16 @@ module _ (quote most : ℕ) (sound : Sound quote most) where
   by_escape cs text rest (octal c is) e few scalars are =
       octal_escape cs rest c is e few scalars are
   by_escape cs text rest (hexadecimal a b is) e few scalars are =
-      let first = and_parts (is_hexadecimal_digit a) (is_hexadecimal_digit b && true) is in
-      let second = and_parts (is_hexadecimal_digit b) true first.1 in
+      let first = and_parts (is_ascii_hexdigit a) (is_ascii_hexdigit b && true) is in
+      let second = and_parts (is_ascii_hexdigit b) true first.1 in
       two_escape cs rest a b first.0 second.0 e few scalars are
   by_escape cs text rest (unicode a b c d is fails) e few scalars are =
-      let first = and_parts (is_hexadecimal_digit a) (is_hexadecimal_digit b
-      && (is_hexadecimal_digit c && (is_hexadecimal_digit d && true))) is in
-      let second = and_parts (is_hexadecimal_digit b) (is_hexadecimal_digit c
-      && (is_hexadecimal_digit d && true)) first.1 in
-      let third = and_parts (is_hexadecimal_digit c) (is_hexadecimal_digit d && true) second.1 in
-      let fourth = and_parts (is_hexadecimal_digit d) true third.1 in
+      let first = and_parts (is_ascii_hexdigit a) (is_ascii_hexdigit b
+      && (is_ascii_hexdigit c && (is_ascii_hexdigit d && true))) is in
+      let second = and_parts (is_ascii_hexdigit b) (is_ascii_hexdigit c
+      && (is_ascii_hexdigit d && true)) first.1 in
+      let third = and_parts (is_ascii_hexdigit c) (is_ascii_hexdigit d && true) second.1 in
+      let fourth = and_parts (is_ascii_hexdigit d) true third.1 in
       four_escape cs rest a b c d first.0 second.0 third.0 fourth.0 fails e few scalars are
 
 -- ---- all that stands between quotes

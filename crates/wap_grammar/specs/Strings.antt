@@ -1,35 +1,40 @@
 -- The text that a string stands for (WAP-193, section 6.1.5.3).
 use Rattle.std.specs.Prelude.{ℕ, ◌-◌, nat_le, nat_lt, Bool, ◌==◌, ◌&&◌}
 use Rattle.std.specs.Prelude.{if◌then◌else◌, List, [], ◌∷◌, take, drop, length}
+use Rattle.std.specs.Char.{is_ascii_hexdigit}
 use Rattle.std.specs.Str.{chars}
-use Rattle.wap_lex.specs.Characters.{is_octal_digit, is_hexadecimal_digit}
+use Rattle.wap_base.specs.Ascii.{backspace, tab, line_feed, form_feed, carriage_return, digit_zero}
+use Rattle.wap_base.specs.Ascii.{backslash, small_b, small_f, small_n, small_r, small_t, small_u}
+use Rattle.wap_base.specs.Ascii.{small_x}
+use Rattle.wap_lex.specs.Characters.{is_octal_digit}
 use Rattle.wap_lex.specs.Numbers.{with_digit}
 
 -- b, f, n, r and t name control characters; other characters stand for themselves
 abbrev pub named_by : ℕ → ℕ
 named_by c =
-    if c == 98 then 8 else if c == 102 then 12 else if c == 110 then 10 else if c == 114 then 13
-    else
-    if c == 116 then 9 else c
+    if c == small_b then backspace else if c == small_f then form_feed else
+    if c == small_n then line_feed else if c == small_r then carriage_return else
+    if c == small_t then tab else c
 
 -- octal digits go on up to 377, hexadecimal ones as far as they are counted
 abbrev pub goes_on : ℕ → ℕ → ℕ → Bool
 goes_on base value c =
     if base == 8 then is_octal_digit c && nat_le (with_digit 8 value c) 255 else
-    is_hexadecimal_digit c
+    is_ascii_hexdigit c
 
 abbrev mutual
   -- what characters between quotes stand for
   pub unescaped : List ℕ → List ℕ
   unescaped [] = []
-  unescaped (c ∷ rest) = if c == 92 then escaped rest else c ∷ unescaped rest
+  unescaped (c ∷ rest) = if c == backslash then escaped rest else c ∷ unescaped rest
 
   -- the same after a backslash
   pub escaped : List ℕ → List ℕ
   escaped [] = []
   escaped (c ∷ rest) =
-      if c == 120 then numbered 16 2 0 rest else if c == 117 then numbered 16 4 0 rest else
-      if is_octal_digit c then numbered 8 2 (c - 48) rest else named_by c ∷ unescaped rest
+      if c == small_x then numbered 16 2 0 rest else if c == small_u then numbered 16 4 0 rest else
+      if is_octal_digit c then numbered 8 2 (c - digit_zero) rest else
+      named_by c ∷ unescaped rest
 
   -- the same inside an escape by a number: its base, how many digits may follow, and its value so
   -- far
@@ -38,7 +43,7 @@ abbrev mutual
   numbered base left value (c ∷ rest) =
       if nat_lt 0 left && goes_on base value c then numbered base (left - 1)
       (with_digit base value c) rest else
-      value ∷ (if c == 92 then escaped rest else c ∷ unescaped rest)
+      value ∷ (if c == backslash then escaped rest else c ∷ unescaped rest)
 
 -- the text that a string stands for, from its bytes with their quotes
 unfoldable pub string_of : List ℕ → List ℕ

@@ -2,6 +2,7 @@
 use Rattle.std.proofs.Common.{◌≡◌, ℕ, ◌+◌, ◌<◌, Bool, true, false, cond, eqb, List, [], ◌∷◌}
 use Rattle.std.proofs.Common.{◌++◌, length, refl, ap, ◌∙◌, arith, length-append}
 use Rattle.std.specs.Prelude.{◌||◌}
+use Rattle.std.specs.Char.{is_ascii_digit}
 use Rattle.std.specs.List.{list_all, list_any}
 use Rattle.std.proofs.lemmas.Bool.{and_parts, and_from, and_left, and_right, cond-true}
 use Rattle.std.proofs.lemmas.Bool.{cond-false, or_from, or_left, or_right}
@@ -14,7 +15,7 @@ use Rattle.wap_lex.specs.declared.first.First.TheVariants.{Quote as quoting, Sla
 use Rattle.wap_lex.specs.declared.first.First.TheVariants.{Other as other}
 use Rattle.wap_lex.specs.declared.shape.Shape.{Shape}
 use Rattle.wap_lex.specs.declared.shape.Shape.TheVariants as shape
-use Rattle.wap_lex.specs.Characters.{is_digit, is_octal_digit, is_white, is_quote}
+use Rattle.wap_lex.specs.Characters.{is_octal_digit, is_white, is_quote}
 use Rattle.wap_lex.specs.Numbers.{AreDigits, IsInteger, decimal, octal, hexadecimal}
 use Rattle.wap_lex.specs.Numbers.{IsFloat, pointed, scaled, both, is_x, is_e}
 use Rattle.wap_lex.specs.Strings.{IsString, quoted}
@@ -36,7 +37,7 @@ slash_shape (b ∷ rest) = cond (eqb b 47 || eqb b 42) shape.Comment shape.Mark
 abbrev pub shape_at : First → List ℕ → Shape
 shape_at white rest = shape.Blank
 shape_at letter rest = cond (list_any (λ c. eqb c 61) rest) shape.Mark shape.Word
-shape_at digit rest = cond (begins_x rest || list_all is_digit rest) shape.Integer shape.Float
+shape_at digit rest = cond (begins_x rest || list_all is_ascii_digit rest) shape.Integer shape.Float
 shape_at point rest = cond (is_nothing rest) shape.Mark shape.Float
 shape_at quoting rest = shape.Str
 shape_at slash rest = slash_shape rest
@@ -67,12 +68,12 @@ mark_shape_is shape.Mark e = refl
 
 abbrev from_letter : ℕ → First
 from_letter c =
-    cond (begins_name c) letter (cond (is_digit c) digit
+    cond (begins_name c) letter (cond (is_ascii_digit c) digit
     (cond (eqb c 46) point (cond (is_quote c) quoting (cond (eqb c 47) slash other))))
 
 abbrev from_digit : ℕ → First
 from_digit c =
-    cond (is_digit c) digit
+    cond (is_ascii_digit c) digit
     (cond (eqb c 46) point (cond (is_quote c) quoting (cond (eqb c 47) slash other)))
 
 abbrev from_quote : ℕ → First
@@ -89,20 +90,20 @@ letter_is c e =
     cond-false (is_white c) white (from_letter c) (letter_no_white c e)
     ∙ cond-true (begins_name c) letter (from_digit c) e
 
-digit_no_white : (c : ℕ) → is_digit c ≡ true → is_white c ≡ false
+digit_no_white : (c : ℕ) → is_ascii_digit c ≡ true → is_white c ≡ false
 digit_no_white c e = grind (arith, nat_tests)
 
-digit_no_letter : (c : ℕ) → is_digit c ≡ true → begins_name c ≡ false
+digit_no_letter : (c : ℕ) → is_ascii_digit c ≡ true → begins_name c ≡ false
 digit_no_letter c e = grind (arith, nat_tests)
 
-digit_is : (c : ℕ) → is_digit c ≡ true → first_of c ≡ digit
+digit_is : (c : ℕ) → is_ascii_digit c ≡ true → first_of c ≡ digit
 digit_is c e =
     cond-false (is_white c) white (from_letter c) (digit_no_white c e)
     ∙ cond-false (begins_name c) letter (from_digit c) (digit_no_letter c e)
-    ∙ cond-true (is_digit c) digit (cond (eqb c 46) point (from_quote c)) e
+    ∙ cond-true (is_ascii_digit c) digit (cond (eqb c 46) point (from_quote c)) e
 
 quote_others : (c : ℕ) → is_quote c ≡ true
-    → (is_white c ≡ false) × (begins_name c ≡ false) × (is_digit c ≡ false) × (eqb c 46 ≡ false)
+    → (is_white c ≡ false) × (begins_name c ≡ false) × (is_ascii_digit c ≡ false) × (eqb c 46 ≡ false)
 quote_others c e = (
   grind (arith, nat_tests),
   grind (arith, nat_tests),
@@ -115,7 +116,7 @@ quote_is c e =
     let others = quote_others c e in
     cond-false (is_white c) white (from_letter c) others.0
     ∙ cond-false (begins_name c) letter (from_digit c) others.1
-    ∙ cond-false (is_digit c) digit (cond (eqb c 46) point (from_quote c)) others.2
+    ∙ cond-false (is_ascii_digit c) digit (cond (eqb c 46) point (from_quote c)) others.2
     ∙ cond-false (eqb c 46) point (from_quote c) others.3
     ∙ cond-true (is_quote c) quoting (cond (eqb c 47) slash other) e
 
@@ -144,55 +145,55 @@ word_apart (c ∷ rest) fits =
     ap (λ (f : First). shape_at f rest) (letter_is c parts.0)
     ∙ cond-false (list_any (λ c. eqb c 61) rest) shape.Mark shape.Word (no_equal rest parts.1)
 
-octal_digit : (c : ℕ) → is_octal_digit c ≡ true → is_digit c ≡ true
+octal_digit : (c : ℕ) → is_octal_digit c ≡ true → is_ascii_digit c ≡ true
 octal_digit c e = grind (arith, nat_tests)
 
 octal_digits : (text : List ℕ) → list_all is_octal_digit text ≡ true → AreDigits text
 octal_digits [] all = refl
 octal_digits (c ∷ rest) all =
     let parts = and_parts (is_octal_digit c) (list_all is_octal_digit rest) all in
-    and_from (is_digit c) (list_all is_digit rest) (octal_digit c parts.0)
+    and_from (is_ascii_digit c) (list_all is_ascii_digit rest) (octal_digit c parts.0)
     (octal_digits rest parts.1)
 
-number_apart : (c : ℕ) (rest : List ℕ) → is_digit c ≡ true
-    → (begins_x rest || list_all is_digit rest) ≡ true → shape_of (c ∷ rest) ≡ shape.Integer
+number_apart : (c : ℕ) (rest : List ℕ) → is_ascii_digit c ≡ true
+    → (begins_x rest || list_all is_ascii_digit rest) ≡ true → shape_of (c ∷ rest) ≡ shape.Integer
 number_apart c rest first fits =
     ap (λ (f : First). shape_at f rest) (digit_is c first)
-    ∙ cond-true (begins_x rest || list_all is_digit rest) shape.Integer shape.Float fits
+    ∙ cond-true (begins_x rest || list_all is_ascii_digit rest) shape.Integer shape.Float fits
 
 integer_apart : (text : List ℕ) → IsInteger text → shape_of text ≡ shape.Integer
 integer_apart text (decimal first digits is differs all) =
-    number_apart first digits is (or_right (begins_x digits) (list_all is_digit digits) all)
+    number_apart first digits is (or_right (begins_x digits) (list_all is_ascii_digit digits) all)
 integer_apart text (octal digits all) =
     number_apart 48 digits refl
-    (or_right (begins_x digits) (list_all is_digit digits) (octal_digits digits all))
+    (or_right (begins_x digits) (list_all is_ascii_digit digits) (octal_digits digits all))
 integer_apart text (hexadecimal x digits is some all) =
-    number_apart 48 (x ∷ digits) refl (or_left (is_x x) (list_all is_digit (x ∷ digits)) is)
+    number_apart 48 (x ∷ digits) refl (or_left (is_x x) (list_all is_ascii_digit (x ∷ digits)) is)
 
 -- digits, and then something that neither is a digit nor makes a number hexadecimal
-not_all : (digits : List ℕ) (c : ℕ) (rest : List ℕ) → is_digit c ≡ false
-    → list_all is_digit (digits ++ c ∷ rest) ≡ false
-not_all [] c rest differs = and_left (is_digit c) (list_all is_digit rest) differs
+not_all : (digits : List ℕ) (c : ℕ) (rest : List ℕ) → is_ascii_digit c ≡ false
+    → list_all is_ascii_digit (digits ++ c ∷ rest) ≡ false
+not_all [] c rest differs = and_left (is_ascii_digit c) (list_all is_ascii_digit rest) differs
 not_all (d ∷ digits) c rest differs =
-    and_right (is_digit d) (list_all is_digit (digits ++ c ∷ rest)) (not_all digits c rest differs)
+    and_right (is_ascii_digit d) (list_all is_ascii_digit (digits ++ c ∷ rest)) (not_all digits c rest differs)
 
-digit_no_x : (c : ℕ) → is_digit c ≡ true → is_x c ≡ false
+digit_no_x : (c : ℕ) → is_ascii_digit c ≡ true → is_x c ≡ false
 digit_no_x c e = grind (arith, nat_tests)
 
 no_x : (digits : List ℕ) (c : ℕ) (rest : List ℕ) → AreDigits digits → is_x c ≡ false
     → begins_x (digits ++ c ∷ rest) ≡ false
 no_x [] c rest all differs = differs
 no_x (d ∷ digits) c rest all differs =
-    digit_no_x d (and_parts (is_digit d) (list_all is_digit digits) all).0
+    digit_no_x d (and_parts (is_ascii_digit d) (list_all is_ascii_digit digits) all).0
 
-float_behind_digit : (d : ℕ) (digits : List ℕ) (c : ℕ) (rest : List ℕ) → is_digit d ≡ true
-    → AreDigits digits → is_digit c ≡ false → is_x c ≡ false
+float_behind_digit : (d : ℕ) (digits : List ℕ) (c : ℕ) (rest : List ℕ) → is_ascii_digit d ≡ true
+    → AreDigits digits → is_ascii_digit c ≡ false → is_x c ≡ false
     → shape_of (d ∷ (digits ++ c ∷ rest)) ≡ shape.Float
 float_behind_digit d digits c rest first all differs plain =
     let behind = digits ++ c ∷ rest in
     ap (λ (f : First). shape_at f behind) (digit_is d first)
-    ∙ cond-false (begins_x behind || list_all is_digit behind) shape.Integer shape.Float
-    (or_from (begins_x behind) (list_all is_digit behind) (no_x digits c rest all plain)
+    ∙ cond-false (begins_x behind || list_all is_ascii_digit behind) shape.Integer shape.Float
+    (or_from (begins_x behind) (list_all is_ascii_digit behind) (no_x digits c rest all plain)
     (not_all digits c rest differs))
 
 float_at_point : (whole rest : List ℕ) → AreDigits whole → 0 < length whole + length rest
@@ -200,10 +201,10 @@ float_at_point : (whole rest : List ℕ) → AreDigits whole → 0 < length whol
 float_at_point [] [] all some = absurd (omega arith)
 float_at_point [] (c ∷ rest) all some = refl
 float_at_point (d ∷ whole) rest all some =
-    let parts = and_parts (is_digit d) (list_all is_digit whole) all in
+    let parts = and_parts (is_ascii_digit d) (list_all is_ascii_digit whole) all in
     float_behind_digit d whole 46 rest parts.0 parts.1 refl refl
 
-e_no_digit : (c : ℕ) → is_e c ≡ true → is_digit c ≡ false
+e_no_digit : (c : ℕ) → is_e c ≡ true → is_ascii_digit c ≡ false
 e_no_digit c e = grind (arith, nat_tests)
 
 e_no_x : (c : ℕ) → is_e c ≡ true → is_x c ≡ false
@@ -213,7 +214,7 @@ float_at_e : (whole : List ℕ) (e : ℕ) (rest : List ℕ) → AreDigits whole 
     → is_e e ≡ true → shape_of (whole ++ e ∷ rest) ≡ shape.Float
 float_at_e [] e rest all some is = absurd (omega arith)
 float_at_e (d ∷ whole) e rest all some is =
-    let parts = and_parts (is_digit d) (list_all is_digit whole) all in
+    let parts = and_parts (is_ascii_digit d) (list_all is_ascii_digit whole) all in
     float_behind_digit d whole e rest parts.0 parts.1 (e_no_digit e is) (e_no_x e is)
 
 float_apart : (text : List ℕ) → IsFloat text → shape_of text ≡ shape.Float

@@ -4,6 +4,7 @@ use Rattle.std.proofs.Common.{eqb, ltb, List, [], ◌∷◌, ◌++◌, length, t
 use Rattle.std.proofs.Common.{refl, sym, ap, subst, ◌∙◌, append_assoc, length-append}
 use Rattle.std.proofs.Common.{length-drop, length-take, arith}
 use Rattle.std.specs.Prelude.{◌&&◌, ◌||◌}
+use Rattle.std.specs.Char.{is_ascii_hexdigit}
 use Rattle.std.specs.List.{prefix_len}
 use Rattle.std.proofs.lemmas.Bool.{and_from, cond-true, cond-false, eqb-true, eqb-false}
 use Rattle.std.proofs.lemmas.Bool.{eq-eqb, ne_eqb, ltb-false, le-ltb, or_parts, or_from}
@@ -13,7 +14,7 @@ use Rattle.std.proofs.lemmas.List.{drop_at, take-append-drop, length-take-le}
 use Rattle.std.proofs.lemmas.List.{nil_from_length, drop-drop}
 use Rattle.std.proofs.lemmas.List.Sums.{prefix_len-le-length}
 use Rattle.std.proofs.Math.Seq.{take-append-add, take-add}
-use Rattle.wap_lex.specs.Characters.{is_octal_digit, is_hexadecimal_digit, is_line_end, is_quote}
+use Rattle.wap_lex.specs.Characters.{is_octal_digit, is_line_end, is_quote}
 use Rattle.wap_lex.specs.Strings.{is_simple, is_surrogate, IsEscape, simple, octal}
 use Rattle.wap_lex.specs.Strings.{hexadecimal, unicode, IsItem, escape, plain}
 use Rattle.wap_lex.specs.Strings.{AreItems, none, more, IsString, quoted}
@@ -27,7 +28,7 @@ use Rattle.wap_lex.proofs.NumberReach.{more_some, more_from, kept_len, nonzero_l
 -- ---- escapes
 
 abbrev hex : ℕ → Bool
-hex = is_hexadecimal_digit
+hex = is_ascii_hexdigit
 
 hex_two : (bytes : List ℕ) → 2 ≤ prefix_len hex bytes
     → (a : ℕ) × (b : ℕ) × (rest : List ℕ) × (bytes ≡ a ∷ b ∷ rest) × (hex a ≡ true) × (hex b ≡ true)
@@ -86,15 +87,15 @@ escape_takes (c ∷ digits) some = by_simple (is_simple c || is_octal_digit c) r
 
   by_hexadecimal : (b : Bool) → eqb c 120 ≡ b
       → 0
-      < cond b (cond (ltb (prefix_len is_hexadecimal_digit digits) 2) 0 3)
+      < cond b (cond (ltb (prefix_len is_ascii_hexdigit digits) 2) 0 3)
       (cond (eqb c 117) (unicode_len digits) 0)
-      → IsEscape (take (cond b (cond (ltb (prefix_len is_hexadecimal_digit digits) 2) 0 3)
+      → IsEscape (take (cond b (cond (ltb (prefix_len is_ascii_hexdigit digits) 2) 0 3)
       (cond (eqb c 117) (unicode_len digits) 0)) (c ∷ digits))
   by_hexadecimal true e left =
-      let kept = nonzero_len (ltb (prefix_len is_hexadecimal_digit digits) 2) 3 left in
+      let kept = nonzero_len (ltb (prefix_len is_ascii_hexdigit digits) 2) 3 left in
       subst (λ (n : ℕ). IsEscape (take n (c ∷ digits))) (sym kept.1)
       (subst (λ (d : ℕ). IsEscape (d ∷ take 2 digits)) (sym (eqb-true c 120 e))
-      (hexadecimal_takes digits (ltb-false (prefix_len is_hexadecimal_digit digits) 2 kept.0)))
+      (hexadecimal_takes digits (ltb-false (prefix_len is_ascii_hexdigit digits) 2 kept.0)))
   by_hexadecimal false e left = by_unicode (eqb c 117) refl left
 
   by_simple : (b : Bool) → (is_simple c || is_octal_digit c) ≡ b
@@ -102,7 +103,7 @@ escape_takes (c ∷ digits) some = by_simple (is_simple c || is_octal_digit c) r
   by_simple true e =
       let len =
       cond-true (is_simple c || is_octal_digit c) 1
-      (cond (eqb c 120) (cond (ltb (prefix_len is_hexadecimal_digit digits) 2) 0 3)
+      (cond (eqb c 120) (cond (ltb (prefix_len is_ascii_hexdigit digits) 2) 0 3)
       (cond (eqb c 117) (unicode_len digits) 0)) e in
       subst (λ (n : ℕ). IsEscape (take n (c ∷ digits))) (sym len)
       (elim (or_cases (is_simple c) (is_octal_digit c) e) [
@@ -112,7 +113,7 @@ escape_takes (c ∷ digits) some = by_simple (is_simple c || is_octal_digit c) r
   by_simple false e =
       let len =
       cond-false (is_simple c || is_octal_digit c) 1
-      (cond (eqb c 120) (cond (ltb (prefix_len is_hexadecimal_digit digits) 2) 0 3)
+      (cond (eqb c 120) (cond (ltb (prefix_len is_ascii_hexdigit digits) 2) 0 3)
       (cond (eqb c 117) (unicode_len digits) 0)) e in
       subst (λ (n : ℕ). IsEscape (take n (c ∷ digits))) (sym len)
       (by_hexadecimal (eqb c 120) refl (subst (λ (n : ℕ). 0 < n) len some))

@@ -3,7 +3,9 @@
 use Rattle.std.specs.Prelude.{ℕ, suc, Bool, ◌==◌, if◌then◌else◌, nat_eq}
 use Rattle.std.specs.Prelude.{List, [], ◌∷◌, length, map, codes}
 use Rattle.std.specs.Borrow.{Bor}
+use Rattle.std.specs.Char.{is_ascii_digit}
 use Rattle.std.specs.List.{list_any, starts_with}
+use Rattle.wap_base.specs.Ascii.{full_stop, slash, less_than_sign, greater_than_sign, small_d}
 use Rattle.wap_base.specs.Names.{begins_name}
 use Rattle.wap_lex.specs.declared.first.First.{First}
 use Rattle.wap_lex.specs.declared.first.First.TheVariants.{White, Letter, Digit, Point}
@@ -11,16 +13,16 @@ use Rattle.wap_lex.specs.declared.first.First.TheVariants.{Quote, Slash, Other}
 use Rattle.wap_lex.specs.declared.shape.Shape.{Shape}
 use Rattle.wap_lex.specs.declared.shape.Shape.TheVariants.{Blank, Comment, Word, Integer}
 use Rattle.wap_lex.specs.declared.shape.Shape.TheVariants.{Float, Str, Mark}
-use Rattle.wap_lex.specs.Characters.{is_digit, is_white, is_quote}
+use Rattle.wap_lex.specs.Characters.{is_white, is_quote}
 
 abbrev pub first_of : ℕ → First
 first_of c =
     if is_white c then White else
     if begins_name c then Letter else
-    if is_digit c then Digit else
-    if c == 46 then Point else
+    if is_ascii_digit c then Digit else
+    if c == full_stop then Point else
     if is_quote c then Quote else
-    if c == 47 then Slash else Other
+    if c == slash then Slash else Other
 
 -- the shapes that may begin there
 abbrev pub shapes_at : First → List Shape
@@ -67,9 +69,9 @@ tails_of c =
     if is_lone c then [] ∷ [] else
     if is_assigned c then after_assigned else
     if is_doubled c then after_doubled c else
-    if c == 60 then after_less else
-    if c == 62 then after_greater else
-    if c == 100 then after_d else []
+    if c == less_than_sign then after_less else
+    if c == greater_than_sign then after_greater else
+    if c == small_d then after_d else []
 
 -- of a mark of which the first byte stands before the bytes, 0 where none of the tails follows
 abbrev pub tail_len : List (List ℕ) → List ℕ → ℕ

@@ -1,37 +1,43 @@
 -- Numbers (WAP-193, sections 6.1.5.1 and 6.1.5.2).
 use Rattle.std.specs.Prelude.{◌≡◌, ℕ, ◌+◌, ◌-◌, ◌*◌, ◌<◌, nat_le, Bool, true, false, ◌==◌}
 use Rattle.std.specs.Prelude.{◌||◌, if◌then◌else◌, List, [], ◌∷◌, ◌++◌, length}
+use Rattle.std.specs.Char.{is_ascii_digit, is_ascii_hexdigit}
 use Rattle.std.specs.List.{fold, list_all}
-use Rattle.wap_lex.specs.Characters.{is_digit, is_octal_digit, is_hexadecimal_digit}
+use Rattle.wap_base.specs.Ascii.{plus_sign, hyphen, full_stop, digit_zero, digit_nine, capital_a}
+use Rattle.wap_base.specs.Ascii.{capital_e, capital_f, capital_x, small_a, small_e, small_x}
+use Rattle.wap_lex.specs.Characters.{is_octal_digit}
 
 -- only digits, perhaps none
 abbrev pub AreDigits : List ℕ → Type 0
-AreDigits text = list_all is_digit text ≡ true
+AreDigits text = list_all is_ascii_digit text ≡ true
 
 -- x or X
 abbrev pub is_x : ℕ → Bool
-is_x c = (c == 120) || (c == 88)
+is_x c = (c == small_x) || (c == capital_x)
 
 -- e or E
 abbrev pub is_e : ℕ → Bool
-is_e c = (c == 101) || (c == 69)
+is_e c = (c == small_e) || (c == capital_e)
 
 -- + or -
 abbrev pub is_sign : ℕ → Bool
-is_sign c = (c == 43) || (c == 45)
+is_sign c = (c == plus_sign) || (c == hyphen)
 
 -- decimal, the first digit other than 0; octal, after a 0; or hexadecimal, after 0x
 pub data IsInteger : List ℕ → Type 0 where
-  decimal : (first : ℕ) (digits : List ℕ) → is_digit first ≡ true → (first == 48) ≡ false →
+  decimal : (first : ℕ) (digits : List ℕ) → is_ascii_digit first ≡ true → (first == digit_zero) ≡ false →
       AreDigits digits →
       IsInteger (first ∷ digits)
-  octal : (digits : List ℕ) → list_all is_octal_digit digits ≡ true → IsInteger (48 ∷ digits)
+  octal : (digits : List ℕ) → list_all is_octal_digit digits ≡ true →
+      IsInteger (digit_zero ∷ digits)
   hexadecimal : (x : ℕ) (digits : List ℕ) → is_x x ≡ true → 0 < length digits →
-      list_all is_hexadecimal_digit digits ≡ true → IsInteger (48 ∷ x ∷ digits)
+      list_all is_ascii_hexdigit digits ≡ true → IsInteger (digit_zero ∷ x ∷ digits)
 
 -- 0 to 9, then A to F and a to f from 10 on
 abbrev pub digit_value : ℕ → ℕ
-digit_value c = if nat_le c 57 then c - 48 else if nat_le c 70 then c - 55 else c - 87
+digit_value c =
+    if nat_le c digit_nine then c - digit_zero else
+    if nat_le c capital_f then c - (capital_a - 10) else c - (small_a - 10)
 
 abbrev pub with_digit : ℕ → ℕ → ℕ → ℕ
 with_digit base value digit = value * base + digit_value digit
@@ -44,7 +50,7 @@ abbrev pub integer_value : List ℕ → ℕ
 integer_value [] = 0
 integer_value (a ∷ []) = numeral 10 (a ∷ [])
 integer_value (a ∷ b ∷ digits) =
-    if a == 48 then if is_x b then numeral 16 digits else numeral 8 (b ∷ digits)
+    if a == digit_zero then if is_x b then numeral 16 digits else numeral 8 (b ∷ digits)
     else numeral 10 (a ∷ b ∷ digits)
 
 -- the greatest integer of a source
@@ -63,9 +69,9 @@ pub data IsExponent : List ℕ → Type 0 where
 pub data IsFloat : List ℕ → Type 0 where
   pointed : (whole fraction : List ℕ) → AreDigits whole → AreDigits fraction →
       0 < length whole + length fraction →
-      IsFloat (whole ++ 46 ∷ fraction)
+      IsFloat (whole ++ full_stop ∷ fraction)
   scaled : (whole exponent : List ℕ) → AreDigits whole → 0 < length whole → IsExponent exponent →
       IsFloat (whole ++ exponent)
   both : (whole fraction exponent : List ℕ) → AreDigits whole → AreDigits fraction →
       0 < length whole + length fraction → IsExponent exponent →
-      IsFloat (whole ++ 46 ∷ (fraction ++ exponent))
+      IsFloat (whole ++ full_stop ∷ (fraction ++ exponent))

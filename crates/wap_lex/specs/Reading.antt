@@ -3,7 +3,10 @@
 use Rattle.std.specs.Prelude.{ℕ, zero, suc, ◌+◌, nat_le, nat_lt, Bool, false, ◌==◌, ◌||◌}
 use Rattle.std.specs.Prelude.{◌&&◌, if◌then◌else◌, nat_eq, List, [], ◌∷◌, length, take}
 use Rattle.std.specs.Prelude.{drop, Option, Some, None, Result, Ok, Err}
+use Rattle.std.specs.Char.{is_ascii_digit, is_ascii_hexdigit}
 use Rattle.std.specs.List.{prefix_len, starts_with}
+use Rattle.wap_base.specs.Ascii.{asterisk, full_stop, slash, digit_zero, backslash, small_u}
+use Rattle.wap_base.specs.Ascii.{small_x}
 use Rattle.wap_base.specs.Names.{begins_name, continues_name}
 use Rattle.wap_base.specs.Outcome.{◌>>=◌}
 use Rattle.wap_lex.specs.declared.class.Class.TheVariants.{InLine}
@@ -13,7 +16,7 @@ use Rattle.wap_lex.specs.declared.shape.Shape.TheVariants.{Blank, Comment, Word,
 use Rattle.wap_lex.specs.declared.shape.Shape.TheVariants.{Float, Str, Mark}
 use Rattle.wap_lex.specs.declared.fault.LexFault.{LexFault}
 use Rattle.wap_lex.specs.declared.fault.LexFault.TheVariants as fault
-use Rattle.wap_lex.specs.Characters.{is_digit, is_octal_digit, is_hexadecimal_digit}
+use Rattle.wap_lex.specs.Characters.{is_octal_digit}
 use Rattle.wap_lex.specs.Characters.{is_white, is_quote, is_line_end, is_in}
 use Rattle.wap_lex.specs.Numbers.{is_x, is_e, is_sign, integer_value, integer_limit}
 use Rattle.wap_lex.specs.Strings.{is_simple, is_surrogate}
@@ -33,7 +36,7 @@ more_by by len = if len == 0 then 0 else by + len
 abbrev pub hexadecimal_len : List ℕ → ℕ
 hexadecimal_len [] = 0
 hexadecimal_len (x ∷ digits) =
-    if is_x x then more_by 1 (prefix_len is_hexadecimal_digit digits) else 0
+    if is_x x then more_by 1 (prefix_len is_ascii_hexdigit digits) else 0
 
 abbrev pub octal_or : ℕ → List ℕ → ℕ
 octal_or hexadecimal rest =
@@ -42,13 +45,14 @@ octal_or hexadecimal rest =
 abbrev pub integer_len : List ℕ → ℕ
 integer_len [] = 0
 integer_len (first ∷ rest) =
-    if first == 48 then octal_or (hexadecimal_len rest) rest else prefix_len is_digit (first ∷ rest)
+    if first == digit_zero then octal_or (hexadecimal_len rest) rest else
+    prefix_len is_ascii_digit (first ∷ rest)
 
 abbrev pub signed_len : List ℕ → ℕ
 signed_len [] = 0
 signed_len (first ∷ rest) =
-    if is_sign first then more_by 1 (prefix_len is_digit rest) else
-    prefix_len is_digit (first ∷ rest)
+    if is_sign first then more_by 1 (prefix_len is_ascii_digit rest) else
+    prefix_len is_ascii_digit (first ∷ rest)
 
 abbrev pub exponent_len : List ℕ → ℕ
 exponent_len [] = 0
@@ -56,7 +60,7 @@ exponent_len (first ∷ rest) = if is_e first then more_by 1 (signed_len rest) e
 
 abbrev pub fraction_len : ℕ → List ℕ → ℕ
 fraction_len whole rest =
-    let fraction = prefix_len is_digit rest in
+    let fraction = prefix_len is_ascii_digit rest in
     if whole + fraction == 0 then 0 else whole + 1 + fraction + exponent_len (drop fraction rest)
 
 abbrev pub scaled_len : ℕ → ℕ → ℕ
@@ -66,28 +70,29 @@ scaled_len whole exponent = if (whole == 0) || (exponent == 0) then 0 else whole
 abbrev pub float_behind : ℕ → List ℕ → ℕ
 float_behind whole [] = 0
 float_behind whole (c ∷ rest) =
-    if c == 46 then fraction_len whole rest else scaled_len whole (exponent_len (c ∷ rest))
+    if c == full_stop then fraction_len whole rest else
+    scaled_len whole (exponent_len (c ∷ rest))
 
 abbrev pub float_len : List ℕ → ℕ
-float_len bytes = let whole = prefix_len is_digit bytes in float_behind whole (drop whole bytes)
+float_len bytes = let whole = prefix_len is_ascii_digit bytes in float_behind whole (drop whole bytes)
 
 abbrev pub unicode_len : List ℕ → ℕ
 unicode_len [] = 0
 unicode_len (a ∷ []) = 0
 unicode_len (a ∷ b ∷ digits) =
-    if nat_lt (prefix_len is_hexadecimal_digit (a ∷ b ∷ digits)) 4 || is_surrogate a b then 0 else 5
+    if nat_lt (prefix_len is_ascii_hexdigit (a ∷ b ∷ digits)) 4 || is_surrogate a b then 0 else 5
 
 abbrev pub escape_len : List ℕ → ℕ
 escape_len [] = 0
 escape_len (c ∷ digits) =
     if is_simple c || is_octal_digit c then 1 else
-    if c == 120 then (if nat_lt (prefix_len is_hexadecimal_digit digits) 2 then 0 else 3) else
-    if c == 117 then unicode_len digits else 0
+    if c == small_x then (if nat_lt (prefix_len is_ascii_hexdigit digits) 2 then 0 else 3) else
+    if c == small_u then unicode_len digits else 0
 
 abbrev pub item_len : ℕ → List ℕ → ℕ
 item_len quote [] = 0
 item_len quote (c ∷ rest) =
-    if c == 92 then more_by 1 (escape_len rest) else
+    if c == backslash then more_by 1 (escape_len rest) else
     if (c == quote) || is_line_end c then 0 else 1
 
 -- of items, so many at most
@@ -109,21 +114,23 @@ string_len (quote ∷ inside) =
 
 abbrev pub block_len : Bool → List ℕ → ℕ
 block_len star [] = 0
-block_len star (c ∷ rest) = if star && (c == 47) then 1 else more_by 1 (block_len (c == 42) rest)
+block_len star (c ∷ rest) =
+    if star && (c == slash) then 1 else more_by 1 (block_len (c == asterisk) rest)
 
 abbrev pub comment_len : List ℕ → ℕ
 comment_len [] = 0
 comment_len (a ∷ []) = 0
 comment_len (a ∷ b ∷ rest) =
-    if a == 47 then
-    if b == 47 then 2 + prefix_len (is_in InLine) rest else
-    if b == 42 then more_by 2 (block_len false rest) else 0
+    if a == slash then
+    if b == slash then 2 + prefix_len (is_in InLine) rest else
+    if b == asterisk then more_by 2 (block_len false rest) else 0
     else 0
 
 abbrev pub is_open_comment : List ℕ → Bool
 is_open_comment [] = false
 is_open_comment (a ∷ []) = false
-is_open_comment (a ∷ b ∷ rest) = (a == 47) && ((b == 42) && (block_len false rest == 0))
+is_open_comment (a ∷ b ∷ rest) =
+    (a == slash) && ((b == asterisk) && (block_len false rest == 0))
 
 -- of the first of some marks that stands there
 abbrev pub first_len : List (List ℕ) → List ℕ → ℕ
@@ -167,7 +174,7 @@ small value = if nat_le value integer_limit then Some value else None
 abbrev pub string_fault : ℕ → ℕ → List ℕ → LexFault
 string_fault at items [] = fault.OpenString at
 string_fault at items (c ∷ rest) =
-    if c == 92 then fault.BadEscape (at + 1 + items) else fault.OpenString at
+    if c == backslash then fault.BadEscape (at + 1 + items) else fault.OpenString at
 
 abbrev pub bad_front : ℕ → List ℕ → LexFault
 bad_front at [] = fault.BadChar at

@@ -3,6 +3,7 @@ use Rattle.std.specs.Prelude.{◌≡◌, ℕ, ◌+◌, ◌<◌, ◌≤◌, true,
 use Rattle.std.specs.Prelude.{[], ◌∷◌, ◌++◌, length, Option, Some, None}
 use Rattle.std.specs.List.{list_all}
 use Rattle.std.specs.Str.{IsUtf8}
+use Rattle.wap_base.specs.Ascii.{asterisk, slash, backslash}
 use Rattle.wap_base.specs.Names.{is_name}
 use Rattle.wap_lex.specs.declared.token.Kind.{Kind}
 use Rattle.wap_lex.specs.declared.token.Kind.TheVariants as kind
@@ -43,7 +44,7 @@ kind_of Mark text = Some kind.Mark
 -- a comment begins that the end of the source ends
 pub record IsOpenComment (bytes : List ℕ) : Type 0 where
   pub inside : List ℕ
-  pub begins : bytes ≡ 47 ∷ 42 ∷ inside
+  pub begins : bytes ≡ slash ∷ asterisk ∷ inside
   pub open_still : (text more : List ℕ) → bytes ≡ text ++ more → IsComment text → ⊥
 
 -- a text at the beginning of the bytes has a shape, and none that is longer has any
@@ -95,7 +96,7 @@ pub data Stops (at : ℕ) : List ℕ → LexFault → Type 0 where
       Stops at (quote ∷ (items ++ bytes)) (OpenString at)
   escape : (quote : ℕ) (items bytes : List ℕ) → is_quote quote ≡ true → AreItems quote items →
       BeginsNoEscape bytes →
-      Stops at (quote ∷ (items ++ 92 ∷ bytes)) (BadEscape (at + 1 + length items))
+      Stops at (quote ∷ (items ++ backslash ∷ bytes)) (BadEscape (at + 1 + length items))
   comment : (bytes : List ℕ) → IsOpenComment bytes → Stops at bytes (OpenComment at)
   integer : (text more : List ℕ) → IsPiece Integer text more → integer_limit < integer_value text →
       Stops at (text ++ more) (IntRange at)

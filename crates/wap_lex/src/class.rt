@@ -25,7 +25,7 @@ pub(crate) fn is_in(class: Class, byte: u8) -> bool
         Class::InWord => byte.is_ascii_alphabetic() || byte == b'_' || byte.is_ascii_digit(),
         Class::Digit => byte.is_ascii_digit(),
         Class::OctalDigit => matches!(byte, b'0'..=b'7'),
-        Class::HexadecimalDigit => matches!(byte, b'0'..=b'9' | b'A'..=b'F' | b'a'..=b'f'),
+        Class::HexadecimalDigit => byte.is_ascii_hexdigit(),
         Class::White => matches!(byte, b' ' | 0x09..=0x0D),
         Class::InLine => !matches!(byte, b'\n' | b'\r'),
     }

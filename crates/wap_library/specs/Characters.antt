@@ -3,10 +3,11 @@ use Rattle.std.specs.Prelude.{ℕ, Bool, false, ◌==◌, ◌||◌, ◌&&◌, if
 use Rattle.std.specs.Prelude.{[], ◌∷◌, length, take, drop}
 use Rattle.std.specs.Int.{is_in_range}
 use Rattle.std.specs.List.{prefix_len}
+use Rattle.wap_base.specs.Ascii.{tab, carriage_return, space}
 
--- space, and 9 to 13: tab, line feed, vertical tab, form feed and carriage return
+-- space, tab, line feed, vertical tab, form feed and carriage return
 abbrev pub is_blank : ℕ → Bool
-is_blank c = c == 32 || is_in_range 9 13 c
+is_blank c = c == space || is_in_range tab carriage_return c
 
 abbrev pub begins_blank : List ℕ → Bool
 begins_blank [] = false
@@ -20,7 +21,8 @@ part s start count = take count (drop start s)
 abbrev pub squeezed : List ℕ → List ℕ
 squeezed [] = []
 squeezed (c ∷ s) =
-    if is_blank c then (if begins_blank s then squeezed s else 32 ∷ squeezed s) else c ∷ squeezed s
+    if is_blank c then (if begins_blank s then squeezed s else space ∷ squeezed s) else
+    c ∷ squeezed s
 
 -- a text without the white space at its beginning, and at its end
 abbrev pub behind_blanks : List ℕ → List ℕ

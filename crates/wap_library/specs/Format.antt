@@ -2,6 +2,7 @@
 use Rattle.std.specs.Prelude.{ℕ, zero, suc, ◌-◌, List, [], ◌∷◌, ◌++◌, length, take, replicate}
 use Rattle.std.specs.Prelude.{ℤ, pos, negsuc, Option, Some, None, option_map}
 use Rattle.std.specs.Fmt.{decimal}
+use Rattle.wap_base.specs.Ascii.{space, hyphen, digit_zero}
 use Rattle.wap_value.specs.declared.value.Value.{Value}
 use Rattle.wap_value.specs.Conversion.{integer_of, text_of}
 use Rattle.wap_library.specs.declared.piece.Conversion.{Conversion}
@@ -18,11 +19,11 @@ own_digits (suc n) = decimal (suc n)
 
 -- zeros, and then the digits, so many together at least
 abbrev pub digits_of : ℕ → ℕ → List ℕ
-digits_of least n = replicate (least - length (own_digits n)) 48 ++ own_digits n
+digits_of least n = replicate (least - length (own_digits n)) digit_zero ++ own_digits n
 
 abbrev pub signed_digits : ℕ → ℤ → List ℕ
 signed_digits least (pos n) = digits_of least n
-signed_digits least (negsuc n) = 45 ∷ digits_of least (suc n)
+signed_digits least (negsuc n) = hyphen ∷ digits_of least (suc n)
 
 -- an Integer has one digit at least where no precision is given
 abbrev pub least_digits : Option ℕ → ℕ
@@ -36,7 +37,7 @@ cut (Some n) s = take n s
 
 -- spaces, and then the text, so many characters together at least
 abbrev pub filled : ℕ → List ℕ → List ℕ
-filled width s = replicate (width - length s) 32 ++ s
+filled width s = replicate (width - length s) space ++ s
 
 abbrev pub converted : Conversion → Option ℕ → Value → Option (List ℕ)
 converted Decimal precision v = option_map (signed_digits (least_digits precision)) (integer_of v)

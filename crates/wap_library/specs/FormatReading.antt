@@ -1,9 +1,10 @@
--- The same by calculation: the pieces of a format. 37 is `%`, and 46 is `.`. This project's own.
+-- The same by calculation: the pieces of a format. This project's own.
 use Rattle.std.specs.Prelude.{ℕ, zero, suc, ◌==◌, nat_le, if◌then◌else◌, List, [], ◌∷◌, length}
 use Rattle.std.specs.Prelude.{drop, Option, Some, None, option_map, option_and_then}
 use Rattle.std.specs.Char.{is_ascii_digit}
 use Rattle.std.specs.List.{prefix_len, take_while}
 use Rattle.std.specs.Str.Parse.{digits_value}
+use Rattle.wap_base.specs.Ascii.{percent_sign, full_stop}
 use Rattle.wap_library.specs.declared.piece.Conversion.{Conversion}
 use Rattle.wap_library.specs.declared.piece.Specifier.{Specifier}
 use Rattle.wap_library.specs.declared.piece.Piece.{Piece}
@@ -30,7 +31,7 @@ number_at s = up_to_65535 (digits_value 10 (take_while is_ascii_digit s))
 abbrev pub precision_at : List ℕ → Option (Option ℕ × List ℕ)
 precision_at [] = Some (None, [])
 precision_at (c ∷ s) =
-    if c == 46 then (if prefix_len is_ascii_digit s == 0 then None else
+    if c == full_stop then (if prefix_len is_ascii_digit s == 0 then None else
     (number_at s >>= λ n. Some (Some n, behind_digits s)))
     else Some (None, c ∷ s)
 
@@ -51,12 +52,12 @@ specifier_at s =
 abbrev pub piece_behind_percent : List ℕ → Option (Piece × List ℕ)
 piece_behind_percent [] = None
 piece_behind_percent (c ∷ s) =
-    if c == 37 then Some (Character 37, s)
+    if c == percent_sign then Some (Character percent_sign, s)
     else option_map (λ read. (Writes read.0, read.1)) (specifier_at (c ∷ s))
 
 -- the piece that a text begins with, and what follows it
 abbrev pub piece_at : ℕ → List ℕ → Option (Piece × List ℕ)
-piece_at c s = if c == 37 then piece_behind_percent s else Some (Character c, s)
+piece_at c s = if c == percent_sign then piece_behind_percent s else Some (Character c, s)
 
 -- the pieces of a text, of which there are so many at most
 abbrev pub pieces_at : ℕ → List ℕ → Option (List Piece)

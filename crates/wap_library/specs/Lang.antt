@@ -5,6 +5,7 @@ use Rattle.std.specs.Prelude.{unsigned_abs, Option, Some, None, unwrap_or, codes
 use Rattle.std.specs.Int.{int_min, int_max}
 use Rattle.std.specs.Char.{is_ascii_digit}
 use Rattle.std.specs.List.{take_while}
+use Rattle.wap_base.specs.Ascii.{plus_sign, hyphen}
 use Rattle.wap_value.specs.declared.value.Value.{Value}
 use Rattle.wap_value.specs.declared.value.Value.TheVariants.{Int, Bool as Boolean, Str, Invalid}
 use Rattle.wap_value.specs.Numeral.{integer_of_text}
@@ -34,9 +35,8 @@ use Rattle.wap_library.specs.Characters.{behind_blanks}
 use Rattle.wap_library.specs.Generator.{Generator, started_from, next_word, after_word}
 use Rattle.wap_library.specs.Row.{Row, gives, ends, draws, of_none, of_one, of_two}
 
--- `+` and `-`
 abbrev pub is_sign : ℕ → Bool
-is_sign c = c == 43 || c == 45
+is_sign c = c == plus_sign || c == hyphen
 
 -- the sign, if there is one, and the longest run of digits after it
 abbrev pub numeral : List ℕ → List ℕ

@@ -5,6 +5,7 @@ use Rattle.std.specs.Prelude.{unwrap_or, option_map, option_and_then, chars}
 use Rattle.std.specs.Fmt.{decimal}
 use Rattle.std.specs.Result.{result_ok}
 use Rattle.std.specs.Str.{is_utf8}
+use Rattle.wap_base.specs.Ascii.{slash, semicolon}
 use Rattle.wap_url.specs.declared.url.Url.{Url as UrlParts}
 use Rattle.wap_url.specs.Reading.{url_at}
 use Rattle.wap_url.specs.Printing.{printed}
@@ -43,20 +44,20 @@ on_url v f = on (url_of v) f
 abbrev pub part_value : Option (List ℕ) → Value
 part_value part = Str (unwrap_or part [])
 
--- The parameters follow the first `;` of the path's last segment; 47 is `/`, and 59 is `;`.
+-- the parameters follow the first `;` of the path's last segment
 abbrev pub last_segment : List ℕ → List ℕ
 last_segment path =
-    let segments = elements 47 path in
+    let segments = elements slash path in
     slice_index_or segments (length segments - 1) []
 
 abbrev pub parameters : List ℕ → List ℕ
-parameters path = without_element 59 0 (last_segment path)
+parameters path = without_element semicolon 0 (last_segment path)
 
 abbrev pub without_parameters : List ℕ → List ℕ
 without_parameters path =
-    let segments = elements 47 path in
-    with_separators 47
-    (slice_set segments (length segments - 1) (element_at 59 0 (last_segment path)))
+    let segments = elements slash path in
+    with_separators slash
+    (slice_set segments (length segments - 1) (element_at semicolon 0 (last_segment path)))
 
 -- a base has a scheme and a host
 abbrev pub is_base : UrlParts → Bool

@@ -6,6 +6,7 @@ use Rattle.std.specs.Prelude.{List, [], ◌∷◌, length, Option, Some, None, c
 use Rattle.std.specs.List.{filter_map, flat_map, list_all, list_any, AllByRecursion, IsDistinct}
 use Rattle.std.specs.Option.{option_and_then}
 use Rattle.std.specs.Map.{lookup}
+use Rattle.wap_base.specs.Ascii.{tab, line_feed, carriage_return, space}
 use Rattle.wap_base.specs.declared.name.Part.{Part}
 use Rattle.wap_base.specs.declared.name.Part.TheVariants.{Lit}
 use Rattle.wap_base.specs.Names.{is_name}
@@ -87,7 +88,8 @@ may_follow rule earlier tag =
 
 -- space, tab, carriage return or line feed
 abbrev pub is_blank : ℕ → Bool
-is_blank c = (nat_eq c 32 || nat_eq c 9) || (nat_eq c 13 || nat_eq c 10)
+is_blank c =
+    (nat_eq c space || nat_eq c tab) || (nat_eq c carriage_return || nat_eq c line_feed)
 
 -- one literal of blanks
 abbrev pub is_blank_text : List Part → Bool

@@ -4,6 +4,7 @@ use Rattle.std.specs.Prelude.{ℕ, ◌-◌, zero, suc, List, [], ◌∷◌, leng
 use Rattle.std.specs.Prelude.{◌&&◌, not, ◌==◌, Option, Some, None, option_map}
 use Rattle.std.specs.Prelude.{option_and_then, unwrap_or, if◌then◌else◌}
 use Rattle.std.specs.Int.{is_in_range}
+use Rattle.wap_base.specs.Ascii.{asterisk, digit_zero, digit_one, digit_nine, backslash}
 use Rattle.wap_mask.specs.declared.class.Class.{Class}
 use Rattle.wap_mask.specs.declared.symbol.Symbol.{Symbol}
 use Rattle.wap_mask.specs.declared.symbol.Symbol.TheVariants.{One, Exactly, UpTo, AnyNumber}
@@ -56,10 +57,11 @@ class_at text = first_of text >>= λ letter. class_of letter.0 >>= λ class. Som
 -- the symbol that a mask's text begins with, and what follows it
 abbrev pub symbol_at : List ℕ → Option (Symbol × List ℕ)
 symbol_at text = first_of text >>= λ first.
-    if first.0 == 92 then (first_of first.1 >>= λ kept. Some (Exactly kept.0, kept.1))
-    else (if first.0 == 42 then (class_at first.1 >>= λ read. Some (AnyNumber read.0, read.1))
-    else (if is_in_range 49 57 first.0
-    then (class_at first.1 >>= λ read. Some (UpTo (first.0 - 48) read.0, read.1))
+    if first.0 == backslash then (first_of first.1 >>= λ kept. Some (Exactly kept.0, kept.1))
+    else (if first.0 == asterisk
+    then (class_at first.1 >>= λ read. Some (AnyNumber read.0, read.1))
+    else (if is_in_range digit_one digit_nine first.0
+    then (class_at first.1 >>= λ read. Some (UpTo (first.0 - digit_zero) read.0, read.1))
     else (class_at text >>= λ read. Some (One read.0, read.1))))
 
 -- the symbol repeats though more of the text follows it

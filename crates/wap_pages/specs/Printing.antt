@@ -1,6 +1,7 @@
 -- How a fault of a page is printed: its name, and its fields in order. This project's own.
 use Rattle.std.specs.Prelude.{ℕ, List, [], ◌∷◌, ◌++◌, codes, decimal}
 use Rattle.std.specs.List.{flat_map}
+use Rattle.wap_base.specs.Ascii.{space, slash}
 use Rattle.wap_unit.specs.declared.fault.UnitFault.{UnitFault}
 use Rattle.wap_unit.specs.declared.fault.UnitFault.TheVariants as unit
 use Rattle.wap_verify.specs.declared.fault.VerifyFault.{VerifyFault}
@@ -14,7 +15,7 @@ use Rattle.wap_pages.specs.declared.fault.PageFault.TheVariants as page
 
 -- a field, after a space
 abbrev pub field_text : ℕ → List ℕ
-field_text field = 32 ∷ decimal field
+field_text field = space ∷ decimal field
 
 -- a name and its fields
 abbrev pub fault_text : List ℕ → List ℕ → List ℕ
@@ -36,7 +37,7 @@ document_text document.NoMemory = fault_text (codes "NoMemory") []
 
 -- the numbers of a path, with strokes between them
 abbrev pub step_text : ℕ → List ℕ
-step_text number = 47 ∷ decimal number
+step_text number = slash ∷ decimal number
 
 abbrev pub path_text : List ℕ → List ℕ
 path_text [] = []
@@ -44,7 +45,7 @@ path_text (number ∷ numbers) = decimal number ++ flat_map step_text numbers
 
 -- a name and a path, after a space
 abbrev pub at_path : List ℕ → List ℕ → List ℕ
-at_path name path = name ++ 32 ∷ path_text path
+at_path name path = name ++ space ∷ path_text path
 
 abbrev pub deck_text : DeckFault → List ℕ
 deck_text (deck.Child path) = at_path (codes "Child") path
