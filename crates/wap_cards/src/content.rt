@@ -44,7 +44,7 @@ const OPEN_TAGS: &[Tag] = &[
 ];
 
 /// Whether a tag is among some.
-pub fn is_among(group: &[Tag], tag: Tag) -> bool
+pub(crate) fn is_among(group: &[Tag], tag: Tag) -> bool
     ensures { result ≡ is_among group.now tag }
 {
     group.iter().any(|one| tag == *one)
@@ -148,7 +148,7 @@ fn begun_element<'a>(mark: &Mark<'a>) -> Option<View<'a>>
 }
 
 /// The elements that a card or a template holds.
-pub fn elements_of<'a>(alloc: Global, view: &View<'a>) -> Result<Rows<View<'a>>, NoMemory>
+pub(crate) fn elements_of<'a>(alloc: Global, view: &View<'a>) -> Result<Rows<View<'a>>, NoMemory>
     ensures { IfOk result (λ elements. elements ≡ elements_of view.now) }
 {
     let marks = content_of(alloc, view)?;

@@ -84,7 +84,7 @@ fn bound_in(
 }
 
 /// The template of a deck.
-pub fn template_of(deck: &GoodDeck) -> Option<View<'_>>
+pub(crate) fn template_of(deck: &GoodDeck) -> Option<View<'_>>
     ensures { result ≡ template_of deck.now }
 {
     deck.template()

@@ -26,7 +26,7 @@ fn is_task(tag: Tag) -> bool
 
 /// The first task in a node.
 #[tactic(auto, using(crate::proofs::Kids::node_steps))]
-pub fn task_of<'a>(view: &View<'a>) -> Option<View<'a>>
+pub(crate) fn task_of<'a>(view: &View<'a>) -> Option<View<'a>>
     ensures { result ≡ task_of view.now }
 {
     for child in view.kids() {
@@ -129,7 +129,7 @@ fn go_in(alloc: Global, vars: &Vars, view: &View<'_>) -> Result<Go, NoMemory>
 }
 
 /// A go to a URL and nothing more.
-pub fn go_to(alloc: Global, href: Text) -> Task
+pub(crate) fn go_to(alloc: Global, href: Text) -> Task
     ensures { result ≡ go_to href }
 {
     Task::Go(Go {
@@ -160,7 +160,7 @@ fn task_from(alloc: Global, vars: &Vars, view: &View<'_>) -> Result<Option<Task>
 }
 
 /// The task in a do, an anchor or an onevent, filled.
-pub fn task_in(alloc: Global, vars: &Vars, view: &View<'_>) -> Result<Option<Task>, NoMemory>
+pub(crate) fn task_in(alloc: Global, vars: &Vars, view: &View<'_>) -> Result<Option<Task>, NoMemory>
     ensures { IfOk result (λ task. task ≡ task_in vars.now view.now) }
 {
     match task_of(view) {

@@ -11,7 +11,7 @@ use wap_good::{AttrName, Bit, Run, View};
 
 /// The text of a value, if it holds no reference.
 #[tactic(auto, using(crate::proofs::Parts::plain_first))]
-pub fn plain_text(alloc: Global, run: Run<'_>) -> Result<Option<Text>, NoMemory>
+pub(crate) fn plain_text(alloc: Global, run: Run<'_>) -> Result<Option<Text>, NoMemory>
     ensures { IfOk result (λ text. text ≡ plain_text run.entry) }
 {
     let mut whole = Text::new(alloc);

@@ -23,7 +23,7 @@ fn deck_answer(page: Page) -> Result<Shared<GoodDeck>, Refusal>
 }
 
 /// Adds the line of a request, and asks for the page.
-pub fn ask<P: Pages>(
+pub(crate) fn ask<P: Pages>(
     alloc: Global,
     pages: &mut P,
     request: &Request,
@@ -38,7 +38,7 @@ pub fn ask<P: Pages>(
 }
 
 /// Adds the line of a plain request for a page, and asks for it.
-pub fn ask_for<P: Pages>(
+pub(crate) fn ask_for<P: Pages>(
     alloc: Global,
     pages: &mut P,
     url: &Url,

@@ -28,7 +28,10 @@ impl<'a> Model for Current<'a> {
 }
 
 /// The card of a number in the deck at hand.
-pub fn here<'a>(deck: &'a Option<Shared<GoodDeck>>, number: Option<usize>) -> Option<Current<'a>>
+pub(crate) fn here<'a>(
+    deck: &'a Option<Shared<GoodDeck>>,
+    number: Option<usize>,
+) -> Option<Current<'a>>
     ensures { result ≡ held_in deck.now number }
 {
     match (deck, number) {

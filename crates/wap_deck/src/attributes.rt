@@ -38,7 +38,10 @@ fn attribute(alloc: Global, attr: &Attr) -> Result<Option<(AttrName, Rows<Part>)
 }
 
 /// The attributes that are known.
-pub fn attributes(alloc: Global, attrs: &[Attr]) -> Result<Rows<(AttrName, Rows<Part>)>, NoMemory>
+pub(crate) fn attributes(
+    alloc: Global,
+    attrs: &[Attr],
+) -> Result<Rows<(AttrName, Rows<Part>)>, NoMemory>
     ensures { IfOk result (λ attributes. attributes ≡ filter_map attribute attrs.now) }
 {
     let mut attributes = rows_for(alloc, attrs.len())?;

@@ -12,7 +12,7 @@ use wap_markup::Piece;
 use wap_tokens::attr_value;
 
 /// A literal, if it has a character.
-pub fn literal(text: Text) -> Option<Part>
+pub(crate) fn literal(text: Text) -> Option<Part>
     ensures { result ≡ literal text }
 {
     if text.is_empty() {
@@ -23,7 +23,7 @@ pub fn literal(text: Text) -> Option<Part>
 }
 
 /// A character by its number.
-pub fn character(alloc: Global, number: u32) -> Result<Option<Part>, NoMemory>
+pub(crate) fn character(alloc: Global, number: u32) -> Result<Option<Part>, NoMemory>
     ensures { IfOk result (λ part. part ≡ character number) }
 {
     let Some(character) = char::from_u32(number) else {
@@ -35,7 +35,7 @@ pub fn character(alloc: Global, number: u32) -> Result<Option<Part>, NoMemory>
 }
 
 /// A reference to a variable, if its name is one.
-pub fn reference(alloc: Global, name: &Text, conv: Conv) -> Result<Option<Part>, NoMemory>
+pub(crate) fn reference(alloc: Global, name: &Text, conv: Conv) -> Result<Option<Part>, NoMemory>
     ensures { IfOk result (λ part. part ≡ reference name.now conv) }
 {
     match Name::of(alloc, name) {
@@ -91,7 +91,7 @@ fn add_after(parts: &mut Rows<Part>, mut text: Text, part: Part) -> Result<(), N
 
 /// Adds a part at the end. A literal joins one that it follows.
 #[tactic(auto, using(crate::proofs::Joining::part_added_last))]
-pub fn add_part(parts: &mut Rows<Part>, part: Part) -> Result<(), NoMemory>
+pub(crate) fn add_part(parts: &mut Rows<Part>, part: Part) -> Result<(), NoMemory>
     ensures { OnOk result (parts.new ≡ part_added parts.old part) }
 {
     match parts.pop() {
@@ -123,7 +123,7 @@ fn begin_value(alloc: Global, text: &str, room: usize) -> Result<Rows<Part>, NoM
 }
 
 /// The value of an attribute, after the text of its start.
-pub fn value(alloc: Global, text: &str, pieces: &[Piece]) -> Result<Rows<Part>, NoMemory>
+pub(crate) fn value(alloc: Global, text: &str, pieces: &[Piece]) -> Result<Rows<Part>, NoMemory>
     ensures { IfOk result (λ value. value ≡ value_after (chars text.now) pieces.now) }
 {
     let mut value = begin_value(alloc, text, pieces.len())?;

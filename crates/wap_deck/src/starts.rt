@@ -126,7 +126,7 @@ fn attr_of(alloc: Global, attribute: &(AttrName, Rows<Part>)) -> Result<Attr, No
 }
 
 /// The attributes of a document for those of a deck.
-pub fn attrs_of(
+pub(crate) fn attrs_of(
     alloc: Global,
     attributes: &[(AttrName, Rows<Part>)],
 ) -> Result<Rows<Attr>, NoMemory>

@@ -47,7 +47,7 @@ pub enum Kind {
 }
 
 /// The fault of a kind at a path, a copy of which it keeps.
-pub fn fault_at(alloc: Global, kind: Kind, path: &Rows<usize>) -> DeckFault
+pub(crate) fn fault_at(alloc: Global, kind: Kind, path: &Rows<usize>) -> DeckFault
     ensures { result ≢ DeckFault.NoMemory → result ≡ fault_of kind path.now }
 {
     match Rows::of(alloc, path.as_slice()) {

@@ -83,7 +83,7 @@ fn rows_of(tag: Tag) -> &'static [Row]
 }
 
 /// Whether an attribute stands twice.
-pub fn has_twice(attrs: &[(AttrName, Rows<Part>)]) -> bool
+pub(crate) fn has_twice(attrs: &[(AttrName, Rows<Part>)]) -> bool
     ensures { result ≡ has_twice (map (λ a. a.0) attrs.now) }
 {
     let mut left = attrs;
@@ -97,7 +97,7 @@ pub fn has_twice(attrs: &[(AttrName, Rows<Part>)]) -> bool
 }
 
 /// Whether there is an attribute of this name.
-pub fn has_name(attrs: &[(AttrName, Rows<Part>)], name: AttrName) -> bool
+pub(crate) fn has_name(attrs: &[(AttrName, Rows<Part>)], name: AttrName) -> bool
     ensures { result ≡ list_any (is_same_attr name) (map (λ a. a.0) attrs.now) }
 {
     for attr in attrs {
@@ -206,7 +206,7 @@ fn has_rows(rows: &[Row], node: &Node) -> bool
 }
 
 /// Whether each attribute of a node that has a form is of that form.
-pub fn has_forms(node: &Node) -> bool
+pub(crate) fn has_forms(node: &Node) -> bool
     ensures { result ≡ has_forms node.now }
 {
     has_rows(rows_of(node.tag), node)

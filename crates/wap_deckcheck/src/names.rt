@@ -183,7 +183,7 @@ fn plain_value(name: AttrName, node: &Node) -> Option<Label<'_>>
 }
 
 /// The id of a card.
-pub fn own_id(node: &Node) -> Option<Label<'_>>
+pub(crate) fn own_id(node: &Node) -> Option<Label<'_>>
     ensures { result ≡ own_id node.now }
 {
     if node.tag == Tag::Card {
@@ -204,7 +204,7 @@ fn name_of_do(node: &Node) -> Option<Label<'_>>
 }
 
 /// The name of a do, where names are told apart.
-pub fn own_name(apart: bool, node: &Node) -> Option<Label<'_>>
+pub(crate) fn own_name(apart: bool, node: &Node) -> Option<Label<'_>>
     ensures { result ≡ own_name apart node.now }
 {
     if apart && node.tag == Tag::Do {

@@ -242,7 +242,7 @@ fn has_all(node: &Node, names: &[AttrName]) -> bool
 }
 
 /// Whether a node has all that its rule asks for.
-pub fn has_needs(rule: &Rule, node: &Node) -> bool
+pub(crate) fn has_needs(rule: &Rule, node: &Node) -> bool
     ensures { result ≡ has_needs rule.now node.now }
 {
     has_all(node, rule.attributes)
@@ -250,7 +250,7 @@ pub fn has_needs(rule: &Rule, node: &Node) -> bool
 }
 
 /// Whether the names of the dos in an element are told apart.
-pub fn holds_dos(tag: Tag) -> bool
+pub(crate) fn holds_dos(tag: Tag) -> bool
     ensures { result ≡ holds_dos tag }
 {
     tag == Tag::Card || tag == Tag::Template

@@ -257,7 +257,7 @@ fn lacks_card(items: &[Item]) -> bool
 }
 
 /// Goes over a whole deck.
-pub fn walk_deck(alloc: Global, deck: &Deck) -> Result<(), DeckFault>
+pub(crate) fn walk_deck(alloc: Global, deck: &Deck) -> Result<(), DeckFault>
     ensures { Judges result (faults deck.now) }
 {
     let path = Rows::new(alloc);

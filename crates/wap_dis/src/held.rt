@@ -16,7 +16,7 @@ pub struct Held {
 }
 
 /// Nothing yet.
-pub fn nothing_held() -> Held
+pub(crate) fn nothing_held() -> Held
     ensures bytes { result.bytes.items ≡ [] }
     ensures failed { result.failed ≡ false }
 {
@@ -27,7 +27,7 @@ pub fn nothing_held() -> Held
 }
 
 /// Puts bytes after what is held, and writes where there is no room.
-pub fn put<O: Sink>(out: &mut O, held: &mut Held, piece: &[u8])
+pub(crate) fn put<O: Sink>(out: &mut O, held: &mut Held, piece: &[u8])
     ensures { Puts (O.written out.old) (O.written out.new) (O.faults out.old) (O.faults out.new)
         (state held.old) (state held.new) piece.now }
 {
@@ -57,7 +57,7 @@ fn write_out<O: Sink>(out: &mut O, held: &mut Held, piece: &[u8])
 }
 
 /// Writes what is held, if nothing failed before.
-pub fn write_held<O: Sink>(out: &mut O, held: &mut Held)
+pub(crate) fn write_held<O: Sink>(out: &mut O, held: &mut Held)
     ensures puts { Puts (O.written out.old) (O.written out.new) (O.faults out.old)
         (O.faults out.new) (state held.old) (state held.new) [] }
     ensures empty { (held.new.failed ≡ true) ⊎ (held.new.bytes.items ≡ []) }

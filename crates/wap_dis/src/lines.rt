@@ -15,7 +15,7 @@ use wap_base::{Sink, Text};
 use wap_code::{Code, Constant, Instr, Pragma, Row, Slot, Unit};
 
 /// Adds the line of the unit: its version and character set.
-pub fn put_unit_line<O: Sink>(out: &mut O, held: &mut Held, unit: &Unit)
+pub(crate) fn put_unit_line<O: Sink>(out: &mut O, held: &mut Held, unit: &Unit)
     ensures { Puts (O.written out.old) (O.written out.new) (O.faults out.old) (O.faults out.new)
         (state held.old) (state held.new) (unit_line unit.now) }
 {
@@ -33,7 +33,12 @@ pub fn put_unit_line<O: Sink>(out: &mut O, held: &mut Held, unit: &Unit)
 }
 
 /// Adds the line of a constant, known by its index.
-pub fn put_constant_line<O: Sink>(out: &mut O, held: &mut Held, index: u64, constant: &Constant)
+pub(crate) fn put_constant_line<O: Sink>(
+    out: &mut O,
+    held: &mut Held,
+    index: u64,
+    constant: &Constant,
+)
     ensures { Puts (O.written out.old) (O.written out.new) (O.faults out.old) (O.faults out.new)
         (state held.old) (state held.new) (constant_line (index, constant.now)) }
 {
@@ -80,7 +85,7 @@ fn put_value_line<'a, O: Sink>(
 }
 
 /// Adds the line of a pragma, known by its index.
-pub fn put_pragma_line<O: Sink>(out: &mut O, held: &mut Held, index: u64, pragma: Pragma)
+pub(crate) fn put_pragma_line<O: Sink>(out: &mut O, held: &mut Held, index: u64, pragma: Pragma)
     ensures { Puts (O.written out.old) (O.written out.new) (O.faults out.old) (O.faults out.new)
         (state held.old) (state held.new) (pragma_line (index, pragma)) }
 {
@@ -132,7 +137,7 @@ fn first_name(names: &[(u8, Text)], index: u64) -> Option<&Text>
 }
 
 /// Adds the line that begins a function: its index, counts and first name.
-pub fn put_head_line<O: Sink>(
+pub(crate) fn put_head_line<O: Sink>(
     out: &mut O,
     held: &mut Held,
     unit: &Unit,
@@ -183,7 +188,7 @@ fn operand_count(row: Row) -> usize
 }
 
 /// Adds the line of an instruction at a place of its code.
-pub fn put_instr_line<O: Sink>(out: &mut O, held: &mut Held, at: u64, row: Row, instr: Instr)
+pub(crate) fn put_instr_line<O: Sink>(out: &mut O, held: &mut Held, at: u64, row: Row, instr: Instr)
     ensures { Puts (O.written out.old) (O.written out.new) (O.faults out.old) (O.faults out.new)
         (state held.old) (state held.new) (instr_line at row instr) }
 {
@@ -202,7 +207,7 @@ pub fn put_instr_line<O: Sink>(out: &mut O, held: &mut Held, at: u64, row: Row, 
 }
 
 /// Adds the line of a byte of code: the first that begins no instruction, or one after it.
-pub fn put_byte_line<O: Sink>(out: &mut O, held: &mut Held, at: u64, byte: u8)
+pub(crate) fn put_byte_line<O: Sink>(out: &mut O, held: &mut Held, at: u64, byte: u8)
     ensures { Puts (O.written out.old) (O.written out.new) (O.faults out.old) (O.faults out.new)
         (state held.old) (state held.new) (byte_line (at, byte)) }
 {

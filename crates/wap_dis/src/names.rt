@@ -6,7 +6,7 @@ use wap_code::OpName;
 
 /// The name of an instruction.
 #[tactic(auto, unfolding(crate::specs::Names::name_of))]
-pub fn name_of(op: OpName) -> &'static str
+pub(crate) fn name_of(op: OpName) -> &'static str
     ensures { result.now ≡ name_of op }
 {
     match op {

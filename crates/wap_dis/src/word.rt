@@ -24,7 +24,7 @@ pub enum Word<'a> {
 }
 
 /// Puts a line: a word, more words with a space before each, and its end.
-pub fn put_line<O: Sink>(out: &mut O, held: &mut Held, first: Word<'_>, words: &[Word<'_>])
+pub(crate) fn put_line<O: Sink>(out: &mut O, held: &mut Held, first: Word<'_>, words: &[Word<'_>])
     ensures { Puts (O.written out.old) (O.written out.new) (O.faults out.old) (O.faults out.new)
         (state held.old) (state held.new)
         (line (word_bytes first.entry) (map word_bytes words.now)) }

@@ -21,7 +21,7 @@ fn find<'a>(pages: &'a [(Text, Page)], name: &Text) -> Option<&'a Page>
 }
 
 /// What pages answer for a name.
-pub fn answer(pages: &[(Text, Page)], name: &Text) -> Result<Page, NoMemory>
+pub(crate) fn answer(pages: &[(Text, Page)], name: &Text) -> Result<Page, NoMemory>
     ensures { IfOk result (λ page. page ≡ page_of name.now pages.now) }
 {
     match find(pages, name) {

@@ -37,7 +37,7 @@ fn count_of(alloc: Global, select: &View<'_>) -> Result<usize, NoMemory>
 }
 
 /// Whether several options of a select may be chosen.
-pub fn is_multiple(alloc: Global, select: &View<'_>) -> Result<bool, NoMemory>
+pub(crate) fn is_multiple(alloc: Global, select: &View<'_>) -> Result<bool, NoMemory>
     ensures { IfOk result (λ is_so. is_so ≡ is_multiple select.now) }
 {
     is_true(alloc, select, AttrName::Multiple)
@@ -364,7 +364,7 @@ fn turn_option(alloc: Global, choice: &[bool], number: usize) -> Result<Rows<boo
 }
 
 /// A choice with the option of a number: in a multiple select chosen or no longer, else alone.
-pub fn choice_with(
+pub(crate) fn choice_with(
     alloc: Global,
     select: &View<'_>,
     choice: &[bool],

@@ -79,7 +79,7 @@ fn join_index(alloc: Global, numbers: &[Text]) -> Result<Text, NoMemory>
 }
 
 /// The numbers of the options that are chosen, joined, and `0` for none.
-pub fn index_text(alloc: Global, choice: &[bool]) -> Result<Text, NoMemory>
+pub(crate) fn index_text(alloc: Global, choice: &[bool]) -> Result<Text, NoMemory>
     ensures { IfOk result (λ text. text ≡ index_text choice.now) }
 {
     let numbers = chosen_numbers(alloc, choice)?;
@@ -87,7 +87,7 @@ pub fn index_text(alloc: Global, choice: &[bool]) -> Result<Text, NoMemory>
 }
 
 /// The values of the options that are chosen, joined.
-pub fn choice_text(
+pub(crate) fn choice_text(
     alloc: Global,
     vars: &Vars,
     select: &View<'_>,
@@ -101,7 +101,7 @@ pub fn choice_text(
 }
 
 /// A text, and the variable that an attribute names for it, if there is one.
-pub fn set_under(
+pub(crate) fn set_under(
     alloc: Global,
     select: &View<'_>,
     name: AttrName,

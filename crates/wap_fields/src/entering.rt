@@ -13,7 +13,7 @@ use wap_good::{Tag, View};
 use wap_vars::{VarFault, Vars};
 
 /// The field of a number, if it has a tag.
-pub fn field_with<'a>(
+pub(crate) fn field_with<'a>(
     alloc: Global,
     tag: Tag,
     card: &View<'a>,

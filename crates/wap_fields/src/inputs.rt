@@ -90,7 +90,12 @@ fn is_empty(text: &Text) -> bool
 }
 
 /// Whether an input takes a text.
-pub fn takes(alloc: Global, vars: &Vars, input: &View<'_>, text: &Text) -> Result<bool, NoMemory>
+pub(crate) fn takes(
+    alloc: Global,
+    vars: &Vars,
+    input: &View<'_>,
+    text: &Text,
+) -> Result<bool, NoMemory>
     ensures { IfOk result (λ is_so. is_so ≡ takes vars.now input.now text.now) }
 {
     let mask = input_mask(alloc, vars, input)?;

@@ -13,13 +13,10 @@ mod pieces;
 mod sets;
 mod setting;
 
-pub use choices::{choice_of, choice_with};
+pub use choices::choice_of;
 pub use choosing::choose;
-pub use chosen::{choice_text, index_text, set_under};
 pub use defaults::apply_defaults;
-pub use entering::{enter_text, field_with};
-pub use inputs::{input_variable, shown_text, takes};
-pub use options::{options_of, values_of};
-pub use pieces::{join_all, pieces_of};
-pub use sets::set_choice;
-pub use setting::{set_if, set_one};
+pub use entering::enter_text;
+pub use inputs::{input_variable, shown_text};
+pub use options::options_of;
+pub use setting::set_one;

@@ -54,7 +54,11 @@ pub fn options_of<'a>(alloc: Global, select: &View<'a>) -> Result<Rows<View<'a>>
 }
 
 /// The values of a select's options, filled.
-pub fn values_of(alloc: Global, vars: &Vars, select: &View<'_>) -> Result<Rows<Text>, NoMemory>
+pub(crate) fn values_of(
+    alloc: Global,
+    vars: &Vars,
+    select: &View<'_>,
+) -> Result<Rows<Text>, NoMemory>
     ensures { IfOk result (λ values. values ≡ values_of vars.now select.now) }
 {
     let options = options_of(alloc, select)?;

@@ -15,7 +15,7 @@ fn is_semicolon(character: char) -> bool
 
 /// What stands between the semicolons of a text.
 #[tactic(auto, using(crate::proofs::Splitting::pieces_start))]
-pub fn pieces_of(alloc: Global, text: &str) -> Result<Rows<Text>, NoMemory>
+pub(crate) fn pieces_of(alloc: Global, text: &str) -> Result<Rows<Text>, NoMemory>
     ensures { IfOk result (λ pieces. pieces ≡ pieces_of (chars text.now)) }
 {
     let mut pieces = Rows::new(alloc);
@@ -33,7 +33,7 @@ pub fn pieces_of(alloc: Global, text: &str) -> Result<Rows<Text>, NoMemory>
 }
 
 /// Joins texts by semicolons.
-pub fn join_all(alloc: Global, texts: &[Text]) -> Result<Text, NoMemory>
+pub(crate) fn join_all(alloc: Global, texts: &[Text]) -> Result<Text, NoMemory>
     ensures { IfOk result (λ whole. whole ≡ joined texts.now) }
 {
     let mut whole = Text::new(alloc);

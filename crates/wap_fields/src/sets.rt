@@ -53,7 +53,7 @@ fn set_both(
 
 /// Sets what a choice says: the variable of `iname`, and then that of `name`, where there are
 /// such.
-pub fn set_choice(
+pub(crate) fn set_choice(
     alloc: Global,
     select: &View<'_>,
     choice: &[bool],

@@ -28,7 +28,7 @@ pub fn set_one(
 }
 
 /// Does the same where there is a name and a text.
-pub fn set_if(
+pub(crate) fn set_if(
     vars: &mut Vars,
     set: Option<(Text, Text)>,
     refused: &mut Rows<VarFault>,

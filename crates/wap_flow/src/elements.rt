@@ -21,7 +21,7 @@ fn add_space(alloc: Global, flow: &mut Rows<Flow>) -> Result<(), NoMemory>
 }
 
 /// Appends what stands before the content of an element.
-pub fn add_before(
+pub(crate) fn add_before(
     alloc: Global,
     vars: &Vars,
     node: &View<'_>,
@@ -43,7 +43,7 @@ pub fn add_before(
 }
 
 /// Appends what stands on both sides of a cell or a row.
-pub fn add_edge(alloc: Global, tag: Tag, flow: &mut Rows<Flow>) -> Result<(), NoMemory>
+pub(crate) fn add_edge(alloc: Global, tag: Tag, flow: &mut Rows<Flow>) -> Result<(), NoMemory>
     ensures { OnOk result (flow.new ≡ flow.old ++ flow_behind tag) }
 {
     if tag == Tag::Td {

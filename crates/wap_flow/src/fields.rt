@@ -37,7 +37,7 @@ fn input_mark(alloc: Global, vars: &Vars, number: u64, input: &View<'_>) -> Resu
 }
 
 /// Appends what a field shows, which has a number.
-pub fn add_field(
+pub(crate) fn add_field(
     alloc: Global,
     vars: &Vars,
     number: u64,

@@ -86,7 +86,7 @@ fn add_options(
 }
 
 /// Appends what a select shows, which has a number: its options between soft breaks.
-pub fn add_select(
+pub(crate) fn add_select(
     alloc: Global,
     vars: &Vars,
     number: u64,

@@ -18,7 +18,7 @@ use wap_execution::Fatal;
 use wap_value::{BinOp, UnOp, Value, ValueFault, binary, to_bool, unary};
 
 /// Goes on further on.
-pub fn pass_on(frame: &mut Frame, place: usize) -> Next
+pub(crate) fn pass_on(frame: &mut Frame, place: usize) -> Next
     ensures { IsDone frame.old (going place frame.old) frame.new result }
 {
     frame.go(place);
@@ -26,7 +26,7 @@ pub fn pass_on(frame: &mut Frame, place: usize) -> Next
 }
 
 /// Puts a value on top, and goes on further on.
-pub fn give(frame: &mut Frame, value: Value, place: usize) -> Next
+pub(crate) fn give(frame: &mut Frame, value: Value, place: usize) -> Next
     requires { Fits frame.old (giving value place frame.old) }
     ensures { IsDone frame.old (giving value place frame.old) frame.new result }
 {
@@ -35,7 +35,7 @@ pub fn give(frame: &mut Frame, value: Value, place: usize) -> Next
 }
 
 /// Jumps back.
-pub fn jump_back(frame: &mut Frame, instr: Instr) -> Next
+pub(crate) fn jump_back(frame: &mut Frame, instr: Instr) -> Next
     requires { Fits frame.old (going_back instr frame.old) }
     ensures { IsDone frame.old (going_back instr frame.old) frame.new result }
 {
@@ -60,7 +60,7 @@ fn jumps_at(value: &Value) -> bool
 
 /// Jumps forward unless the value on top is true.
 #[tactic(auto, unfolding(wap_execution::specs::Effects::effect_of))]
-pub fn jump_unless(frame: &mut Frame, instr: Instr) -> Next
+pub(crate) fn jump_unless(frame: &mut Frame, instr: Instr) -> Next
     requires next { instr.next < 2 ^ 32 }
     requires fits { Fits frame.old (effect_of 0 frame.old action.JumpUnless instr) }
     ensures { IsDone frame.old (effect_of 0 frame.old action.JumpUnless instr) frame.new result }
@@ -79,7 +79,7 @@ pub fn jump_unless(frame: &mut Frame, instr: Instr) -> Next
 
 /// Jumps back unless the value on top is true.
 #[tactic(auto, unfolding(wap_execution::specs::Effects::effect_of))]
-pub fn jump_back_unless(frame: &mut Frame, instr: Instr) -> Next
+pub(crate) fn jump_back_unless(frame: &mut Frame, instr: Instr) -> Next
     requires { Fits frame.old (effect_of 0 frame.old action.JumpBackUnless instr) }
     ensures { IsDone frame.old
         (effect_of 0 frame.old action.JumpBackUnless instr) frame.new result }
@@ -98,7 +98,7 @@ pub fn jump_back_unless(frame: &mut Frame, instr: Instr) -> Next
 
 /// Puts what an operator makes of the value on top in its place.
 #[tactic(auto, unfolding(wap_execution::specs::Effects::effect_of))]
-pub fn apply_unary(frame: &mut Frame, op: UnOp, instr: Instr) -> Next
+pub(crate) fn apply_unary(frame: &mut Frame, op: UnOp, instr: Instr) -> Next
     requires { Fits frame.old (effect_of 0 frame.old (action.Unary op) instr) }
     ensures { IsDone frame.old (effect_of 0 frame.old (action.Unary op) instr) frame.new result }
 {
@@ -110,7 +110,7 @@ pub fn apply_unary(frame: &mut Frame, op: UnOp, instr: Instr) -> Next
 
 /// Takes the value on top away.
 #[tactic(auto, unfolding(wap_execution::specs::Effects::effect_of))]
-pub fn discard(frame: &mut Frame, instr: Instr) -> Next
+pub(crate) fn discard(frame: &mut Frame, instr: Instr) -> Next
     requires { Fits frame.old (effect_of 0 frame.old action.Pop instr) }
     ensures { IsDone frame.old (effect_of 0 frame.old action.Pop instr) frame.new result }
 {
@@ -122,7 +122,7 @@ pub fn discard(frame: &mut Frame, instr: Instr) -> Next
 
 /// Ends the function with the value on top.
 #[tactic(auto, unfolding(wap_execution::specs::Effects::effect_of))]
-pub fn end_function(frame: &mut Frame, instr: Instr) -> Next
+pub(crate) fn end_function(frame: &mut Frame, instr: Instr) -> Next
     requires { Fits frame.old (effect_of 0 frame.old action.Return instr) }
     ensures { IsDone frame.old (effect_of 0 frame.old action.Return instr) frame.new result }
 {

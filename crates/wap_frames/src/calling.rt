@@ -27,7 +27,7 @@ fn call(frame: &mut Frame, callee: Callee, count: usize, place: usize) -> Result
 
 /// Calls a function of the unit.
 #[tactic(auto, unfolding(wap_execution::specs::Effects::effect_of))]
-pub fn call_local(frame: &mut Frame, instr: Instr) -> Result<Next, NoMemory>
+pub(crate) fn call_local(frame: &mut Frame, instr: Instr) -> Result<Next, NoMemory>
     requires small { instr.a < 256 }
     requires fits { Fits frame.old (effect_of 0 frame.old action.CallLocal instr) }
     ensures { IfOk result
@@ -47,7 +47,7 @@ pub fn call_local(frame: &mut Frame, instr: Instr) -> Result<Next, NoMemory>
 
 /// Calls a function of a library.
 #[tactic(auto, unfolding(wap_execution::specs::Effects::effect_of))]
-pub fn call_library(frame: &mut Frame, instr: Instr) -> Result<Next, NoMemory>
+pub(crate) fn call_library(frame: &mut Frame, instr: Instr) -> Result<Next, NoMemory>
     requires index { instr.a < 256 }
     requires library { instr.b < 65536 }
     requires fits { Fits frame.old (effect_of 0 frame.old action.CallLibrary instr) }
@@ -63,7 +63,11 @@ pub fn call_library(frame: &mut Frame, instr: Instr) -> Result<Next, NoMemory>
 
 /// Calls a function of another unit.
 #[tactic(auto, unfolding(wap_execution::specs::Effects::effect_of))]
-pub fn call_external(alloc: Global, frame: &mut Frame, instr: Instr) -> Result<Next, NoMemory>
+pub(crate) fn call_external(
+    alloc: Global,
+    frame: &mut Frame,
+    instr: Instr,
+) -> Result<Next, NoMemory>
     requires few { instr.c < 256 }
     requires fits { Fits frame.old (effect_of 0 frame.old action.CallExternal instr) }
     ensures { IfOk result

@@ -67,7 +67,7 @@ fn constant(alloc: Global, unit: &Verified, index: u32, string: u32) -> Result<V
 
 /// Gives a constant's value.
 #[tactic(auto, unfolding(wap_execution::specs::Effects::effect_of))]
-pub fn load_constant(
+pub(crate) fn load_constant(
     alloc: Global,
     frame: &mut Frame,
     instr: Instr,

@@ -12,7 +12,7 @@ use wap_execution::Action;
 use wap_value::{BinOp, UnOp};
 
 /// What an operation does.
-pub fn action_of(operation: OpName) -> Action
+pub(crate) fn action_of(operation: OpName) -> Action
     ensures { result ≡ action_of operation }
 {
     match operation {
@@ -73,7 +73,7 @@ pub fn action_of(operation: OpName) -> Action
 }
 
 /// What stands where a frame goes on.
-pub fn instruction(frame: &Frame) -> (Action, Instr)
+pub(crate) fn instruction(frame: &Frame) -> (Action, Instr)
     requires stands { Stands frame.now 0 }
     requires within { frame.now.place < length (code_of frame.now.function) }
     ensures { IsInstruction frame.now result.0 result.1 }

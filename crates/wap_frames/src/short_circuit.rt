@@ -49,7 +49,7 @@ fn decide(value: &Value, decides: bool) -> Option<Value>
 }
 
 /// Takes a value, and jumps with it where it decides.
-pub fn short_circuit(frame: &mut Frame, decides: bool, next: usize) -> Next
+pub(crate) fn short_circuit(frame: &mut Frame, decides: bool, next: usize) -> Next
     requires small { length (code_of frame.old.function) < 2 ^ 32 }
     requires fits { Fits frame.old (pair_behind decides next frame.old) }
     ensures { IsDone frame.old (pair_behind decides next frame.old) frame.new result }

@@ -31,7 +31,11 @@ fn store_in(frame: &mut Frame, index: u32, value: Value, place: usize) -> Next
 
 /// Gives a variable's value.
 #[tactic(auto, unfolding(wap_execution::specs::Effects::effect_of))]
-pub fn load_variable(alloc: Global, frame: &mut Frame, instr: Instr) -> Result<Next, NoMemory>
+pub(crate) fn load_variable(
+    alloc: Global,
+    frame: &mut Frame,
+    instr: Instr,
+) -> Result<Next, NoMemory>
     requires { Fits frame.old (effect_of 0 frame.old action.LoadVariable instr) }
     ensures { IfOk result
         (IsDone frame.old (effect_of 0 frame.old action.LoadVariable instr) frame.new) }
@@ -42,7 +46,7 @@ pub fn load_variable(alloc: Global, frame: &mut Frame, instr: Instr) -> Result<N
 
 /// Takes the value on top and stores it in a variable.
 #[tactic(auto, unfolding(wap_execution::specs::Effects::effect_of))]
-pub fn store_variable(frame: &mut Frame, instr: Instr) -> Next
+pub(crate) fn store_variable(frame: &mut Frame, instr: Instr) -> Next
     requires { Fits frame.old (effect_of 0 frame.old action.StoreVariable instr) }
     ensures { IsDone frame.old (effect_of 0 frame.old action.StoreVariable instr) frame.new result }
 {
@@ -54,7 +58,7 @@ pub fn store_variable(frame: &mut Frame, instr: Instr) -> Next
 
 /// Stores in a variable what an operator makes of its value.
 #[tactic(auto, unfolding(wap_execution::specs::Effects::effect_of))]
-pub fn change_variable(frame: &mut Frame, op: UnOp, instr: Instr) -> Next
+pub(crate) fn change_variable(frame: &mut Frame, op: UnOp, instr: Instr) -> Next
     requires { Fits frame.old (effect_of 0 frame.old (action.ChangeVariable op) instr) }
     ensures { IsDone frame.old
         (effect_of 0 frame.old (action.ChangeVariable op) instr) frame.new result }
@@ -65,7 +69,7 @@ pub fn change_variable(frame: &mut Frame, op: UnOp, instr: Instr) -> Next
 
 /// Stores in a variable what an operator makes of its value and the value on top.
 #[tactic(auto, unfolding(wap_execution::specs::Effects::effect_of))]
-pub fn assign_variable(
+pub(crate) fn assign_variable(
     alloc: Global,
     frame: &mut Frame,
     op: BinOp,
@@ -90,7 +94,7 @@ pub fn assign_variable(
 
 /// Puts what an operator makes of the two values on top in their place.
 #[tactic(auto, unfolding(wap_execution::specs::Effects::effect_of))]
-pub fn apply_binary(
+pub(crate) fn apply_binary(
     alloc: Global,
     frame: &mut Frame,
     op: BinOp,

@@ -82,7 +82,7 @@ fn coded_start(bytes: &[u8]) -> Option<Start<'_>>
 /// The value of the first attribute of that name.
 // The first of all is looked at here, apart from the loop: mostly it is that one.
 #[inline(never)]
-pub fn find_attr<'a>(table: &Bytes, name: AttrName, bytes: &'a [u8]) -> Option<Run<'a>>
+pub(crate) fn find_attr<'a>(table: &Bytes, name: AttrName, bytes: &'a [u8]) -> Option<Run<'a>>
     requires { Ends (attr_at table.now) bytes.now }
     ensures { result ≡ value_in name (all_of (attr_at table.now) bytes.now).0 }
 {

@@ -26,7 +26,7 @@ pub enum Bit<'a> {
 /// The next bit of a text, and what follows it.
 #[tactic(auto, unfolding(crate::specs::Texts::part_at))]
 #[inline(always)]
-pub fn next_bit(bytes: &[u8]) -> Option<(Bit<'_>, &[u8])>
+pub(crate) fn next_bit(bytes: &[u8]) -> Option<(Bit<'_>, &[u8])>
     requires { AreParts bytes.now }
     ensures exact { Reads (λ read. (part_of read.0, read.1.now)) result (part_at bytes.now) }
     ensures kind { IfSome result (λ read. IsOfKind read.0) }
@@ -86,7 +86,7 @@ fn next_reference(conv: Conv, bytes: &[u8]) -> Option<(Bit<'_>, &[u8])>
 
 /// What follows a bit of a text, as its mark tells it.
 #[tactic(auto, unfolding(crate::specs::Texts::part_end))]
-pub fn after_bit(bytes: &[u8]) -> Option<&[u8]>
+pub(crate) fn after_bit(bytes: &[u8]) -> Option<&[u8]>
     ensures { Reads (λ rest. rest.now) result (part_end bytes.now) }
 {
     let (mark, rest) = first(bytes)?;
@@ -98,7 +98,7 @@ pub fn after_bit(bytes: &[u8]) -> Option<&[u8]>
 }
 
 /// What follows the bits of a text, where no mark of a bit follows them.
-pub fn after_bits(bytes: &[u8]) -> &[u8]
+pub(crate) fn after_bits(bytes: &[u8]) -> &[u8]
     ensures exact { part_end (behind_value bytes.now) ≡ None
         → result.now ≡ behind_value bytes.now }
     ensures behind { IsBehind result.now bytes.now }

@@ -90,7 +90,7 @@ fn places_of(
 }
 
 /// Where the cards and the templates of a deck begin.
-pub fn card_places(
+pub(crate) fn card_places(
     alloc: Global,
     table: &Bytes,
     root: usize,
@@ -107,7 +107,12 @@ pub fn card_places(
 }
 
 /// The view of the node in the root's content that begins at a place.
-pub fn view_at<'a>(table: &'a Bytes, bytes: &'a [u8], notes: &'a [Note], place: Place) -> View<'a>
+pub(crate) fn view_at<'a>(
+    table: &'a Bytes,
+    bytes: &'a [u8],
+    notes: &'a [Note],
+    place: Place,
+) -> View<'a>
     requires within { place.begin ≤ length bytes.now }
     requires read { IsRead table.now (LEVEL_LIMIT - 1) (drop place.begin bytes.now) }
     requires noted { AreNotes bytes.now notes.now }

@@ -16,7 +16,7 @@ use wap_base::Bytes;
 
 /// The next child, what follows it, and the notes of that.
 #[inline(always)]
-pub fn next_child<'a>(
+pub(crate) fn next_child<'a>(
     table: &'a Bytes,
     levels: u32,
     bytes: &'a [u8],

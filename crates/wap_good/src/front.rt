@@ -9,7 +9,7 @@ use wap_base::read_mb;
 use wap_markup::END;
 
 /// The first byte, and those after it.
-pub fn first(bytes: &[u8]) -> Option<(u8, &[u8])>
+pub(crate) fn first(bytes: &[u8]) -> Option<(u8, &[u8])>
     ensures { Reads (λ read. (read.0, read.1.now)) result (first_at bytes.now) }
 {
     match bytes {
@@ -20,7 +20,7 @@ pub fn first(bytes: &[u8]) -> Option<(u8, &[u8])>
 
 /// A number, and the bytes after it.
 #[tactic(auto, unfolding(crate::specs::Readers::number_at))]
-pub fn number(bytes: &[u8]) -> Option<(u32, &[u8])>
+pub(crate) fn number(bytes: &[u8]) -> Option<(u32, &[u8])>
     ensures { Reads (λ read. (read.0, read.1.now)) result (number_at bytes.now) }
 {
     match read_mb(bytes, 0) {
@@ -31,7 +31,7 @@ pub fn number(bytes: &[u8]) -> Option<(u32, &[u8])>
 
 /// The bytes up to the first 0, and those after it.
 #[tactic(auto, unfolding(crate::specs::Readers::ended_at))]
-pub fn split_at_zero(bytes: &[u8]) -> Option<(&[u8], &[u8])>
+pub(crate) fn split_at_zero(bytes: &[u8]) -> Option<(&[u8], &[u8])>
     ensures { Reads (λ read. (read.0.now, read.1.now)) result (ended_at bytes.now) }
 {
     match memchr(0, bytes) {
@@ -41,7 +41,7 @@ pub fn split_at_zero(bytes: &[u8]) -> Option<(&[u8], &[u8])>
 }
 
 /// What follows the first 0; nothing where there is none.
-pub fn after_zero(bytes: &[u8]) -> &[u8]
+pub(crate) fn after_zero(bytes: &[u8]) -> &[u8]
     ensures { result.now ≡ behind_zero bytes.now }
 {
     match memchr(0, bytes) {
@@ -51,7 +51,7 @@ pub fn after_zero(bytes: &[u8]) -> &[u8]
 }
 
 /// What follows the first byte; nothing where there is none.
-pub fn after_first(bytes: &[u8]) -> &[u8]
+pub(crate) fn after_first(bytes: &[u8]) -> &[u8]
     ensures { result.now ≡ drop 1 bytes.now }
 {
     match bytes {
@@ -61,7 +61,7 @@ pub fn after_first(bytes: &[u8]) -> &[u8]
 }
 
 /// Whether nothing follows, or an end.
-pub fn is_end(bytes: &[u8]) -> bool
+pub(crate) fn is_end(bytes: &[u8]) -> bool
     ensures { result ≡ is_end bytes.now }
 {
     match bytes {
@@ -71,7 +71,7 @@ pub fn is_end(bytes: &[u8]) -> bool
 }
 
 /// The string of a table from an index on.
-pub fn string_from(table: &[u8], index: usize) -> &[u8]
+pub(crate) fn string_from(table: &[u8], index: usize) -> &[u8]
     ensures { result.now ≡ string_from table.now index }
 {
     let Some(string) = table.get(index..) else {

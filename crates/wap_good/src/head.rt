@@ -9,21 +9,21 @@ use crate::front::first;
 use crate::skip::after_head;
 
 /// Whether attributes follow a tag.
-pub fn has_attributes(tag: u8) -> bool
+pub(crate) fn has_attributes(tag: u8) -> bool
     ensures { result ≡ has_attributes tag }
 {
     tag >= 128
 }
 
 /// Whether content follows a tag.
-pub fn has_content(tag: u8) -> bool
+pub(crate) fn has_content(tag: u8) -> bool
     ensures { result ≡ has_content tag }
 {
     tag % 128 >= 64
 }
 
 /// The content of the node that bytes begin with, and what follows it; nothing where it has none.
-pub fn kids_begin(bytes: &[u8]) -> &[u8]
+pub(crate) fn kids_begin(bytes: &[u8]) -> &[u8]
     ensures exact { IsContent bytes.now result.now }
     ensures behind { IsBehind result.now bytes.now }
 {

@@ -24,7 +24,7 @@ fn name_mark(name: AttrName) -> u16
 
 /// Whether marks tell that a name isn't among those that they are of.
 #[inline(always)]
-pub fn lacks(names: u16, name: AttrName) -> bool
+pub(crate) fn lacks(names: u16, name: AttrName) -> bool
     ensures { result ≡ lacks names name }
 {
     names & name_mark(name) == 0
@@ -58,7 +58,7 @@ fn names_in(bytes: &[u8]) -> u16
 }
 
 /// The marks of the names that the attributes have of the node that bytes begin with.
-pub fn names_of(bytes: &[u8]) -> u16
+pub(crate) fn names_of(bytes: &[u8]) -> u16
     ensures { (name : AttrName) → lacks result name ≡ true → LacksName bytes.now name }
 {
     match first(bytes) {
@@ -76,7 +76,7 @@ pub fn names_of(bytes: &[u8]) -> u16
 /// What is known of the node that bytes begin with by its mark alone: it may have any attributes,
 /// or it has none; then its content, if it has one, follows the mark.
 #[inline(always)]
-pub fn known_at(bytes: &[u8]) -> Known
+pub(crate) fn known_at(bytes: &[u8]) -> Known
     ensures { IsHead bytes.now result.names result.head }
 {
     match first(bytes) {
@@ -114,7 +114,7 @@ fn known_by_mark(mark: u8) -> Known
 
 /// How many bytes stand before the content of the node that bytes begin with; 0 where it has none,
 /// or 8 bits can't count them.
-pub fn head_of(bytes: &[u8]) -> u8
+pub(crate) fn head_of(bytes: &[u8]) -> u8
     ensures content { 0 < result → IsContent bytes.now (drop result bytes.now) }
     ensures within { result ≤ length bytes.now }
 {
@@ -129,7 +129,7 @@ pub fn head_of(bytes: &[u8]) -> u8
 /// The content of the node that bytes begin with, and what follows it, where so many bytes stand
 /// before it; 0 where that isn't known.
 #[inline(always)]
-pub fn content_of(head: u8, bytes: &[u8]) -> &[u8]
+pub(crate) fn content_of(head: u8, bytes: &[u8]) -> &[u8]
     requires known { 0 < head → IsContent bytes.now (drop head bytes.now) }
     requires within { head ≤ length bytes.now }
     ensures exact { IsContent bytes.now result.now }

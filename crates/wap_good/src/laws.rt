@@ -17,7 +17,7 @@ ghost use Rattle.wap_good.specs.inside.Held.{IsHeld, table_in, deck_in};
 pub const HEADER_LENGTH: usize = 3;
 
 /// A deck is read from the bytes that spell its document. The function does nothing.
-pub fn decks_are_read()
+pub(crate) fn decks_are_read()
     ensures { (deck : Deck) (bytes : List ℕ) (table root : ℕ) → IsGood deck → IsNormal deck
         → OfNode LEVEL_LIMIT deck.root → IsSpellable (document_of deck)
         → bytes ≡ spelling (document_of deck)

@@ -129,7 +129,7 @@ fn with_inside(alloc: Global, bytes: &[u8], notes: &[Note]) -> Result<Rows<Note>
 }
 
 /// The notes of the nodes in a document, in their order, by its bytes and where its root begins.
-pub fn notes_of(alloc: Global, bytes: &[u8], root: usize) -> Result<Rows<Note>, NoMemory>
+pub(crate) fn notes_of(alloc: Global, bytes: &[u8], root: usize) -> Result<Rows<Note>, NoMemory>
     requires { root ≤ length bytes.now }
     ensures { IfOk result (AreNotes bytes.now) }
 {
@@ -138,7 +138,7 @@ pub fn notes_of(alloc: Global, bytes: &[u8], root: usize) -> Result<Rows<Note>, 
 }
 
 /// The notes from a place on.
-pub fn notes_from(notes: &[Note], place: usize) -> &[Note]
+pub(crate) fn notes_from(notes: &[Note], place: usize) -> &[Note]
     ensures { (whole : List ℕ) → AreNotes whole notes.now → AreNotes whole result.now }
 {
     if place > notes.len() {
@@ -150,7 +150,7 @@ pub fn notes_from(notes: &[Note], place: usize) -> &[Note]
 /// The notes of what begins in the last bytes.
 // A call, since few nodes have as many notes inside that walks need it.
 #[inline(never)]
-pub fn notes_left<'a>(notes: &'a [Note], bytes: &[u8]) -> &'a [Note]
+pub(crate) fn notes_left<'a>(notes: &'a [Note], bytes: &[u8]) -> &'a [Note]
     ensures { (whole : List ℕ) → AreNotes whole notes.now → AreNotes whole result.now }
 {
     let mut passed = 0;
@@ -185,7 +185,7 @@ fn first_note(notes: &[Note]) -> Option<(Note, &[Note])>
 
 /// The note of the node that bytes begin with, if it has one, and those behind it.
 #[inline(always)]
-pub fn own_note<'a>(notes: &'a [Note], bytes: &[u8]) -> Option<(&'a Note, &'a [Note])>
+pub(crate) fn own_note<'a>(notes: &'a [Note], bytes: &[u8]) -> Option<(&'a Note, &'a [Note])>
     requires { AreNotes bytes.now notes.now }
     ensures own { IfSome result (λ read. IsOwn bytes.now read.0.now) }
     ensures shorter { IfSome result (λ read. read.0.now.end < length bytes.now) }
@@ -206,7 +206,11 @@ pub fn own_note<'a>(notes: &'a [Note], bytes: &[u8]) -> Option<(&'a Note, &'a [N
 /// What follows the node that bytes begin with, by its note and those behind it, and the notes of
 /// what follows.
 #[inline(always)]
-pub fn after_noted<'a>(note: &Note, inside: &'a [Note], bytes: &'a [u8]) -> (&'a [u8], &'a [Note])
+pub(crate) fn after_noted<'a>(
+    note: &Note,
+    inside: &'a [Note],
+    bytes: &'a [u8],
+) -> (&'a [u8], &'a [Note])
     requires { note.now.end < length bytes.now }
     ensures rest { result.0.now ≡ last_bytes note.now.end bytes.now }
     ensures notes { (whole : List ℕ) → AreNotes whole inside.now → AreNotes whole result.1.now }

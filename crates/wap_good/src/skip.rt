@@ -54,7 +54,7 @@ fn after_attrs(bytes: &[u8]) -> &[u8]
 
 /// What follows the attributes after a mark, if it says that there are any.
 #[inline(always)]
-pub fn after_head(mark: u8, bytes: &[u8]) -> &[u8]
+pub(crate) fn after_head(mark: u8, bytes: &[u8]) -> &[u8]
     ensures exact { (table : List ℕ) →
         Leaves (closed_if (has_attributes mark) (attr_at table)) bytes.now result.now }
     ensures behind { IsBehind result.now bytes.now }
@@ -68,7 +68,7 @@ pub fn after_head(mark: u8, bytes: &[u8]) -> &[u8]
 
 /// What follows a node of so many levels at most.
 #[cycle(skip)]
-pub fn after_node(levels: u32, bytes: &[u8]) -> &[u8]
+pub(crate) fn after_node(levels: u32, bytes: &[u8]) -> &[u8]
     ensures exact { FollowsNode levels bytes.now result.now }
     ensures behind { IsBehind result.now (drop 1 bytes.now) }
 {

@@ -35,7 +35,7 @@ fn tell_attrs(attrs: &[(AttrName, Rows<Part>)])
 /// Tells it of a node, down to so many levels.
 #[cycle(texts)]
 #[tactic(auto, unfolding(crate::specs::Characters::OfNode))]
-pub fn tell_node(levels: u32, node: &Node)
+pub(crate) fn tell_node(levels: u32, node: &Node)
     ensures { OfNode levels node.now }
 {
     if levels == 0 {

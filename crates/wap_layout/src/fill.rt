@@ -86,7 +86,7 @@ fn add_word(
 }
 
 /// Adds the lines of a text's words, each cut where it is longer than the width.
-pub fn add_filled(
+pub(crate) fn add_filled(
     alloc: Global,
     lines: &mut Rows<Text>,
     text: &str,

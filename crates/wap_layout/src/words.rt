@@ -7,21 +7,21 @@ ghost use Rattle.wap_layout.specs.inside.Slices.{IsCutAtBlank};
 use wap_base::{NoMemory, Rows, Text};
 
 /// Whether a character separates words.
-pub fn is_blank(character: char) -> bool
+pub(crate) fn is_blank(character: char) -> bool
     ensures { result ≡ is_blank character }
 {
     matches!(character, ' ' | '\t' | '\r' | '\n')
 }
 
 /// How many columns a text takes.
-pub fn columns_of(text: &str) -> usize
+pub(crate) fn columns_of(text: &str) -> usize
     ensures { result ≡ length (chars text.now) }
 {
     text.chars().count()
 }
 
 /// Adds a text that is not empty.
-pub fn add_unless_empty(texts: &mut Rows<Text>, text: Text) -> Result<(), NoMemory>
+pub(crate) fn add_unless_empty(texts: &mut Rows<Text>, text: Text) -> Result<(), NoMemory>
     ensures { OnOk result (texts.new ≡ texts.old ++ unless_empty text) }
 {
     if !text.is_empty() {
@@ -31,7 +31,7 @@ pub fn add_unless_empty(texts: &mut Rows<Text>, text: Text) -> Result<(), NoMemo
 }
 
 /// What stands before the first blank of a text, and what follows that blank.
-pub fn cut_at_blank(text: &str) -> Option<(&str, &str)>
+pub(crate) fn cut_at_blank(text: &str) -> Option<(&str, &str)>
     ensures { MatchOption result (words_of (chars text.now) ≡ unless_empty (chars text.now))
         (λ cut. IsCutAtBlank text.now cut.0.now cut.1.now) }
 {

@@ -39,7 +39,7 @@ pub fn call_pure(
 }
 
 /// The function of a library's number and its own.
-pub fn function_at(lib: u16, f: u8) -> Option<Function>
+pub(crate) fn function_at(lib: u16, f: u8) -> Option<Function>
     ensures { result ≡ function_at lib f }
 {
     let at = usize::from(f);

@@ -8,7 +8,7 @@ use wap_library::FloatFunction;
 use wap_value::Value;
 
 /// What a function of Float gives, whatever its arguments are.
-pub fn call_float(function: FloatFunction) -> Value
+pub(crate) fn call_float(function: FloatFunction) -> Value
     ensures { (args : List AnyValue) → result ≡ value_given (formula_of_float function) args }
 {
     match function {

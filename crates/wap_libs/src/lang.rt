@@ -19,7 +19,7 @@ use wap_value::{Value, to_int};
 const UTF_8: i32 = 106;
 
 /// Calls a function of Lang.
-pub fn call_lang(
+pub(crate) fn call_lang(
     alloc: Global,
     function: LangFunction,
     args: &[Value],

@@ -27,7 +27,7 @@ use wap_texts::occurrences::{place_of, replace};
 use wap_value::{Value, to_int, to_str};
 
 /// Calls a function of String.
-pub fn call_string(
+pub(crate) fn call_string(
     alloc: Global,
     function: StringFunction,
     args: &[Value],

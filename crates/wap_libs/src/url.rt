@@ -23,7 +23,7 @@ use wap_url::{Url, UrlFault, escape, join, print, unescape};
 use wap_value::{Value, to_str};
 
 /// Calls a function of URL that needs no browser.
-pub fn call_url(
+pub(crate) fn call_url(
     alloc: Global,
     function: UrlFunction,
     args: &[Value],

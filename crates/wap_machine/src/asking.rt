@@ -93,7 +93,7 @@ fn call_external<P, H: Host<P>>(
 }
 
 /// Makes a call, whose turn was taken.
-pub fn call<P, H: Host<P>>(
+pub(crate) fn call<P, H: Host<P>>(
     waiting: Waiting,
     host: &mut H,
     pages: &mut P,

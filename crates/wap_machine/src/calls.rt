@@ -16,7 +16,11 @@ use wap_value::Value;
 use wap_verify::Verified;
 
 /// Goes into a function of the unit, unless so many are at work already.
-pub fn enter_local(waiting: Waiting, index: u8, arguments: Vec<Value>) -> Result<Step, NoMemory>
+pub(crate) fn enter_local(
+    waiting: Waiting,
+    index: u8,
+    arguments: Vec<Value>,
+) -> Result<Step, NoMemory>
     requires { CanCallFrom waiting.frames (local index) arguments.items }
     ensures goes { IfOk result (GoesLocally waiting.limits waiting.frames index arguments.items) }
     ensures light { IfOk result IsLight }
@@ -29,7 +33,7 @@ pub fn enter_local(waiting: Waiting, index: u8, arguments: Vec<Value>) -> Result
 }
 
 /// Goes on with what a library gave.
-pub fn go_with(waiting: Waiting, out: HostOut) -> Step
+pub(crate) fn go_with(waiting: Waiting, out: HostOut) -> Step
     ensures goes { result ≡ goes_with waiting.limits waiting.frames out }
     ensures light { IsLight result }
 {
@@ -42,7 +46,7 @@ pub fn go_with(waiting: Waiting, out: HostOut) -> Step
 }
 
 /// Goes into a function of another unit, if one was found.
-pub fn enter_found(
+pub(crate) fn enter_found(
     waiting: Waiting,
     found: Found<Arc<Verified, Global>>,
     arguments: Vec<Value>,

@@ -12,7 +12,7 @@ use wap_value::Value;
 
 /// Does instructions up to one after which the frame doesn't simply go on further on. A function
 /// that comes to its end gives the empty String.
-pub fn go_on(alloc: Global, frame: &mut Frame, string: u32) -> Result<Next, NoMemory>
+pub(crate) fn go_on(alloc: Global, frame: &mut Frame, string: u32) -> Result<Next, NoMemory>
     requires limit { IsStringLimit string }
     requires stands { Stands frame.old 0 }
     ensures gone { IfOk result (HasGone string frame.old frame.new) }

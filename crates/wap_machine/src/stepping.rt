@@ -15,7 +15,11 @@ use wap_execution::Fatal;
 
 /// Does instructions up to one that asks for more than to go on further on, or ends the innermost
 /// function, with what is wanted of the host for that.
-pub fn step<P, H: Host<P>>(machine: Machine, host: &mut H, pages: &mut P) -> Result<Step, RunErr>
+pub(crate) fn step<P, H: Host<P>>(
+    machine: Machine,
+    host: &mut H,
+    pages: &mut P,
+) -> Result<Step, RunErr>
     ensures told { IfOk result (λ step. Same
         (run_of machine H.meaning (H.turns host.old)) (H.state host.old pages.old)
         (rest (uncounted machine.limits H.meaning) step (H.turns host.new))

@@ -7,7 +7,7 @@ use crate::Class;
 use crate::scan::first_of;
 
 /// What follows the characters of the class that a text begins with.
-pub fn after_all(class: Class, text: &str) -> &str
+pub(crate) fn after_all(class: Class, text: &str) -> &str
     ensures { chars result.now ≡ after_all class (chars text.now) }
 {
     let mut rest = text;
@@ -21,7 +21,7 @@ pub fn after_all(class: Class, text: &str) -> &str
 }
 
 /// The same of so many characters at most.
-pub fn after_up_to(class: Class, most: u8, text: &str) -> &str
+pub(crate) fn after_up_to(class: Class, most: u8, text: &str) -> &str
     ensures { chars result.now ≡ after_up_to class most (chars text.now) }
 {
     let mut rest = text;

@@ -4,7 +4,7 @@ ghost use Rattle.std.specs.Str.{chars};
 ghost use Rattle.wap_mask.specs.Reading.{is_empty};
 
 /// The first character of a text, and what follows it.
-pub fn first_of(text: &str) -> Option<(char, &str)>
+pub(crate) fn first_of(text: &str) -> Option<(char, &str)>
     ensures { MatchOption result
         (chars text.now ≡ []) (λ first. chars text.now ≡ first.0 ∷ chars first.1.now) }
 {
@@ -14,7 +14,7 @@ pub fn first_of(text: &str) -> Option<(char, &str)>
 }
 
 /// Whether no character is left.
-pub fn is_at_end(text: &str) -> bool
+pub(crate) fn is_at_end(text: &str) -> bool
     ensures { result ≡ is_empty (chars text.now) }
 {
     text.is_empty()

@@ -19,7 +19,7 @@ fn field_text(alloc: Global, post: &(Text, Text)) -> Result<Text, NoMemory>
 }
 
 /// Postfields, escaped and joined by `&`.
-pub fn form_text(alloc: Global, posts: &[(Text, Text)]) -> Result<Text, NoMemory>
+pub(crate) fn form_text(alloc: Global, posts: &[(Text, Text)]) -> Result<Text, NoMemory>
     ensures { IfOk result (λ form. form ≡ form_text posts.now) }
 {
     let mut form = Text::new(alloc);
@@ -33,7 +33,11 @@ pub fn form_text(alloc: Global, posts: &[(Text, Text)]) -> Result<Text, NoMemory
 }
 
 /// A form after a query; an empty one is none.
-pub fn query_before(alloc: Global, query: &Option<Text>, form: Text) -> Result<Text, NoMemory>
+pub(crate) fn query_before(
+    alloc: Global,
+    query: &Option<Text>,
+    form: Text,
+) -> Result<Text, NoMemory>
     ensures { IfOk result (λ whole. whole ≡ query_before query.now form) }
 {
     match query {

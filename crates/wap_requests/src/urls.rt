@@ -11,7 +11,7 @@ use wap_url::{Url, UrlFault, join, print};
 use wap_world::Refusal;
 
 /// The URL as text, without its fragment.
-pub fn page_text(alloc: Global, url: &Url) -> Result<Text, NoMemory>
+pub(crate) fn page_text(alloc: Global, url: &Url) -> Result<Text, NoMemory>
     ensures { IfOk result (λ text. text ≡ text_without_fragment url.now) }
 {
     let mut page = url.copy(alloc)?;

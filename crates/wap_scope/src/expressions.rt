@@ -95,7 +95,7 @@ fn judge_library(
 
 /// Judges an expression, where these variables are known.
 #[cycle(expressions)]
-pub fn judge_expression(
+pub(crate) fn judge_expression(
     globals: &Globals,
     known: &Names,
     expression: &Expr,

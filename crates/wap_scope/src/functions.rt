@@ -125,7 +125,7 @@ fn judge_functions(
 }
 
 /// Judges a program.
-pub fn judge(alloc: Global, program: &Program) -> Result<(), ScopeFault>
+pub(crate) fn judge(alloc: Global, program: &Program) -> Result<(), ScopeFault>
     ensures { Meets NoMemory (λ _. program.now) result
         (unless (faults program.now) (Ok program.now)) }
 {

@@ -15,7 +15,7 @@ use std::alloc::Global;
 use wap_program::{Expr, Id, Span, Stmt};
 
 /// Judges the declaration of a variable, and makes it known.
-pub fn declare(
+pub(crate) fn declare(
     alloc: Global,
     globals: &Globals,
     known: &mut Names,
@@ -153,7 +153,7 @@ fn judge_arms(
 
 /// Judges statements that stand in a loop or not.
 #[cycle(statements)]
-pub fn judge_statements(
+pub(crate) fn judge_statements(
     alloc: Global,
     globals: &Globals,
     known: &mut Names,

@@ -81,7 +81,7 @@ fn add_marked(line: &mut Text, text: &Text) -> Result<(), NoMemory>
 }
 
 /// The line of a title.
-pub fn title_line(alloc: Global, title: &Text) -> Result<Text, NoMemory>
+pub(crate) fn title_line(alloc: Global, title: &Text) -> Result<Text, NoMemory>
     ensures { IfOk result (λ line. line ≡ title_line title.now) }
 {
     let mut line = Text::new(alloc);
@@ -92,7 +92,7 @@ pub fn title_line(alloc: Global, title: &Text) -> Result<Text, NoMemory>
 
 /// The line of a do, by its name and its label.
 #[tactic(auto, using(crate::proofs::Words::words))]
-pub fn do_line(alloc: Global, one: &(Text, Text)) -> Result<Text, NoMemory>
+pub(crate) fn do_line(alloc: Global, one: &(Text, Text)) -> Result<Text, NoMemory>
     ensures { IfOk result (λ line. line ≡ do_line one.now) }
 {
     let mut line = Text::new(alloc);

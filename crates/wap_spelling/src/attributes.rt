@@ -71,7 +71,11 @@ fn write_attribute(output: &mut Output, table: &Table, attr: &Attr) -> Result<()
 }
 
 /// Writes a processing instruction.
-pub fn write_instruction(output: &mut Output, table: &Table, attr: &Attr) -> Result<(), NoMemory>
+pub(crate) fn write_instruction(
+    output: &mut Output,
+    table: &Table,
+    attr: &Attr,
+) -> Result<(), NoMemory>
     requires { FitsAttr HasNoZero attr.now }
     ensures { let writing = instruction_spelling table.now attr.now in
         OnOk result (output.new ≡ written writing output.old) }
@@ -83,7 +87,11 @@ pub fn write_instruction(output: &mut Output, table: &Table, attr: &Attr) -> Res
 }
 
 /// Writes attributes, and their end if there are any.
-pub fn write_attributes(output: &mut Output, table: &Table, attrs: &[Attr]) -> Result<(), NoMemory>
+pub(crate) fn write_attributes(
+    output: &mut Output,
+    table: &Table,
+    attrs: &[Attr],
+) -> Result<(), NoMemory>
     requires { AllByRecursion (FitsAttr HasNoZero) attrs.now }
     ensures { let writing = ended (attr_spelling table.now) attrs.now in
         OnOk result (output.new ≡ written writing output.old) }

@@ -37,7 +37,7 @@ fn write_tag(output: &mut Output, table: &Table, element: &Element) -> Result<()
 /// Writes an element of so many levels at most.
 #[cycle(elements)]
 #[tactic(auto, unfolding(crate::specs::Spelling::element_spelling, crate::specs::Spellable::FitsElement))]
-pub fn write_element(
+pub(crate) fn write_element(
     output: &mut Output,
     table: &Table,
     levels: u32,

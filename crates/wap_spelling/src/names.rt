@@ -95,7 +95,7 @@ fn add_kid(
 }
 
 /// The names of a document, each once, in the order of first use.
-pub fn names_of(alloc: Global, document: &Document) -> Result<IndexSet<Text>, NoMemory>
+pub(crate) fn names_of(alloc: Global, document: &Document) -> Result<IndexSet<Text>, NoMemory>
     ensures { IfOk result (λ names. names.keys ≡ names_of document.now) }
 {
     let mut names = IndexSet::new(alloc);

@@ -28,7 +28,7 @@ pub struct Output {
 }
 
 /// Adds a text and the 0 that ends it.
-pub fn add_string(bytes: &mut Bytes, text: &Text) -> Result<(), NoMemory>
+pub(crate) fn add_string(bytes: &mut Bytes, text: &Text) -> Result<(), NoMemory>
     ensures { OnOk result (bytes.new ≡ bytes.old ++ string text.now) }
 {
     bytes.add(text.as_str().as_bytes())?;
@@ -36,7 +36,7 @@ pub fn add_string(bytes: &mut Bytes, text: &Text) -> Result<(), NoMemory>
 }
 
 /// Adds how many bytes there are, and the bytes.
-pub fn add_sized(bytes: &mut Bytes, content: &[u8]) -> Result<(), NoMemory>
+pub(crate) fn add_sized(bytes: &mut Bytes, content: &[u8]) -> Result<(), NoMemory>
     requires { length content.now < 2 ^ 32 }
     ensures { OnOk result (bytes.new ≡ bytes.old ++ sized content.now) }
 {

@@ -4,7 +4,7 @@ use std::test::Fail;
 use wap_base::{Fetched, StoreErr, Text};
 
 /// Fails where something else came than is wanted.
-pub fn expect(came: &str, wanted: &str) -> Result<(), Fail> {
+pub(crate) fn expect(came: &str, wanted: &str) -> Result<(), Fail> {
     if came == wanted {
         Ok(())
     } else {
@@ -13,7 +13,7 @@ pub fn expect(came: &str, wanted: &str) -> Result<(), Fail> {
 }
 
 /// What a store answers for a name, in a word.
-pub fn word_of(answer: &Result<Fetched, StoreErr>) -> &'static str {
+pub(crate) fn word_of(answer: &Result<Fetched, StoreErr>) -> &'static str {
     match answer {
         Ok(Fetched::Found(bytes)) if bytes.as_slice() == b"page".as_slice() => "page",
         Ok(Fetched::Found(_)) => "other bytes",
@@ -34,7 +34,10 @@ fn row(alloc: Global, names: &[Text]) -> Result<String, AllocError> {
 }
 
 /// What a store lists: names, a blank after each, or a word.
-pub fn row_of(alloc: Global, list: Result<Vec<Text>, StoreErr>) -> Result<String, AllocError> {
+pub(crate) fn row_of(
+    alloc: Global,
+    list: Result<Vec<Text>, StoreErr>,
+) -> Result<String, AllocError> {
     match list {
         Ok(names) => row(alloc, &names),
         Err(StoreErr::Failed) => String::from_str(alloc, "failed"),

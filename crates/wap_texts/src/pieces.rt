@@ -16,7 +16,7 @@ use wap_base::{NoMemory, Rows};
 use wap_library::{Conversion, Piece, Specifier};
 
 /// The pieces of a format, if it is well formed.
-pub fn pieces_of(alloc: Global, format: &[char]) -> Result<Option<Rows<Piece>>, NoMemory>
+pub(crate) fn pieces_of(alloc: Global, format: &[char]) -> Result<Option<Rows<Piece>>, NoMemory>
     ensures { IfOk result (λ pieces. pieces ≡ pieces_of format.now) }
 {
     let mut pieces = Rows::new(alloc);

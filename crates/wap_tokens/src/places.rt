@@ -3,7 +3,7 @@ ghost use Rattle.std.specs.Prelude.{◌≡◌};
 ghost use Rattle.wap_tokens.specs.inside.Places.{tag_place, start_place, value_place};
 
 /// The place of a code among the tags.
-pub fn tag_place(code: u8) -> Option<usize>
+pub(crate) fn tag_place(code: u8) -> Option<usize>
     ensures { result ≡ tag_place code }
 {
     match code {
@@ -14,7 +14,7 @@ pub fn tag_place(code: u8) -> Option<usize>
 }
 
 /// The place of a code among the starts of attributes.
-pub fn start_place(code: u8) -> Option<usize>
+pub(crate) fn start_place(code: u8) -> Option<usize>
     ensures { result ≡ start_place code }
 {
     match code {
@@ -29,7 +29,7 @@ pub fn start_place(code: u8) -> Option<usize>
 }
 
 /// The place of a code among the parts of values.
-pub fn value_place(code: u8) -> Option<usize>
+pub(crate) fn value_place(code: u8) -> Option<usize>
     ensures { result ≡ value_place code }
 {
     match code {

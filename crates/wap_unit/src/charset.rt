@@ -10,7 +10,7 @@ use wap_base::{Bytes, Charset, Text};
 
 /// The characters of bytes that have to be UTF-8, as part of the item at this place.
 #[tactic(auto, unfolding(crate::specs::inside::Reading::utf8_text))]
-pub fn utf8_text(alloc: Global, at: usize, content: &[u8]) -> Result<Text, UnitFault>
+pub(crate) fn utf8_text(alloc: Global, at: usize, content: &[u8]) -> Result<Text, UnitFault>
     ensures { Meets NoMemory (λ text. text) result (utf8_text at content.now) }
 {
     match str::from_utf8(content) {
@@ -21,7 +21,7 @@ pub fn utf8_text(alloc: Global, at: usize, content: &[u8]) -> Result<Text, UnitF
 
 /// Bytes that have to be a text in a character set, as part of the item at this place.
 #[tactic(auto, unfolding(crate::specs::inside::Reading::coded_text))]
-pub fn coded_text(
+pub(crate) fn coded_text(
     alloc: Global,
     set: Charset,
     at: usize,

@@ -15,7 +15,7 @@ use wap_code::Constant;
 
 /// The number of the character set, and the constants.
 #[tactic(auto, unfolding(crate::specs::inside::Reading::constants_at))]
-pub fn read_constants(
+pub(crate) fn read_constants(
     alloc: Global,
     end: usize,
     bytes: &[u8],

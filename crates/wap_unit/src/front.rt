@@ -9,14 +9,14 @@ use crate::UnitFault;
 use wap_base::{ReadFault, read_mb};
 
 /// The place of the first of the bytes that are left of an input of this length.
-pub fn place(end: usize, bytes: &[u8]) -> usize
+pub(crate) fn place(end: usize, bytes: &[u8]) -> usize
     ensures { result ≡ end - length bytes.now }
 {
     end.saturating_sub(bytes.len())
 }
 
 /// One byte.
-pub fn byte(end: usize, bytes: &[u8]) -> Result<(u8, &[u8]), UnitFault>
+pub(crate) fn byte(end: usize, bytes: &[u8]) -> Result<(u8, &[u8]), UnitFault>
     ensures { Meets NoMemory (λ read. (read.0, read.1.now)) result (byte_at end bytes.now) }
 {
     match bytes.split_first() {
@@ -26,7 +26,7 @@ pub fn byte(end: usize, bytes: &[u8]) -> Result<(u8, &[u8]), UnitFault>
 }
 
 /// So many bytes.
-pub fn take_bytes(size: usize, end: usize, bytes: &[u8]) -> Result<(&[u8], &[u8]), UnitFault>
+pub(crate) fn take_bytes(size: usize, end: usize, bytes: &[u8]) -> Result<(&[u8], &[u8]), UnitFault>
     ensures read { Meets NoMemory (λ read. (read.0.now, read.1.now)) result
         (taken_at size end bytes.now) }
     ensures size { IfOk result (λ read. length read.0.now ≡ size) }
@@ -39,7 +39,7 @@ pub fn take_bytes(size: usize, end: usize, bytes: &[u8]) -> Result<(&[u8], &[u8]
 
 /// A number of several bytes.
 #[tactic(auto, unfolding(crate::specs::inside::Steps::number_at))]
-pub fn number(end: usize, bytes: &[u8]) -> Result<(u32, &[u8]), UnitFault>
+pub(crate) fn number(end: usize, bytes: &[u8]) -> Result<(u32, &[u8]), UnitFault>
     ensures { Meets NoMemory (λ read. (read.0, read.1.now)) result (number_at end bytes.now) }
 {
     match read_mb(bytes, 0) {
@@ -53,7 +53,7 @@ pub fn number(end: usize, bytes: &[u8]) -> Result<(u32, &[u8]), UnitFault>
 
 /// Bytes after their number.
 #[tactic(auto, unfolding(crate::specs::inside::Reading::sized_at))]
-pub fn take_sized(end: usize, bytes: &[u8]) -> Result<(&[u8], &[u8]), UnitFault>
+pub(crate) fn take_sized(end: usize, bytes: &[u8]) -> Result<(&[u8], &[u8]), UnitFault>
     ensures { Meets NoMemory (λ read. (read.0.now, read.1.now)) result (sized_at end bytes.now) }
 {
     let (size, rest) = number(end, bytes)?;

@@ -14,7 +14,7 @@ use wap_code::Code;
 
 /// The names, and the functions.
 #[tactic(auto, unfolding(crate::specs::inside::Reading::functions_at))]
-pub fn read_functions(
+pub(crate) fn read_functions(
     alloc: Global,
     end: usize,
     bytes: &[u8],

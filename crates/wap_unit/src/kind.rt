@@ -24,7 +24,7 @@ pub enum PragmaKind {
 }
 
 /// The kind of a constant with this first byte.
-pub fn constant_kind(byte: u8) -> Option<ConstantKind>
+pub(crate) fn constant_kind(byte: u8) -> Option<ConstantKind>
     ensures { result ≡ constant_kind byte }
 {
     match byte {
@@ -40,7 +40,7 @@ pub fn constant_kind(byte: u8) -> Option<ConstantKind>
 }
 
 /// The kind of a pragma with this first byte.
-pub fn pragma_kind(byte: u8) -> Option<PragmaKind>
+pub(crate) fn pragma_kind(byte: u8) -> Option<PragmaKind>
     ensures { result ≡ pragma_kind byte }
 {
     match byte {

@@ -13,7 +13,7 @@ use wap_code::Pragma;
 
 /// The pragmas, after their number.
 #[tactic(auto, unfolding(crate::specs::inside::Reading::pragmas_at))]
-pub fn read_pragmas(
+pub(crate) fn read_pragmas(
     alloc: Global,
     end: usize,
     bytes: &[u8],

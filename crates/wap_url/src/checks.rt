@@ -14,7 +14,7 @@ use crate::UrlFault;
 use crate::parts::Slices;
 
 /// The first fault of what stands before the fragment, in the order of scheme, host and port.
-pub fn fault_in(slices: &Slices<'_>) -> Option<UrlFault>
+pub(crate) fn fault_in(slices: &Slices<'_>) -> Option<UrlFault>
     ensures { result ≡ fault_of (parts_in slices.now None) }
 {
     if slices.scheme.is_some_and(|scheme| !is_scheme(scheme)) {
@@ -89,7 +89,7 @@ fn all_digits(bytes: &[u8]) -> bool
 }
 
 /// The number that at most five digits write.
-pub fn number_of(digits: &[u8]) -> u32
+pub(crate) fn number_of(digits: &[u8]) -> u32
     requires digits { list_all is_ascii_digit digits.now ≡ true }
     requires short { length digits.now ≤ 5 }
     ensures { result ≡ digits_value 10 digits.now }

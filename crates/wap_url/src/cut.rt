@@ -18,7 +18,7 @@ pub enum Cut {
 }
 
 /// The bytes up to the first at which the part ends, and those from it on.
-pub fn cut_at(bytes: &[u8], at: Cut) -> (&[u8], &[u8])
+pub(crate) fn cut_at(bytes: &[u8], at: Cut) -> (&[u8], &[u8])
     ensures before { result.0.now ≡ until (stops at) bytes.now }
     ensures after { result.1.now ≡ onward (stops at) bytes.now }
 {
@@ -53,7 +53,7 @@ fn may_stand(byte: u8) -> bool
 }
 
 /// Whether the first byte is this one.
-pub fn begins_with_byte(bytes: &[u8], byte: u8) -> bool
+pub(crate) fn begins_with_byte(bytes: &[u8], byte: u8) -> bool
     ensures { result ≡ begins_with (λ c. c == byte) bytes.now }
 {
     match bytes {

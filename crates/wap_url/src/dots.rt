@@ -9,7 +9,7 @@ use std::alloc::Global;
 use wap_base::{NoMemory, Text};
 
 /// The path without dot segments. A slash at its beginning stays.
-pub fn resolved_path(alloc: Global, path: &Text) -> Result<Text, NoMemory>
+pub(crate) fn resolved_path(alloc: Global, path: &Text) -> Result<Text, NoMemory>
     ensures { IfOk result (λ resolved. resolved ≡ resolved_path path.now) }
 {
     let mut resolved = Text::new(alloc);

@@ -24,7 +24,7 @@ pub struct Slices<'a> {
 }
 
 /// The parts, each cut once.
-pub fn cut_parts(front: &[u8]) -> Slices<'_>
+pub(crate) fn cut_parts(front: &[u8]) -> Slices<'_>
     ensures scheme { option_copied result.scheme ≡ scheme_of front.now }
     ensures host { option_copied result.host ≡ host_of front.now }
     ensures port { option_copied result.port ≡ port_of front.now }
@@ -58,7 +58,7 @@ fn cut_scheme(front: &[u8]) -> (Option<&[u8]>, &[u8])
 }
 
 /// Whether the rest begins with `//`.
-pub fn begins_with_slashes(rest: &[u8]) -> bool
+pub(crate) fn begins_with_slashes(rest: &[u8]) -> bool
     ensures { result ≡ begins_with_slashes rest.now }
 {
     match rest {

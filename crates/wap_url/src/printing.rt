@@ -24,7 +24,7 @@ pub fn print(alloc: Global, url: &Url) -> Result<Text, NoMemory>
 }
 
 /// The URL as text, without its fragment.
-pub fn text_without_fragment(alloc: Global, url: &Url) -> Result<Text, NoMemory>
+pub(crate) fn text_without_fragment(alloc: Global, url: &Url) -> Result<Text, NoMemory>
     ensures { IfOk result (λ text. text ≡ text_without_fragment url.now) }
 {
     let mut text = Text::new(alloc);
@@ -68,7 +68,7 @@ fn add_port(text: &mut Text, port: Option<u16>) -> Result<(), NoMemory>
 }
 
 /// Adds a part after the character that leads it.
-pub fn add_led(text: &mut Text, lead: char, part: &Option<Text>) -> Result<(), NoMemory>
+pub(crate) fn add_led(text: &mut Text, lead: char, part: &Option<Text>) -> Result<(), NoMemory>
     ensures { OnOk result (text.new ≡ text.old ++ led_by (lead ∷ []) part.now) }
 {
     if let Some(part) = part {

@@ -8,7 +8,7 @@ use wap_base::{NoMemory, Text};
 
 /// The text whose characters have the numbers of these bytes, in lower case. US-ASCII is copied
 /// before it is put in lower case.
-pub fn lowered_text(alloc: Global, bytes: &[u8]) -> Result<Text, NoMemory>
+pub(crate) fn lowered_text(alloc: Global, bytes: &[u8]) -> Result<Text, NoMemory>
     ensures { IfOk result (λ text. text ≡ map to_ascii_lowercase bytes.now) }
 {
     if bytes.is_ascii() {
@@ -24,7 +24,7 @@ pub fn lowered_text(alloc: Global, bytes: &[u8]) -> Result<Text, NoMemory>
 }
 
 /// The text whose characters have the numbers of these bytes. US-ASCII is copied as it is.
-pub fn text_of(alloc: Global, bytes: &[u8]) -> Result<Text, NoMemory>
+pub(crate) fn text_of(alloc: Global, bytes: &[u8]) -> Result<Text, NoMemory>
     ensures { IfOk result (λ text. text ≡ bytes.now) }
 {
     if bytes.is_ascii() {
@@ -34,7 +34,7 @@ pub fn text_of(alloc: Global, bytes: &[u8]) -> Result<Text, NoMemory>
 }
 
 /// The text of a part, if it is given.
-pub fn text_of_part(alloc: Global, part: Option<&[u8]>) -> Result<Option<Text>, NoMemory>
+pub(crate) fn text_of_part(alloc: Global, part: Option<&[u8]>) -> Result<Option<Text>, NoMemory>
     ensures { IfOk result (λ text. text ≡ option_copied part.entry) }
 {
     match part {
@@ -44,7 +44,7 @@ pub fn text_of_part(alloc: Global, part: Option<&[u8]>) -> Result<Option<Text>, 
 }
 
 /// The text of a part in lower case, if it is given.
-pub fn lowered_part(alloc: Global, part: Option<&[u8]>) -> Result<Option<Text>, NoMemory>
+pub(crate) fn lowered_part(alloc: Global, part: Option<&[u8]>) -> Result<Option<Text>, NoMemory>
     ensures { IfOk result
         (λ text. text ≡ option_map (map to_ascii_lowercase) (option_copied part.entry)) }
 {

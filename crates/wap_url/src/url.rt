@@ -40,7 +40,7 @@ impl Url {
 }
 
 /// A copy of a part of a URL.
-pub fn copy_of(alloc: Global, part: &Option<Text>) -> Result<Option<Text>, NoMemory>
+pub(crate) fn copy_of(alloc: Global, part: &Option<Text>) -> Result<Option<Text>, NoMemory>
     ensures { IfOk result (λ copy. copy ≡ part.now) }
 {
     match part {

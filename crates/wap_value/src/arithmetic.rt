@@ -5,7 +5,7 @@ ghost use Rattle.wap_value.specs.Arithmetic.{integer_result_of, shl, ushr};
 use crate::BinOp;
 
 /// What an operator makes of two Integers, or `None` where that is no Integer.
-pub fn integer_result(op: BinOp, left: i32, right: i32) -> Option<i32>
+pub(crate) fn integer_result(op: BinOp, left: i32, right: i32) -> Option<i32>
     ensures { result ≡ integer_result_of op left right }
 {
     match op {

@@ -11,7 +11,11 @@ use std::cmp::Ordering;
 use wap_base::NoMemory;
 
 /// The order of two values, or `None` where one of them can't be converted.
-pub fn compare(alloc: Global, left: &Value, right: &Value) -> Result<Option<Ordering>, NoMemory>
+pub(crate) fn compare(
+    alloc: Global,
+    left: &Value,
+    right: &Value,
+) -> Result<Option<Ordering>, NoMemory>
     ensures { IfOk result (λ order. order ≡ order_of left.now right.now) }
 {
     match (left, right) {
@@ -38,7 +42,7 @@ fn order_of_integers(left: &Value, right: &Value) -> Option<Ordering>
 }
 
 /// Whether an operator is a comparison that holds at an order.
-pub fn passes(op: BinOp, order: Ordering) -> bool
+pub(crate) fn passes(op: BinOp, order: Ordering) -> bool
     ensures { result ≡ test_of op order }
 {
     match op {

@@ -9,7 +9,7 @@ use std::alloc::Global;
 use wap_base::{NoMemory, Text};
 
 /// The two texts, one after the other. A String has at most `string` bytes.
-pub fn concatenation(
+pub(crate) fn concatenation(
     alloc: Global,
     left: &Text,
     right: &Text,

@@ -25,14 +25,14 @@ pub fn unary(op: UnOp, value: Value) -> Value
 }
 
 /// An Integer, or invalid where there is none.
-pub fn of_integer(number: Option<i32>) -> Value
+pub(crate) fn of_integer(number: Option<i32>) -> Value
     ensures { result ≡ integer_value number }
 {
     number.map_or(Value::Invalid, Value::Int)
 }
 
 /// A Boolean, or invalid where there is none.
-pub fn of_boolean(truth: Option<bool>) -> Value
+pub(crate) fn of_boolean(truth: Option<bool>) -> Value
     ensures { result ≡ boolean_value truth }
 {
     truth.map_or(Value::Invalid, Value::Bool)

@@ -26,7 +26,7 @@ pub struct Work {
 }
 
 /// As many values as a function has at most whose code is split.
-pub fn greatest_depth(
+pub(crate) fn greatest_depth(
     alloc: Global,
     unit: &Unit,
     index: u8,

@@ -16,7 +16,7 @@ use wap_base::Rows;
 use wap_code::{Code, Unit};
 
 /// Room for all values of each function, where all functions are sound.
-pub fn rooms(alloc: Global, unit: &Unit) -> Result<Rows<u32>, VerifyFault>
+pub(crate) fn rooms(alloc: Global, unit: &Unit) -> Result<Rows<u32>, VerifyFault>
     requires few { length unit.now.functions < 2 ^ 8 }
     requires small { AllByRecursion FitsFunction unit.now.functions }
     requires pragmas { stray_pragma unit.now ≡ None }

@@ -10,7 +10,7 @@ use std::alloc::Global;
 use wap_code::{Code, Unit};
 
 /// A mark for each byte of the code, set where an instruction begins.
-pub fn marks(
+pub(crate) fn marks(
     alloc: Global,
     unit: &Unit,
     index: u8,

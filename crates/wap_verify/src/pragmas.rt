@@ -7,7 +7,7 @@ use crate::strings::is_string;
 use wap_code::{Pragma, Unit};
 
 /// The first index of a pragma that names no string.
-pub fn stray_pragma(unit: &Unit) -> Option<u32>
+pub(crate) fn stray_pragma(unit: &Unit) -> Option<u32>
     ensures { result ≡ stray_pragma unit.now }
 {
     for pragma in unit.pragmas.as_slice() {

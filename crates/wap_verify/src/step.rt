@@ -145,7 +145,7 @@ fn step_of(after: After, at: usize, instr: Instr, takes: u32, gives: u8) -> Step
 }
 
 /// The way to what stands after it.
-pub fn way_on(step: Step) -> Option<Way>
+pub(crate) fn way_on(step: Step) -> Option<Way>
     ensures { result ≡ way_on step }
 {
     match step.on {
@@ -236,7 +236,12 @@ fn fine_at(
 /// What stands at a place of the function with this index, or the first fault there.
 #[tactic(auto, unfolding(crate::specs::Steps::step_at))]
 #[inline(always)]
-pub fn step_at(unit: &Unit, index: u8, function: &Code, at: usize) -> Result<Step, VerifyFault>
+pub(crate) fn step_at(
+    unit: &Unit,
+    index: u8,
+    function: &Code,
+    at: usize,
+) -> Result<Step, VerifyFault>
     requires small { length function.now.code < 2 ^ 32 }
     requires within { at < length function.now.code }
     ensures step { result ≡ step_at unit.now index function.now at }

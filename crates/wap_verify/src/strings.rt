@@ -25,7 +25,7 @@ fn holds_text(constant: &Constant) -> bool
 }
 
 /// Whether there is a constant with this index, and it is a string.
-pub fn is_string(unit: &Unit, index: u32) -> bool
+pub(crate) fn is_string(unit: &Unit, index: u32) -> bool
     ensures { result ≡ is_string unit.now index }
 {
     match unit.constants.get(index as usize) {
@@ -35,7 +35,7 @@ pub fn is_string(unit: &Unit, index: u32) -> bool
 }
 
 /// The texts of coded strings, each at its constant's index.
-pub fn texts(
+pub(crate) fn texts(
     alloc: Global,
     set: Option<Charset>,
     constants: &[Constant],

@@ -9,7 +9,7 @@ use crate::step::{Step, Way, step_at};
 use wap_code::{Code, Unit};
 
 /// Whether each jump leads to a place that is marked, or to the end.
-pub fn check_targets(
+pub(crate) fn check_targets(
     unit: &Unit,
     index: u8,
     function: &Code,

@@ -20,7 +20,7 @@ use wap_markup::{Attr, AttributeMark, Lead, Piece, Token};
 
 /// A processing instruction after its byte: one attribute and an end.
 #[tactic(auto, unfolding(crate::specs::reading::Parts::instruction_at))]
-pub fn read_instruction<'a>(
+pub(crate) fn read_instruction<'a>(
     alloc: Global,
     input: &Input<'_>,
     state: &mut State,
@@ -51,7 +51,7 @@ fn read_end<'a>(input: &Input<'_>, state: &State, bytes: &'a [u8]) -> Result<&'a
 }
 
 /// Attributes up to their end, where there are any.
-pub fn read_attributes_when<'a>(
+pub(crate) fn read_attributes_when<'a>(
     alloc: Global,
     input: &Input<'_>,
     state: &mut State,

@@ -20,7 +20,7 @@ use wap_markup::{ContentMark, Element, Kid, Lead, Token};
 /// An element of so many levels at most, after the byte of its tag.
 #[cycle(elements)]
 #[tactic(auto, unfolding(crate::specs::reading::Parts::element_at))]
-pub fn read_element<'a>(
+pub(crate) fn read_element<'a>(
     alloc: Global,
     input: &Input<'_>,
     state: &mut State,

@@ -18,7 +18,7 @@ use wap_markup::{Lead, SWITCH_PAGE};
 
 /// The byte that an item begins with, if there is one, with its page: this one, or the one after a
 /// switch.
-pub fn find_lead(page: u8, bytes: &[u8]) -> Option<(Lead, &[u8])>
+pub(crate) fn find_lead(page: u8, bytes: &[u8]) -> Option<(Lead, &[u8])>
     ensures { MatchOption result (lead_in page bytes.now ≡ None)
         (λ read. lead_in page bytes.now ≡ Some (read.0, read.1.now)) }
 {
@@ -43,7 +43,7 @@ pub fn find_lead(page: u8, bytes: &[u8]) -> Option<(Lead, &[u8])>
 
 /// The same, where there has to be one.
 #[tactic(auto, unfolding(crate::specs::reading::Fronts::lead_at))]
-pub fn read_lead(total: usize, page: u8, bytes: &[u8]) -> Result<(Lead, &[u8]), DocFault>
+pub(crate) fn read_lead(total: usize, page: u8, bytes: &[u8]) -> Result<(Lead, &[u8]), DocFault>
     ensures { Meets NoMemory (λ read. (read.0, read.1.now)) result (lead_at total page bytes.now) }
 {
     match find_lead(page, bytes) {
@@ -54,7 +54,7 @@ pub fn read_lead(total: usize, page: u8, bytes: &[u8]) -> Result<(Lead, &[u8]), 
 
 /// A number.
 #[tactic(auto, unfolding(crate::specs::reading::Fronts::number_at))]
-pub fn read_number(total: usize, bytes: &[u8]) -> Result<(u32, &[u8]), DocFault>
+pub(crate) fn read_number(total: usize, bytes: &[u8]) -> Result<(u32, &[u8]), DocFault>
     ensures { Meets NoMemory (λ read. (read.0, read.1.now)) result (number_at total bytes.now) }
 {
     match read_mb(bytes, 0) {
@@ -68,7 +68,7 @@ pub fn read_number(total: usize, bytes: &[u8]) -> Result<(u32, &[u8]), DocFault>
 
 /// As many bytes as the number before them says.
 #[tactic(auto, unfolding(crate::specs::reading::Fronts::opaque_at))]
-pub fn read_opaque(total: usize, bytes: &[u8]) -> Result<(&[u8], &[u8]), DocFault>
+pub(crate) fn read_opaque(total: usize, bytes: &[u8]) -> Result<(&[u8], &[u8]), DocFault>
     ensures { Meets NoMemory (λ read. (read.0.now, read.1.now)) result (opaque_at total bytes.now) }
 {
     let (count, rest) = read_number(total, bytes)?;
@@ -81,7 +81,10 @@ pub fn read_opaque(total: usize, bytes: &[u8]) -> Result<(&[u8], &[u8]), DocFaul
 
 /// The number of a character.
 #[tactic(auto, unfolding(crate::specs::reading::Fronts::character_at))]
-pub fn read_character<'a>(input: &Input<'_>, bytes: &'a [u8]) -> Result<(u32, &'a [u8]), DocFault>
+pub(crate) fn read_character<'a>(
+    input: &Input<'_>,
+    bytes: &'a [u8],
+) -> Result<(u32, &'a [u8]), DocFault>
     ensures { Meets NoMemory (λ read. (read.0, read.1.now)) result
         (character_at input.now.total bytes.now) }
 {
@@ -102,7 +105,7 @@ fn is_character(number: u32) -> bool
 
 /// A string up to the 0 at its end.
 #[tactic(auto, unfolding(crate::specs::reading::Fronts::inline_at))]
-pub fn read_inline<'a>(
+pub(crate) fn read_inline<'a>(
     alloc: Global,
     input: &Input<'_>,
     bytes: &'a [u8],
@@ -119,7 +122,7 @@ pub fn read_inline<'a>(
 
 /// A string of the string table, by its index.
 #[tactic(auto, unfolding(crate::specs::reading::Fronts::indexed_at))]
-pub fn read_indexed<'a>(
+pub(crate) fn read_indexed<'a>(
     alloc: Global,
     input: &Input<'_>,
     bytes: &'a [u8],
@@ -140,7 +143,7 @@ pub fn read_indexed<'a>(
 
 /// A name of the string table, by its index, which counts.
 #[tactic(auto, unfolding(crate::specs::reading::Fronts::name_at))]
-pub fn read_name<'a>(
+pub(crate) fn read_name<'a>(
     alloc: Global,
     input: &Input<'_>,
     state: &mut State,
@@ -155,7 +158,7 @@ pub fn read_name<'a>(
 }
 
 /// The string of a table from an index on.
-pub fn string_from(table: &[u8], index: usize) -> &[u8]
+pub(crate) fn string_from(table: &[u8], index: usize) -> &[u8]
     ensures { result.now ≡ string_from table.now index }
 {
     let Some(string) = table.get(index..) else {

@@ -14,7 +14,7 @@ use wap_markup::{Kid, Leaf, LeafMark, Piece, Role};
 
 /// A string, a character, a reference, an extension or opaque data, after the byte that says so.
 #[tactic(auto, unfolding(crate::specs::reading::Parts::leaf_at))]
-pub fn read_leaf<'a>(
+pub(crate) fn read_leaf<'a>(
     alloc: Global,
     input: &Input<'_>,
     mark: LeafMark,
@@ -55,7 +55,7 @@ fn leaf(role: Role, text: Text) -> Leaf
 }
 
 /// A part of a value.
-pub fn piece(leaf: Leaf) -> Piece
+pub(crate) fn piece(leaf: Leaf) -> Piece
     ensures { result ≡ piece_of leaf }
 {
     match leaf {
@@ -68,7 +68,7 @@ pub fn piece(leaf: Leaf) -> Piece
 }
 
 /// A part of content.
-pub fn kid(leaf: Leaf) -> Kid
+pub(crate) fn kid(leaf: Leaf) -> Kid
     ensures { result ≡ kid_of leaf }
 {
     match leaf {

@@ -15,7 +15,7 @@ use wap_spelling::{Output, Table};
 use wap_tokens::{code_of_start, name_of_attr};
 
 /// The code of an attribute with nothing before its value.
-pub fn own_code(name: AttrName) -> Option<u8>
+pub(crate) fn own_code(name: AttrName) -> Option<u8>
     ensures { result ≡ code_of_start (name, []) }
 {
     code_of_start(name, "")
@@ -51,7 +51,7 @@ fn write_attribute(
 }
 
 /// Writes attributes, and their end if there are any.
-pub fn write_attributes(
+pub(crate) fn write_attributes(
     alloc: Global,
     output: &mut Output,
     table: &Table,

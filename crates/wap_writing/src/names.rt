@@ -105,7 +105,7 @@ fn add_items(
 }
 
 /// The names of a deck's document, each once, in the order of first use.
-pub fn names_of(alloc: Global, deck: &Deck) -> Result<IndexSet<Text>, NoMemory>
+pub(crate) fn names_of(alloc: Global, deck: &Deck) -> Result<IndexSet<Text>, NoMemory>
     ensures { IfOk result (λ names. names.keys ≡ names_of (document_of deck.now)) }
 {
     let mut names = IndexSet::new(alloc);

@@ -47,7 +47,7 @@ fn bits(node: &Node, content: bool) -> u8
 
 /// Writes a node, with so many levels of nodes in it.
 #[cycle(nodes)]
-pub fn write_node(
+pub(crate) fn write_node(
     alloc: Global,
     output: &mut Output,
     table: &Table,

@@ -56,7 +56,11 @@ fn write_part(alloc: Global, output: &mut Output, part: &Part) -> Result<(), NoM
 }
 
 /// Writes parts.
-pub fn write_parts(alloc: Global, output: &mut Output, parts: &[Part]) -> Result<(), NoMemory>
+pub(crate) fn write_parts(
+    alloc: Global,
+    output: &mut Output,
+    parts: &[Part],
+) -> Result<(), NoMemory>
     ensures { OnOk result (output.new ≡ written (each part_spelling parts.now) output.old) }
 {
     for part in parts {
@@ -76,7 +80,7 @@ fn gives(part: &Part) -> bool
 }
 
 /// Whether one of some parts does.
-pub fn have_content(parts: &[Part]) -> bool
+pub(crate) fn have_content(parts: &[Part]) -> bool
     ensures { result ≡ has_any (flat_map part_kids parts.now) }
 {
     for part in parts {
