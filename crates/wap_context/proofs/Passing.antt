@@ -7,7 +7,6 @@ use Rattle.wap_cardrules.specs.declared.event.Event.TheVariants as event
 use Rattle.wap_cardrules.specs.declared.task.Task.{Task}
 use Rattle.wap_site.specs.Pages.{Pages}
 use Rattle.wap_site.specs.Asking.{Seen, Asks, Fails}
-use Rattle.wap_world.specs.declared.timer.Timer.{Timer}
 use Rattle.wap_world.specs.World.{World, Place}
 use Rattle.wap_world.specs.Steps.{Scene, Step, still}
 use Rattle.wap_world.specs.Screens.{at_place, here}

@@ -361,3 +361,20 @@ acts_err rule seen after old new before lines err so = record {
   missed = λ failed. so.failed (unit_of err failed);
   stays = so.stays;
 }
+
+-- the same where the fault is handed on
+pub acts_fault : (rule : Pages → World → Step) (seen after : Seen) (old new : Browser)
+    (before lines : List Line) (err : RunErr) (result : Result (List Line) RunErr)
+    → result ≡ Err err → Pursues rule seen after old new before lines (Err err)
+    → Acts rule seen after old new result
+acts_fault rule seen after old new before lines err result is so =
+    subst (λ (r : Result (List Line) RunErr). Acts rule seen after old new r) (sym is)
+    (acts_err rule seen after old new before lines err so)
+
+pub pursues_fault : (rule : Pages → World → Step) (seen after : Seen) (old new : Browser)
+    (before lines : List Line) (err : RunErr) (result : Result (Unit {0}) RunErr)
+    → result ≡ Err err → Pursues rule seen after old new before lines (Err err)
+    → Pursues rule seen after old new before lines result
+pursues_fault rule seen after old new before lines err result is so =
+    subst (λ (r : Result (Unit {0}) RunErr). Pursues rule seen after old new before lines r)
+    (sym is) so

@@ -71,13 +71,9 @@ impl Context {
             (P.seen pages.old) (P.seen pages.new) self.old self.new result }
     {
         let mut lines = Rows::new(alloc);
-        match self.visit_once(alloc, pages, url, &mut lines) {
-            Ok(next) => match self.follow(alloc, pages, next, &mut lines) {
-                Ok(()) => Ok(lines),
-                Err(fault) => Err(fault),
-            },
-            Err(fault) => Err(fault),
-        }
+        let next = self.visit_once(alloc, pages, url, &mut lines)?;
+        self.follow(alloc, pages, next, &mut lines)?;
+        Ok(lines)
     }
 
     /// Takes a task, and all that it leads to.
@@ -91,10 +87,8 @@ impl Context {
             (P.seen pages.new) self.old self.new result }
     {
         let mut lines = Rows::new(alloc);
-        match self.follow(alloc, pages, Some(task), &mut lines) {
-            Ok(()) => Ok(lines),
-            Err(fault) => Err(fault),
-        }
+        self.follow(alloc, pages, Some(task), &mut lines)?;
+        Ok(lines)
     }
 
     /// Lets so many tenths of a second pass.
@@ -107,10 +101,8 @@ impl Context {
         ensures { Acts (tick time) (P.seen pages.old) (P.seen pages.new) self.old self.new result }
     {
         let mut lines = Rows::new(alloc);
-        match self.pass_time(alloc, pages, time, &mut lines) {
-            Ok(()) => Ok(lines),
-            Err(fault) => Err(fault),
-        }
+        self.pass_time(alloc, pages, time, &mut lines)?;
+        Ok(lines)
     }
 
     /// Shows the current card, if there is one: its fields get their defaults, its timer starts,

@@ -22,10 +22,7 @@ impl Context {
     {
         let mut next = first;
         while let Some(task) = next {
-            match self.task_once(alloc, pages, task, lines) {
-                Ok(found) => next = found,
-                Err(fault) => return Err(fault),
-            }
+            next = self.task_once(alloc, pages, task, lines)?;
         }
         Ok(())
     }

@@ -56,16 +56,6 @@ module _ (bytes : List ℕ) (fault : UnitFault) where
 -- ---- the bytes are no document
 
 module _ (bytes : List ℕ) (fault : DocFault) where
-  pub document_only : (one : Document)
-      → (fault ≢ document.NoMemory → ◌≡◌ {A = Result Document DocFault} (Ok one) (Err fault))
-      → Only one (document_error fault)
-  document_only one is =
-      document_cases (Only one) fault (λ none e. absurd (e refl))
-      (λ some e. absurd (no_both (is some)))
-    where
-      no_both : ◌≡◌ {A = Result Document DocFault} (Ok one) (Err fault) → ⊥
-      no_both e = cc
-
   pub document_refused : (why : PageFault)
       → (fault ≢ document.NoMemory → documents.IsRefused bytes fault)
       → document_error fault ≡ Refused why → RefusesDocument bytes why
@@ -131,10 +121,3 @@ ok_is x y is = cc
 
 pub err_is : {X E : Type 0} (e f : E) → ◌≡◌ {A = Result X E} (Err e) (Err f) → e ≡ f
 err_is e f is = cc
-
--- an error that isn't that memory ran out, where a value had to come
-pub other_value : {X Y : Type 0} (x : X) (y : Y) (error : PageErr) → Only x error → Only y error
-other_value x y error is ne = absurd (no_both (is ne))
-  where
-    no_both : ◌≡◌ {A = Result _ PageErr} (Ok x) (Err error) → ⊥
-    no_both e = cc

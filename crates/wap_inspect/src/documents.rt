@@ -29,10 +29,7 @@ fn document_in(alloc: Global, bytes: &[u8]) -> Result<Document, PageErr>
     ensures refused { (fault : PageFault) → result ≡ Err (error.Refused fault)
         → RefusesDocument bytes.now fault }
 {
-    match decode(alloc, bytes) {
-        Ok(document) => Ok(document),
-        Err(fault) => Err(PageErr::from(fault)),
-    }
+    Ok(decode(alloc, bytes)?)
 }
 
 /// The one spelling of a page that is a document.
@@ -44,13 +41,8 @@ pub fn canonical(alloc: Global, bytes: &[u8]) -> Result<Bytes, PageErr>
         → RefusesDocument bytes.now fault }
 {
     documents_are_spellable(bytes);
-    match document_in(alloc, bytes) {
-        Ok(document) => match encode(alloc, &document) {
-            Ok(text) => Ok(text),
-            Err(NoMemory) => Err(PageErr::NoMemory),
-        },
-        Err(error) => Err(error),
-    }
+    let document = document_in(alloc, bytes)?;
+    Ok(encode(alloc, &document)?)
 }
 
 /// The deck that a document means, if it is good.
@@ -61,13 +53,9 @@ fn good_deck_of(alloc: Global, document: &Document) -> Result<Deck, PageErr>
     ensures refused { (fault : PageFault) → result ≡ Err (error.Refused fault)
         → IsDeckRefused document.now fault }
 {
-    match deck_of(alloc, document) {
-        Ok(deck) => match judge_deck(alloc, &deck) {
-            Ok(()) => Ok(deck),
-            Err(fault) => Err(PageErr::from(fault)),
-        },
-        Err(NoMemory) => Err(PageErr::NoMemory),
-    }
+    let deck = deck_of(alloc, document)?;
+    judge_deck(alloc, &deck)?;
+    Ok(deck)
 }
 
 /// The deck of a page, if it is good.
@@ -79,10 +67,8 @@ fn deck_in(alloc: Global, bytes: &[u8]) -> Result<Deck, PageErr>
     ensures refused { (fault : PageFault) → result ≡ Err (error.Refused fault)
         → RefusesCheck bytes.now fault }
 {
-    match document_in(alloc, bytes) {
-        Ok(document) => good_deck_of(alloc, &document),
-        Err(error) => Err(error),
-    }
+    let document = document_in(alloc, bytes)?;
+    good_deck_of(alloc, &document)
 }
 
 /// The line of a page that is a document with a good deck.
@@ -93,13 +79,8 @@ pub fn check_line(alloc: Global, bytes: &[u8]) -> Result<Bytes, PageErr>
     ensures refused { (fault : PageFault) → result ≡ Err (error.Refused fault)
         → RefusesCheck bytes.now fault }
 {
-    match deck_in(alloc, bytes) {
-        Ok(deck) => match line_of(alloc, &deck) {
-            Ok(line) => Ok(line),
-            Err(NoMemory) => Err(PageErr::NoMemory),
-        },
-        Err(error) => Err(error),
-    }
+    let deck = deck_in(alloc, bytes)?;
+    Ok(line_of(alloc, &deck)?)
 }
 
 fn line_of(alloc: Global, deck: &Deck) -> Result<Bytes, NoMemory>

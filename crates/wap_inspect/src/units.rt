@@ -26,10 +26,7 @@ pub fn unit_in(alloc: Global, bytes: &[u8]) -> Result<Unit, PageErr>
     ensures refused { (fault : PageFault) → result ≡ Err (error.Refused fault)
         → RefusesUnit bytes.now fault }
 {
-    match decode(alloc, bytes) {
-        Ok(unit) => Ok(unit),
-        Err(fault) => Err(PageErr::from(fault)),
-    }
+    Ok(decode(alloc, bytes)?)
 }
 
 /// The page's unit, if it may be run.
@@ -41,12 +38,10 @@ fn verified_in(alloc: Global, bytes: &[u8]) -> Result<Verified, PageErr>
     ensures refused { (fault : PageFault) → result ≡ Err (error.Refused fault)
         → RefusesVerify bytes.now fault }
 {
-    match unit_in(alloc, bytes) {
-        Ok(unit) => match verify(alloc, unit) {
-            Ok(verified) => Ok(verified),
-            Err((_, fault)) => Err(PageErr::from(fault)),
-        },
-        Err(error) => Err(error),
+    let unit = unit_in(alloc, bytes)?;
+    match verify(alloc, unit) {
+        Ok(verified) => Ok(verified),
+        Err((_, fault)) => Err(PageErr::from(fault)),
     }
 }
 
@@ -59,13 +54,8 @@ pub fn verify_line(alloc: Global, bytes: &[u8]) -> Result<Bytes, PageErr>
     ensures refused { (fault : PageFault) → result ≡ Err (error.Refused fault)
         → RefusesVerify bytes.now fault }
 {
-    match verified_in(alloc, bytes) {
-        Ok(verified) => match line_of(alloc, verified.unit()) {
-            Ok(line) => Ok(line),
-            Err(NoMemory) => Err(PageErr::NoMemory),
-        },
-        Err(error) => Err(error),
-    }
+    let verified = verified_in(alloc, bytes)?;
+    Ok(line_of(alloc, verified.unit())?)
 }
 
 fn line_of(alloc: Global, unit: &Unit) -> Result<Bytes, NoMemory>

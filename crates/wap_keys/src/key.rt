@@ -193,10 +193,7 @@ fn read_rest(alloc: Global, word: Word, rest: Option<&[u8]>) -> Result<Key, KeyF
     ensures { Meets NoMemory (λ key. key) result (key_of_rest word
         (option_map (λ rest. rest.now) rest.entry)) }
 {
-    match rest_text(rest) {
-        Ok(text) => read_form(alloc, word, text),
-        Err(fault) => Err(fault),
-    }
+    read_form(alloc, word, rest_text(rest)?)
 }
 
 /// Why a line is no key line that begins with no word of a form.

@@ -46,10 +46,8 @@ fn call_library<P, H: Host<P>>(
 {
     let script = waiting.frame().script();
     let referer = script.referer.as_ref();
-    match host.library(pages, &script.base, referer, number, index, arguments) {
-        Ok(out) => Ok(go_with(waiting, out)),
-        Err(fault) => Err(fault),
-    }
+    let out = host.library(pages, &script.base, referer, number, index, arguments)?;
+    Ok(go_with(waiting, out))
 }
 
 /// Calls a function of another unit.
@@ -83,13 +81,8 @@ fn call_external<P, H: Host<P>>(
     let depth = waiting.depth() as u32;
     let count = arguments.len() as u8;
     let caller = &waiting.frame().script().base;
-    match host.external(pages, caller, &url, &name, count, depth) {
-        Ok(found) => match enter_found(waiting, found, arguments) {
-            Ok(step) => Ok(step),
-            Err(_) => Err(RunErr::NoMemory),
-        },
-        Err(fault) => Err(fault),
-    }
+    let found = host.external(pages, caller, &url, &name, count, depth)?;
+    Ok(enter_found(waiting, found, arguments)?)
 }
 
 /// Makes a call, whose turn was taken.

@@ -22,10 +22,9 @@ pub(crate) fn go_on(alloc: Global, frame: &mut Frame, string: u32) -> Result<Nex
         if frame.is_at_end() {
             return Ok(Next::Return(Value::Str(Text::new(alloc))));
         }
-        match act(alloc, frame, string) {
-            Ok(Next::Onward) => {}
-            Ok(next) => return Ok(next),
-            Err(fault) => return Err(fault),
+        match act(alloc, frame, string)? {
+            Next::Onward => {}
+            next => return Ok(next),
         }
     }
 }

@@ -169,10 +169,8 @@ impl Machine {
             mut frame,
             outer,
         } = self;
-        match go_on(alloc, &mut frame, limits.string) {
-            Ok(next) => Ok(want_for(alloc, limits, frame, outer, next)),
-            Err(fault) => Err(fault),
-        }
+        let next = go_on(alloc, &mut frame, limits.string)?;
+        Ok(want_for(alloc, limits, frame, outer, next))
     }
 
     /// A function of a unit at its beginning.

@@ -40,10 +40,9 @@ impl Machine {
     {
         let mut machine = self;
         loop {
-            match step(machine, host, pages) {
-                Ok(Step::Goes(next)) => machine = next,
-                Ok(Step::Ends(outcome)) => return Ok(outcome),
-                Err(fault) => return Err(fault),
+            match step(machine, host, pages)? {
+                Step::Goes(next) => machine = next,
+                Step::Ends(outcome) => return Ok(outcome),
             }
         }
     }

@@ -25,7 +25,6 @@ use Rattle.wap_wbxml.proofs.DocumentLaws.{document_stops, document_fails}
 use Rattle.wap_deck.proofs.Normality.{deck_is_normal}
 use Rattle.wap_deckcheck.specs.Faults.{faults, first_fault}
 use Rattle.wap_deckcheck.specs.declared.fault.DeckFault.{DeckFault}
-use Rattle.wap_deckcheck.specs.declared.fault.DeckFault.TheVariants as deck_fault
 use Rattle.wap_deckcheck.proofs.GoodDecks.{good_without_faults}
 use Rattle.wap_deckcheck.proofs.Completeness.{no_faults_where_good}
 use Rattle.wap_site.specs.Pages.{page_of, IsThere, AreSitePages}

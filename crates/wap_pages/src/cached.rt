@@ -169,12 +169,8 @@ impl<S: Store> Pages for Cached<S> {
         if let Some(page) = look_up(&mut self.kept, name, fresh)? {
             return Ok(page);
         }
-        match fetch(alloc, &mut self.store, name) {
-            Ok(page) => {
-                keep(alloc, &mut self.kept, name, &page)?;
-                Ok(page)
-            }
-            Err(error) => Err(error),
-        }
+        let page = fetch(alloc, &mut self.store, name)?;
+        keep(alloc, &mut self.kept, name, &page)?;
+        Ok(page)
     }
 }

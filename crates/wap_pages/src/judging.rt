@@ -8,7 +8,7 @@ ghost use Rattle.wap_pages.specs.declared.fault.PageErr.TheVariants as error;
 
 use crate::{Kind, PageErr, PageFault};
 use std::alloc::Global;
-use wap_base::{Charset, NoMemory, Text};
+use wap_base::{Charset, Text};
 use wap_deck::deck_of;
 use wap_deckcheck::check;
 use wap_good::GoodDeck;
@@ -44,44 +44,33 @@ fn judge_by_kind(alloc: Global, kind: Kind, bytes: &[u8]) -> Result<Page, PageEr
 fn judge_deck(alloc: Global, bytes: &[u8]) -> Result<Page, PageErr>
     ensures { Judges result (judgement Kind.Deck bytes.now) }
 {
-    match decode(alloc, bytes) {
-        Ok(document) => judge_document(alloc, &document),
-        Err(fault) => Err(PageErr::from(fault)),
-    }
+    let document = decode(alloc, bytes)?;
+    judge_document(alloc, &document)
 }
 
 /// The deck that a document means, if it is good.
 fn judge_document(alloc: Global, document: &Document) -> Result<Page, PageErr>
     ensures { Judges result (judged_document (Ok document.now)) }
 {
-    match deck_of(alloc, document) {
-        Ok(deck) => match check(alloc, deck) {
-            Ok(good) => as_page(alloc, good),
-            Err((_, fault)) => Err(PageErr::from(fault)),
-        },
-        Err(NoMemory) => Err(PageErr::NoMemory),
+    let deck = deck_of(alloc, document)?;
+    match check(alloc, deck) {
+        Ok(good) => as_page(alloc, good),
+        Err((_, fault)) => Err(PageErr::from(fault)),
     }
 }
 
 fn as_page(alloc: Global, deck: GoodDeck) -> Result<Page, PageErr>
     ensures { Judges result (Ok (Page.Deck deck)) }
 {
-    match Shared::new(alloc, deck) {
-        Ok(shared) => Ok(Page::Deck(shared)),
-        Err(NoMemory) => Err(PageErr::NoMemory),
-    }
+    Ok(Page::Deck(Shared::new(alloc, deck)?))
 }
 
 /// The text that bytes are.
 fn judge_text(alloc: Global, bytes: &[u8]) -> Result<Page, PageErr>
     ensures { Judges result (judgement Kind.Words bytes.now) }
 {
-    match Charset::Utf8.text(alloc, bytes) {
-        Ok(Some(text)) => match Shared::new(alloc, text) {
-            Ok(shared) => Ok(Page::Words(shared)),
-            Err(NoMemory) => Err(PageErr::NoMemory),
-        },
-        Ok(None) => Err(PageErr::Refused(PageFault::NotText)),
-        Err(NoMemory) => Err(PageErr::NoMemory),
+    match Charset::Utf8.text(alloc, bytes)? {
+        Some(text) => Ok(Page::Words(Shared::new(alloc, text)?)),
+        None => Err(PageErr::Refused(PageFault::NotText)),
     }
 }

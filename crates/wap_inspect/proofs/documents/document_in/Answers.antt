@@ -1,18 +1,11 @@
-use Rattle.std.proofs.Common.{Ok, sym, ap, ◌∙◌, subst}
+use Rattle.std.proofs.Common.{Err, sym, ap, ◌∙◌}
+use Rattle.std.proofs.lemmas.Result.{err_from_is_err_and}
 use Rattle.wap_pages.specs.declared.fault.PageErr.TheVariants as error
-use Rattle.wap_inspect.proofs.Errors.{Only, document_only, document_refused, ok_is, err_is}
+use Rattle.wap_inspect.proofs.Errors.{document_refused, err_is}
 use Rattle.wap_inspect.proofs.documents.document_in.Goals as goal
 
-pub returns-in-Ok-clause-only : goal.returns-in-Ok-clause-only
-returns-in-Ok-clause-only c =
-    λ one is. ap Ok (ok_is one c.in-Ok.document (c.in-Ok.ensures.only one is))
-
-pub returns-in-Err-clause-only : goal.returns-in-Err-clause-only
-returns-in-Err-clause-only c = λ one is.
-    subst (Only one) (sym c.from.ensures)
-    (document_only c.args.bytes.now c.in-Err.fault one (c.in-Err.ensures.only one is))
-
-pub returns-in-Err-clause-refused : goal.returns-in-Err-clause-refused
-returns-in-Err-clause-refused c = λ why is.
-    document_refused c.args.bytes.now c.in-Err.fault why c.in-Err.ensures.refused
-    (sym c.from.ensures ∙ err_is c.from.result (error.Refused why) is)
+pub returns-in_err-decode-clause-refused : goal.returns-in_err-decode-clause-refused
+returns-in_err-decode-clause-refused c = λ why is.
+    let left = err_from_is_err_and c.from_residual.result c.from_residual.ensures.1 in
+    document_refused c.args.bytes.now c.in_err-decode.field-0.0 why c.in_err-decode.ensures.refused
+    (err_is _ (error.Refused why) (sym (left.1 ∙ ap Err left.2) ∙ is))

@@ -1,4 +1,5 @@
-use Rattle.std.proofs.Common.{◌≡◌, ℕ, List, ◌∷◌, Option, sym, ap, subst, ◌∙◌, IfSome}
+use Rattle.std.proofs.Common.{◌≡◌, ℕ, List, ◌∷◌, Option, Err, sym, ap, subst, ◌∙◌, IfSome}
+use Rattle.std.proofs.lemmas.Result.{err_from_is_err_and}
 use Rattle.std.specs.Option.{option_copied}
 use Rattle.wap_url.specs.declared.url.Url.{Url}
 use Rattle.wap_execution.specs.declared.library.HostOut.{HostOut}
@@ -14,8 +15,8 @@ use Rattle.wap_machine.proofs.CallLaws.{library_told, library_fetches}
 use Rattle.wap_machine.proofs.HostLaws.{host_keeps, other_fault, told_grows}
 use Rattle.wap_machine.proofs.asking.call_library.Goals as goal
 
-pub returns-in-Ok-clause-told : goal.returns-in-Ok-clause-told
-returns-in-Ok-clause-told g c =
+pub returns-clause-told : goal.returns-clause-told
+returns-clause-told g c =
     let set = uncounted c.args.waiting.limits g.H.Host.meaning in
     let frame : Frame = c.frame.result.now in
     let outer = c.frame.ensures.outer in
@@ -31,25 +32,26 @@ returns-in-Ok-clause-told g c =
     let told =
     subst (λ (r : Option Url).
     IfSome old (λ before. Gives (g.H.Host.meaning.library before frame.function.base r c.args.number
-    c.args.index c.args.arguments.items) c.in-Ok.out new)) referer
+    c.args.index c.args.arguments.items) c.in_ok-out.out new)) referer
     (subst (λ (b : Url). IfSome old (λ before.
     Gives (g.H.Host.meaning.library before b (option_copied c.as_ref-referer.result) c.args.number
-    c.args.index c.args.arguments.items) c.in-Ok.out new)) base c.in-Ok.ensures.told) in
+    c.args.index c.args.arguments.items) c.in_ok-out.out new)) base c.in_ok-out.ensures.told) in
     let goes =
-    subst (λ (l : List Frame). c.go_with.result ≡ goes_with c.args.waiting.limits l c.in-Ok.out)
+    subst (λ (l : List Frame). c.go_with.result ≡ goes_with c.args.waiting.limits l c.in_ok-out.out)
     are c.go_with.ensures.goes in
     let same =
     library_told set frame outer c.args.arguments.items (g.H.Host.turns c.args.host.now)
-    c.args.number c.args.index c.in-Ok.out c.go_with.result old new told goes in
+    c.args.number c.args.index c.in_ok-out.out c.go_with.result old new told goes in
     subst (λ (l : List Frame). Same (calls_from set l (library c.args.number c.args.index)
     c.args.arguments.items (g.H.Host.turns c.args.host.now)) old
     (rest set c.go_with.result (g.H.Host.turns c.library.new.self)) new) (sym are)
     (subst (λ (n : ℕ). Same (calls_from set (frame ∷ outer) (library c.args.number c.args.index)
     c.args.arguments.items (g.H.Host.turns c.args.host.now)) old (rest set c.go_with.result n) new)
-    (sym c.in-Ok.ensures.turns) same)
+    (sym c.in_ok-out.ensures.turns) same)
 
-pub returns-in-Err-clause-fetched : goal.returns-in-Err-clause-fetched
-returns-in-Err-clause-fetched g c = λ is.
+pub returns-in_err-out-clause-fetched : goal.returns-in_err-out-clause-fetched
+returns-in_err-out-clause-fetched g c = λ is.
+    let left = err_from_is_err_and c.from_residual.result c.from_residual.ensures.1 in
     let set = uncounted c.args.waiting.limits g.H.Host.meaning in
     let frame : Frame = c.frame.result.now in
     let outer = c.frame.ensures.outer in
@@ -68,7 +70,8 @@ returns-in-Err-clause-fetched g c = λ is.
     (subst (λ (b : Url). IfSome old (λ before.
     Fetches (g.H.Host.fetched before) count (g.H.Host.fetched (g.H.Host.meaning.library before b
     (option_copied c.as_ref-referer.result) c.args.number c.args.index c.args.arguments.items).1)))
-    base (c.in-Err.ensures.fetched (other_fault Step HostOut c.in-Err.fault Store is))) in
+    base (c.in_err-out.ensures.fetched (other_fault Step HostOut c.in_err-out.field-0.0 Store
+    (sym (left.1 ∙ ap Err left.2) ∙ is)))) in
     let keeps =
     host_keeps c.args.waiting.limits g.H.Host.meaning g.H.Host.fetched g.met.H.Host.external_grows
     g.met.H.Host.library_grows in
@@ -78,13 +81,13 @@ returns-in-Err-clause-fetched g c = λ is.
     (library_fetches set g.H.Host.fetched keeps frame outer c.args.arguments.items
     (g.H.Host.turns c.args.host.now) count c.args.number c.args.index old fetched)
 
-pub returns-in-Ok-clause-grown : goal.returns-in-Ok-clause-grown
-returns-in-Ok-clause-grown g c =
+pub returns-clause-grown : goal.returns-clause-grown
+returns-clause-grown g c =
     told_grows g.H.Host.fetched (λ before.
     g.H.Host.meaning.library before c.deref-2.result.now.base
     (option_copied c.as_ref-referer.result) c.args.number c.args.index c.args.arguments.items)
     (g.H.Host.state c.args.host.now c.args.pages.now)
-    (g.H.Host.state c.library.new.self c.library.new.pages) c.in-Ok.out c.in-Ok.ensures.told
+    (g.H.Host.state c.library.new.self c.library.new.pages) c.in_ok-out.out c.in_ok-out.ensures.told
     (λ before.
     g.met.H.Host.library_grows before c.deref-2.result.now.base
     (option_copied c.as_ref-referer.result) c.args.number c.args.index c.args.arguments.items)

@@ -27,7 +27,7 @@ loop-alloc-preserved c =
     let within = inside_of now 0 c.loop-alloc.invariant.stands apart in
     let acts =
     subst (λ (n : Next). Acts c.args.string now c.act.new.frame n)
-    c.in-Ok-Onward.field-0-is c.in-Ok-Onward.ensures in
+    c.in-Onward.is c.in_ok-next.ensures in
     passed_more c.args.string c.args.frame.now now c.act.new.frame
     c.loop-alloc.invariant within acts
 
@@ -39,7 +39,7 @@ loop-alloc-smaller c =
     let within = inside_of now 0 c.loop-alloc.invariant.stands apart in
     let acts =
     subst (λ (n : Next). Acts c.args.string now c.act.new.frame n)
-    c.in-Ok-Onward.field-0-is c.in-Ok-Onward.ensures in
+    c.in-Onward.is c.in_ok-next.ensures in
     on_falls c.args.string now c.act.new.frame acts within
 
 pub returns-then-is_at_end-clause-gone : goal.returns-then-is_at_end-clause-gone
@@ -53,14 +53,14 @@ returns-then-is_at_end-clause-gone c =
       last = ends place (ap (λ (l : List _). Return (Str l)) c.new.ensures);
     }
 
-pub returns-in-Ok-clause-gone : goal.returns-in-Ok-clause-gone
-returns-in-Ok-clause-gone c =
+pub returns-in_default-clause-gone : goal.returns-in_default-clause-gone
+returns-in_default-clause-gone c =
     let now : Frame = c.loop-alloc.frame in
     let apart : now.place ≢ length (code_of now.function) =
     λ e. let yes = c.is_at_end.ensures.1 e in cc (yes, c.if-is_at_end.false) in
     let within = inside_of now 0 c.loop-alloc.invariant.stands apart in
-    record { now = now; passed = c.loop-alloc.invariant; last = does within c.in-Ok.ensures }
+    record { now = now; passed = c.loop-alloc.invariant; last = does within c.in_ok-next.ensures }
 
-pub returns-in-Ok-clause-stands : goal.returns-in-Ok-clause-stands
-returns-in-Ok-clause-stands c =
-    stands_for c.args.string c.loop-alloc.frame c.act.new.frame c.in-Ok.next c.in-Ok.ensures
+pub returns-in_default-clause-stands : goal.returns-in_default-clause-stands
+returns-in_default-clause-stands c =
+    stands_for c.args.string c.loop-alloc.frame c.act.new.frame c.in_ok-next.next c.in_ok-next.ensures

@@ -1,4 +1,6 @@
-use Rattle.std.proofs.Common.{Err, sym, subst}
+use Rattle.std.proofs.Common.{Result, Err, sym, ap, ◌∙◌, subst}
+use Rattle.std.proofs.lemmas.Result.{err_from_is_err_and}
+use Rattle.wap_site.specs.declared.page.Page.{Page}
 use Rattle.wap_pages.specs.declared.fault.PageErr.{PageErr}
 use Rattle.wap_pages.specs.declared.kind.Kind.TheVariants as kind
 use Rattle.wap_pages.specs.Judged.{judgement}
@@ -6,13 +8,14 @@ use Rattle.wap_pages.specs.inside.Judging.{Judges}
 use Rattle.wap_pages.proofs.Judgements.{document_read, document_refused}
 use Rattle.wap_pages.proofs.judging.judge_deck.Goals as goal
 
-pub returns-in-Ok : goal.returns-in-Ok
-returns-in-Ok c =
-    document_read c.args.bytes.now c.in-Ok.document c.judge_document.result c.in-Ok.ensures.exact
-    c.judge_document.ensures
+pub returns-in_err-document : goal.returns-in_err-document
+returns-in_err-document c =
+    let left = err_from_is_err_and c.from_residual.result c.from_residual.ensures.1 in
+    subst (λ (r : Result Page PageErr). Judges r (judgement kind.Deck c.args.bytes.now))
+    (sym (left.1 ∙ ap Err left.2))
+    (document_refused c.args.bytes.now c.in_err-document.field-0.0 c.in_err-document.ensures.exact)
 
-pub returns-in-Err : goal.returns-in-Err
-returns-in-Err c =
-    subst (λ (e : PageErr). Judges (Err e) (judgement kind.Deck c.args.bytes.now))
-    (sym c.from.ensures)
-    (document_refused c.args.bytes.now c.in-Err.fault c.in-Err.ensures.exact)
+pub returns : goal.returns
+returns c =
+    document_read c.args.bytes.now c.in_ok-document.document c.judge_document.result
+    c.in_ok-document.ensures.exact c.judge_document.ensures

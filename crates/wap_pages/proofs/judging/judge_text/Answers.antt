@@ -3,12 +3,11 @@ use Rattle.wap_site.specs.declared.page.Page.TheVariants as page
 use Rattle.wap_pages.proofs.Judgements.{judged-text}
 use Rattle.wap_pages.proofs.judging.judge_text.Goals as goal
 
-pub returns-in-Ok : goal.returns-in-Ok
-returns-in-Ok c =
-    judged-text c.args.bytes.now (Some c.in-Ok-Some.text)
-    (sym c.in-Ok-Some.ensures ∙ c.in-Ok-Some.field-0-is)
-    ∙ ap (λ (text : List ℕ). Ok (page.Words text)) (sym c.in-Ok.ensures)
+pub returns-in_ok-new-in-Some : goal.returns-in_ok-new-in-Some
+returns-in_ok-new-in-Some c =
+    judged-text c.args.bytes.now (Some c.in-Some.text) (sym c.in_ok-text.ensures ∙ c.in-Some.is)
+    ∙ ap (λ (text : List ℕ). Ok (page.Words text)) (sym c.in_ok-new-in-Some.ensures)
 
-pub returns-in-Ok-None : goal.returns-in-Ok-None
-returns-in-Ok-None c =
-    judged-text c.args.bytes.now None (sym c.in-Ok-None.ensures ∙ c.in-Ok-None.field-0-is)
+pub returns-in-None : goal.returns-in-None
+returns-in-None c =
+    judged-text c.args.bytes.now None (sym c.in_ok-text.ensures ∙ c.in-None.is)

@@ -18,13 +18,13 @@ last_step limits now new outer next wanted stacked (ends place gives_empty) is =
 last_step limits now new outer next wanted stacked (does within acts) is =
     done now new outer next refl stacked within acts is
 
-pub returns-in-Ok : goal.returns-in-Ok
-returns-in-Ok c =
+pub returns : goal.returns
+returns c =
     let frame : Frame = c.self.inside.frame in
     let outer : List Frame = reverse c.self.inside.outer.items in
     let limits = c.self.inside.limits in
     let stacked = c.self.invariant in
-    let gone = c.in-Ok.ensures.gone in
+    let gone = c.in_ok-next.ensures.gone in
     let now_stacked : AreStacked limits gone.now 0 outer = record {
       limits_fit = stacked.limits_fit;
       innermost = gone.passed.stands;
@@ -38,7 +38,7 @@ returns-in-Ok c =
       now = gone.now;
       passed = gone.passed;
       last =
-          last_step limits gone.now c.go_on.new.frame outer c.in-Ok.next c.want_for.result
+          last_step limits gone.now c.go_on.new.frame outer c.in_ok-next.next c.want_for.result
           now_stacked gone.last c.want_for.ensures;
     } in
     subst (λ (s : Stack). IsAdvanced s.limits s.frames c.want_for.result) c.self.view_is advanced

@@ -1,4 +1,5 @@
-use Rattle.std.proofs.Common.{subst, arith}
+use Rattle.std.proofs.Common.{Err, sym, ap, subst, ◌∙◌, arith}
+use Rattle.std.proofs.lemmas.Result.{err_from_is_err_and}
 use Rattle.wap_base.specs.declared.fault.RunErr.TheVariants.{Store}
 use Rattle.wap_machine.specs.declared.machine.Outcome.{Outcome}
 use Rattle.wap_machine.specs.declared.machine.Step.{Step}
@@ -24,7 +25,7 @@ loop-next-init g c = record {
 pub loop-next-preserved : goal.loop-next-preserved
 loop-next-preserved g c =
     let now : Stack = c.loop-next.machine in
-    let next : Stack = c.in-Ok-Goes.next in
+    let next : Stack = c.in-Goes.next in
     let turns = g.H.Host.turns c.loop-next.host in
     let left = g.H.Host.turns c.step.new.host in
     let state = g.H.Host.state c.loop-next.host c.loop-next.pages in
@@ -32,23 +33,23 @@ loop-next-preserved g c =
     let told =
     subst (λ (s : Step). Same (run_of now g.H.Host.meaning turns) state
     (rest (uncounted now.limits g.H.Host.meaning) s left) later)
-    c.in-Ok-Goes.field-0-is c.in-Ok-Goes.ensures.told in
+    c.in-Goes.is c.in_ok-next.ensures.told in
     let limits =
     subst (λ (s : Step). LimitsStay now.limits s)
-    c.in-Ok-Goes.field-0-is c.in-Ok-Goes.ensures.limits in
+    c.in-Goes.is c.in_ok-next.ensures.limits in
     record {
       runs =
           goes_on g.H.Host.meaning g.H.Host.fetched c.args.self (g.H.Host.turns c.args.host.now)
           (g.H.Host.state c.args.host.now c.args.pages.now)
           now turns state c.loop-next.invariant.runs next left later told limits
-          c.in-Ok-Goes.ensures.turns c.in-Ok-Goes.ensures.grown;
+          c.in_ok-next.ensures.turns c.in_ok-next.ensures.grown;
       faults =
           let before = c.loop-next.invariant.faults in
-          let after = c.in-Ok-Goes.ensures.faults in
+          let after = c.in_ok-next.ensures.faults in
           omega arith;
       fetches =
           let before = c.loop-next.invariant.fetches in
-          let after = c.in-Ok-Goes.ensures.fetches in
+          let after = c.in_ok-next.ensures.fetches in
           omega arith;
     }
 
@@ -56,10 +57,10 @@ pub loop-next-smaller : goal.loop-next-smaller
 loop-next-smaller g c =
     subst
     (λ (s : Step). GoesBelow (effort (g.H.Host.turns c.loop-next.host) c.loop-next.machine.frames)
-    (g.H.Host.turns c.step.new.host) s) c.in-Ok-Goes.field-0-is c.in-Ok-Goes.ensures.falls
+    (g.H.Host.turns c.step.new.host) s) c.in-Goes.is c.in_ok-next.ensures.falls
 
-pub returns-in-Ok-Ends-clause-told : goal.returns-in-Ok-Ends-clause-told
-returns-in-Ok-Ends-clause-told g c =
+pub returns-in-Ends-clause-told : goal.returns-in-Ends-clause-told
+returns-in-Ends-clause-told g c =
     let now : Stack = c.loop-next.machine in
     let turns = g.H.Host.turns c.loop-next.host in
     let left = g.H.Host.turns c.step.new.host in
@@ -68,23 +69,25 @@ returns-in-Ok-Ends-clause-told g c =
     let told =
     subst (λ (s : Step). Same (run_of now g.H.Host.meaning turns) state
     (rest (uncounted now.limits g.H.Host.meaning) s left) later)
-    c.in-Ok-Ends.field-0-is c.in-Ok-Ends.ensures.told in
+    c.in-Ends.is c.in_ok-next.ensures.told in
     ends_told g.H.Host.meaning g.H.Host.fetched c.args.self (g.H.Host.turns c.args.host.now)
     (g.H.Host.state c.args.host.now c.args.pages.now)
-    now turns state c.loop-next.invariant.runs c.in-Ok-Ends.outcome left later told
+    now turns state c.loop-next.invariant.runs c.in-Ends.outcome left later told
 
-pub returns-in-Ok-Ends-clause-bounded : goal.returns-in-Ok-Ends-clause-bounded
-returns-in-Ok-Ends-clause-bounded g c =
+pub returns-in-Ends-clause-bounded : goal.returns-in-Ends-clause-bounded
+returns-in-Ends-clause-bounded g c =
     told_bounded g.H.Host.meaning c.args.self (g.H.Host.turns c.args.host.now)
-    (g.H.Host.state c.args.host.now c.args.pages.now) c.in-Ok-Ends.outcome
+    (g.H.Host.state c.args.host.now c.args.pages.now) c.in-Ends.outcome
     (g.H.Host.turns c.step.new.host) (g.H.Host.state c.step.new.host c.step.new.pages)
-    (returns-in-Ok-Ends-clause-told g c)
+    (returns-in-Ends-clause-told g c)
 
-pub returns-in-Err-clause-fetched : goal.returns-in-Err-clause-fetched
-returns-in-Err-clause-fetched g c = λ is.
+pub returns-in_err-next-clause-fetched : goal.returns-in_err-next-clause-fetched
+returns-in_err-next-clause-fetched g c = λ is.
+    let left = err_from_is_err_and c.from_residual.result c.from_residual.ensures.1 in
     fails_fetched g.H.Host.meaning g.H.Host.fetched c.args.self (g.H.Host.turns c.args.host.now)
     (g.H.Host.state c.args.host.now c.args.pages.now)
     c.loop-next.machine (g.H.Host.turns c.loop-next.host)
     (g.H.Host.state c.loop-next.host c.loop-next.pages) c.loop-next.invariant.runs
     (g.H.Host.fetches c.step.new.pages)
-    (c.in-Err.ensures.fetched (other_fault Outcome Step c.in-Err.fault Store is))
+    (c.in_err-next.ensures.fetched (other_fault Outcome Step c.in_err-next.field-0.0 Store
+    (sym (left.1 ∙ ap Err left.2) ∙ is)))

@@ -1,7 +1,10 @@
-use Rattle.std.proofs.Common.{◌≡◌, false, Bool, Option, Ok, Result, sym, ap, subst, ◌∙◌}
-use Rattle.std.specs.Prelude.{IfOk, IfSome, OnOk, OnErr}
+use Rattle.std.proofs.Common.{◌≡◌, false, Bool, Option, Ok, Err, Result, sym, ap, subst, ◌∙◌}
+use Rattle.std.specs.Prelude.{IfOk, IfSome, OnOk, OnErr, IsErrOf}
+use Rattle.std.proofs.lemmas.Result.{err_from_is_err_and}
 use Rattle.wap_base.specs.Contents.{Contents}
 use Rattle.wap_base.specs.declared.fault.NoMemory.{NoMemory}
+use Rattle.wap_base.specs.declared.fault.RunErr.{RunErr}
+use Rattle.wap_base.specs.declared.fault.RunErr.TheVariants.{Store}
 use Rattle.wap_site.specs.Misses.{Asked, after_asking, is_miss}
 use Rattle.wap_site.specs.declared.page.Page.{Page}
 use Rattle.wap_pages.specs.Caches.{KeepsNoMore}
@@ -95,22 +98,24 @@ returns-in-Some-clause-stays g c =
 
 -- ---- a page that couldn't be fetched
 
-pub invariant_of-self-in-Err : goal.invariant_of-self-in-Err
-invariant_of-self-in-Err g c =
+pub invariant_of-self-in_err-page-2 : goal.invariant_of-self-in_err-page-2
+invariant_of-self-in_err-page-2 g c =
     let looked = c.look_up.ensures (g.S.Store.contents c.self.inside.store) c.self.invariant in
     subst (λ (behind : Option Contents). IsSound behind c.look_up.new.kept)
     (sym c.fetch.ensures.kept) looked.sound
 
-pub returns-in-Err-clause-site : goal.returns-in-Err-clause-site
-returns-in-Err-clause-site g c =
+pub returns-in_err-page-2-clause-site : goal.returns-in_err-page-2-clause-site
+returns-in_err-page-2-clause-site g c =
     rw (← c.self.view_is)
     (site_seen (g.S.Store.contents c.self.inside.store) c.fetch.ensures.distinct)
 
-pub returns-in-Err-clause-failed : goal.returns-in-Err-clause-failed
-returns-in-Err-clause-failed g c = λ why.
+pub returns-in_err-page-2-clause-failed : goal.returns-in_err-page-2-clause-failed
+returns-in_err-page-2-clause-failed g c = λ why.
     let behind = g.S.Store.contents c.self.inside.store in
     let looked = c.look_up.ensures behind c.self.invariant in
     let none = c.in_ok-page.was ∙ ap (λ (found : Option Page). Ok found) c.in_default.is in
+    let left = err_from_is_err_and c.from_residual-in_err-page-2.result
+    c.from_residual-in_err-page-2.ensures.1 in
     rw (← c.self.view_is)
     (miss_fails behind (names_in c.self.inside.kept)
     (g.S.Store.faults c.self.inside.store) (g.S.Store.fetches c.self.inside.store)
@@ -119,10 +124,11 @@ returns-in-Err-clause-failed g c = λ why.
     (g.S.Store.faults c.fetch.new.store) (g.S.Store.fetches c.fetch.new.store)
     (g.S.Store.listings c.fetch.new.store)
     (c.args.name.now, c.args.fresh) (looked.miss none) c.fetch.ensures.counted
-    (c.in-Err.ensures.failed why))
+    (c.in_err-page-2.ensures.failed
+    (subst (λ (r : Result Page RunErr). IsErrOf r Store) (left.1 ∙ ap Err left.2) why)))
 
-pub returns-in-Err-clause-stays : goal.returns-in-Err-clause-stays
-returns-in-Err-clause-stays g c =
+pub returns-in_err-page-2-clause-stays : goal.returns-in_err-page-2-clause-stays
+returns-in_err-page-2-clause-stays g c =
     let behind = g.S.Store.contents c.self.inside.store in
     let looked = c.look_up.ensures behind c.self.invariant in
     rw (← c.self.view_is)
@@ -135,40 +141,42 @@ returns-in-Err-clause-stays g c =
     c.fetch.ensures.kept looked.capacity c.fetch.ensures.faults c.fetch.ensures.counted
     c.fetch.ensures.listings)
 
-pub returns-in-Err-clause-no_more : goal.returns-in-Err-clause-no_more
-returns-in-Err-clause-no_more g c =
+pub returns-in_err-page-2-clause-no_more : goal.returns-in_err-page-2-clause-no_more
+returns-in_err-page-2-clause-no_more g c =
     let looked = c.look_up.ensures (g.S.Store.contents c.self.inside.store) c.self.invariant in
-    rw (← c.self.view_is) looked.no_more
+    rw (← c.self.view_is)
+    (on_fault (KeepsNoMore (names_in c.self.inside.kept) (names_in c.look_up.new.kept))
+    c.from_residual-in_err-page-2.result looked.no_more)
 
 -- ---- out of memory for a page that was fetched
 
-pub invariant_of-self-in_err-keep-in-Ok : goal.invariant_of-self-in_err-keep-in-Ok
-invariant_of-self-in_err-keep-in-Ok g c =
+pub invariant_of-self-in_err-keep : goal.invariant_of-self-in_err-keep
+invariant_of-self-in_err-keep g c =
     let behind = g.S.Store.contents c.fetch.new.store in
     let looked = c.look_up.ensures (g.S.Store.contents c.self.inside.store) c.self.invariant in
     let sound =
     subst (λ (b : Option Contents). IsSound b c.look_up.new.kept)
     (sym c.fetch.ensures.kept) looked.sound in
     let right =
-    subst (λ (b : Option Contents). IsRight b c.args.name.now c.in-Ok.page)
-    (sym c.fetch.ensures.kept) c.in-Ok.ensures.found in
+    subst (λ (b : Option Contents). IsRight b c.args.name.now c.in_ok-page-2.page)
+    (sym c.fetch.ensures.kept) c.in_ok-page-2.ensures.found in
     (c.keep.ensures behind sound right).sound
 
-pub returns-in_err-keep-in-Ok-clause-site : goal.returns-in_err-keep-in-Ok-clause-site
-returns-in_err-keep-in-Ok-clause-site g c =
+pub returns-in_err-keep-clause-site : goal.returns-in_err-keep-clause-site
+returns-in_err-keep-clause-site g c =
     rw (← c.self.view_is)
     (site_seen (g.S.Store.contents c.self.inside.store) c.fetch.ensures.distinct)
 
-pub returns-in_err-keep-in-Ok-clause-stays : goal.returns-in_err-keep-in-Ok-clause-stays
-returns-in_err-keep-in-Ok-clause-stays g c =
+pub returns-in_err-keep-clause-stays : goal.returns-in_err-keep-clause-stays
+returns-in_err-keep-clause-stays g c =
     let behind = g.S.Store.contents c.fetch.new.store in
     let looked = c.look_up.ensures (g.S.Store.contents c.self.inside.store) c.self.invariant in
     let sound =
     subst (λ (b : Option Contents). IsSound b c.look_up.new.kept)
     (sym c.fetch.ensures.kept) looked.sound in
     let right =
-    subst (λ (b : Option Contents). IsRight b c.args.name.now c.in-Ok.page)
-    (sym c.fetch.ensures.kept) c.in-Ok.ensures.found in
+    subst (λ (b : Option Contents). IsRight b c.args.name.now c.in_ok-page-2.page)
+    (sym c.fetch.ensures.kept) c.in_ok-page-2.ensures.found in
     let kept = c.keep.ensures behind sound right in
     rw (← c.self.view_is)
     (miss_stays (g.S.Store.contents c.self.inside.store) (names_in c.self.inside.kept)
@@ -180,55 +188,55 @@ returns-in_err-keep-in-Ok-clause-stays g c =
     c.fetch.ensures.kept (kept.capacity ∙ looked.capacity)
     c.fetch.ensures.faults c.fetch.ensures.counted c.fetch.ensures.listings)
 
-pub returns-in_err-keep-in-Ok-clause-no_more : goal.returns-in_err-keep-in-Ok-clause-no_more
-returns-in_err-keep-in-Ok-clause-no_more g c =
+pub returns-in_err-keep-clause-no_more : goal.returns-in_err-keep-clause-no_more
+returns-in_err-keep-clause-no_more g c =
     let behind = g.S.Store.contents c.fetch.new.store in
     let looked = c.look_up.ensures (g.S.Store.contents c.self.inside.store) c.self.invariant in
     let sound =
     subst (λ (b : Option Contents). IsSound b c.look_up.new.kept)
     (sym c.fetch.ensures.kept) looked.sound in
     let right =
-    subst (λ (b : Option Contents). IsRight b c.args.name.now c.in-Ok.page)
-    (sym c.fetch.ensures.kept) c.in-Ok.ensures.found in
+    subst (λ (b : Option Contents). IsRight b c.args.name.now c.in_ok-page-2.page)
+    (sym c.fetch.ensures.kept) c.in_ok-page-2.ensures.found in
     let kept = c.keep.ensures behind sound right in
     let same =
     subst (λ (r : Result (Unit {0}) NoMemory). OnErr r (c.keep.new.kept ≡ c.look_up.new.kept))
-    c.in_err-keep-in-Ok.was kept.no_more in
+    c.in_err-keep.was kept.no_more in
     rw (← c.self.view_is)
     (on_fault (KeepsNoMore (names_in c.self.inside.kept) (names_in c.keep.new.kept))
-    c.from_residual-in_err-keep-in-Ok.result
+    c.from_residual-in_err-keep.result
     (subst (λ (k : Kept). KeepsNoMore (names_in c.self.inside.kept) (names_in k))
     (sym same) looked.no_more))
 
 -- ---- a page that was fetched
 
-pub invariant_of-self-in-Ok : goal.invariant_of-self-in-Ok
-invariant_of-self-in-Ok g c =
+pub invariant_of-self-2 : goal.invariant_of-self-2
+invariant_of-self-2 g c =
     let behind = g.S.Store.contents c.fetch.new.store in
     let looked = c.look_up.ensures (g.S.Store.contents c.self.inside.store) c.self.invariant in
     let sound =
     subst (λ (b : Option Contents). IsSound b c.look_up.new.kept)
     (sym c.fetch.ensures.kept) looked.sound in
     let right =
-    subst (λ (b : Option Contents). IsRight b c.args.name.now c.in-Ok.page)
-    (sym c.fetch.ensures.kept) c.in-Ok.ensures.found in
+    subst (λ (b : Option Contents). IsRight b c.args.name.now c.in_ok-page-2.page)
+    (sym c.fetch.ensures.kept) c.in_ok-page-2.ensures.found in
     (c.keep.ensures behind sound right).sound
 
-pub returns-in_ok-keep-in-Ok-clause-site : goal.returns-in_ok-keep-in-Ok-clause-site
-returns-in_ok-keep-in-Ok-clause-site g c =
+pub returns-clause-site : goal.returns-clause-site
+returns-clause-site g c =
     rw (← c.self.view_is)
     (site_seen (g.S.Store.contents c.self.inside.store) c.fetch.ensures.distinct)
 
-pub returns-in_ok-keep-in-Ok-clause-asks : goal.returns-in_ok-keep-in-Ok-clause-asks
-returns-in_ok-keep-in-Ok-clause-asks g c =
+pub returns-clause-asks : goal.returns-clause-asks
+returns-clause-asks g c =
     let behind = g.S.Store.contents c.fetch.new.store in
     let looked = c.look_up.ensures (g.S.Store.contents c.self.inside.store) c.self.invariant in
     let sound =
     subst (λ (b : Option Contents). IsSound b c.look_up.new.kept)
     (sym c.fetch.ensures.kept) looked.sound in
     let right =
-    subst (λ (b : Option Contents). IsRight b c.args.name.now c.in-Ok.page)
-    (sym c.fetch.ensures.kept) c.in-Ok.ensures.found in
+    subst (λ (b : Option Contents). IsRight b c.args.name.now c.in_ok-page-2.page)
+    (sym c.fetch.ensures.kept) c.in_ok-page-2.ensures.found in
     let kept = c.keep.ensures behind sound right in
     let none = c.in_ok-page.was ∙ ap (λ (found : Option Page). Ok found) c.in_default.is in
     let asked : Asked = (c.args.name.now, c.args.fresh) in
@@ -237,7 +245,7 @@ returns-in_ok-keep-in-Ok-clause-asks g c =
     OnOk r ((fresh : Bool)
     → names_in c.keep.new.kept
     ≡ after_asking (c.args.name.now, fresh) (names_in c.look_up.new.kept)))
-    c.in_ok-keep-in-Ok.was kept.first in
+    c.in_ok-keep.was kept.first in
     rw (← c.self.view_is)
     (miss_asks (g.S.Store.contents c.self.inside.store) (names_in c.self.inside.kept)
     (g.S.Store.faults c.self.inside.store) (g.S.Store.fetches c.self.inside.store)
@@ -247,18 +255,18 @@ returns-in_ok-keep-in-Ok-clause-asks g c =
     (g.S.Store.listings c.fetch.new.store)
     asked (looked.miss none)
     (first c.args.fresh ∙ ap (λ (k : Kept). after_asking asked (names_in k)) (looked.same none))
-    c.fetch.ensures.counted c.in-Ok.ensures.steady)
+    c.fetch.ensures.counted c.in_ok-page-2.ensures.steady)
 
-pub returns-in_ok-keep-in-Ok-clause-stays : goal.returns-in_ok-keep-in-Ok-clause-stays
-returns-in_ok-keep-in-Ok-clause-stays g c =
+pub returns-clause-stays : goal.returns-clause-stays
+returns-clause-stays g c =
     let behind = g.S.Store.contents c.fetch.new.store in
     let looked = c.look_up.ensures (g.S.Store.contents c.self.inside.store) c.self.invariant in
     let sound =
     subst (λ (b : Option Contents). IsSound b c.look_up.new.kept)
     (sym c.fetch.ensures.kept) looked.sound in
     let right =
-    subst (λ (b : Option Contents). IsRight b c.args.name.now c.in-Ok.page)
-    (sym c.fetch.ensures.kept) c.in-Ok.ensures.found in
+    subst (λ (b : Option Contents). IsRight b c.args.name.now c.in_ok-page-2.page)
+    (sym c.fetch.ensures.kept) c.in_ok-page-2.ensures.found in
     let kept = c.keep.ensures behind sound right in
     rw (← c.self.view_is)
     (miss_stays (g.S.Store.contents c.self.inside.store) (names_in c.self.inside.kept)
