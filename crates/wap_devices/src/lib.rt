@@ -1,0 +1,16 @@
+//! The outside of the browser: stores of pages, sources of keys and sinks of what is shown, with
+//! fakes in memory that fail at the calls that a list names.
+#![tactic(auto)]
+
+mod calls;
+mod fault;
+mod gate;
+mod sink;
+mod source;
+mod store;
+
+pub use fault::Failed;
+pub use gate::{Gate, NoGate};
+pub use sink::{MemSink, Sink, write_all};
+pub use source::{MemSource, Source};
+pub use store::{Fetched, MemStore, PAGE_LIMIT, Store, StoreErr, are_pages};
