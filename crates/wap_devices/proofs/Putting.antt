@@ -1,11 +1,14 @@
 -- A text that is put into a sink piece by piece, and one text after another.
-use Rattle.std.proofs.Common.{◌≡◌, ℕ, ◌≤◌, ◌<◌, List, [], ◌∷◌, ◌++◌, length, take}
-use Rattle.std.proofs.Common.{Result, Ok, Err, refl, sym, ap, ◌∙◌, subst, arith}
-use Rattle.std.proofs.lemmas.List.{length-take, append-nil, nil_from_length}
+use Rattle.std.proofs.Common.{◌≡◌, ℕ, ◌+◌, ◌<◌, ◌≤◌, List, [], ◌∷◌, ◌++◌, length, take, drop}
+use Rattle.std.proofs.Common.{get_or, Option, Result, Ok, Err, refl, sym, ap, ◌∙◌, subst}
+use Rattle.std.proofs.Common.{append_assoc, arith}
+use Rattle.std.specs.List.{flat_map}
+use Rattle.std.proofs.lemmas.List.{length-take, append-nil, nil_from_length, take_more}
+use Rattle.std.proofs.lemmas.List.{take-append-drop}
 use Rattle.std.specs.Prelude.{IsErr, true, false, ◌==◌}
 use Rattle.std.proofs.lemmas.Bool.{eqb-true}
 use Rattle.wap_base.specs.Count.{Rose}
-use Rattle.wap_devices.specs.Transfer.{Appends}
+use Rattle.wap_devices.specs.Transfer.{Appends, AppendsPrefix}
 use Rattle.wap_devices.specs.Sinks.{SinkSeen, Writes, Puts}
 use Rattle.wap_devices.specs.declared.fault.Failed.{Failed}
 use Rattle.wap_devices.proofs.Transfers.{Appends-then, Appends-nil}
@@ -89,3 +92,115 @@ puts_stopped prefix rest a b c put some unmoved counts rose text is (Err fault) 
   failed = subst (λ count. Rose count c.faults) put.faults rose;
   steady = tt;
 }
+
+-- ---- one text after another
+
+-- a prefix of a text is one of a longer text
+pub prefix_longer : (before after : Option (List ℕ)) (text more : List ℕ)
+    → AppendsPrefix before after text → AppendsPrefix before after (text ++ more)
+prefix_longer before after text more is =
+    (is.0, is.1 ++ more, ap (λ (l : List ℕ). l ++ more) is.2 ∙ append_assoc is.0 is.1 more, is.3)
+
+-- a whole text, and a prefix of what follows
+pub prefix_then : (before between after : Option (List ℕ)) (text more : List ℕ)
+    → Appends before between text → AppendsPrefix between after more
+    → AppendsPrefix before after (text ++ more)
+prefix_then before between after text more whole is = (
+  text ++ is.0,
+  is.1,
+  ap (λ (l : List ℕ). text ++ l) is.2 ∙ sym (append_assoc text is.0 is.1),
+  Appends-then before between after text is.0 whole is.3,
+)
+
+-- the first text was put whole, and then the second or a prefix of it
+pub puts_then : {A B : Type 0} (x y : List ℕ) (a b c : SinkSeen) (done : A) → Puts x a b (Ok done)
+    → (result : Result B Failed) → Puts y b c result → Puts (x ++ y) a c result
+puts_then x y a b c done first (Ok value) second = record {
+  whole = Appends-then a.written b.written c.written x y first.whole second.whole;
+  prefix = tt;
+  untouched = λ none. second.untouched (second_nil x y none) ∙ first.untouched (first_nil x y none);
+  counts = omega (arith, first.counts, second.counts);
+  failed = tt;
+  steady = second.steady ∙ first.steady;
+}
+puts_then x y a b c done first (Err fault) second = record {
+  whole = tt;
+  prefix = prefix_then a.written b.written c.written x y first.whole second.prefix;
+  untouched = λ none. second.untouched (second_nil x y none) ∙ first.untouched (first_nil x y none);
+  counts = omega (arith, first.counts, second.counts);
+  failed = subst (λ count. Rose count c.faults) first.steady second.failed;
+  steady = tt;
+}
+
+-- the first text was not put whole, so the second was not begun
+pub puts_fails : {A B : Type 0} (x y : List ℕ) (a b : SinkSeen) (fault : Failed)
+    → Puts {A = A} x a b (Err fault) → (result : Result B Failed) → IsErr result
+    → Puts (x ++ y) a b result
+puts_fails x y a b fault first (Ok value) failed = absurd cc
+puts_fails x y a b fault first (Err other) failed = record {
+  whole = tt;
+  prefix = prefix_longer a.written b.written x y first.prefix;
+  untouched = λ none. first.untouched (first_nil x y none);
+  counts = first.counts;
+  failed = first.failed;
+  steady = tt;
+}
+
+-- ---- the texts of a list, one after another
+
+pub flat_map-push : {X : Type 0} (f : X → List ℕ) (xs : List X) (x : X)
+    → flat_map f (xs ++ x ∷ []) ≡ flat_map f xs ++ f x
+flat_map-push f [] x = append-nil (f x)
+flat_map-push f (y ∷ xs) x =
+    ap (λ (l : List ℕ). f y ++ l) (flat_map-push f xs x)
+    ∙ sym (append_assoc (f y) (flat_map f xs) (f x))
+
+pub flat_map-append : {X : Type 0} (f : X → List ℕ) (xs ys : List X)
+    → flat_map f (xs ++ ys) ≡ flat_map f xs ++ flat_map f ys
+flat_map-append f [] ys = refl
+flat_map-append f (x ∷ xs) ys =
+    ap (λ (l : List ℕ). f x ++ l) (flat_map-append f xs ys)
+    ∙ sym (append_assoc (f x) (flat_map f xs) (flat_map f ys))
+
+module _ {X : Type 0} (f : X → List ℕ) (xs : List X) (i : ℕ) (d : X) (within : i < length xs) where
+  -- the texts of one thing more
+  pub one_more : flat_map f (take (i + 1) xs) ≡ flat_map f (take i xs) ++ f (get_or xs i d)
+  one_more = ap (flat_map f) (take_more xs i d within) ∙ flat_map-push f (take i xs) (get_or xs i d)
+
+  -- and those of the others after them
+  pub with_rest : (flat_map f (take i xs) ++ f (get_or xs i d)) ++ flat_map f (drop (i + 1) xs)
+      ≡ flat_map f xs
+  with_rest = ap (λ (l : List ℕ). l ++ flat_map f (drop (i + 1) xs)) (sym one_more)
+      ∙ sym (flat_map-append f (take (i + 1) xs) (drop (i + 1) xs))
+      ∙ ap (flat_map f) (take-append-drop (i + 1) xs)
+
+-- the texts of the first things of a list were put, and then that of the next
+pub puts_next : {X A : Type 0} (f : X → List ℕ) (xs : List X) (i : ℕ) (d : X) → i < length xs
+    → (a b c : SinkSeen) → HasPut (flat_map f (take i xs)) a b → (done : A)
+    → Puts (f (get_or xs i d)) b c (Ok done) → HasPut (flat_map f (take (i + 1) xs)) a c
+puts_next f xs i d within a b c put done next = record {
+  written =
+      subst (Appends a.written c.written) (sym (one_more f xs i d within))
+      (Appends-then a.written b.written c.written (flat_map f (take i xs)) (f (get_or xs i d))
+      put.written next.whole);
+  untouched = λ none.
+      let both = sym (one_more f xs i d within) ∙ none in
+      next.untouched (second_nil (flat_map f (take i xs)) (f (get_or xs i d)) both)
+      ∙ put.untouched (first_nil (flat_map f (take i xs)) (f (get_or xs i d)) both);
+  faults = next.steady ∙ put.faults;
+}
+
+-- or that of the next was not put whole
+pub puts_next_fails : {X A B : Type 0} (f : X → List ℕ) (xs : List X) (i : ℕ) (d : X)
+    → i < length xs → (a b c : SinkSeen) → HasPut (flat_map f (take i xs)) a b → (fault : Failed)
+    → Puts {A = A} (f (get_or xs i d)) b c (Err fault) → (result : Result B Failed)
+    → IsErr result → Puts (flat_map f xs) a c result
+puts_next_fails f xs i d within a b c put fault next result failed =
+    let earlier = flat_map f (take i xs) in
+    let one = f (get_or xs i d) in
+    let nothing : Unit {0} = tt in
+    let done : Puts earlier a b (Ok nothing) =
+    puts_whole earlier [] a b nothing put earlier (sym (append-nil earlier)) refl in
+    subst (λ (text : List ℕ). Puts text a c result) (with_rest f xs i d within)
+    (puts_fails (earlier ++ one) (flat_map f (drop (i + 1) xs)) a c fault
+    (puts_then earlier one a b c nothing done (Err fault) next) result failed)
