@@ -4,7 +4,7 @@ use Rattle.std.proofs.Common.{get_or, Option, Result, Ok, Err, refl, sym, ap, �
 use Rattle.std.proofs.Common.{append_assoc, arith}
 use Rattle.std.specs.List.{flat_map}
 use Rattle.std.proofs.lemmas.List.{length-take, append-nil, nil_from_length, take_more}
-use Rattle.std.proofs.lemmas.List.{take-append-drop}
+use Rattle.std.proofs.lemmas.List.{take-append-drop, take_all}
 use Rattle.std.specs.Prelude.{IsErr, true, false, ◌==◌}
 use Rattle.std.proofs.lemmas.Bool.{eqb-true}
 use Rattle.wap_base.specs.Count.{Rose}
@@ -113,9 +113,9 @@ prefix_then before between after text more whole is = (
 )
 
 -- the first text was put whole, and then the second or a prefix of it
-pub puts_then : {A B : Type 0} (x y : List ℕ) (a b c : SinkSeen) (done : A) → Puts x a b (Ok done)
+pub puts_then : {A B : Type 0} {done : A} (x y : List ℕ) (a b c : SinkSeen) → Puts x a b (Ok done)
     → (result : Result B Failed) → Puts y b c result → Puts (x ++ y) a c result
-puts_then x y a b c done first (Ok value) second = record {
+puts_then x y a b c first (Ok value) second = record {
   whole = Appends-then a.written b.written c.written x y first.whole second.whole;
   prefix = tt;
   untouched = λ none. second.untouched (second_nil x y none) ∙ first.untouched (first_nil x y none);
@@ -123,7 +123,7 @@ puts_then x y a b c done first (Ok value) second = record {
   failed = tt;
   steady = second.steady ∙ first.steady;
 }
-puts_then x y a b c done first (Err fault) second = record {
+puts_then x y a b c first (Err fault) second = record {
   whole = tt;
   prefix = prefix_then a.written b.written c.written x y first.whole second.prefix;
   untouched = λ none. second.untouched (second_nil x y none) ∙ first.untouched (first_nil x y none);
@@ -133,11 +133,11 @@ puts_then x y a b c done first (Err fault) second = record {
 }
 
 -- the first text was not put whole, so the second was not begun
-pub puts_fails : {A B : Type 0} (x y : List ℕ) (a b : SinkSeen) (fault : Failed)
+pub puts_fails : {A B : Type 0} {fault : Failed} (x y : List ℕ) (a b : SinkSeen)
     → Puts {A = A} x a b (Err fault) → (result : Result B Failed) → IsErr result
     → Puts (x ++ y) a b result
-puts_fails x y a b fault first (Ok value) failed = absurd cc
-puts_fails x y a b fault first (Err other) failed = record {
+puts_fails x y a b first (Ok value) failed = absurd cc
+puts_fails x y a b first (Err other) failed = record {
   whole = tt;
   prefix = prefix_longer a.written b.written x y first.prefix;
   untouched = λ none. first.untouched (first_nil x y none);
@@ -175,10 +175,10 @@ module _ {X : Type 0} (f : X → List ℕ) (xs : List X) (i : ℕ) (d : X) (with
       ∙ ap (flat_map f) (take-append-drop (i + 1) xs)
 
 -- the texts of the first things of a list were put, and then that of the next
-pub puts_next : {X A : Type 0} (f : X → List ℕ) (xs : List X) (i : ℕ) (d : X) → i < length xs
-    → (a b c : SinkSeen) → HasPut (flat_map f (take i xs)) a b → (done : A)
+pub puts_next : {X A : Type 0} {done : A} (f : X → List ℕ) (xs : List X) (i : ℕ) (d : X) → i < length xs
+    → (a b c : SinkSeen) → HasPut (flat_map f (take i xs)) a b
     → Puts (f (get_or xs i d)) b c (Ok done) → HasPut (flat_map f (take (i + 1) xs)) a c
-puts_next f xs i d within a b c put done next = record {
+puts_next f xs i d within a b c put next = record {
   written =
       subst (Appends a.written c.written) (sym (one_more f xs i d within))
       (Appends-then a.written b.written c.written (flat_map f (take i xs)) (f (get_or xs i d))
@@ -191,16 +191,25 @@ puts_next f xs i d within a b c put done next = record {
 }
 
 -- or that of the next was not put whole
-pub puts_next_fails : {X A B : Type 0} (f : X → List ℕ) (xs : List X) (i : ℕ) (d : X)
-    → i < length xs → (a b c : SinkSeen) → HasPut (flat_map f (take i xs)) a b → (fault : Failed)
+pub puts_next_fails : {X A B : Type 0} {fault : Failed} (f : X → List ℕ) (xs : List X) (i : ℕ) (d : X)
+    → i < length xs → (a b c : SinkSeen) → HasPut (flat_map f (take i xs)) a b
     → Puts {A = A} (f (get_or xs i d)) b c (Err fault) → (result : Result B Failed)
     → IsErr result → Puts (flat_map f xs) a c result
-puts_next_fails f xs i d within a b c put fault next result failed =
+puts_next_fails {fault = fault} f xs i d within a b c put next result failed =
     let earlier = flat_map f (take i xs) in
     let one = f (get_or xs i d) in
     let nothing : Unit {0} = tt in
     let done : Puts earlier a b (Ok nothing) =
     puts_whole earlier [] a b nothing put earlier (sym (append-nil earlier)) refl in
     subst (λ (text : List ℕ). Puts text a c result) (with_rest f xs i d within)
-    (puts_fails (earlier ++ one) (flat_map f (drop (i + 1) xs)) a c fault
-    (puts_then earlier one a b c nothing done (Err fault) next) result failed)
+    (puts_fails (earlier ++ one) (flat_map f (drop (i + 1) xs)) a c
+    (puts_then earlier one a b c done (Err fault) next) result failed)
+
+-- the texts of all things of a list were put
+pub puts_all : {X A : Type 0} (f : X → List ℕ) (xs : List X) (i : ℕ) → length xs ≤ i
+    → (a b : SinkSeen) (done : A) → HasPut (flat_map f (take i xs)) a b
+    → Puts (flat_map f xs) a b (Ok done)
+puts_all f xs i all a b done put =
+    let whole : flat_map f xs ≡ flat_map f (take i xs) ++ [] =
+    ap (flat_map f) (sym (take_all i xs all)) ∙ sym (append-nil (flat_map f (take i xs))) in
+    puts_whole (flat_map f (take i xs)) [] a b done put (flat_map f xs) whole refl

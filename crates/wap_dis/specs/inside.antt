@@ -1,3 +1,3 @@
-pub mod Puts
+pub mod Gathering
 pub mod Held
 pub mod Words

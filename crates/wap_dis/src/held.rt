@@ -1,10 +1,10 @@
 //! Bytes that are gathered before they are written.
 ghost use Rattle.std.specs.Prelude.{◌≡◌, [], true, false, ◌⊎◌};
-ghost use Rattle.wap_dis.specs.inside.Puts.{Puts};
+ghost use Rattle.wap_dis.specs.inside.Gathering.{Gathers};
 ghost use Rattle.wap_dis.specs.inside.Held.{state};
 
 use arrayvec::ArrayVec;
-use wap_base::{Failed, Sink, write_all};
+use wap_devices::{Failed, Sink, write_all};
 
 /// What is written next, and whether an earlier write failed; then nothing more is written.
 #[derive(Drop)]
@@ -28,7 +28,7 @@ pub(crate) fn nothing_held() -> Held
 
 /// Puts bytes after what is held, and writes where there is no room.
 pub(crate) fn put<O: Sink>(out: &mut O, held: &mut Held, piece: &[u8])
-    ensures { Puts (O.written out.old) (O.written out.new) (O.faults out.old) (O.faults out.new)
+    ensures { Gathers (O.seen out.old) (O.seen out.new)
         (state held.old) (state held.new) piece.now }
 {
     if held.failed {
@@ -43,8 +43,7 @@ pub(crate) fn put<O: Sink>(out: &mut O, held: &mut Held, piece: &[u8])
 /// Writes what is held, and this after it.
 fn write_out<O: Sink>(out: &mut O, held: &mut Held, piece: &[u8])
     requires { held.old.failed ≡ false }
-    ensures puts { Puts (O.written out.old) (O.written out.new) (O.faults out.old)
-        (O.faults out.new) (state held.old) (state held.new) piece.now }
+    ensures puts { Gathers (O.seen out.old) (O.seen out.new) (state held.old) (state held.new) piece.now }
     ensures empty { (held.new.failed ≡ true) ⊎ (held.new.bytes.items ≡ []) }
 {
     match write_all(out, held.bytes.as_slice()) {
@@ -58,8 +57,7 @@ fn write_out<O: Sink>(out: &mut O, held: &mut Held, piece: &[u8])
 
 /// Writes what is held, if nothing failed before.
 pub(crate) fn write_held<O: Sink>(out: &mut O, held: &mut Held)
-    ensures puts { Puts (O.written out.old) (O.written out.new) (O.faults out.old)
-        (O.faults out.new) (state held.old) (state held.new) [] }
+    ensures puts { Gathers (O.seen out.old) (O.seen out.new) (state held.old) (state held.new) [] }
     ensures empty { (held.new.failed ≡ true) ⊎ (held.new.bytes.items ≡ []) }
 {
     if held.failed {

@@ -4,19 +4,20 @@ ghost use Rattle.std.specs.Option.{option_copied};
 ghost use Rattle.wap_dis.specs.Listing.{unit_line, constant_line, pragma_line, first_name};
 ghost use Rattle.wap_dis.specs.Listing.{head_line, is_there, operand_count, instr_line, byte_line};
 ghost use Rattle.wap_dis.specs.Listing.{line};
-ghost use Rattle.wap_dis.specs.inside.Puts.{Puts};
+ghost use Rattle.wap_dis.specs.inside.Gathering.{Gathers};
 ghost use Rattle.wap_dis.specs.inside.Held.{state};
 ghost use Rattle.wap_dis.specs.inside.Words.{word_bytes};
 
 use crate::held::Held;
 use crate::names::name_of;
 use crate::word::{Word, put_line};
-use wap_base::{Sink, Text};
+use wap_base::Text;
 use wap_code::{Code, Constant, Instr, Pragma, Row, Slot, Unit};
+use wap_devices::Sink;
 
 /// Adds the line of the unit: its version and character set.
 pub(crate) fn put_unit_line<O: Sink>(out: &mut O, held: &mut Held, unit: &Unit)
-    ensures { Puts (O.written out.old) (O.written out.new) (O.faults out.old) (O.faults out.new)
+    ensures { Gathers (O.seen out.old) (O.seen out.new)
         (state held.old) (state held.new) (unit_line unit.now) }
 {
     put_line(
@@ -39,7 +40,7 @@ pub(crate) fn put_constant_line<O: Sink>(
     index: u64,
     constant: &Constant,
 )
-    ensures { Puts (O.written out.old) (O.written out.new) (O.faults out.old) (O.faults out.new)
+    ensures { Gathers (O.seen out.old) (O.seen out.new)
         (state held.old) (state held.new) (constant_line (index, constant.now)) }
 {
     match constant {
@@ -76,7 +77,7 @@ fn put_value_line<'a, O: Sink>(
     kind: &'a str,
     value: Word<'a>,
 )
-    ensures { Puts (O.written out.old) (O.written out.new) (O.faults out.old) (O.faults out.new)
+    ensures { Gathers (O.seen out.old) (O.seen out.new)
         (state held.old) (state held.new)
         (line (codes "const") (decimal index ∷ kind.now ∷ word_bytes value.entry ∷ [])) }
 {
@@ -86,7 +87,7 @@ fn put_value_line<'a, O: Sink>(
 
 /// Adds the line of a pragma, known by its index.
 pub(crate) fn put_pragma_line<O: Sink>(out: &mut O, held: &mut Held, index: u64, pragma: Pragma)
-    ensures { Puts (O.written out.old) (O.written out.new) (O.faults out.old) (O.faults out.new)
+    ensures { Gathers (O.seen out.old) (O.seen out.new)
         (state held.old) (state held.new) (pragma_line (index, pragma)) }
 {
     let index = Word::Number(index);
@@ -144,7 +145,7 @@ pub(crate) fn put_head_line<O: Sink>(
     index: u64,
     function: &Code,
 )
-    ensures { Puts (O.written out.old) (O.written out.new) (O.faults out.old) (O.faults out.new)
+    ensures { Gathers (O.seen out.old) (O.seen out.new)
         (state held.old) (state held.new) (head_line unit.now index function.now) }
 {
     let name = match first_name(unit.names.as_slice(), index) {
@@ -189,7 +190,7 @@ fn operand_count(row: Row) -> usize
 
 /// Adds the line of an instruction at a place of its code.
 pub(crate) fn put_instr_line<O: Sink>(out: &mut O, held: &mut Held, at: u64, row: Row, instr: Instr)
-    ensures { Puts (O.written out.old) (O.written out.new) (O.faults out.old) (O.faults out.new)
+    ensures { Gathers (O.seen out.old) (O.seen out.new)
         (state held.old) (state held.new) (instr_line at row instr) }
 {
     let words = [
@@ -208,7 +209,7 @@ pub(crate) fn put_instr_line<O: Sink>(out: &mut O, held: &mut Held, at: u64, row
 
 /// Adds the line of a byte of code: the first that begins no instruction, or one after it.
 pub(crate) fn put_byte_line<O: Sink>(out: &mut O, held: &mut Held, at: u64, byte: u8)
-    ensures { Puts (O.written out.old) (O.written out.new) (O.faults out.old) (O.faults out.new)
+    ensures { Gathers (O.seen out.old) (O.seen out.new)
         (state held.old) (state held.new) (byte_line (at, byte)) }
 {
     put_line(

@@ -1,11 +1,10 @@
 //! The listing as a whole.
 ghost use Rattle.std.specs.Prelude.{◌≡◌, ◌≤◌, ◌<◌, length, OnOk, OnErr, List};
 ghost use Rattle.std.specs.List.{flat_map, enumerate_from};
-ghost use Rattle.wap_base.specs.Count.{Rose};
-ghost use Rattle.wap_base.specs.Transfer.{Appends, AppendsPrefix};
+ghost use Rattle.wap_devices.specs.Sinks.{Puts};
 ghost use Rattle.wap_dis.specs.Listing.{whole_at, constant_line, pragma_line, byte_lines};
 ghost use Rattle.wap_dis.specs.Listing.{code_from, function_lines, listing};
-ghost use Rattle.wap_dis.specs.inside.Puts.{Puts};
+ghost use Rattle.wap_dis.specs.inside.Gathering.{Gathers};
 ghost use Rattle.wap_dis.specs.inside.Held.{state};
 
 use crate::held::{Held, nothing_held, write_held};
@@ -13,18 +12,12 @@ use crate::lines::{
     put_byte_line, put_constant_line, put_head_line, put_instr_line, put_pragma_line, put_unit_line,
 };
 use wap_asm::{read_row, row_of};
-use wap_base::{Failed, Sink};
 use wap_code::{Code, Constant, Instr, Pragma, Row, Unit};
+use wap_devices::{Failed, Sink};
 
 /// Writes the listing of a unit, some lines at a time. After a fault a prefix of it was written.
 pub fn listing<O: Sink>(unit: &Unit, out: &mut O) -> Result<(), Failed>
-    ensures whole { OnOk result
-        (Appends (O.written out.old) (O.written out.new) (listing unit.now)) }
-    ensures prefix { OnErr result
-        (AppendsPrefix (O.written out.old) (O.written out.new) (listing unit.now)) }
-    ensures steady { OnOk result (O.faults out.new ≡ O.faults out.old) }
-    ensures faults { O.faults out.old ≤ O.faults out.new }
-    ensures failed { OnErr result (Rose (O.faults out.old) (O.faults out.new)) }
+    ensures { Puts (listing unit.now) (O.seen out.old) (O.seen out.new) result }
 {
     let mut held = nothing_held();
     put_listing(out, &mut held, unit);
@@ -34,7 +27,7 @@ pub fn listing<O: Sink>(unit: &Unit, out: &mut O) -> Result<(), Failed>
 
 #[tactic(auto, unfolding(crate::specs::Listing::listing))]
 fn put_listing<O: Sink>(out: &mut O, held: &mut Held, unit: &Unit)
-    ensures { Puts (O.written out.old) (O.written out.new) (O.faults out.old) (O.faults out.new)
+    ensures { Gathers (O.seen out.old) (O.seen out.new)
         (state held.old) (state held.new) (listing unit.now) }
 {
     put_unit_line(out, held, unit);
@@ -44,7 +37,7 @@ fn put_listing<O: Sink>(out: &mut O, held: &mut Held, unit: &Unit)
 }
 
 fn put_constants<O: Sink>(out: &mut O, held: &mut Held, constants: &[Constant])
-    ensures { Puts (O.written out.old) (O.written out.new) (O.faults out.old) (O.faults out.new)
+    ensures { Gathers (O.seen out.old) (O.seen out.new)
         (state held.old) (state held.new)
         (flat_map constant_line (enumerate_from 0 constants.now)) }
 {
@@ -54,7 +47,7 @@ fn put_constants<O: Sink>(out: &mut O, held: &mut Held, constants: &[Constant])
 }
 
 fn put_pragmas<O: Sink>(out: &mut O, held: &mut Held, pragmas: &[Pragma])
-    ensures { Puts (O.written out.old) (O.written out.new) (O.faults out.old) (O.faults out.new)
+    ensures { Gathers (O.seen out.old) (O.seen out.new)
         (state held.old) (state held.new) (flat_map pragma_line (enumerate_from 0 pragmas.now)) }
 {
     for (index, pragma) in pragmas.iter().enumerate() {
@@ -63,7 +56,7 @@ fn put_pragmas<O: Sink>(out: &mut O, held: &mut Held, pragmas: &[Pragma])
 }
 
 fn put_functions<O: Sink>(out: &mut O, held: &mut Held, unit: &Unit)
-    ensures { Puts (O.written out.old) (O.written out.new) (O.faults out.old) (O.faults out.new)
+    ensures { Gathers (O.seen out.old) (O.seen out.new)
         (state held.old) (state held.new)
         (flat_map (function_lines unit.now) (enumerate_from 0 unit.now.functions)) }
 {
@@ -73,7 +66,7 @@ fn put_functions<O: Sink>(out: &mut O, held: &mut Held, unit: &Unit)
 }
 
 fn put_function<O: Sink>(out: &mut O, held: &mut Held, unit: &Unit, index: u64, function: &Code)
-    ensures { Puts (O.written out.old) (O.written out.new) (O.faults out.old) (O.faults out.new)
+    ensures { Gathers (O.seen out.old) (O.seen out.new)
         (state held.old) (state held.new) (function_lines unit.now (index, function.now)) }
 {
     put_head_line(out, held, unit, index, function);
@@ -82,7 +75,7 @@ fn put_function<O: Sink>(out: &mut O, held: &mut Held, unit: &Unit, index: u64, 
 
 /// The instructions, and each byte from the first one on that is none.
 fn put_code<O: Sink>(out: &mut O, held: &mut Held, code: &[u8])
-    ensures { Puts (O.written out.old) (O.written out.new) (O.faults out.old) (O.faults out.new)
+    ensures { Gathers (O.seen out.old) (O.seen out.new)
         (state held.old) (state held.new) (code_from (length code.now) code.now 0) }
 {
     let mut at = 0;
@@ -121,7 +114,7 @@ fn instr_at(code: &[u8], at: usize) -> Option<(Row, Instr)>
 /// Each byte from a place on.
 fn put_bytes<O: Sink>(out: &mut O, held: &mut Held, code: &[u8], at: usize)
     requires { at ≤ length code.now }
-    ensures { Puts (O.written out.old) (O.written out.new) (O.faults out.old) (O.faults out.new)
+    ensures { Gathers (O.seen out.old) (O.seen out.new)
         (state held.old) (state held.new) (byte_lines code.now at) }
 {
     for place in at..code.len() {

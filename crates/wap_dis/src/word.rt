@@ -2,13 +2,13 @@
 ghost use Rattle.std.specs.Prelude.{◌≡◌, ◌<◌, map};
 ghost use Rattle.std.specs.List.{flat_map};
 ghost use Rattle.wap_dis.specs.Listing.{hex_digit, hex, shown_byte, spaced, line};
-ghost use Rattle.wap_dis.specs.inside.Puts.{Puts};
+ghost use Rattle.wap_dis.specs.inside.Gathering.{Gathers};
 ghost use Rattle.wap_dis.specs.inside.Held.{state};
 ghost use Rattle.wap_dis.specs.inside.Words.{word_bytes};
 
 use crate::held::{Held, put};
 use itoa::Buffer;
-use wap_base::Sink;
+use wap_devices::Sink;
 
 /// A word of a line.
 #[derive(Clone, Copy)]
@@ -25,7 +25,7 @@ pub enum Word<'a> {
 
 /// Puts a line: a word, more words with a space before each, and its end.
 pub(crate) fn put_line<O: Sink>(out: &mut O, held: &mut Held, first: Word<'_>, words: &[Word<'_>])
-    ensures { Puts (O.written out.old) (O.written out.new) (O.faults out.old) (O.faults out.new)
+    ensures { Gathers (O.seen out.old) (O.seen out.new)
         (state held.old) (state held.new)
         (line (word_bytes first.entry) (map word_bytes words.now)) }
 {
@@ -36,7 +36,7 @@ pub(crate) fn put_line<O: Sink>(out: &mut O, held: &mut Held, first: Word<'_>, w
 
 /// Puts words, with a space before each.
 fn put_words<O: Sink>(out: &mut O, held: &mut Held, words: &[Word<'_>])
-    ensures { Puts (O.written out.old) (O.written out.new) (O.faults out.old) (O.faults out.new)
+    ensures { Gathers (O.seen out.old) (O.seen out.new)
         (state held.old) (state held.new) (flat_map spaced (map word_bytes words.now)) }
 {
     for word in words {
@@ -46,7 +46,7 @@ fn put_words<O: Sink>(out: &mut O, held: &mut Held, words: &[Word<'_>])
 }
 
 fn put_word<O: Sink>(out: &mut O, held: &mut Held, word: Word<'_>)
-    ensures { Puts (O.written out.old) (O.written out.new) (O.faults out.old) (O.faults out.new)
+    ensures { Gathers (O.seen out.old) (O.seen out.new)
         (state held.old) (state held.new) (word_bytes word.entry) }
 {
     match word {
@@ -72,7 +72,7 @@ fn hex_digit(value: u8) -> u8
 }
 
 fn put_hex<O: Sink>(out: &mut O, held: &mut Held, bytes: &[u8])
-    ensures { Puts (O.written out.old) (O.written out.new) (O.faults out.old) (O.faults out.new)
+    ensures { Gathers (O.seen out.old) (O.seen out.new)
         (state held.old) (state held.new) (hex bytes.now) }
 {
     for byte in bytes {
@@ -88,7 +88,7 @@ fn shown_byte(byte: u8) -> u8
 }
 
 fn put_shown<O: Sink>(out: &mut O, held: &mut Held, bytes: &[u8])
-    ensures { Puts (O.written out.old) (O.written out.new) (O.faults out.old) (O.faults out.new)
+    ensures { Gathers (O.seen out.old) (O.seen out.new)
         (state held.old) (state held.new) (map shown_byte bytes.now) }
 {
     for byte in bytes {

@@ -1,8 +1,9 @@
 -- What is fetched from a store is right.
 use Rattle.std.proofs.Common.{◌≡◌, ℕ, List, Option, Some, None, refl, sym, ap, ◌∙◌}
 use Rattle.std.specs.Prelude.{IfSome}
-use Rattle.wap_base.specs.Contents.{Contents, page_named, answer_of, answer_for}
-use Rattle.wap_base.specs.declared.store.Fetched.TheVariants as fetched
+use Rattle.wap_base.specs.Contents.{Contents, page_named}
+use Rattle.wap_devices.specs.Contents.{answer_of, answer_for}
+use Rattle.wap_devices.specs.declared.store.Fetched.TheVariants as fetched
 use Rattle.wap_site.specs.declared.page.Page.{Page}
 use Rattle.wap_site.specs.declared.page.Page.TheVariants as page
 use Rattle.wap_pages.specs.declared.fault.PageFault.{PageFault}

@@ -1,5 +1,4 @@
 pub mod Errors
-mod Writing
 mod Ends
 mod Judgements
 mod Keeping

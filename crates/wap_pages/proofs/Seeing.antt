@@ -1,16 +1,18 @@
 -- What is seen of a cache before and after one page is asked for.
 use Rattle.std.proofs.Common.{◌≡◌, ℕ, ◌+◌, ◌≤◌, Bool, true, false, if◌then◌else◌, List, []}
-use Rattle.std.proofs.Common.{◌∷◌, Option, Some, None, refl, sym, ap, ◌∙◌, arith}
+use Rattle.std.proofs.Common.{◌∷◌, Option, Some, None, Result, refl, sym, ap, ◌∙◌, arith}
 use Rattle.std.specs.Prelude.{IfSome, option_map}
 use Rattle.wap_base.specs.Contents.{Contents}
 use Rattle.wap_base.specs.Count.{raised, Rose}
+use Rattle.wap_base.specs.declared.fault.RunErr.{RunErr}
+use Rattle.wap_devices.specs.Stores.{StoreSeen}
 use Rattle.wap_site.specs.Pages.{page_of, AreSitePages}
 use Rattle.wap_site.specs.Misses.{Cache, Asked, is_miss, after_asking, misses}
 use Rattle.wap_site.specs.Asking.{Seen, raised_by, Stays, Asks, Fails}
 use Rattle.wap_site.specs.declared.page.Page.{Page}
 use Rattle.wap_pages.specs.Caches.{seen_over}
 use Rattle.wap_pages.specs.Judged.{judged}
-use Rattle.wap_pages.specs.inside.Keeping.{HaveDistinctNames, IsRight}
+use Rattle.wap_pages.specs.inside.Keeping.{HaveDistinctNames, IsRight, AsksStore}
 use Rattle.wap_pages.proofs.Judgements.{judged_pages_fit}
 
 none_missed : (asked : Asked) (cache : Cache) → is_miss asked cache ≡ false
@@ -39,10 +41,10 @@ pub site_seen : (contents : Option Contents) → HaveDistinctNames contents
 site_seen None distinct = tt
 site_seen (Some contents) distinct = judged_pages_fit contents distinct
 
-module _ (behind : Option Contents) (before after : Cache) (faults fetches listings : ℕ) where
+module _ (store : StoreSeen) (before after : Cache) where
   pub hit_stays : after.capacity ≡ before.capacity
-      → Stays (seen_over behind before faults fetches listings)
-      (seen_over behind after faults fetches listings)
+      → Stays (seen_over store before)
+      (seen_over store after)
   hit_stays same = record {
     contents = refl;
     behind = refl;
@@ -53,45 +55,43 @@ module _ (behind : Option Contents) (before after : Cache) (faults fetches listi
   }
 
   pub hit_asks : (asked : Asked) → is_miss asked before ≡ false → after ≡ after_asking asked before
-      → Asks (asked ∷ []) (seen_over behind before faults fetches listings)
-      (seen_over behind after faults fetches listings)
+      → Asks (asked ∷ []) (seen_over store before)
+      (seen_over store after)
   hit_asks asked hit first = record {
     cache = ap Some first;
-    fetches = ap (λ (more : ℕ). raised_by more fetches) (sym (none_missed asked before hit));
+    fetches = ap (λ (more : ℕ). raised_by more store.fetches) (sym (none_missed asked before hit));
     steady = refl;
   }
 
-module _ (behind : Option Contents) (before : Cache) (faults fetches listings : ℕ)
-    (behind_after : Option Contents) (after : Cache)
-    (faults_after fetches_after listings_after : ℕ) where
+module _ (old : StoreSeen) (before : Cache) (new : StoreSeen) (after : Cache) where
   abbrev Old : Seen
-  Old = seen_over behind before faults fetches listings
+  Old = seen_over old before
 
   abbrev New : Seen
-  New = seen_over behind_after after faults_after fetches_after listings_after
+  New = seen_over new after
 
-  pub miss_stays : behind_after ≡ behind → after.capacity ≡ before.capacity → faults ≤ faults_after
-      → fetches_after ≡ raised fetches → listings_after ≡ listings → Stays Old New
-  miss_stays kept same rise count listed = record {
-    contents = ap (option_map judged) kept;
-    behind = kept;
+  pub miss_stays : {result : Result Page RunErr} → AsksStore old new result
+      → after.capacity ≡ before.capacity → Stays Old New
+  miss_stays asks same = record {
+    contents = ap (option_map judged) asks.kept;
+    behind = asks.kept;
     capacity = ap Some same;
-    listings = listed;
-    faults = rise;
-    fetches = (1, count);
+    listings = asks.listings;
+    faults = asks.faults;
+    fetches = (1, asks.counted);
   }
 
   pub miss_asks : (asked : Asked) → is_miss asked before ≡ true → after ≡ after_asking asked before
-      → fetches_after ≡ raised fetches → faults_after ≡ faults → Asks (asked ∷ []) Old New
+      → new.fetches ≡ raised old.fetches → new.faults ≡ old.faults → Asks (asked ∷ []) Old New
   miss_asks asked miss first count steady = record {
     cache = ap Some first;
     fetches =
-        count ∙ ap (λ (more : ℕ). raised_by more fetches) (sym (one_missed asked before miss));
+        count ∙ ap (λ (more : ℕ). raised_by more old.fetches) (sym (one_missed asked before miss));
     steady = steady;
   }
 
-  pub miss_fails : (asked : Asked) → is_miss asked before ≡ true → fetches_after ≡ raised fetches
-      → Rose faults faults_after → Fails (asked ∷ []) Old New
+  pub miss_fails : (asked : Asked) → is_miss asked before ≡ true → new.fetches ≡ raised old.fetches
+      → Rose old.faults new.faults → Fails (asked ∷ []) Old New
   miss_fails asked miss count rose = record {
     rose = rose;
     fetches = record {

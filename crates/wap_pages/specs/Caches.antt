@@ -1,7 +1,7 @@
 -- Pages of a store, of which some are kept. This project's own.
-use Rattle.std.specs.Prelude.{◌≡◌, ℕ, true, List, Option, Some, option_map}
+use Rattle.std.specs.Prelude.{◌≡◌, ℕ, true, List, Some, option_map}
 use Rattle.std.specs.Map.{keys_of}
-use Rattle.wap_base.specs.Contents.{Contents}
+use Rattle.wap_devices.specs.Stores.{StoreSeen}
 use Rattle.wap_site.specs.declared.page.Page.{Page}
 use Rattle.wap_site.specs.Misses.{Cache, is_kept}
 use Rattle.wap_site.specs.Asking.{Seen}
@@ -19,14 +19,14 @@ abbrev pub cache_of : {S : Type 0} → CachedPages S → Cache
 cache_of cached = record { names = keys_of cached.kept; capacity = cached.capacity }
 
 -- what is seen of them: the store's contents, judged, and its counts
-abbrev pub seen_over : Option Contents → Cache → (faults fetches listings : ℕ) → Seen
-seen_over behind cache faults fetches listings = record {
-  contents = option_map judged behind;
-  behind = behind;
+abbrev pub seen_over : StoreSeen → Cache → Seen
+seen_over store cache = record {
+  contents = option_map judged store.contents;
+  behind = store.contents;
   cache = Some cache;
-  faults = faults;
-  fetches = fetches;
-  listings = listings;
+  faults = store.faults;
+  fetches = store.fetches;
+  listings = store.listings;
 }
 
 -- all names that are kept now were kept before

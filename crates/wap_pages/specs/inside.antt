@@ -1,3 +1,2 @@
-pub mod Wrote
 pub mod Judging
 pub mod Keeping

@@ -4,20 +4,20 @@ ghost use Rattle.std.specs.Prelude.{IfSome, IsErrOf, IsSome, Option};
 ghost use Rattle.lru.specs.LruCache.{lru_cache, promoted, put_entries};
 ghost use Rattle.std.specs.Map.{lookup};
 ghost use Rattle.wap_base.specs.Contents.{Contents};
-ghost use Rattle.wap_base.specs.Count.{raised, Rose};
 ghost use Rattle.wap_base.specs.Texts.{is_same_text};
 ghost use Rattle.wap_site.specs.Pages.{page_of, AreSitePages};
 ghost use Rattle.wap_site.specs.Asking.{Stays, Asks, Fails};
 ghost use Rattle.wap_pages.specs.Caches.{cache_of, seen_over, KeepsNoMore};
-ghost use Rattle.wap_pages.specs.inside.Keeping.{HaveDistinctNames, IsRight, IsSound};
-ghost use Rattle.wap_pages.specs.inside.Keeping.{LooksUp, Keeps};
+ghost use Rattle.wap_pages.specs.inside.Keeping.{IsRight, IsSound};
+ghost use Rattle.wap_pages.specs.inside.Keeping.{LooksUp, Keeps, AsksStore};
 
 use crate::{PageErr, judge};
 use lru::LruCache;
 use std::alloc::Global;
 use std::marker::Model;
 use std::num::NonZeroUsize;
-use wap_base::{Fetched, NoMemory, RunErr, Store, Text};
+use wap_base::{NoMemory, RunErr, Text};
+use wap_devices::{Fetched, Store};
 use wap_site::{Page, Pages};
 
 /// The least capacity of a cache, in pages.
@@ -47,7 +47,7 @@ impl<S: Store> Model for Cached<S> {
     ghost view = { λ cached.
         record { store = cached.store; kept = cached.kept.entries; capacity = cached.kept.cap } };
 
-    ghost invariant = { λ cached. IsSound (S.contents cached.store) cached.kept };
+    ghost invariant = { λ cached. IsSound (S.seen cached.store).contents cached.kept };
 }
 
 impl<S: Store> Cached<S> {
@@ -128,14 +128,8 @@ fn keep(
 
 /// The page of a name, from the store.
 fn fetch<S: Store>(alloc: Global, store: &mut S, name: &Text) -> Result<Page, RunErr>
-    ensures found { IfOk result (IsRight (S.contents store.old) name.now) }
-    ensures distinct { HaveDistinctNames (S.contents store.old) }
-    ensures kept { S.contents store.new ≡ S.contents store.old }
-    ensures counted { S.fetches store.new ≡ raised (S.fetches store.old) }
-    ensures listings { S.listings store.new ≡ S.listings store.old }
-    ensures faults { S.faults store.old ≤ S.faults store.new }
-    ensures failed { IsErrOf result RunErr.Store → Rose (S.faults store.old) (S.faults store.new) }
-    ensures steady { OnOk result (S.faults store.new ≡ S.faults store.old) }
+    ensures found { IfOk result (IsRight (S.seen store.old).contents name.now) }
+    ensures asks { AsksStore (S.seen store.old) (S.seen store.new) result }
 {
     match store.fetch(name) {
         Ok(Fetched::Found(bytes)) => match judge(alloc, name, bytes.as_slice()) {
@@ -149,8 +143,7 @@ fn fetch<S: Store>(alloc: Global, store: &mut S, name: &Text) -> Result<Page, Ru
 }
 
 impl<S: Store> Pages for Cached<S> {
-    ghost seen = { λ cached. seen_over (S.contents cached.store) (cache_of cached)
-        (S.faults cached.store) (S.fetches cached.store) (S.listings cached.store) };
+    ghost seen = { λ cached. seen_over (S.seen cached.store) (cache_of cached) };
 
     fn page(&mut self, alloc: Global, name: &Text, fresh: bool) -> Result<Page, RunErr>
         ensures found { IfOk result (λ page. IfSome (⟦<Cached<S> as Pages>⟧.seen self.old).contents

@@ -1,17 +1,15 @@
 //! Printing why a page is refused.
-ghost use Rattle.std.specs.Prelude.{◌≡◌, ◌≤◌, [], ◌∷◌, OnOk, OnErr};
-ghost use Rattle.wap_base.specs.Count.{Rose};
-ghost use Rattle.wap_base.specs.Transfer.{Appends, AppendsPrefix};
+ghost use Rattle.std.specs.Prelude.{[], ◌∷◌};
 ghost use Rattle.std.specs.List.{flat_map};
 ghost use Rattle.wap_pages.specs.Printing.{field_text, fault_text, document_text, unit_text};
 ghost use Rattle.wap_pages.specs.Printing.{step_text, path_text, at_path, deck_text};
 ghost use Rattle.wap_pages.specs.Printing.{verify_text, page_text};
-ghost use Rattle.wap_pages.specs.inside.Wrote.{Wrote};
+ghost use Rattle.wap_devices.specs.Sinks.{Puts};
 
 use crate::PageFault;
 use itoa::Buffer;
-use wap_base::{Failed, Sink, write_all};
 use wap_deckcheck::DeckFault;
+use wap_devices::{Failed, Sink, write_all};
 use wap_unit::UnitFault;
 use wap_verify::VerifyFault;
 use wap_wbxml::DocFault;
@@ -19,21 +17,14 @@ use wap_wbxml::DocFault;
 impl PageFault {
     /// Writes the name of the innermost fault and its fields in order, as `Short 13`.
     pub fn print<O: Sink>(&self, out: &mut O) -> Result<(), Failed>
-        ensures whole { OnOk result (Appends (O.written out.old) (O.written out.new)
-            (page_text self.now)) }
-        ensures prefix { OnErr result (AppendsPrefix (O.written out.old) (O.written out.new)
-            (page_text self.now)) }
-        ensures steady { OnOk result (O.faults out.new ≡ O.faults out.old) }
-        ensures faults { O.faults out.old ≤ O.faults out.new }
-        ensures failed { OnErr result (Rose (O.faults out.old) (O.faults out.new)) }
+        ensures { Puts (page_text self.now) (O.seen out.old) (O.seen out.new) result }
     {
         print_page_fault(out, self)
     }
 }
 
 fn print_page_fault<O: Sink>(out: &mut O, fault: &PageFault) -> Result<(), Failed>
-    ensures { Wrote (O.written out.old) (O.written out.new) (O.faults out.old) (O.faults out.new)
-        result (page_text fault.now) }
+    ensures { Puts (page_text fault.now) (O.seen out.old) (O.seen out.new) result }
 {
     match fault {
         PageFault::Missing => print_name(out, "Missing"),
@@ -47,8 +38,7 @@ fn print_page_fault<O: Sink>(out: &mut O, fault: &PageFault) -> Result<(), Faile
 }
 
 fn print_document_fault<O: Sink>(out: &mut O, fault: DocFault) -> Result<(), Failed>
-    ensures { Wrote (O.written out.old) (O.written out.new) (O.faults out.old) (O.faults out.new)
-        result (document_text fault) }
+    ensures { Puts (document_text fault) (O.seen out.old) (O.seen out.new) result }
 {
     match fault {
         DocFault::Version => print_name(out, "Version"),
@@ -67,8 +57,7 @@ fn print_document_fault<O: Sink>(out: &mut O, fault: DocFault) -> Result<(), Fai
 }
 
 fn print_deck_fault<O: Sink>(out: &mut O, fault: &DeckFault) -> Result<(), Failed>
-    ensures { Wrote (O.written out.old) (O.written out.new) (O.faults out.old) (O.faults out.new)
-        result (deck_text fault.now) }
+    ensures { Puts (deck_text fault.now) (O.seen out.old) (O.seen out.new) result }
 {
     match fault {
         DeckFault::Child { path } => print_at(out, b"Child", path.as_slice()),
@@ -82,8 +71,7 @@ fn print_deck_fault<O: Sink>(out: &mut O, fault: &DeckFault) -> Result<(), Faile
 }
 
 fn print_unit_fault<O: Sink>(out: &mut O, fault: UnitFault) -> Result<(), Failed>
-    ensures { Wrote (O.written out.old) (O.written out.new) (O.faults out.old) (O.faults out.new)
-        result (unit_text fault) }
+    ensures { Puts (unit_text fault) (O.seen out.old) (O.seen out.new) result }
 {
     match fault {
         UnitFault::Version { at } => print_one(out, "Version", at),
@@ -101,8 +89,7 @@ fn print_unit_fault<O: Sink>(out: &mut O, fault: UnitFault) -> Result<(), Failed
 }
 
 fn print_verify_fault<O: Sink>(out: &mut O, fault: VerifyFault) -> Result<(), Failed>
-    ensures { Wrote (O.written out.old) (O.written out.new) (O.faults out.old) (O.faults out.new)
-        result (verify_text fault) }
+    ensures { Puts (verify_text fault) (O.seen out.old) (O.seen out.new) result }
 {
     match fault {
         VerifyFault::Pragma { index } => print_one(out, "Pragma", index as usize),
@@ -131,40 +118,35 @@ fn print_verify_fault<O: Sink>(out: &mut O, fault: VerifyFault) -> Result<(), Fa
 
 /// A fault without fields.
 fn print_name<O: Sink>(out: &mut O, name: &str) -> Result<(), Failed>
-    ensures { Wrote (O.written out.old) (O.written out.new) (O.faults out.old) (O.faults out.new)
-        result (fault_text name.now []) }
+    ensures { Puts (fault_text name.now []) (O.seen out.old) (O.seen out.new) result }
 {
     print_fault(out, name.as_bytes(), &[])
 }
 
 /// A fault with one field.
 fn print_one<O: Sink>(out: &mut O, name: &str, field: usize) -> Result<(), Failed>
-    ensures { Wrote (O.written out.old) (O.written out.new) (O.faults out.old) (O.faults out.new)
-        result (fault_text name.now (field ∷ [])) }
+    ensures { Puts (fault_text name.now (field ∷ [])) (O.seen out.old) (O.seen out.new) result }
 {
     print_fault(out, name.as_bytes(), &[field])
 }
 
 /// A fault at a place of a function's code.
 fn print_place<O: Sink>(out: &mut O, name: &str, function: u8, at: usize) -> Result<(), Failed>
-    ensures { Wrote (O.written out.old) (O.written out.new) (O.faults out.old) (O.faults out.new)
-        result (fault_text name.now (function ∷ at ∷ [])) }
+    ensures { Puts (fault_text name.now (function ∷ at ∷ [])) (O.seen out.old) (O.seen out.new) result }
 {
     print_fault(out, name.as_bytes(), &[function as usize, at])
 }
 
 /// A name, and each field after a space.
 fn print_fault<O: Sink>(out: &mut O, name: &[u8], fields: &[usize]) -> Result<(), Failed>
-    ensures { Wrote (O.written out.old) (O.written out.new) (O.faults out.old) (O.faults out.new)
-        result (fault_text name.now fields.now) }
+    ensures { Puts (fault_text name.now fields.now) (O.seen out.old) (O.seen out.new) result }
 {
     write_all(out, name)?;
     print_fields(out, fields)
 }
 
 fn print_fields<O: Sink>(out: &mut O, fields: &[usize]) -> Result<(), Failed>
-    ensures { Wrote (O.written out.old) (O.written out.new) (O.faults out.old) (O.faults out.new)
-        result (flat_map field_text fields.now) }
+    ensures { Puts (flat_map field_text fields.now) (O.seen out.old) (O.seen out.new) result }
 {
     for field in fields {
         print_field(out, *field)?;
@@ -173,8 +155,7 @@ fn print_fields<O: Sink>(out: &mut O, fields: &[usize]) -> Result<(), Failed>
 }
 
 fn print_field<O: Sink>(out: &mut O, field: usize) -> Result<(), Failed>
-    ensures { Wrote (O.written out.old) (O.written out.new) (O.faults out.old) (O.faults out.new)
-        result (field_text field) }
+    ensures { Puts (field_text field) (O.seen out.old) (O.seen out.new) result }
 {
     let mut buffer = Buffer::new();
     write_all(out, b" ")?;
@@ -183,8 +164,7 @@ fn print_field<O: Sink>(out: &mut O, field: usize) -> Result<(), Failed>
 
 /// A name, and a path after a space.
 fn print_at<O: Sink>(out: &mut O, name: &[u8], path: &[usize]) -> Result<(), Failed>
-    ensures { Wrote (O.written out.old) (O.written out.new) (O.faults out.old) (O.faults out.new)
-        result (at_path name.now path.now) }
+    ensures { Puts (at_path name.now path.now) (O.seen out.old) (O.seen out.new) result }
 {
     write_all(out, name)?;
     print_path(out, path)
@@ -192,8 +172,7 @@ fn print_at<O: Sink>(out: &mut O, name: &[u8], path: &[usize]) -> Result<(), Fai
 
 /// A path, after a space.
 fn print_path<O: Sink>(out: &mut O, path: &[usize]) -> Result<(), Failed>
-    ensures { Wrote (O.written out.old) (O.written out.new) (O.faults out.old) (O.faults out.new)
-        result (32 ∷ path_text path.now) }
+    ensures { Puts (32 ∷ path_text path.now) (O.seen out.old) (O.seen out.new) result }
 {
     match path.split_first() {
         None => print_space(out),
@@ -205,15 +184,13 @@ fn print_path<O: Sink>(out: &mut O, path: &[usize]) -> Result<(), Failed>
 }
 
 fn print_space<O: Sink>(out: &mut O) -> Result<(), Failed>
-    ensures { Wrote (O.written out.old) (O.written out.new) (O.faults out.old) (O.faults out.new)
-        result (32 ∷ []) }
+    ensures { Puts (32 ∷ []) (O.seen out.old) (O.seen out.new) result }
 {
     write_all(out, b" ")
 }
 
 fn print_steps<O: Sink>(out: &mut O, numbers: &[usize]) -> Result<(), Failed>
-    ensures { Wrote (O.written out.old) (O.written out.new) (O.faults out.old) (O.faults out.new)
-        result (flat_map step_text numbers.now) }
+    ensures { Puts (flat_map step_text numbers.now) (O.seen out.old) (O.seen out.new) result }
 {
     for number in numbers {
         print_step(out, *number)?;
@@ -222,8 +199,7 @@ fn print_steps<O: Sink>(out: &mut O, numbers: &[usize]) -> Result<(), Failed>
 }
 
 fn print_step<O: Sink>(out: &mut O, number: usize) -> Result<(), Failed>
-    ensures { Wrote (O.written out.old) (O.written out.new) (O.faults out.old) (O.faults out.new)
-        result (step_text number) }
+    ensures { Puts (step_text number) (O.seen out.old) (O.seen out.new) result }
 {
     let mut buffer = Buffer::new();
     write_all(out, b"/")?;

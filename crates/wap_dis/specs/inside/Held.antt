@@ -1,6 +1,6 @@
 -- What is held as it is seen.
 use Rattle.wap_dis.specs.declared.held.Held.{Held}
-use Rattle.wap_dis.specs.inside.Puts.{State}
+use Rattle.wap_dis.specs.inside.Gathering.{State}
 
 abbrev pub state : Held → State
 state held = record { bytes = held.bytes.items; failed = held.failed }

@@ -1,12 +1,16 @@
 -- What calls do with the pages that are kept. This project's own.
 use Rattle.std.specs.Prelude.{◌≡◌, ℕ, ◌<◌, ◌≤◌, Bool, true, false, List, length, Option}
-use Rattle.std.specs.Prelude.{None, IfSome, IfOk, OnOk, OnErr, Result, Ok}
+use Rattle.std.specs.Prelude.{None, IfSome, IfOk, OnOk, OnErr, IsErrOf, Result, Ok}
 use Rattle.std.specs.List.{AllByRecursion}
 use Rattle.std.specs.Map.{keys_of}
 use Rattle.lru.specs.LruCache.{LruCache}
 use Rattle.wap_base.specs.Contents.{Contents, names_of}
+use Rattle.wap_base.specs.Count.{raised, Rose}
 use Rattle.wap_base.specs.Texts.{AreDistinct}
 use Rattle.wap_base.specs.declared.fault.NoMemory.{NoMemory}
+use Rattle.wap_base.specs.declared.fault.RunErr.{RunErr}
+use Rattle.wap_base.specs.declared.fault.RunErr.TheVariants.{Store}
+use Rattle.wap_devices.specs.Stores.{StoreSeen}
 use Rattle.wap_site.specs.Pages.{page_of}
 use Rattle.wap_site.specs.Misses.{Cache, Asked, is_miss, after_asking}
 use Rattle.wap_site.specs.declared.page.Page.{Page}
@@ -65,3 +69,13 @@ pub record Keeps (contents : Option Contents) (name : List ℕ) (before after : 
   pub first :
       OnOk result ((fresh : Bool) → names_in after ≡ after_asking (name, fresh) (names_in before))
   pub no_more : OnErr result (after ≡ before)
+
+-- a store is asked for a page, which is judged: whatever comes of that
+pub record AsksStore (before after : StoreSeen) (result : Result Page RunErr) : Type 0 where
+  pub distinct : HaveDistinctNames before.contents
+  pub kept : after.contents ≡ before.contents
+  pub counted : after.fetches ≡ raised before.fetches
+  pub listings : after.listings ≡ before.listings
+  pub faults : before.faults ≤ after.faults
+  pub failed : IsErrOf result Store → Rose before.faults after.faults
+  pub steady : OnOk result (after.faults ≡ before.faults)

@@ -5,7 +5,7 @@ use Rattle.wap_dis.specs.declared.word.Word.{Word}
 use Rattle.wap_dis.specs.declared.word.Word.TheVariants.{Name, Number}
 use Rattle.wap_dis.specs.Names.{name_of}
 use Rattle.wap_dis.specs.Listing.{line, operand_count, instr_words}
-use Rattle.wap_dis.specs.inside.Puts.{Puts}
+use Rattle.wap_dis.specs.inside.Gathering.{Gathers}
 use Rattle.wap_dis.specs.inside.Held.{state}
 use Rattle.wap_dis.specs.inside.Words.{word_bytes}
 use Rattle.wap_dis.proofs.lines.put_instr_line.Goals as goal
@@ -13,8 +13,7 @@ use Rattle.wap_dis.proofs.lines.put_instr_line.Goals as goal
 pub returns : goal.returns
 returns g c =
     let puts : List ℕ → Type 0 =
-    Puts (g.O.Sink.written c.args.out.now) (g.O.Sink.written c.put_line.new.out)
-    (g.O.Sink.faults c.args.out.now) (g.O.Sink.faults c.put_line.new.out) (state c.args.held.now)
+    Gathers (g.O.Sink.seen c.args.out.now) (g.O.Sink.seen c.put_line.new.out) (state c.args.held.now)
     (state c.put_line.new.held) in
     let words : List Word =
     Name c.name_of.result ∷ Number c.from.result ∷ Number c.from-2.result

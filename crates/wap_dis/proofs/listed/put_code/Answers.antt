@@ -2,9 +2,9 @@ use Rattle.std.proofs.Common.{◌≡◌, ℕ, suc, ◌+◌, ◌-◌, ◌<◌, Li
 use Rattle.std.proofs.Common.{sym, ap, subst, ◌∙◌, append_assoc, arith}
 use Rattle.std.proofs.lemmas.List.{append-nil}
 use Rattle.wap_dis.specs.Listing.{byte_lines, instr_line, code_from}
-use Rattle.wap_dis.specs.inside.Puts.{Puts}
+use Rattle.wap_dis.specs.inside.Gathering.{Gathers}
 use Rattle.wap_dis.specs.inside.Held.{state}
-use Rattle.wap_dis.proofs.Putting.{Puts-then}
+use Rattle.wap_dis.proofs.Putting.{gathers_then}
 use Rattle.wap_dis.proofs.Lists.{code_step, code_end, code_none}
 use Rattle.wap_dis.proofs.listed.put_code.Goals as goal
 
@@ -17,8 +17,7 @@ returns-then-at-code g c =
     ∙ ap (λ (l : List ℕ). so_far.text ++ l)
     (sym (code_end (length code - c.loop.counter) code c.loop.at (omega arith)))
     ∙ so_far.goes_on in
-    subst (λ (l : List ℕ). Puts (g.O.Sink.written c.args.out.now) (g.O.Sink.written c.loop.out)
-    (g.O.Sink.faults c.args.out.now) (g.O.Sink.faults c.loop.out) (state c.args.held.now)
+    subst (λ (l : List ℕ). Gathers (g.O.Sink.seen c.args.out.now) (g.O.Sink.seen c.loop.out) (state c.args.held.now)
     (state c.loop.held) l) whole so_far.puts
 
 pub returns-in-None : goal.returns-in-None
@@ -32,13 +31,11 @@ returns-in-None g c =
     ap (λ (k : ℕ). code_from k code c.loop.at) turns
     ∙ code_step left code c.loop.at None within (sym c.in-None.ensures) in
     subst (λ (l : List ℕ).
-    Puts (g.O.Sink.written c.args.out.now) (g.O.Sink.written c.put_bytes.new.out)
-    (g.O.Sink.faults c.args.out.now) (g.O.Sink.faults c.put_bytes.new.out) (state c.args.held.now)
+    Gathers (g.O.Sink.seen c.args.out.now) (g.O.Sink.seen c.put_bytes.new.out) (state c.args.held.now)
     (state c.put_bytes.new.held) l)
     (ap (λ (l : List ℕ). so_far.text ++ l) (sym rest) ∙ so_far.goes_on)
-    (Puts-then (g.O.Sink.written c.args.out.now) (g.O.Sink.written c.loop.out)
-    (g.O.Sink.written c.put_bytes.new.out) (g.O.Sink.faults c.args.out.now)
-    (g.O.Sink.faults c.loop.out) (g.O.Sink.faults c.put_bytes.new.out) (state c.args.held.now)
+    (gathers_then (g.O.Sink.seen c.args.out.now) (g.O.Sink.seen c.loop.out)
+    (g.O.Sink.seen c.put_bytes.new.out) (state c.args.held.now)
     (state c.loop.held) (state c.put_bytes.new.held) so_far.text
     (byte_lines code c.loop.at) so_far.puts c.put_bytes.ensures)
 
@@ -57,9 +54,8 @@ loop-preserved g c =
     record {
       text = so_far.text ++ line;
       puts =
-          Puts-then (g.O.Sink.written c.args.out.now) (g.O.Sink.written c.loop.out)
-          (g.O.Sink.written c.put_instr_line.new.out) (g.O.Sink.faults c.args.out.now)
-          (g.O.Sink.faults c.loop.out) (g.O.Sink.faults c.put_instr_line.new.out)
+          gathers_then (g.O.Sink.seen c.args.out.now) (g.O.Sink.seen c.loop.out)
+          (g.O.Sink.seen c.put_instr_line.new.out)
           (state c.args.held.now) (state c.loop.held)
           (state c.put_instr_line.new.held) so_far.text line so_far.puts c.put_instr_line.ensures;
       goes_on =
@@ -77,6 +73,5 @@ returns g c =
     ∙ ap (λ (l : List ℕ). so_far.text ++ l)
     (sym (ap (λ (k : ℕ). code_from k code c.loop.at) turns ∙ code_none code c.loop.at))
     ∙ so_far.goes_on in
-    subst (λ (l : List ℕ). Puts (g.O.Sink.written c.args.out.now) (g.O.Sink.written c.loop.out)
-    (g.O.Sink.faults c.args.out.now) (g.O.Sink.faults c.loop.out) (state c.args.held.now)
+    subst (λ (l : List ℕ). Gathers (g.O.Sink.seen c.args.out.now) (g.O.Sink.seen c.loop.out) (state c.args.held.now)
     (state c.loop.held) l) whole so_far.puts

@@ -8,9 +8,8 @@ pub loop-index-preserved : goal.loop-index-preserved
 loop-index-preserved g c =
     let within : c.loop-index.index < length c.args.constants.now = omega arith in
     let constant = c.index-constants-index.result in
-    puts_indexed (g.O.Sink.written c.args.out.now) (g.O.Sink.written c.loop-index.out)
-    (g.O.Sink.written c.put_constant_line.new.out) (g.O.Sink.faults c.args.out.now)
-    (g.O.Sink.faults c.loop-index.out) (g.O.Sink.faults c.put_constant_line.new.out)
+    puts_indexed (g.O.Sink.seen c.args.out.now) (g.O.Sink.seen c.loop-index.out)
+    (g.O.Sink.seen c.put_constant_line.new.out)
     (state c.args.held.now) (state c.loop-index.held) (state c.put_constant_line.new.held)
     constant constant_line c.args.constants.now c.loop-index.index constant within
     c.index-constants-index.is c.loop-index.invariant c.put_constant_line.ensures

@@ -1,12 +1,11 @@
 use Rattle.std.proofs.Common.{take}
 use Rattle.std.specs.List.{flat_map, enumerate_from}
 use Rattle.wap_dis.specs.Listing.{constant_line}
-use Rattle.wap_dis.specs.inside.Puts.{Puts}
+use Rattle.wap_dis.specs.inside.Gathering.{Gathers}
 use Rattle.wap_dis.specs.inside.Held.{state}
 use Rattle.wap_dis.proofs.listed.put_constants.Given as goal
 
 abbrev pub invariant-loop-index : goal.invariant-loop-index
 invariant-loop-index g l =
-    Puts (g.O.Sink.written l.fn.out) (g.O.Sink.written l.out) (g.O.Sink.faults l.fn.out)
-    (g.O.Sink.faults l.out) (state l.fn.held) (state l.held)
+    Gathers (g.O.Sink.seen l.fn.out) (g.O.Sink.seen l.out) (state l.fn.held) (state l.held)
     (flat_map constant_line (enumerate_from 0 (take l.index l.constants)))

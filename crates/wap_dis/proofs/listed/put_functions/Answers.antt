@@ -16,9 +16,8 @@ loop-index-preserved g c =
     let is : function ≡ get_or c.args.unit.now.functions c.loop-index.index function =
     subst (λ (l : List Code). function ≡ get_or l c.loop-index.index function)
     c.as_slice-function-items.ensures c.function-item.is in
-    puts_indexed (g.O.Sink.written c.args.out.now) (g.O.Sink.written c.loop-index.out)
-    (g.O.Sink.written c.put_function.new.out) (g.O.Sink.faults c.args.out.now)
-    (g.O.Sink.faults c.loop-index.out) (g.O.Sink.faults c.put_function.new.out)
+    puts_indexed (g.O.Sink.seen c.args.out.now) (g.O.Sink.seen c.loop-index.out)
+    (g.O.Sink.seen c.put_function.new.out)
     (state c.args.held.now) (state c.loop-index.held) (state c.put_function.new.held)
     function (function_lines c.args.unit.now) c.args.unit.now.functions c.loop-index.index function
     within is c.loop-index.invariant c.put_function.ensures

@@ -8,9 +8,8 @@ use Rattle.wap_dis.proofs.listed.put_pragmas.Goals as goal
 pub loop-index-preserved : goal.loop-index-preserved
 loop-index-preserved g c =
     let within : c.loop-index.index < length c.args.pragmas.now = omega arith in
-    puts_indexed (g.O.Sink.written c.args.out.now) (g.O.Sink.written c.loop-index.out)
-    (g.O.Sink.written c.put_pragma_line.new.out) (g.O.Sink.faults c.args.out.now)
-    (g.O.Sink.faults c.loop-index.out) (g.O.Sink.faults c.put_pragma_line.new.out)
+    puts_indexed (g.O.Sink.seen c.args.out.now) (g.O.Sink.seen c.loop-index.out)
+    (g.O.Sink.seen c.put_pragma_line.new.out)
     (state c.args.held.now) (state c.loop-index.held) (state c.put_pragma_line.new.held)
     (Domain 0) pragma_line c.args.pragmas.now c.loop-index.index (get_or c.args.pragmas.now
     c.loop-index.index (Domain 0)) within refl c.loop-index.invariant c.put_pragma_line.ensures

@@ -1,23 +1,17 @@
 use Rattle.std.specs.List.{flat_map}
-use Rattle.std.proofs.lemmas.Result.{err_from_is_err_and}
+use Rattle.wap_devices.proofs.Putting.{puts_then, puts_fails}
 use Rattle.wap_pages.specs.Printing.{field_text}
-use Rattle.wap_pages.proofs.Writing.{Wrote-then, Wrote-stops}
 use Rattle.wap_pages.proofs.printing.print_fault.Goals as goal
 
 pub returns-in_err-write_all : goal.returns-in_err-write_all
 returns-in_err-write_all g c =
-    let left = err_from_is_err_and c.from_residual.result c.from_residual.ensures.1 in
-    let failed = c.in_err-write_all.ensures in
-    Wrote-stops (g.O.Sink.written c.args.out.now) (g.O.Sink.written c.write_all.new.out)
-    (g.O.Sink.faults c.args.out.now) (g.O.Sink.faults c.write_all.new.out)
-    c.args.name.now (flat_map field_text c.args.fields.now)
-    c.from_residual.result failed.prefix failed.faults failed.failed left.0 left.1
+    puts_fails c.args.name.now (flat_map field_text c.args.fields.now)
+    (g.O.Sink.seen c.args.out.now) (g.O.Sink.seen c.write_all.new.out)
+    c.in_err-write_all.ensures c.from_residual.result c.from_residual.ensures.0
 
 pub returns : goal.returns
 returns g c =
-    Wrote-then (g.O.Sink.written c.args.out.now) (g.O.Sink.written c.write_all.new.out)
-    (g.O.Sink.written c.print_fields.new.out)
-    (g.O.Sink.faults c.args.out.now) (g.O.Sink.faults c.write_all.new.out)
-    (g.O.Sink.faults c.print_fields.new.out)
-    c.args.name.now (flat_map field_text c.args.fields.now) c.print_fields.result
-    c.in_ok-write_all.ensures.whole c.in_ok-write_all.ensures.steady c.print_fields.ensures
+    puts_then c.args.name.now (flat_map field_text c.args.fields.now)
+    (g.O.Sink.seen c.args.out.now) (g.O.Sink.seen c.write_all.new.out)
+    (g.O.Sink.seen c.print_fields.new.out) c.in_ok-write_all.ensures c.print_fields.result
+    c.print_fields.ensures

@@ -1,26 +1,20 @@
 use Rattle.std.proofs.Common.{ℕ, List, [], ◌∷◌, ◌∙◌, subst}
 use Rattle.std.specs.Fmt.{decimal}
-use Rattle.wap_pages.specs.inside.Wrote.{Wrote}
-use Rattle.wap_pages.proofs.Writing.{Wrote-then}
+use Rattle.wap_devices.specs.Sinks.{Puts}
+use Rattle.wap_devices.proofs.Putting.{puts_then, puts_fails}
 use Rattle.wap_pages.proofs.printing.print_field.Goals as goal
+
+pub returns-in_err-write_all : goal.returns-in_err-write_all
+returns-in_err-write_all g c =
+    puts_fails (32 ∷ []) (decimal c.args.field)
+    (g.O.Sink.seen c.args.out.now) (g.O.Sink.seen c.write_all.new.out)
+    c.in_err-write_all.ensures c.from_residual.result c.from_residual.ensures.0
 
 pub returns : goal.returns
 returns g c =
-    let before = g.O.Sink.written c.args.out.now in
-    let between = g.O.Sink.written c.write_all.new.out in
-    let after = g.O.Sink.written c.write_all-2.new.out in
-    let first = g.O.Sink.faults c.args.out.now in
-    let second = g.O.Sink.faults c.write_all.new.out in
-    let third = g.O.Sink.faults c.write_all-2.new.out in
-    let number =
-    subst (λ (text : List ℕ). Wrote between after second third c.write_all-2.result text)
-    (c.as_bytes.ensures.value ∙ c.format.ensures.text)
-    (record {
-      whole = c.write_all-2.ensures.whole;
-      prefix = c.write_all-2.ensures.prefix;
-      steady = c.write_all-2.ensures.steady;
-      counts = c.write_all-2.ensures.faults;
-      failed = c.write_all-2.ensures.failed;
-    }) in
-    Wrote-then before between after first second third (32 ∷ []) (decimal c.args.field)
-    c.write_all-2.result c.in_ok-write_all.ensures.whole c.in_ok-write_all.ensures.steady number
+    let between = g.O.Sink.seen c.write_all.new.out in
+    let after = g.O.Sink.seen c.write_all-2.new.out in
+    puts_then (32 ∷ []) (decimal c.args.field) (g.O.Sink.seen c.args.out.now) between after
+    c.in_ok-write_all.ensures c.write_all-2.result
+    (subst (λ (text : List ℕ). Puts text between after c.write_all-2.result)
+    (c.as_bytes.ensures.value ∙ c.format.ensures.text) c.write_all-2.ensures)

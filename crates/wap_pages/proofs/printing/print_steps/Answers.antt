@@ -1,31 +1,26 @@
-use Rattle.std.proofs.Common.{ℕ, ◌+◌, ◌<◌, ◌≤◌, List, ◌++◌, drop, take}
-use Rattle.std.proofs.Common.{get_or, length, subst, arith}
-use Rattle.std.specs.List.{flat_map}
-use Rattle.std.proofs.lemmas.Result.{err_from_is_err_and}
-use Rattle.wap_base.specs.Count.{Rose}
+use Rattle.std.proofs.Common.{◌<◌, length, sym, refl, arith}
+use Rattle.wap_devices.proofs.Putting.{has_put_nothing, puts_next, puts_next_fails, puts_all}
 use Rattle.wap_pages.specs.Printing.{step_text}
-use Rattle.wap_pages.specs.inside.Wrote.{Wrote}
-use Rattle.wap_pages.proofs.Writing.{Wrote-stops, prefix_then, with_rest}
 use Rattle.wap_pages.proofs.printing.print_steps.Goals as goal
+
+pub loop-number-init : goal.loop-number-init
+loop-number-init g c = has_put_nothing (g.O.Sink.seen c.args.out.now)
 
 pub returns-in_err-print_step : goal.returns-in_err-print_step
 returns-in_err-print_step g c =
-    let before = g.O.Sink.written c.args.out.now in
-    let between = g.O.Sink.written c.loop-number.out in
-    let after = g.O.Sink.written c.print_step.new.out in
-    let first = g.O.Sink.faults c.args.out.now in
-    let last = g.O.Sink.faults c.print_step.new.out in
-    let fields = c.args.numbers.now in
     let i = c.loop-number.number-index in
-    let within : i < length fields = omega arith in
-    let left = err_from_is_err_and c.from_residual.result c.from_residual.ensures.1 in
-    let failed = c.in_err-print_step.ensures in
-    let earlier = flat_map step_text (take i fields) in
-    let one = step_text (get_or fields i 0) in
-    subst (λ (text : List ℕ). Wrote before after first last c.from_residual.result text)
-    (with_rest step_text fields i 0 within)
-    (Wrote-stops before after first last (earlier ++ one)
-    (flat_map step_text (drop (i + 1) fields)) c.from_residual.result
-    (prefix_then before between after earlier one c.loop-number.invariant.whole failed.prefix)
-    (subst (λ (n : ℕ). n ≤ last) c.loop-number.invariant.steady failed.counts)
-    (subst (λ (n : ℕ). Rose n last) c.loop-number.invariant.steady failed.failed) left.0 left.1)
+    let within : i < length c.args.numbers.now = omega arith in
+    puts_next_fails step_text c.args.numbers.now i 0 within (g.O.Sink.seen c.args.out.now)
+    (g.O.Sink.seen c.loop-number.out) (g.O.Sink.seen c.print_step.new.out) c.loop-number.invariant
+    c.in_err-print_step.ensures c.from_residual.result c.from_residual.ensures.0
+
+pub loop-number-preserved : goal.loop-number-preserved
+loop-number-preserved g c =
+    let i = c.loop-number.number-index in
+    let within : i < length c.args.numbers.now = omega arith in
+    puts_next step_text c.args.numbers.now i 0 within (g.O.Sink.seen c.args.out.now)
+    (g.O.Sink.seen c.loop-number.out) (g.O.Sink.seen c.print_step.new.out) c.loop-number.invariant
+    c.in_ok-print_step.ensures
+
+pub returns : goal.returns
+returns g c = ?

@@ -18,11 +18,11 @@ use Rattle.wap_pages.proofs.cached.CachedPages.page.Goals as goal
 
 pub invariant_of-self : goal.invariant_of-self
 invariant_of-self g c =
-    (c.look_up.ensures (g.S.Store.contents c.self.inside.store) c.self.invariant).sound
+    (c.look_up.ensures (g.S.Store.seen c.self.inside.store).contents c.self.invariant).sound
 
 pub returns-in_err-page-clause-site : goal.returns-in_err-page-clause-site
 returns-in_err-page-clause-site g c =
-    let behind = g.S.Store.contents c.self.inside.store in
+    let behind = (g.S.Store.seen c.self.inside.store).contents in
     let looked = c.look_up.ensures behind c.self.invariant in
     rw (← c.self.view_is)
     (site_seen behind
@@ -31,16 +31,14 @@ returns-in_err-page-clause-site g c =
 
 pub returns-in_err-page-clause-stays : goal.returns-in_err-page-clause-stays
 returns-in_err-page-clause-stays g c =
-    let looked = c.look_up.ensures (g.S.Store.contents c.self.inside.store) c.self.invariant in
+    let looked = c.look_up.ensures (g.S.Store.seen c.self.inside.store).contents c.self.invariant in
     rw (← c.self.view_is)
-    (hit_stays (g.S.Store.contents c.self.inside.store) (names_in c.self.inside.kept)
-    (names_in c.look_up.new.kept)
-    (g.S.Store.faults c.self.inside.store) (g.S.Store.fetches c.self.inside.store)
-    (g.S.Store.listings c.self.inside.store) looked.capacity)
+    (hit_stays (g.S.Store.seen c.self.inside.store) (names_in c.self.inside.kept)
+    (names_in c.look_up.new.kept) looked.capacity)
 
 pub returns-in_err-page-clause-no_more : goal.returns-in_err-page-clause-no_more
 returns-in_err-page-clause-no_more g c =
-    let looked = c.look_up.ensures (g.S.Store.contents c.self.inside.store) c.self.invariant in
+    let looked = c.look_up.ensures (g.S.Store.seen c.self.inside.store).contents c.self.invariant in
     rw (← c.self.view_is)
     (on_fault (KeepsNoMore (names_in c.self.inside.kept) (names_in c.look_up.new.kept))
     c.from_residual.result looked.no_more)
@@ -49,11 +47,11 @@ returns-in_err-page-clause-no_more g c =
 
 pub invariant_of-self-in-Some : goal.invariant_of-self-in-Some
 invariant_of-self-in-Some g c =
-    (c.look_up.ensures (g.S.Store.contents c.self.inside.store) c.self.invariant).sound
+    (c.look_up.ensures (g.S.Store.seen c.self.inside.store).contents c.self.invariant).sound
 
 pub returns-in-Some-clause-found : goal.returns-in-Some-clause-found
 returns-in-Some-clause-found g c =
-    let behind = g.S.Store.contents c.self.inside.store in
+    let behind = (g.S.Store.seen c.self.inside.store).contents in
     let looked = c.look_up.ensures behind c.self.invariant in
     let is = c.in_ok-page.was ∙ ap (λ (found : Option Page). Ok found) c.in-Some.is in
     rw (← c.self.view_is)
@@ -63,7 +61,7 @@ returns-in-Some-clause-found g c =
 
 pub returns-in-Some-clause-site : goal.returns-in-Some-clause-site
 returns-in-Some-clause-site g c =
-    let behind = g.S.Store.contents c.self.inside.store in
+    let behind = (g.S.Store.seen c.self.inside.store).contents in
     let looked = c.look_up.ensures behind c.self.invariant in
     let is = c.in_ok-page.was ∙ ap (λ (found : Option Page). Ok found) c.in-Some.is in
     rw (← c.self.view_is)
@@ -73,15 +71,14 @@ returns-in-Some-clause-site g c =
 
 pub returns-in-Some-clause-asks : goal.returns-in-Some-clause-asks
 returns-in-Some-clause-asks g c =
-    let behind = g.S.Store.contents c.self.inside.store in
+    let behind = (g.S.Store.seen c.self.inside.store).contents in
     let looked = c.look_up.ensures behind c.self.invariant in
     let asked : Asked = (c.args.name.now, c.args.fresh) in
     let before = names_in c.self.inside.kept in
     let after = names_in c.look_up.new.kept in
     let is = c.in_ok-page.was ∙ ap (λ (found : Option Page). Ok found) c.in-Some.is in
     rw (← c.self.view_is)
-    (hit_asks behind before after (g.S.Store.faults c.self.inside.store)
-    (g.S.Store.fetches c.self.inside.store) (g.S.Store.listings c.self.inside.store) asked
+    (hit_asks (g.S.Store.seen c.self.inside.store) before after asked
     (subst (λ (r : Result (Option Page) NoMemory).
     IfOk r (λ found. IfSome found (λ _. is_miss asked before ≡ false))) is looked.hit)
     (subst (λ (r : Result (Option Page) NoMemory).
@@ -89,61 +86,51 @@ returns-in-Some-clause-asks g c =
 
 pub returns-in-Some-clause-stays : goal.returns-in-Some-clause-stays
 returns-in-Some-clause-stays g c =
-    let looked = c.look_up.ensures (g.S.Store.contents c.self.inside.store) c.self.invariant in
+    let looked = c.look_up.ensures (g.S.Store.seen c.self.inside.store).contents c.self.invariant in
     rw (← c.self.view_is)
-    (hit_stays (g.S.Store.contents c.self.inside.store) (names_in c.self.inside.kept)
-    (names_in c.look_up.new.kept)
-    (g.S.Store.faults c.self.inside.store) (g.S.Store.fetches c.self.inside.store)
-    (g.S.Store.listings c.self.inside.store) looked.capacity)
+    (hit_stays (g.S.Store.seen c.self.inside.store) (names_in c.self.inside.kept)
+    (names_in c.look_up.new.kept) looked.capacity)
 
 -- ---- a page that couldn't be fetched
 
 pub invariant_of-self-in_err-page-2 : goal.invariant_of-self-in_err-page-2
 invariant_of-self-in_err-page-2 g c =
-    let looked = c.look_up.ensures (g.S.Store.contents c.self.inside.store) c.self.invariant in
+    let looked = c.look_up.ensures (g.S.Store.seen c.self.inside.store).contents c.self.invariant in
     subst (λ (behind : Option Contents). IsSound behind c.look_up.new.kept)
-    (sym c.fetch.ensures.kept) looked.sound
+    (sym c.fetch.ensures.asks.kept) looked.sound
 
 pub returns-in_err-page-2-clause-site : goal.returns-in_err-page-2-clause-site
 returns-in_err-page-2-clause-site g c =
     rw (← c.self.view_is)
-    (site_seen (g.S.Store.contents c.self.inside.store) c.fetch.ensures.distinct)
+    (site_seen (g.S.Store.seen c.self.inside.store).contents c.fetch.ensures.asks.distinct)
 
 pub returns-in_err-page-2-clause-failed : goal.returns-in_err-page-2-clause-failed
 returns-in_err-page-2-clause-failed g c = λ why.
-    let behind = g.S.Store.contents c.self.inside.store in
+    let behind = (g.S.Store.seen c.self.inside.store).contents in
     let looked = c.look_up.ensures behind c.self.invariant in
     let none = c.in_ok-page.was ∙ ap (λ (found : Option Page). Ok found) c.in_default.is in
     let left = err_from_is_err_and c.from_residual-in_err-page-2.result
     c.from_residual-in_err-page-2.ensures.1 in
     rw (← c.self.view_is)
     (miss_fails behind (names_in c.self.inside.kept)
-    (g.S.Store.faults c.self.inside.store) (g.S.Store.fetches c.self.inside.store)
-    (g.S.Store.listings c.self.inside.store)
-    (g.S.Store.contents c.fetch.new.store) (names_in c.look_up.new.kept)
-    (g.S.Store.faults c.fetch.new.store) (g.S.Store.fetches c.fetch.new.store)
-    (g.S.Store.listings c.fetch.new.store)
-    (c.args.name.now, c.args.fresh) (looked.miss none) c.fetch.ensures.counted
-    (c.in_err-page-2.ensures.failed
+    (g.S.Store.seen c.fetch.new.store).contents (names_in c.look_up.new.kept)
+    (c.args.name.now, c.args.fresh) (looked.miss none) c.fetch.ensures.asks.counted
+    (c.in_err-page-2.ensures.asks.failed
     (subst (λ (r : Result Page RunErr). IsErrOf r Store) (left.1 ∙ ap Err left.2) why)))
 
 pub returns-in_err-page-2-clause-stays : goal.returns-in_err-page-2-clause-stays
 returns-in_err-page-2-clause-stays g c =
-    let behind = g.S.Store.contents c.self.inside.store in
+    let behind = (g.S.Store.seen c.self.inside.store).contents in
     let looked = c.look_up.ensures behind c.self.invariant in
     rw (← c.self.view_is)
     (miss_stays behind (names_in c.self.inside.kept)
-    (g.S.Store.faults c.self.inside.store) (g.S.Store.fetches c.self.inside.store)
-    (g.S.Store.listings c.self.inside.store)
-    (g.S.Store.contents c.fetch.new.store) (names_in c.look_up.new.kept)
-    (g.S.Store.faults c.fetch.new.store) (g.S.Store.fetches c.fetch.new.store)
-    (g.S.Store.listings c.fetch.new.store)
-    c.fetch.ensures.kept looked.capacity c.fetch.ensures.faults c.fetch.ensures.counted
-    c.fetch.ensures.listings)
+    (g.S.Store.seen c.fetch.new.store).contents (names_in c.look_up.new.kept)
+    c.fetch.ensures.asks.kept looked.capacity c.fetch.ensures.asks.faults c.fetch.ensures.asks.counted
+    c.fetch.ensures.asks.listings)
 
 pub returns-in_err-page-2-clause-no_more : goal.returns-in_err-page-2-clause-no_more
 returns-in_err-page-2-clause-no_more g c =
-    let looked = c.look_up.ensures (g.S.Store.contents c.self.inside.store) c.self.invariant in
+    let looked = c.look_up.ensures (g.S.Store.seen c.self.inside.store).contents c.self.invariant in
     rw (← c.self.view_is)
     (on_fault (KeepsNoMore (names_in c.self.inside.kept) (names_in c.look_up.new.kept))
     c.from_residual-in_err-page-2.result looked.no_more)
@@ -152,52 +139,47 @@ returns-in_err-page-2-clause-no_more g c =
 
 pub invariant_of-self-in_err-keep : goal.invariant_of-self-in_err-keep
 invariant_of-self-in_err-keep g c =
-    let behind = g.S.Store.contents c.fetch.new.store in
-    let looked = c.look_up.ensures (g.S.Store.contents c.self.inside.store) c.self.invariant in
+    let behind = (g.S.Store.seen c.fetch.new.store).contents in
+    let looked = c.look_up.ensures (g.S.Store.seen c.self.inside.store).contents c.self.invariant in
     let sound =
     subst (λ (b : Option Contents). IsSound b c.look_up.new.kept)
-    (sym c.fetch.ensures.kept) looked.sound in
+    (sym c.fetch.ensures.asks.kept) looked.sound in
     let right =
     subst (λ (b : Option Contents). IsRight b c.args.name.now c.in_ok-page-2.page)
-    (sym c.fetch.ensures.kept) c.in_ok-page-2.ensures.found in
+    (sym c.fetch.ensures.asks.kept) c.in_ok-page-2.ensures.found in
     (c.keep.ensures behind sound right).sound
 
 pub returns-in_err-keep-clause-site : goal.returns-in_err-keep-clause-site
 returns-in_err-keep-clause-site g c =
     rw (← c.self.view_is)
-    (site_seen (g.S.Store.contents c.self.inside.store) c.fetch.ensures.distinct)
+    (site_seen (g.S.Store.seen c.self.inside.store).contents c.fetch.ensures.asks.distinct)
 
 pub returns-in_err-keep-clause-stays : goal.returns-in_err-keep-clause-stays
 returns-in_err-keep-clause-stays g c =
-    let behind = g.S.Store.contents c.fetch.new.store in
-    let looked = c.look_up.ensures (g.S.Store.contents c.self.inside.store) c.self.invariant in
+    let behind = (g.S.Store.seen c.fetch.new.store).contents in
+    let looked = c.look_up.ensures (g.S.Store.seen c.self.inside.store).contents c.self.invariant in
     let sound =
     subst (λ (b : Option Contents). IsSound b c.look_up.new.kept)
-    (sym c.fetch.ensures.kept) looked.sound in
+    (sym c.fetch.ensures.asks.kept) looked.sound in
     let right =
     subst (λ (b : Option Contents). IsRight b c.args.name.now c.in_ok-page-2.page)
-    (sym c.fetch.ensures.kept) c.in_ok-page-2.ensures.found in
+    (sym c.fetch.ensures.asks.kept) c.in_ok-page-2.ensures.found in
     let kept = c.keep.ensures behind sound right in
     rw (← c.self.view_is)
-    (miss_stays (g.S.Store.contents c.self.inside.store) (names_in c.self.inside.kept)
-    (g.S.Store.faults c.self.inside.store) (g.S.Store.fetches c.self.inside.store)
-    (g.S.Store.listings c.self.inside.store)
-    (g.S.Store.contents c.fetch.new.store) (names_in c.keep.new.kept)
-    (g.S.Store.faults c.fetch.new.store) (g.S.Store.fetches c.fetch.new.store)
-    (g.S.Store.listings c.fetch.new.store)
-    c.fetch.ensures.kept (kept.capacity ∙ looked.capacity)
-    c.fetch.ensures.faults c.fetch.ensures.counted c.fetch.ensures.listings)
+    (miss_stays (g.S.Store.seen c.self.inside.store) (names_in c.self.inside.kept)
+    (g.S.Store.seen c.fetch.new.store) (names_in c.keep.new.kept)
+    c.fetch.ensures.asks (kept.capacity ∙ looked.capacity))
 
 pub returns-in_err-keep-clause-no_more : goal.returns-in_err-keep-clause-no_more
 returns-in_err-keep-clause-no_more g c =
-    let behind = g.S.Store.contents c.fetch.new.store in
-    let looked = c.look_up.ensures (g.S.Store.contents c.self.inside.store) c.self.invariant in
+    let behind = (g.S.Store.seen c.fetch.new.store).contents in
+    let looked = c.look_up.ensures (g.S.Store.seen c.self.inside.store).contents c.self.invariant in
     let sound =
     subst (λ (b : Option Contents). IsSound b c.look_up.new.kept)
-    (sym c.fetch.ensures.kept) looked.sound in
+    (sym c.fetch.ensures.asks.kept) looked.sound in
     let right =
     subst (λ (b : Option Contents). IsRight b c.args.name.now c.in_ok-page-2.page)
-    (sym c.fetch.ensures.kept) c.in_ok-page-2.ensures.found in
+    (sym c.fetch.ensures.asks.kept) c.in_ok-page-2.ensures.found in
     let kept = c.keep.ensures behind sound right in
     let same =
     subst (λ (r : Result (Unit {0}) NoMemory). OnErr r (c.keep.new.kept ≡ c.look_up.new.kept))
@@ -212,31 +194,31 @@ returns-in_err-keep-clause-no_more g c =
 
 pub invariant_of-self-2 : goal.invariant_of-self-2
 invariant_of-self-2 g c =
-    let behind = g.S.Store.contents c.fetch.new.store in
-    let looked = c.look_up.ensures (g.S.Store.contents c.self.inside.store) c.self.invariant in
+    let behind = (g.S.Store.seen c.fetch.new.store).contents in
+    let looked = c.look_up.ensures (g.S.Store.seen c.self.inside.store).contents c.self.invariant in
     let sound =
     subst (λ (b : Option Contents). IsSound b c.look_up.new.kept)
-    (sym c.fetch.ensures.kept) looked.sound in
+    (sym c.fetch.ensures.asks.kept) looked.sound in
     let right =
     subst (λ (b : Option Contents). IsRight b c.args.name.now c.in_ok-page-2.page)
-    (sym c.fetch.ensures.kept) c.in_ok-page-2.ensures.found in
+    (sym c.fetch.ensures.asks.kept) c.in_ok-page-2.ensures.found in
     (c.keep.ensures behind sound right).sound
 
 pub returns-clause-site : goal.returns-clause-site
 returns-clause-site g c =
     rw (← c.self.view_is)
-    (site_seen (g.S.Store.contents c.self.inside.store) c.fetch.ensures.distinct)
+    (site_seen (g.S.Store.seen c.self.inside.store).contents c.fetch.ensures.asks.distinct)
 
 pub returns-clause-asks : goal.returns-clause-asks
 returns-clause-asks g c =
-    let behind = g.S.Store.contents c.fetch.new.store in
-    let looked = c.look_up.ensures (g.S.Store.contents c.self.inside.store) c.self.invariant in
+    let behind = (g.S.Store.seen c.fetch.new.store).contents in
+    let looked = c.look_up.ensures (g.S.Store.seen c.self.inside.store).contents c.self.invariant in
     let sound =
     subst (λ (b : Option Contents). IsSound b c.look_up.new.kept)
-    (sym c.fetch.ensures.kept) looked.sound in
+    (sym c.fetch.ensures.asks.kept) looked.sound in
     let right =
     subst (λ (b : Option Contents). IsRight b c.args.name.now c.in_ok-page-2.page)
-    (sym c.fetch.ensures.kept) c.in_ok-page-2.ensures.found in
+    (sym c.fetch.ensures.asks.kept) c.in_ok-page-2.ensures.found in
     let kept = c.keep.ensures behind sound right in
     let none = c.in_ok-page.was ∙ ap (λ (found : Option Page). Ok found) c.in_default.is in
     let asked : Asked = (c.args.name.now, c.args.fresh) in
@@ -247,33 +229,24 @@ returns-clause-asks g c =
     ≡ after_asking (c.args.name.now, fresh) (names_in c.look_up.new.kept)))
     c.in_ok-keep.was kept.first in
     rw (← c.self.view_is)
-    (miss_asks (g.S.Store.contents c.self.inside.store) (names_in c.self.inside.kept)
-    (g.S.Store.faults c.self.inside.store) (g.S.Store.fetches c.self.inside.store)
-    (g.S.Store.listings c.self.inside.store)
-    (g.S.Store.contents c.fetch.new.store) (names_in c.keep.new.kept)
-    (g.S.Store.faults c.fetch.new.store) (g.S.Store.fetches c.fetch.new.store)
-    (g.S.Store.listings c.fetch.new.store)
+    (miss_asks (g.S.Store.seen c.self.inside.store) (names_in c.self.inside.kept)
+    (g.S.Store.seen c.fetch.new.store) (names_in c.keep.new.kept)
     asked (looked.miss none)
     (first c.args.fresh ∙ ap (λ (k : Kept). after_asking asked (names_in k)) (looked.same none))
-    c.fetch.ensures.counted c.in_ok-page-2.ensures.steady)
+    c.fetch.ensures.asks.counted c.in_ok-page-2.ensures.asks.steady)
 
 pub returns-clause-stays : goal.returns-clause-stays
 returns-clause-stays g c =
-    let behind = g.S.Store.contents c.fetch.new.store in
-    let looked = c.look_up.ensures (g.S.Store.contents c.self.inside.store) c.self.invariant in
+    let behind = (g.S.Store.seen c.fetch.new.store).contents in
+    let looked = c.look_up.ensures (g.S.Store.seen c.self.inside.store).contents c.self.invariant in
     let sound =
     subst (λ (b : Option Contents). IsSound b c.look_up.new.kept)
-    (sym c.fetch.ensures.kept) looked.sound in
+    (sym c.fetch.ensures.asks.kept) looked.sound in
     let right =
     subst (λ (b : Option Contents). IsRight b c.args.name.now c.in_ok-page-2.page)
-    (sym c.fetch.ensures.kept) c.in_ok-page-2.ensures.found in
+    (sym c.fetch.ensures.asks.kept) c.in_ok-page-2.ensures.found in
     let kept = c.keep.ensures behind sound right in
     rw (← c.self.view_is)
-    (miss_stays (g.S.Store.contents c.self.inside.store) (names_in c.self.inside.kept)
-    (g.S.Store.faults c.self.inside.store) (g.S.Store.fetches c.self.inside.store)
-    (g.S.Store.listings c.self.inside.store)
-    (g.S.Store.contents c.fetch.new.store) (names_in c.keep.new.kept)
-    (g.S.Store.faults c.fetch.new.store) (g.S.Store.fetches c.fetch.new.store)
-    (g.S.Store.listings c.fetch.new.store)
-    c.fetch.ensures.kept (kept.capacity ∙ looked.capacity)
-    c.fetch.ensures.faults c.fetch.ensures.counted c.fetch.ensures.listings)
+    (miss_stays (g.S.Store.seen c.self.inside.store) (names_in c.self.inside.kept)
+    (g.S.Store.seen c.fetch.new.store) (names_in c.keep.new.kept)
+    c.fetch.ensures.asks (kept.capacity ∙ looked.capacity))
