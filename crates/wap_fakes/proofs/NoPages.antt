@@ -3,8 +3,8 @@ use Rattle.std.proofs.Common.{◌≡◌, [], sym, subst}
 use Rattle.std.specs.List.{IsDistinct}
 use Rattle.std.proofs.lemmas.List.Elements.{All-nil}
 use Rattle.wap_base.specs.Contents.{Contents}
-use Rattle.wap_base.specs.Pages.{IsPage}
-use Rattle.wap_base.specs.Fakes.{ArePages}
+use Rattle.wap_devices.specs.Pages.{IsPage}
+use Rattle.wap_devices.specs.Fakes.{ArePages}
 
 none_are_pages : ArePages []
 unfolding IsDistinct

@@ -1,7 +1,7 @@
 -- Pages in memory, and what is seen of them. This project's own.
 use Rattle.std.specs.Prelude.{ℕ, if◌then◌else◌, [], Some, None}
 use Rattle.wap_base.specs.Count.{raised}
-use Rattle.wap_base.specs.Fakes.{Schedule, fails_next, called}
+use Rattle.wap_devices.specs.Fakes.{Schedule, fails_next, called}
 use Rattle.wap_site.specs.Pages.{Pages}
 use Rattle.wap_site.specs.Misses.{Cache, Asked, is_miss, after_asking}
 use Rattle.wap_site.specs.Asking.{Seen}

@@ -1,6 +1,6 @@
 //! Pages that fail at listed calls.
 ghost use Rattle.std.specs.Prelude.{◌≡◌, [], ◌∷◌, true, IfOk, OnOk, IsErrOf, ◌↔◌};
-ghost use Rattle.wap_base.specs.Fakes.{fresh, fails_next};
+ghost use Rattle.wap_devices.specs.Fakes.{fresh, fails_next};
 ghost use Rattle.wap_site.specs.Pages.{page_of, AreSitePages};
 ghost use Rattle.wap_site.specs.Asking.{Stays, Asks, Fails};
 ghost use Rattle.wap_fakes.specs.Fakes.{seen_at, after_call};
@@ -8,7 +8,8 @@ ghost use Rattle.wap_fakes.specs.Fakes.{seen_at, after_call};
 use crate::answer::answer;
 use std::alloc::Global;
 use std::marker::Model;
-use wap_base::{MemStore, RunErr, Store, Text};
+use wap_base::{RunErr, Text};
+use wap_devices::{MemStore, Store};
 use wap_site::{Page, Pages};
 
 /// Pages in memory that fail at listed calls. None is kept, so each call asks the store below them,

@@ -6,8 +6,8 @@ use Rattle.std.specs.declared.io.Error.{Error}
 use Rattle.std.specs.declared.io.ErrorKind.{ErrorKind}
 use Rattle.std.specs.declared.io.ErrorKind.TheVariants.{NotFound, NotADirectory, FilesystemLoop}
 use Rattle.std.specs.declared.io.ErrorKind.TheVariants.{InvalidFilename, InvalidInput, OutOfMemory}
-use Rattle.wap_base.specs.declared.store.StoreErr.{StoreErr}
-use Rattle.wap_base.specs.declared.store.StoreErr.TheVariants.{Failed, NoMemory}
+use Rattle.wap_devices.specs.declared.store.StoreErr.{StoreErr}
+use Rattle.wap_devices.specs.declared.store.StoreErr.TheVariants.{Failed, NoMemory}
 
 -- there is nothing at the path, or nothing can be there
 abbrev pub tells_nothing : ErrorKind → Bool

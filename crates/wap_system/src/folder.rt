@@ -6,7 +6,9 @@ ghost use Rattle.wap_system.specs.Inside.{IsFileName, IsInside, IsFoundInside};
 ghost use Rattle.wap_system.specs.Missing.{tells_nothing, fault_of, there};
 ghost use Rattle.wap_base.specs.Count.{raised};
 ghost use Rattle.wap_base.specs.Texts.{AreAscending};
-ghost use Rattle.wap_base.specs.Pages.{IsSmall};
+ghost use Rattle.wap_devices.specs.Pages.{IsSmall};
+ghost use Rattle.wap_devices.specs.Stores.{Fetches, Lists};
+ghost use Rattle.wap_system.specs.Adapters.{seen_of_folder};
 
 use std::alloc::{AllocError, Global};
 use std::io::{ErrorKind, Read};
@@ -14,7 +16,8 @@ use std::marker::Model;
 use std::path::Path;
 use std::rt::Files;
 use std::{fs, io};
-use wap_base::{Bytes, Fetched, PAGE_LIMIT, Store, StoreErr, Text, are_ascending};
+use wap_base::{Bytes, Text, are_ascending};
+use wap_devices::{Fetched, PAGE_LIMIT, Store, StoreErr};
 
 /// The deepest level of a folder below the store's own, whose folders have level 1.
 const DEEPEST: u32 = 64;
@@ -75,27 +78,16 @@ impl<R> FolderStore<R> {
 }
 
 impl<R: Files + AllocGlobal + Clone + Drop> Store for FolderStore<R> {
-    ghost use Rattle.std.specs.Prelude.{None};
-
-    ghost contents = { λ _. None };
-
-    ghost faults = { λ store. store.faults };
-
-    ghost fetches = { λ store. store.fetches };
-
-    ghost listings = { λ store. store.listings };
+    ghost seen = { λ store. seen_of_folder store };
 
     fn fetch(&mut self, name: &Text) -> Result<Fetched, StoreErr>
-        ensures small { IfOk result IsSmall }
+        ensures fetches { Fetches name.now (seen_of_folder self.old) (seen_of_folder self.new)
+            result }
         // No step of a name leads out of the folder; a link to a file may.
         ensures inside { IfOk result (IsFoundInside (encode_utf8_all name.now)) }
         ensures outside { ¬ IsInside (encode_utf8_all name.now) → result ≡ Ok Fetched.Missing }
-
-        ensures counted { self.new.fetches ≡ raised self.old.fetches }
-        ensures listings { self.new.listings ≡ self.old.listings }
         ensures faults { self.new.faults
             ≡ (if is_err result then raised self.old.faults else self.old.faults) }
-        ensures ordered { self.old.faults ≤ self.new.faults }
     {
         self.fetches = self.fetches.saturating_add(1);
         let answer = page(&self.rt, self.folder.as_str(), name.as_str());
@@ -104,13 +96,10 @@ impl<R: Files + AllocGlobal + Clone + Drop> Store for FolderStore<R> {
     }
 
     fn list(&mut self) -> Result<Vec<Text>, StoreErr>
-        ensures ascending { IfOk result (λ names. AreAscending names.items) }
-
-        ensures counted { self.new.listings ≡ raised self.old.listings }
-        ensures fetches { self.new.fetches ≡ self.old.fetches }
+        ensures lists { Lists (λ names. names.items) (seen_of_folder self.old)
+            (seen_of_folder self.new) result }
         ensures faults { self.new.faults
             ≡ (if is_err result then raised self.old.faults else self.old.faults) }
-        ensures ordered { self.old.faults ≤ self.new.faults }
     {
         self.listings = self.listings.saturating_add(1);
         let answer = names(&self.rt, self.folder.as_str());

@@ -1,13 +1,13 @@
 //! Standard input as a source of key lines.
-ghost use Rattle.std.specs.Prelude.{◌≡◌, ◌<◌, ◌≤◌, length, drop, Ok, IfOk};
-ghost use Rattle.std.specs.Prelude.{OnErr, is_err, if◌then◌else◌};
+ghost use Rattle.std.specs.Prelude.{◌≡◌, ◌<◌, length, Ok, is_err, if◌then◌else◌};
 ghost use Rattle.std.specs.Io.KnownBytes.{ReadConsumes};
 ghost use Rattle.wap_base.specs.Count.{raised};
-ghost use Rattle.wap_base.specs.Transfer.{ends_after};
+ghost use Rattle.wap_devices.specs.Sources.{Reads, ends_after};
+ghost use Rattle.wap_system.specs.Adapters.{seen_of_reader};
 
 use std::io::Read;
 use std::marker::Model;
-use wap_base::{Failed, Source};
+use wap_devices::{Failed, Source};
 
 /// The most bytes that one read takes.
 const PIECE: usize = 4096;
@@ -17,8 +17,10 @@ const PIECE: usize = 4096;
 #[derive(Drop)]
 pub struct StdinSource<I> {
     reader: I,
-    faults: u64,
+    given: u64,
+    reads: u64,
     ends: u64,
+    faults: u64,
 }
 
 impl<I> Model for StdinSource<I> {
@@ -28,20 +30,25 @@ impl<I> Model for StdinSource<I> {
 
     ghost view = { λ source. record {
       reader = source.reader;
-      faults = source.faults;
+      given = source.given;
+      reads = source.reads;
       ends = source.ends;
+      faults = source.faults;
     } };
 }
 
 impl<I> StdinSource<I> {
     /// The source of the bytes that the reader still has.
     pub fn new(reader: I) -> StdinSource<I>
-        ensures { result ≡ record { reader = reader; faults = 0; ends = 0 } }
+        ensures { result
+            ≡ record { reader = reader; given = 0; reads = 0; ends = 0; faults = 0 } }
     {
         StdinSource {
             reader,
-            faults: 0,
+            given: 0,
+            reads: 0,
             ends: 0,
+            faults: 0,
         }
     }
 }
@@ -58,33 +65,26 @@ fn ends_after(ends: u64, count: usize) -> u64
 }
 
 impl<I: Read> Source for StdinSource<I> {
-    ghost use Rattle.std.specs.Prelude.{None};
-
-    ghost left = { λ _. None };
-
-    ghost faults = { λ source. source.faults };
-
-    ghost ends = { λ source. source.ends };
+    ghost seen = { λ source. seen_of_reader source };
 
     fn read(&mut self, buffer: &mut [u8]) -> Result<usize, Failed>
         requires { 0 < length buffer.old }
-        ensures within { IfOk result (λ count. count ≤ length buffer.old) }
+        ensures reads { Reads buffer.old buffer.new (seen_of_reader self.old)
+            (seen_of_reader self.new) result }
         // The reader gave what the source gives.
         ensures reader { ReadConsumes (I.remaining self.old.reader)
             (I.remaining self.new.reader) result buffer.new }
-        ensures rest { IfOk result (λ count. drop count buffer.new ≡ drop count buffer.old) }
-        ensures buffer { OnErr result (buffer.new ≡ buffer.old) }
-        ensures ends { self.new.ends ≡ ends_after self.old.ends result }
         ensures faults { self.new.faults
             ≡ (if is_err result then raised self.old.faults else self.old.faults) }
-        ensures ordered { self.old.faults ≤ self.new.faults }
     {
         // A piece of its own, since a read that fails may have written to what it was given.
         let mut piece = [0; PIECE];
+        self.reads = self.reads.saturating_add(1);
         let room = buffer.len().min(PIECE);
         match self.reader.read(&mut piece[..room]) {
             Ok(count) => {
                 buffer[..count].copy_from_slice(&piece[..count]);
+                self.given = self.given.saturating_add(count as u64);
                 self.ends = ends_after(self.ends, count);
                 Ok(count)
             }

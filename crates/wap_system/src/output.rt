@@ -1,17 +1,20 @@
 //! Standard output as a sink of what is shown.
-ghost use Rattle.std.specs.Prelude.{◌≡◌, ◌≤◌, ◌<◌, [], length, IfOk, OnOk};
+ghost use Rattle.std.specs.Prelude.{◌≡◌};
 ghost use Rattle.std.specs.Io.KnownBytes.{WriteAppends};
+ghost use Rattle.wap_devices.specs.Sinks.{Writes};
+ghost use Rattle.wap_system.specs.Adapters.{seen_of_writer};
 ghost use Rattle.wap_system.specs.Writes.{faults_after};
 
 use std::io::Write;
 use std::marker::Model;
-use wap_base::{Failed, Sink};
+use wap_devices::{Failed, Sink};
 
 /// Standard output, or what else is written to. It tells no bytes, since they leave the program. A
 /// call that a signal interrupts has failed.
 #[derive(Drop)]
 pub struct StdoutSink<O> {
     writer: O,
+    writes: u64,
     faults: u64,
 }
 
@@ -20,35 +23,35 @@ impl<O> Model for StdoutSink<O> {
 
     ghost Value = { WriterState O };
 
-    ghost view = { λ sink. record { writer = sink.writer; faults = sink.faults } };
+    ghost view = { λ sink.
+        record { writer = sink.writer; writes = sink.writes; faults = sink.faults } };
 }
 
 impl<O> StdoutSink<O> {
     /// The sink of the bytes that the writer takes.
     pub fn new(writer: O) -> StdoutSink<O>
-        ensures { result ≡ record { writer = writer; faults = 0 } }
+        ensures { result ≡ record { writer = writer; writes = 0; faults = 0 } }
     {
-        StdoutSink { writer, faults: 0 }
+        StdoutSink {
+            writer,
+            writes: 0,
+            faults: 0,
+        }
     }
 }
 
 impl<O: Write> Sink for StdoutSink<O> {
-    ghost use Rattle.std.specs.Prelude.{None};
-
-    ghost written = { λ _. None };
-
-    ghost faults = { λ sink. sink.faults };
+    ghost seen = { λ sink. seen_of_writer sink };
 
     fn write(&mut self, piece: &[u8]) -> Result<usize, Failed>
-        ensures within { IfOk result (λ count. count ≤ length piece.now) }
+        ensures writes { Writes piece.now (seen_of_writer self.old) (seen_of_writer self.new)
+            result }
         // The writer took what the sink answers that it took.
         ensures writer { WriteAppends (O.contents self.old.writer)
             (O.contents self.new.writer) result piece.now }
         ensures faults { self.new.faults ≡ faults_after self.old.faults piece.now result }
-        ensures steady { IfOk result (λ count. 0 < count → self.new.faults ≡ self.old.faults) }
-        ensures nothing { piece.now ≡ [] → OnOk result (self.new.faults ≡ self.old.faults) }
-        ensures ordered { self.old.faults ≤ self.new.faults }
     {
+        self.writes = self.writes.saturating_add(1);
         match self.writer.write(piece) {
             Ok(count) => {
                 if count == 0 && !piece.is_empty() {
