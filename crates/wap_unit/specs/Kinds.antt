@@ -5,6 +5,7 @@ use Rattle.wap_unit.specs.declared.kind.ConstantKind.TheVariants as constant
 use Rattle.wap_unit.specs.declared.kind.PragmaKind.{PragmaKind}
 use Rattle.wap_unit.specs.declared.kind.PragmaKind.TheVariants as pragma
 
+-- what a constant is that begins with this byte
 abbrev pub constant_kind : ℕ → Option ConstantKind
 constant_kind byte =
     if byte == 0 then Some constant.Int8
@@ -16,6 +17,7 @@ constant_kind byte =
     else if byte == 6 then Some constant.Coded
     else None
 
+-- what a pragma is that begins with this byte
 abbrev pub pragma_kind : ℕ → Option PragmaKind
 pragma_kind byte =
     if byte == 0 then Some pragma.Domain

@@ -12,6 +12,7 @@ use Rattle.wap_code.specs.declared.unit.Constant.{Constant}
 use Rattle.wap_base.specs.Charsets.{charset_of, is_text}
 use Rattle.wap_unit.specs.declared.fault.UnitFault.{UnitFault}
 use Rattle.wap_unit.specs.declared.fault.UnitFault.TheVariants as fault
+use Rattle.wap_unit.specs.declared.reading.TheConstants.{GREATEST_VERSION}
 use Rattle.wap_unit.specs.declared.kind.ConstantKind.{ConstantKind}
 use Rattle.wap_unit.specs.declared.kind.ConstantKind.TheVariants as constant
 use Rattle.wap_unit.specs.declared.kind.PragmaKind.{PragmaKind}
@@ -27,6 +28,7 @@ Refusal = ℕ → List ℕ → UnitFault → Type 0
 
 -- ---- what an item may lack
 
+-- nothing is refused
 abbrev pub Never : Refusal
 Never end left found = ⊥
 
@@ -76,6 +78,7 @@ pub record RefusesRow {A : Type 0} (count : ℕ) (Is : List ℕ → A → Type 0
   pub fewer : length whole < count
   pub refused : Refuses end rest found
 
+-- no number of things stands here, or one of so many things is refused
 abbrev pub RefusesCounted : {A : Type 0} → (List ℕ → A → Type 0) → Refusal → Refusal
 RefusesCounted Is Refuses = RefusesInTurn RefusesNumber IsMb (λ count. RefusesRow count Is Refuses)
 
@@ -83,10 +86,11 @@ RefusesCounted Is Refuses = RefusesInTurn RefusesNumber IsMb (λ count. RefusesR
 abbrev pub IsTaken : ℕ → List ℕ → List ℕ → Type 0
 IsTaken size bytes content = (bytes ≡ content) × (length content ≡ size)
 
--- bytes after their number, and a text among such that has to pass a test
+-- no number stands here, or fewer bytes follow than it says
 abbrev pub RefusesSized : Refusal
 RefusesSized = RefusesInTurn RefusesNumber IsMb (λ size. LacksBytes size)
 
+-- no bytes after their number stand here, or they don't pass a test
 abbrev pub RefusesText : (List ℕ → Bool) → UnitFault → Refusal
 RefusesText test failed =
     RefusesInTurn RefusesSized IsSized (λ content. RefusesUnless (test content) failed Never)
@@ -111,11 +115,13 @@ RefusesValue charset at (Some constant.Empty) end left found = ⊥
 RefusesValue charset at (Some constant.Coded) end left found =
     RefusesCoded at (charset_of charset) end left found
 
+-- no constant of a pool whose strings are in this character set stands here
 abbrev pub RefusesConstant : ℕ → Refusal
 RefusesConstant charset end left found =
     RefusesInTurn LacksByte IsByte
     (λ byte. RefusesValue charset (end - length left) (constant_kind byte)) end left found
 
+-- no pool of constants stands here: their number, their character set, and the constants
 abbrev pub RefusesConstants : Refusal
 RefusesConstants =
     RefusesInTurn RefusesNumber IsMb (λ count.
@@ -124,6 +130,7 @@ RefusesConstants =
 
 -- ---- pragmas
 
+-- two numbers don't stand here
 abbrev pub RefusesPair : Refusal
 RefusesPair = RefusesInTurn RefusesNumber IsMb (λ one. RefusesNumber)
 
@@ -136,6 +143,7 @@ RefusesIndexes at (Some pragma.Property) end left found = RefusesPair end left f
 RefusesIndexes at (Some pragma.Scheme) end left found =
     RefusesInTurn RefusesNumber IsMb (λ name. RefusesPair) end left found
 
+-- no pragma stands here
 abbrev pub RefusesPragma : Refusal
 RefusesPragma end left found =
     RefusesInTurn LacksByte IsByte
@@ -157,6 +165,7 @@ RefusesName count end left found =
     RefusesUnless (nat_lt index count) (fault.NameIndex (end - length left))
     (RefusesNameText (end - length left))) end left found
 
+-- no function stands here: its counts of arguments and variables, and its code
 abbrev pub RefusesFunction : Refusal
 RefusesFunction =
     RefusesInTurn LacksByte IsByte (λ args. RefusesInTurn LacksByte IsByte (λ locals. RefusesSized))
@@ -169,6 +178,7 @@ RefusesNamesAndFunctions count =
     IsRow (IsName count) bytes row × (length row ≡ names))
     (λ row. RefusesRow count IsFunction RefusesFunction))
 
+-- no functions stand here: their number, which isn't 0, and what follows it
 abbrev pub RefusesFunctions : Refusal
 RefusesFunctions end left found =
     RefusesInTurn LacksByte IsByte (λ count.
@@ -177,6 +187,7 @@ RefusesFunctions end left found =
 
 -- ---- units
 
+-- no constants, pragmas and functions stand here, one after the other
 abbrev pub RefusesBody : Refusal
 RefusesBody =
     RefusesInTurn {A = ℕ × List Constant} RefusesConstants
@@ -188,12 +199,12 @@ RefusesBody =
 -- the first thing in the bytes that no unit can have there, and its place
 pub data IsRefused (bytes : List ℕ) (found : UnitFault) : Type 0 where
   no_version : bytes ≡ [] → found ≡ fault.Short 0 → IsRefused bytes found
-  other_version : (version : ℕ) (rest : List ℕ) → bytes ≡ version ∷ rest → 0x0F < version
+  other_version : (version : ℕ) (rest : List ℕ) → bytes ≡ version ∷ rest → GREATEST_VERSION < version
       → found ≡ fault.Version 0 → IsRefused bytes found
-  no_size : (version : ℕ) (rest : List ℕ) → bytes ≡ version ∷ rest → version ≤ 0x0F
+  no_size : (version : ℕ) (rest : List ℕ) → bytes ≡ version ∷ rest → version ≤ GREATEST_VERSION
       → RefusesNumber (length bytes) rest found → IsRefused bytes found
   other_size : (version number : ℕ) (size rest : List ℕ) → bytes ≡ version ∷ (size ++ rest)
-      → version ≤ 0x0F → IsMb size number → number ≢ length rest → found ≡ fault.Size 1
+      → version ≤ GREATEST_VERSION → IsMb size number → number ≢ length rest → found ≡ fault.Size 1
       → IsRefused bytes found
   inside : (version : ℕ) (body : List ℕ) → IsHead bytes version body
       → RefusesBody (length bytes) body found → IsRefused bytes found

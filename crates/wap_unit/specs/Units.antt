@@ -15,6 +15,9 @@ use Rattle.wap_code.specs.declared.unit.Pragma.{Pragma}
 use Rattle.wap_code.specs.declared.unit.Pragma.TheVariants.{Domain, Path, Property, Scheme}
 use Rattle.wap_code.specs.declared.unit.Code.{Code}
 use Rattle.wap_base.specs.Charsets.{charset_of, is_text}
+use Rattle.wap_unit.specs.declared.reading.TheConstants.{GREATEST_VERSION}
+use Rattle.wap_unit.specs.declared.kind.TheConstants.{INT8, INT16, INT32, FLOAT, UTF8, EMPTY, CODED}
+use Rattle.wap_unit.specs.declared.kind.TheConstants.{DOMAIN, PATH, PROPERTY, SCHEME}
 use Rattle.wap_unit.specs.Sequences.{InTurn, After, IsSized, Sized, IsRow, IsCounted}
 
 -- a text in UTF-8
@@ -35,17 +38,17 @@ IsBits size Is value = (length value ≡ size) × Is value
 -- a constant of a pool whose strings are in this character set
 abbrev pub IsConstant : ℕ → List ℕ → Constant → Type 0
 IsConstant charset bytes (Int8 number) =
-    After 0 (IsBits 1 (λ value. number ≡ cast_signed w8 (from_be_bytes w8 value))) bytes
+    After INT8 (IsBits 1 (λ value. number ≡ cast_signed w8 (from_be_bytes w8 value))) bytes
 IsConstant charset bytes (Int16 number) =
-    After 1 (IsBits 2 (λ value. number ≡ cast_signed w16 (from_be_bytes w16 value))) bytes
+    After INT16 (IsBits 2 (λ value. number ≡ cast_signed w16 (from_be_bytes w16 value))) bytes
 IsConstant charset bytes (Int32 number) =
-    After 2 (IsBits 4 (λ value. number ≡ cast_signed w32 (from_be_bytes w32 value))) bytes
+    After INT32 (IsBits 4 (λ value. number ≡ cast_signed w32 (from_be_bytes w32 value))) bytes
 IsConstant charset bytes (Float number) =
-    After 3 (IsBits 4 (λ value. number ≡ from_be_bytes w32 value)) bytes
-IsConstant charset bytes (Utf8 text) = After 4 (Sized (λ content. IsUtf8Text content text)) bytes
-IsConstant charset bytes Empty = bytes ≡ 5 ∷ []
+    After FLOAT (IsBits 4 (λ value. number ≡ from_be_bytes w32 value)) bytes
+IsConstant charset bytes (Utf8 text) = After UTF8 (Sized (λ content. IsUtf8Text content text)) bytes
+IsConstant charset bytes Empty = bytes ≡ EMPTY ∷ []
 IsConstant charset bytes (Coded text) =
-    After 6 (Sized (λ content. (content ≡ text) × IsCodedText charset content)) bytes
+    After CODED (Sized (λ content. (content ≡ text) × IsCodedText charset content)) bytes
 
 -- how many constants there are, the number of the character set, and the constants
 abbrev pub AreConstants : List ℕ → ℕ → List Constant → Type 0
@@ -57,12 +60,13 @@ AreConstants bytes charset constants =
 abbrev pub IsPair : List ℕ → ℕ → ℕ → Type 0
 IsPair bytes one two = InTurn (λ front. IsMb front one) (λ back. IsMb back two) bytes
 
+-- the byte of a pragma's kind, and the indexes of its strings
 abbrev pub IsPragma : List ℕ → Pragma → Type 0
-IsPragma bytes (Domain text) = After 0 (λ rest. IsMb rest text) bytes
-IsPragma bytes (Path text) = After 1 (λ rest. IsMb rest text) bytes
-IsPragma bytes (Property name content) = After 2 (λ rest. IsPair rest name content) bytes
+IsPragma bytes (Domain text) = After DOMAIN (λ rest. IsMb rest text) bytes
+IsPragma bytes (Path text) = After PATH (λ rest. IsMb rest text) bytes
+IsPragma bytes (Property name content) = After PROPERTY (λ rest. IsPair rest name content) bytes
 IsPragma bytes (Scheme name content scheme) =
-    After 3 (InTurn (λ front. IsMb front name) (λ back. IsPair back content scheme)) bytes
+    After SCHEME (InTurn (λ front. IsMb front name) (λ back. IsPair back content scheme)) bytes
 
 -- the index of one of so many functions, and its name: one byte for the length, and a text
 pub record IsName (count : ℕ) (bytes : List ℕ) (name : ℕ × List ℕ) : Type 0 where
@@ -97,7 +101,7 @@ IsBody bytes unit =
 pub record IsHead (bytes : List ℕ) (version : ℕ) (body : List ℕ) : Type 0 where
   pub size : List ℕ
   pub spelled : bytes ≡ version ∷ (size ++ body)
-  pub low : version ≤ 0x0F
+  pub low : version ≤ GREATEST_VERSION
   pub size_is : IsMb size (length body)
 
 -- the bytes are this unit

@@ -16,6 +16,10 @@ use crate::pragmas::read_pragmas;
 use std::alloc::Global;
 use wap_code::Unit;
 
+/// The greatest version byte that is read: those of the major number 1, in the upper four bits the
+/// number minus one.
+pub const GREATEST_VERSION: u8 = 0x0F;
+
 /// The unit that the bytes spell, all of them.
 pub fn decode(alloc: Global, bytes: &[u8]) -> Result<Unit, UnitFault>
     requires { length bytes.now < 2 ^ 32 }
@@ -37,7 +41,7 @@ fn read_unit(alloc: Global, bytes: &[u8]) -> Result<Unit, UnitFault>
 {
     let end = bytes.len();
     let (version, rest) = byte(end, bytes)?;
-    if version > 0x0F {
+    if version > GREATEST_VERSION {
         return Err(UnitFault::Version { at: 0 });
     }
     let (size, rest) = number(end, rest)?;

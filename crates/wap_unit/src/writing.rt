@@ -9,6 +9,7 @@ ghost use Rattle.wap_unit.specs.Spelling.{functions_spelling, body_spelling, spe
 ghost use Rattle.wap_unit.specs.inside.Fitting.{FitsConstant, FitsConstants, FitsName};
 ghost use Rattle.wap_unit.specs.inside.Fitting.{FitsFunction, FitsFunctions, FitsUnit};
 
+use crate::kind::{CODED, DOMAIN, EMPTY, FLOAT, INT8, INT16, INT32, PATH, PROPERTY, SCHEME, UTF8};
 use std::alloc::Global;
 use wap_base::{Bytes, NoMemory, Text, write_mb};
 use wap_code::{Code, Constant, Pragma, Unit};
@@ -79,13 +80,13 @@ fn write_constant(out: &mut Bytes, constant: &Constant) -> Result<(), NoMemory>
     ensures { OnOk result (out.new ≡ out.old ++ constant_spelling constant.now) }
 {
     match constant {
-        Constant::Int8(number) => write_kind(out, 0, &number.to_be_bytes()),
-        Constant::Int16(number) => write_kind(out, 1, &number.to_be_bytes()),
-        Constant::Int32(number) => write_kind(out, 2, &number.to_be_bytes()),
-        Constant::Float(bits) => write_kind(out, 3, &bits.to_be_bytes()),
-        Constant::Utf8(text) => write_text(out, 4, text.as_str().as_bytes()),
-        Constant::Empty => write_kind(out, 5, &[]),
-        Constant::Coded(text) => write_text(out, 6, text.as_slice()),
+        Constant::Int8(number) => write_kind(out, INT8, &number.to_be_bytes()),
+        Constant::Int16(number) => write_kind(out, INT16, &number.to_be_bytes()),
+        Constant::Int32(number) => write_kind(out, INT32, &number.to_be_bytes()),
+        Constant::Float(bits) => write_kind(out, FLOAT, &bits.to_be_bytes()),
+        Constant::Utf8(text) => write_text(out, UTF8, text.as_str().as_bytes()),
+        Constant::Empty => write_kind(out, EMPTY, &[]),
+        Constant::Coded(text) => write_text(out, CODED, text.as_slice()),
     }
 }
 
@@ -127,14 +128,14 @@ fn write_pragma(out: &mut Bytes, pragma: Pragma) -> Result<(), NoMemory>
     ensures { OnOk result (out.new ≡ out.old ++ pragma_spelling pragma) }
 {
     match pragma {
-        Pragma::Domain(text) => write_index(out, 0, text),
-        Pragma::Path(text) => write_index(out, 1, text),
+        Pragma::Domain(text) => write_index(out, DOMAIN, text),
+        Pragma::Path(text) => write_index(out, PATH, text),
         Pragma::Property(name, content) => {
-            write_index(out, 2, name)?;
+            write_index(out, PROPERTY, name)?;
             write_mb(out, content)
         }
         Pragma::Scheme(name, content, scheme) => {
-            write_index(out, 3, name)?;
+            write_index(out, SCHEME, name)?;
             write_mb(out, content)?;
             write_mb(out, scheme)
         }

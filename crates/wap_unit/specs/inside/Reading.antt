@@ -15,6 +15,7 @@ use Rattle.wap_code.specs.declared.unit.Code.{Code}
 use Rattle.wap_base.specs.Charsets.{charset_of, is_text}
 use Rattle.wap_unit.specs.declared.fault.UnitFault.{UnitFault}
 use Rattle.wap_unit.specs.declared.fault.UnitFault.TheVariants as fault
+use Rattle.wap_unit.specs.declared.reading.TheConstants.{GREATEST_VERSION}
 use Rattle.wap_unit.specs.declared.kind.ConstantKind.{ConstantKind}
 use Rattle.wap_unit.specs.declared.kind.ConstantKind.TheVariants as constant
 use Rattle.wap_unit.specs.declared.kind.PragmaKind.{PragmaKind}
@@ -149,7 +150,7 @@ sized_body end version size =
 
 unfoldable pub unit_by : ℕ → ℕ × List ℕ → Result Unit UnitFault
 unit_by end version =
-    if nat_lt 0x0F version.0 then Err (fault.Version 0)
+    if nat_lt GREATEST_VERSION version.0 then Err (fault.Version 0)
     else number_at end version.1 >>= sized_body end version.0
 
 unfoldable pub unit_at : List ℕ → Result Unit UnitFault
