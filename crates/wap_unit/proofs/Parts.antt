@@ -22,6 +22,8 @@ use Rattle.wap_unit.specs.declared.kind.ConstantKind.{ConstantKind}
 use Rattle.wap_unit.specs.declared.kind.ConstantKind.TheVariants as constant
 use Rattle.wap_unit.specs.declared.kind.PragmaKind.{PragmaKind}
 use Rattle.wap_unit.specs.declared.kind.PragmaKind.TheVariants as pragma
+use Rattle.wap_unit.specs.declared.kind.TheConstants.{INT8, INT16, INT32, FLOAT, UTF8, EMPTY, CODED}
+use Rattle.wap_unit.specs.declared.kind.TheConstants.{DOMAIN, PATH, PROPERTY, SCHEME}
 use Rattle.wap_unit.specs.Kinds.{constant_kind, pragma_kind}
 use Rattle.wap_unit.specs.Sequences.{InTurn, Then, IsByte, IsSized, Sized, IsRow, IsCounted}
 use Rattle.wap_unit.specs.Units.{IsUtf8Text, IsCodedText, IsConstant, AreConstants, IsPair}
@@ -68,9 +70,9 @@ use Rattle.wap_unit.specs.inside.Reading.{
   body_at,
 }
 use Rattle.wap_unit.specs.inside.Steps.{in_turn, judged}
-use Rattle.wap_unit.proofs.Laws.{Reads, reads_byte, reads_taken, reads_number, reads_in_turn}
-use Rattle.wap_unit.proofs.Laws.{reads_given, reads_judged, reads_failing, reads_passing}
-use Rattle.wap_unit.proofs.Laws.{reads_told, reads_as, reads_here, reads_many}
+use Rattle.wap_unit.proofs.Readers.{Reads, reads_byte, reads_taken, reads_number, reads_in_turn}
+use Rattle.wap_unit.proofs.Readers.{reads_given, reads_judged, reads_failing, reads_passing}
+use Rattle.wap_unit.proofs.Readers.{reads_told, reads_as, reads_here, reads_many}
 
 -- a prefix after which nothing stands is all
 whole : (Is : List ℕ → Type 0) (bytes front back : List ℕ) → bytes ≡ front ++ back → back ≡ []
@@ -211,13 +213,13 @@ reads_value_by charset at None = reads_failing (fault.ConstantKind at)
 reads_value_by charset at (Some kind) = reads_value charset at kind
 
 abbrev constant_code : ConstantKind → ℕ
-constant_code constant.Int8 = 0
-constant_code constant.Int16 = 1
-constant_code constant.Int32 = 2
-constant_code constant.Float = 3
-constant_code constant.Utf8 = 4
-constant_code constant.Empty = 5
-constant_code constant.Coded = 6
+constant_code constant.Int8 = INT8
+constant_code constant.Int16 = INT16
+constant_code constant.Int32 = INT32
+constant_code constant.Float = FLOAT
+constant_code constant.Utf8 = UTF8
+constant_code constant.Empty = EMPTY
+constant_code constant.Coded = CODED
 
 code-constant_kind : (byte : ℕ) (kind : ConstantKind) → constant_kind byte ≡ Some kind
     → byte ≡ constant_code kind
@@ -267,7 +269,7 @@ valued charset bytes back constant.Float c spelled is =
 valued charset bytes back constant.Utf8 c spelled is =
     subst (IsConstant charset bytes) (sym is.2) (back, spelled, is.1)
 valued charset bytes back constant.Empty c spelled is =
-    subst (IsConstant charset bytes) (sym is.1) (spelled ∙ ap (λ (l : List ℕ). 5 ∷ l) is.0)
+    subst (IsConstant charset bytes) (sym is.1) (spelled ∙ ap (λ (l : List ℕ). EMPTY ∷ l) is.0)
 valued charset bytes back constant.Coded c spelled is =
     subst (IsConstant charset bytes) (sym is.2) (back, spelled, is.1)
 
@@ -289,18 +291,18 @@ begun charset bytes back byte c spelled is =
 constant_begun : (charset : ℕ) (bytes : List ℕ) (c : Constant) → IsConstant charset bytes c
     → Then IsByte (λ byte l. IsValueBy charset (constant_kind byte) l c) bytes
 constant_begun charset bytes (Int8 number) is =
-    begun charset bytes is.0 0 (Int8 number) is.1 (is.0, (refl, is.2.0), ap Int8 is.2.1)
+    begun charset bytes is.0 INT8 (Int8 number) is.1 (is.0, (refl, is.2.0), ap Int8 is.2.1)
 constant_begun charset bytes (Int16 number) is =
-    begun charset bytes is.0 1 (Int16 number) is.1 (is.0, (refl, is.2.0), ap Int16 is.2.1)
+    begun charset bytes is.0 INT16 (Int16 number) is.1 (is.0, (refl, is.2.0), ap Int16 is.2.1)
 constant_begun charset bytes (Int32 number) is =
-    begun charset bytes is.0 2 (Int32 number) is.1 (is.0, (refl, is.2.0), ap Int32 is.2.1)
+    begun charset bytes is.0 INT32 (Int32 number) is.1 (is.0, (refl, is.2.0), ap Int32 is.2.1)
 constant_begun charset bytes (Float number) is =
-    begun charset bytes is.0 3 (Float number) is.1 (is.0, (refl, is.2.0), ap Float is.2.1)
+    begun charset bytes is.0 FLOAT (Float number) is.1 (is.0, (refl, is.2.0), ap Float is.2.1)
 constant_begun charset bytes (Utf8 text) is =
-    begun charset bytes is.0 4 (Utf8 text) is.1 (text, is.2, refl)
-constant_begun charset bytes Empty is = begun charset bytes [] 5 Empty is (refl, refl)
+    begun charset bytes is.0 UTF8 (Utf8 text) is.1 (text, is.2, refl)
+constant_begun charset bytes Empty is = begun charset bytes [] EMPTY Empty is (refl, refl)
 constant_begun charset bytes (Coded text) is =
-    begun charset bytes is.0 6 (Coded text) is.1 (text, is.2, refl)
+    begun charset bytes is.0 CODED (Coded text) is.1 (text, is.2, refl)
 
 reads_constant : (charset : ℕ)
     → Reads (constant_at (charset_of charset)) (IsConstant charset) (RefusesConstant charset)
@@ -409,10 +411,10 @@ reads_indexes_by at None = reads_failing (fault.PragmaKind at)
 reads_indexes_by at (Some kind) = reads_indexes at kind
 
 abbrev pragma_code : PragmaKind → ℕ
-pragma_code pragma.Domain = 0
-pragma_code pragma.Path = 1
-pragma_code pragma.Property = 2
-pragma_code pragma.Scheme = 3
+pragma_code pragma.Domain = DOMAIN
+pragma_code pragma.Path = PATH
+pragma_code pragma.Property = PROPERTY
+pragma_code pragma.Scheme = SCHEME
 
 code-pragma_kind : (byte : ℕ) (kind : PragmaKind) → pragma_kind byte ≡ Some kind
     → byte ≡ pragma_code kind
@@ -449,44 +451,29 @@ by_pragma_kind bytes back byte (Some kind) p known spelled is =
     indexed bytes back kind p
     (spelled ∙ ap (λ (b : ℕ). b ∷ back) (code-pragma_kind byte kind known)) is
 
+-- a first byte and the indexes after it
+led : (bytes back : List ℕ) (byte : ℕ) (p : Pragma) → bytes ≡ byte ∷ back
+    → IsIndexesBy (pragma_kind byte) back p
+    → Then IsByte (λ byte l. IsIndexesBy (pragma_kind byte) l p) bytes
+led bytes back byte p spelled is =
+    (byte, record { front = byte ∷ []; back = back; split = spelled; first = refl; second = is })
+
 pragma_begun : (bytes : List ℕ) (p : Pragma) → IsPragma bytes p
     → Then IsByte (λ byte l. IsIndexesBy (pragma_kind byte) l p) bytes
-pragma_begun bytes (Domain text) is = (
-  0,
-  record { front = 0 ∷ []; back = is.0; split = is.1; first = refl; second = (text, is.2, refl) },
-)
-pragma_begun bytes (Path text) is = (
-  1,
-  record { front = 1 ∷ []; back = is.0; split = is.1; first = refl; second = (text, is.2, refl) },
-)
-pragma_begun bytes (Property name content) is = (
-  2,
-  record {
-    front = 2 ∷ [];
-    back = is.0;
-    split = is.1;
-    first = refl;
-    second = ((name, content), is.2, refl);
-  },
-)
+pragma_begun bytes (Domain text) is = led bytes is.0 DOMAIN (Domain text) is.1 (text, is.2, refl)
+pragma_begun bytes (Path text) is = led bytes is.0 PATH (Path text) is.1 (text, is.2, refl)
+pragma_begun bytes (Property name content) is =
+    led bytes is.0 PROPERTY (Property name content) is.1 ((name, content), is.2, refl)
 pragma_begun bytes (Scheme name content scheme) is =
-    let rest = is.2 in (
-      3,
+    let rest = is.2 in
+    led bytes is.0 SCHEME (Scheme name content scheme) is.1 (
+      name,
       record {
-        front = 3 ∷ [];
-        back = is.0;
-        split = is.1;
-        first = refl;
-        second = (
-          name,
-          record {
-            front = rest.front;
-            back = rest.back;
-            split = rest.split;
-            first = rest.first;
-            second = ((content, scheme), rest.second, refl);
-          },
-        );
+        front = rest.front;
+        back = rest.back;
+        split = rest.split;
+        first = rest.first;
+        second = ((content, scheme), rest.second, refl);
       },
     )
 

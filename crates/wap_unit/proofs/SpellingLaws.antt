@@ -19,6 +19,8 @@ use Rattle.wap_code.specs.declared.unit.Constant.TheVariants.{Empty, Coded}
 use Rattle.wap_code.specs.declared.unit.Pragma.{Pragma}
 use Rattle.wap_code.specs.declared.unit.Pragma.TheVariants.{Domain, Path, Property, Scheme}
 use Rattle.wap_code.specs.declared.unit.Code.{Code}
+use Rattle.wap_unit.specs.declared.kind.TheConstants.{INT8, INT16, INT32, FLOAT, UTF8, CODED}
+use Rattle.wap_unit.specs.declared.kind.TheConstants.{DOMAIN, PATH, PROPERTY, SCHEME}
 use Rattle.wap_unit.specs.Sequences.{IsSized, IsRow, IsCounted}
 use Rattle.wap_unit.specs.Units.{IsUtf8Text, IsConstant, AreConstants, IsPair, IsPragma, IsName}
 use Rattle.wap_unit.specs.Units.{IsFunction, AreFunctions, IsBody, IsHead, IsUnit}
@@ -234,25 +236,25 @@ constant_law : (charset : ℕ) (bytes : List ℕ) (c : Constant) → AreBytes by
     → IsConstant charset (constant_spelling c) c × Written bytes (constant_spelling c)
 constant_law charset bytes (Int8 number) are is =
     constant_same charset bytes (Int8 number) are is
-    (fixed 0 bytes is.0 (to_be_bytes w8 (cast_unsigned w8 number)) is.1
+    (fixed INT8 bytes is.0 (to_be_bytes w8 (cast_unsigned w8 number)) is.1
     (ap (λ n. to_be_bytes w8 (cast_unsigned w8 n)) is.2.1
-    ∙ value_8 is.0 is.2.0 (behind_kind bytes is.0 0 is.1 are)))
+    ∙ value_8 is.0 is.2.0 (behind_kind bytes is.0 INT8 is.1 are)))
 constant_law charset bytes (Int16 number) are is =
     constant_same charset bytes (Int16 number) are is
-    (fixed 1 bytes is.0 (to_be_bytes w16 (cast_unsigned w16 number)) is.1
+    (fixed INT16 bytes is.0 (to_be_bytes w16 (cast_unsigned w16 number)) is.1
     (ap (λ n. to_be_bytes w16 (cast_unsigned w16 n)) is.2.1
-    ∙ value_16 is.0 is.2.0 (behind_kind bytes is.0 1 is.1 are)))
+    ∙ value_16 is.0 is.2.0 (behind_kind bytes is.0 INT16 is.1 are)))
 constant_law charset bytes (Int32 number) are is =
     constant_same charset bytes (Int32 number) are is
-    (fixed 2 bytes is.0 (to_be_bytes w32 (cast_unsigned w32 number)) is.1
+    (fixed INT32 bytes is.0 (to_be_bytes w32 (cast_unsigned w32 number)) is.1
     (ap (λ n. to_be_bytes w32 (cast_unsigned w32 n)) is.2.1
-    ∙ value_32 is.0 is.2.0 (behind_kind bytes is.0 2 is.1 are)))
+    ∙ value_32 is.0 is.2.0 (behind_kind bytes is.0 INT32 is.1 are)))
 constant_law charset bytes (Float number) are is =
     constant_same charset bytes (Float number) are is
-    (fixed 3 bytes is.0 (to_be_bytes w32 number) is.1
-    (be_bytes_4 is.0 number is.2.0 (byte_below is.0 (behind_kind bytes is.0 3 is.1 are)) is.2.1))
+    (fixed FLOAT bytes is.0 (to_be_bytes w32 number) is.1
+    (be_bytes_4 is.0 number is.2.0 (byte_below is.0 (behind_kind bytes is.0 FLOAT is.1 are)) is.2.1))
 constant_law charset bytes (Utf8 text) are is =
-    let rest : AreBytes is.0 = behind_kind bytes is.0 4 is.1 are in
+    let rest : AreBytes is.0 = behind_kind bytes is.0 UTF8 is.1 are in
     let content : List ℕ = is.2.0 in
     let same = utf8_same content text is.2.2 in
     let sized_is : IsSized (sized (encode_utf8_all text)) content =
@@ -262,11 +264,11 @@ constant_law charset bytes (Utf8 text) are is =
     subst (λ (l : List ℕ). Written is.0 (sized l)) (sym same)
     (writes_sized.written is.0 content rest is.2.1) in (
       (sized (encode_utf8_all text), refl, (content, sized_is, is.2.2)),
-      written_behind 4 bytes (sized (encode_utf8_all text)) is.0 is.1 are written,
+      written_behind UTF8 bytes (sized (encode_utf8_all text)) is.0 is.1 are written,
     )
 constant_law charset bytes Empty are is = constant_same charset bytes Empty are is (sym is)
 constant_law charset bytes (Coded text) are is =
-    let rest : AreBytes is.0 = behind_kind bytes is.0 6 is.1 are in
+    let rest : AreBytes is.0 = behind_kind bytes is.0 CODED is.1 are in
     let content : List ℕ = is.2.0 in
     let same : content ≡ text = is.2.2.0 in
     let sized_is : IsSized (sized text) content =
@@ -276,7 +278,7 @@ constant_law charset bytes (Coded text) are is =
     subst (λ (l : List ℕ). Written is.0 (sized l)) same
     (writes_sized.written is.0 content rest is.2.1) in (
       (sized text, refl, (content, sized_is, is.2.2)),
-      written_behind 6 bytes (sized text) is.0 is.1 are written,
+      written_behind CODED bytes (sized text) is.0 is.1 are written,
     )
 
 constant_fits : (charset : ℕ) (bytes : List ℕ) (c : Constant) → AreBytes bytes
@@ -370,24 +372,24 @@ pair_law bytes one two are is =
 pragma_law : (bytes : List ℕ) (p : Pragma) → AreBytes bytes → IsPragma bytes p
     → IsPragma (pragma_spelling p) p × Written bytes (pragma_spelling p)
 pragma_law bytes (Domain text) are is =
-    let rest = behind_kind bytes is.0 0 is.1 are in (
+    let rest = behind_kind bytes is.0 DOMAIN is.1 are in (
       (mb_spelling text, refl, writes_number.is is.0 text rest is.2),
-      written_behind 0 bytes (mb_spelling text) is.0 is.1 are
+      written_behind DOMAIN bytes (mb_spelling text) is.0 is.1 are
           (writes_number.written is.0 text rest is.2),
     )
 pragma_law bytes (Path text) are is =
-    let rest = behind_kind bytes is.0 1 is.1 are in (
+    let rest = behind_kind bytes is.0 PATH is.1 are in (
       (mb_spelling text, refl, writes_number.is is.0 text rest is.2),
-      written_behind 1 bytes (mb_spelling text) is.0 is.1 are
+      written_behind PATH bytes (mb_spelling text) is.0 is.1 are
           (writes_number.written is.0 text rest is.2),
     )
 pragma_law bytes (Property name content) are is =
-    let pair = pair_law is.0 name content (behind_kind bytes is.0 2 is.1 are) is.2 in (
+    let pair = pair_law is.0 name content (behind_kind bytes is.0 PROPERTY is.1 are) is.2 in (
       (mb_spelling name ++ mb_spelling content, refl, pair.0),
-      written_behind 2 bytes (mb_spelling name ++ mb_spelling content) is.0 is.1 are pair.1,
+      written_behind PROPERTY bytes (mb_spelling name ++ mb_spelling content) is.0 is.1 are pair.1,
     )
 pragma_law bytes (Scheme name content scheme) are is =
-    let rest = behind_kind bytes is.0 3 is.1 are in
+    let rest = behind_kind bytes is.0 SCHEME is.1 are in
     let inner = is.2 in
     let front = front_of is.0 inner.front inner.back inner.split rest in
     let pair =
@@ -405,7 +407,7 @@ pragma_law bytes (Scheme name content scheme) are is =
           second = pair.0;
         },
       ),
-      written_behind 3 bytes again is.0 is.1 are
+      written_behind SCHEME bytes again is.0 is.1 are
           (written_both is.0 inner.front inner.back (mb_spelling name)
           (mb_spelling content ++ mb_spelling scheme) inner.split
           (writes_number.written inner.front name front inner.first) pair.1),

@@ -1,7 +1,8 @@
 -- What is read is a unit, each unit is read, and a fault is the first one from the left, both ways.
 use Rattle.std.proofs.Common.{◌≡◌, ◌≢◌, ℕ, suc, ◌-◌, ◌<◌, ◌≤◌, ◌^◌, Bool, true, false, cond}
 use Rattle.std.proofs.Common.{eqb, ltb, List, [], ◌∷◌, ◌++◌, length, get_or, Result, Ok, Err}
-use Rattle.std.proofs.Common.{refl, sym, ap, subst, ◌∙◌, inl, inr, arith}
+use Rattle.std.proofs.Common.{refl, sym, ap, subst, ◌∙◌, ◌⊎◌, inl, inr}
+use Rattle.std.proofs.Common.{arith}
 use Rattle.std.specs.List.{AllByRecursion}
 use Rattle.std.specs.Prelude.{IfOk, IfErr}
 use Rattle.std.proofs.lemmas.Bool.{eqb-true, eqb-false, ltb-true, ltb-false, lt-ltb, le-ltb}
@@ -13,12 +14,13 @@ use Rattle.wap_base.proofs.Choices.{chosen, bind_ok, bind_err, ok_same}
 use Rattle.wap_code.specs.declared.unit.Unit.{Unit}
 use Rattle.wap_unit.specs.declared.fault.UnitFault.{UnitFault}
 use Rattle.wap_unit.specs.declared.fault.UnitFault.TheVariants as fault
+use Rattle.wap_unit.specs.declared.reading.TheConstants.{GREATEST_VERSION}
 use Rattle.wap_unit.specs.Units.{IsHead, IsUnit}
 use Rattle.wap_unit.specs.Refusal.{IsRefused, no_version, other_version}
 use Rattle.wap_unit.specs.Refusal.{no_size, other_size, inside, behind}
 use Rattle.wap_unit.specs.inside.Steps.{byte_at, number_at}
 use Rattle.wap_unit.specs.inside.Reading.{body_at, ended, sized_body, unit_by, unit_at}
-use Rattle.wap_unit.proofs.Laws.{reads_byte, reads_number}
+use Rattle.wap_unit.proofs.Readers.{reads_byte, reads_number}
 use Rattle.wap_unit.proofs.Parts.{IsBodyOf, reads_body}
 
 abbrev Read : Type 0
@@ -34,7 +36,7 @@ first_byte end bytes v rest e =
     one.1 ∙ ap (λ (l : List ℕ). l ++ rest) one.2
 
 head_of : (bytes : List ℕ) (v : ℕ) (rest size body : List ℕ) (number : ℕ) → bytes ≡ v ∷ rest
-    → v ≤ 0x0F → rest ≡ size ++ body → IsMb size number → number ≡ length body → IsHead bytes v body
+    → v ≤ GREATEST_VERSION → rest ≡ size ++ body → IsMb size number → number ≡ length body → IsHead bytes v body
 head_of bytes v rest size body number first low split is same =
     record {
       size = size;
@@ -82,7 +84,7 @@ unit_takes bytes unit are e =
     let end : ℕ = length bytes in
     let a = bind_ok (byte_at end bytes) (unit_by end) unit e in
     let v : ℕ = a.0.0 in
-    elim (chosen (ltb 0x0F v) (Err (fault.Version 0)) (number_at end a.0.1 >>= sized_body end v)
+    elim (chosen (ltb GREATEST_VERSION v) (Err (fault.Version 0)) (number_at end a.0.1 >>= sized_body end v)
     (Ok unit) a.2) [
       | inl high ↦ absurd (cc high.1)
       | inr low ↦
@@ -102,10 +104,10 @@ unit_takes bytes unit are e =
 
 -- ---- each unit is read
 
-low_version : (v : ℕ) → v ≤ 0x0F → ltb 0x0F v ≡ false
-low_version v low = le-ltb 0x0F v low
+low_version : (v : ℕ) → v ≤ GREATEST_VERSION → ltb GREATEST_VERSION v ≡ false
+low_version v low = le-ltb GREATEST_VERSION v low
 
-number_read : (end v number : ℕ) (size body : List ℕ) → v ≤ 0x0F → IsMb size number
+number_read : (end v number : ℕ) (size body : List ℕ) → v ≤ GREATEST_VERSION → IsMb size number
     → unit_by end (v, size ++ body) ≡ sized_body end v (number, body)
 unfolding unit_by
 number_read end v number size body low is =
@@ -170,7 +172,7 @@ unit_stops bytes found e =
           let v : ℕ = b.0.0 in
           let rest : List ℕ = b.0.1 in
           let first = first_byte end bytes v rest b.1 in
-          elim (chosen (ltb 0x0F v) (Err (fault.Version 0))
+          elim (chosen (ltb GREATEST_VERSION v) (Err (fault.Version 0))
           (number_at end rest >>= sized_body end v) (Err found) b.2) [
             | inl high ↦ other_version v rest first (ltb-true _ _ high.0) (cc high.1)
             | inr low ↦ elim (bind_err (number_at end rest) (sized_body end v) found low.1) [
@@ -205,7 +207,7 @@ unit_fails bytes found (other_version v rest first high is) =
     let end : ℕ = length bytes in
     ap (λ (l : List ℕ). byte_at end l >>= unit_by end) first
     ∙ ap (λ (b : Bool). cond b (Err (fault.Version 0)) (number_at end rest >>= sized_body end v))
-    (lt-ltb 0x0F v high)
+    (lt-ltb GREATEST_VERSION v high)
     ∙ ap Err (sym is)
 unit_fails bytes found (no_size v rest first low refuses) =
     let end : ℕ = length bytes in
@@ -234,6 +236,22 @@ unit_fails bytes found (behind unit body front rest head split is more same) =
     ∙ ap (λ (b : Bool). cond b (Err (fault.Size (end - length rest))) (Ok unit))
     (lt-ltb 0 (length rest) more)
     ∙ ap Err (sym same)
+
+-- ---- both together
+
+-- bytes are a unit, or have a fault
+pub read_or_refused : (bytes : List ℕ) → AreBytes bytes
+    → ((unit : Unit) × IsUnit bytes unit) ⊎ ((found : UnitFault) × IsRefused bytes found)
+read_or_refused bytes are = by_result (unit_at bytes) refl
+  where
+    by_result : (r : Result Unit UnitFault) → unit_at bytes ≡ r
+        → ((unit : Unit) × IsUnit bytes unit) ⊎ ((found : UnitFault) × IsRefused bytes found)
+    by_result (Ok unit) is = inl (unit, unit_takes bytes unit are is)
+    by_result (Err found) is = inr (found, unit_stops bytes found is)
+
+pub err_same : (one two : UnitFault) → ◌≡◌ {A = Result Unit UnitFault} (Err one) (Err two)
+    → one ≡ two
+err_same one two e = cc e
 
 -- ---- for a call
 

@@ -1,5 +1,5 @@
 //! Reading a unit from its bytes.
-ghost use Rattle.std.specs.Prelude.{◌≡◌, ◌≢◌, ℕ, ◌<◌, ◌^◌, List, length, IfOk, IfErr, Ok, Err};
+ghost use Rattle.std.specs.Prelude.{◌≢◌, ◌<◌, ◌^◌, length, IfOk, IfErr, Ok, Err};
 ghost use Rattle.wap_base.specs.Outcome.{Meets};
 ghost use Rattle.wap_code.specs.declared.unit.Unit.{Unit};
 ghost use Rattle.wap_unit.specs.declared.fault.UnitFault.{UnitFault};
@@ -82,8 +82,3 @@ fn read_body(
         rest,
     ))
 }
-
-/// No bytes have two units. It does nothing, and carries the law alone.
-pub fn no_bytes_have_two_units()
-    ensures { (bytes : List ℕ) (one two : Unit) → IsUnit bytes one → IsUnit bytes two → one ≡ two }
-{}
