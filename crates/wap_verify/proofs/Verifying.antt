@@ -46,7 +46,7 @@ unsound unit index code found sound (item places at runs within is) =
     let stands = stands_at unit index code 0 split.places (length code.code) at split.runs among in
     cc (sym is ∙ stands.1)
 unsound unit index code found sound
-    (target places front at step whole runs within aimed is misses same) =
+    (target places front at whole runs within aimed misses same) =
     let split = sound.split in
     let places_same : split.places ≡ places =
     runs_same unit index code 0 split.places places split.runs whole in

@@ -170,10 +170,10 @@ pub missed : (unit : Unit) (index : ℕ) (function : Code) (marks : List Bool) (
     → Aimed unit index function places at) → at < length function.code
     → step_at unit index function at ≡ Ok step
     → is_marked_step marks (length function.code) step ≡ false
-    → IsFunctionFault unit index function (fault.Target index step.jump_at)
+    → IsFunctionFault unit index function (fault.Target index at)
 missed unit index function marks at step m so_far within is misses =
     let before = so_far m.places m.runs in
-    target m.places before.front at step m.runs before.runs within before.aimed is
+    target m.places before.front at m.runs before.runs within before.aimed
     (aimed_is unit index function marks at step m is ∙ misses) refl
 
 pub all_aimed : (unit : Unit) (index : ℕ) (function : Code) (marks : List Bool) (at : ℕ)

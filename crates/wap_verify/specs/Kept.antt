@@ -15,13 +15,15 @@ use Rattle.wap_base.specs.Charsets.{charset_of, is_text, characters_of}
 use Rattle.wap_unit.specs.Spelling.{HasSpelling}
 use Rattle.wap_verify.specs.Sound.{IsRoom, AreSound, IsVerified}
 
--- the first entry with a name
+-- an entry with its name first
 abbrev pub by_name : ℕ × List ℕ → List ℕ × ℕ
 by_name entry = (entry.1, entry.0)
 
+-- the function of the first entry with a name
 abbrev pub names_first : List (ℕ × List ℕ) → List ℕ → Option ℕ
 names_first names name = lookup (λ other. is_same_text other name) (map by_name names)
 
+-- the function that the unit gives this name
 abbrev pub function_named : Unit → List ℕ → Option ℕ
 function_named unit name = names_first unit.names name
 
@@ -35,11 +37,12 @@ coded_text set (Utf8 text) = None
 coded_text set Empty = None
 coded_text set (Coded bytes) = option_map (λ known. characters_of known bytes) set
 
--- its bytes are a text
+-- the bytes of a coded string are a text of the character set, where that is one that is read
 abbrev pub IsReadableText : Option Charset → List ℕ → Type 0
 IsReadableText None bytes = ⊤
 IsReadableText (Some set) bytes = is_text set bytes ≡ true
 
+-- the bytes of a constant that is a coded string are a text
 abbrev pub IsReadable : Option Charset → Constant → Type 0
 IsReadable set (Int8 number) = ⊤
 IsReadable set (Int16 number) = ⊤
@@ -49,7 +52,7 @@ IsReadable set (Utf8 text) = ⊤
 IsReadable set Empty = ⊤
 IsReadable set (Coded bytes) = IsReadableText set bytes
 
--- of the functions before this index
+-- the functions before this index are sound, and for each there is room
 pub record AreRooms (unit : Unit) (count : ℕ) (rooms : List ℕ) : Type 0 where
   pub long : length rooms ≡ count
   pub sound : AreSound unit count
@@ -57,6 +60,7 @@ pub record AreRooms (unit : Unit) (count : ℕ) (rooms : List ℕ) : Type 0 wher
       → slice_get unit.functions index ≡ Some function
       → IsRoom unit index function (slice_index rooms index)
 
+-- the unit may be run; its coded strings have these texts, and its functions these rooms
 pub record IsKept (unit : Unit) (texts : List (Option (List ℕ))) (rooms : List ℕ) : Type 0 where
   pub spelled : HasSpelling unit
   pub verified : IsVerified unit

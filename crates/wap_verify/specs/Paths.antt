@@ -33,6 +33,7 @@ IsPath unit index function (stand ∷ []) = (stand.0 ≡ 0) × (stand.1 ≡ 0)
 IsPath unit index function (there ∷ here ∷ before) =
     Leads unit index function here there × IsPath unit index function (here ∷ before)
 
+-- some path ends at this place with so many values
 pub record Reaches (unit : Unit) (index : ℕ) (function : Code) (at values : ℕ) : Type 0 where
   pub before : List Stand
   pub path : IsPath unit index function ((at, values) ∷ before)

@@ -30,6 +30,7 @@ pub record IsReady (unit : Unit) (index : ℕ) (function : Code) (at values : �
   pub stays : step.strays ≡ false
   pub ways : (way : Way) → HasWay step way → way.to ≤ length function.code
 
+-- wherever a function of a verified unit is reached before its end, the instruction there is ready
 pub record NeverStuck : Type 0 where
   pub ready : (unit : Unit) (index : ℕ) (function : Code) (at values : ℕ) → IsVerified unit
       → slice_get unit.functions index ≡ Some function

@@ -27,6 +27,8 @@ abbrev pub leads_within : List ℕ → ℕ → Option Way → Bool
 leads_within places end None = true
 leads_within places end (Some way) = way.to == end || list_any (λ place. place == way.to) places
 
+-- what was read is an instruction, and its jump, if it has one, leads to one of these places or to
+-- the end
 abbrev pub has_target : List ℕ → ℕ → Result Step VerifyFault → Bool
 has_target places end (Ok step) = not step.strays && leads_within places end step.jump
 has_target places end (Err fault) = false

@@ -57,9 +57,11 @@ operand_fault unit index function at Address instr =
     if is_string unit instr.a && is_string unit instr.b then None
     else Some (fault.Constant index at)
 
+-- a way to a place, on which so many values are given
 abbrev pub way_to : ℕ → ℕ → Option Way
 way_to to gives = Some (record { to = to; gives = gives })
 
+-- a way to the place after it, where some number of values is given there
 abbrev pub way_behind : ℕ → Option ℕ → Option Way
 way_behind next None = None
 way_behind next (Some gives) = way_to next gives
@@ -75,7 +77,6 @@ step_of On at instr takes gives = record {
   next = instr.next;
   on = Some gives;
   jump = None;
-  jump_at = at;
   strays = false;
 }
 step_of Forward at instr takes gives =
@@ -84,7 +85,6 @@ step_of Forward at instr takes gives =
       next = instr.next;
       on = None;
       jump = way_to (instr.next + instr.a) gives;
-      jump_at = at;
       strays = false;
     }
 step_of Backward at instr takes gives =
@@ -93,7 +93,6 @@ step_of Backward at instr takes gives =
       next = instr.next;
       on = None;
       jump = way_to (at - instr.a) gives;
-      jump_at = at;
       strays = nat_lt at instr.a;
     }
 step_of ForwardOrOn at instr takes gives =
@@ -102,7 +101,6 @@ step_of ForwardOrOn at instr takes gives =
       next = instr.next;
       on = Some gives;
       jump = way_to (instr.next + instr.a) gives;
-      jump_at = at;
       strays = false;
     }
 step_of BackwardOrOn at instr takes gives =
@@ -111,7 +109,6 @@ step_of BackwardOrOn at instr takes gives =
       next = instr.next;
       on = Some gives;
       jump = way_to (at - instr.a) gives;
-      jump_at = at;
       strays = nat_lt at instr.a;
     }
 step_of Pair at instr takes gives = record {
@@ -119,7 +116,6 @@ step_of Pair at instr takes gives = record {
   next = instr.next;
   on = None;
   jump = None;
-  jump_at = at;
   strays = false;
 }
 step_of Leave at instr takes gives = record {
@@ -127,21 +123,20 @@ step_of Leave at instr takes gives = record {
   next = instr.next;
   on = None;
   jump = None;
-  jump_at = at;
   strays = false;
 }
 
 -- a short-circuit and its jump are one: it goes on after the jump with none, or jumps with one
-abbrev pub pair : ℕ → ℕ → Instr → Step
-pair takes at jump = record {
+abbrev pub pair : ℕ → Instr → Step
+pair takes jump = record {
   takes = takes;
   next = jump.next;
   on = Some 0;
   jump = way_to (jump.next + jump.a) 1;
-  jump_at = at;
   strays = false;
 }
 
+-- it goes on, or jumps forward
 abbrev pub is_conditional_forward : After → Bool
 is_conditional_forward On = false
 is_conditional_forward Forward = false
@@ -151,24 +146,27 @@ is_conditional_forward BackwardOrOn = false
 is_conditional_forward Pair = false
 is_conditional_forward Leave = false
 
--- the jump of this row after a short-circuit
-abbrev pub jump_read : ℕ → List ℕ → ℕ → ℕ → Result Instr InstrFault → Result Step VerifyFault
-jump_read index code next takes (Ok jump) = Ok (pair takes next jump)
-jump_read index code next takes (Err short) = Err (fault.Operand index next)
+-- a short-circuit and the jump that was read after it
+abbrev pub jump_read : ℕ → ℕ → ℕ → Result Instr InstrFault → Result Step VerifyFault
+jump_read index next takes (Ok jump) = Ok (pair takes jump)
+jump_read index next takes (Err short) = Err (fault.Operand index next)
 
+-- a short-circuit and what has this row after it, which has to be a conditional jump forward
 abbrev pub jump_by : ℕ → List ℕ → ℕ → ℕ → ℕ → Option Row → Result Step VerifyFault
 jump_by index code at next takes None = Err (fault.LoneShort index at)
 jump_by index code at next takes (Some row) =
     if is_conditional_forward row.after
-    then jump_read index code next takes (read_row row code next)
+    then jump_read index next takes (read_row row code next)
     else Err (fault.LoneShort index at)
 
+-- a short-circuit at a place, and the jump that has to stand at the next
 unfoldable pub pair_at : ℕ → List ℕ → ℕ → ℕ → ℕ → Result Step VerifyFault
 pair_at index code at next takes =
     if nat_lt next (length code)
     then jump_by index code at next takes (row_of (slice_index code next))
     else Err (fault.LoneShort index at)
 
+-- it is one with the jump after it
 abbrev pub is_pair : After → Bool
 is_pair On = false
 is_pair Forward = false
@@ -185,11 +183,13 @@ fine_at unit index function at row instr =
     if is_pair row.after then pair_at index function.code at instr.next takes
     else Ok (step_of row.after at instr takes row.gives)
 
+-- an instruction whose operands were looked at, with the fault that was found in them
 abbrev pub checked : Unit → ℕ → Code → ℕ → Row → Instr → Option VerifyFault
     → Result Step VerifyFault
 checked unit index function at row instr (Some found) = Err found
 checked unit index function at row instr None = fine_at unit index function at row instr
 
+-- what was read of an instruction of this row
 abbrev pub instr_read : Unit → ℕ → Code → ℕ → Row → Result Instr InstrFault
     → Result Step VerifyFault
 instr_read unit index function at row (Ok instr) =
@@ -197,6 +197,7 @@ instr_read unit index function at row (Ok instr) =
     (operand_fault unit index function at row.operands instr)
 instr_read unit index function at row (Err short) = Err (fault.Operand index at)
 
+-- what stands at a place whose byte is a code of this row
 abbrev pub step_by : Unit → ℕ → Code → ℕ → Option Row → Result Step VerifyFault
 step_by unit index function at None = Err (fault.Opcode index at)
 step_by unit index function at (Some row) =

@@ -31,8 +31,6 @@ pub struct Step {
     pub on: Option<u8>,
     /// To the target of its jump.
     pub jump: Option<Way>,
-    /// The place of the jump, or its own.
-    pub jump_at: usize,
     /// Whether the jump leads to before the code; its way means nothing then.
     pub strays: bool,
 }
@@ -120,7 +118,6 @@ fn step_of(after: After, at: usize, instr: Instr, takes: u32, gives: u8) -> Step
         next: instr.next,
         on: None,
         jump: None,
-        jump_at: at,
         strays: false,
     };
     let forward = Step {
@@ -154,17 +151,16 @@ pub(crate) fn way_on(step: Step) -> Option<Way>
     }
 }
 
-/// A short-circuit and its jump, which is at this place.
-fn pair(takes: u32, at: usize, jump: Instr) -> Step
+/// A short-circuit and its jump, as one.
+fn pair(takes: u32, jump: Instr) -> Step
     requires { jump.next + jump.a < 2 ^ 64 }
-    ensures { result ≡ pair takes at jump }
+    ensures { result ≡ pair takes jump }
 {
     Step {
         takes,
         next: jump.next,
         on: Some(0),
         jump: way_to(jump.next + jump.a as usize, 1),
-        jump_at: at,
         strays: false,
     }
 }
@@ -204,7 +200,7 @@ fn pair_at(
         return Err(VerifyFault::LoneShort { function, at });
     }
     match read_row(row, code, next) {
-        Ok(jump) => Ok(pair(takes, next, jump)),
+        Ok(jump) => Ok(pair(takes, jump)),
         Err(_) => Err(VerifyFault::Operand { function, at: next }),
     }
 }

@@ -27,7 +27,7 @@ pub(crate) fn check_targets(
         if !is_marked_step(marks, end, step) {
             return Err(VerifyFault::Target {
                 function: index,
-                at: step.jump_at,
+                at,
             });
         }
         at = step.next;
