@@ -70,71 +70,37 @@ way_behind next (Some gives) = way_to next gives
 abbrev pub way_on : Step → Option Way
 way_on step = way_behind step.next step.on
 
--- where it goes on after an instruction that takes and gives so many values
+-- the way to as many bytes after an instruction as its operand says
+abbrev pub forward : Instr → ℕ → Option Way
+forward instr gives = way_to (instr.next + instr.a) gives
+
+-- the way to as many bytes before its place
+abbrev pub backward : ℕ → Instr → ℕ → Option Way
+backward at instr gives = way_to (at - instr.a) gives
+
+-- so many values are taken; the next place, and how many are given on the way there, if it goes on;
+-- its jump, and whether that leads to before the code
+abbrev pub step_with : ℕ → ℕ → Option ℕ → Option Way → Bool → Step
+step_with takes next on jump strays =
+    record { takes = takes; next = next; on = on; jump = jump; strays = strays }
+
+-- where it goes on after an instruction at a place that takes and gives so many values
 abbrev pub step_of : After → ℕ → Instr → ℕ → ℕ → Step
-step_of On at instr takes gives = record {
-  takes = takes;
-  next = instr.next;
-  on = Some gives;
-  jump = None;
-  strays = false;
-}
+step_of On at instr takes gives = step_with takes instr.next (Some gives) None false
 step_of Forward at instr takes gives =
-    record {
-      takes = takes;
-      next = instr.next;
-      on = None;
-      jump = way_to (instr.next + instr.a) gives;
-      strays = false;
-    }
+    step_with takes instr.next None (forward instr gives) false
 step_of Backward at instr takes gives =
-    record {
-      takes = takes;
-      next = instr.next;
-      on = None;
-      jump = way_to (at - instr.a) gives;
-      strays = nat_lt at instr.a;
-    }
+    step_with takes instr.next None (backward at instr gives) (nat_lt at instr.a)
 step_of ForwardOrOn at instr takes gives =
-    record {
-      takes = takes;
-      next = instr.next;
-      on = Some gives;
-      jump = way_to (instr.next + instr.a) gives;
-      strays = false;
-    }
+    step_with takes instr.next (Some gives) (forward instr gives) false
 step_of BackwardOrOn at instr takes gives =
-    record {
-      takes = takes;
-      next = instr.next;
-      on = Some gives;
-      jump = way_to (at - instr.a) gives;
-      strays = nat_lt at instr.a;
-    }
-step_of Pair at instr takes gives = record {
-  takes = takes;
-  next = instr.next;
-  on = None;
-  jump = None;
-  strays = false;
-}
-step_of Leave at instr takes gives = record {
-  takes = takes;
-  next = instr.next;
-  on = None;
-  jump = None;
-  strays = false;
-}
+    step_with takes instr.next (Some gives) (backward at instr gives) (nat_lt at instr.a)
+step_of Pair at instr takes gives = step_with takes instr.next None None false
+step_of Leave at instr takes gives = step_with takes instr.next None None false
 
 -- a short-circuit and its jump are one: it goes on after the jump with none, or jumps with one
 abbrev pub pair : ℕ → Instr → Step
-pair takes jump = record {
-  takes = takes;
-  next = jump.next;
-  on = Some 0;
-  jump = way_to (jump.next + jump.a) 1;
-  strays = false;
-}
+pair takes jump = step_with takes jump.next (Some 0) (forward jump 1) false
 
 -- it goes on, or jumps forward
 abbrev pub is_conditional_forward : After → Bool
