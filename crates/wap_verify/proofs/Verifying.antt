@@ -38,6 +38,7 @@ use Rattle.wap_verify.proofs.Working.{stays_reached, ways_reached}
 
 -- ---- no unit that may be run has a fault
 
+-- a function that is sound has no fault
 unsound : (unit : Unit) (index : ℕ) (code : Code) (found : VerifyFault) → IsSound unit index code
     → IsFunctionFault unit index code found → ⊥
 unsound unit index code found sound (item places at runs within is) =
@@ -61,6 +62,7 @@ unsound unit index code found sound (underflow at values step split within reach
 unsound unit index code found sound (depths at some other split within first second apart same) =
     apart (sound.one at some other within first second)
 
+-- a unit that may be run has no fault
 pub unverified : (unit : Unit) (found : VerifyFault) → IsVerified unit → IsFault unit found → ⊥
 unverified unit found verified (pragma index is same) = cc (sym is ∙ verified.pragmas)
 unverified unit found verified (function index code pragmas is earlier fault) =
@@ -88,10 +90,12 @@ no_memory fault.NoMemory never = refl
 
 -- ---- room for each function
 
+-- an index below the next count is the last or one before it
 last_or_before : (i count : ℕ) → i < count + 1 → (i ≡ count) ⊎ (i < count)
 last_or_before i count within =
     elim (cases_lt i count) [ inl less ↦ inr less | inr more ↦ inl (omega arith) ]
 
+-- room for one function more
 pub rooms_push : (unit : Unit) (count : ℕ) (rooms : List ℕ) (code : Code) (room : ℕ)
     → AreRooms unit count rooms → slice_get unit.functions count ≡ Some code
     → IsSound unit count code → IsRoom unit count code room
@@ -128,6 +132,7 @@ rooms_push unit count rooms code room so_far is sound fits =
 
 -- ---- texts
 
+-- the coded string of a constant that was read is a text
 readable : (charset : ℕ) (bytes : List ℕ) (c : Constant) → IsConstant charset bytes c
     → IsReadable (charset_of charset) c
 readable charset bytes (Int8 number) is = tt
@@ -141,12 +146,14 @@ readable charset bytes (Coded text) is =
     subst (λ (o : Option Charset). IsReadableText o text) (sym coded.known)
     (subst (λ (l : List ℕ). is_text coded.set l ≡ true) is.2.2.0 coded.fits)
 
+-- so are those of a pool
 row_readable : (charset : ℕ) (bytes : List ℕ) (cs : List Constant)
     → IsRow (IsConstant charset) bytes cs → AllByRecursion (IsReadable (charset_of charset)) cs
 row_readable charset bytes [] row = tt
 row_readable charset bytes (c ∷ cs) row =
     (readable charset row.front c row.first, row_readable charset row.back cs row.second)
 
+-- and those of a unit
 pub all_readable : (bytes : List ℕ) (unit : Unit) → IsUnit bytes unit
     → AllByRecursion (IsReadable (charset_of unit.charset)) unit.constants
 all_readable bytes unit is =
@@ -160,6 +167,7 @@ slice_get-map f [] i = refl
 slice_get-map f (x ∷ xs) zero = refl
 slice_get-map f (x ∷ xs) (suc i) = slice_get-map f xs i
 
+-- the text that is kept at the index of a coded string
 kept_at : (unit : Unit) (texts : List (Option (List ℕ))) (index : ℕ) (bytes : List ℕ)
     → texts ≡ map (coded_text (charset_of unit.charset)) unit.constants
     → slice_get unit.constants index ≡ Some (Coded bytes)
@@ -169,6 +177,7 @@ kept_at unit texts index bytes are is =
     ∙ slice_get-map (coded_text (charset_of unit.charset)) unit.constants index
     ∙ ap (option_map (coded_text (charset_of unit.charset))) is
 
+-- the text that is kept there is the string
 pub string_kept : (unit : Unit) (texts : List (Option (List ℕ))) (index : ℕ) (bytes : List ℕ)
     (text : Option (List ℕ)) → texts ≡ map (coded_text (charset_of unit.charset)) unit.constants
     → Some (Coded bytes) ≡ slice_get unit.constants index → Some text ≡ slice_get texts index
@@ -178,6 +187,7 @@ string_kept unit texts index bytes text are is there =
     (there ∙ kept_at unit texts index bytes are (sym is))
     ∙ ap (option_and_then (string_of unit.charset)) is
 
+-- there is a text for each constant
 pub string_missed : (unit : Unit) (texts : List (Option (List ℕ))) (index : ℕ) (bytes : List ℕ)
     → texts ≡ map (coded_text (charset_of unit.charset)) unit.constants
     → Some (Coded bytes) ≡ slice_get unit.constants index → None ≡ slice_get texts index → ⊥
@@ -186,6 +196,7 @@ string_missed unit texts index bytes are is there =
 
 -- ---- what is ready
 
+-- what was read at a place
 record Read (unit : Unit) (index : ℕ) (code : Code) (at : ℕ) : Type 0 where
   row : Row
   row_is : row_of (slice_index code.code at) ≡ Some row
@@ -194,12 +205,14 @@ record Read (unit : Unit) (index : ℕ) (code : Code) (at : ℕ) : Type 0 where
   operands : operand_fault unit index code at row.operands instr ≡ None
 
 module _ (unit : Unit) (index : ℕ) (code : Code) (at : ℕ) (step : Step) where
+  -- where a step stands, no operand is at fault
   by_operands : (row : Row) (instr : Instr) (found : Option VerifyFault)
       → operand_fault unit index code at row.operands instr ≡ found
       → checked unit index code at row instr found ≡ Ok step → found ≡ None
   by_operands row instr (Some bad) is e = absurd (cc e)
   by_operands row instr None is e = refl
 
+  -- where a step stands, the instruction is whole
   by_instr : (row : Row) (r : Result Instr InstrFault)
       → row_of (slice_index code.code at) ≡ Some row → read_row row code.code at ≡ r
       → instr_read unit index code at row r ≡ Ok step → Read unit index code at
@@ -214,15 +227,18 @@ module _ (unit : Unit) (index : ℕ) (code : Code) (at : ℕ) (step : Step) wher
             by_operands row instr (operand_fault unit index code at row.operands instr) refl e;
       }
 
+  -- where a step stands, the byte is the code of a row
   by_row : (o : Option Row) → row_of (slice_index code.code at) ≡ o
       → step_by unit index code at o ≡ Ok step → Read unit index code at
   by_row None is e = absurd (cc e)
   by_row (Some row) is e = by_instr row (read_row row code.code at) is refl e
 
+  -- where a step stands, all that was read
   read_of : step_at unit index code at ≡ Ok step → Read unit index code at
   unfolding step_at
   read_of e = by_row (row_of (slice_index code.code at)) refl e
 
+-- where a function is reached, its instruction is ready
 pub never_stuck : NeverStuck
 never_stuck = record {
   ready = λ unit index code at values verified is reached within.

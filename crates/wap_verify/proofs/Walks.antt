@@ -52,6 +52,7 @@ module _ (unit : Unit) (index : ℕ) (function : Code) where
       ap (λ (p : ℕ). p ∷ some) (one.0 ∙ sym two.0)
       ∙ ap (λ (l : List ℕ). place' ∷ l) (runs_same two.2.0.next some other next_same two.2.1.1)
 
+-- one place more is marked
 any_push : (places : List ℕ) (at i : ℕ)
     → is_place (places ++ at ∷ []) i ≡ (is_place places i || eqb at i)
 any_push [] at i = or_false (eqb at i)
@@ -67,20 +68,25 @@ any_push (place ∷ places) at i =
     or_assoc true b c = refl
     or_assoc false b c = refl
 
+-- what is true on the right is true
 or_true : (b : Bool) → (b || true) ≡ true
 or_true true = refl
 or_true false = refl
 
+-- what is false on the right changes nothing
 or_none : (b : Bool) → (b || false) ≡ b
 or_none true = refl
 or_none false = refl
 
+-- a number equals itself
 eqb-same : (n : ℕ) → eqb n n ≡ true
 eqb-same n = grind (arith, nat_tests)
 
+-- numbers that differ are told apart
 eqb-apart : (m n : ℕ) → m ≢ n → eqb m n ≡ false
 eqb-apart m n apart = grind (arith, nat_tests)
 
+-- the marks after one instruction more
 pub marks_push : (unit : Unit) (index : ℕ) (function : Code) (at : ℕ) (marks : List Bool)
     (step : Step) → Marks unit index function at marks → at < length function.code
     → step_at unit index function at ≡ Ok step
@@ -113,12 +119,14 @@ marks_push unit index function at marks step so_far within is onward =
 
 -- ---- faults at an exit
 
+-- a fault that is handed on
 pub exit : {X : Type 0} (P : VerifyFault → Type 0) (result : Result X VerifyFault)
     (fault : VerifyFault) → result ≡ Err fault → P fault → IfErr result P
 exit {X} P result fault is holds = subst (λ (r : Result X VerifyFault). IfErr r P) (sym is) holds
 
 -- ---- targets
 
+-- one more passes the test
 all_push : (test : ℕ → Bool) (xs : List ℕ) (x : ℕ) → list_all test xs ≡ true → test x ≡ true
     → list_all test (xs ++ x ∷ []) ≡ true
 all_push test [] x all one = ap (λ (b : Bool). b && true) one
@@ -126,6 +134,7 @@ all_push test (y ∷ xs) x all one =
     let parts = and_parts (test y) (list_all test xs) all in
     ap (λ (b : Bool). b && list_all test (xs ++ x ∷ [])) parts.0 ∙ all_push test xs x parts.1 one
 
+-- marks and places say the same of a way
 leads_same : (places : List ℕ) (marks : List Bool) (end : ℕ) (way : Option Way)
     → ((i : ℕ) → get_or marks i false ≡ is_place places i)
     → leads_to_mark marks end way ≡ leads_within places end way
@@ -142,6 +151,7 @@ aimed_is unit index function marks at step m is =
     ap (has_target m.places (length function.code)) is ∙ ap (λ (b : Bool). not step.strays && b)
     (sym (leads_same m.places marks (length function.code) step.jump m.marked))
 
+-- one jump more has its target
 pub aimed_push : (unit : Unit) (index : ℕ) (function : Code) (marks : List Bool) (at : ℕ)
     (step : Step) (m : Marks unit index function (length function.code) marks)
     → ((places : List ℕ) → Runs unit index function 0 places (length function.code)
@@ -164,6 +174,7 @@ aimed_push unit index function marks at step m so_far within is aimed onward pla
       within = onward.within;
     }
 
+-- a jump without a target is the first
 pub missed : (unit : Unit) (index : ℕ) (function : Code) (marks : List Bool) (at : ℕ) (step : Step)
     (m : Marks unit index function (length function.code) marks)
     → ((places : List ℕ) → Runs unit index function 0 places (length function.code)
@@ -176,6 +187,7 @@ missed unit index function marks at step m so_far within is misses =
     target m.places before.front at m.runs before.runs within before.aimed
     (aimed_is unit index function marks at step m is ∙ misses) refl
 
+-- at the end each jump has its target
 pub all_aimed : (unit : Unit) (index : ℕ) (function : Code) (marks : List Bool) (at : ℕ)
     (m : Marks unit index function (length function.code) marks)
     → ((places : List ℕ) → Runs unit index function 0 places (length function.code)

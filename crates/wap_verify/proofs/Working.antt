@@ -27,12 +27,14 @@ use Rattle.wap_verify.specs.inside.Kept.{IsConflictOn}
 
 -- ---- lists
 
+-- what was set is there
 get_set_same : {A : Type 0} (xs : List A) (i : ℕ) (x : A) → i < length xs
     → slice_get (set xs i x) i ≡ Some x
 get_set_same [] i x within = absurd (omega arith)
 get_set_same (y ∷ xs) zero x within = refl
 get_set_same (y ∷ xs) (suc i) x within = get_set_same xs i x (omega arith)
 
+-- everything else stays
 get_set_other : {A : Type 0} (xs : List A) (i j : ℕ) (x : A) → j ≢ i
     → slice_get (set xs i x) j ≡ slice_get xs j
 get_set_other [] i j x apart = refl
@@ -41,6 +43,7 @@ get_set_other (y ∷ xs) zero (suc j) x apart = refl
 get_set_other (y ∷ xs) (suc i) zero x apart = refl
 get_set_other (y ∷ xs) (suc i) (suc j) x apart = get_set_other xs i j x (λ e. apart (ap suc e))
 
+-- a place that gets a number is one less without
 unseen-set : (xs : List (Option ℕ)) (i values : ℕ) → slice_get xs i ≡ Some None
     → 1 + unseen (set xs i (Some values)) ≡ unseen xs
 unseen-set [] i values e = absurd cc
@@ -49,15 +52,18 @@ unseen-set (Some other ∷ xs) zero values e = absurd cc
 unseen-set (None ∷ xs) (suc i) values e = ap (λ (n : ℕ). 1 + n) (unseen-set xs i values e)
 unseen-set (Some other ∷ xs) (suc i) values e = unseen-set xs i values e
 
+-- what is in a list stays in it
 among_push : {A : Type 0} (x y : A) (xs : List A) → Among x xs → Among x (xs ++ y ∷ [])
 among_push x y [] among = absurd among
 among_push x y (z ∷ xs) (inl same) = inl same
 among_push x y (z ∷ xs) (inr later) = inr (among_push x y xs later)
 
+-- what was added is in it
 among_last : {A : Type 0} (y : A) (xs : List A) → Among y (xs ++ y ∷ [])
 among_last y [] = inl refl
 among_last y (z ∷ xs) = inr (among_last y xs)
 
+-- what is in a list is before its last, or is its last
 pub among_pop : {A : Type 0} (x y : A) (xs : List A) → Among x (xs ++ y ∷ []) → Among x xs ⊎ (x ≡ y)
 among_pop x y [] (inl same) = inr same
 among_pop x y [] (inr none) = absurd none
@@ -65,21 +71,26 @@ among_pop x y (z ∷ xs) (inl same) = inl (inl same)
 among_pop x y (z ∷ xs) (inr later) =
     elim (among_pop x y xs later) [ inl before ↦ inl (inr before) | inr last ↦ inr last ]
 
+-- a place of the code that has a number
 abbrev kept : ℕ → Option (Option ℕ)
 kept values = Some (Some values)
 
+-- it has one number
 kept_same : (m n : ℕ) → kept m ≡ kept n → m ≡ n
 kept_same m n e = some_same m n (some_same (Some m) (Some n) e)
 
+-- the second of two is enough
 or_right : (a b : Bool) → b ≡ true → (a || b) ≡ true
 or_right true b is = refl
 or_right false b is = is
 
+-- a number equals itself
 eqb-same : (n : ℕ) → eqb n n ≡ true
 eqb-same n = grind (arith, nat_tests)
 
 -- ---- each place that is reached has an instruction
 
+-- what all places pass, one of them passes
 pub is_here : (places : List ℕ) (at : ℕ) → is_place places at ≡ true
     → (test : ℕ → Bool) → list_all test places ≡ true → test at ≡ true
 is_here [] at among test all = absurd (cc among)
@@ -122,6 +133,7 @@ module _ (unit : Unit) (index : ℕ) (function : Code) where
         (sym (ap (λ (b : Bool). b || is_place places at) other) ∙ among)
   ]
 
+  -- at each place an instruction stands
   pub stands_at : (from : ℕ) (places : List ℕ) (end at : ℕ)
       → Runs unit index function from places end → is_place places at ≡ true
       → (step : Step) × (step_at unit index function at ≡ Ok step)
@@ -136,6 +148,7 @@ module _ (unit : Unit) (index : ℕ) (function : Code) where
         (sym (ap (λ (b : Bool). b || is_place places at) other) ∙ among)
   ]
 
+  -- code runs from its end, or from one of its places
   runs_end : (from : ℕ) (places : List ℕ) (end : ℕ) → Runs unit index function from places end
       → end ≤ length function.code → (from ≡ end) ⊎ (is_place places from ≡ true)
   runs_end from [] end runs within = inl runs
@@ -147,11 +160,13 @@ module _ (unit : Unit) (index : ℕ) (function : Code) where
   abbrev IsPlaced : List ℕ → ℕ → Type 0
   IsPlaced places at = (at ≡ length function.code) ⊎ (is_place places at ≡ true)
 
+  -- the way on leads to the next place
   behind : (next : ℕ) (on : Option ℕ) (way : Way) → way_behind next on ≡ Some way → way.to ≡ next
   behind next None way is = absurd (cc is)
   behind next (Some gives) way is =
       ap (λ (w : Way). w.to) (sym (some_same (record { to = next; gives = gives }) way is))
 
+  -- what follows a place is the end or a place
   after_place : (from : ℕ) (places : List ℕ) (at : ℕ) (step : Step)
       → Runs unit index function from places (length function.code) → is_place places at ≡ true
       → step_at unit index function at ≡ Ok step → IsPlaced places step.next
@@ -176,6 +191,7 @@ module _ (unit : Unit) (index : ℕ) (function : Code) where
         ]
   ]
 
+  -- a jump leads to the end or to a place
   jump_place : (places : List ℕ) (at : ℕ) (step : Step) (way : Way)
       → is_aimed unit index function places at ≡ true → step_at unit index function at ≡ Ok step
       → step.jump ≡ Some way → IsPlaced places way.to
@@ -192,6 +208,7 @@ module _ (unit : Unit) (index : ℕ) (function : Code) where
         | inr other ↦ inr (sym (ap (λ (b : Bool). b || is_place places way.to) other) ∙ within)
       ]
 
+  -- each path ends at the end or at a place
   reached_place : (split : IsSplit unit index function) (before : List Stand) (at values : ℕ)
       → IsPath unit index function ((at, values) ∷ before) → IsPlaced split.places at
   reached_place split [] at values path =
@@ -217,6 +234,7 @@ module _ (unit : Unit) (index : ℕ) (function : Code) where
             (is_aimed unit index function split.places) split.aimed) leads.stands jump
       ])
 
+  -- the end and all places are within the code
   placed_within : (split : IsSplit unit index function) (at : ℕ) → IsPlaced split.places at
       → at ≤ length function.code
   placed_within split at (inl ends) = omega arith
@@ -251,6 +269,7 @@ module _ (unit : Unit) (index : ℕ) (function : Code) where
       unstray true e = absurd (cc e)
       unstray false e = refl
 
+  -- each way from a place that is reached stays within the code
   pub ways_reached : (split : IsSplit unit index function) (at values : ℕ) (step : Step)
       → Reaches unit index function at values → at < length function.code
       → step_at unit index function at ≡ Ok step
@@ -278,12 +297,15 @@ module _ (unit : Unit) (index : ℕ) (function : Code) where
 
 -- ---- coming to a place
 
+-- the greatest number so far is covered
 room_old : (r v : ℕ) → r ≤ max r v
 room_old r v = omega arith
 
+-- so is a new one
 room_new : (r v : ℕ) → v ≤ max r v
 room_new r v = omega arith
 
+-- more room alone changes nothing else
 same_grows : (state : State) (room : ℕ) → state.room ≤ room
     → Grows state (record { depths = state.depths; pending = state.pending; room = room })
 same_grows state room more = record {
@@ -296,6 +318,7 @@ same_grows state room more = record {
   less = omega arith;
 }
 
+-- where a way ends, what was known stays known
 grows_noted : (state : State) (to values : ℕ) (d : Option (Option ℕ)) → depth_of state to ≡ d
     → Grows state (noted state to values d)
 grows_noted state to values None is =
@@ -333,6 +356,7 @@ grows_noted state to values (Some None) is =
     stands_same : (m n v w : ℕ) → m ≡ n → v ≡ w → ◌≡◌ {A = Stand} (m, v) (n, w)
     stands_same m n v w first second = ap (λ (k : ℕ). (k, v)) first ∙ ap (λ (k : ℕ). (n, k)) second
 
+-- where a way ends that agrees, it has arrived
 arrived_noted : (state : State) (to values : ℕ) (d : Option (Option ℕ)) → depth_of state to ≡ d
     → Agrees state to values → Arrived (noted state to values d) to values
 arrived_noted state to values None is agrees = record {
@@ -360,6 +384,7 @@ module _ (unit : Unit) (index : ℕ) (function : Code) where
     pub reached : Reaches unit index function to values
     pub bound : values + unseen state.depths ≤ length function.code
 
+  -- the greatest number is one that is reached
   room_reached : (state : State) (to values : ℕ) → Sane unit index function state
       → Reaches unit index function to values
       → (at : ℕ) × Reaches unit index function at (max state.room values)
@@ -372,6 +397,7 @@ module _ (unit : Unit) (index : ℕ) (function : Code) where
         (sane.room_at, subst (Reaches unit index function sane.room_at) most sane.room_reached)
   ]
 
+  -- a way to a place that has its number leaves all sound
   same_sane : (state : State) (to values : ℕ) → Sane unit index function state
       → CanArrive state to values → Sane unit index function
       (record { depths = state.depths; pending = state.pending; room = max state.room values })
@@ -386,6 +412,7 @@ module _ (unit : Unit) (index : ℕ) (function : Code) where
         room_reached = room.1;
       }
 
+  -- a way to a place that can be reached leaves all sound
   sane_noted : (state : State) (to values : ℕ) (d : Option (Option ℕ)) → depth_of state to ≡ d
       → Sane unit index function state → CanArrive state to values
       → Sane unit index function (noted state to values d)
@@ -451,12 +478,14 @@ module _ (unit : Unit) (index : ℕ) (function : Code) where
       depths way.to (left + way.gives) conflict.other split within (can way refl).reached
       (sane.reached way.to conflict.other conflict.kept) conflict.apart conflict.fault
 
+-- what was known stays known when a way is followed
 pub grows_followed : (state : State) (left : ℕ) (way : Option Way)
     → Grows state (followed state left way)
 grows_followed state left None = same_grows state state.room (omega arith)
 grows_followed state left (Some way) =
     grows_noted state way.to (left + way.gives) (depth_of state way.to) refl
 
+-- a way that was followed has arrived
 arrived_followed : (state : State) (left : ℕ) (way : Option Way) → AgreesWith state left way
     → (w : Way) → way ≡ Some w → Arrived (followed state left way) w.to (left + w.gives)
 arrived_followed state left None agrees w is = absurd cc
@@ -465,6 +494,7 @@ arrived_followed state left (Some way) agrees w is =
     (some_same way w is)
     (arrived_noted state way.to (left + way.gives) (depth_of state way.to) refl agrees)
 
+-- and stays so
 arrived_grows : (old new : State) (to values : ℕ) → Grows old new → Arrived old to values
     → Arrived new to values
 arrived_grows old new to values grows arrived =
@@ -476,6 +506,7 @@ arrived_grows old new to values grows arrived =
       kept = λ within. grows.kept to values (arrived.kept (omega arith));
     }
 
+-- one growth after the other is one
 grows_both : (a b c : State) → Grows a b → Grows b c → Grows a c
 grows_both a b c one two =
     let room_one = one.room in
@@ -511,6 +542,7 @@ kept_within unit index function state at values sane is =
 
 -- ---- a visit
 
+-- what holds of a way that is there
 if_some : (P : Way → Type 0) (way : Option Way) (w : Way) → IfSome way P → way ≡ Some w → P w
 if_some P way w holds is = subst (λ (o : Option Way). IfSome o P) is holds
 
@@ -524,18 +556,21 @@ module _ (unit : Unit) (index : ℕ) (function : Code) (state : State) (at value
     pub stands : step_at unit index function at ≡ Ok step
     pub goes_on : GoesOn at (length function.code) step
 
+  -- a place with a number is before the end
   pub within_here : Here → at < length function.code
   within_here here =
       let inside = slice_get_within state.depths at (Some values) here.kept_here in
       let long = here.sane.long in
       omega arith
 
+  -- a place that is reached with too few values is a fault
   pub too_few : Here → values < step.takes
       → IsFunctionFault unit index function (fault.Underflow index at)
   too_few here few =
       underflow at values step here.split (within_here here)
       (here.sane.reached at values here.kept_here) here.stands few refl
 
+  -- where a way leads, is reached
   way_reached : Here → step.takes ≤ values → (way : Way) → HasWay step way
       → Reaches unit index function way.to (values - step.takes + way.gives)
   way_reached here enough way has =
@@ -553,11 +588,13 @@ module _ (unit : Unit) (index : ℕ) (function : Code) (state : State) (at value
       } in
       record { before = (at, values) ∷ before.before; path = (leads, before.path) }
 
+  -- a way gives one value at most
   gives_one : Here → (way : Way) → HasWay step way → way.gives ≤ 1
   gives_one here way (inl on) = if_some (λ way. way.gives ≤ 1) (way_on step) way here.goes_on.on on
   gives_one here way (inr jump) =
       if_some (λ way. way.gives ≤ 1) step.jump way here.goes_on.jump jump
 
+  -- as many values may be there as there is code before it
   can_arrive : Here → step.takes ≤ values
       → (later : State) → unseen later.depths ≤ unseen state.depths → (way : Way) → HasWay step way
       → CanArrive unit index function later way.to (values - step.takes + way.gives)
@@ -566,19 +603,23 @@ module _ (unit : Unit) (index : ℕ) (function : Code) (state : State) (at value
       let bound = here.sane.bounded at values here.kept_here in
       record { reached = way_reached here enough way has; bound = omega arith }
 
+  -- the values that are left
   abbrev left : ℕ
   left = values - step.takes
 
+  -- the way on may be followed
   pub can_on : Here → step.takes ≤ values → (w : Way) → (way_on step) ≡ Some w
       → CanArrive unit index function state w.to (left + w.gives)
   can_on here enough w is = can_arrive here enough state (omega arith) w (inl is)
 
+  -- so may the jump
   pub can_jump : Here → step.takes ≤ values → (w : Way) → step.jump ≡ Some w
       → CanArrive unit index function (followed state left (way_on step)) w.to (left + w.gives)
   can_jump here enough w is =
       can_arrive here enough (followed state left (way_on step))
       (grows_followed state left (way_on step)).fewer w (inr is)
 
+  -- following the way on leaves all sound
   pub sane_on : Here → step.takes ≤ values
       → Sane unit index function (followed state left (way_on step))
   sane_on here enough =
@@ -614,6 +655,7 @@ module _ (unit : Unit) (index : ℕ) (function : Code) (state : State) (at value
 
 -- ---- the loop
 
+-- what is settled stays settled
 settled_grows : (unit : Unit) (index : ℕ) (function : Code) (old new : State) (at values : ℕ)
     → Grows old new → Settled unit index function old at values
     → Settled unit index function new at values
@@ -627,9 +669,11 @@ settled_grows unit index function old new at values grows settled =
           (settled.each way has);
     }
 
+-- a place is taken off
 abbrev popped : State → List Stand → State
 popped state pending = record { depths = state.depths; pending = pending; room = state.room }
 
+-- what is settled stays settled when a place is taken off
 settled_popped : (unit : Unit) (index : ℕ) (function : Code) (state : State) (pending : List Stand)
     (at values : ℕ) → Settled unit index function state at values
     → Settled unit index function (popped state pending) at values
@@ -644,6 +688,7 @@ settled_popped unit index function state pending at values settled = record {
 
 module _ (unit : Unit) (index : ℕ) (function : Code) (state : State) (rest : List Stand)
     (at values : ℕ) where
+  -- all stays sound when a place is taken off
   pub popped_sane : Works unit index function state → state.pending ≡ rest ++ (at, values) ∷ []
       → Sane unit index function (popped state rest)
   popped_sane works pops =
@@ -659,12 +704,14 @@ module _ (unit : Unit) (index : ℕ) (function : Code) (state : State) (rest : L
         room_reached = sane.room_reached;
       }
 
+  -- the place that is taken off has its number
   pub popped_here : Works unit index function state → state.pending ≡ rest ++ (at, values) ∷ []
       → depth_of (popped state rest) at ≡ Some (Some values)
   popped_here works pops =
       works.sane.waiting (at, values)
       (subst (Among (at, values)) (sym pops) (among_last (at, values) rest))
 
+  -- a visit leaves each place pending or settled
   pub works_on : (new : State) → Works unit index function state
       → state.pending ≡ rest ++ (at, values) ∷ []
       → Visits unit index function (popped state rest) new at values → Works unit index function new
@@ -691,6 +738,7 @@ module _ (unit : Unit) (index : ℕ) (function : Code) (state : State) (rest : L
 
 module _ (unit : Unit) (index : ℕ) (function : Code) (state : State)
     (works : Works unit index function state) (none : state.pending ≡ []) where
+  -- at the end each place with a number is settled
   settled_at : (at values : ℕ) → depth_of state at ≡ Some (Some values)
       → Settled unit index function state at values
   settled_at at values e = elim (works.each at values e) [
@@ -698,6 +746,7 @@ module _ (unit : Unit) (index : ℕ) (function : Code) (state : State)
     | inr settled ↦ settled
   ]
 
+  -- each path ends where its number is kept
   covered : (before : List Stand) (at values : ℕ)
       → IsPath unit index function ((at, values) ∷ before)
       → (values ≤ state.room) × (at < length function.code → depth_of state at ≡ Some (Some values))
@@ -724,6 +773,7 @@ module _ (unit : Unit) (index : ℕ) (function : Code) (state : State)
       let long = works.sane.long in
       (there.covered, λ within. there.kept (omega arith))
 
+  -- at the end the function is sound
   pub sound_at_end : IsSplit unit index function → IsSound unit index function
   sound_at_end split = record {
     split = split;
@@ -737,6 +787,7 @@ module _ (unit : Unit) (index : ℕ) (function : Code) (state : State)
         subst (λ (s : Step). s.takes ≤ values) same settled.enough;
   }
 
+  -- and the room is the greatest number
   pub room_at_end : IsRoom unit index function state.room
   room_at_end = record {
     covers = λ at values reached. (covered reached.before at values reached.path).0;
@@ -746,29 +797,36 @@ module _ (unit : Unit) (index : ℕ) (function : Code) (state : State)
 
 -- ---- the beginning
 
+-- the beginning is reached with no values
 pub starts : (unit : Unit) (index : ℕ) (function : Code) → Reaches unit index function 0 0
 starts unit index function = record { before = []; path = (refl, refl) }
 
+-- no number
 abbrev pub none_yet : Option ℕ
 none_yet = None
 
+-- no place has a number at first
 get_none : (count i values : ℕ) → slice_get (replicate count none_yet) i ≡ kept values → ⊥
 get_none zero i values e = cc
 get_none (suc count) zero values e = cc
 get_none (suc count) (suc i) values e = get_none count i values e
 
+-- all are without one
 unseen-replicate : (count : ℕ) → unseen (replicate count none_yet) ≡ count
 unseen-replicate zero = refl
 unseen-replicate (suc count) = ap (λ (n : ℕ). 1 + n) (unseen-replicate count) ∙ omega arith
 
+-- only the beginning is known, and waits
 abbrev pub first_state : ℕ → State
 first_state count =
     record { depths = set (replicate count None) 0 (Some 0); pending = (0, 0) ∷ []; room = 0 }
 
+-- the beginning is one of the places
 get_first : (count : ℕ) → 0 < count → slice_get (replicate count none_yet) 0 ≡ Some None
 get_first zero some = absurd (omega arith)
 get_first (suc count) some = refl
 
+-- where there is code the work begins so
 pub works_first : (unit : Unit) (index : ℕ) (function : Code) → 0 < length function.code
     → Works unit index function (first_state (length function.code))
 works_first unit index function some =
