@@ -179,6 +179,16 @@ instr_at-spelling row a b c before rest among a_fits b_fits c_fits =
     (le-ltb (length code - at) (size row) enough)
     ∙ ap Ok (same_instr row.name _ a _ b _ c (at + size row) a_is b_is c_is))
 
+pub any_read_back : (row : Row) (a b c : ℕ) (before rest : List ℕ) → Among row rows
+    → holds row a b c ≡ true
+    → instr_at (before ++ (spelling row a b c ++ rest)) (length before)
+    ≡ Ok (record-of row.name a b c (length before + size row))
+any_read_back row a b c before rest among is =
+    let first = and_parts (nat_lt a (limit row.count row.a)) _ is in
+    let others = and_parts (nat_lt b (limit row.count row.b)) _ first.1 in
+    instr_at-spelling row a b c before rest among (ltb-true a _ first.0) (ltb-true b _ others.0)
+    (ltb-true c _ others.1)
+
 pub read_back : (operation : OpName) (a b c : ℕ) (row : Row) (before rest : List ℕ)
     → shortest operation a b c ≡ Some row
     → instr_at (before ++ (spelling row a b c ++ rest)) (length before)
@@ -187,11 +197,7 @@ unfolding shortest
 read_back operation a b c row before rest e =
     let it = found (is_spelling operation a b c) rows row e in
     let fits = and_parts (sameb the_type row.operation operation) (holds row a b c) it.0 in
-    let a_fits = and_parts (nat_lt a (limit row.count row.a)) _ fits.1 in
-    let bc_fit =
-    and_parts (nat_lt b (limit row.count row.b)) (nat_lt c (limit row.count row.c)) a_fits.1 in
-    instr_at-spelling row a b c before rest it.1 (ltb-true a _ a_fits.0) (ltb-true b _ bc_fit.0)
-    (ltb-true c _ bc_fit.1)
+    any_read_back row a b c before rest it.1 fits.1
 
 pub none_shorter : (operation : OpName) (a b c : ℕ) (row other : Row)
     → shortest operation a b c ≡ Some row

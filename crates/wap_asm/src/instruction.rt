@@ -1,7 +1,7 @@
 //! Reading an instruction.
 ghost use Rattle.std.specs.Prelude.{◌≡◌, ◌+◌, ◌<◌, ◌≤◌, length, slice_index};
 ghost use Rattle.std.specs.Prelude.{slice_get, IfOk, IfSome};
-ghost use Rattle.wap_code.specs.Instructions.{width, size, row_of, value, read_row};
+ghost use Rattle.wap_code.specs.Instructions.{width, size, row_of, value, read_row, instr_at};
 ghost use Rattle.wap_asm.specs.Spelling.{limit};
 ghost use Rattle.wap_asm.specs.Operands.{Holds};
 
@@ -82,4 +82,15 @@ pub fn row_of(code: u8) -> Option<Row>
     ensures gives { IfSome result (λ row. row.gives ≤ 1) }
 {
     row_in(&ROWS, &ROW_NUMBERS, code)
+}
+
+/// The instruction at a place.
+pub fn next_instr(code: &[u8], at: usize) -> Result<Instr, InstrFault>
+    requires { at < length code.now }
+    ensures { result ≡ instr_at code.now at }
+{
+    match row_of(code[at]) {
+        Some(row) => read_row(row, code, at),
+        None => Err(InstrFault::Opcode),
+    }
 }

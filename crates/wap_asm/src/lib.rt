@@ -6,6 +6,6 @@ mod instruction;
 mod laws;
 mod library;
 
-pub use instruction::{read_row, row_of};
+pub use instruction::{next_instr, read_row, row_of};
 pub use laws::{table_is_exact, table_is_listed};
-pub use library::{args_of, lib_named};
+pub use library::{args_of, lib_args, lib_named};

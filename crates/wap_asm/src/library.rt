@@ -14,6 +14,13 @@ pub fn args_of(library: u32, function: u32) -> Option<u8>
     args_in(&LIBRARY, library, function)
 }
 
+/// How many arguments a function of a library takes, by its numbers.
+pub fn lib_args(library: u16, function: u8) -> Option<u8>
+    ensures { result ≡ lib_args library function }
+{
+    args_of(u32::from(library), u32::from(function))
+}
+
 fn args_in(
     rows: &[(u16, u8, u8, &'static str, &'static str)],
     library: u32,
