@@ -4,3 +4,12 @@ pub mod RowLaws
 pub mod Spelled
 pub mod Gifts
 pub mod Numbering
+pub mod SpellingLaws
+pub mod Sums
+pub mod Settling
+pub mod Standing
+pub mod PlacedLaws
+pub mod PassLaws
+pub mod BytesLaws
+pub mod IndexLaws
+pub mod CheckingLaws

@@ -2,3 +2,9 @@ pub mod Spelling
 pub mod Exact
 pub mod Columns
 pub mod Operands
+pub mod Spellings
+pub mod Placing
+pub mod Placed
+pub mod Checking
+pub mod Settling
+pub mod inside

@@ -22,6 +22,7 @@ holds row a b c =
     nat_lt a (limit row.count row.a)
     && (nat_lt b (limit row.count row.b) && nat_lt c (limit row.count row.c))
 
+-- whether a row spells an operation with these operands
 abbrev pub is_spelling : OpName → ℕ → ℕ → ℕ → Row → Bool
 is_spelling operation a b c row = sameb the_type row.operation operation && holds row a b c
 
@@ -43,6 +44,7 @@ slot_bytes Low n = []
 slot_bytes Byte n = n ∷ []
 slot_bytes Word n = n / 256 ∷ n % 256 ∷ []
 
+-- the bytes of an instruction: its code, and the operands that stand after it
 abbrev pub spelling : Row → ℕ → ℕ → ℕ → List ℕ
 spelling row a b c =
     (row.first + low_part row.a a)

@@ -21,7 +21,7 @@ fn width(slot: Slot) -> usize
 }
 
 /// How many bytes a row's instruction takes.
-fn size(row: Row) -> usize
+pub(crate) fn size(row: Row) -> usize
     ensures { result ≡ size row }
 {
     1 + width(row.a) + width(row.b) + width(row.c)

@@ -1,7 +1,8 @@
-//! Laws of the table of instructions. The functions here do nothing, and carry the laws alone.
+//! Laws of the table of instructions, and of forms. The functions here do nothing, and carry the laws alone.
 ghost use Rattle.std.specs.Prelude.{◌≡◌};
 ghost use Rattle.wap_code.specs.Rows.{rows};
 ghost use Rattle.wap_asm.specs.Exact.{IsExact};
+ghost use Rattle.wap_asm.specs.Settling.{AreLeast, IsTest};
 
 use wap_code::ROWS;
 
@@ -13,4 +14,14 @@ pub fn table_is_exact()
 /// The table of the code is that of the definitions.
 pub fn table_is_listed()
     ensures { ROWS ≡ rows }
+{}
+
+/// The sizes at which forms settle are the least that hold all operands.
+pub fn sizes_are_least()
+    ensures { AreLeast }
+{}
+
+/// Forms that a test which computes takes may be placed.
+pub fn placeable_is_tested()
+    ensures { IsTest }
 {}
