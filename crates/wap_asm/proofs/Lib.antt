@@ -10,6 +10,7 @@ pub mod Settling
 pub mod Standing
 pub mod PlacedLaws
 pub mod PassLaws
+pub mod OnTheWay
 pub mod BytesLaws
 pub mod IndexLaws
 pub mod CheckingLaws

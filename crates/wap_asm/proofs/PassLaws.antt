@@ -1,13 +1,12 @@
--- A pass of the code is a pass of the definition.
-use Rattle.std.proofs.Common.{◌≡◌, ℕ, zero, suc, ◌+◌, ◌<◌, ◌≤◌, ◌^◌, Bool, true, false, nat_lt}
+-- What the code reads is what the definitions say: the sizes of jumps at distances, sites, starts
+-- and the first sizes.
+use Rattle.std.proofs.Common.{◌≡◌, ℕ, zero, suc, ◌+◌, ◌<◌, ◌≤◌, Bool, true, false, nat_lt}
 use Rattle.std.proofs.Common.{cond, not, ◌&&◌, if◌then◌else◌}
 use Rattle.std.proofs.Common.{List, [], ◌∷◌, Some, None}
 use Rattle.std.proofs.Common.{length, get_or, take, map, sum, replicate, slice_get, slice_index}
 use Rattle.std.proofs.Common.{slice_range}
-use Rattle.std.proofs.Common.{inl, inr, refl, sym, ◌∙◌, ap, arith, option_map}
+use Rattle.std.proofs.Common.{inl, inr, refl, sym, ◌∙◌, ap, arith}
 use Rattle.std.proofs.lemmas.Bool.{cases_lt}
-use Rattle.std.proofs.lemmas.Option.{slice_get_within, get_or_from_slice_get, slice_get-get_or}
-use Rattle.std.proofs.lemmas.Option.{slice_get-map}
 use Rattle.std.proofs.lemmas.Option.{same_Some, none-some}
 use Rattle.std.proofs.lemmas.List.{length-map, get_or_past, ext_get_or, get_or-map, take_all}
 use Rattle.std.proofs.lemmas.List.Sums.{sum_by-take-le, prefix_len-le-length}
@@ -30,14 +29,14 @@ use Rattle.wap_asm.specs.declared.site.Site.{Site}
 use Rattle.wap_asm.specs.Spellings.{operation_of, longest, spelling_of, row_size, or_else}
 use Rattle.wap_asm.specs.Placing.{is_label, target, between, form_bytes, grown, sizes_after, wide}
 use Rattle.wap_asm.specs.Placing.{settled}
-use Rattle.wap_asm.specs.Placed.{Leads, ArePlaceable}
-use Rattle.wap_asm.specs.inside.Passes.{kind_of, site_of, leap_size, apart, AreStarts, IsNext}
+use Rattle.wap_asm.specs.Placed.{Leads}
+use Rattle.wap_asm.specs.inside.Passes.{kind_of, site_of, leap_size, apart, AreStarts}
 use Rattle.wap_asm.specs.inside.Passes.{first_size}
 use Rattle.wap_asm.proofs.SpellingLaws.{length-row_bytes}
 use Rattle.wap_asm.proofs.Sums.{sum-range, range_below}
-use Rattle.wap_asm.proofs.Settling.{get_or-grown, length-grown, length-sizes_after, sum-sizes_after}
+use Rattle.wap_asm.proofs.PlacedLaws.{sum-settled}
+use Rattle.wap_asm.proofs.Settling.{get_or-grown, length-grown}
 use Rattle.wap_asm.proofs.Settling.{zeros_below}
-use Rattle.wap_asm.proofs.Settling.{settled-from_fixed}
 
 -- ---- the size of a jump at a distance, computed from the table
 
@@ -57,7 +56,7 @@ by_two b w eb ew true r = sym eb
 by_two b w eb ew false true = sym ew
 by_two b w eb ew false false = sym ew
 
-jump_size : (op : OpName) (i t had d : ℕ) → Leads op i t
+pub jump_size : (op : OpName) (i t had d : ℕ) → Leads op i t
     → leap_size (kind_of op) had d ≡ row_size (spelling_of op d 0 0)
 unfolding spelling_of shortest longest
 jump_size JumpFw i t had d h =
@@ -105,21 +104,15 @@ targets_within forms sites starts all count k site here =
     let same : (site_of forms it.0).target ≡ site.target = ap (λ (s : Site). s.target) it.2 in
     omega (arith, site_within forms it.0, same, count)
 
-pub starts_few : (forms : List Form) (n : ℕ) (sizes starts : List ℕ)
-    → sizes ≡ sizes_after n forms → AreStarts sizes starts → wide forms ≤ 65535
-    → (k : ℕ) → slice_index starts k < 2 ^ 32
-starts_few forms n sizes starts is are few k =
-    let sums : sum sizes ≡ sum (sizes_after n forms) = ap sum is in
+-- no start is past the wide code
+pub starts_few : (forms : List Form) (sizes starts : List ℕ)
+    → sum sizes ≤ wide forms → AreStarts sizes starts → wide forms ≤ 65535
+    → (k : ℕ) → slice_index starts k ≤ 65535
+starts_few forms sizes starts sums are few k =
     elim (cases_lt (length sizes) k) [
       | inl past ↦ omega (arith, get_or_past starts k 0 (omega (arith, are.count)))
       | inr within ↦
-          omega (
-            arith,
-            are.each k within,
-            sum_by-take-le (λ (m : ℕ). m) sizes k,
-            sums,
-            sum-sizes_after n forms,
-          )
+          omega (arith, are.each k within, sum_by-take-le (λ (m : ℕ). m) sizes k, sums)
     ]
 
 pub apart_is : (sizes starts : List ℕ) (i t : ℕ) → AreStarts sizes starts → i < length sizes
@@ -133,61 +126,6 @@ apart_is sizes starts i t are within to =
       sum-range sizes (i + 1) t,
       sum-range sizes t i,
     )
-
--- ---- a pass
-
-get_or-first : (forms : List Form) (n : ℕ) (sizes : List ℕ) (k : ℕ) (form : Form)
-    → sizes ≡ sizes_after (suc n) forms → slice_get forms k ≡ Some form
-    → get_or sizes k 0 ≡ length (form_bytes forms (sizes_after n forms) k form)
-unfolding sizes_after
-get_or-first forms n sizes k form is here =
-    ap (λ l. get_or l k 0) is
-    ∙ get_or-grown forms (sizes_after n forms) k (slice_get_within forms k form here)
-    ∙ ap (λ f. length (form_bytes forms (sizes_after n forms) k f))
-    (get_or_from_slice_get forms k form (Label 0) here)
-
-next_form : (forms : List Form) (n : ℕ) (sizes starts : List ℕ) (k size : ℕ) (form : Form)
-    → ArePlaceable forms → sizes ≡ sizes_after (suc n) forms → AreStarts sizes starts
-    → slice_get forms k ≡ Some form
-    → size ≡ leap_size (site_of forms form).kind (get_or sizes k 0)
-    (apart starts k (site_of forms form).target)
-    → size ≡ length (form_bytes forms sizes k form)
-next_form forms n sizes starts k size (Op instr) placeable is are here next =
-    next ∙ get_or-first forms n sizes k (Op instr) is here
-next_form forms n sizes starts k size (Label label) placeable is are here next =
-    next ∙ get_or-first forms n sizes k (Label label) is here
-next_form forms n sizes starts k size (Jump name label) placeable is are here next =
-    let op = operation_of name in
-    let t = target forms label in
-    let d = between sizes k t in
-    let labelled = placeable.jumps k label name here in
-    let count : length sizes ≡ length forms = ap length is ∙ length-sizes_after (suc n) forms in
-    let within : k < length sizes = omega
-    (arith, count, slice_get_within forms k (Jump name label) here) in
-    let to : t ≤ length sizes = omega (arith, count, target_within forms label) in
-    next
-    ∙ ap (leap_size (kind_of op) (get_or sizes k 0)) (apart_is sizes starts k t are within to)
-    ∙ jump_size op k labelled.index (get_or sizes k 0) d labelled.leads
-    ∙ sym (length-row_bytes (spelling_of op d 0 0) d 0 0)
-
-pub next_sizes : (forms : List Form) (n : ℕ) (sites : List Site) (sizes starts later : List ℕ)
-    → ArePlaceable forms → sites ≡ map (site_of forms) forms
-    → sizes ≡ sizes_after (suc n) forms → AreStarts sizes starts → length later ≡ length sizes
-    → ((k : ℕ) → k < length sizes → IsNext sites starts sizes k (slice_index later k))
-    → later ≡ grown forms sizes
-next_sizes forms n sites sizes starts later placeable all is are same next =
-    let count : length sizes ≡ length forms = ap length is ∙ length-sizes_after (suc n) forms in
-    ext_get_or 0 later (grown forms sizes) (omega (arith, same, count, length-grown forms sizes))
-    (λ k h.
-    let within : k < length forms = omega (arith, h, same, count) in
-    let form = get_or forms k (Label 0) in
-    let here : slice_get forms k ≡ Some form = slice_get-get_or forms k (Label 0) within in
-    let site : slice_get sites k ≡ Some (site_of forms form) =
-    ap (λ l. slice_get l k) all ∙ slice_get-map (site_of forms) forms k
-    ∙ ap (option_map (site_of forms)) here in
-    next_form forms n sizes starts k (get_or later k 0) form placeable is are here
-    (next k (omega (arith, h, same)) (site_of forms form) site)
-    ∙ sym (get_or-grown forms sizes k within))
 
 -- ---- the first sizes
 
@@ -224,32 +162,11 @@ first_sizes forms =
     ∙ first_form forms (length forms) k (get_or forms k (Label 0))
     ∙ sym (get_or-grown forms zeros k within))
 
--- ---- passes
-
-pub one_more : (forms : List Form) (n : ℕ) (sizes : List ℕ) → sizes ≡ sizes_after (n + 1) forms
-    → sizes ≡ sizes_after (suc n) forms
-one_more forms n sizes is = is ∙ ap (λ k. sizes_after k forms)
-    (let e : n + 1 ≡ suc n = omega arith in e)
-
-pub grown_again : (forms : List Form) (n : ℕ) (sizes later : List ℕ)
-    → sizes ≡ sizes_after (n + 1) forms → later ≡ grown forms sizes
-    → later ≡ sizes_after (n + 1 + 1) forms
-unfolding sizes_after
-grown_again forms n sizes later is next =
-    next ∙ ap (grown forms) is
-    ∙ ap (λ k. sizes_after k forms) (let e : suc (n + 1) ≡ n + 1 + 1 = omega arith in e)
-
-pub not_grown : (forms : List Form) (n : ℕ) (sizes later : List ℕ)
-    → sizes ≡ sizes_after (n + 1) forms → later ≡ grown forms sizes → later ≡ sizes
-    → later ≡ settled forms
-not_grown forms n sizes later is next same =
-    same ∙ is
-    ∙ settled-from_fixed (n + 1) forms (ap (grown forms) (sym is) ∙ sym next ∙ same ∙ is)
+-- ---- the sizes that are settled
 
 pub settled_few : (forms : List Form) (starts slice : List ℕ) → AreStarts (settled forms) starts
-    → slice ≡ starts → wide forms ≤ 65535 → (k : ℕ) → slice_index slice k < 2 ^ 32
-unfolding settled
+    → slice ≡ starts → wide forms ≤ 65535 → (k : ℕ) → slice_index slice k ≤ 65535
 settled_few forms starts slice are same few k =
     let here : slice_index slice k ≡ slice_index starts k = ap (λ l. slice_index l k) same in
-    let less = starts_few forms (wide forms) (settled forms) starts refl are few k in
+    let less = starts_few forms (settled forms) starts (sum-settled forms) are few k in
     omega (arith, here, less)

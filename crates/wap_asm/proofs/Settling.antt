@@ -1,7 +1,7 @@
 -- Passes over the sizes of forms: no size falls, and none grows in the end.
-use Rattle.std.proofs.Common.{◌≡◌, ℕ, zero, suc, ◌+◌, ◌-◌, ◌<◌, ◌≤◌, List}
+use Rattle.std.proofs.Common.{◌≡◌, ℕ, zero, suc, ◌+◌, ◌<◌, ◌≤◌, List}
 use Rattle.std.proofs.Common.{length, get_or, map, sum, replicate}
-use Rattle.std.proofs.Common.{◌⊎◌, inl, inr, refl, sym, ◌∙◌, ap, arith}
+use Rattle.std.proofs.Common.{◌⊎◌, inl, inr, sym, ◌∙◌, ap, arith}
 use Rattle.std.specs.List.{enumerate_from}
 use Rattle.std.proofs.lemmas.Bool.{cases_lt}
 use Rattle.std.proofs.lemmas.List.{get_or-map, get_or_past, length-map, length-replicate}
@@ -44,7 +44,7 @@ between_below : (s t : List ℕ) (i j : ℕ) → Below s t → between s i j ≤
 between_below s t i j h =
     omega (arith, range_below (i + 1) j s t h, range_below j i s t h)
 
-form_below : (forms : List Form) (s t : List ℕ) (i : ℕ) (form : Form) → Below s t
+pub form_below : (forms : List Form) (s t : List ℕ) (i : ℕ) (form : Form) → Below s t
     → length (form_bytes forms s i form) ≤ length (form_bytes forms t i form)
 form_below forms s t i (Op instr) h = omega arith
 form_below forms s t i (Label label) h = omega arith
@@ -193,35 +193,7 @@ pub settled_fixed : (forms : List Form) → grown forms (settled forms) ≡ sett
 unfolding settled sizes_after
 settled_fixed forms = sym (fixed_at_wide forms)
 
-from_fixed : (m n k : ℕ) (forms : List Form) → k ≡ m + n
-    → sizes_after n forms ≡ sizes_after (suc n) forms
-    → sizes_after k forms ≡ sizes_after n forms
-unfolding sizes_after
-from_fixed zero n k forms e same = ap (λ i. sizes_after i forms)
-    (let here : k ≡ n = omega arith in here)
-from_fixed (suc m) n k forms e same =
-    let before = from_fixed m n (m + n) forms refl same in
-    ap (λ i. sizes_after i forms) (let here : k ≡ suc (m + n) = omega arith in here)
-    ∙ ap (grown forms) before
-    ∙ sym same
-
--- passes that change nothing have settled
-pub settled-from_fixed : (n : ℕ) (forms : List Form)
-    → grown forms (sizes_after n forms) ≡ sizes_after n forms → sizes_after n forms ≡ settled forms
-unfolding settled sizes_after
-settled-from_fixed n forms same =
-    elim (cases_lt n (wide forms)) [
-      | inl before ↦
-          sym (from_fixed (wide forms - n) n (wide forms) forms (omega arith) (sym same))
-      | inr past ↦
-          from_fixed (n - wide forms) (wide forms) n forms (omega arith) (fixed_at_wide forms)
-    ]
-
-pub settled-from_wide : (forms : List Form) → sizes_after (wide forms + 1) forms ≡ settled forms
-unfolding settled
-settled-from_wide forms = from_fixed 1 (wide forms) (wide forms + 1) forms (omega arith)
-    (fixed_at_wide forms)
-
+-- no pass makes a form shorter
 pub never_less : (forms : List Form) (passes : ℕ)
     → Below (sizes_after passes forms) (sizes_after (passes + 1) forms)
 never_less forms passes k =
@@ -230,7 +202,8 @@ never_less forms passes k =
     omega (arith, same, rising passes forms k)
 
 -- sizes that hold all operands are no smaller than those after any pass
-least_after : (passes : ℕ) (forms : List Form) (sizes : List ℕ) → Below (grown forms sizes) sizes
+pub least_after : (passes : ℕ) (forms : List Form) (sizes : List ℕ)
+    → Below (grown forms sizes) sizes
     → Below (sizes_after passes forms) sizes
 unfolding sizes_after
 least_after zero forms sizes enough k = zeros_below (length forms) sizes k
@@ -239,6 +212,7 @@ least_after (suc passes) forms sizes enough k =
     (least_after passes forms sizes enough) k in
     omega (arith, less, enough k)
 
+-- sizes that hold all operands are no smaller than those that forms settle at
 pub settled_least : (forms : List Form) (sizes : List ℕ) → Below (grown forms sizes) sizes
     → Below (settled forms) sizes
 unfolding settled

@@ -38,10 +38,12 @@ read_ok : (row : Row) (code : List ℕ) (at : ℕ) (instr : Instr) → read_row 
 read_ok row code at instr e =
     elim (cases_Bool (nat_lt (length code - at) (size row))) [
       | inl short ↦ absurd (err_ok Operand instr
-          (sym (cond-true (nat_lt (length code - at) (size row)) (Err Operand) (Ok (read row code at))
+          (sym (cond-true (nat_lt (length code - at) (size row)) (Err Operand)
+          (Ok (read row code at))
           short) ∙ e))
       | inr enough ↦ same_ok (read row code at) instr
-          (sym (cond-false (nat_lt (length code - at) (size row)) (Err Operand) (Ok (read row code at))
+          (sym (cond-false (nat_lt (length code - at) (size row)) (Err Operand)
+          (Ok (read row code at))
           enough) ∙ e)
     ]
 

@@ -1,4 +1,5 @@
-//! Laws of the table of instructions, and of forms. The functions here do nothing, and carry the laws alone.
+//! Laws of the table of instructions, and of forms. The functions here do nothing, and carry the
+//! laws alone.
 ghost use Rattle.std.specs.Prelude.{◌≡◌};
 ghost use Rattle.wap_code.specs.Rows.{rows};
 ghost use Rattle.wap_asm.specs.Exact.{IsExact};

@@ -7,6 +7,7 @@ mod codes;
 mod form;
 mod instruction;
 mod laws;
+mod lengthening;
 mod library;
 mod pass;
 mod placer;

@@ -1,21 +1,20 @@
-//! Passes over the sizes of forms.
-ghost use Rattle.std.specs.Prelude.{◌≡◌, ℕ, ◌+◌, ◌-◌, ◌<◌, ◌≤◌, ◌^◌, length, sum, take, slice_get};
-ghost use Rattle.std.specs.Prelude.{slice_index};
-ghost use Rattle.std.specs.Prelude.{IfOk, map, replicate, false};
+//! Where forms stand, by their sizes.
+ghost use Rattle.std.specs.Prelude.{◌≡◌, ℕ, ◌+◌, ◌-◌, ◌<◌, ◌≤◌, ◌^◌, length, sum, slice_get};
+ghost use Rattle.std.specs.Prelude.{slice_index, IfOk, map, Some};
 ghost use Rattle.wap_asm.specs.Spellings.{operation_of};
-ghost use Rattle.wap_asm.specs.Placing.{grown, sizes_after, settled, wide};
-ghost use Rattle.wap_asm.specs.Placed.{ArePlaceable, start};
+ghost use Rattle.wap_asm.specs.Placing.{settled, wide};
+ghost use Rattle.wap_asm.specs.Placed.{ArePlaceable};
 ghost use Rattle.wap_asm.specs.declared.site.Site.{Site};
-ghost use Rattle.wap_asm.specs.inside.Passes.{site_of, leap_size, apart, AreStarts, IsNext};
-ghost use Rattle.wap_asm.specs.inside.Passes.{first_size};
+ghost use Rattle.wap_asm.specs.inside.Passes.{site_of, leap_size, apart, AreStarts, first_size};
 
 use crate::Form;
+use crate::lengthening::settle;
 use crate::site::{Kind, Site, sites_of};
 use crate::table::{operation_of, row_size, spelling_of};
 use std::alloc::{AllocError, Global};
 
 /// The size of a jump or another form that had this one, at this distance.
-fn leap_size(kind: Kind, had: usize, distance: usize) -> usize
+pub(crate) fn leap_size(kind: Kind, had: usize, distance: usize) -> usize
     ensures { result ≡ leap_size kind had distance }
 {
     match kind {
@@ -37,14 +36,14 @@ fn leap_size(kind: Kind, had: usize, distance: usize) -> usize
 pub(crate) fn apart(starts: &[usize], i: usize, target: usize) -> usize
     requires from { i + 1 < length starts.now }
     requires to { target < length starts.now }
-    requires few { (k : ℕ) → slice_index starts.now k < 2 ^ 32 }
+    requires few { slice_index starts.now target + slice_index starts.now i < 2 ^ 32 }
     ensures { result ≡ apart starts.now i target }
 {
     starts[target].saturating_sub(starts[i + 1]) + starts[i].saturating_sub(starts[target])
 }
 
 /// Where forms of these sizes begin, and the last ends.
-fn fill_starts(sizes: &[usize], starts: &mut [usize])
+pub(crate) fn fill_starts(sizes: &[usize], starts: &mut [usize])
     requires count { length starts.old ≡ length sizes.now + 1 }
     requires few { sum sizes.now < 2 ^ 32 }
     ensures { AreStarts sizes.now starts.new }
@@ -55,47 +54,6 @@ fn fill_starts(sizes: &[usize], starts: &mut [usize])
         at += sizes[i];
     }
     starts[sizes.len()] = at;
-}
-
-/// One pass: each form's size at the distances that there are. Whether one changed.
-fn grow(sites: &[Site], starts: &[usize], sizes: &mut [usize]) -> bool
-    requires sites { length sites.now ≡ length sizes.old }
-    requires starts { length starts.now ≡ length sizes.old + 1 }
-    requires few { (k : ℕ) → slice_index starts.now k < 2 ^ 32 }
-    requires targets { (k : ℕ) (site : Site) → slice_get sites.now k ≡ Some site
-        → site.target < length starts.now }
-    ensures next { (k : ℕ) → k < length sizes.old
-        → IsNext sites.now starts.now sizes.old k (slice_index sizes.new k) }
-    ensures same { result ≡ false → sizes.new ≡ sizes.old }
-{
-    let mut changed = false;
-    for i in 0..sites.len() {
-        let site = sites[i];
-        let size = leap_size(site.kind, sizes[i], apart(starts, i, site.target));
-        if size != sizes[i] {
-            sizes[i] = size;
-            changed = true;
-        }
-    }
-    changed
-}
-
-/// Passes until none changes a size, which so many get to.
-fn settle(forms: &[Form], sites: &[Site], passes: usize, starts: &mut [usize], sizes: &mut [usize])
-    requires placeable { ArePlaceable forms.now }
-    requires passes { passes ≡ wide forms.now }
-    requires few { passes ≤ 65535 }
-    requires sites { sites.now ≡ map (site_of forms.now) forms.now }
-    requires first { sizes.old ≡ sizes_after 1 forms.now }
-    requires starts { length starts.old ≡ length forms.now + 1 }
-    ensures { sizes.new ≡ settled forms.now }
-{
-    for pass in 0..passes {
-        fill_starts(sizes, starts);
-        if !grow(sites, starts, sizes) {
-            return;
-        }
-    }
 }
 
 /// The size of a form where none has bytes yet.
@@ -132,6 +90,23 @@ fn first_sizes(alloc: Global, forms: &[Form]) -> Result<Vec<usize>, AllocError>
     Ok(sizes)
 }
 
+/// For each label the last jump before it that leads to it, and for each such jump the last before
+/// it that leads there too; where there is none, an index past all.
+fn chain(sites: &[Site], before: &mut [usize])
+    requires count { length before.old ≡ length sites.now + 1 }
+    requires targets { (k : ℕ) (site : Site) → slice_get sites.now k ≡ Some site
+        → site.target < length before.old }
+    ensures { length before.new ≡ length before.old }
+{
+    for i in 0..sites.len() {
+        let target = sites[i].target;
+        if i < target {
+            before[i] = before[target];
+            before[target] = i;
+        }
+    }
+}
+
 /// Where forms stand in their shortest spellings.
 pub(crate) fn laid_out(alloc: Global, forms: &[Form], passes: usize) -> Result<Layout, AllocError>
     requires placeable { ArePlaceable forms.now }
@@ -142,10 +117,13 @@ pub(crate) fn laid_out(alloc: Global, forms: &[Form], passes: usize) -> Result<L
 {
     let sites = sites_of(alloc, forms)?;
     let mut sizes = first_sizes(alloc, forms)?;
+    let mut before = vec![in alloc; forms.len(); forms.len() + 1]?;
+    chain(sites.as_slice(), before.as_mut_slice());
     let mut starts = vec![in alloc; 0usize; forms.len() + 1]?;
     settle(
         forms,
         sites.as_slice(),
+        before.as_slice(),
         passes,
         starts.as_mut_slice(),
         sizes.as_mut_slice(),

@@ -1,6 +1,6 @@
--- One pass over the sizes of forms as the code makes it. It only carries proofs.
+-- Passes over the sizes of forms as the code makes them. It only carries proofs.
 use Rattle.std.specs.Prelude.{ℕ, ◌+◌, ◌-◌, ◌<◌, ◌≤◌, ◌≡◌, nat_lt, if◌then◌else◌, List, Some}
-use Rattle.std.specs.Prelude.{length, slice_get, slice_index, take, sum}
+use Rattle.std.specs.Prelude.{length, slice_index, take, sum}
 use Rattle.wap_code.specs.declared.row.OpName.{OpName}
 use Rattle.wap_code.specs.declared.row.OpName.TheVariants.{JumpFw, JumpBw, TjumpFw, TjumpBw}
 use Rattle.wap_code.specs.declared.row.Row.{Row}
@@ -11,7 +11,8 @@ use Rattle.wap_asm.specs.declared.site.Kind.{Kind}
 use Rattle.wap_asm.specs.declared.site.Kind.TheVariants.{Fixed, Short, Near}
 use Rattle.wap_asm.specs.declared.site.Site.{Site}
 use Rattle.wap_asm.specs.Spellings.{operation_of, spelling_of, row_size}
-use Rattle.wap_asm.specs.Placing.{target}
+use Rattle.wap_asm.specs.Placing.{target, sizes_after, settled}
+use Rattle.wap_asm.specs.Settling.{AreBelow}
 
 abbrev pub kind_of : OpName → Kind
 kind_of JumpFw = Short
@@ -44,11 +45,37 @@ pub record AreStarts (sizes starts : List ℕ) : Type 0 where
   pub count : length starts ≡ length sizes + 1
   pub each : (k : ℕ) → k ≤ length sizes → slice_index starts k ≡ sum (take k sizes)
 
--- sizes after one pass
-abbrev pub IsNext : List Site → List ℕ → List ℕ → ℕ → ℕ → Type 0
-IsNext sites starts had k size =
-    (site : Site) → slice_get sites k ≡ Some site
-    → size ≡ leap_size site.kind (slice_index had k) (apart starts k site.target)
+-- sizes that forms have on the way to those that they settle at
+pub record AreSoFar (forms : List Form) (sizes : List ℕ) : Type 0 where
+  pub count : length sizes ≡ length forms
+  pub first : AreBelow (sizes_after 1 forms) sizes
+  pub below : AreBelow sizes (settled forms)
+
+-- where forms begin up to an index, at sizes on the way
+pub record AreKnown (forms : List Form) (starts : List ℕ) (known : ℕ) : Type 0 where
+  pub sizes : List ℕ
+  pub count : length sizes ≡ length forms
+  pub below : AreBelow sizes (settled forms)
+  pub long : length starts ≡ length forms + 1
+  pub within : known ≤ length forms
+  pub each : (k : ℕ) → k ≤ known → slice_index starts k ≡ sum (take k sizes)
+
+-- the form at an index has grown, and no other
+pub record IsLonger (sizes longer : List ℕ) (i : ℕ) : Type 0 where
+  pub count : length longer ≡ length sizes
+  pub before : (k : ℕ) → k < i → slice_index longer k ≡ slice_index sizes k
+  pub after : (k : ℕ) → i < k → slice_index longer k ≡ slice_index sizes k
+  pub more : slice_index sizes i < slice_index longer i
+
+-- a form before an index has grown, and no other
+pub record IsLongerBefore (end : ℕ) (sizes longer : List ℕ) (i : ℕ) : Type 0 where
+  pub within : i < end
+  pub grown : IsLonger sizes longer i
+
+-- a form's size is enough for its distance
+abbrev pub IsEnough : List ℕ → List ℕ → ℕ → Site → Type 0
+IsEnough starts sizes i site =
+    leap_size site.kind (slice_index sizes i) (apart starts i site.target) ≤ slice_index sizes i
 
 -- the size of a form where none has bytes yet
 unfoldable pub first_size : Form → ℕ

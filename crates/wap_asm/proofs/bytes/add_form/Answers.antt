@@ -38,9 +38,10 @@ apart-distance-requires-clause-to c =
 
 pub apart-distance-requires-clause-few : goal.apart-distance-requires-clause-few
 apart-distance-requires-clause-few c =
+    let few =
     settled_few c.args.forms.now c.args.layout.now.starts.items c.as_slice.result.now
-    c.requires.starts
-    c.as_slice.ensures.value c.requires.few
+    c.requires.starts c.as_slice.ensures.value c.requires.few in
+    omega (arith, few c.index.result.now.target, few c.args.i)
 
 pub overflow_cast-distance : goal.overflow_cast-distance
 overflow_cast-distance c =
