@@ -1,3 +1,4 @@
+pub mod Profile
 pub mod Places
 pub mod Faults
 pub mod Order

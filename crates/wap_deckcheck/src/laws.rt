@@ -1,10 +1,12 @@
-//! What good decks and faults have to do with each other.
+//! What good decks and faults have to do with each other, and that the rules are those that are
+//! listed. The functions here do nothing, and carry the laws alone.
 ghost use Rattle.std.specs.Prelude.{◌≡◌, ◌↔◌, []};
 ghost use Rattle.wap_markup.specs.declared.deck.Deck.{Deck};
-ghost use Rattle.wap_markup.specs.Good.{IsGood};
+ghost use Rattle.wap_markup.specs.Good.{IsGood, rules};
 ghost use Rattle.wap_markup.specs.Normal.{IsNormal};
 ghost use Rattle.wap_deckcheck.specs.Faults.{faults};
 ghost use Rattle.wap_deckcheck.specs.Order.{FaultsAscend};
+ghost use Rattle.wap_deckcheck.specs.Profile.{profile};
 
 /// Good decks are those without faults.
 pub fn good_is_faultless()
@@ -16,4 +18,9 @@ pub fn good_is_faultless()
 #[tactic(auto, using(crate::proofs::Ascending::faults_ascend))]
 pub fn faults_ascend()
     ensures { (deck : Deck) → FaultsAscend deck }
+{}
+
+/// The rules of the code are those of the definitions.
+pub fn rules_are_listed()
+    ensures { rules ≡ profile }
 {}

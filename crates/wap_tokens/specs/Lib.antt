@@ -1,3 +1,4 @@
 pub mod Rows
 pub mod Agreement
+pub mod Listed
 pub mod inside

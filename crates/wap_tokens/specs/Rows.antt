@@ -38,6 +38,9 @@ starts = map (λ row. (row.1, row.2.now))
 abbrev pub codes_by_start : List LentStart → List (Start × ℕ)
 codes_by_start = map (λ row. ((row.1, row.2.now), row.0))
 
+abbrev pub codes_by_attr : List LentStart → List (AttrName × ℕ)
+codes_by_attr = map (λ row. (row.1, row.0))
+
 -- a start that is lent
 abbrev pub lent_start : AttrName × Bor (List ℕ) → Start
 lent_start start = (start.0, start.1.now)

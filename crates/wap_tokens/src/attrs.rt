@@ -4,9 +4,9 @@ ghost use Rattle.std.specs.Map.{lookup};
 ghost use Rattle.std.specs.Option.{option_map};
 ghost use Rattle.std.specs.Str.{chars, bytes_eq};
 ghost use Rattle.wap_markup.specs.Tables.{is_same_attr, name_of_attr, attr_named};
-ghost use Rattle.wap_markup.specs.Tables.{attr_start, code_of_start};
+ghost use Rattle.wap_markup.specs.Tables.{attr_start, code_of_start, start_code};
 ghost use Rattle.wap_tokens.specs.Rows.{attrs_by_name, names_by_attr, starts};
-ghost use Rattle.wap_tokens.specs.Rows.{codes_by_start, lent_start};
+ghost use Rattle.wap_tokens.specs.Rows.{codes_by_start, codes_by_attr, lent_start};
 
 use crate::places::start_place;
 use wap_base::Text;
@@ -93,4 +93,27 @@ pub fn code_of_start(attr: AttrName, text: &str) -> Option<u8>
     ensures { result ≡ code_of_start (attr, chars text.now) }
 {
     code_beside(&ATTR_STARTS, attr, text)
+}
+
+/// The first code beside an attribute.
+fn first_beside(rows: &[(u8, AttrName, &str)], attr: AttrName) -> Option<u8>
+    ensures { result ≡ lookup (is_same_attr attr) (codes_by_attr rows.now) }
+{
+    for row in rows {
+        if attr == row.1 {
+            return Some(row.0);
+        }
+    }
+    None
+}
+
+/// The code of an attribute with nothing before its value. An attribute whose values all begin with
+/// texts has none, and its first code is given.
+pub fn start_code(attr: AttrName) -> u8
+    ensures { result ≡ start_code attr }
+{
+    match code_of_start(attr, "") {
+        Some(code) => code,
+        None => first_beside(&ATTR_STARTS, attr).unwrap_or(0),
+    }
 }
