@@ -2,15 +2,17 @@
 use Rattle.std.proofs.Common.{◌≡◌, ◌≢◌, ℕ, suc, ◌+◌, ◌-◌, ◌^◌, ◌<◌, ◌≤◌, List, [], ◌∷◌}
 use Rattle.std.proofs.Common.{◌++◌, length, take, drop, Some, Result, Ok, Err, refl}
 use Rattle.std.proofs.Common.{sym, ap, subst, ◌∙◌, append_assoc, arith}
-use Rattle.std.proofs.lemmas.List.{append-nil, take_at, drop_at, drop-drop}
+use Rattle.std.proofs.lemmas.List.{append-nil, take_at, drop_at, drop-drop, length-append}
 use Rattle.wap_base.specs.Numbers.{mb_at, mb_spelling}
 use Rattle.wap_base.specs.declared.number.ReadFault.{ReadFault}
 use Rattle.wap_base.proofs.NumberLaws.{mb_again}
 use Rattle.wap_base.proofs.NumberSpelling.{IsShortest-mb_spelling}
 use Rattle.wap_markup.specs.declared.document.TheConstants.{LEVEL_LIMIT}
+use Rattle.wap_markup.specs.declared.document.Document.{Document}
 use Rattle.wap_markup.specs.declared.deck.Deck.{Deck}
 use Rattle.wap_markup.specs.declared.deck.Node.{Node}
 use Rattle.wap_markup.specs.declared.name.Tag.TheVariants as tags
+use Rattle.wap_markup.specs.Documents.{IsDocument}
 use Rattle.wap_markup.specs.Grammar.{table_size}
 use Rattle.wap_markup.specs.Good.{IsGood}
 use Rattle.wap_markup.specs.Normal.{IsNormal}
@@ -18,14 +20,17 @@ use Rattle.wap_markup.specs.Writing.{items_kids, node_kids, element_of, document
 use Rattle.wap_spelling.specs.Names.{table_of, with_element, names_of}
 use Rattle.wap_spelling.specs.Spelling.{header_spelling, root_spelling, spelling}
 use Rattle.wap_spelling.specs.Spelling.{element_spelling, first_pages}
-use Rattle.wap_spelling.specs.Spellable.{IsSpellable}
+use Rattle.wap_spelling.specs.Spelling.{canon}
+use Rattle.wap_spelling.specs.Spellable.{IsSpellable, HasTexts}
 use Rattle.wap_good.specs.inside.Nodes.{node_at}
 use Rattle.wap_good.specs.Characters.{OfNode}
+use Rattle.wap_good.specs.inside.Header.{HasTable}
 use Rattle.wap_good.specs.inside.Held.{table_in, deck_in, IsHeld}
 use Rattle.wap_good.proofs.spelled.Growing.{grows_same}
 use Rattle.wap_good.proofs.spelled.Tables.{length-table}
 use Rattle.wap_good.proofs.Opening.{seen}
 use Rattle.wap_good.proofs.NodeLaw.{node_bytes, node_read, IsGoodElement, IsGoodNode}
+use Rattle.wap_good.proofs.FitLaw.{deck_fits}
 use Rattle.wap_good.proofs.FlatLaw.{root_flat}
 use Rattle.wap_good.proofs.GoodLaw.{root_good}
 
@@ -112,6 +117,22 @@ module _ (deck : Deck) (good : IsGood deck) (normal : IsNormal deck)
     next_is = refl;
   })
 
+  -- all of them follow the header
+  pub has_table : (bytes : List ℕ) → bytes ≡ spelling (document_of deck) → HasTable bytes
+  has_table bytes are =
+      let spelled = are ∙ written in
+      let len = ap length spelled in
+      let header = length-append (3 ∷ 10 ∷ 106 ∷ []) (count_bytes ++ (table ++ root_bytes)) in
+      let counts = length-append count_bytes (table ++ root_bytes) in
+      let tables = length-append table root_bytes in
+      record {
+        count = length table;
+        table = 3 + length count_bytes;
+        counted = counted bytes spelled;
+        behind = omega arith;
+        within = omega arith;
+      }
+
   module _ (bytes : List ℕ) (at root : ℕ) (are : bytes ≡ spelling (document_of deck))
       (ordered : at ≤ root) (found : mb_at bytes 3 ≡ Ok (root - at, at)) where
     places : (root - at ≡ length table) × (at ≡ 3 + length count_bytes)
@@ -157,3 +178,16 @@ module _ (deck : Deck) (good : IsGood deck) (normal : IsNormal deck)
       normal = subst IsNormal (sym deck_seen) normal;
       of = subst (λ (d : Deck). OfNode LEVEL_LIMIT d.root) (sym deck_seen) of;
     }
+
+-- the bytes of a deck that is held spell its document, by the laws of spellings
+pub held_document : ((deck : Deck) → IsNormal deck → deck.root.tag ≢ tags.Other
+    → IsSpellable (document_of deck))
+    → ((d : Document) → IsSpellable d → HasTexts d → IsDocument (spelling d) (canon d))
+    → (table : List ℕ) (root : ℕ) (bytes : List ℕ) → IsHeld table root bytes
+    → IsDocument bytes (document_of (deck_in table root bytes))
+held_document spellable read table root bytes held =
+    let deck : Deck = deck_in table root bytes in
+    let known = root_known deck held.good in
+    subst (λ (l : List ℕ). IsDocument l (document_of deck)) (sym held.spelled)
+    (read (document_of deck) (spellable deck held.normal known)
+    (deck_fits deck held.normal known held.of))

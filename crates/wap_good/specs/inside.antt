@@ -1,3 +1,4 @@
+pub mod Header
 pub mod Nodes
 pub mod Starts
 pub mod Notes

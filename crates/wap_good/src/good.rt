@@ -8,6 +8,7 @@ ghost use Rattle.wap_markup.specs.Trees.{is_text, first_with};
 ghost use Rattle.wap_markup.specs.Good.{IsGood};
 ghost use Rattle.wap_markup.specs.Normal.{IsNormal};
 ghost use Rattle.wap_good.specs.declared.laws.TheConstants.{HEADER_LENGTH};
+ghost use Rattle.wap_good.specs.inside.Header.{HasTable};
 
 use crate::cards::{Cards, card_places, view_at};
 use crate::laws::{HEADER_LENGTH, decks_are_read};
@@ -20,7 +21,7 @@ use wap_base::{Bytes, NoMemory, Rows, Text, read_mb};
 use wap_deck::deck_of;
 use wap_markup::{AttrName, Deck, LEVEL_LIMIT, Tag};
 use wap_spelling::{decks_are_spellable, spelling_is_read};
-use wap_wbxml::decode;
+use wap_wbxml::{DocFault, decode};
 use wap_writing::spell;
 
 /// A good deck (WAP-191, section 11), kept as the bytes that spell its document. A contract sees
@@ -54,26 +55,17 @@ impl Model for GoodDeck {
     ghost invariant = { λ good. IsKept good.table good.root good.bytes good.cards good.notes };
 }
 
-/// Where the string table and the root begin in a document in WML 1.3 and UTF-8. Bytes that have no
-/// such places are answered as `NoMemory`.
-fn places(bytes: &[u8]) -> Result<(usize, usize), NoMemory>
-    ensures table { IfOk result (λ at. at.0 ≤ at.1) }
-    ensures root { IfOk result (λ at. at.1 ≤ length bytes.now) }
-    ensures exact { IfOk result (λ at. mb_at bytes.now HEADER_LENGTH ≡ Ok (at.1 - at.0, at.0)) }
+/// Where the string table and the root begin in a document in WML 1.3 and UTF-8.
+fn places(bytes: &[u8]) -> (usize, usize)
+    requires { HasTable bytes.now }
+    ensures table { result.0 ≤ result.1 }
+    ensures root { result.1 ≤ length bytes.now }
+    ensures exact { mb_at bytes.now HEADER_LENGTH ≡ Ok (result.1 - result.0, result.0) }
 {
-    if bytes.len() < HEADER_LENGTH {
-        return Err(NoMemory);
+    match read_mb(bytes, HEADER_LENGTH) {
+        Ok((count, table)) => (table, table + count as usize),
+        Err(_) => unreachable!(),
     }
-    let Ok((count, table)) = read_mb(bytes, HEADER_LENGTH) else {
-        return Err(NoMemory);
-    };
-    let Some(root) = table.checked_add(count as usize) else {
-        return Err(NoMemory);
-    };
-    if root > bytes.len() {
-        return Err(NoMemory);
-    }
-    Ok((table, root))
 }
 
 /// Keeps the deck as bytes.
@@ -90,7 +82,7 @@ fn keep(alloc: Global, deck: &Deck) -> Result<GoodDeck, NoMemory>
     // The copy takes as much memory as it has bytes; what was written has grown beyond that.
     let bytes = Bytes::of(alloc, spelled.as_slice())?;
     let whole = bytes.as_slice();
-    let (table, root) = places(whole)?;
+    let (table, root) = places(whole);
     let names = Bytes::of(alloc, &whole[table..root])?;
     let notes = notes_of(alloc, whole, root)?;
     let cards = card_places(alloc, &names, root, whole, notes.as_slice())?;
@@ -145,7 +137,10 @@ impl GoodDeck {
                 let deck = deck_of(alloc, &document)?;
                 Ok(deck)
             }
-            Err(_) => Err(NoMemory),
+            Err(fault) => match fault {
+                DocFault::NoMemory => Err(NoMemory),
+                _ => unreachable!(),
+            },
         }
     }
 

@@ -10,15 +10,20 @@ ghost use Rattle.wap_spelling.specs.Spelling.{spelling};
 ghost use Rattle.wap_spelling.specs.Spellable.{IsSpellable};
 ghost use Rattle.wap_good.specs.Characters.{OfNode};
 ghost use Rattle.wap_good.specs.declared.laws.TheConstants.{HEADER_LENGTH};
+ghost use Rattle.wap_good.specs.inside.Header.{HasTable};
 ghost use Rattle.wap_good.specs.inside.Held.{IsHeld, table_in, deck_in};
 
 /// How many bytes stand before the length of the string table in what is written for a deck: the
 /// version, the public identifier and the character set take one each.
 pub const HEADER_LENGTH: usize = 3;
 
-/// A deck is read from the bytes that spell its document. The function does nothing.
+/// The bytes that spell the document of a deck have a string table, and the deck is read from them.
+/// The function does nothing.
 pub(crate) fn decks_are_read()
-    ensures { (deck : Deck) (bytes : List ℕ) (table root : ℕ) → IsGood deck → IsNormal deck
+    ensures table { (deck : Deck) (bytes : List ℕ) → IsGood deck → IsNormal deck
+        → OfNode LEVEL_LIMIT deck.root → IsSpellable (document_of deck)
+        → bytes ≡ spelling (document_of deck) → HasTable bytes }
+    ensures deck { (deck : Deck) (bytes : List ℕ) (table root : ℕ) → IsGood deck → IsNormal deck
         → OfNode LEVEL_LIMIT deck.root → IsSpellable (document_of deck)
         → bytes ≡ spelling (document_of deck)
         → mb_at bytes HEADER_LENGTH ≡ Ok (root - table, table) → table ≤ root → root ≤ length bytes

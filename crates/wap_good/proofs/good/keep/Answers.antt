@@ -18,19 +18,19 @@ card_places-requires-clause-held c =
     let are =
     c.in_ok-bytes.ensures ∙ c.as_slice.ensures ∙ c.in_ok-spelled.ensures in
     let found =
-    ap (λ (l : List ℕ). mb_at l 3) (sym c.as_slice-whole.ensures) ∙ c.in_ok-table.ensures.exact in
+    ap (λ (l : List ℕ). mb_at l 3) (sym c.as_slice-whole.ensures) ∙ c.places-table.ensures.exact in
     let within =
-    subst (λ (l : List ℕ). c.in_ok-table.root ≤ length l)
-    c.as_slice-whole.ensures c.in_ok-table.ensures.root in
+    subst (λ (l : List ℕ). c.places-table.result.1 ≤ length l)
+    c.as_slice-whole.ensures c.places-table.ensures.root in
     let held =
-    (c.decks_are_read.ensures c.args.deck.now c.in_ok-bytes.bytes c.in_ok-table.table
-    c.in_ok-table.root
+    (c.decks_are_read.ensures.deck c.args.deck.now c.in_ok-bytes.bytes c.places-table.result.0
+    c.places-table.result.1
     c.requires.good c.requires.normal c.tell_node.ensures spellable are found
-    c.in_ok-table.ensures.table within).0 in
-    subst (λ (l : List ℕ). IsHeld l c.in_ok-table.root c.as_slice-whole.result.now)
+    c.places-table.ensures.table within).0 in
+    subst (λ (l : List ℕ). IsHeld l c.places-table.result.1 c.as_slice-whole.result.now)
     (sym c.in_ok-names.ensures)
     (subst (λ (l : List ℕ). IsHeld
-    (table_in c.in_ok-table.table c.in_ok-table.root l) c.in_ok-table.root l)
+    (table_in c.places-table.result.0 c.places-table.result.1 l) c.places-table.result.1 l)
     (sym c.as_slice-whole.ensures) held)
 
 pub card_places-requires-clause-noted : goal.card_places-requires-clause-noted
@@ -41,9 +41,9 @@ pub invariant_of-result : goal.invariant_of-result
 invariant_of-result c =
     let kept =
     subst (λ (l : List ℕ).
-    IsKept c.in_ok-names.names c.in_ok-table.root l c.in_ok-cards.cards c.as_slice-2.result.now)
+    IsKept c.in_ok-names.names c.places-table.result.1 l c.in_ok-cards.cards c.as_slice-2.result.now)
     c.as_slice-whole.ensures c.in_ok-cards.ensures in
-    subst (IsKept c.in_ok-names.names c.in_ok-table.root c.in_ok-bytes.bytes c.in_ok-cards.cards)
+    subst (IsKept c.in_ok-names.names c.places-table.result.1 c.in_ok-bytes.bytes c.in_ok-cards.cards)
     c.as_slice-2.ensures kept
 
 pub returns : goal.returns
@@ -54,16 +54,16 @@ returns c =
     let are =
     c.in_ok-bytes.ensures ∙ c.as_slice.ensures ∙ c.in_ok-spelled.ensures in
     let found =
-    ap (λ (l : List ℕ). mb_at l 3) (sym c.as_slice-whole.ensures) ∙ c.in_ok-table.ensures.exact in
+    ap (λ (l : List ℕ). mb_at l 3) (sym c.as_slice-whole.ensures) ∙ c.places-table.ensures.exact in
     let within =
-    subst (λ (l : List ℕ). c.in_ok-table.root ≤ length l)
-    c.as_slice-whole.ensures c.in_ok-table.ensures.root in
+    subst (λ (l : List ℕ). c.places-table.result.1 ≤ length l)
+    c.as_slice-whole.ensures c.places-table.ensures.root in
     let table : c.in_ok-names.names
-    ≡ table_in c.in_ok-table.table c.in_ok-table.root c.in_ok-bytes.bytes =
+    ≡ table_in c.places-table.result.0 c.places-table.result.1 c.in_ok-bytes.bytes =
     c.in_ok-names.ensures
-    ∙ ap (table_in c.in_ok-table.table c.in_ok-table.root) c.as_slice-whole.ensures in
-    ap (λ (l : List ℕ). deck_in l c.in_ok-table.root c.in_ok-bytes.bytes) table
-    ∙ (c.decks_are_read.ensures c.args.deck.now c.in_ok-bytes.bytes c.in_ok-table.table
-    c.in_ok-table.root
+    ∙ ap (table_in c.places-table.result.0 c.places-table.result.1) c.as_slice-whole.ensures in
+    ap (λ (l : List ℕ). deck_in l c.places-table.result.1 c.in_ok-bytes.bytes) table
+    ∙ (c.decks_are_read.ensures.deck c.args.deck.now c.in_ok-bytes.bytes c.places-table.result.0
+    c.places-table.result.1
     c.requires.good c.requires.normal c.tell_node.ensures spellable are found
-    c.in_ok-table.ensures.table within).1
+    c.places-table.ensures.table within).1
