@@ -32,8 +32,8 @@ use Rattle.wap_deck.proofs.Values.{attribute_read}
 use Rattle.wap_spelling.specs.Names.{table_of, place_of}
 use Rattle.wap_spelling.specs.Writings.{◌⨾◌, plain, each, on_attribute_page}
 use Rattle.wap_spelling.specs.Spelling.{start_spelling, piece_spelling, attr_spelling, first_pages}
-use Rattle.wap_good.proofs.spelled.Strings.{indexed_read}
-use Rattle.wap_good.proofs.spelled.Characters.{known_name}
+use Rattle.wap_spelling.proofs.Strings.{indexed_read}
+use Rattle.wap_writing.proofs.Characters.{known_name}
 use Rattle.wap_good.specs.Readers.{◌>>=◌, number_from, number_at, all_of}
 use Rattle.wap_good.specs.Texts.{part_at, value_at, behind_value}
 use Rattle.wap_good.specs.inside.Nodes.{named_at, start_at, attr_at}

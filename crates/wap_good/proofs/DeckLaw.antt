@@ -26,8 +26,8 @@ use Rattle.wap_good.specs.inside.Nodes.{node_at}
 use Rattle.wap_good.specs.Characters.{OfNode}
 use Rattle.wap_good.specs.inside.Header.{HasTable}
 use Rattle.wap_good.specs.inside.Held.{table_in, deck_in, IsHeld}
-use Rattle.wap_good.proofs.spelled.Growing.{grows_same}
-use Rattle.wap_good.proofs.spelled.Tables.{length-table}
+use Rattle.wap_spelling.proofs.Growing.{grows_same}
+use Rattle.wap_spelling.proofs.Tables.{length-table}
 use Rattle.wap_good.proofs.Opening.{seen}
 use Rattle.wap_good.proofs.NodeLaw.{node_bytes, node_read, IsGoodElement, IsGoodNode}
 use Rattle.wap_good.proofs.FitLaw.{deck_fits}

@@ -20,9 +20,9 @@ use Rattle.wap_markup.specs.Writing.{items_kids, node_kids, element_of}
 use Rattle.wap_spelling.specs.Names.{KidLevel, with_token, with_attr}
 use Rattle.wap_spelling.specs.Names.{with_opened, with_kid, with_element}
 use Rattle.wap_good.specs.Characters.{OfAttr, OfItem, OfOpened, OfNode}
-use Rattle.wap_good.proofs.spelled.Growing.{Grows, grows_on, grows-has, with_name-has}
-use Rattle.wap_good.proofs.spelled.Growing.{grows-with_attr, grows-fold, grows-with_kid}
-use Rattle.wap_good.proofs.spelled.Growing.{grows-with_element}
+use Rattle.wap_spelling.proofs.Growing.{Grows, grows_on, grows-has, with_name-has}
+use Rattle.wap_spelling.proofs.Growing.{grows-with_attr, grows-fold, grows-with_kid}
+use Rattle.wap_spelling.proofs.Growing.{grows-with_element}
 use Rattle.wap_good.proofs.Contents.{Shape, Shapes, shapes}
 use Rattle.wap_good.proofs.AttrLaw.{IsNamed, IsGoodAttr}
 use Rattle.wap_good.proofs.NodeLaw.{IsBefore, AreItems, IsGoodElement, IsGoodNode}

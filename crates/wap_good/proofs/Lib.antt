@@ -14,7 +14,6 @@ pub mod Parted
 pub mod Compared
 pub mod Spoken
 pub mod Named
-pub mod spelled
 pub mod Flat
 pub mod PartLaw
 pub mod AttrLaw

@@ -23,8 +23,8 @@ use Rattle.wap_markup.specs.Writing.{run_before, runs_of, run_piece, part_pieces
 use Rattle.wap_spelling.specs.Names.{string}
 use Rattle.wap_spelling.specs.Spellable.{IsString}
 use Rattle.wap_spelling.specs.Spelling.{variable, piece_spelling, first_pages}
-use Rattle.wap_good.proofs.spelled.Strings.{and_parts, text_bytes}
-use Rattle.wap_good.proofs.spelled.Characters.{name_string, RunFits, runs_fit}
+use Rattle.wap_spelling.proofs.Strings.{and_parts, text_bytes}
+use Rattle.wap_writing.proofs.Characters.{name_string, RunFits, runs_fit}
 use Rattle.wap_good.specs.Readers.{◌>>=◌, after, zero_place, ended_at, all_of}
 use Rattle.wap_good.specs.Texts.{string_part, name_part, string_at, reference_at}
 use Rattle.wap_good.specs.Texts.{character_at, part_at, value_at, behind_value}

@@ -1,8 +1,8 @@
 pub mod Appending
-mod Tables
+pub mod Tables
 mod Levels
-mod Strings
-mod Growing
+pub mod Strings
+pub mod Growing
 mod States
 mod AttributeLaws
 mod ElementLaws

@@ -3,8 +3,10 @@
 
 mod attributes;
 mod decks;
+mod laws;
 mod names;
 mod nodes;
 mod texts;
 
 pub use decks::spell;
+pub use laws::rewritten_is_read;

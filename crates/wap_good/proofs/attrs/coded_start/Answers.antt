@@ -2,7 +2,7 @@ use Rattle.std.proofs.Common.{sym, subst, ap, ◌∙◌, ℕ, List, Some, Option
 use Rattle.wap_markup.specs.Tables.{Start}
 use Rattle.wap_spelling.specs.Spellable.{HasNoZero}
 use Rattle.wap_good.proofs.HeadLaw.{coded_start}
-use Rattle.wap_good.proofs.spelled.Characters.{coded_text}
+use Rattle.wap_writing.proofs.Characters.{coded_text}
 use Rattle.wap_good.proofs.attrs.coded_start.Goals as goal
 
 pub returns-clause-exact : goal.returns-clause-exact

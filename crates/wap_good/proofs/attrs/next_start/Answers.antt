@@ -1,6 +1,6 @@
 use Rattle.std.proofs.Common.{sym, subst}
 use Rattle.wap_spelling.specs.Spellable.{HasNoZero}
-use Rattle.wap_good.proofs.spelled.Characters.{coded_text}
+use Rattle.wap_writing.proofs.Characters.{coded_text}
 use Rattle.wap_good.proofs.attrs.next_start.Goals as goal
 
 pub returns-clause-text : goal.returns-clause-text

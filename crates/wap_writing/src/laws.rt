@@ -1,6 +1,5 @@
-//! The document of a deck that a document means is one that bytes spell.
-#![tactic(auto)]
-
+//! The document of a deck that a document means is one that bytes spell. The function here does
+//! nothing, and carries the law alone.
 ghost use Rattle.std.specs.Prelude.{◌≢◌};
 ghost use Rattle.wap_markup.specs.declared.document.Document.{Document};
 ghost use Rattle.wap_markup.specs.declared.name.Tag.{Tag};
@@ -12,7 +11,7 @@ ghost use Rattle.wap_spelling.specs.Spelling.{spelling};
 use wap_spelling::{decks_are_spellable, documents_are_spellable, spelling_is_read};
 
 /// The document of a deck that a document means is one that bytes spell, unless the deck's root is
-/// unknown. The function does nothing.
+/// unknown.
 pub fn rewritten_is_read(_bytes: &[u8])
     ensures { (document : Document) → IsDocument _bytes.now document
         → (deck_of document).root.tag ≢ Tag.Other

@@ -1,9 +1,9 @@
 use Rattle.wap_markup.specs.Decks.{deck_of}
 use Rattle.wap_markup.specs.Writing.{document_of}
 use Rattle.wap_deck.proofs.Normality.{deck_is_normal}
-use Rattle.wap_rewriting.proofs.DeckTexts.{deck_texts}
-use Rattle.wap_rewriting.proofs.DocumentTexts.{document_texts}
-use Rattle.wap_rewriting.proofs.rewritten_is_read.Goals as goal
+use Rattle.wap_writing.proofs.DeckTexts.{deck_texts}
+use Rattle.wap_writing.proofs.DocumentTexts.{document_texts}
+use Rattle.wap_writing.proofs.laws.rewritten_is_read.Goals as goal
 
 pub returns : goal.returns
 returns c = λ document is known.

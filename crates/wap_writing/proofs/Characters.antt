@@ -1,28 +1,38 @@
--- Texts: those of the tables, names of variables, and the strings of a text.
+-- Texts of characters: those of the tables, names of variables, and the strings of a text.
 use Rattle.std.proofs.Common.{◌≡◌, ℕ, zero, suc, ◌<◌, ◌≤◌, Bool, true, false, cond}
-use Rattle.std.proofs.Common.{leb, ltb, map, List, [], ◌∷◌, Option, Some, None}
-use Rattle.std.proofs.Common.{refl, ap, inl, inr, arith, lt-ltb}
+use Rattle.std.proofs.Common.{leb, ltb, map, List, [], ◌∷◌, ◌++◌, Option, Some, None}
+use Rattle.std.proofs.Common.{refl, sym, ap, inl, inr, arith, lt-ltb}
 use Rattle.std.specs.Prelude.{◌&&◌, ◌==◌, not, nat_eq}
 use Rattle.std.specs.List.{list_all, AllByRecursion}
 use Rattle.std.specs.Map.{lookup}
+use Rattle.std.specs.Option.{option_map}
 use Rattle.std.specs.Str.{all_scalars}
 use Rattle.std.proofs.Math.Dec.{eqb-suc-zero}
 use Rattle.std.proofs.lemmas.Bool.{cases_lt, and_from, and_parts}
 use Rattle.std.proofs.lemmas.Bool.Decides.{nat_tests}
 use lib.Utf8.{scalar}
-use Rattle.wap_base.proofs.Choices.{chosen}
+use Rattle.wap_base.proofs.Choices.{chosen, some_same}
 use Rattle.wap_base.specs.Names.{is_name, begins_name, continues_name}
+use Rattle.wap_markup.specs.declared.document.Token.{Token}
+use Rattle.wap_markup.specs.declared.document.Token.TheVariants.{Code, Literal}
 use Rattle.wap_markup.specs.declared.name.AttrName.{AttrName}
 use Rattle.wap_markup.specs.declared.name.AttrName.TheVariants as attrs
 use Rattle.wap_markup.specs.Strings.{is_not_zero}
 use Rattle.wap_markup.specs.Tables.{name_rows, name_of_attr, Start, start_by_code, start_rows}
-use Rattle.wap_markup.specs.Tables.{attr_start, value_rows, attr_value}
+use Rattle.wap_markup.specs.Tables.{attr_start, attr_named, value_rows, attr_value}
+use Rattle.wap_markup.specs.Decks.{start_of}
 use Rattle.wap_markup.specs.Writing.{run_before, runs_of}
 use Rattle.wap_tokens.proofs.Found.{found_passes}
 use Rattle.wap_spelling.specs.Spellable.{IsString}
 
 abbrev pub OfCharacters : List ℕ → Type 0
 OfCharacters text = all_scalars text ≡ true
+
+pub text_append : (a b : List ℕ) → OfCharacters a → OfCharacters b → OfCharacters (a ++ b)
+text_append [] b one two = two
+text_append (c ∷ a) b one two =
+    let parts = and_parts (scalar c) (all_scalars a) one in
+    and_from (scalar c) (all_scalars (a ++ b)) parts.0 (text_append a b parts.1 two)
 
 -- ---- the tables, computed
 
@@ -71,6 +81,19 @@ coded_text page code start found =
           and_parts (list_all is_not_zero start.1) (all_scalars start.1) row.2
       | inr none ↦ absurd (cc none.1)
     ]
+
+named_text : (found : Option AttrName) (start : Start)
+    → option_map (λ attr. (attr, [])) found ≡ Some start
+    → OfCharacters start.1
+named_text None start is = absurd (cc is)
+named_text (Some attr) start is =
+    ap (λ (s : Start). all_scalars s.1) (sym (some_same (attr, []) start is))
+
+-- the text with which a value begins
+pub start_text : (page : ℕ) (token : Token) (start : Start) → start_of page token ≡ Some start
+    → OfCharacters start.1
+start_text page (Code code) start found = (coded_text page code start found).1
+start_text page (Literal name) start found = named_text (attr_named name) start found
 
 -- ---- names of variables
 

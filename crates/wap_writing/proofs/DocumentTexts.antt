@@ -30,9 +30,9 @@ use Rattle.wap_tokens.proofs.Found.{found_passes}
 use Rattle.wap_spelling.specs.Names.{KidLevel}
 use Rattle.wap_spelling.specs.Spellable.{IsString, FitsPiece, FitsAttr, FitsOpened}
 use Rattle.wap_spelling.specs.Spellable.{FitsKid, FitsElement, HasTexts}
-use Rattle.wap_rewriting.proofs.Texts.{known_name, name_string, RunFits, runs_fit}
-use Rattle.wap_rewriting.proofs.DeckTexts.{TextPart, TextAttribute, TextItem}
-use Rattle.wap_rewriting.proofs.DeckTexts.{TextOpened, TextNode, TextDeck}
+use Rattle.wap_writing.proofs.Characters.{known_name, name_string, RunFits, runs_fit}
+use Rattle.wap_writing.proofs.DeckTexts.{TextPart, TextAttribute, TextItem}
+use Rattle.wap_writing.proofs.DeckTexts.{TextOpened, TextNode, TextDeck}
 
 -- ---- codes, computed
 

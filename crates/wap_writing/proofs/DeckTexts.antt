@@ -60,7 +60,7 @@ use Rattle.wap_markup.specs.Decks.{
 use Rattle.wap_tokens.proofs.TagTable.{tag_of-known, tag_named-known}
 use Rattle.wap_spelling.specs.Spellable.{IsString, FitsPiece, FitsAttr, FitsOpened, FitsKid}
 use Rattle.wap_spelling.specs.Spellable.{FitsElementOf, FitsElement, HasTexts}
-use Rattle.wap_rewriting.proofs.Texts.{OfCharacters, text_append, value_text, start_text}
+use Rattle.wap_writing.proofs.Characters.{OfCharacters, text_append, value_text, start_text}
 
 -- ---- decks of texts, known tags below the root
 

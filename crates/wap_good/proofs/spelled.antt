@@ -1,4 +1,0 @@
-pub mod Tables
-pub mod Strings
-pub mod Growing
-pub mod Characters
