@@ -12,6 +12,7 @@ pub record Input : Type 0 where
 abbrev pub place : ℕ → List ℕ → ℕ
 place total left = total - length left
 
+-- the place of the byte before the bytes that are left
 abbrev pub place_before : ℕ → List ℕ → ℕ
 place_before total left = total - length left - 1
 

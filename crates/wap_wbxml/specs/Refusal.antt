@@ -46,9 +46,11 @@ IsCut (byte ∷ []) = byte ≡ SWITCH_PAGE
 IsCut (byte ∷ page ∷ []) = byte ≡ SWITCH_PAGE
 IsCut (byte ∷ page ∷ next ∷ rest) = ⊥
 
+-- the input ends before an item begins
 abbrev pub RefusedLead : ℕ → Refusal
 RefusedLead total bytes fault = IsCut bytes × (fault ≡ doc.Short total)
 
+-- the input ends inside a number, or the number is too long (WAP-192, section 5.1)
 abbrev pub RefusedNumber : ℕ → Refusal
 RefusedNumber total bytes fault =
     (EndsInside bytes × (fault ≡ doc.Short total))
@@ -58,6 +60,7 @@ RefusedNumber total bytes fault =
 abbrev pub TooFew : ℕ → ℕ → Refusal
 TooFew total count bytes fault = (length bytes < count) × (fault ≡ doc.Short total)
 
+-- the number of some bytes is refused, or fewer follow it
 unfoldable pub RefusedOpaque : ℕ → Refusal
 RefusedOpaque total = RefusedThen IsMb (RefusedNumber total) (TooFew total)
 
@@ -75,6 +78,7 @@ pub record RefusedString (charset : Charset) (at : ℕ) (bytes : List ℕ)
   pub no_zero : list_all is_not_zero string ≡ true
   pub no_text : IsNoText charset at string fault
 
+-- a string in place without its 0, or of no text in the character set
 abbrev pub RefusedInline : Input → ℕ → Refusal
 RefusedInline input at bytes fault =
     ((list_all is_not_zero bytes ≡ true) × (fault ≡ doc.Short input.total))
@@ -87,13 +91,16 @@ RefusedIndex strings at index rest fault =
     ((index < length strings.table)
     × IsNoText strings.charset at (string_from strings.table index) fault)
 
+-- an index of the string table: a number that is refused, or an index that is
 abbrev pub RefusedIndexed : Input → ℕ → Refusal
 RefusedIndexed input at =
     RefusedThen IsMb (RefusedNumber input.total) (RefusedIndex input.strings at)
 
+-- the number is none of a character
 abbrev pub IsNoCharacter : ℕ → ℕ → Refusal
 IsNoCharacter at number rest fault = (is_character number ≡ false) × (fault ≡ doc.Text at)
 
+-- a character: its number is refused, or is none of a character
 abbrev pub RefusedCharacter : ℕ → ℕ → Refusal
 RefusedCharacter total at = RefusedThen IsMb (RefusedNumber total) (IsNoCharacter at)
 
@@ -102,6 +109,7 @@ abbrev pub TooMany : State → ℕ → List ℕ → Refusal
 TooMany before at name rest fault =
     (2 ^ 32 ≤ table_size (counted name before).names) × (fault ≡ doc.Table at)
 
+-- a name of the string table: its index is refused, or it is one name too many
 unfoldable pub RefusedName : Input → State → ℕ → Refusal
 RefusedName input before at =
     RefusedThen (IsIndexed input.strings) (RefusedIndexed input at) (TooMany before at)
@@ -123,6 +131,7 @@ RefusedLeaf input (mark.Extension number) bytes = NotRefused bytes
 
 -- ---- attributes
 
+-- the start of an attribute, after its byte: a name that is refused, or a byte that starts none
 unfoldable pub RefusedStart : Input → State → AttributeMark → Refusal
 RefusedStart input before attribute.Coded bytes = NotRefused bytes
 RefusedStart input before attribute.Named bytes =
@@ -132,6 +141,7 @@ RefusedStart input before attribute.Value bytes = NoToken input.total bytes
 RefusedStart input before (attribute.Leaf mark) bytes = NoToken input.total bytes
 RefusedStart input before attribute.Nothing bytes = NoToken input.total bytes
 
+-- a part of a value after its byte; a byte that begins none is not refused here
 abbrev pub RefusedPieceBehind : Input → AttributeMark → Refusal
 RefusedPieceBehind input (attribute.Leaf mark) = RefusedLeaf input mark
 RefusedPieceBehind input attribute.Value = NotRefused
@@ -152,9 +162,11 @@ ValueEnds state rest =
     → IsLead state.attribute_page front lead
     → begins_piece (attribute_mark lead) ≡ false
 
+-- no further part of the attribute's value begins here
 abbrev pub AttributeEnds : Attr × State → List ℕ → Type 0
 AttributeEnds x rest = ValueEnds x.1 rest
 
+-- the value of an attribute: one of its parts is refused
 abbrev pub RefusedValue : Input → State → Refusal
 RefusedValue input = RefusedAmong (IsPiece input.strings) Anything (RefusedPiece input)
 
@@ -171,11 +183,13 @@ abbrev pub RefusedUnless : Bool → Refusal → Refusal
 RefusedUnless true Refused = NotRefused
 RefusedUnless false Refused = Refused
 
+-- the next attribute is refused, or the input ends before it or the end of attributes begins
 unfoldable pub RefusedNext : Input → State → Refusal
 RefusedNext input before =
     RefusedThen (IsLead before.attribute_page) (RefusedLead input.total)
     (λ lead. RefusedUnless (is_end (attribute_mark lead)) (RefusedAttribute input before lead))
 
+-- a list of attributes, up to its end: one of them is refused, or there is no end
 unfoldable pub RefusedAttributes : Input → State → Refusal
 RefusedAttributes input = RefusedAmong (IsAttribute input.strings) AttributeEnds (RefusedNext input)
 
@@ -194,10 +208,12 @@ RefusedInstruction input before =
 
 -- ---- elements
 
+-- a tag after its byte: a name of the string table may be refused, a code is not
 unfoldable pub RefusedTag : Input → State → Bool → Refusal
 RefusedTag input before true bytes = RefusedName input before (place_before input.total bytes) bytes
 RefusedTag input before false bytes = NotRefused bytes
 
+-- a part that may be absent, and is not refused then
 abbrev pub RefusedWhen : Bool → Refusal → Refusal
 RefusedWhen true Refused = Refused
 RefusedWhen false Refused = NotRefused
@@ -206,6 +222,7 @@ RefusedWhen false Refused = NotRefused
 abbrev pub ElementRefusal : Type 1
 ElementRefusal = State → Lead → Refusal
 
+-- a part of content after the byte that says which it is
 abbrev pub RefusedKidBehind : Input → ElementRefusal → State → Lead → ContentMark → Refusal
 RefusedKidBehind input Inner before lead content.End = NotRefused
 RefusedKidBehind input Inner before lead content.Element = Inner before lead
@@ -219,10 +236,12 @@ RefusedKid input Inner before =
     RefusedThen (IsLead before.tag_page) (RefusedLead input.total)
     (λ lead. RefusedKidBehind input Inner before lead (content_mark lead))
 
+-- the content of an element, up to its end: one of its parts is refused, or there is no end
 abbrev pub RefusedContent : Input → Elements → ElementRefusal → State → Refusal
 RefusedContent input Is Inner =
     RefusedAmong (IsKid input.strings Is) Anything (RefusedKid input Inner)
 
+-- an element after its tag's byte: its name, its attributes or its content is refused
 unfoldable pub RefusedElementOf : Input → Elements → ElementRefusal → ElementRefusal
 RefusedElementOf input Is Inner before lead =
     RefusedThen (grammar.IsTagBehind input.strings (on_tag_page lead.page before) lead.byte
@@ -242,23 +261,29 @@ RefusedElement input (suc levels) before lead bytes fault =
 
 -- ---- the header
 
+-- the version byte is missing, or is none of WBXML 1.1 to 1.3 (WAP-192, section 5.4)
 abbrev pub RefusedVersion : ℕ → Refusal
 RefusedVersion total [] fault = fault ≡ doc.Short total
 RefusedVersion total (byte ∷ rest) fault = (is_version byte ≡ false) × (fault ≡ doc.Version)
 
+-- a public identifier after its number: 0 stands before an index, and another number has to be one
+-- of WML (WAP-192, section 5.5)
 abbrev pub RefusedIdentifierBehind : ℕ → ℕ → Bool → Refusal
 RefusedIdentifierBehind total number true rest fault = RefusedNumber total rest fault
 RefusedIdentifierBehind total number false rest fault =
     (is_public number ≡ false) × (fault ≡ doc.PublicId)
 
+-- a public identifier: its number or its index is refused, or the number is none of WML
 unfoldable pub RefusedIdentifier : ℕ → Refusal
 RefusedIdentifier total =
     RefusedThen IsMb (RefusedNumber total) (λ number.
     RefusedIdentifierBehind total number (number == 0))
 
+-- the number is none of a character set that is known
 abbrev pub NoCharset : ℕ → Refusal
 NoCharset number rest fault = (charset_of number ≡ None) × (fault ≡ doc.Charset)
 
+-- a character set: its number is refused, or is not known (WAP-192, section 5.6)
 unfoldable pub RefusedCharset : ℕ → Refusal
 RefusedCharset total = RefusedThen IsMb (RefusedNumber total) NoCharset
 
@@ -281,12 +306,15 @@ abbrev pub InstructionsEnd : List ℕ → Type 0
 InstructionsEnd [] = Unit {0}
 InstructionsEnd (byte ∷ rest) = byte ≢ PI
 
+-- no further processing instruction begins after these
 abbrev pub OutersEnd : List Attr × State → List ℕ → Type 0
 OutersEnd x rest = InstructionsEnd rest
 
+-- processing instructions outside the root: one of them is refused
 unfoldable pub RefusedOuters : Input → State → Refusal
 RefusedOuters input = RefusedAmong (IsOuter input.strings) Anything (RefusedOuter input)
 
+-- the root after its byte: an element that is refused, or a byte that begins no element
 abbrev pub RefusedRootBehind : Input → State → Lead → ContentMark → Refusal
 RefusedRootBehind input before lead content.Element = RefusedElement input LEVEL_LIMIT before lead
 RefusedRootBehind input before lead content.Pi = NoToken input.total
@@ -294,11 +322,13 @@ RefusedRootBehind input before lead (content.Leaf mark) = NoToken input.total
 RefusedRootBehind input before lead content.End = NoToken input.total
 RefusedRootBehind input before lead content.Nothing = NoToken input.total
 
+-- the root is missing, no element begins there, or the element is refused
 unfoldable pub RefusedRoot : Input → State → Refusal
 RefusedRoot input before =
     RefusedThen (IsLead before.tag_page) (RefusedLead input.total)
     (λ lead. RefusedRootBehind input before lead (content_mark lead))
 
+-- the body: a processing instruction before the root is refused, or the root, or one after it
 unfoldable pub RefusedBody : Input → Refusal
 RefusedBody input =
     EitherRefused (RefusedOuters input first_state)
@@ -309,6 +339,8 @@ RefusedBody input =
 
 -- ---- the whole
 
+-- a document, part by part from the left: version, public identifier, character set, string table
+-- and body
 unfoldable pub RefusedWhole : ℕ → Refusal
 RefusedWhole total =
     RefusedThen IsVersion (RefusedVersion total) (λ version.

@@ -31,6 +31,7 @@ pub record BehindWhole {A : Type 0} (Is : List ℕ → A → Type 0) (Ends : A �
 abbrev pub Anything : {A : Type 0} → A → List ℕ → Type 0
 Anything a rest = Unit {0}
 
+-- a whole part, and after it what is refused there
 abbrev pub Behind : {A : Type 0} → (List ℕ → A → Type 0) → (A → Refusal) → Refusal
 Behind Is = BehindWhole Is Anything
 

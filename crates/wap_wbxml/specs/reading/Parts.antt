@@ -38,9 +38,12 @@ no_token total rest = Err (fault.Token (place_before total rest))
 abbrev pub as_none : {A S : Type 0} → S → List ℕ → Reading (List A × S)
 as_none state bytes = Ok (([], state), bytes)
 
+-- the input is too short for items that have to end
 abbrev pub as_short : {A S : Type 0} → ℕ → S → List ℕ → Reading (List A × S)
 as_short total state bytes = Err (fault.Short total)
 
+-- a string, a character, a reference, an extension or opaque data, after the byte that says which
+-- it is
 unfoldable pub leaf_at : Input → LeafMark → List ℕ → Reading Leaf
 leaf_at input (mark.Inline role) bytes = told (leaf_of role) (inline_at input bytes)
 leaf_at input (mark.Indexed role) bytes = told (leaf_of role) (indexed_at input bytes)
@@ -50,6 +53,7 @@ leaf_at input (mark.Extension number) bytes = Ok (leaf.Ext number, bytes)
 
 -- ---- attributes
 
+-- the start of an attribute after its byte: a code, or a name of the string table
 unfoldable pub start_at : Input → State → Lead → AttributeMark → List ℕ → Reading (Token × State)
 start_at input before lead attribute.Coded bytes = Ok ((Code lead.byte, before), bytes)
 start_at input before lead attribute.Named bytes = told literal (name_at input before bytes)
@@ -62,6 +66,8 @@ start_at input before lead attribute.Nothing bytes = no_token input.total bytes
 abbrev pub some_piece : Lead → State → Piece → Option Piece × State
 some_piece lead before piece = (Some piece, on_attribute_page lead.page before)
 
+-- the next part of a value by what its byte says, or none where the byte begins no part; that byte
+-- is left then
 abbrev pub piece_from : Input → State → Lead → AttributeMark → List ℕ → List ℕ
     → Reading (Option Piece × State)
 piece_from input before lead attribute.Value bytes rest =
@@ -73,40 +79,49 @@ piece_from input before lead attribute.Coded bytes rest = Ok ((None, before), by
 piece_from input before lead attribute.Named bytes rest = Ok ((None, before), bytes)
 piece_from input before lead attribute.Nothing bytes rest = Ok ((None, before), bytes)
 
+-- the same by the byte that it begins with, if there is one
 abbrev pub piece_led : Input → State → List ℕ → Option (Lead × List ℕ)
     → Reading (Option Piece × State)
 piece_led input before bytes (Some lead) =
     piece_from input before lead.0 (attribute_mark lead.0) bytes lead.1
 piece_led input before bytes None = Ok ((None, before), bytes)
 
+-- the next part of a value, or none
 unfoldable pub next_piece : Input → Next Piece State
 next_piece input before bytes = piece_led input before bytes (lead_in before.attribute_page bytes)
 
+-- the parts of a value, as many as there are
 unfoldable pub pieces_at : Input → State → List ℕ → Reading (List Piece × State)
 pieces_at input = all_by (next_piece input) as_none
 
+-- an attribute after its byte: its start, and the parts of its value
 unfoldable pub attribute_behind : Input → State → Lead → List ℕ → Reading (Attr × State)
 attribute_behind input before lead bytes =
     start_at input (on_attribute_page lead.page before) lead (attribute_mark lead) bytes
     >>= λ start.
     told (attribute_of lead start.0.0) (pieces_at input start.0.1 start.1)
 
+-- the next attribute, or none where attributes end
 abbrev pub attribute_from : Input → State → Lead → Bool → List ℕ → Reading (Option Attr × State)
 attribute_from input before lead true rest = Ok ((None, before), rest)
 attribute_from input before lead false rest = told some (attribute_behind input before lead rest)
 
+-- the next attribute, or the end of attributes
 unfoldable pub next_attribute : Input → Next Attr State
 next_attribute input before bytes =
     lead_at input.total before.attribute_page bytes >>= λ lead.
     attribute_from input before lead.0 (is_end (attribute_mark lead.0)) lead.1
 
+-- attributes up to their end, which has to be there
 unfoldable pub attributes_at : Input → State → List ℕ → Reading (List Attr × State)
 attributes_at input = all_by (next_attribute input) (as_short input.total)
 
+-- what follows an end, which has to stand there
 abbrev pub end_from : ℕ → Bool → List ℕ → Result (List ℕ) DocFault
 end_from total true rest = Ok rest
 end_from total false rest = Err (fault.Token (place_before total rest))
 
+-- an end, on the page of attributes
 unfoldable pub end_at : ℕ → State → List ℕ → Result (List ℕ) DocFault
 end_at total state bytes =
     lead_at total state.attribute_page bytes >>= λ lead.
@@ -122,6 +137,7 @@ instruction_at input before bytes =
 
 -- ---- elements
 
+-- a tag after its byte: a name of the string table, or the code in its low six bits
 unfoldable pub tag_at : Input → State → ℕ → Bool → List ℕ → Reading (Token × State)
 tag_at input before byte true bytes = told literal (name_at input before bytes)
 tag_at input before byte false bytes = Ok ((Code (byte % 64), before), bytes)
@@ -136,6 +152,7 @@ when false read before bytes = Ok (([], before), bytes)
 abbrev pub ElementReader : Type 0
 ElementReader = State → Lead → List ℕ → Reading (Element × State)
 
+-- the next part of content by what its byte says, or none where content ends
 abbrev pub kid_from : Input → ElementReader → State → Lead → ContentMark → List ℕ
     → Reading (Option Kid × State)
 kid_from input inner before lead content.End rest = Ok ((None, before), rest)
@@ -147,14 +164,18 @@ kid_from input inner before lead (content.Leaf mark) rest =
     told (λ leaf. some (kid_of leaf, on_tag_page lead.page before)) (leaf_at input mark rest)
 kid_from input inner before lead content.Nothing rest = no_token input.total rest
 
+-- the next part of content, or its end
 unfoldable pub next_kid : Input → ElementReader → Next Kid State
 next_kid input inner before bytes =
     lead_at input.total before.tag_page bytes >>= λ lead.
     kid_from input inner before lead.0 (content_mark lead.0) lead.1
 
+-- content up to its end, which has to be there
 unfoldable pub kids_at : Input → ElementReader → State → List ℕ → Reading (List Kid × State)
 kids_at input inner = all_by (next_kid input inner) (as_short input.total)
 
+-- an element after its tag's byte, its elements read so: tag, attributes and content, if it has
+-- them
 unfoldable pub element_by : Input → ElementReader → ElementReader
 element_by input inner before lead bytes =
     tag_at input (on_tag_page lead.page before) lead.byte (is_named lead.byte) bytes >>= λ tag.

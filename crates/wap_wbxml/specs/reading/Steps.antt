@@ -7,6 +7,7 @@ use Rattle.wap_wbxml.specs.declared.fault.DocFault.{DocFault}
 abbrev pub Reading : Type 0 → Type 0
 Reading A = Result (A × List ℕ) DocFault
 
+-- what was read, made into something else
 abbrev pub told : {A B : Type 0} → (A → B) → Reading A → Reading B
 told make read = read >>= λ x. Ok (make x.0, x.1)
 
@@ -14,6 +15,7 @@ told make read = read >>= λ x. Ok (make x.0, x.1)
 abbrev pub Next : Type 0 → Type 0 → Type 0
 Next A S = S → List ℕ → Reading (Option A × S)
 
+-- an item that there is, and the state after it
 abbrev pub some : {A S : Type 0} → A × S → Option A × S
 some x = (Some x.0, x.1)
 
@@ -31,6 +33,7 @@ abbrev pub run_at : {A S : Type 0} → Next A S → (S → List ℕ → Reading 
 run_at next spent zero state bytes = spent state bytes
 run_at next spent (suc left) state bytes = next state bytes >>= chained (run_at next spent left)
 
+-- items one after the other, as many as there can be in the bytes
 unfoldable pub all_by : {A S : Type 0} → Next A S → (S → List ℕ → Reading (List A × S)) → S → List ℕ
     → Reading (List A × S)
 all_by next spent state bytes = run_at next spent (length bytes) state bytes

@@ -28,33 +28,40 @@ use Rattle.wap_wbxml.specs.reading.Parts.{no_token, as_none, instruction_at, ele
 
 -- ---- the header
 
+-- the version byte
 unfoldable pub version_at : ℕ → List ℕ → Reading ℕ
 version_at total [] = Err (fault.Short total)
 version_at total (byte ∷ rest) = if is_version byte then Ok (byte, rest) else Err fault.Version
 
+-- a public identifier after its number: 0 stands before the index of its name
 abbrev pub identifier_from : ℕ → ℕ → Bool → List ℕ → Reading Identifier
 identifier_from total number true rest = told Named (number_at total rest)
 identifier_from total number false rest =
     if is_public number then Ok (Numbered number, rest) else Err fault.PublicId
 
+-- a public identifier
 unfoldable pub identifier_at : ℕ → List ℕ → Reading Identifier
 identifier_at total bytes =
     number_at total bytes >>= λ number. identifier_from total number.0 (number.0 == 0) number.1
 
+-- a character set, or the fault that there is none
 abbrev pub or_no_charset : Option Charset → Result Charset DocFault
 or_no_charset (Some charset) = Ok charset
 or_no_charset None = Err fault.Charset
 
+-- a character set, by its number and as it is
 unfoldable pub charset_at : ℕ → List ℕ → Reading (ℕ × Charset)
 charset_at total bytes =
     number_at total bytes >>= λ number.
     or_no_charset (charset_of number.0) >>= λ charset.
     Ok ((number.0, charset), number.1)
 
+-- a public identifier of WML, or the fault that it is none
 abbrev pub or_not_public : Option ℕ → Result ℕ DocFault
 or_not_public (Some number) = Ok number
 or_not_public None = Err fault.PublicId
 
+-- the number of a public identifier, which may be named in the string table
 unfoldable pub public_of : List ℕ → Identifier → Result ℕ DocFault
 public_of table (Numbered number) = Ok number
 public_of table (Named index) = or_not_public (public_named (string_from table index))
@@ -66,13 +73,16 @@ abbrev pub outer_from : Input → State → List ℕ → Bool → List ℕ → R
 outer_from input before bytes true rest = told some (instruction_at input before rest)
 outer_from input before bytes false rest = Ok ((None, before), bytes)
 
+-- the next processing instruction outside the root, or none
 unfoldable pub next_outer : Input → Next Attr State
 next_outer input before [] = Ok ((None, before), [])
 next_outer input before (byte ∷ rest) = outer_from input before (byte ∷ rest) (byte == PI) rest
 
+-- the processing instructions outside the root, as many as there are
 unfoldable pub outers_at : Input → State → List ℕ → Reading (List Attr × State)
 outers_at input = all_by (next_outer input) as_none
 
+-- the root after its byte, which has to begin an element
 abbrev pub root_from : Input → State → Lead → ContentMark → List ℕ → Reading (Element × State)
 root_from input before lead content.Element rest = element_at input LEVEL_LIMIT before lead rest
 root_from input before lead content.Pi rest = no_token input.total rest
@@ -80,11 +90,13 @@ root_from input before lead (content.Leaf mark) rest = no_token input.total rest
 root_from input before lead content.End rest = no_token input.total rest
 root_from input before lead content.Nothing rest = no_token input.total rest
 
+-- the root, of so many levels as elements may have
 unfoldable pub root_at : Input → State → List ℕ → Reading (Element × State)
 root_at input before bytes =
     lead_at input.total before.tag_page bytes >>= λ lead.
     root_from input before lead.0 (content_mark lead.0) lead.1
 
+-- the body: its root, between processing instructions that are left out
 unfoldable pub body_at : Input → List ℕ → Reading Element
 body_at input bytes =
     outers_at input first_state bytes >>= λ before.
@@ -93,6 +105,7 @@ body_at input bytes =
 
 -- ---- the whole
 
+-- the document of these parts
 abbrev pub document_of : ℕ → ℕ → ℕ × Charset → Element → Document
 document_of version public charset root =
     record { version = version; public = public; charset = charset.0; root = root }
@@ -113,5 +126,6 @@ abbrev pub all_of_it : ℕ → Document × List ℕ → Result Document DocFault
 all_of_it total (document, []) = Ok document
 all_of_it total (document, byte ∷ rest) = Err (fault.Rest (place total (byte ∷ rest)))
 
+-- the document that the bytes spell, or the first fault from the left
 unfoldable pub document_at : List ℕ → Result Document DocFault
 document_at bytes = whole_at (length bytes) bytes >>= all_of_it (length bytes)
