@@ -30,6 +30,7 @@ DefaultsStand vars card now = (count : ℕ) × (
 abbrev pub chosen_sets : Variables → ℕ → Node → List (List ℕ × List ℕ)
 chosen_sets vars m select = choice_sets vars select (choice_with select (choice_of vars select) m)
 
+-- some first sets of a choice stand, where there is a select of this number
 abbrev pub ChoiceStands : Variables → Node → ℕ → ℕ → Variables → Type 0
 ChoiceStands vars card n m now =
     FirstStand vars (option_map_or (chosen_sets vars m) (field_with tags.Select card n) []) now

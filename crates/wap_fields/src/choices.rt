@@ -23,17 +23,13 @@ use wap_cards::{Texts, is_true, is_word, number_in, text_under, value_if, variab
 use wap_good::{AttrName, View};
 use wap_vars::Vars;
 
-/// How many options a select has. A count that is the greatest of its type is out of memory.
+/// How many options a select has; what lists them has fewer than the greatest number of its type.
 fn count_of(alloc: Global, select: &View<'_>) -> Result<usize, NoMemory>
     ensures count { IfOk result (λ count. count ≡ length (options_of select.now)) }
     ensures small { IfOk result (λ count. count < usize.MAX) }
 {
-    let count = options_of(alloc, select)?.len();
-    if count < usize::MAX {
-        Ok(count)
-    } else {
-        Err(NoMemory)
-    }
+    let options = options_of(alloc, select)?;
+    Ok(options.as_slice().len())
 }
 
 /// Whether several options of a select may be chosen.
