@@ -23,6 +23,7 @@ abbrev pub text_for : Conv → Option (List ℕ) → List ℕ
 text_for conv None = []
 text_for conv (Some text) = converted conv text
 
+-- the text of a part: plain text as it is, a reference from the variables
 abbrev pub part_text : Variables → Part → List ℕ
 part_text vars (Lit text) = text
 part_text vars (Var name conv) = text_for conv (text_of vars name)

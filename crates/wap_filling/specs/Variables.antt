@@ -10,6 +10,7 @@ use Rattle.wap_base.specs.Texts.{is_same_text, text_cmp}
 use Rattle.wap_base.specs.Utf8.{utf8_len}
 use Rattle.wap_filling.specs.declared.limits.TheConstants.{VAR_LIMIT, TEXT_LIMIT}
 
+-- pairs of a name and its text
 abbrev pub Variables : Type 0
 Variables = List (List ℕ × List ℕ)
 

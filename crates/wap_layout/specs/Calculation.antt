@@ -17,6 +17,7 @@ cut_at width (suc times) word =
     if nat_le (length word) width then word ∷ []
     else take width word ∷ cut_at width times (drop width word)
 
+-- a word cut at the width, into as many parts as it needs
 abbrev pub cut_word : ℕ → List ℕ → List (List ℕ)
 cut_word width word = cut_at width (length word) word
 
@@ -40,9 +41,11 @@ fill width line (word ∷ words) =
     (if room then [] else unless_empty line)
     ++ fill width (if room then line ++ space ∷ word else word) words
 
+-- the lines of words, where those that are too long are cut first
 abbrev pub filled : ℕ → List (List ℕ) → List (List ℕ)
 filled width words = fill width [] (flat_map (cut_word width) words)
 
+-- the lines of a text by its mode
 abbrev pub laid : ℕ → Mode → List ℕ → List (List ℕ)
 laid width Wrapped text = filled width (words_of text)
 laid width Unwrapped text = unless_empty (joined (words_of text))

@@ -7,9 +7,11 @@ use Rattle.wap_base.specs.Ascii.{space, tab, carriage_return, line_feed}
 abbrev pub is_blank : ℕ → Bool
 is_blank c = (c == space || c == tab) || (c == carriage_return || c == line_feed)
 
+-- a line feed, which ends a line of preformatted text
 abbrev pub is_line_feed : ℕ → Bool
 is_line_feed c = c == line_feed
 
+-- the text has no characters
 abbrev pub is_empty : List ℕ → Bool
 is_empty [] = true
 is_empty (c ∷ text) = false

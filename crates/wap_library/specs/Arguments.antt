@@ -11,9 +11,11 @@ abbrev pub on : {A : Type 0} → Option A → (A → Value) → Value
 on None f = Invalid
 on (Some x) f = f x
 
+-- what f makes of an argument as an Integer
 abbrev pub on_integer : Value → (ℤ → Value) → Value
 on_integer v f = on (integer_of v) f
 
+-- what f makes of an argument as a String
 abbrev pub on_text : Value → (List ℕ → Value) → Value
 on_text v f = on (text_of v) f
 

@@ -9,6 +9,7 @@ use Rattle.wap_base.specs.Ascii.{tab, carriage_return, space}
 abbrev pub is_blank : ℕ → Bool
 is_blank c = c == space || is_in_range tab carriage_return c
 
+-- the text begins with white space
 abbrev pub begins_blank : List ℕ → Bool
 begins_blank [] = false
 begins_blank (c ∷ s) = is_blank c
@@ -24,14 +25,16 @@ squeezed (c ∷ s) =
     if is_blank c then (if begins_blank s then squeezed s else space ∷ squeezed s) else
     c ∷ squeezed s
 
--- a text without the white space at its beginning, and at its end
+-- a text without the white space at its beginning
 abbrev pub behind_blanks : List ℕ → List ℕ
 behind_blanks s = drop (prefix_len is_blank s) s
 
+-- a text without the white space at its end
 abbrev pub before_blanks : List ℕ → List ℕ
 before_blanks [] = []
 before_blanks (c ∷ s) =
     if is_blank c && length (before_blanks s) == 0 then [] else c ∷ before_blanks s
 
+-- a text without either
 abbrev pub trimmed : List ℕ → List ℕ
 trimmed s = before_blanks (behind_blanks s)

@@ -16,14 +16,17 @@ joined separator es = join_with_byte separator es
 abbrev pub within : List (List ℕ) → ℕ → ℕ
 within es k = min k (length es - 1)
 
+-- the element at a place
 abbrev pub element_at : ℕ → ℕ → List ℕ → List ℕ
 element_at separator k s = let es = elements separator s in slice_index_or es (within es k) []
 
+-- the text without the element at a place
 abbrev pub without_element : ℕ → ℕ → List ℕ → List ℕ
 without_element separator k s =
     let es = elements separator s in
     joined separator (remove es (within es k))
 
+-- the text with a new element for the one at a place
 abbrev pub with_element : ℕ → ℕ → List ℕ → List ℕ → List ℕ
 with_element separator k new s =
     let es = elements separator s in

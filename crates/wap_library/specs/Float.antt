@@ -6,6 +6,7 @@ use Rattle.wap_library.specs.declared.function.FloatFunction.TheVariants.{Round,
 use Rattle.wap_library.specs.declared.function.FloatFunction.TheVariants.{MinFloat}
 use Rattle.wap_library.specs.Row.{Formula, of_none, of_one, of_two}
 
+-- each function at its name
 abbrev pub formula_of_float : FloatFunction → Formula
 formula_of_float Int = of_one (λ v. Invalid)
 formula_of_float Floor = of_one (λ v. Invalid)

@@ -21,6 +21,7 @@ own_digits (suc n) = decimal (suc n)
 abbrev pub digits_of : ℕ → ℕ → List ℕ
 digits_of least n = replicate (least - length (own_digits n)) digit_zero ++ own_digits n
 
+-- the same of an Integer, with `-` before it where it is below 0
 abbrev pub signed_digits : ℕ → ℤ → List ℕ
 signed_digits least (pos n) = digits_of least n
 signed_digits least (negsuc n) = hyphen ∷ digits_of least (suc n)
@@ -39,11 +40,13 @@ cut (Some n) s = take n s
 abbrev pub filled : ℕ → List ℕ → List ℕ
 filled width s = replicate (width - length s) space ++ s
 
+-- the value as the conversion writes it, where it has such a form; none is a Float
 abbrev pub converted : Conversion → Option ℕ → Value → Option (List ℕ)
 converted Decimal precision v = option_map (signed_digits (least_digits precision)) (integer_of v)
 converted Float precision v = None
 converted String precision v = option_map (cut precision) (text_of v)
 
+-- the value as a specifier writes it, filled up to the width
 abbrev pub written : Specifier → Value → Option (List ℕ)
 written specifier v =
     option_map (filled specifier.width) (converted specifier.conversion specifier.precision v)
@@ -60,5 +63,6 @@ filled_in v [] = Some []
 filled_in v (Character c ∷ pieces) = option_map (λ s. c ∷ s) (filled_in v pieces)
 filled_in v (Writes specifier ∷ pieces) = option_map (λ s. s ++ plain pieces) (written specifier v)
 
+-- the format with the value written into it, where it is well-formed
 abbrev pub formatted : List ℕ → Value → Option (List ℕ)
 formatted s v = pieces_of s >>= λ pieces. filled_in v pieces

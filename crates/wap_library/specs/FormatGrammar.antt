@@ -11,7 +11,7 @@ use Rattle.wap_library.specs.declared.piece.Specifier.{Specifier}
 use Rattle.wap_library.specs.declared.piece.Piece.{Piece}
 use Rattle.wap_library.specs.declared.piece.Piece.TheVariants.{Character, Specifier as Writes}
 
--- a letter
+-- the conversion that a letter stands for
 abbrev pub conversion_of : ℕ → Option Conversion
 conversion_of c =
     if c == small_d then Some Decimal

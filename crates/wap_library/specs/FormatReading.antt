@@ -11,6 +11,7 @@ use Rattle.wap_library.specs.declared.piece.Piece.{Piece}
 use Rattle.wap_library.specs.declared.piece.Piece.TheVariants.{Character, Specifier as Writes}
 use Rattle.wap_library.specs.FormatGrammar.{conversion_of}
 
+-- what is none stays none
 infixl 10 ◌>>=◌
 abbrev pub ◌>>=◌ : {A B : Type 0} → Option A → (A → Option B) → Option B
 o >>= f = option_and_then f o
@@ -35,6 +36,7 @@ precision_at (c ∷ s) =
     (number_at s >>= λ n. Some (Some n, behind_digits s)))
     else Some (None, c ∷ s)
 
+-- the conversion of the letter that a text begins with, and what follows it
 abbrev pub conversion_at : List ℕ → Option (Conversion × List ℕ)
 conversion_at [] = None
 conversion_at (c ∷ s) = option_map (λ conversion. (conversion, s)) (conversion_of c)
@@ -66,5 +68,6 @@ pieces_at zero (c ∷ s) = None
 pieces_at (suc fuel) (c ∷ s) =
     piece_at c s >>= λ read. option_map (λ more. read.0 ∷ more) (pieces_at fuel read.1)
 
+-- the pieces of a text, each of one character at least
 abbrev pub pieces_of : List ℕ → Option (List Piece)
 pieces_of s = pieces_at (length s) s

@@ -5,6 +5,7 @@ use Rattle.rand_core.specs.Pcg32Seed.{pcg32_seed}
 use Rattle.rand_pcg.specs.Lcg.{Lcg, advance}
 use Rattle.rand_pcg.specs.Pcg.{pcg32, pcg32_of_seed, multiplier_64}
 
+-- the state of the generator, and how it came to it
 pub record Generator : Type 0 where
   -- the session's
   pub seed : ℕ
@@ -19,6 +20,7 @@ abbrev pub generator_of : ℕ → ℕ → ℕ → Lcg → Generator
 generator_of seed start drawn state =
     record { seed = seed; start = start; drawn = drawn; state = state }
 
+-- the greatest count of words, which stands still there
 abbrev pub most_drawn : ℕ
 most_drawn = 2 ^ 64 - 1
 
@@ -30,9 +32,11 @@ seeded n = pcg32_of_seed (pcg32_seed 16 n)
 abbrev pub started_from : ℕ → ℕ → Generator
 started_from seed start = generator_of seed start 0 (seeded start)
 
+-- the word that is drawn next
 abbrev pub next_word : Generator → ℕ
 next_word g = (pcg32 g.state).0
 
+-- the generator after that word
 abbrev pub after_word : Generator → Generator
 after_word g = record g { drawn = min (g.drawn + 1) most_drawn; state = (pcg32 g.state).1 }
 

@@ -35,6 +35,7 @@ use Rattle.wap_library.specs.Characters.{behind_blanks}
 use Rattle.wap_library.specs.Generator.{Generator, started_from, next_word, after_word}
 use Rattle.wap_library.specs.Row.{Row, gives, ends, draws, of_none, of_one, of_two}
 
+-- `+` or `-`
 abbrev pub is_sign : ℕ → Bool
 is_sign c = c == plus_sign || c == hyphen
 

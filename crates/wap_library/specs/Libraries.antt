@@ -29,6 +29,7 @@ function_at library number =
     option_flatten
     (option_and_then (λ functions. slice_get functions number) (slice_get libraries library))
 
+-- the row of a function, from the table of its library
 abbrev pub row_of : Function → Row
 row_of (Lang f) = row_of_lang f
 row_of (Float f) = gives (formula_of_float f)

@@ -18,5 +18,6 @@ replaced_behind old new (c ∷ s) zero =
     if starts_with nat_eq (c ∷ s) old then new ++ replaced_behind old new s (length old - 1)
     else c ∷ replaced_behind old new s zero
 
+-- the same of a whole text
 abbrev pub replaced : List ℕ → List ℕ → List ℕ → List ℕ
 replaced old new s = replaced_behind old new s 0

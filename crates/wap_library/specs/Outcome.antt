@@ -25,19 +25,21 @@ kept_within limit (Str s) =
     if nat_lt limit (utf8_len s) then Err (TooLong (counted (utf8_len s))) else Ok (Str s)
 kept_within limit Invalid = Ok Invalid
 
--- a value that is given is kept within the limit; what ends a script is taken as it is
+-- a value that is given, or the fault
 abbrev pub out_of : Result Value LibFault → Result LibOut LibFault
 out_of (Ok v) = Ok (Gives v)
 out_of (Err fault) = Err fault
 
+-- a value that is given is kept within the limit; what ends a script is taken as it is
 abbrev pub limited : ℕ → LibOut → Result LibOut LibFault
 limited limit (Gives v) = out_of (kept_within limit v)
 limited limit (Exits v) = Ok (Exits v)
 limited limit (Aborts s) = Ok (Aborts s)
 
--- what a call comes to, by the numbers of library and function, and the generator after it
+-- what a call comes to, by the numbers of library and function
 abbrev pub outcome : ℕ → ℕ → ℕ → List Value → Generator → Result LibOut LibFault
 outcome limit library number args g = limited limit (applied (row_at library number) args g).0
 
+-- the generator after a call
 abbrev pub generator_after : ℕ → ℕ → List Value → Generator → Generator
 generator_after library number args g = (applied (row_at library number) args g).1

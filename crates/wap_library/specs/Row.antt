@@ -14,6 +14,7 @@ pub data Formula : Type 0 where
   of_three : (Value → Value → Value → Value) → Formula
   of_four : (Value → Value → Value → Value → Value) → Formula
 
+-- how many values a formula takes
 abbrev pub values_taken : Formula → ℕ
 values_taken (of_none v) = 0
 values_taken (of_one f) = 1
@@ -25,6 +26,7 @@ values_taken (of_four f) = 4
 abbrev pub argument : List Value → ℕ → Value
 argument args k = slice_index_or args k Invalid
 
+-- the value that a formula makes of the first of these arguments
 abbrev pub value_given : Formula → List Value → Value
 value_given (of_none v) args = v
 value_given (of_one f) args = f (argument args 0)
@@ -33,6 +35,7 @@ value_given (of_three f) args = f (argument args 0) (argument args 1) (argument 
 value_given (of_four f) args =
     f (argument args 0) (argument args 1) (argument args 2) (argument args 3)
 
+-- what a function does
 pub data Row : Type 0 where
   -- gives a value, and needs no more than its arguments
   gives : Formula → Row

@@ -54,6 +54,8 @@ abbrev pub place_value : Option ℕ → Value
 place_value None = Int (negsuc 0)
 place_value (Some k) = number k
 
+-- an order as a number: -1 where the first text comes before the second, 0 where both are the same,
+-- and else 1
 abbrev pub order_value : Ordering → Value
 order_value Less = Int (negsuc 0)
 order_value Equal = Int (pos 0)

@@ -37,6 +37,7 @@ use Rattle.wap_library.specs.Row.{Formula, of_one, of_two}
 abbrev pub url_of : Value → Option UrlParts
 url_of v = option_and_then (λ s. result_ok (url_at s)) (text_of v)
 
+-- what f makes of an argument as a URL
 abbrev pub on_url : Value → (UrlParts → Value) → Value
 on_url v f = on (url_of v) f
 
@@ -44,15 +45,17 @@ on_url v f = on (url_of v) f
 abbrev pub part_value : Option (List ℕ) → Value
 part_value part = Str (unwrap_or part [])
 
--- the parameters follow the first `;` of the path's last segment
+-- what follows the path's last slash
 abbrev pub last_segment : List ℕ → List ℕ
 last_segment path =
     let segments = elements slash path in
     slice_index_or segments (length segments - 1) []
 
+-- the parameters: what follows the first `;` of that segment
 abbrev pub parameters : List ℕ → List ℕ
 parameters path = without_element semicolon 0 (last_segment path)
 
+-- the path without them
 abbrev pub without_parameters : List ℕ → List ℕ
 without_parameters path =
     let segments = elements slash path in

@@ -11,6 +11,7 @@ use Rattle.wap_mask.specs.declared.symbol.Symbol.TheVariants.{One, Exactly, UpTo
 use Rattle.wap_mask.specs.Characters.{is_in, class_of}
 use Rattle.wap_mask.specs.Grammar.{any_text, repeats}
 
+-- what is none stays none
 infixl 10 ◌>>=◌
 abbrev pub ◌>>=◌ : {A B : Type 0} → Option A → (A → Option B) → Option B
 o >>= f = option_and_then f o

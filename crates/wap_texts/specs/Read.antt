@@ -2,5 +2,6 @@
 use Rattle.std.specs.Prelude.{List, ℕ}
 use denote.Ref.{Bor}
 
+-- what was read, beside the rest of the text as it is seen now
 abbrev pub with_rest : {A : Type 0} → A × Bor (List ℕ) → A × List ℕ
 with_rest (read, rest) = (read, rest.now)

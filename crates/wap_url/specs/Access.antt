@@ -17,6 +17,7 @@ abbrev pub without_empty_last : List (List ℕ) → List (List ℕ)
 without_empty_last segments =
     if length (last_segment segments) == 0 then all_but_last segments else segments
 
+-- the segments of an access element's or pragma's path
 abbrev pub access_segments : List ℕ → List (List ℕ)
 access_segments path = without_empty_last (segments (below_root path))
 

@@ -5,18 +5,23 @@ use Rattle.std.specs.List.{list_all, list_any}
 use Rattle.std.specs.Char.{is_ascii_graphic, is_ascii_alphabetic, is_ascii_alphanumeric}
 use Rattle.wap_base.specs.Ascii.{number_sign, full_stop, slash, colon, question_mark}
 
+-- the `#` before a fragment (section 4.1)
 abbrev pub is_hash : ℕ → Bool
 is_hash c = c == number_sign
 
+-- the `.` between two labels of a host (section 3.2.2)
 abbrev pub is_dot : ℕ → Bool
 is_dot c = c == full_stop
 
+-- the `/` between two segments of a path (section 3.3)
 abbrev pub is_slash : ℕ → Bool
 is_slash c = c == slash
 
+-- the `:` after a scheme, and before a port (sections 3.1 and 3.2.2)
 abbrev pub is_colon : ℕ → Bool
 is_colon c = c == colon
 
+-- the `?` before a query (section 3.4)
 abbrev pub is_question : ℕ → Bool
 is_question c = c == question_mark
 
@@ -38,10 +43,11 @@ is_one_of cs c = list_any (λ d. c == d) cs
 abbrev pub is_allowed : ℕ → Bool
 is_allowed c = is_ascii_graphic c && not (is_one_of (codes "\"<>#") c)
 
--- a letter, and then letters, digits, `+`, `-` and `.` (section 3.1)
+-- letters, digits, `+`, `-` and `.` (section 3.1)
 abbrev pub is_scheme_character : ℕ → Bool
 is_scheme_character c = is_ascii_alphanumeric c || is_one_of (codes "+-.") c
 
+-- a letter, and then characters of schemes (section 3.1)
 abbrev pub is_scheme : List ℕ → Bool
 is_scheme scheme = begins_with is_ascii_alphabetic scheme && list_all is_scheme_character scheme
 
@@ -50,6 +56,7 @@ is_scheme scheme = begins_with is_ascii_alphabetic scheme && list_all is_scheme_
 abbrev pub is_host_character : ℕ → Bool
 is_host_character c = is_ascii_alphanumeric c || is_one_of (codes "-.") c
 
+-- one character of hosts or more
 abbrev pub is_host : List ℕ → Bool
 is_host host = not (length host == 0) && list_all is_host_character host
 

@@ -8,6 +8,7 @@ use Rattle.wap_url.specs.Characters.{is_unreserved}
 abbrev pub escape_of : ℕ → List ℕ
 escape_of byte = if is_unreserved byte then byte ∷ [] else percent_encode_byte byte
 
+-- each byte of the text, as it stays or as its escape
 abbrev pub escaped : List ℕ → List ℕ
 escaped text = flat_map escape_of (encode_utf8_all text)
 

@@ -12,13 +12,15 @@ use Rattle.wap_base.specs.Cuts.{begins_with}
 use Rattle.wap_url.specs.Segments.{segments, path_of, all_but_last, last_segment}
 use Rattle.wap_base.specs.Ascii.{full_stop, slash}
 
--- the segments `.` and `..`
+-- the segment `.`, the folder itself
 abbrev pub is_here : List ℕ → Bool
 is_here s = bytes_eq s (full_stop ∷ [])
 
+-- the segment `..`, the folder above
 abbrev pub is_above : List ℕ → Bool
 is_above s = bytes_eq s (full_stop ∷ full_stop ∷ [])
 
+-- one of these two
 abbrev pub is_dot_segment : List ℕ → Bool
 is_dot_segment s = is_here s || is_above s
 
@@ -32,6 +34,7 @@ kept_with kept s =
 abbrev pub end_of : List (List ℕ) → List (List ℕ)
 end_of segments = if is_dot_segment (last_segment segments) then [] ∷ [] else []
 
+-- what is left of segments, one after the other
 abbrev pub without_dots : List (List ℕ) → List (List ℕ)
 without_dots segments = fold kept_with [] segments ++ end_of segments
 
@@ -70,9 +73,11 @@ target base r =
 abbrev pub rooted : Bool → List ℕ → List ℕ
 rooted under_host path = if under_host && length path == 0 then slash ∷ [] else path
 
+-- the path without dot segments (steps 6c to 6f)
 abbrev pub resolved_path : List ℕ → List ℕ
 resolved_path path = path_of (resolved (segments path))
 
+-- the reference joined to the base, its path without dot segments
 abbrev pub joined : Url → Url → Url
 joined base r =
     let t = target base r in

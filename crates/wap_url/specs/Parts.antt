@@ -20,14 +20,17 @@ pub record Parts : Type 0 where
   pub query : Option (List ℕ)
   pub fragment : Option (List ℕ)
 
+-- a part with the character that ends it, where there is one
 abbrev pub followed_by : ℕ → Option (List ℕ) → List ℕ
 followed_by c None = []
 followed_by c (Some part) = part ++ c ∷ []
 
+-- a part after what begins it, where there is one
 abbrev pub led_by : List ℕ → Option (List ℕ) → List ℕ
 led_by lead None = []
 led_by lead (Some part) = lead ++ part
 
+-- `//`, the host, and the port after a `:`; without a host nothing (section 3.2)
 abbrev pub authority : Option (List ℕ) → Option (List ℕ) → List ℕ
 authority None port = []
 authority (Some host) port = slash ∷ slash ∷ host ++ led_by (colon ∷ []) port
@@ -60,17 +63,19 @@ url_of p = record {
   fragment = p.fragment;
 }
 
--- the characters of a scheme's place, a host's, a port's and a path's: none of those at which the
--- next part would begin
+-- a character of a scheme's place: none at which a later part would begin
 abbrev pub may_be_scheme : ℕ → Bool
 may_be_scheme c = is_allowed c && not (ends_scheme c)
 
+-- a character of a host's place
 abbrev pub may_be_host : ℕ → Bool
 may_be_host c = is_allowed c && (not (ends_authority c) && not (is_colon c))
 
+-- a character of a port's place
 abbrev pub may_be_port : ℕ → Bool
 may_be_port c = is_allowed c && not (ends_authority c)
 
+-- a character of a path's place
 abbrev pub may_be_path : ℕ → Bool
 may_be_path c = is_allowed c && not (is_question c)
 

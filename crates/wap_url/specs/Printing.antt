@@ -24,6 +24,7 @@ parts_for u = record {
 abbrev pub without_fragment : Url → Url
 without_fragment u = record u { fragment = None }
 
+-- the URL as text
 abbrev pub printed : Url → List ℕ
 printed u = spelled (parts_for u)
 
@@ -45,6 +46,7 @@ abbrev pub named_port : Option ℕ → List ℕ
 named_port None = []
 named_port (Some port) = if port == 80 then [] else colon ∷ decimal port
 
+-- the last character is a `/`, as in the path of a folder
 abbrev pub ends_in_slash : List ℕ → Bool
 ends_in_slash [] = false
 ends_in_slash (c ∷ []) = is_slash c

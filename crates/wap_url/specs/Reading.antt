@@ -18,6 +18,7 @@ is_stop c = not (is_allowed c)
 abbrev pub front : List ℕ → List ℕ
 front text = until is_stop text
 
+-- what follows the `#`, if there is one
 abbrev pub fragment_of : List ℕ → Option (List ℕ)
 fragment_of text = after_one (onward is_stop text)
 
@@ -25,9 +26,11 @@ fragment_of text = after_one (onward is_stop text)
 abbrev pub has_scheme : List ℕ → Bool
 has_scheme front = begins_with is_colon (onward ends_scheme front)
 
+-- the scheme, without its `:`
 abbrev pub scheme_of : List ℕ → Option (List ℕ)
 scheme_of front = if has_scheme front then Some (until ends_scheme front) else None
 
+-- what follows the scheme and its `:`, or all
 abbrev pub after_scheme : List ℕ → List ℕ
 after_scheme front = if has_scheme front then drop 1 (onward ends_scheme front) else front
 
@@ -37,34 +40,41 @@ begins_with_slashes [] = false
 begins_with_slashes (c ∷ []) = false
 begins_with_slashes (c ∷ d ∷ rest) = is_slash c && is_slash d
 
+-- the authority, without its `//`
 abbrev pub authority_of : List ℕ → Option (List ℕ)
 authority_of rest =
     if begins_with_slashes rest then Some (until ends_authority (drop 2 rest)) else None
 
+-- what follows the authority, or all
 abbrev pub after_authority : List ℕ → List ℕ
 after_authority rest =
     if begins_with_slashes rest then onward ends_authority (drop 2 rest) else rest
 
--- the port is what follows the authority's first `:`
+-- the host of an authority, which ends at its first `:`
 abbrev pub host_in : List ℕ → List ℕ
 host_in authority = until is_colon authority
 
+-- the port of an authority: what follows its first `:`
 abbrev pub port_in : List ℕ → Option (List ℕ)
 port_in authority = after_one (onward is_colon authority)
 
+-- the host of a text without its fragment
 abbrev pub host_of : List ℕ → Option (List ℕ)
 host_of front = option_map host_in (authority_of (after_scheme front))
 
+-- its port
 abbrev pub port_of : List ℕ → Option (List ℕ)
 port_of front = option_and_then port_in (authority_of (after_scheme front))
 
--- path and query
+-- its path and query
 abbrev pub tail_of : List ℕ → List ℕ
 tail_of front = after_authority (after_scheme front)
 
+-- its path, which ends at the first `?`
 abbrev pub path_part : List ℕ → List ℕ
 path_part front = until is_question (tail_of front)
 
+-- its query: what follows that `?`
 abbrev pub query_part : List ℕ → Option (List ℕ)
 query_part front = after_one (onward is_question (tail_of front))
 
@@ -79,6 +89,7 @@ parts_with front fragment = record {
   fragment = fragment;
 }
 
+-- the parts of a text
 abbrev pub parts_of : List ℕ → Parts
 parts_of text = parts_with (front text) (fragment_of text)
 
@@ -98,10 +109,12 @@ fault_of p =
     else if not (passes_if_there is_port p.port) then Some BadPort
     else None
 
+-- the URL where there is no fault
 abbrev pub unless : Option UrlFault → Url → Result Url UrlFault
 unless None url = Ok url
 unless (Some fault) url = Err fault
 
+-- the URL that a text is read as, or its first fault
 abbrev pub url_at : List ℕ → Result Url UrlFault
 url_at text =
     if has_bad_char text then Err (BadChar (length (front text)))

@@ -14,18 +14,21 @@ use Rattle.wap_url.specs.Segments.{segments, all_but_last, last_segment}
 use Rattle.wap_url.specs.Joining.{joined, is_dot_segment}
 use Rattle.wap_base.specs.Ascii.{question_mark}
 
+-- both texts are there and the same, or neither is there
 abbrev pub same_text : Option (List ℕ) → Option (List ℕ) → Bool
 same_text None None = true
 same_text None (Some b) = false
 same_text (Some a) None = false
 same_text (Some a) (Some b) = bytes_eq a b
 
+-- both ports are there and the same, or neither is there
 abbrev pub same_port : Option ℕ → Option ℕ → Bool
 same_port None None = true
 same_port None (Some n) = false
 same_port (Some m) None = false
 same_port (Some m) (Some n) = m == n
 
+-- the paths have the same segments
 abbrev pub same_segments : List (List ℕ) → List (List ℕ) → Bool
 same_segments [] [] = true
 same_segments [] (t ∷ ts) = false
@@ -51,6 +54,7 @@ local_path base path =
     let page = last_segment (segments path) in
     if same_folder base path && stands_alone page then page else path
 
+-- the URL as seen from the base, without its fragment
 abbrev pub relative_form : Url → Url → List ℕ
 relative_form base u =
     if not (same_site base u) || begins_with_slashes u.path then text_without_fragment u

@@ -16,17 +16,20 @@ path_of segments = join_with_byte slash segments
 abbrev pub labels : List ℕ → List (List ℕ)
 labels host = slice_split is_dot host
 
+-- a list without its last one
 abbrev pub all_but_last : {X : Type 0} → List X → List X
 all_but_last xs = take (length xs - 1) xs
 
+-- the last segment, or an empty one where there is none
 abbrev pub last_segment : List (List ℕ) → List ℕ
 last_segment [] = []
 last_segment (s ∷ []) = s
 last_segment (s ∷ t ∷ more) = last_segment (t ∷ more)
 
--- the list begins with the part, or ends with it
+-- the list begins with the part
 abbrev pub IsPrefix : {X : Type 0} → List X → List X → Type 0
 IsPrefix {X} part whole = (rest : List X) × (whole ≡ part ++ rest)
 
+-- the list ends with the part
 abbrev pub IsSuffix : {X : Type 0} → List X → List X → Type 0
 IsSuffix {X} part whole = (lead : List X) × (whole ≡ lead ++ part)

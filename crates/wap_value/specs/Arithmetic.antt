@@ -10,11 +10,11 @@ use Rattle.wap_value.specs.declared.operator.BinOp.TheVariants.{Mul, Div, IDiv, 
 use Rattle.wap_value.specs.declared.operator.BinOp.TheVariants.{Shr, UShr, BitAnd, BitXor, BitOr}
 use Rattle.wap_value.specs.Integer.{in_range}
 
--- the quotient is cut toward zero, and the remainder has the sign of the dividend; there is neither
--- by 0
+-- the quotient, cut toward zero; by 0 there is none
 abbrev pub quotient : ℤ → ℤ → Option ℤ
 quotient x y = if int_eq y (pos 0) then None else Some (int_div x y)
 
+-- the remainder, which has the sign of the dividend; by 0 there is none
 abbrev pub remainder : ℤ → ℤ → Option ℤ
 remainder x y = if int_eq y (pos 0) then None else Some (int_rem x y)
 
@@ -52,5 +52,6 @@ whole_number_of BitXor x y = Some (int_bit_xor w32 x y)
 whole_number_of BitOr x y = Some (int_bit_or w32 x y)
 whole_number_of _ x y = None
 
+-- the Integer that an operator gives, where its result is one
 abbrev pub integer_result_of : BinOp → ℤ → ℤ → Option ℤ
 integer_result_of op x y = option_and_then in_range (whole_number_of op x y)

@@ -44,9 +44,11 @@ test_of Eq order = is_eq order
 test_of Ne order = is_ne order
 test_of _ order = false
 
+-- what a comparison makes of two values
 abbrev pub comparison_of : BinOp → Value → Value → Value
 comparison_of op a b = boolean_value (option_map (test_of op) (order_of a b))
 
+-- what an operator makes of the values of both operands
 abbrev pub binary_of : BinOp → Value → Value → Value
 binary_of Add a b = sum_of a b
 binary_of Lt a b = comparison_of Lt a b

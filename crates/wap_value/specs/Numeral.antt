@@ -16,11 +16,13 @@ unsigned_number [] = None
 unsigned_number (c ∷ cs) =
     if all_ascii_digits (c ∷ cs) then Some (digits_value 10 (c ∷ cs)) else None
 
+-- the same after a sign, if there is one
 abbrev pub signed_number : List ℕ → Option ℤ
 signed_number [] = None
 signed_number (c ∷ cs) = if c == hyphen then option_map (λ n. neg_ℤ (pos n)) (unsigned_number cs)
     else (if c == plus_sign then option_map pos (unsigned_number cs) else
     option_map pos (unsigned_number (c ∷ cs)))
 
+-- the Integer of a text, in range with its sign
 abbrev pub integer_of_text : List ℕ → Option ℤ
 integer_of_text cs = option_and_then in_range (signed_number cs)

@@ -8,6 +8,7 @@ use Rattle.wap_value.specs.declared.value.Value.{Value}
 use Rattle.wap_value.specs.declared.value.Value.TheVariants.{Int, Bool as Boolean, Str, Invalid}
 use Rattle.wap_value.specs.Conversion.{integer_of, text_of}
 
+-- the value is a String
 abbrev pub is_string : Value → Bool
 is_string (Int z) = false
 is_string (Boolean b) = false
@@ -20,6 +21,7 @@ of_both f (Some x) (Some y) = Some (f x y)
 of_both f (Some x) None = None
 of_both f None y = None
 
+-- the order of two values
 abbrev pub order_of : Value → Value → Option Ordering
 order_of a b = if is_string a || is_string b then of_both text_cmp (text_of a) (text_of b)
     else of_both int_cmp (integer_of a) (integer_of b)

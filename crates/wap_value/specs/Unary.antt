@@ -10,13 +10,15 @@ use Rattle.wap_value.specs.declared.operator.UnOp.TheVariants.{IsValid, ToBool, 
 use Rattle.wap_value.specs.Integer.{in_range}
 use Rattle.wap_value.specs.Conversion.{integer_of, boolean_of, integer_value, boolean_value}
 
--- WAP-193, "typeof Operator"; 1 is the Float, which has no value here
+-- the number of a value's type (WAP-193, "typeof Operator"); 1 is the Float, which has no value
+-- here
 abbrev pub type_number : Value → ℤ
 type_number (Int z) = pos 0
 type_number (Str text) = pos 2
 type_number (Boolean b) = pos 3
 type_number Invalid = pos 4
 
+-- the value is not invalid (WAP-193, "isvalid Operator")
 abbrev pub is_valid : Value → Bool
 is_valid Invalid = false
 is_valid _ = true
@@ -25,6 +27,7 @@ is_valid _ = true
 abbrev pub on_integer : (ℤ → ℤ) → Value → Value
 on_integer f v = integer_value (option_and_then (λ z. in_range (f z)) (integer_of v))
 
+-- what an operator makes of its operand
 abbrev pub unary_of : UnOp → Value → Value
 unary_of Plus v = on_integer (λ z. z) v
 unary_of Minus v = on_integer (λ z. neg_ℤ z) v

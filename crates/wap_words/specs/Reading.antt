@@ -22,6 +22,7 @@ pub record Read : Type 0 where
   pub waits : Option (List ℕ)
   pub ended : Bool
 
+-- a text was given for the name
 abbrev pub is_given : List ℕ → List Use → Bool
 is_given name uses = list_any (λ one. is_same_text one.name name) uses
 
@@ -35,12 +36,15 @@ with_use read name text =
       ended = read.ended;
     })
 
+-- the form has an option of this name
 abbrev pub is_option : Form → List ℕ → Bool
 is_option form name = list_any (λ option. is_same_text option name) form.options
 
+-- the `=` between an option and its text
 abbrev pub is_equals : ℕ → Bool
 is_equals c = c == equals_sign
 
+-- an option with its text, or one that waits for it in the next word
 abbrev pub with_value : Read → List ℕ → Option (List ℕ) → Option Read
 with_value read name None = Some (record read { waits = Some name })
 with_value read name (Some text) = with_use read name text
@@ -66,6 +70,7 @@ after_dashes [] = None
 after_dashes (c ∷ []) = None
 after_dashes (c ∷ d ∷ ds) = if (c == hyphen) && (d == hyphen) then Some ds else None
 
+-- a text for a name, which may not begin as an option does
 abbrev pub with_text : Read → List ℕ → List ℕ → Option Read
 with_text read name word = if is_dashed word then None else with_use read name word
 
@@ -75,6 +80,7 @@ with_first form read word (Some []) = Some (record read { ended = true })
 with_first form read word (Some (c ∷ cs)) = with_option form read (c ∷ cs)
 with_first form read word None = with_text read form.positional word
 
+-- a word: the text of the option that waits, or else what it is by itself
 abbrev pub with_next : Form → Read → Option (List ℕ) → List ℕ → Option Read
 with_next form read (Some name) word = with_text read name word
 with_next form read None word = with_first form read word (after_dashes word)
@@ -84,6 +90,7 @@ abbrev pub with_word : Form → Read → List ℕ → Option Read
 with_word form read word =
     if read.ended then with_use read form.positional word else with_next form read read.waits word
 
+-- all the words, one after the other, up to the first that may not stand there
 abbrev pub with_words : Form → Option Read → List (List ℕ) → Option Read
 with_words form None words = None
 with_words form (Some read) [] = Some read
@@ -94,10 +101,12 @@ abbrev pub uses_at_end : Read → Option (List ℕ) → Option (List Use)
 uses_at_end read None = Some read.uses
 uses_at_end read (Some name) = None
 
+-- what all words give, where each may stand where it does
 abbrev pub uses_in : Option Read → Option (List Use)
 uses_in None = None
 uses_in (Some read) = uses_at_end read read.waits
 
+-- before the first word
 abbrev pub nothing_read : Read
 nothing_read = record { uses = []; waits = None; ended = false }
 

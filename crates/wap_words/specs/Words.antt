@@ -19,6 +19,7 @@ o >>= next = option_and_then next o
 
 -- ---- numbers
 
+-- the number, where it isn't below the least
 abbrev pub at_least : ℕ → ℕ → Option ℕ
 at_least least n = if nat_lt n least then None else Some n
 
@@ -30,12 +31,14 @@ number_of least greatest default (Some digits) =
 
 -- ---- browse
 
+-- the words of `browse`: a URL, and three options
 abbrev pub browse_form : Form
 browse_form = record {
   positional = codes "url";
   options = codes "seed" ∷ codes "budget" ∷ codes "cache" ∷ [];
 }
 
+-- the command of these values
 abbrev pub browse_with : ℕ → ℕ → ℕ → List ℕ → Command
 browse_with seed budget cache url =
     command_is.Browse (record { url = chars url; seed = seed; budget = budget; cache = cache })
@@ -51,6 +54,7 @@ browse_by url seed budget cache = do
   cache ← number_of 1 256 16 cache
   Some (browse_with seed budget cache url)
 
+-- the command of what was given
 abbrev pub browse_of : List Use → Option Command
 browse_of uses =
     browse_by (text_of (codes "url") uses) (text_of (codes "seed") uses)
@@ -58,14 +62,17 @@ browse_of uses =
 
 -- ---- commands on one page
 
+-- the words of a command on one page: a page's name
 abbrev pub page_form : Form
 page_form = record { positional = codes "name"; options = [] }
 
+-- the command on the page of this name
 abbrev pub page_by : PageCommand → Option (List ℕ) → Option Command
 page_by on name = do
   name ← name
   Some (command_is.Page on (chars name))
 
+-- the command of what was given
 abbrev pub page_of : PageCommand → List Use → Option Command
 page_of on uses = page_by on (text_of (codes "name") uses)
 
