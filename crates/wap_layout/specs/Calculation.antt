@@ -1,4 +1,4 @@
--- The same lines by calculation. This project's own.
+-- The lines of a flow by calculation. This project's own.
 use Rattle.std.specs.Prelude.{◌≡◌, ℕ, zero, suc, ◌+◌, Bool, ◌&&◌, nat_lt, nat_le, if◌then◌else◌}
 use Rattle.std.specs.Prelude.{List, [], ◌∷◌, ◌++◌, length, take, drop, map}
 use Rattle.std.specs.List.{flat_map}

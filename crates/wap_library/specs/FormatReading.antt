@@ -1,4 +1,4 @@
--- The same by calculation: the pieces of a format. This project's own.
+-- The pieces of a format by calculation. This project's own.
 use Rattle.std.specs.Prelude.{ℕ, zero, suc, ◌==◌, nat_le, if◌then◌else◌, List, [], ◌∷◌, length}
 use Rattle.std.specs.Prelude.{drop, Option, Some, None, option_map, option_and_then}
 use Rattle.std.specs.Char.{is_ascii_digit}

@@ -1,4 +1,4 @@
--- The same by calculation: which symbols a mask's text has, and whether they take a text. This
+-- Masks by calculation: which symbols a mask's text has, and whether they take a text. This
 -- project's own.
 use Rattle.std.specs.Prelude.{ℕ, ◌-◌, zero, suc, List, [], ◌∷◌, length, Bool, true, false}
 use Rattle.std.specs.Prelude.{◌&&◌, not, ◌==◌, Option, Some, None, option_map}
