@@ -26,7 +26,7 @@ without_element separator k s =
     let es = elements separator s in
     joined separator (remove es (within es k))
 
--- the text with a new element for the one at a place
+-- the text with a new element in place of the one at a place
 abbrev pub with_element : ℕ → ℕ → List ℕ → List ℕ → List ℕ
 with_element separator k new s =
     let es = elements separator s in

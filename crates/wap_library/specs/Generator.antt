@@ -20,7 +20,7 @@ abbrev pub generator_of : ℕ → ℕ → ℕ → Lcg → Generator
 generator_of seed start drawn state =
     record { seed = seed; start = start; drawn = drawn; state = state }
 
--- the greatest count of words, which stands still there
+-- the greatest count of words, at which it stands still
 abbrev pub most_drawn : ℕ
 most_drawn = 2 ^ 64 - 1
 

@@ -34,7 +34,7 @@ kept_with kept s =
 abbrev pub end_of : List (List ℕ) → List (List ℕ)
 end_of segments = if is_dot_segment (last_segment segments) then [] ∷ [] else []
 
--- what is left of segments, one after the other
+-- what is kept of segments, taken one after the other
 abbrev pub without_dots : List (List ℕ) → List (List ℕ)
 without_dots segments = fold kept_with [] segments ++ end_of segments
 

@@ -28,7 +28,7 @@ same_port None (Some n) = false
 same_port (Some m) None = false
 same_port (Some m) (Some n) = m == n
 
--- the paths have the same segments
+-- both have the same segments
 abbrev pub same_segments : List (List ℕ) → List (List ℕ) → Bool
 same_segments [] [] = true
 same_segments [] (t ∷ ts) = false
