@@ -10,8 +10,7 @@ use Rattle.wap_value.specs.declared.operator.UnOp.TheVariants.{IsValid, ToBool, 
 use Rattle.wap_value.specs.Integer.{in_range}
 use Rattle.wap_value.specs.Conversion.{integer_of, boolean_of, integer_value, boolean_value}
 
--- the number of a value's type (WAP-193, "typeof Operator"); 1 is the Float, which has no value
--- here
+-- the number of a value's type (WAP-193, "typeof Operator"); 1, the Float, has no value here
 abbrev pub type_number : Value → ℤ
 type_number (Int z) = pos 0
 type_number (Str text) = pos 2
