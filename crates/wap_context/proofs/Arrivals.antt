@@ -12,9 +12,9 @@ use Rattle.wap_cardrules.specs.declared.task.Task.{Task}
 use Rattle.wap_cardrules.specs.Values.{Pairs}
 use Rattle.wap_site.specs.Pages.{Pages, page_of}
 use Rattle.wap_site.specs.declared.page.Page.{Page}
-use Rattle.wap_site.specs.declared.page.Page.TheVariants as page
 use Rattle.wap_world.specs.declared.history.Entry.{Entry}
 use Rattle.wap_world.specs.declared.refusal.Refusal.{Refusal}
+use Rattle.wap_world.specs.declared.timer.Timer.TheVariants.{NotStarted}
 use Rattle.wap_world.specs.World.{World, Place, place_in, deck_in, deck_at, last_entry}
 use Rattle.wap_world.specs.Steps.{Scene, Once, quiet, settled}
 use Rattle.wap_world.specs.Requests.{deck_answer, test, test_of}
@@ -28,7 +28,8 @@ use Rattle.wap_context.specs.inside.Held.{not_started, show_at, leave_and_set_at
 use Rattle.wap_context.specs.inside.Held.{entered_at, enter_at, arrive_at, arrive_if_at}
 use Rattle.wap_context.specs.inside.Held.{return_at, refused_at, with_deck_at}
 use Rattle.wap_context.specs.inside.Moving.{Line, PlaysAt, Moves, HasDeck, Answers}
-use Rattle.wap_context.proofs.Places.{last_pushed}
+use Rattle.wap_world.proofs.Entries.{last_pushed, earlier_url}
+use Rattle.wap_world.proofs.Places.{answered}
 use Rattle.wap_context.proofs.Plays.{history_kept, turns_kept, over_kept}
 
 -- a scene that settles a navigation
@@ -177,20 +178,12 @@ over_pushed history entry mid deck pages is held has =
 
 -- the deck that answers is the pages'
 pub has_deck : (deck : Deck) (one : Page) → Ok deck ≡ deck_answer one → deck_in one ≡ Some deck
-has_deck deck (page.Deck other) is = cc
-has_deck deck (page.Words text) is = absurd (cc)
-has_deck deck page.Refused is = absurd (cc)
-has_deck deck page.Missing is = absurd (cc)
+has_deck deck one is = answered one deck (sym is)
 
 pub context_turns : (new : Bool) (w : World)
-    → (if new then record w { vars = []; history = [] } else w).turns ≡ w.turns
+    → (if new then record w { vars = []; history = []; timer = NotStarted } else w).turns ≡ w.turns
 context_turns true w = refl
 context_turns false w = refl
-
-pub in_deck_url : (b : Bool) (entry : Entry)
-    → (if b then entry else record entry { card = 0 }).url ≡ entry.url
-in_deck_url true entry = refl
-in_deck_url false entry = refl
 
 pub arrives : (sets : Pairs) (url : Url) (deck : Deck) (old left mid new : Browser)
     (before shown after : List Line) (next : Option Task)
@@ -237,7 +230,7 @@ returns_to sets earlier deck old left mid new before shown after next leaves mid
     ap (λ (b : Browser). b.world.history) mid_is in
     let held : mid.deck ≡ Some deck = ap (λ (b : Browser). b.deck) mid_is in
     let url : entry.url ≡ earlier.url =
-    in_deck_url (nat_lt earlier.card (length (cards_of deck))) earlier in
+    earlier_url (nat_lt earlier.card (length (cards_of deck))) earlier in
     moves_on sets Backward old left mid new before shown after next entry deck leaves
     (place_pushed kept entry mid deck history held) enters earlier.url
     (λ w. back_at w entry) (ap (λ (b : Browser). b.world) mid_is)

@@ -1,21 +1,19 @@
 -- The deck at hand is the one that pages have under the URL of the place.
-use Rattle.std.proofs.Common.{◌≡◌, ◌∙◌, Bool, true, false, Option, Some, None, refl, sym, ap, subst}
+use Rattle.std.proofs.Common.{◌≡◌, ◌∙◌, Bool, true, false, Option, Some, None, refl, sym, subst}
 use Rattle.std.specs.Prelude.{if◌then◌else◌}
-use Rattle.std.specs.List.{slice_get}
-use Rattle.std.specs.Option.{option_map, option_and_then}
+use Rattle.std.specs.Option.{option_and_then}
 use Rattle.wap_url.specs.declared.url.Url.{Url}
 use Rattle.wap_markup.specs.declared.deck.Deck.{Deck}
-use Rattle.wap_markup.specs.declared.deck.Node.{Node}
-use Rattle.wap_markup.specs.Cards.{cards_of}
 use Rattle.wap_site.specs.Pages.{Pages}
-use Rattle.wap_world.specs.declared.history.Entry.{Entry}
-use Rattle.wap_world.specs.World.{Place, place_in, deck_at, last_entry}
+use Rattle.wap_world.specs.World.{Place}
 use Rattle.wap_world.specs.Urls.{is_same_page}
 use Rattle.wap_world.specs.Requests.{Request}
 use Rattle.wap_world.specs.Tasks.{is_here}
 use Rattle.wap_context.specs.Browsers.{Browser, IsOver, place_held}
 use Rattle.wap_context.specs.inside.Held.{page_under, page_here}
 use Rattle.wap_context.specs.inside.Moving.{HasDeck}
+use Rattle.wap_world.proofs.Places.{deck_there}
+use Rattle.wap_context.proofs.Places.{held_now}
 
 abbrev pub Page : Type 0
 Page = Url × Deck
@@ -25,28 +23,10 @@ page_of_place place = (place.url, place.deck)
 
 -- ---- the deck of a place
 
-card_held : (told : Pages) (entry : Entry) (deck : Deck) (place : Place) (card : Option Node)
-    → option_map (λ found. record { url = entry.url; deck = deck; card = found }) card ≡ Some place
-    → deck_at told entry.url ≡ Some deck → HasDeck place.url place.deck told
-card_held told entry deck place None held has = absurd (cc)
-card_held told entry deck place (Some card) held has =
-    let url : entry.url ≡ place.url = cc in
-    let same : deck ≡ place.deck = cc in
-    ap (deck_at told) (sym url) ∙ has ∙ ap Some same
-
-entry_held : (told : Pages) (last : Option Entry) (deck : Option Deck) (place : Place)
-    → option_and_then (λ (e : Entry). option_and_then (place_in e) deck) last ≡ Some place
-    → option_and_then (λ (e : Entry). deck_at told e.url) last ≡ deck
-    → HasDeck place.url place.deck told
-entry_held told None deck place held over = absurd (cc)
-entry_held told (Some entry) None place held over = absurd (cc)
-entry_held told (Some entry) (Some deck) place held over =
-    card_held told entry deck place (slice_get (cards_of deck) entry.card) held over
-
 held_has : (told : Pages) (browser : Browser) (place : Place) → place_held browser ≡ Some place
     → IsOver told browser → HasDeck place.url place.deck told
 held_has told browser place held over =
-    entry_held told (last_entry browser.world) browser.deck place held over
+    deck_there told browser.world place (held_now told browser over ∙ held)
 
 -- ---- a page that a test finds there
 

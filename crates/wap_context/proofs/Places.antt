@@ -1,5 +1,5 @@
 -- The last entry of a history, and the place that a browser has at hand.
-use Rattle.std.proofs.Common.{◌≡◌, ◌∙◌, ◌-◌, ◌≤◌, List, [], ◌∷◌, ◌++◌, length, take}
+use Rattle.std.proofs.Common.{◌≡◌, ◌∙◌, ◌-◌, ◌≤◌, List, [], ◌∷◌, length, take}
 use Rattle.std.proofs.Common.{length-take, Option, Some, None, refl, sym, ap, arith}
 use Rattle.std.specs.List.{last_or, slice_get}
 use Rattle.std.specs.Option.{option_map, option_and_then}
@@ -42,12 +42,6 @@ earlier_at (x ∷ y ∷ ys) some =
     ∙ slice_get-get_or front (length xs - 2) x (omega arith)
     ∙ ap Some (get_or-take (length xs - 1) xs (length xs - 2) x (omega arith))
     ∙ sym (slice_get-get_or xs (length xs - 2) x (omega arith))
-
--- one that is pushed after others is the last
-pub last_pushed : {X : Type 0} (o : Option X) (xs : List X) (x : X)
-    → last_or o (xs ++ x ∷ []) ≡ Some x
-last_pushed o [] x = refl
-last_pushed o (y ∷ ys) x = last_pushed (Some y) ys x
 
 -- ---- the place at hand is where the browser is
 

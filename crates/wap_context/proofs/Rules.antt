@@ -27,8 +27,9 @@ use Rattle.wap_context.specs.Browsers.{Browser, IsOver, place_held}
 use Rattle.wap_context.specs.inside.Held.{leave_and_set_at, refused_at, entered_at}
 use Rattle.wap_context.specs.inside.Held.{enter_at, arrive_at, arrive_if_at, return_at}
 use Rattle.wap_context.specs.inside.Held.{answered_at, returned_at}
-use Rattle.wap_context.proofs.Places.{held_now, last_pushed}
-use Rattle.wap_context.proofs.Arrivals.{has_deck, in_deck_url}
+use Rattle.wap_world.proofs.Entries.{last_pushed, earlier_url}
+use Rattle.wap_context.proofs.Places.{held_now}
+use Rattle.wap_context.proofs.Arrivals.{has_deck}
 
 entered_is : (pages : Pages) (world : World) (next : Option Task)
     → entered pages [] world next ≡ entered_at (place_now pages world) world next
@@ -89,7 +90,7 @@ module _ (pages : Pages) (browser : Browser) (over : IsOver pages browser) where
       let inside = back_at left.world entry in
       let kept = all_but_last (all_but_last left.world.history) in
       let url : entry.url ≡ earlier.url =
-      in_deck_url (nat_lt earlier.card (length (cards_of deck))) earlier in
+      earlier_url (nat_lt earlier.card (length (cards_of deck))) earlier in
       ap (after_step (quiet [] left)) (enter_is pages Backward inside (place_in entry deck)
       (place_behind pages inside kept entry deck refl (ap (deck_at pages) url ∙ has)))
       ∙ ap (λ (p : Option Place). return_at sets earlier p w deck) now

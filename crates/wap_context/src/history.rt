@@ -3,6 +3,7 @@ ghost use Rattle.std.specs.Prelude.{◌≡◌, ◌≤◌, ◌<◌, ◌-◌, nat_
 ghost use Rattle.std.specs.Prelude.{length, take, drop, slice_get, Some, IfOk, OnOk};
 ghost use Rattle.std.specs.Option.{option_map, option_copied};
 ghost use Rattle.wap_base.specs.declared.limits.TheConstants.{MOST_HISTORY};
+ghost use Rattle.wap_world.specs.declared.timer.Timer.TheVariants.{NotStarted};
 ghost use Rattle.wap_world.specs.World.{last_entry};
 ghost use Rattle.wap_world.specs.History.{pushed, earlier_entry, back_at};
 
@@ -12,7 +13,7 @@ use std::alloc::Global;
 use std::marker::Model;
 use wap_base::{MOST_HISTORY, NoMemory};
 use wap_url::Url;
-use wap_world::Entry;
+use wap_world::{Entry, Timer};
 
 /// How many entries there is room for, which is the most that may be chosen.
 const ROOM: usize = MOST_HISTORY as usize;
@@ -226,11 +227,12 @@ impl State {
         self.history.push(earlier)
     }
 
-    /// Clears variables and history.
+    /// Clears variables and history. Without a card no timer is started.
     pub fn clear(&mut self)
-        ensures { self.new ≡ record self.old { vars = []; history = [] } }
+        ensures { self.new ≡ record self.old { vars = []; history = []; timer = NotStarted } }
     {
         self.vars.clear();
         self.history.clear();
+        self.timer = Timer::NotStarted;
     }
 }

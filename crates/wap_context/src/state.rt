@@ -55,7 +55,7 @@ impl State {
         State {
             vars: Vars::new(alloc),
             history: History::new(alloc),
-            timer: Timer::Off,
+            timer: Timer::NotStarted,
             budget: 0,
             turns: 0,
             generator: Gen::new(seed),

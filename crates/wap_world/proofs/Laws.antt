@@ -8,7 +8,7 @@ use Rattle.wap_world.specs.declared.history.Entry.{Entry}
 use Rattle.wap_site.specs.Pages.{Pages}
 use Rattle.wap_world.specs.World.{World}
 use Rattle.wap_world.specs.Steps.{Step, followed, settled}
-use Rattle.wap_world.specs.History.{all_but_last}
+use Rattle.wap_world.specs.History.{entry_of, in_deck, all_but_last}
 use Rattle.wap_url.specs.declared.url.Url.{Url}
 use Rattle.wap_url.specs.Printing.{name_for}
 use Rattle.wap_markup.specs.declared.deck.Deck.{Deck}
@@ -17,7 +17,7 @@ use Rattle.wap_world.specs.declared.refusal.Refusal.TheVariants as refusals
 use Rattle.wap_world.specs.Screens.{refuse}
 use Rattle.wap_world.specs.Access.{may_enter}
 use Rattle.wap_world.specs.Requests.{Request, request_line, answer_to, ask, test}
-use Rattle.wap_world.specs.Tasks.{request, after_step, with_deck, try_deck, arrive_if}
+use Rattle.wap_world.specs.Tasks.{request, after_step, with_deck, try_deck, arrive_if, card_for}
 use Rattle.wap_world.specs.Keys.{renewed, react}
 use Rattle.wap_world.specs.Sessions.{played_in, played}
 use Rattle.wap_world.proofs.Walk.{before, apply_fine}
@@ -32,12 +32,13 @@ pub leaves_keys : (pages : Pages) (one : Key) (keys : List Key) (world : World)
     → react pages one keys world ≡ before keys (react pages one [] world)
 unfolding react
 leaves_keys pages one keys world =
-    (apply_fine Nothing (λ w. tt) (λ u v w a b. tt) (λ w v. tt) (λ w t. tt) (λ w n e. tt) (λ w. tt)
-    (λ w e. tt) (λ w e. tt) pages (renewed world) one).same keys
+    (apply_fine pages Nothing (λ w. tt) (λ u v w a b. tt) (λ w v. tt) (λ w. tt)
+    (λ w t place here. tt) (λ w n e. tt) (λ w. tt) (λ w url deck has. tt) (λ w e deck has. tt)
+    (renewed world) one).same keys
 
 -- ---- turns
 
-abbrev KeepsTurns : World → World → Type 0
+abbrev pub KeepsTurns : World → World → Type 0
 KeepsTurns old new = new.turns ≤ old.turns
 
 -- within a key turns never grow
@@ -45,14 +46,15 @@ pub turns_fall : (pages : Pages) (one : Key) (keys : List Key) (world : World)
     → (react pages one keys world).world.turns ≤ world.budget
 unfolding react
 turns_fall pages one keys world =
-    (apply_fine KeepsTurns (λ w. omega arith) (λ u v w a b. omega (a, b, arith))
-    (λ w v. omega arith) (λ w t. omega arith) (λ w n e. omega (e, arith)) (λ w. omega arith)
-    (λ w e. omega arith) (λ w e. omega arith) pages (renewed world) one).moves keys
+    (apply_fine pages KeepsTurns (λ w. omega arith) (λ u v w a b. omega (a, b, arith))
+    (λ w v. omega arith) (λ w. omega arith) (λ w t place here. omega arith)
+    (λ w n e. omega (e, arith)) (λ w. omega arith) (λ w url deck has. omega arith)
+    (λ w e deck has. omega arith) (renewed world) one).moves keys
 
 -- ---- keys in two parts
 
 -- a key, and then the others
-one_first : (pages : Pages) (one : Key) (keys : List Key) (world : World)
+pub one_first : (pages : Pages) (one : Key) (keys : List Key) (world : World)
     → played pages (one ∷ keys) world
     ≡ followed (react pages one [] world) (λ left w. played pages keys w)
 unfolding played
@@ -110,14 +112,22 @@ pub history_bound : (pages : Pages) (one : Key) (keys : List Key) (world : World
     → IsBounded (react pages one keys world).world
 unfolding react
 history_bound pages one keys world bound =
-    (apply_fine KeepsBound (λ w b. b) (λ u v w f g b. g (f b)) (λ w v b.
-    record { some = b.some; few = b.few }) (λ w t b. record { some = b.some; few = b.few })
+    (apply_fine pages KeepsBound (λ w b. b) (λ u v w f g b. g (f b))
+    (λ w v b. record { some = b.some; few = b.few })
+    (λ w b. record { some = b.some; few = b.few })
+    (λ w t place here b. record { some = b.some; few = b.few })
     (λ w n e b. record { some = b.some; few = b.few })
     (λ w b. record { some = b.some; few = omega arith })
-    (λ w e b.
-    record { some = b.some; few = few_pushed _ w.limits.history w.history e refl b.some b.few })
-    (λ w e b. record { some = b.some; few = few_popped w.limits.history w.history e b.some b.few })
-    pages (renewed world) one).moves keys (record { some = bound.some; few = bound.few })
+    (λ w url deck has b. record {
+      some = b.some;
+      few = few_pushed _ w.limits.history w.history (entry_of url (card_for deck url)) refl
+          b.some b.few;
+    })
+    (λ w e deck has b. record {
+      some = b.some;
+      few = few_popped w.limits.history w.history (in_deck deck e) b.some b.few;
+    })
+    (renewed world) one).moves keys (record { some = bound.some; few = bound.few })
 
 -- ---- a page that may not be entered
 

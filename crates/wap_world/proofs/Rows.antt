@@ -1,10 +1,11 @@
--- The first deck that is opened, computed from the definitions.
-use Rattle.std.proofs.Common.{◌≡◌, List, [], ◌∷◌, ◌++◌, Some, None, refl, ap, ◌∙◌}
+-- The first deck that is opened, and other URLs, computed from the definitions.
+use Rattle.std.proofs.Common.{◌≡◌, ℕ, List, [], ◌∷◌, ◌++◌, Some, None, refl, ap, ◌∙◌}
 use Rattle.std.specs.Prelude.{codes, Bool, true, false, not, if◌then◌else◌}
 use Rattle.std.specs.Prelude.{slice_get, map, filter, is_some}
 use Rattle.std.specs.List.{fold, list_any, filter_map}
 use Rattle.std.specs.Option.{option_map, option_map_or, option_and_then}
 use Rattle.wap_base.specs.Texts.{is_same_text}
+use Rattle.wap_input.specs.declared.key.Key.TheVariants.{Open}
 use Rattle.wap_url.specs.declared.url.Url.{Url}
 use Rattle.wap_layout.specs.declared.flow.Flow.TheVariants.{Words, Wrap}
 use Rattle.wap_layout.specs.Calculation.{lines_of}
@@ -44,7 +45,9 @@ use Rattle.wap_cardrules.proofs.Opening.{out_text, out_node}
 use Rattle.wap_site.specs.Pages.{Pages}
 use Rattle.wap_site.specs.declared.page.Page.TheVariants as page_is
 use Rattle.wap_world.specs.Access.{access_of}
-use Rattle.wap_world.specs.Tasks.{is_new_context, arrive, after_step, request}
+use Rattle.wap_world.specs.Tasks.{is_new_context, arrive, after_step, request, prev, visit}
+use Rattle.wap_world.specs.Keys.{react}
+use Rattle.wap_world.specs.Sessions.{played, shown}
 use Rattle.wap_world.specs.Requests.{plain_get, ask, test, test_of}
 
 abbrev hi : List Part
@@ -150,6 +153,7 @@ arrived =
     after_step (quiet [] (still turned)) (enter site [] Forward (pushed (if b then record turned {
       vars = [];
       history = [];
+      timer = NotStarted;
     } else turned) (record { url = page; card = 0 })))) same_context
     ∙ ap (λ o. after_step (quiet [] (still turned)) (entered site [] inside o)) no_task
 
@@ -159,3 +163,34 @@ requested =
     ap (λ once. (after_step (ask [] (plain_get page) turned)
     (after_step (test [] (test_of page None deck1) turned) once)).step.lines) arrived
     ∙ ap (λ ls. codes "> GET http://h/a.wmlc" ∷ ls) shown_here
+
+-- ---- whole sessions
+
+-- what a URL shows that is opened over these pages
+abbrev opened : List ℕ → Pages → List (List ℕ)
+opened text pages = shown pages (Open text ∷ []) (first_world 0 3 default_limits)
+
+-- on its card there is no card to go back to
+shows_first_again : (prev site [] [] inside).step.lines
+    ≡ codes "! first" ∷ codes "=" ∷ codes "Hi" ∷ []
+shows_first_again = ap (λ ls. codes "! first" ∷ ls) shown_here
+
+-- a page that is refused, and one that isn't there
+refuses_page : opened (codes "http://h/a.wmlc") ((codes "h/a.wmlc", page_is.Refused) ∷ [])
+    ≡ codes "> GET http://h/a.wmlc" ∷ codes "! refused" ∷ []
+unfolding played react visit
+refuses_page = refl
+
+misses_page : opened (codes "http://h/a.wmlc") []
+    ≡ codes "> GET http://h/a.wmlc" ∷ codes "! missing" ∷ []
+unfolding played react visit
+misses_page = refl
+
+-- a scheme that isn't http, and a URL without a scheme
+refuses_scheme : opened (codes "https://h/") [] ≡ codes "! scheme" ∷ []
+unfolding played react visit
+refuses_scheme = refl
+
+refuses_url : opened (codes "h/a") [] ≡ codes "! url" ∷ []
+unfolding played react visit
+refuses_url = refl

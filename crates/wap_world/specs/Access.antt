@@ -23,11 +23,14 @@ use Rattle.wap_cardrules.specs.Values.{value_if}
 
 -- ---- the test, by calculation
 
+-- the labels of the domain, in lower case, are the last ones of the host's; a URL without a host is
+-- not allowed
 abbrev pub allows_host : Access → Url → Bool
 allows_host access caller =
     let domain = labels (map to_ascii_lowercase access.domain) in
     option_map_or (λ host. ends_with is_same_text (labels host) domain) caller.host false
 
+-- the segments of the access path are the first ones of the URL's path
 abbrev pub allows_path : Access → Url → Bool
 allows_path access caller =
     starts_with is_same_text (segments (below_root caller.path)) (access_segments access.path)
@@ -43,6 +46,7 @@ allows access caller = allows_host access caller && allows_path access caller
 abbrev pub access_text : AttrName → Node → Option (List ℕ)
 access_text name node = value_if [] name node
 
+-- a reference that has a path alone
 abbrev pub path_reference : List ℕ → Url
 path_reference path = record {
   scheme = None;

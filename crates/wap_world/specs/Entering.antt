@@ -16,6 +16,7 @@ use Rattle.wap_world.specs.Screens.{here, show}
 abbrev pub leave_place : Place → World → Scene
 leave_place place world = store_left world.timer place.card world
 
+-- the current card, if there is one, is left
 abbrev pub leave : Pages → World → Scene
 leave pages world = here pages leave_place world
 
@@ -25,6 +26,7 @@ event_task pages event world =
     option_and_then (λ place. binding world.vars place.deck place.card event)
     (place_now pages world)
 
+-- without a task for its event the card is shown
 abbrev pub entered : Pages → List Key → World → Option Task → Once
 entered pages keys world None = settled (quiet keys (show pages world))
 entered pages keys world (Some task) = record { step = quiet keys (still world); next = Some task }

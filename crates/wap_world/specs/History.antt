@@ -10,6 +10,7 @@ use Rattle.wap_markup.specs.Cards.{cards_of}
 use Rattle.wap_world.specs.declared.history.Entry.{Entry}
 use Rattle.wap_world.specs.World.{World}
 
+-- the entry of a card that a URL led to, by the URL of its deck
 abbrev pub entry_of : Url → ℕ → Entry
 entry_of url card = record { url = without_fragment url; card = card }
 
@@ -20,6 +21,7 @@ pushed world entry =
     let kept = if nat_lt (length history) world.limits.history then history else drop 1 history in
     record world { history = kept ++ entry ∷ [] }
 
+-- a history without its current card
 abbrev pub all_but_last : List Entry → List Entry
 all_but_last history = take (length history - 1) history
 

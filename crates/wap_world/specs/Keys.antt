@@ -46,6 +46,7 @@ after_text pages world entered.Refused =
 after_text pages world entered.Full = refuse pages refusals.Full world
 after_text pages world entered.Set = show pages world
 
+-- a text is entered into the field of a number
 abbrev pub type_text : Pages → ℕ → List ℕ → Place → World → Scene
 type_text pages n text place world =
     let typed = enter_text world.vars place.card n text in
@@ -58,6 +59,7 @@ after_choice pages keys world (chosen.Set refused task) = followed
     (quiet keys (record { world = world; lines = flat_map fault_lines refused }))
     (λ left w. act_or (show pages w) pages left w task)
 
+-- an option is chosen in the field of a number
 abbrev pub choose_option : Pages → List Key → ℕ → ℕ → Place → World → Step
 choose_option pages keys n m place world =
     let made = choose world.vars place.card n m in
@@ -85,6 +87,7 @@ abbrev pub at_card : List Key → World → (Place → Step) → Option Place �
 at_card keys world rule None = quiet keys (ignored world)
 at_card keys world rule (Some place) = rule place
 
+-- a rule for the card where the browser is
 abbrev pub on_card : Pages → List Key → World → (Place → Step) → Step
 on_card pages keys world rule = at_card keys world rule (place_now pages world)
 
@@ -92,6 +95,7 @@ on_card pages keys world rule = at_card keys world rule (place_now pages world)
 abbrev pub renewed : World → World
 renewed world = record world { turns = world.budget }
 
+-- what each key does; those of dialogs fit nothing outside one
 abbrev pub apply : Pages → List Key → World → Key → Step
 apply pages keys world (key.Open url) = visit pages keys world url
 apply pages keys world (key.Do name) = on_card pages keys world

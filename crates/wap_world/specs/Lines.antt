@@ -22,11 +22,13 @@ shown_line line = map shown_character line
 abbrev pub line_bytes : List ℕ → List ℕ
 line_bytes line = encode_utf8_all line ++ line_feed ∷ []
 
+-- such lines, one after the other
 abbrev pub lines_bytes : List (List ℕ) → List ℕ
 lines_bytes lines = flat_map line_bytes lines
 
 -- ---- refusals
 
+-- the word of each refusal
 abbrev pub word_of : Refusal → List ℕ
 word_of Budget = codes "budget"
 word_of Url = codes "url"
@@ -40,6 +42,7 @@ word_of Mask = codes "mask"
 word_of Full = codes "full"
 word_of Long = codes "long"
 
+-- a mark and that word
 abbrev pub refusal_line : Refusal → List ℕ
 refusal_line refusal = codes "! " ++ word_of refusal
 
@@ -50,6 +53,7 @@ abbrev pub marked : List ℕ → List ℕ → List ℕ
 marked mark [] = mark
 marked mark (c ∷ cs) = mark ++ space ∷ c ∷ cs
 
+-- a title; an empty one is the mark alone
 abbrev pub title_line : List ℕ → List ℕ
 title_line title = marked (codes "=") title
 

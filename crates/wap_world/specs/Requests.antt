@@ -22,6 +22,7 @@ use Rattle.wap_world.specs.Access.{may_enter}
 use Rattle.wap_world.specs.World.{World}
 use Rattle.wap_world.specs.Steps.{AccessTest, Step}
 
+-- what is asked for, as its line shows it
 pub record Request : Type 0 where
   pub url : Url
   -- the body of a post; without one it is a get
@@ -35,9 +36,11 @@ pub record Request : Type 0 where
 abbrev pub field_text : List ℕ × List ℕ → List ℕ
 field_text post = escaped post.0 ++ equals_sign ∷ escaped post.1
 
+-- the postfields as a form, one after the other
 abbrev pub form_text : Pairs → List ℕ
 form_text posts = join_with_byte ampersand (map field_text posts)
 
+-- a form after a query, if there is one that isn't empty
 abbrev pub query_before : Option (List ℕ) → List ℕ → List ℕ
 query_before None form = form
 query_before (Some []) form = form
@@ -49,9 +52,11 @@ url_with url [] = url
 url_with url (post ∷ posts) =
     record url { query = Some (query_before url.query (form_text (post ∷ posts))) }
 
+-- a get of a URL, without a referring one
 abbrev pub plain_get : Url → Request
 plain_get url = record { url = url; body = None; referer = None; fresh = false }
 
+-- what a go asks for, from the URL of the deck in which it stands
 abbrev pub request_of : Option Url → Go → Url → Request
 request_of base go url =
     let target = if go.post then url else url_with url go.posts in
@@ -64,9 +69,12 @@ request_of base go url =
 
 -- ---- its line (this project's own)
 
+-- the word of its method
 abbrev pub method_text : Request → List ℕ
 method_text request = option_map_or (λ body. codes "POST ") request.body (codes "GET ")
 
+-- its method and its URL without a fragment, then its body and its referring URL if it has them,
+-- and whether it is to be fetched anew
 abbrev pub request_line : Request → List ℕ
 request_line request =
     codes "> " ++ method_text request ++ text_without_fragment request.url
@@ -93,6 +101,7 @@ ask keys request world = record {
   tests = [];
 }
 
+-- what these pages answer
 abbrev pub answer_to : Pages → Request → Result Deck Refusal
 answer_to pages request = deck_answer (page_of (name_for request.url) pages)
 
@@ -101,6 +110,7 @@ abbrev pub test_of : Url → Option Url → Deck → AccessTest
 test_of page caller deck =
     record { page = name_for page; caller = caller; allowed = may_enter page deck caller }
 
+-- the test is made; nothing else happens
 abbrev pub test : List Key → AccessTest → World → Step
 test keys one world =
     record { world = world; keys = keys; lines = []; asked = []; tests = one ∷ [] }

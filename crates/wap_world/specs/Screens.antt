@@ -27,11 +27,13 @@ abbrev pub at_place : (Place → World → Scene) → Option Place → World →
 at_place rule None world = still world
 at_place rule (Some place) world = rule place world
 
+-- a rule for the card where the browser is
 abbrev pub here : Pages → (Place → World → Scene) → World → Scene
 here pages rule world = at_place rule (place_now pages world) world
 
 -- ---- the screen is shown
 
+-- the screen is drawn, and nothing is changed
 abbrev pub screen_lines : Place → World → Scene
 screen_lines place world = record { world = world; lines = screen world.vars place }
 
@@ -45,6 +47,7 @@ show_screen pages world = here pages screen_lines world
 abbrev pub apply_defaults : Place → World → Scene
 apply_defaults place world = with_set world (defaults world.vars place.card)
 
+-- its fields get their defaults, its timer starts unless it has, and its screen is drawn
 abbrev pub show_place : Place → World → Scene
 show_place place world =
     and_then (apply_defaults place world) (λ w. screen_lines place (started w.timer place.card w))

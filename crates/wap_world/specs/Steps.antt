@@ -12,6 +12,7 @@ pub record Scene : Type 0 where
   pub world : World
   pub lines : List (List ℕ)
 
+-- nothing happens
 abbrev pub still : World → Scene
 still world = record { world = world; lines = [] }
 
@@ -65,5 +66,6 @@ pub record Once : Type 0 where
   pub step : Step
   pub next : Option Task
 
+-- a navigation that leads to no other
 abbrev pub settled : Step → Once
 settled step = record { step = step; next = None }

@@ -29,6 +29,7 @@ use Rattle.wap_cardrules.specs.declared.task.Go.{Go}
 use Rattle.wap_cardrules.specs.declared.event.Event.TheVariants.{Forward, Backward}
 use Rattle.wap_cardrules.specs.Values.{is_true, Pairs}
 use Rattle.wap_world.specs.declared.history.Entry.{Entry}
+use Rattle.wap_world.specs.declared.timer.Timer.TheVariants.{NotStarted}
 use Rattle.wap_world.specs.declared.refusal.Refusal.{Refusal}
 use Rattle.wap_world.specs.declared.refusal.Refusal.TheVariants as refusals
 use Rattle.wap_site.specs.Pages.{Pages}
@@ -48,6 +49,7 @@ use Rattle.wap_world.specs.Requests.{Request, plain_get, request_of, ask, answer
 abbrev pub after_step : Step → Once → Once
 after_step step once = record once { step = followed step (λ keys world. once.step) }
 
+-- a navigation that ends with a refusal, after which the current card is shown
 abbrev pub refused : Pages → List Key → Refusal → World → Once
 refused pages keys refusal world = settled (quiet keys (refuse pages refusal world))
 
@@ -55,6 +57,7 @@ refused pages keys refusal world = settled (quiet keys (refuse pages refusal wor
 abbrev pub leave_and_set : Pages → Pairs → World → Scene
 leave_and_set pages sets world = and_then (leave pages world) (set_variables sets)
 
+-- the URL of the current deck
 abbrev pub url_now : Pages → World → Option Url
 url_now pages world = option_map (λ place. place.url) (place_now pages world)
 
@@ -63,6 +66,7 @@ abbrev pub with_deck : Pages → List Key → World → (Deck → Once) → Resu
 with_deck pages keys world next (Ok deck) = next deck
 with_deck pages keys world next (Err refusal) = refused pages keys refusal world
 
+-- on with the URL, or its refusal
 abbrev pub with_url : Pages → List Key → World → (Url → Once) → Result Url Refusal → Once
 with_url pages keys world next (Ok url) = next url
 with_url pages keys world next (Err refusal) = refused pages keys refusal world
@@ -78,14 +82,16 @@ with_turn pages keys world (suc turns) next = next (record world { turns = turns
 abbrev pub card_for : Deck → Url → ℕ
 card_for deck url = unwrap_or (option_and_then (λ id. card_numbered id deck) url.fragment) 0
 
--- 11: a new context clears variables and history
+-- 11: whether the card begins a new context
 abbrev pub is_new_context : Deck → ℕ → Bool
 is_new_context deck number =
     option_map_or (is_true attrs.Newcontext) (slice_get (cards_of deck) number) false
 
+-- a new context clears variables and history, so that there is no card and no timer is started
 abbrev pub in_context : Deck → ℕ → World → World
 in_context deck number world =
-    if is_new_context deck number then record world { vars = []; history = [] } else world
+    if is_new_context deck number
+    then record world { vars = []; history = []; timer = NotStarted } else world
 
 -- 9 to 13: the old card is left, variables are set, the new card is pushed and entered
 abbrev pub arrive : Pages → List Key → Pairs → Url → World → Deck → Once
@@ -100,6 +106,7 @@ abbrev pub arrive_if : Pages → List Key → Pairs → Url → World → Deck �
 arrive_if pages keys sets url world deck true = arrive pages keys sets url world deck
 arrive_if pages keys sets url world deck false = refused pages keys refusals.Denied world
 
+-- the test is made, and the deck is entered where it may be
 abbrev pub try_deck : Pages → List Key → Pairs → Option Url → Url → World → Deck → Once
 try_deck pages keys sets caller url world deck =
     let one = test_of url caller deck in
@@ -121,6 +128,7 @@ is_here one place = is_same_page one.url place.url && is_none one.body && not on
 abbrev pub here_with : Place → Url → Url
 here_with place url = record place.url { fragment = url.fragment }
 
+-- the current deck is entered anew where it is asked for, else the page is asked for
 abbrev pub stay_or_ask
     : Pages → List Key → Pairs → Option Url → Request → World → Option Place → Once
 stay_or_ask pages keys sets caller one world None = request pages keys sets caller one world
@@ -137,6 +145,7 @@ go pages keys base one world = with_url pages keys world
 
 -- ---- open: a go of a user, from no URL; a request is always made
 
+-- the text is a reference to the current deck's URL, or stands by itself without one
 abbrev pub open_url : Pages → List Key → List ℕ → World → Once
 open_url pages keys text world = with_url pages keys world
     (λ url. request pages keys [] None (plain_get url) world)
@@ -162,6 +171,7 @@ ask_back pages keys sets earlier world =
 abbrev pub card_here : Place → Entry → Entry
 card_here place earlier = record earlier { url = place.url }
 
+-- the current deck is kept where the earlier card is one of it
 abbrev pub back_from : Pages → List Key → Pairs → Entry → World → Option Place → Once
 back_from pages keys sets earlier world None = ask_back pages keys sets earlier world
 back_from pages keys sets earlier world (Some place) =
@@ -169,6 +179,7 @@ back_from pages keys sets earlier world (Some place) =
     then return pages keys sets (card_here place earlier) world place.deck
     else ask_back pages keys sets earlier world
 
+-- with one card or none there is no earlier one
 abbrev pub back_to : Pages → List Key → Pairs → World → Option Entry → Once
 back_to pages keys sets world None = refused pages keys refusals.First world
 back_to pages keys sets world (Some earlier) =
@@ -185,6 +196,7 @@ abbrev pub refresh_place : Pages → Pairs → Place → World → Scene
 refresh_place pages sets place world =
     and_then (leave_and_set pages sets world) (λ w. screen_lines place (start_timer place.card w))
 
+-- without a card nothing happens
 abbrev pub refresh : Pages → Pairs → World → Scene
 refresh pages sets world = here pages (refresh_place pages sets) world
 
@@ -198,10 +210,12 @@ task_once pages keys world (task.Prev sets) =
     with_turn pages keys world world.turns (prev pages keys sets)
 task_once pages keys world (task.Refresh sets) = settled (quiet keys (refresh pages sets world))
 
+-- a step, and then the task that is next, if there is one
 abbrev pub go_on : (List Key → World → Task → Step) → Step → Option Task → Step
 go_on act step None = step
 go_on act step (Some next) = followed step (λ keys world. act keys world next)
 
+-- one navigation, and then all that it leads to
 abbrev pub onward : (List Key → World → Task → Step) → Once → Step
 onward act once = go_on act once.step once.next
 
@@ -211,6 +225,7 @@ act_in zero pages keys world one = (task_once pages keys world one).step
 act_in (suc turns) pages keys world one =
     onward (act_in turns pages) (task_once pages keys world one)
 
+-- a task and all that it leads to; each that leads to another takes a turn, so these count enough
 unfoldable pub act : Pages → List Key → World → Task → Step
 act pages keys world one = act_in world.turns pages keys world one
 

@@ -30,6 +30,7 @@ started Off card world = world
 
 -- ---- the variable
 
+-- a time is set as decimal text, where there is a name
 abbrev pub store_under : Option (List ℕ) → ℕ → World → Scene
 store_under None time world = still world
 store_under (Some name) time world = set_variables ((name, decimal time) ∷ []) world

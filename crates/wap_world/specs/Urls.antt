@@ -12,6 +12,7 @@ use Rattle.wap_url.specs.Printing.{text_without_fragment}
 use Rattle.wap_world.specs.declared.refusal.Refusal.{Refusal}
 use Rattle.wap_world.specs.declared.refusal.Refusal.TheVariants as refusals
 
+-- a scheme that is there and isn't http
 abbrev pub has_other_scheme : Url → Bool
 has_other_scheme url =
     option_map_or (λ scheme. not (is_same_text scheme (codes "http"))) url.scheme false
@@ -28,6 +29,7 @@ abbrev pub joined_to : Option Url → Result Url UrlFault → Result Url Refusal
 joined_to base (Err fault) = Err refusals.Url
 joined_to base (Ok reference) = page_url (joined (unwrap_or base reference) reference)
 
+-- a text is read, joined to a URL if there is one, and has to come to a page's
 abbrev pub target_of : Option Url → List ℕ → Result Url Refusal
 target_of base href = joined_to base (url_at href)
 

@@ -13,11 +13,12 @@ use Rattle.wap_filling.specs.Variables.{Variables}
 use Rattle.wap_cardrules.specs.declared.task.Task.{Task}
 use Rattle.wap_world.specs.declared.history.Entry.{Entry}
 use Rattle.wap_world.specs.declared.timer.Timer.{Timer}
-use Rattle.wap_world.specs.declared.timer.Timer.TheVariants.{Off}
+use Rattle.wap_world.specs.declared.timer.Timer.TheVariants.{NotStarted}
 use Rattle.wap_site.specs.declared.page.Page.{Page}
 use Rattle.wap_site.specs.declared.page.Page.TheVariants as page
 use Rattle.wap_site.specs.Pages.{Pages, page_of}
 
+-- what a browser keeps
 pub record World : Type 0 where
   pub vars : Variables
   -- the cards that were entered; the last is the current one
@@ -32,12 +33,12 @@ pub record World : Type 0 where
   pub generator : Generator
   pub limits : Limits
 
--- a world in which nothing was done
+-- a world in which nothing was done; without a card no timer is started
 abbrev pub first_world : (seed budget : ℕ) → Limits → World
 first_world seed budget limits = record {
   vars = [];
   history = [];
-  timer = Off;
+  timer = NotStarted;
   pending = None;
   budget = budget;
   turns = budget;
@@ -53,23 +54,28 @@ pub record Place : Type 0 where
   pub deck : Deck
   pub card : Node
 
+-- the deck that a page is, if it is one
 abbrev pub deck_in : Page → Option Deck
 deck_in (page.Deck deck) = Some deck
 deck_in (page.Words text) = None
 deck_in page.Refused = None
 deck_in page.Missing = None
 
+-- the deck that pages have under the name of a URL
 abbrev pub deck_at : Pages → Url → Option Deck
 deck_at pages url = deck_in (page_of (name_for url) pages)
 
+-- the card of an entry in a deck, if the deck has so many
 abbrev pub place_in : Entry → Deck → Option Place
 place_in entry deck =
     option_map (λ card. record { url = entry.url; deck = deck; card = card })
     (slice_get (cards_of deck) entry.card)
 
+-- the card of an entry, where pages have its deck
 abbrev pub place_of : Pages → Entry → Option Place
 place_of pages entry = option_and_then (place_in entry) (deck_at pages entry.url)
 
+-- the entry of the current card
 abbrev pub last_entry : World → Option Entry
 last_entry world = last_or None world.history
 
