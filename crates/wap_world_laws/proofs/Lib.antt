@@ -1,3 +1,5 @@
 pub mod FieldNumbers
 pub mod Denied
 pub mod Ignored
+pub mod Standing
+pub mod Following

@@ -38,6 +38,7 @@ abbrev pub option_with : Node → ℕ → ℕ → Option Node
 option_with card n m =
     option_and_then (λ select. numbered (options_of select) m) (field_with tags.Select card n)
 
+-- whether some time remains of a timer
 abbrev pub is_running : Timer → Bool
 is_running NotStarted = false
 is_running (Running time) = true

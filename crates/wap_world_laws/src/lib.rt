@@ -4,8 +4,9 @@
 
 mod fields;
 
-ghost use Rattle.std.specs.Prelude.{◌≡◌, ◌≤◌, suc, ◌++◌, ◌∷◌, [], ℕ, List, length};
-ghost use Rattle.std.specs.Prelude.{Option, Some, None, Ok, false, true};
+ghost use Rattle.std.specs.Prelude.{◌≡◌, ◌≤◌, ◌<◌, suc, ◌++◌, ◌∷◌, [], ℕ, List, length};
+ghost use Rattle.std.specs.Prelude.{Option, Some, None, Ok, false, true, IfSome};
+ghost use Rattle.wap_base.specs.declared.limits.Limits.{Limits};
 ghost use Rattle.wap_url.specs.declared.url.Url.{Url};
 ghost use Rattle.wap_url.specs.Printing.{name_for};
 ghost use Rattle.wap_markup.specs.declared.deck.Deck.{Deck};
@@ -13,22 +14,25 @@ ghost use Rattle.wap_markup.specs.declared.name.Tag.TheVariants as tags;
 ghost use Rattle.wap_input.specs.declared.key.Key.{Key};
 ghost use Rattle.wap_input.specs.declared.key.Key.TheVariants as key;
 ghost use Rattle.wap_cardrules.specs.declared.task.Go.{Go};
+ghost use Rattle.wap_cardrules.specs.declared.task.Task.{Task};
 ghost use Rattle.wap_cardrules.specs.declared.task.Task.TheVariants as task;
 ghost use Rattle.wap_cardrules.specs.Values.{Pairs};
 ghost use Rattle.wap_cardrules.specs.Dos.{do_task};
 ghost use Rattle.wap_cardrules.specs.Fields.{link_task, field_with};
 ghost use Rattle.wap_world.specs.declared.refusal.Refusal.TheVariants as refusals;
 ghost use Rattle.wap_site.specs.Pages.{Pages};
-ghost use Rattle.wap_world.specs.World.{World, Place, place_now};
-ghost use Rattle.wap_world.specs.Steps.{quiet, followed, settled};
+ghost use Rattle.wap_world.specs.World.{World, Place, first_world, place_now};
+ghost use Rattle.wap_world.specs.Steps.{still, quiet, followed, settled};
 ghost use Rattle.wap_world.specs.Urls.{target_of};
 ghost use Rattle.wap_world.specs.Screens.{refuse};
 ghost use Rattle.wap_world.specs.Access.{may_enter};
 ghost use Rattle.wap_world.specs.Requests.{Request, request_of, request_line, answer_to};
-ghost use Rattle.wap_world.specs.Tasks.{request, is_here, act};
+ghost use Rattle.wap_world.specs.Tasks.{request, is_here, with_turn, open_url, task_once};
+ghost use Rattle.wap_world.specs.Tasks.{onward, act, visit};
 ghost use Rattle.wap_world.specs.Keys.{react, renewed, ignored};
 ghost use Rattle.wap_world.specs.Sessions.{played};
 ghost use Rattle.wap_world_laws.specs.Ignored.{IsIgnored, is_for_card, option_with, is_running};
+ghost use Rattle.wap_world_laws.specs.Standing.{HaveCards, StandsOnCard};
 
 pub use fields::fields_show_their_numbers;
 
@@ -110,4 +114,39 @@ pub fn denied_decks_are_not_entered()
           asked = (name_for asked.url, asked.fresh) ∷ [];
           tests = record { page = name_for asked.url; caller = caller; allowed = false } ∷ [];
         } }
+{}
+
+/// After a key a world stands on a card, where it did before, and a world in which nothing was done
+/// does: no key makes a browser lose its deck or name a card that it hasn't.
+pub fn keys_keep_the_card()
+    ensures first { (pages : Pages) (seed budget : ℕ) (limits : Limits)
+        → StandsOnCard pages (first_world seed budget limits) }
+    ensures kept { (pages : Pages) (one : Key) (keys : List Key) (world : World)
+        → HaveCards pages → StandsOnCard pages world
+        → StandsOnCard pages (react pages one keys world).world }
+{}
+
+/// A task or a URL that is opened is followed to its end: no count of turns cuts short what it
+/// leads to, since each task that leads to another takes a turn.
+pub fn tasks_are_followed_to_their_end()
+    ensures of_task { (pages : Pages) (keys : List Key) (world : World) (one : Task)
+        → act pages keys world one ≡ onward (act pages) (task_once pages keys world one) }
+    ensures of_url { (pages : Pages) (keys : List Key) (world : World) (text : List ℕ)
+        → visit pages keys world text ≡ onward (act pages)
+        (with_turn pages keys world world.turns (open_url pages keys text)) }
+    ensures turns { (pages : Pages) (keys : List Key) (world : World) (one : Task)
+        → let once = task_once pages keys world one in
+        IfSome once.next (λ next. once.step.world.turns < world.turns) }
+{}
+
+/// Keys are played one after the other, and none is left.
+pub fn keys_are_played_to_the_last()
+    ensures none { (pages : Pages) (world : World)
+        → played pages [] world ≡ quiet [] (still world) }
+    ensures first { (pages : Pages) (one : Key) (keys : List Key) (world : World)
+        → played pages (one ∷ keys) world ≡ followed (react pages one keys world) (played pages) }
+    ensures left { (pages : Pages) (one : Key) (keys : List Key) (world : World)
+        → (react pages one keys world).keys ≡ keys }
+    ensures all { (pages : Pages) (keys : List Key) (world : World)
+        → (played pages keys world).keys ≡ [] }
 {}

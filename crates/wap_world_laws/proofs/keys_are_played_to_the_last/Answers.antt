@@ -1,0 +1,14 @@
+use Rattle.wap_world_laws.proofs.Following.{plays_none, plays_first, keys_left, plays_all}
+use Rattle.wap_world_laws.proofs.keys_are_played_to_the_last.Goals as goal
+
+pub returns-clause-none : goal.returns-clause-none
+returns-clause-none c = plays_none
+
+pub returns-clause-first : goal.returns-clause-first
+returns-clause-first c = plays_first
+
+pub returns-clause-left : goal.returns-clause-left
+returns-clause-left c = keys_left
+
+pub returns-clause-all : goal.returns-clause-all
+returns-clause-all c = plays_all

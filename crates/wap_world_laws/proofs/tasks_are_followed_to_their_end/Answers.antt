@@ -1,0 +1,11 @@
+use Rattle.wap_world_laws.proofs.Following.{act_goes_on, visit_goes_on, task_spends}
+use Rattle.wap_world_laws.proofs.tasks_are_followed_to_their_end.Goals as goal
+
+pub returns-clause-of_task : goal.returns-clause-of_task
+returns-clause-of_task c = act_goes_on
+
+pub returns-clause-of_url : goal.returns-clause-of_url
+returns-clause-of_url c = visit_goes_on
+
+pub returns-clause-turns : goal.returns-clause-turns
+returns-clause-turns c = task_spends
