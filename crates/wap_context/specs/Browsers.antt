@@ -10,6 +10,7 @@ use Rattle.wap_site.specs.Pages.{Pages}
 use Rattle.wap_world.specs.World.{World, Place, place_in, deck_at, last_entry}
 use Rattle.wap_world.specs.Steps.{Scene}
 
+-- what a browser keeps between two calls
 pub record Browser : Type 0 where
   pub world : World
   -- the deck of the current card, once one was entered
@@ -38,6 +39,7 @@ pub record Shows (old new : Browser) (lines : List (List ℕ)) (rule : Pages →
 
 -- ---- variables
 
+-- a browser with other variables
 abbrev pub with_vars : Variables → Browser → Browser
 with_vars vars browser = record browser { world = record browser.world { vars = vars } }
 

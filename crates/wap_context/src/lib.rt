@@ -18,3 +18,5 @@ mod ticking;
 mod timers;
 
 pub use context::Context;
+pub use wap_site::{Page, Pages};
+pub use wap_world::Timer;

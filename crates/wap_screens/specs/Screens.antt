@@ -9,6 +9,7 @@ use Rattle.wap_cardrules.specs.Flow.{flow_of, title_of}
 use Rattle.wap_world.specs.declared.screen.TheConstants.{COLUMNS}
 use Rattle.wap_world.specs.Lines.{title_line, do_line}
 
+-- its title, its content and its active dos
 abbrev pub screen_of : Variables → Deck → Node → List (List ℕ)
 screen_of vars deck card =
     title_line (title_of vars card)
