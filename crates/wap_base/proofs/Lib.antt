@@ -10,5 +10,3 @@ pub mod NumberLaws
 pub mod NumberLoop
 pub mod NumberSpelling
 pub mod NameLaws
-pub mod Transfers
-pub mod StoreLaws

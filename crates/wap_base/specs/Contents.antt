@@ -1,9 +1,7 @@
 -- What a store holds: pages by their names. This project's own.
-use Rattle.std.specs.Prelude.{ℕ, List, Option, Some, None}
+use Rattle.std.specs.Prelude.{ℕ, List, Option}
 use Rattle.std.specs.Map.{keys_of, lookup}
 use Rattle.wap_base.specs.Texts.{is_same_text}
-use Rattle.wap_base.specs.declared.store.Fetched.{Fetched}
-use Rattle.wap_base.specs.declared.store.Fetched.TheVariants.{Found, Missing}
 
 -- a list of names, as characters, each with its page's bytes
 abbrev pub Contents : Type 0
@@ -15,11 +13,3 @@ names_of pages = keys_of pages
 -- the bytes under a name
 abbrev pub page_named : List ℕ → Contents → Option (List ℕ)
 page_named name pages = lookup (λ other. is_same_text other name) pages
-
-abbrev pub answer_of : Option (List ℕ) → Fetched
-answer_of (Some bytes) = Found bytes
-answer_of None = Missing
-
--- what a store that holds these pages answers
-abbrev pub answer_for : List ℕ → Contents → Fetched
-answer_for name pages = answer_of (page_named name pages)

@@ -19,10 +19,6 @@ impl<T: Drop> From<AllocFailed<T>> for NoMemory {
     }
 }
 
-/// A read or a write of the outside failed. It comes only where the outside's count of faults rose.
-#[derive(Clone, Copy, Debug, PartialEq, Eq)]
-pub struct Failed;
-
 /// Why a call that asks for pages gave up.
 #[derive(Clone, Copy, Debug, PartialEq, Eq)]
 pub enum RunErr {

@@ -1,9 +1,0 @@
--- Why a call that asks for pages gives up, by the store's fault. This project's own.
-use Rattle.wap_base.specs.declared.store.StoreErr.{StoreErr}
-use Rattle.wap_base.specs.declared.store.StoreErr.TheVariants as store
-use Rattle.wap_base.specs.declared.fault.RunErr.{RunErr}
-use Rattle.wap_base.specs.declared.fault.RunErr.TheVariants as run
-
-abbrev pub run_fault : StoreErr → RunErr
-run_fault store.Failed = run.Store
-run_fault store.NoMemory = run.NoMemory
