@@ -14,6 +14,7 @@ use Rattle.wap_markup.specs.declared.name.Tag.TheVariants as tags
 use Rattle.wap_markup.specs.Trees.{ItemLevel}
 use Rattle.wap_markup.specs.Good.{rule_of, is_among}
 
+-- a text, an element that begins, or one that ends
 pub data Mark : Type 0 where
   words : List Part → Mark
   begins : Node → Mark
@@ -25,10 +26,12 @@ shown_tags =
     tags.P ∷ tags.Pre ∷ tags.Fieldset ∷ tags.Table ∷ tags.Tr ∷ tags.Td ∷ tags.A ∷ tags.Anchor ∷
     tags.Em ∷ tags.Strong ∷ tags.B ∷ tags.I ∷ tags.U ∷ tags.Big ∷ tags.Small ∷ []
 
+-- the marks of an item: of a text where one may stand, of a node with what shows in it between them
 abbrev pub marks_from : (Node → List Mark) → Bool → ItemLevel → List Mark
 marks_from inner may_have_text (Item-F.Text parts) = if may_have_text then words parts ∷ [] else []
 marks_from inner may_have_text (Item-F.Node node) = begins node ∷ (inner node ++ ends node ∷ [])
 
+-- the marks of a node's content, by what shows in the nodes there
 abbrev pub kids_marks : (Node → List Mark) → Node → List Mark
 kids_marks inner node =
     flat_map (λ kid. marks_from inner (rule_of node.tag).text (out-Item kid)) node.kids
@@ -39,9 +42,11 @@ marks_in zero node = []
 marks_in (suc levels) node =
     if is_among shown_tags node.tag then kids_marks (marks_in levels) node else []
 
+-- the content of a card or a template, mark after mark
 unfoldable pub content_of : Node → List Mark
 content_of node = kids_marks (marks_in LEVEL_LIMIT) node
 
+-- the element that begins here, if one does
 abbrev pub begun_by : Mark → Option Node
 begun_by (words parts) = None
 begun_by (begins node) = Some node

@@ -28,6 +28,7 @@ dos_in node = filter (λ one. is_same_tag one.tag tags.Do) (elements_of node)
 abbrev pub do_name : Node → List ℕ
 do_name node = unwrap_or (name_of_do node) []
 
+-- whether a do of the card has this name
 abbrev pub has_do : List ℕ → Node → Bool
 has_do name card = list_any (λ one. is_same_text name (do_name one)) (dos_in card)
 
@@ -41,6 +42,7 @@ dos_for deck card =
 abbrev pub active_dos : Deck → Node → List Node
 active_dos deck card = filter (λ one. is_some (task_of one)) (dos_for deck card)
 
+-- the label of a do, filled; without one, nothing
 abbrev pub label_of : Variables → Node → List ℕ
 label_of vars node = value_text vars (value_of attrs.Label node)
 

@@ -19,6 +19,7 @@ use Rattle.wap_cardrules.specs.Events.{onpick}
 
 -- ---- texts
 
+-- the variables after a text was entered, and what is answered
 pub record TextEntered : Type 0 where
   pub vars : Variables
   pub answer : Entered
@@ -30,10 +31,12 @@ entered_for (faults.TooLong bytes) = entered.Refused
 entered_for faults.Full = entered.Full
 entered_for faults.NoMemory = entered.Refused
 
+-- what is answered where a variable was set, or refused its text
 abbrev pub entered_by : Variables → Result Variables VarFault → TextEntered
 entered_by vars (Ok more) = record { vars = more; answer = entered.Set }
 entered_by vars (Err fault) = record { vars = vars; answer = entered_for fault }
 
+-- a text for an input, if there is one: it is set where the input takes it
 abbrev pub enter_in : Variables → List ℕ → Option Node → TextEntered
 enter_in vars text None = record { vars = vars; answer = entered.NoInput }
 enter_in vars text (Some input) =
@@ -46,10 +49,12 @@ enter_text vars card n text = enter_in vars text (field_with tags.Input card n)
 
 -- ---- options
 
+-- the variables after an option was chosen, and what is answered
 pub record OptionChosen : Type 0 where
   pub vars : Variables
   pub answer : Chosen
 
+-- there is no such option
 abbrev pub none_chosen : Variables → OptionChosen
 none_chosen vars = record { vars = vars; answer = chosen.NoOption }
 
@@ -58,11 +63,13 @@ abbrev pub after_sets : Set → Node → OptionChosen
 after_sets set option =
     record { vars = set.vars; answer = chosen.Set set.refused (onpick set.vars option) }
 
+-- an option of a select, if there is one: what the select says with it is set, and its task follows
 abbrev pub choose_option : Variables → Node → ℕ → Option Node → OptionChosen
 choose_option vars select m None = none_chosen vars
 choose_option vars select m (Some option) =
     after_sets (set_choice vars select (choice_with select (choice_of vars select) m)) option
 
+-- the option of a number, in a select, if there is one
 abbrev pub choose_in : Variables → ℕ → Option Node → OptionChosen
 choose_in vars m None = none_chosen vars
 choose_in vars m (Some select) = choose_option vars select m (numbered (options_of select) m)

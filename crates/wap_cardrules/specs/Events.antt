@@ -23,6 +23,7 @@ pub record Named : Type 0 where
   pub type : List ℕ
   pub attribute : AttrName
 
+-- the names of a card's events
 abbrev pub named : Event → Named
 named Forward = record { type = codes "onenterforward"; attribute = attrs.Onenterforward }
 named Backward = record { type = codes "onenterbackward"; attribute = attrs.Onenterbackward }
@@ -37,6 +38,7 @@ abbrev pub onevent_for : Named → Node → Option Node
 onevent_for event node =
     find (λ one. is_text event.type (type_of one)) (filter_map (node_with tags.Onevent) node.kids)
 
+-- what is bound to an event in one element: the task of its onevent, or a go to its attribute
 abbrev pub bound_in : Variables → Named → Node → Option (Option Task)
 bound_in vars event node = option_or
     (option_map (task_in vars) (onevent_for event node))

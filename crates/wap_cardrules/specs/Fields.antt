@@ -16,9 +16,11 @@ use Rattle.wap_cardrules.specs.declared.task.Task.{Task}
 use Rattle.wap_cardrules.specs.Content.{elements_of}
 use Rattle.wap_cardrules.specs.Tasks.{go_to, task_in}
 
+-- whether elements of this tag have numbers
 abbrev pub is_field : Tag → Bool
 is_field tag = is_among (tags.A ∷ tags.Anchor ∷ tags.Input ∷ tags.Select ∷ []) tag
 
+-- the fields of a card, in the order of the document
 abbrev pub fields_of : Node → List Node
 fields_of card = filter (λ node. is_field node.tag) (elements_of card)
 
@@ -38,5 +40,6 @@ task_of_link vars field =
     else if is_same_tag field.tag tags.Anchor then task_in vars field
     else None
 
+-- the task of the field of a number, if that is a link
 abbrev pub link_task : Variables → Node → ℕ → Option Task
 link_task vars card n = option_and_then (task_of_link vars) (numbered (fields_of card) n)

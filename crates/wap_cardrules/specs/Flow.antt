@@ -38,6 +38,7 @@ option_mark n m is_chosen =
     codes "{" ++ decimal n ++ codes "." ++ decimal m ++ codes "}"
     ++ (if is_chosen then codes "+" else codes "-")
 
+-- an option with its number and whether it is chosen: its mark and its texts, on a line of its own
 abbrev pub option_flow : Variables → ℕ → ℕ × (Bool × Node) → List Flow
 option_flow vars n one =
     Soft ∷ Words (option_mark n one.0 one.1.0) ∷
@@ -50,6 +51,7 @@ select_flow vars n select =
     (enumerate_from 1 (zip (choice_of vars select) (options_of select)))
     ++ Soft ∷ []
 
+-- what a field shows, by its number
 abbrev pub field_flow : Variables → ℕ → Node → List Flow
 field_flow vars n field =
     if is_same_tag field.tag tags.Input then Words (input_mark vars n field) ∷ []
@@ -63,6 +65,7 @@ abbrev pub mode_named : Flow → Option (List ℕ) → Flow
 mode_named last None = last
 mode_named last (Some mode) = if is_same_text mode (codes "nowrap") then NoWrap else Wrap
 
+-- the mode that counts from a p on, after this one
 abbrev pub mode_of : Flow → Node → Flow
 mode_of last p = mode_named last (plain_value attrs.Mode p)
 
@@ -77,6 +80,7 @@ flow_before vars node =
     else if is_same_tag node.tag tags.Tr then Soft ∷ []
     else []
 
+-- what stands after the content of an element
 abbrev pub flow_behind : Tag → List Flow
 flow_behind tag =
     if is_same_tag tag tags.Td then Words (space ∷ []) ∷ []
@@ -91,6 +95,7 @@ pub record Shown : Type 0 where
   pub mode : Flow
   pub flow : List Flow
 
+-- what shows so far, and more
 abbrev pub followed_by : Shown → List Flow → Shown
 followed_by shown more = record shown { flow = shown.flow ++ more }
 
@@ -104,17 +109,20 @@ with_field vars shown field =
 abbrev pub with_mode : Shown → Flow → Shown
 with_mode shown mode = followed_by (record shown { mode = mode }) (mode ∷ [])
 
+-- what shows after an element begins
 abbrev pub begun : Variables → Shown → Node → Shown
 begun vars shown node =
     if is_field node.tag then with_field vars shown node
     else if is_same_tag node.tag tags.P then with_mode shown (mode_of shown.mode node)
     else followed_by shown (flow_before vars node)
 
+-- what shows after a mark
 abbrev pub shown_with : Variables → Shown → Mark → Shown
 shown_with vars shown (words parts) = followed_by shown (Words (filled vars parts) ∷ [])
 shown_with vars shown (begins node) = begun vars shown node
 shown_with vars shown (ends node) = followed_by shown (flow_behind node.tag)
 
+-- what shows before the first mark
 abbrev pub nothing_shown : Shown
 nothing_shown = record { fields = 0; mode = Wrap; flow = [] }
 
@@ -122,5 +130,6 @@ nothing_shown = record { fields = 0; mode = Wrap; flow = [] }
 unfoldable pub flow_of : Variables → Node → List Flow
 flow_of vars card = (fold (shown_with vars) nothing_shown (content_of card)).flow
 
+-- the title of a card, filled; without one, nothing
 abbrev pub title_of : Variables → Node → List ℕ
 title_of vars card = value_text vars (value_of attrs.Title card)

@@ -30,6 +30,7 @@ input_mask vars input = option_map_or mask_of (value_if vars attrs.Format input)
 abbrev pub maxlength_of : Variables → Node → Option ℕ
 maxlength_of vars input = option_and_then number_in (value_if vars attrs.Maxlength input)
 
+-- whether a text has no more characters than an input takes
 abbrev pub is_short : Variables → Node → List ℕ → Bool
 is_short vars input text = option_map_or (nat_le (length text)) (maxlength_of vars input) true
 
@@ -39,6 +40,7 @@ takes vars input text =
     (is_taken (input_mask vars input) text && is_short vars input text)
     || (is_empty text && is_true attrs.Emptyok input)
 
+-- whether an input hides its text
 abbrev pub is_password : Variables → Node → Bool
 is_password vars input =
     is_same_text (codes "password") (value_text vars (value_of attrs.Type input))

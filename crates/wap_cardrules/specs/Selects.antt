@@ -30,9 +30,11 @@ abbrev pub values_of : Variables → Node → List (List ℕ)
 values_of vars select =
     map (λ option. value_text vars (value_of attrs.Value option)) (options_of select)
 
+-- how many options a select has
 abbrev pub count_of : Node → ℕ
 count_of select = length (options_of select)
 
+-- whether several of its options may be chosen
 abbrev pub is_multiple : Node → Bool
 is_multiple select = is_true attrs.Multiple select
 
@@ -42,9 +44,11 @@ Choice = List Bool
 
 -- ---- numbers of options, from 1
 
+-- the numbers of so many options
 abbrev pub numbers : ℕ → List ℕ
 numbers count = range_with_len 1 count
 
+-- whether a number is among some
 abbrev pub is_number_among : List ℕ → ℕ → Bool
 is_number_among some number = list_any (λ one. one == number) some
 
@@ -52,11 +56,13 @@ is_number_among some number = list_any (λ one. one == number) some
 abbrev pub chosen : ℕ → List ℕ → Choice
 chosen count some = map (is_number_among some) (numbers count)
 
+-- the texts between the semicolons of a text
 abbrev pub pieces_of : List ℕ → List (List ℕ)
 pieces_of text = slice_split (λ c. c == semicolon) text
 
 -- ---- what a text chooses
 
+-- whether a text begins with the digit 0
 abbrev pub begins_with_zero : List ℕ → Bool
 begins_with_zero piece = begins_with (λ c. c == digit_zero) piece
 
@@ -100,9 +106,11 @@ first_choice select = chosen (count_of select) (if is_multiple select then [] el
 
 -- ---- the search
 
+-- the variable of iname, for the numbers of the options that are chosen
 abbrev pub iname_of : Node → Option (List ℕ)
 iname_of select = variable_in attrs.Iname select
 
+-- the variable of name, for the values of the options that are chosen
 abbrev pub name_of : Node → Option (List ℕ)
 name_of select = variable_in attrs.Name select
 
@@ -125,6 +133,7 @@ choice_of vars select = unwrap_or
 abbrev pub joined : List (List ℕ) → List ℕ
 joined texts = join_with_byte semicolon texts
 
+-- numbers, joined by `;`, and 0 for none
 abbrev pub index_joined : List (List ℕ) → List ℕ
 index_joined [] = codes "0"
 index_joined (first ∷ others) = joined (first ∷ others)
@@ -139,6 +148,7 @@ choice_text vars select choice = joined (items_where_true choice (values_of vars
 
 -- ---- a choice that changes
 
+-- whether an option is chosen, after it was turned if it is the one
 abbrev pub turned_if : Bool → Bool → Bool
 turned_if is_it is_chosen = if is_it then not is_chosen else is_chosen
 

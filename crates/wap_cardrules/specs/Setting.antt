@@ -32,6 +32,7 @@ abbrev pub set_from : Variables → Result Variables VarFault → Set
 set_from vars (Ok more) = accepted more
 set_from vars (Err fault) = record { vars = vars; refused = fault ∷ [] }
 
+-- a text under a name, unless it is refused
 abbrev pub set_one : Variables → List ℕ × List ℕ → Set
 set_one vars pair = set_from vars (set_in vars pair.0 pair.1)
 
@@ -56,12 +57,14 @@ default_text vars input (Some value) =
     if takes vars input value then set_one vars (input_variable input, value)
     else accepted (removed vars (input_variable input))
 
+-- an input keeps a text that it takes, and else gets the one by default
 abbrev pub default_input : Variables → Node → Set
 default_input vars input =
     if option_map_or (takes vars input) (text_of vars (input_variable input)) false
     then accepted vars
     else default_text vars input (value_if vars attrs.Value input)
 
+-- a name with its text
 abbrev pub under : List ℕ → List ℕ → List ℕ × List ℕ
 under text name = (name, text)
 
@@ -71,9 +74,11 @@ choice_sets vars select choice =
     option_to_list (option_map (under (index_text choice)) (iname_of select))
     ++ option_to_list (option_map (under (choice_text vars select choice)) (name_of select))
 
+-- the variables after a choice was set
 abbrev pub set_choice : Variables → Node → Choice → Set
 set_choice vars select choice = set_all vars (choice_sets vars select choice)
 
+-- the default of a field: of an input, or of a select by what is chosen; a link has none
 abbrev pub default : Variables → Node → Set
 default vars field =
     if is_same_tag field.tag tags.Input then default_input vars field

@@ -21,12 +21,15 @@ abbrev pub pair_in : Variables → Node → List ℕ × List ℕ
 pair_in vars node =
     (value_text vars (value_of attrs.Name node), value_text vars (value_of attrs.Value node))
 
+-- what a task sets, by its setvars
 abbrev pub sets_in : Variables → Node → Pairs
 sets_in vars node = map (pair_in vars) (setvars_of node)
 
+-- what a go sends, by its postfields
 abbrev pub posts_in : Variables → Node → Pairs
 posts_in vars node = map (pair_in vars) (filter_map (node_with tags.Postfield) node.kids)
 
+-- a go, filled
 abbrev pub go_in : Variables → Node → GoTask
 go_in vars node = record {
   href = value_text vars (value_of attrs.Href node);

@@ -17,6 +17,7 @@ timer_in card = first_with tags.Timer card.kids
 abbrev pub timer_variable : Node → Option (List ℕ)
 timer_variable timer = variable_in attrs.Name timer
 
+-- the longest time that a timer counts, in tenths of a second
 abbrev pub most_time : ℕ
 most_time = 2 ^ 32 - 1
 

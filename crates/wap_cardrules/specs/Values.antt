@@ -19,9 +19,11 @@ value_if vars name node = option_map (filled vars) (value_of name node)
 abbrev pub is_true : AttrName → Node → Bool
 is_true name node = is_text (codes "true") (plain_value name node)
 
+-- whether a text has no character
 abbrev pub is_empty : List ℕ → Bool
 is_empty text = length text == 0
 
+-- a text that has a character
 abbrev pub unless_empty : List ℕ → Option (List ℕ)
 unless_empty text = if is_empty text then None else Some text
 

@@ -19,6 +19,7 @@ use Rattle.wap_deckcheck.specs.Places.{Place, places}
 
 -- ---- what holds at a place
 
+-- whether an item may not stand after these
 abbrev pub is_misplaced : Rule → List Item → Item → Bool
 is_misplaced rule earlier item = not (stands rule earlier (node_of item) (words_of item))
 
@@ -34,6 +35,7 @@ is_taken others (Some own) = list_any (is_same_text own) others
 
 -- ---- faults
 
+-- a fault, where there is cause for it
 abbrev pub fault_if : Bool → DeckFault → List DeckFault
 fault_if true fault = fault ∷ []
 fault_if false fault = []
@@ -57,6 +59,7 @@ faults_at place =
     fault_if (is_misplaced place.rule place.earlier place.item) (fault.Child place.path) ++
     node_faults place.path place.others place.own (node_of place.item)
 
+-- whether there is no card
 abbrev pub lacks_card : List Node → Bool
 lacks_card [] = true
 lacks_card (card ∷ cards) = false
@@ -71,6 +74,7 @@ faults deck =
 
 -- ---- answers
 
+-- the first of some faults, if there is one
 abbrev pub first_fault : List DeckFault → Option DeckFault
 first_fault [] = None
 first_fault (first ∷ others) = Some first

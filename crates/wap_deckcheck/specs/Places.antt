@@ -16,9 +16,11 @@ use Rattle.wap_markup.specs.Good.{Rule, rule_of, nodes_in, name_of_do, holds_dos
 
 -- ---- what is told apart: cards by their ids, and the dos of a card or a template by their names
 
+-- the id of a card
 abbrev pub own_id : Node → Option (List ℕ)
 own_id node = if is_same_tag node.tag tags.Card then id_of node else None
 
+-- the ids of the cards among items
 abbrev pub ids_among : List Item → List (List ℕ)
 ids_among items = filter_map own_id (filter_map node_of items)
 
@@ -50,6 +52,7 @@ pub record Level : Type 0 where
   pub others : List Item → List (List ℕ)
   pub inner : List (List ℕ) → List ℕ → Node → List Place
 
+-- the places in a child, if it is a node, by the ids or names before it
 abbrev pub inner_places : Level → List (List ℕ) → List ℕ → Option Node → List Place
 inner_places level others path None = []
 inner_places level others path (Some node) =
@@ -59,6 +62,7 @@ inner_places level others path (Some node) =
 abbrev pub path_behind : List ℕ → List Item → List ℕ
 path_behind path earlier = path ++ length earlier ∷ []
 
+-- the place of an item after earlier ones, in a node at a path
 abbrev pub place_of : Level → List ℕ → Rule → List Item → Item → Place
 place_of level path rule earlier item = record {
   path = path_behind path earlier;
@@ -79,6 +83,7 @@ items_places level path rule earlier (item ∷ items) =
 
 -- ---- in a card or a template, or whatever stands right under the root
 
+-- below a card or a template dos are told apart by their names, if at all, after these names
 abbrev pub names_level : (List (List ℕ) → List ℕ → Node → List Place) → Bool → ℕ
     → List (List ℕ) → Level
 names_level inner apart levels names = record {
@@ -96,6 +101,7 @@ node_places (suc levels) apart names path node =
 
 -- ---- in a deck
 
+-- below the root cards are told apart by their ids, and the dos in each anew
 abbrev pub ids_level : Level
 ids_level = record {
   own = own_id;
@@ -103,5 +109,6 @@ ids_level = record {
   inner = λ ids path node. node_places LEVEL_LIMIT (holds_dos node.tag) [] path node;
 }
 
+-- the places in a deck, in the order of the document
 abbrev pub places : Deck → List Place
 places deck = items_places ids_level [] (rule_of deck.root.tag) [] deck.root.kids

@@ -56,6 +56,7 @@ only one = one ∷ []
 abbrev pub ordered : Bool
 ordered = true
 
+-- groups in any order
 abbrev pub any_order : Bool
 any_order = false
 
@@ -63,6 +64,7 @@ any_order = false
 abbrev pub texts : Bool
 texts = true
 
+-- no texts may stand in it
 abbrev pub no_texts : Bool
 no_texts = false
 

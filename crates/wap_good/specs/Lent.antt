@@ -7,6 +7,7 @@ use Rattle.wap_good.specs.declared.kids.Child.{Child}
 use Rattle.wap_good.specs.declared.notes.Note.{Note}
 use Rattle.wap_good.specs.declared.kids.Child.TheVariants as child
 
+-- the item that a child is seen as
 abbrev pub item_of : Child → Item
 item_of (child.Text parts) = item.Text parts
 item_of (child.Node node) = item.Node node

@@ -12,6 +12,7 @@ abbrev pub Reads : {X Y : Type 0} → (X → Y) → Option X → Option Y → Ty
 Reads view (Some x) reading = reading ≡ Some (view x)
 Reads view None reading = reading ≡ None
 
+-- a reading goes on where it gave a value, and else gives nothing
 infixl 10 ◌>>=◌
 abbrev pub ◌>>=◌ : {A B : Type 0} → Option A → (A → Option B) → Option B
 (Some x) >>= next = next x
@@ -33,17 +34,21 @@ Leaves {A = A} next bytes rest =
 
 -- ---- a byte, a number, and a string up to a 0
 
+-- the first byte, and those after it
 abbrev pub first_at : List ℕ → Option (ℕ × List ℕ)
 first_at [] = None
 first_at (byte ∷ rest) = Some (byte, rest)
 
+-- what follows this byte, if it comes first
 abbrev pub after : ℕ → List ℕ → Option (List ℕ)
 after byte bytes = first_at bytes >>= λ first. if first.0 == byte then Some first.1 else None
 
+-- the number that was read and the bytes after it, or nothing
 abbrev pub number_from : List ℕ → Result (ℕ × ℕ) ReadFault → Option (ℕ × List ℕ)
 number_from bytes (Ok read) = Some (read.0, drop read.1 bytes)
 number_from bytes (Err fault) = None
 
+-- a number of one to five bytes, and those after it
 unfoldable pub number_at : List ℕ → Option (ℕ × List ℕ)
 number_at bytes = number_from bytes (mb_at bytes 0)
 
@@ -73,6 +78,7 @@ abbrev pub run_step : {A : Type 0} → (List ℕ → List A × List ℕ) → Lis
 run_step more bytes None = ([], bytes)
 run_step more bytes (Some read) = (read.0 ∷ (more read.1).0, (more read.1).1)
 
+-- values one after the other, at most so many, and what follows the last
 abbrev pub run_at : {A : Type 0} → Reader A → ℕ → List ℕ → List A × List ℕ
 run_at next zero bytes = ([], bytes)
 run_at next (suc left) bytes = run_step (run_at next left) bytes (next bytes)

@@ -20,6 +20,7 @@ part_of (bit.Slice text) = Lit (chars text.now)
 part_of (bit.Char character) = Lit (character ∷ [])
 part_of (bit.Var name conv) = Var (chars name.now) conv
 
+-- whether a part is a reference to a variable
 abbrev pub is_reference : Part → Bool
 is_reference (Lit text) = false
 is_reference (Var name conv) = true
@@ -53,6 +54,7 @@ abbrev pub part_size : Part → ℕ
 part_size (Lit text) = length text
 part_size (Var name conv) = 1
 
+-- the same of several parts
 abbrev pub parts_size : List Part → ℕ
 parts_size [] = 0
 parts_size (part ∷ parts) = part_size part + parts_size parts

@@ -24,9 +24,11 @@ abbrev pub name_part : Conv → List ℕ → Option Part
 name_part conv bytes =
     if is_utf8 bytes && is_name bytes then Some (Var (chars bytes) conv) else None
 
+-- a string in place as a literal
 unfoldable pub string_at : Reader Part
 string_at bytes = ended_at bytes >>= λ x. string_part x.0 >>= λ part. Some (part, x.1)
 
+-- a string in place as a reference to a variable
 unfoldable pub reference_at : Conv → Reader Part
 reference_at conv bytes = ended_at bytes >>= λ x. name_part conv x.0 >>= λ part. Some (part, x.1)
 
@@ -34,6 +36,7 @@ reference_at conv bytes = ended_at bytes >>= λ x. name_part conv x.0 >>= λ par
 unfoldable pub character_at : Reader Part
 character_at bytes = after 0 bytes >>= λ rest. Some (Lit (0 ∷ []), rest)
 
+-- a part of a text after the byte that says which it is
 abbrev pub part_from : ℕ → Reader Part
 part_from mark rest =
     if mark == STR_I then string_at rest else
@@ -42,6 +45,7 @@ part_from mark rest =
     if mark == EXT_I_1 then reference_at Unescape rest else
     if mark == EXT_I_2 then reference_at Plain rest else None
 
+-- a part of a text
 unfoldable pub part_at : Reader Part
 part_at bytes = first_at bytes >>= λ x. part_from x.0 x.1
 
@@ -54,6 +58,7 @@ part_end_from mark rest =
     if mark == EXT_I_1 then Some (behind_zero rest) else
     if mark == EXT_I_2 then Some (behind_zero rest) else None
 
+-- what follows a part, if one begins here
 unfoldable pub part_end : List ℕ → Option (List ℕ)
 part_end bytes = first_at bytes >>= λ x. part_end_from x.0 x.1
 
@@ -61,6 +66,7 @@ part_end bytes = first_at bytes >>= λ x. part_end_from x.0 x.1
 abbrev pub value_at : List ℕ → List ℕ → List Part
 value_at text bytes = joined (cons_option (literal text) (all_of part_at bytes).0)
 
+-- what follows parts in a row
 abbrev pub behind_value : List ℕ → List ℕ
 behind_value bytes = (all_of part_at bytes).1
 

@@ -17,10 +17,12 @@ use Rattle.wap_markup.specs.Grammar.{with_name}
 -- ---- names, each once, in the order of first use: a tag before its attributes, attributes in
 -- order, then content
 
+-- names, and that of a token, if it is one
 abbrev pub with_token : List (List ℕ) → Token → List (List ℕ)
 with_token names (Code code) = names
 with_token names (Literal name) = with_name names name
 
+-- names, and that with which an attribute starts
 abbrev pub with_attr : List (List ℕ) → Attr → List (List ℕ)
 with_attr names attr = with_token names attr.start
 
@@ -32,6 +34,7 @@ Naming = List (List ℕ) → Element → List (List ℕ)
 abbrev pub KidLevel : Type 0
 KidLevel = Kid-F Kid Element
 
+-- names, and those of a part of content, by how those of elements are added
 abbrev pub with_opened : Naming → List (List ℕ) → KidLevel → List (List ℕ)
 with_opened inner names (Kid-F.Element element) = inner names element
 with_opened inner names (Kid-F.Pi attr) = with_attr names attr
@@ -41,9 +44,12 @@ with_opened inner names (Kid-F.Var name conv) = names
 with_opened inner names (Kid-F.Ext number) = names
 with_opened inner names (Kid-F.Opaque bytes) = names
 
+-- names, and those of a part of content
 abbrev pub with_kid : Naming → List (List ℕ) → Kid → List (List ℕ)
 with_kid inner names kid = with_opened inner names (out-Kid kid)
 
+-- names, and those of an element, whose own elements are named so: the tag, the attributes, the
+-- content
 abbrev pub with_element_of : Naming → Naming
 with_element_of inner names element =
     fold (with_kid inner) (fold with_attr (with_token names element.tag) element.attrs) element.kids
@@ -53,6 +59,7 @@ unfoldable pub with_element : ℕ → Naming
 with_element zero names element = names
 with_element (suc levels) names element = with_element_of (with_element levels) names element
 
+-- the names of a document in place of codes, each once, in the order of first use
 abbrev pub names_of : Document → List (List ℕ)
 names_of document = with_element LEVEL_LIMIT [] document.root
 
@@ -62,6 +69,7 @@ names_of document = with_element LEVEL_LIMIT [] document.root
 abbrev pub string : List ℕ → List ℕ
 string text = encode_utf8_all text ++ 0 ∷ []
 
+-- the string table of names (WAP-192, section 5.7)
 unfoldable pub table_of : List (List ℕ) → List ℕ
 table_of names = flat_map string names
 

@@ -31,14 +31,17 @@ IsString text = HasNoZero text × (all_scalars text ≡ true)
 -- ---- codes where codes can stand, characters, lengths and strings
 
 module _ (Is : List ℕ → Type 0) where
+  -- a code that a tag can have in its low six bits, or a name
   abbrev pub FitsTag : Token → Type 0
   FitsTag (Code code) = (LITERAL < code) × (code < 64)
   FitsTag (Literal name) = Is name
 
+  -- a code that can start an attribute, or a name
   abbrev pub FitsStart : Token → Type 0
   FitsStart (Code code) = (LITERAL < code % 64) × (code < 128)
   FitsStart (Literal name) = Is name
 
+  -- a part of a value that bytes can spell
   abbrev pub FitsPiece : Piece → Type 0
   FitsPiece (piece.Code page code) = (LITERAL < code % 64) × (128 ≤ code)
   FitsPiece (piece.Str text) = Is text
@@ -47,10 +50,12 @@ module _ (Is : List ℕ → Type 0) where
   FitsPiece (piece.Ext number) = number < 3
   FitsPiece (piece.Opaque bytes) = length bytes < 2 ^ 32
 
+  -- an attribute whose start and parts of a value bytes can spell
   pub record FitsAttr (attr : Attr) : Type 0 where
     pub start : FitsStart attr.start
     pub value : AllByRecursion FitsPiece attr.value
 
+  -- a part of content that bytes can spell, by which elements they can
   abbrev pub FitsOpened : (Element → Type 0) → KidLevel → Type 0
   FitsOpened inner (Kid-F.Element element) = inner element
   FitsOpened inner (Kid-F.Str text) = Is text
@@ -60,9 +65,11 @@ module _ (Is : List ℕ → Type 0) where
   FitsOpened inner (Kid-F.Opaque bytes) = length bytes < 2 ^ 32
   FitsOpened inner (Kid-F.Pi attr) = FitsAttr attr
 
+  -- the same of a part of content that isn't opened yet
   abbrev pub FitsKid : (Element → Type 0) → Kid → Type 0
   FitsKid inner kid = FitsOpened inner (out-Kid kid)
 
+  -- an element whose tag, attributes and content bytes can spell, its own elements among them
   pub record FitsElementOf (inner : Element → Type 0) (element : Element) : Type 0 where
     pub tag : FitsTag element.tag
     pub attrs : AllByRecursion FitsAttr element.attrs
@@ -75,6 +82,8 @@ module _ (Is : List ℕ → Type 0) where
 
 -- ---- documents
 
+-- bytes can spell the document: it is WML's, its elements fit, and its names fit into a string
+-- table
 pub record IsSpellable (document : Document) : Type 0 where
   pub public : is_public document.public ≡ true
   pub root : FitsElement HasNoZero LEVEL_LIMIT document.root

@@ -30,6 +30,7 @@ use Rattle.wap_spelling.specs.Names.{KidLevel, string, table_of, place_of, names
 abbrev pub sized : List ℕ → List ℕ
 sized bytes = mb_spelling (length bytes) ++ bytes
 
+-- the byte before the name of a variable in place
 abbrev pub variable : Conv → ℕ
 variable Escape = EXT_I_0
 variable Unescape = EXT_I_1
@@ -37,10 +38,12 @@ variable Plain = EXT_I_2
 
 -- ---- attributes; names stand in the table of all names
 
+-- the start of an attribute: its code, or the index of its name in the table of all names
 abbrev pub start_spelling : List (List ℕ) → Token → List ℕ
 start_spelling names (Code code) = code ∷ []
 start_spelling names (Literal name) = LITERAL ∷ mb_spelling (place_of names name)
 
+-- a part of a value; strings and names of variables stand in place
 abbrev pub piece_spelling : Piece → Writing
 piece_spelling (piece.Code page code) = on_attribute_page page ⨾ plain (code ∷ [])
 piece_spelling (piece.Str text) = plain (STR_I ∷ string text)
@@ -49,6 +52,7 @@ piece_spelling (piece.Var name conv) = plain (variable conv ∷ string name)
 piece_spelling (piece.Ext number) = plain ((EXT_0 + number) ∷ [])
 piece_spelling (piece.Opaque bytes) = plain (OPAQUE ∷ sized bytes)
 
+-- an attribute: its start, and the parts of its value
 abbrev pub attr_spelling : List (List ℕ) → Attr → Writing
 attr_spelling names attr =
     on_attribute_page attr.page
@@ -70,10 +74,12 @@ bit value (x ∷ xs) = value
 abbrev pub bits : Element → ℕ
 bits element = bit 128 element.attrs + bit 64 element.kids
 
+-- a tag with the bits that say what follows: its code, or the index of its name in the table
 abbrev pub tag_spelling : List (List ℕ) → ℕ → Token → List ℕ
 tag_spelling names follows (Code code) = (code + follows) ∷ []
 tag_spelling names follows (Literal name) = (LITERAL + follows) ∷ mb_spelling (place_of names name)
 
+-- a part of content, by how elements are spelled
 abbrev pub opened_spelling : List (List ℕ) → (Element → Writing) → KidLevel → Writing
 opened_spelling names inner (Kid-F.Element element) = inner element
 opened_spelling names inner (Kid-F.Str text) = plain (STR_I ∷ string text)
@@ -83,9 +89,11 @@ opened_spelling names inner (Kid-F.Ext number) = plain ((EXT_0 + number) ∷ [])
 opened_spelling names inner (Kid-F.Opaque bytes) = plain (OPAQUE ∷ sized bytes)
 opened_spelling names inner (Kid-F.Pi attr) = instruction_spelling names attr
 
+-- the same of a part of content that isn't opened yet
 abbrev pub kid_spelling : List (List ℕ) → (Element → Writing) → Kid → Writing
 kid_spelling names inner kid = opened_spelling names inner (out-Kid kid)
 
+-- an element, by how those in it are spelled: its tag, its attributes and its content
 abbrev pub element_by : List (List ℕ) → (Element → Writing) → Element → Writing
 element_by names inner element =
     on_tag_page element.page
@@ -101,6 +109,7 @@ element_spelling names (suc levels) element =
 
 -- ---- documents
 
+-- the pages of codes that count at first
 abbrev pub first_pages : Pages
 first_pages = record { tag = 0; attribute = 0 }
 
@@ -109,9 +118,11 @@ abbrev pub header_spelling : ℕ → List (List ℕ) → List ℕ
 header_spelling public names =
     VERSION ∷ (mb_spelling public ++ (mb_spelling CHARSET ++ sized (table_of names)))
 
+-- the root, with these names in the string table
 abbrev pub root_spelling : List (List ℕ) → Element → List ℕ
 root_spelling names root = (element_spelling names LEVEL_LIMIT root first_pages).0
 
+-- a document in WBXML 1.3 and UTF-8: the header with the string table, and the root
 unfoldable pub spelling : Document → List ℕ
 spelling document =
     let names = names_of document in

@@ -33,8 +33,10 @@ ended write (x ∷ xs) = each write (x ∷ xs) ⨾ plain (END ∷ [])
 abbrev pub switch : ℕ → ℕ → List ℕ
 switch page next = if next == page then [] else SWITCH_PAGE ∷ next ∷ []
 
+-- onto this page of tags, by a switch where another one counts
 abbrev pub on_tag_page : ℕ → Writing
 on_tag_page next pages = (switch pages.tag next, record pages { tag = next })
 
+-- onto this page of attributes, by a switch where another one counts
 abbrev pub on_attribute_page : ℕ → Writing
 on_attribute_page next pages = (switch pages.attribute next, record pages { attribute = next })

@@ -7,6 +7,7 @@ use Rattle.wap_markup.specs.declared.name.AttrName.{AttrName}
 use Rattle.wap_markup.specs.Tables.{Start, tag_of, tag_named, code_of, name_of_tag, attr_named}
 use Rattle.wap_markup.specs.Tables.{name_of_attr, attr_start, code_of_start, start_code, attr_value}
 
+-- tags have codes and names, each of them its own
 pub record TagsAgree : Type 0 where
   -- each tag but that of an unknown root has a code and a name of its own
   pub coded : (tag : Tag) → tag ≢ tags.Other → tag_of 0 (code_of tag) ≡ Some tag
@@ -16,6 +17,7 @@ pub record TagsAgree : Type 0 where
       (page ≡ 0) × (code_of tag ≡ code)
   pub name : (name : List ℕ) (tag : Tag) → tag_named name ≡ Some tag → name_of_tag tag ≡ name
 
+-- attributes have names and starts, each of them its own
 pub record AttributesAgree : Type 0 where
   -- each attribute has a name of its own, and no other
   pub named : (attr : AttrName) → attr_named (name_of_attr attr) ≡ Some attr
@@ -30,6 +32,7 @@ pub record AttributesAgree : Type 0 where
   pub started : (attr : AttrName) →
       (text : List ℕ) × (attr_start 0 (start_code attr) ≡ Some (attr, text))
 
+-- parts of values have codes, each text its own
 pub record ValuesAgree : Type 0 where
   -- no two codes are of one text
   pub apart : (page code other_page other : ℕ) (text : List ℕ) → attr_value page code ≡ Some text →
