@@ -36,9 +36,11 @@ use Rattle.wap_good.proofs.Taking.{part_takes, attr_takes, item_takes}
 
 -- ---- bytes after others
 
+-- all bytes end with all of them
 pub behind_all : (bytes : List ℕ) → IsBehind bytes bytes
 behind_all bytes = record { front = []; split = refl }
 
+-- what is behind those behind others is behind these
 pub behind_on : (rest middle bytes : List ℕ) → IsBehind rest middle → IsBehind middle bytes
     → IsBehind rest bytes
 behind_on rest middle bytes one two = record {
@@ -48,31 +50,37 @@ behind_on rest middle bytes one two = record {
       ∙ sym (append_assoc two.front one.front rest);
 }
 
+-- bytes are the first of them, and those after these
 take_drop : (n : ℕ) (bytes : List ℕ) → bytes ≡ take n bytes ++ drop n bytes
 take_drop zero [] = refl
 take_drop (suc n) [] = refl
 take_drop zero (byte ∷ bytes) = refl
 take_drop (suc n) (byte ∷ bytes) = ap (λ (l : List ℕ). byte ∷ l) (take_drop n bytes)
 
+-- what is left after the first bytes is behind all
 pub behind_drop : (n : ℕ) (bytes : List ℕ) → IsBehind (drop n bytes) bytes
 behind_drop n bytes = record { front = take n bytes; split = take_drop n bytes }
 
+-- bytes whose first is read are it and the others
 pub first_is : (bytes : List ℕ) (mark : ℕ) (rest : List ℕ) → first_at bytes ≡ Some (mark, rest)
     → bytes ≡ mark ∷ rest
 first_is [] mark rest e = absurd cc
 first_is (byte ∷ bytes) mark rest e =
     ap (λ (x : ℕ × List ℕ). x.0 ∷ x.1) (same_value (byte, bytes) (mark, rest) e)
 
+-- those after the first are behind all
 pub behind_first : (bytes : List ℕ) (mark : ℕ) (rest : List ℕ) → first_at bytes ≡ Some (mark, rest)
     → IsBehind rest bytes
 behind_first bytes mark rest e = record { front = mark ∷ []; split = first_is bytes mark rest e }
 
+-- those behind others are no more
 pub behind_left : (rest bytes : List ℕ) → IsBehind rest bytes → length rest ≤ length bytes
 behind_left rest bytes is =
     let all = ap length is.split in
     let sum = length-append is.front rest in
     omega arith
 
+-- they stand as many bytes before the end as they are
 pub behind_place : (rest bytes : List ℕ) → IsBehind rest bytes
     → drop (length bytes - length rest) bytes ≡ rest
 behind_place rest bytes is =
@@ -89,11 +97,13 @@ abbrev Tells : Option (Part × List ℕ) → Option (List ℕ) → Type 0
 Tells (Some read) end = end ≡ Some read.1
 Tells None end = Unit {0}
 
+-- of two readings the one that is chosen is told, where each is
 tells_if : (b : Bool) (x y : Option (Part × List ℕ)) (s t : Option (List ℕ)) → Tells x s → Tells y t
     → Tells (if b then x else y) (if b then s else t)
 tells_if true x y s t one two = one
 tells_if false x y s t one two = two
 
+-- after a byte that is read stand all but the first
 after_is : (byte : ℕ) (bytes rest : List ℕ) → after byte bytes ≡ Some rest → rest ≡ drop 1 bytes
 after_is byte [] rest e = absurd cc
 after_is byte (first ∷ bytes) rest e = chosen (first == byte) e
@@ -102,6 +112,7 @@ after_is byte (first ∷ bytes) rest e = chosen (first == byte) e
     chosen true e = sym (same_value bytes rest e)
     chosen false e = absurd cc
 
+-- after a string stand the bytes behind its 0
 ended_is : (bytes : List ℕ) (x : List ℕ × List ℕ) → ended_at bytes ≡ Some x
     → x.1 ≡ behind_zero bytes
 unfolding ended_at
@@ -110,11 +121,13 @@ ended_is bytes x e =
     sym (ap (λ (y : List ℕ × List ℕ). y.1) (same_value (take (zero_place bytes) bytes, a.0) x a.2))
     ∙ after_is 0 (drop (zero_place bytes) bytes) a.0 a.1
 
+-- a reading is told where all that it reads leaves these bytes
 told : (o : Option (Part × List ℕ)) (end : List ℕ) → ((x : Part × List ℕ) → o ≡ Some x → end ≡ x.1)
     → Tells o (Some end)
 told (Some x) end are = ap Some (are x refl)
 told None end are = tt
 
+-- after a string in place stand the bytes behind its 0
 string_told : (rest : List ℕ) → Tells (string_at rest) (Some (behind_zero rest))
 unfolding string_at
 string_told rest = told (string_at rest) (behind_zero rest) (λ x e.
@@ -122,6 +135,7 @@ string_told rest = told (string_at rest) (behind_zero rest) (λ x e.
     let b = bind_some (string_part a.0.0) _ x a.2 in
     sym (ended_is rest a.0 a.1) ∙ ap (λ (y : Part × List ℕ). y.1) (same_value (b.0, a.0.1) x b.2))
 
+-- and so they do after a reference
 reference_told : (conv : Conv) (rest : List ℕ)
     → Tells (reference_at conv rest) (Some (behind_zero rest))
 unfolding reference_at
@@ -130,6 +144,7 @@ reference_told conv rest = told (reference_at conv rest) (behind_zero rest) (λ 
     let b = bind_some (name_part conv a.0.0) _ x a.2 in
     sym (ended_is rest a.0 a.1) ∙ ap (λ (y : Part × List ℕ). y.1) (same_value (b.0, a.0.1) x b.2))
 
+-- after a character stands what follows its number, of one byte
 character_told : (rest : List ℕ) → Tells (character_at rest) (Some (drop 1 rest))
 unfolding character_at
 character_told [] = tt
@@ -140,6 +155,7 @@ character_told (number ∷ rest) = either (number == 0)
     either true = refl
     either false = tt
 
+-- what follows a part is told by its mark
 from_told : (mark : ℕ) (rest : List ℕ) → Tells (part_from mark rest) (part_end_from mark rest)
 from_told mark rest =
     tells_if (mark == STR_I) _ _ _ _ (string_told rest)
@@ -148,35 +164,42 @@ from_told mark rest =
     (tells_if (mark == EXT_I_1) _ _ _ _ (reference_told Unescape rest)
     (tells_if (mark == EXT_I_2) _ _ _ _ (reference_told Plain rest) tt))))
 
+-- what is told of a reading that succeeds is what follows
 told_some : (o : Option (Part × List ℕ)) (end : Option (List ℕ)) (x : Part × List ℕ) → Tells o end
     → o ≡ Some x → end ≡ Some x.1
 told_some (Some y) end x tells e = tells ∙ ap (λ (z : Part × List ℕ). Some z.1) (same_value y x e)
 told_some None end x tells e = absurd cc
 
+-- what follows a part is told by its bytes
 part_told : (bytes : List ℕ) → Tells (part_at bytes) (part_end bytes)
 unfolding part_at part_end
 part_told [] = tt
 part_told (mark ∷ rest) = from_told mark rest
 
+-- a part that is read is followed by what its mark tells
 pub part_followed : (bytes : List ℕ) (x : Part × List ℕ) → part_at bytes ≡ Some x
     → part_end bytes ≡ Some x.1
 part_followed bytes x e = told_some (part_at bytes) (part_end bytes) x (part_told bytes) e
 
+-- a reading of which nothing is told fails
 told_none : (o : Option (Part × List ℕ)) (end : Option (List ℕ)) → Tells o end
     → end ≡ None → o ≡ None
 told_none (Some x) end tells e = absurd cc
 told_none None end tells e = refl
 
+-- where no mark of a part stands, none is read
 pub no_part : (bytes : List ℕ) → part_end bytes ≡ None → part_at bytes ≡ None
 no_part bytes e = told_none (part_at bytes) (part_end bytes) (part_told bytes) e
 
 -- ---- marks
 
+-- what holds of a mark holds of another that is the same, and else is left to show
 chosen : (P : ℕ → Type 0) (mark known : ℕ) → P known → (b : Bool) → (mark == known) ≡ b
     → (b ≡ false → P mark) → P mark
 chosen P mark known here true e more = subst P (sym (eqb-true mark known e)) here
 chosen P mark known here false e more = more refl
 
+-- what holds of each mark of a part holds of a mark that tells what follows it
 marked : (P : ℕ → Type 0) (mark : ℕ) (rest end : List ℕ) → part_end_from mark rest ≡ Some end
     → P STR_I → P ENTITY → P EXT_I_0 → P EXT_I_1 → P EXT_I_2 → P mark
 marked P mark rest end e a b c d f =
@@ -188,12 +211,14 @@ marked P mark rest end e a b c d f =
     let none : part_end_from mark rest ≡ None = rw (n1, n2, n3, n4, n5) refl in
     absurd (cc))))))
 
+-- no mark of a part starts an attribute
 pub no_start : (table bytes end : List ℕ) → part_end bytes ≡ Some end → attr_at table bytes ≡ None
 unfolding part_end attr_at start_at attr_start start_rows
 no_start table [] end e = absurd cc
 no_start table (mark ∷ rest) end e =
     marked (λ (m : ℕ). attr_at table (m ∷ rest) ≡ None) mark rest end e refl refl refl refl refl
 
+-- no mark of a part begins a node
 pub no_node : (table : List ℕ) (kid : Reader Item) (bytes end : List ℕ) → part_end bytes ≡ Some end
     → node_by table kid bytes ≡ None
 unfolding part_end node_by tag_of tag_rows
@@ -203,20 +228,24 @@ no_node table kid (mark ∷ rest) end e =
 
 -- ---- a turn over parts
 
+-- something holds of an end, where there is one
 abbrev Each : (List ℕ → Type 0) → Option (List ℕ) → Type 0
 Each P (Some x) = P x
 Each P None = Unit {0}
 
+-- of two ends the one that is chosen has what each has
 each_choice : (P : List ℕ → Type 0) (b : Bool) (x y : Option (List ℕ)) → Each P x → Each P y
     → Each P (if b then x else y)
 each_choice P true x y one two = one
 each_choice P false x y one two = two
 
+-- what follows the first 0 is behind all
 behind_is_zero : (rest : List ℕ) → IsBehind (behind_zero rest) rest
 behind_is_zero rest =
     behind_on (behind_zero rest) (drop (zero_place rest) rest) rest
     (behind_drop 1 (drop (zero_place rest) rest)) (behind_drop (zero_place rest) rest)
 
+-- what a mark tells is behind the bytes after it
 from_behind : (mark : ℕ) (rest : List ℕ)
     → Each (λ (end : List ℕ). IsBehind end rest) (part_end_from mark rest)
 from_behind mark rest =
@@ -228,6 +257,7 @@ from_behind mark rest =
     (each_choice P (mark == EXT_I_1) _ _ zero
     (each_choice P (mark == EXT_I_2) _ _ zero tt))))
 
+-- what follows a part is behind all but its mark
 pub end_behind : (bytes end : List ℕ) → part_end bytes ≡ Some end → IsBehind end (drop 1 bytes)
 unfolding part_end
 end_behind [] end e = absurd cc
@@ -235,6 +265,7 @@ end_behind (mark ∷ rest) end e =
     let P : Option (List ℕ) → Type 0 = Each (λ (end : List ℕ). IsBehind end rest) in
     subst P e (from_behind mark rest)
 
+-- and it is shorter
 pub end_shorter : (bytes end : List ℕ) → part_end bytes ≡ Some end → length end < length bytes
 unfolding part_end
 end_shorter [] end e = absurd cc
@@ -243,9 +274,11 @@ end_shorter (mark ∷ rest) end e =
     let left = behind_left end rest (subst P e (from_behind mark rest)) in
     omega arith
 
+-- what is behind all but the first is behind all
 pub drop_behind : (rest bytes : List ℕ) → IsBehind rest (drop 1 bytes) → IsBehind rest bytes
 drop_behind rest bytes is = behind_on rest (drop 1 bytes) bytes is (behind_drop 1 bytes)
 
+-- the parts of a value go on after its first part up to the same end
 pub value_on : (rest behind end : List ℕ) → part_end rest ≡ Some behind → part_end end ≡ None
     → behind_value rest ≡ end → behind_value behind ≡ end
 value_on rest behind end e none so = turned (part_at rest) refl
@@ -260,12 +293,14 @@ value_on rest behind end e none so = turned (part_at rest) refl
         let nothing : part_end rest ≡ None = ap part_end (sym here ∙ so) ∙ none in
         absurd cc
 
+-- they end where no mark of a part stands
 pub value_done : (rest end : List ℕ) → part_end rest ≡ None → behind_value rest ≡ end → rest ≡ end
 value_done rest end e so =
     sym (ap (λ (r : List Part × List ℕ). r.1) (all_end part_at rest (no_part rest e))) ∙ so
 
 -- ---- lists of attributes and of items, up to an end
 
+-- an end is no mark of a part
 pub end_no_part : (bytes : List ℕ) → is_end bytes ≡ true → part_end bytes ≡ None
 unfolding part_end
 end_no_part [] e = refl
@@ -273,16 +308,19 @@ end_no_part (mark ∷ rest) e =
     let P : ℕ → Type 0 = λ m. part_end_from m rest ≡ None in
     subst P (sym (eqb-true mark END e)) refl
 
+-- nor does it start an attribute
 end_no_attr : (table rest : List ℕ) → attr_at table (END ∷ rest) ≡ None
 unfolding attr_at start_at attr_start start_rows
 end_no_attr table rest = refl
 
+-- nor begin a node
 end_no_node : (table : List ℕ) (levels : ℕ) (rest : List ℕ)
     → node_at table levels (END ∷ rest) ≡ None
 unfolding node_at node_by tag_of tag_rows
 end_no_node table zero rest = refl
 end_no_node table (suc levels) rest = refl
 
+-- nor an item
 end_no_item : (table : List ℕ) (levels : ℕ) (rest : List ℕ)
     → item_at table levels (END ∷ rest) ≡ None
 unfolding item_by
@@ -291,6 +329,7 @@ end_no_item table levels rest =
     ap is_some (no_part (END ∷ rest) (end_no_part (END ∷ rest) refl)) in
     rw (none, end_no_node table levels rest) refl
 
+-- no mark of a part begins a node of any levels
 pub no_node_at : (table : List ℕ) (levels : ℕ) (bytes end : List ℕ) → part_end bytes ≡ Some end
     → node_at table levels bytes ≡ None
 unfolding node_at
@@ -306,23 +345,28 @@ pub record Lists {A : Type 0} (next : Reader A) : Type 0 where
   pub takes : Takes next
   pub stops : (rest : List ℕ) → next (END ∷ rest) ≡ None
 
+-- attributes are read up to an end
 pub attr_lists : (table : List ℕ) → Lists (attr_at table)
 attr_lists table = record { takes = attr_takes table; stops = end_no_attr table }
 
+-- and so are items
 pub item_lists : (table : List ℕ) (levels : ℕ) → Lists (item_at table levels)
 item_lists table levels =
     record { takes = item_takes table levels; stops = end_no_item table levels }
 
 module _ {A : Type 0} (next : Reader A) (lists : Lists next) where
+  -- after its first value a list has the same end
   pub ends_on : (bytes : List ℕ) (a : A) (rest : List ℕ) → next bytes ≡ Some (a, rest)
       → Ends next bytes → Ends next rest
   ends_on bytes a rest e ends =
       sym (ap (λ (r : List A × List ℕ). is_end r.1) (all_on next lists.takes bytes a rest e)) ∙ ends
 
+  -- where nothing is read, a list that ends is at its end
   pub ends_here : (bytes : List ℕ) → next bytes ≡ None → Ends next bytes → is_end bytes ≡ true
   ends_here bytes e ends =
       sym (ap (λ (r : List A × List ℕ). is_end r.1) (all_end next bytes e)) ∙ ends
 
+  -- before its end a list has a value
   pub ends_some : (bytes : List ℕ) → Ends next bytes → is_end bytes ≡ false
       → (x : A × List ℕ) × (next bytes ≡ Some x)
   ends_some bytes ends more = there (next bytes) refl
@@ -331,6 +375,7 @@ module _ {A : Type 0} (next : Reader A) (lists : Lists next) where
       there (Some x) e = (x, e)
       there None e = let over = ends_here bytes e ends in absurd (cc)
 
+  -- at an end nothing is read
   pub nothing_read : (bytes : List ℕ) → is_end bytes ≡ true → next bytes ≡ None
   nothing_read [] e = unread (next []) refl
     where
@@ -341,6 +386,7 @@ module _ {A : Type 0} (next : Reader A) (lists : Lists next) where
       let P : ℕ → Type 0 = λ m. next (m ∷ rest) ≡ None in
       subst P (sym (eqb-true mark END e)) (lists.stops rest)
 
+  -- bytes after an end stand at an end
   after_ends : (bytes end : List ℕ) → after END bytes ≡ Some end → is_end bytes ≡ true
   after_ends [] end e = refl
   after_ends (mark ∷ rest) end e = told_end (mark == END) e
@@ -349,19 +395,23 @@ module _ {A : Type 0} (next : Reader A) (lists : Lists next) where
       told_end true e = refl
       told_end false e = absurd cc
 
+  -- a list that is closed ends
   pub closes_ends : (bytes end : List ℕ) → Closes next bytes end → Ends next bytes
   closes_ends bytes end e = after_ends (all_of next bytes).1 end e
 
+  -- what follows a closed list follows its end
   pub closes : (bytes : List ℕ) (x : List A × List ℕ) → closed next bytes ≡ Some x
       → Closes next bytes x.1
   closes bytes x e = sym (closed_rest next bytes) ∙ ap rest_of e
 
+  -- after its first value a list is closed by the same end
   pub closes_on : (bytes : List ℕ) (a : A) (rest end : List ℕ) → next bytes ≡ Some (a, rest)
       → Closes next bytes end → Closes next rest end
   closes_on bytes a rest end e so =
       sym (ap (λ (r : List A × List ℕ). after END r.1) (all_on next lists.takes bytes a rest e))
       ∙ so
 
+  -- and so it is after a turn that leaves what follows the value
   pub closes_turn : (bytes behind end : List ℕ) → is_end bytes ≡ false
       → (Ends next bytes → Leaves next bytes behind) → Closes next bytes end
       → Closes next behind end
@@ -372,12 +422,14 @@ module _ {A : Type 0} (next : Reader A) (lists : Lists next) where
       ap (λ (l : List ℕ). after END (all_of next l).1) same
       ∙ closes_on bytes there.0.0 there.0.1 end there.1 so
 
+  -- at an end the list is closed there
   pub closes_done : (bytes end : List ℕ) → is_end bytes ≡ true → Closes next bytes end
       → after END bytes ≡ Some end
   closes_done bytes end e so =
       sym (ap (λ (r : List A × List ℕ). after END r.1) (all_end next bytes (nothing_read bytes e)))
       ∙ so
 
+  -- a list ends where there is one, and nothing does where there is none
   pub closed_ends : (has : Bool) (bytes : List ℕ) (x : List A × List ℕ)
       → closed_if has next bytes ≡ Some x → Ends next (if has then bytes else [])
   unfolding closed_if
@@ -406,6 +458,7 @@ none_left bytes (Some x) is few =
     absurd (omega arith)
 none_left bytes None is few = is
 
+-- after a part as many are read as are left, and then none
 stopped_step : (n : ℕ) (bytes : List ℕ) (o : Option (Part × List ℕ)) → part_at bytes ≡ o
     → length bytes ≤ suc n
     → ((rest : List ℕ) → length rest ≤ n → part_at (run_at part_at n rest).1 ≡ None)
@@ -415,10 +468,12 @@ stopped_step n bytes (Some x) is few more =
     more x.1 (omega arith)
 stopped_step n bytes None is few more = is
 
+-- no part is left after as many as there are bytes
 stopped : (n : ℕ) (bytes : List ℕ) → length bytes ≤ n → part_at (run_at part_at n bytes).1 ≡ None
 stopped zero bytes few = none_left bytes (part_at bytes) refl few
 stopped (suc n) bytes few = stopped_step n bytes (part_at bytes) refl few (stopped n)
 
+-- no part follows a value
 pub value_stops : (bytes : List ℕ) → part_at (behind_value bytes) ≡ None
 unfolding all_of
 value_stops bytes = stopped (length bytes) bytes (omega arith)
@@ -466,6 +521,7 @@ module _ (table : List ℕ) (levels : ℕ) (bytes : List ℕ) (a : Item) (rest :
           (item_lists table levels) (behind_value bytes) nothing on) in
           absurd (cc)
 
+  -- what is no text is a node, and the same follows it
   pub node_followed : is_some (part_at bytes) ≡ false
       → (n : Node) × (node_at table levels bytes ≡ Some (n, rest))
   node_followed none =
@@ -477,6 +533,7 @@ module _ (table : List ℕ) (levels : ℕ) (bytes : List ℕ) (a : Item) (rest :
 
 -- ---- the parts of a node, and what follows it
 
+-- the parts of a node that is read: its mark, its attributes and its content
 pub record Parts (table : List ℕ) (levels : ℕ) (bytes rest : List ℕ) : Type 0 where
   pub some : 0 < levels
   pub mark : ℕ
@@ -488,6 +545,7 @@ pub record Parts (table : List ℕ) (levels : ℕ) (bytes rest : List ℕ) : Typ
   pub kids_read : closed_if (has_content mark) (item_at table (levels - 1)) attrs.1 ≡ Some kids
   pub is : rest ≡ kids.1
 
+-- a node that is read has these parts
 parts_by : (table : List ℕ) (levels : ℕ) (bytes : List ℕ) (found : Node) (rest : List ℕ)
     → 0 < levels → node_by table (item_at table (levels - 1)) bytes ≡ Some (found, rest)
     → Parts table levels bytes rest
@@ -514,6 +572,7 @@ parts_by table levels bytes found rest some e =
           (sym (same_value (node b.0 c.0.0 d.0.0, d.0.1) (found, rest) d.2));
     }
 
+-- and so does a node of any levels
 pub node_parts : (table : List ℕ) (levels : ℕ) (bytes : List ℕ) (found : Node) (rest : List ℕ)
     → node_at table levels bytes ≡ Some (found, rest) → Parts table levels bytes rest
 unfolding node_at
@@ -525,6 +584,7 @@ node_parts table (suc levels) bytes found rest e =
 
 -- ---- loops
 
+-- each turn of a loop leaves fewer bytes
 pub rest_shorter : (bytes rest : List ℕ) → is_end bytes ≡ false → IsBehind rest (drop 1 bytes)
     → length rest < length bytes
 rest_shorter [] rest more is = absurd cc
@@ -545,6 +605,7 @@ module _ {A : Type 0} (next : Reader A) (lists : Lists next) where
 
 -- ---- what follows items and nodes
 
+-- what follows a text follows the item
 pub item_text : (table : List ℕ) (levels : ℕ) (bytes end rest : List ℕ) → part_end bytes ≡ Some end
     → Ends (item_at table levels) bytes
     → (part_end (behind_value end) ≡ None → rest ≡ behind_value end)
@@ -557,6 +618,7 @@ item_text table levels bytes end rest e ends exact = λ a behind read.
     value_on bytes end (behind_value bytes) e follows.1 refl in
     exact (ap part_end same ∙ follows.1) ∙ same ∙ sym follows.0
 
+-- what follows a node follows the item
 pub item_node : (table : List ℕ) (levels : ℕ) (bytes rest : List ℕ) → part_end bytes ≡ None
     → Leaves (node_at table levels) bytes rest → Leaves (item_at table levels) bytes rest
 item_node table levels bytes rest e exact = λ a behind read.
@@ -564,6 +626,7 @@ item_node table levels bytes rest e exact = λ a behind read.
     let node = node_followed table levels bytes a behind read none in
     exact node.0 behind node.1
 
+-- what follows the attributes and the content of a node follows the node
 pub node_leaves : (table : List ℕ) (levels : ℕ) (bytes : List ℕ) (mark : ℕ)
     (behind head rest : List ℕ) → first_at bytes ≡ Some (mark, behind)
     → Leaves (closed_if (has_attributes mark) (attr_at table)) behind head
@@ -585,6 +648,7 @@ node_leaves table levels bytes mark behind head rest e attrs kids = λ a after_n
     ∙ parts.kids_read in
     kids parts.some parts.kids.0 parts.kids.1 kids_read ∙ sym parts.is
 
+-- where no byte is left, no node is read
 pub none_leaves : (table : List ℕ) (levels : ℕ) (bytes rest : List ℕ) → first_at bytes ≡ None
     → Leaves (node_at table levels) bytes rest
 none_leaves table levels bytes rest e = λ a behind read.
@@ -592,12 +656,14 @@ none_leaves table levels bytes rest e = λ a behind read.
     let first = parts.first in
     absurd (cc)
 
+-- a list that is there leaves what it leaves closed
 pub list_leaves : {A : Type 0} (has : Bool) (next : Reader A) (bytes rest : List ℕ) → has ≡ true
     → Leaves (closed next) bytes rest → Leaves (closed_if has next) bytes rest
 unfolding closed_if
 list_leaves true next bytes rest is exact = exact
 list_leaves false next bytes rest is exact = absurd cc
 
+-- a list that is not there leaves all
 pub no_list_leaves : {A : Type 0} (has : Bool) (next : Reader A) (bytes : List ℕ) → has ≡ false
     → Leaves (closed_if has next) bytes bytes
 unfolding closed_if
@@ -605,18 +671,21 @@ no_list_leaves {A = A} false next bytes is =
     λ a behind read. ap (λ (x : List A × List ℕ). x.1) (same_value ([], bytes) (a, behind) read)
 no_list_leaves true next bytes is = absurd cc
 
+-- an attribute is read by its start and its value
 pub attr_read : (table bytes : List ℕ) (attr : AttrName) (begun value : List ℕ)
     → start_at table bytes ≡ Some ((attr, begun), value)
     → attr_at table bytes ≡ Some ((attr, value_at begun value), behind_value value)
 unfolding attr_at
 attr_read table bytes attr begun value e = rw e refl
 
+-- without a start there is no attribute
 pub no_attr : (table bytes : List ℕ) → start_at table bytes ≡ None → attr_at table bytes ≡ None
 unfolding attr_at
 no_attr table bytes e = rw e refl
 
 -- ---- what follows numbers and attributes
 
+-- what follows a number is behind it, however it was read
 number_by : (bytes : List ℕ) (n : ℕ) (rest : List ℕ) (read : Result (ℕ × ℕ) ReadFault)
     → number_from bytes read ≡ Some (n, rest) → IsBehind rest bytes
 number_by bytes n rest (Ok read) e =
@@ -624,6 +693,7 @@ number_by bytes n rest (Ok read) e =
     (same_value (read.0, drop read.1 bytes) (n, rest) e)) (behind_drop read.1 bytes)
 number_by bytes n rest (Err fault) e = absurd cc
 
+-- what follows a number is behind it
 pub number_behind : (bytes : List ℕ) (n : ℕ) (rest : List ℕ) → number_at bytes ≡ Some (n, rest)
     → IsBehind rest bytes
 unfolding number_at
@@ -633,6 +703,7 @@ number_behind bytes n rest e = number_by bytes n rest (mb_at bytes 0) e
 abbrev pub IsValueIn : List ℕ → List ℕ → List ℕ → Type 0
 IsValueIn table bytes value = (x : Start × List ℕ) → start_at table bytes ≡ Some x → value ≡ x.1
 
+-- the value after a start by name follows the number of its index
 named_number : (table bytes : List ℕ) (x : Start × List ℕ) → named_at table bytes ≡ Some x
     → (n : ℕ × List ℕ) × (number_at bytes ≡ Some n) × (n.1 ≡ x.1)
 unfolding named_at
@@ -641,6 +712,7 @@ named_number table bytes x e =
     let b = bind_some (attr_named (string_from table a.0.0)) _ x a.2 in
     (a.0, a.1, ap (λ (y : Start × List ℕ). y.1) (same_value ((b.0, []), a.0.1) x b.2))
 
+-- where a name starts an attribute, its value follows the number
 pub value_behind_number : (table : List ℕ) (mark : ℕ) (bytes value : List ℕ) → mark ≡ LITERAL
     → Leaves number_at bytes value → IsValueIn table (mark ∷ bytes) value
 unfolding start_at
@@ -655,6 +727,7 @@ value_behind_number table mark bytes value is leaves = λ x e. by_mark x (mark =
         leaves read.0.0 read.0.1 read.1 ∙ read.2
     by_mark x false at e = let same = eq-eqb mark LITERAL is in absurd (cc)
 
+-- where a code does, its value follows the mark
 pub value_behind_mark : (table : List ℕ) (mark : ℕ) (bytes : List ℕ) → (mark ≡ LITERAL → ⊥)
     → IsValueIn table (mark ∷ bytes) bytes
 unfolding start_at
@@ -669,6 +742,7 @@ value_behind_mark table mark bytes isnt = λ x e. by_mark x (mark == LITERAL) re
         let a = bind_some (attr_start 0 mark) _ x e in
         ap (λ (y : Start × List ℕ). y.1) (same_value (a.0, bytes) x a.2)
 
+-- an attribute that is read has a start, and ends where its value does
 attr_start_of : (table bytes : List ℕ) (a : AttrName × List Part) (behind : List ℕ)
     → attr_at table bytes ≡ Some (a, behind)
     → (x : Start × List ℕ) × (start_at table bytes ≡ Some x) × (behind_value x.1 ≡ behind)
@@ -681,6 +755,7 @@ attr_start_of table bytes a behind e =
           (same_value ((x.0.0.0, value_at x.0.0.1 x.0.1), behind_value x.0.1) (a, behind) x.2),
     )
 
+-- what follows its value follows an attribute
 pub attr_leaves : (table bytes value rest : List ℕ) → IsValueIn table bytes value
     → (part_end (behind_value value) ≡ None → rest ≡ behind_value value)
     → Ends (attr_at table) bytes → Leaves (attr_at table) bytes rest
@@ -689,6 +764,7 @@ attr_leaves table bytes value rest there exact ends = λ a behind e.
     let same : behind_value value ≡ behind = ap behind_value (there start.0 start.1) ∙ start.2 in
     exact (ap part_end same ∙ attr_followed table bytes a behind e ends) ∙ same
 
+-- what is left is told by the mark and the bytes after it
 pub first_leaves : {A : Type 0} (next : Reader A) (bytes : List ℕ) (mark : ℕ) (behind rest : List ℕ)
     → first_at bytes ≡ Some (mark, behind)
     → (Ends next (mark ∷ behind) → Leaves next (mark ∷ behind) rest) → Ends next bytes
@@ -697,6 +773,7 @@ first_leaves next bytes mark behind rest e leaves =
     let P : List ℕ → Type 0 = λ l. Ends next l → Leaves next l rest in
     subst P (sym (first_is bytes mark behind e)) leaves
 
+-- what is behind the bytes after the first is behind all but the first
 pub behind_of_first : (bytes : List ℕ) (mark : ℕ) (behind rest : List ℕ)
     → first_at bytes ≡ Some (mark, behind) → IsBehind rest behind → IsBehind rest (drop 1 bytes)
 behind_of_first bytes mark behind rest e is =
@@ -704,6 +781,7 @@ behind_of_first bytes mark behind rest e is =
 
 -- ---- where the content of a node begins
 
+-- where the content begins, by the mark of its node
 content_by : (table bytes : List ℕ) (mark : ℕ) (rest begin : List ℕ)
     → first_at bytes ≡ Some (mark, rest) → kids_begin table bytes ≡ Some begin →
     (r : List ℕ) × (rest_of (closed_if (has_attributes mark) (attr_at table) rest) ≡ Some r)
@@ -716,6 +794,7 @@ content_by table bytes mark rest begin first e =
     bind_some (rest_of (closed_if (has_attributes mark) (attr_at table) rest))
     (λ r. Some (if has_content mark then r else [])) begin here
 
+-- where there is content, it follows the attributes
 pub content_there : (bytes : List ℕ) (mark : ℕ) (rest begin : List ℕ)
     → first_at bytes ≡ Some (mark, rest) → has_content mark ≡ true
     → ((table : List ℕ) → Leaves (closed_if (has_attributes mark) (attr_at table)) rest begin)
@@ -727,12 +806,14 @@ content_there bytes mark rest begin first has leaves = λ table there e.
     same_value r.0 there (ap (λ (b : Bool). Some (if b then r.0 else [])) (sym has) ∙ r.2) in
     leaves table read.0 r.0 read.1 ∙ same
 
+-- where there is none, nothing does
 pub no_content_there : (bytes : List ℕ) (mark : ℕ) (rest : List ℕ)
     → first_at bytes ≡ Some (mark, rest) → has_content mark ≡ false → IsContent bytes []
 no_content_there bytes mark rest first has = λ table there e.
     let r = content_by table bytes mark rest there first e in
     same_value [] there (ap (λ (b : Bool). Some (if b then r.0 else [])) (sym has) ∙ r.2)
 
+-- where no byte is left, there is no node whose content begins
 pub nothing_there : (bytes begin : List ℕ) → first_at bytes ≡ None → IsContent bytes begin
 unfolding kids_begin
 nothing_there bytes begin first = λ table there e.
@@ -741,5 +822,6 @@ nothing_there bytes begin first = λ table there e.
     (attr_at table) x.1) >>= λ r. Some (if has_content x.0 then r else [])) (sym first) ∙ e in
     absurd (cc)
 
+-- nothing is behind all bytes
 pub behind_nothing : (bytes : List ℕ) → IsBehind [] bytes
 behind_nothing bytes = record { front = bytes; split = sym (append-nil bytes) }
