@@ -15,9 +15,11 @@ cards_of deck = filter_map (node_with tags.Card) deck.root.kids
 abbrev pub id_of : Node → Option (List ℕ)
 id_of = plain_value attrs.Id
 
+-- the type of an event or of a do, where it is a plain text
 abbrev pub type_of : Node → Option (List ℕ)
 type_of = plain_value attrs.Type
 
+-- the ids of the cards that have one
 abbrev pub ids_of : Deck → List (List ℕ)
 ids_of deck = filter_map id_of (cards_of deck)
 

@@ -20,6 +20,7 @@ use Rattle.wap_markup.specs.declared.mark.AttributeMark.TheVariants as attribute
 
 -- ---- what means the same in content and in attributes
 
+-- what a byte says that means the same in content and in attributes, if it is such a byte
 unfoldable pub leaf_mark : ℕ → Option LeafMark
 leaf_mark byte =
     if byte == ENTITY then Some Entity else
@@ -46,6 +47,7 @@ is_extension Entity = false
 is_extension Opaque = false
 is_extension (Extension number) = true
 
+-- the same where a switch of the page may stand before the byte
 abbrev pub leaf_behind : Bool → Option LeafMark → Option LeafMark
 leaf_behind true (Some mark) = if is_extension mark then Some mark else None
 leaf_behind true None = None
@@ -53,6 +55,7 @@ leaf_behind false mark = mark
 
 -- ---- in content
 
+-- the same as it stands in content
 abbrev pub content_leaf : Option LeafMark → ContentMark
 content_leaf (Some mark) = content.Leaf mark
 content_leaf None = content.Nothing
@@ -65,6 +68,7 @@ content_mark lead =
     if lead.byte == PI && not lead.switched then content.Pi else
     content_leaf (leaf_behind lead.switched (leaf_mark lead.byte))
 
+-- whether the index of a name follows a tag
 abbrev pub is_named : ℕ → Bool
 is_named tag = tag % 64 == LITERAL
 
@@ -72,11 +76,13 @@ is_named tag = tag % 64 == LITERAL
 abbrev pub has_attributes : ℕ → Bool
 has_attributes tag = nat_le 128 tag
 
+-- whether content follows a tag (bit 6)
 abbrev pub has_content : ℕ → Bool
 has_content tag = nat_le 64 (tag % 128)
 
 -- ---- in attributes
 
+-- the same as it stands in attributes
 abbrev pub attribute_leaf : Option LeafMark → AttributeMark
 attribute_leaf (Some mark) = attribute.Leaf mark
 attribute_leaf None = attribute.Nothing
@@ -90,6 +96,7 @@ attribute_mark lead =
     if lead.byte == END && not lead.switched then attribute.End else
     attribute_leaf (leaf_behind lead.switched (leaf_mark lead.byte))
 
+-- the end of attributes
 abbrev pub is_end : AttributeMark → Bool
 is_end attribute.End = true
 is_end attribute.Coded = false

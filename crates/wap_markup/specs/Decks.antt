@@ -77,19 +77,23 @@ start_of page (Literal name) = option_map (λ attr. (attr, [])) (attr_named name
 abbrev pub value_after : List ℕ → List Piece → List Part
 value_after text value = joined (cons_option (literal text) (filter_map piece_part value))
 
+-- the attribute of a start with its value; where nothing starts, none
 abbrev pub attribute_from : Option Start → List Piece → Option (AttrName × List Part)
 attribute_from None value = None
 attribute_from (Some start) value = Some (start.0, value_after start.1 value)
 
+-- the attribute that one of a document means, if it is known
 abbrev pub attribute : Attr → Option (AttrName × List Part)
 attribute attr = attribute_from (start_of attr.page attr.start) attr.value
 
 -- ---- content, as parts of texts and nodes
 
+-- what content is made of: parts of texts, and nodes
 pub data Mark : Type 0 where
   part : Part → Mark
   node : Node → Mark
 
+-- a part before an item, which it joins if that is a text, and before those after it
 abbrev pub text_before : Part → Item → Option (List Part) → List Item → List Item
 text_before first next None items = item.Text (first ∷ []) ∷ next ∷ items
 text_before first next (Some parts) items = item.Text (before first parts) ∷ items
@@ -99,6 +103,7 @@ abbrev pub part_before : Part → List Item → List Item
 part_before first [] = item.Text (first ∷ []) ∷ []
 part_before first (next ∷ items) = text_before first next (words_of next) items
 
+-- a part or a node before items
 abbrev pub mark_before : Mark → List Item → List Item
 mark_before (part first) items = part_before first items
 mark_before (node first) items = item.Node first ∷ items
@@ -108,6 +113,7 @@ abbrev pub items_of : List Mark → List Item
 items_of [] = []
 items_of (mark ∷ marks) = mark_before mark (items_of marks)
 
+-- a part, if there is one
 abbrev pub part_marks : Option Part → List Mark
 part_marks None = []
 part_marks (Some one) = part one ∷ []
@@ -116,6 +122,7 @@ part_marks (Some one) = part one ∷ []
 abbrev pub KidLevel : Type 0
 KidLevel = Kid-F Kid Element
 
+-- what a part of content gives, opened, by what elements in it give
 abbrev pub marks_from : (Element → List Mark) → KidLevel → List Mark
 marks_from inner (Kid-F.Element element) = inner element
 marks_from inner (Kid-F.Str text) = part_marks (literal text)
@@ -129,6 +136,7 @@ marks_from inner (Kid-F.Pi attr) = []
 abbrev pub kid_marks : (Element → List Mark) → Kid → List Mark
 kid_marks inner kid = marks_from inner (out-Kid kid)
 
+-- what the parts of content give, in order
 abbrev pub kids_marks : (Element → List Mark) → List Kid → List Mark
 kids_marks inner kids = flat_map (kid_marks inner) kids
 
@@ -139,6 +147,7 @@ abbrev pub tag_in : ℕ → Token → Option Tag
 tag_in page (Code code) = tag_of page code
 tag_in page (Literal name) = tag_named name
 
+-- what an element gives: a node of its tag, or its content where the tag is unknown
 abbrev pub element_from : Option Tag → List Attr → List Mark → List Mark
 element_from None attrs content = content
 element_from (Some tag) attrs content =

@@ -24,6 +24,7 @@ use Rattle.wap_markup.specs.Grammar.{State, IsLead, IsOpaque, IsInstruction, IsE
 abbrev pub is_version : ℕ → Bool
 is_version byte = nat_le 1 byte && nat_le byte VERSION
 
+-- the version byte (section 5.4)
 abbrev pub IsVersion : List ℕ → ℕ → Type 0
 IsVersion bytes version = (bytes ≡ version ∷ []) × (is_version version ≡ true)
 
@@ -31,6 +32,7 @@ IsVersion bytes version = (bytes ≡ version ∷ []) × (is_version version ≡ 
 abbrev pub is_public : ℕ → Bool
 is_public number = number == WML_1_1 || (number == WML_1_2 || number == WML_1_3)
 
+-- the number of a public identifier by its name
 unfoldable pub public_named : List ℕ → Option ℕ
 public_named name =
     if is_same_text name (codes "-//WAPFORUM//DTD WML 1.1//EN") then Some WML_1_1 else
@@ -43,6 +45,7 @@ IsIdentifierBehind number true bytes identifier = Told Named IsMb bytes identifi
 IsIdentifierBehind number false bytes identifier =
     Given (Numbered number) bytes identifier × (is_public number ≡ true)
 
+-- a public identifier, by its number or by the index of its name (section 5.5)
 abbrev pub IsIdentifier : List ℕ → Identifier → Type 0
 IsIdentifier = Then IsMb (λ number. IsIdentifierBehind number (number == 0))
 
@@ -63,6 +66,7 @@ abbrev pub IsOuter : Strings → State → List ℕ → Attr × State → Type 0
 IsOuter strings before bytes x =
     (rest : List ℕ) × (bytes ≡ PI ∷ rest) × IsInstruction strings before rest x
 
+-- the root after its byte, which has to begin an element
 abbrev pub IsRootBehind : Strings → State → Lead → ContentMark → List ℕ → Element × State → Type 0
 IsRootBehind strings before lead content.Element = IsElement strings LEVEL_LIMIT before lead
 IsRootBehind strings before lead content.Pi = Never
@@ -70,19 +74,24 @@ IsRootBehind strings before lead (content.Leaf mark) = Never
 IsRootBehind strings before lead content.End = Never
 IsRootBehind strings before lead content.Nothing = Never
 
+-- the root: an element, of at most so many levels as elements may have
 unfoldable pub IsRoot : Strings → State → List ℕ → Element × State → Type 0
 IsRoot strings before =
     Then (IsLead before.tag_page) (λ lead. IsRootBehind strings before lead (content_mark lead))
 
+-- the body begins on page 0, outside the root
 abbrev pub first_state : State
 first_state = record { tag_page = 0; attribute_page = 0; in_root = false; names = [] }
 
+-- names count from here on
 abbrev pub into_root : State → State
 into_root state = record state { in_root = true }
 
+-- names count no more
 abbrev pub out_of_root : State → State
 out_of_root state = record state { in_root = false }
 
+-- the root, between processing instructions, which are left out (section 5.3)
 unfoldable pub IsBody : Strings → List ℕ → Element → Type 0
 IsBody strings =
     Then (ManyOf (IsOuter strings) first_state) (λ before.

@@ -41,6 +41,7 @@ abbrev pub no_rule : Rule
 no_rule =
     record { groups = []; in_order = false; text = false; once = []; needs = []; attributes = [] }
 
+-- the rules of elements, as the program's table lists them
 unfoldable pub rules : List (Tag × Rule)
 rules = map (λ row. (
   row.0,
@@ -54,15 +55,18 @@ rules = map (λ row. (
   },
 )) RULES
 
+-- a rule, or that of an element without one
 abbrev pub rule_or_none : Option Rule → Rule
 rule_or_none None = no_rule
 rule_or_none (Some rule) = rule
 
+-- the rule of an element
 unfoldable pub rule_of : Tag → Rule
 rule_of tag = rule_or_none (lookup (is_same_tag tag) rules)
 
 -- ---- the children of a node
 
+-- whether a tag is one of a group
 abbrev pub is_among : List Tag → Tag → Bool
 is_among group tag = list_any (is_same_tag tag) group
 
@@ -70,6 +74,7 @@ is_among group tag = list_any (is_same_tag tag) group
 abbrev pub place_in : List (List Tag) → Tag → Option ℕ
 place_in groups tag = position (λ group. is_among group tag) groups
 
+-- whether one group comes no later than another; what is in no group doesn't count
 abbrev pub is_not_behind : Option ℕ → Option ℕ → Bool
 is_not_behind (Some place) (Some other) = nat_le place other
 is_not_behind _ _ = true
@@ -96,6 +101,7 @@ abbrev pub is_blank_text : List Part → Bool
 is_blank_text (Lit text ∷ []) = list_all is_blank text
 is_blank_text _ = false
 
+-- the tags of the nodes among items
 abbrev pub tags_of : List Item → List Tag
 tags_of items = map (λ node. node.tag) (filter_map node_of items)
 
@@ -113,12 +119,15 @@ StandsAt rule items i =
 
 -- ---- attributes
 
+-- the names of a node's attributes
 abbrev pub names_of : Node → List AttrName
 names_of node = map (λ a. a.0) node.attrs
 
+-- whether a node has an attribute of this name
 abbrev pub has_attribute : Node → AttrName → Bool
 has_attribute node name = is_some (value_of name node)
 
+-- whether a group has no tag
 abbrev pub is_empty : List Tag → Bool
 is_empty [] = true
 is_empty (tag ∷ group) = false
@@ -137,9 +146,11 @@ pub data Form : Type 0 where
   optional_variable : Form
   plain : Form
 
+-- `true` or `false`
 abbrev pub booleans : Form
 booleans = words (codes "true" ∷ codes "false" ∷ [])
 
+-- which attributes have a form, and in which elements
 abbrev pub forms : List (Tag × AttrName × Form)
 forms =
     (tags.Go, attrs.Method, words (codes "get" ∷ codes "post" ∷ [])) ∷
@@ -159,12 +170,14 @@ forms =
     (tags.Select, attrs.Iname, optional_variable) ∷
     []
 
+-- whether a text is of this form
 abbrev pub text_has : Form → List ℕ → Bool
 text_has (words some) text = list_any (is_same_text text) some
 text_has variable text = is_name text
 text_has optional_variable text = is_name text || is_same_text text []
 text_has plain text = true
 
+-- whether there is a plain text, and it is of this form
 abbrev pub value_has : Form → Option (List ℕ) → Bool
 value_has form None = false
 value_has form (Some text) = text_has form text
@@ -181,6 +194,8 @@ has_forms node =
 
 -- ---- nodes
 
+-- a node that keeps the rule of its element: each child may stand at its place, no attribute stands
+-- twice, nothing is missing, and values have their forms
 pub record IsGoodNode (node : Node) : Type 0 where
   pub children : (i : ℕ) → StandsAt (rule_of node.tag) node.kids i
   pub once : IsDistinct is_same_attr (names_of node)
@@ -193,11 +208,13 @@ nodes_in zero items = []
 nodes_in (suc levels) items =
     flat_map (λ node. node ∷ nodes_in levels node.kids) (filter_map node_of items)
 
+-- the nodes of a deck, parents before their children
 abbrev pub all_nodes : Deck → List Node
 all_nodes deck = deck.root ∷ nodes_in LEVEL_LIMIT deck.root.kids
 
 -- ---- names of dos
 
+-- the first of two, if there is one, and else the second
 abbrev pub first_of : {X : Type 0} → Option X → Option X → Option X
 first_of None other = other
 first_of (Some x) other = Some x
@@ -213,6 +230,7 @@ names_of_dos node =
     filter_map name_of_do
     (filter (λ one. is_same_tag one.tag tags.Do) (nodes_in LEVEL_LIMIT node.kids))
 
+-- whether dos in an element of this tag are told apart
 abbrev pub holds_dos : Tag → Bool
 holds_dos tag = is_same_tag tag tags.Card || is_same_tag tag tags.Template
 
@@ -222,6 +240,8 @@ do_holders deck = filter (λ node. holds_dos node.tag) (filter_map node_of deck.
 
 -- ---- decks
 
+-- a good deck: its root is wml, its nodes keep their rules, ids of cards are distinct, and so are
+-- the names of dos in each card and in the template; and there is a card
 pub record IsGood (deck : Deck) : Type 0 where
   pub root : deck.root.tag ≡ tags.Wml
   pub nodes : AllByRecursion IsGoodNode (all_nodes deck)

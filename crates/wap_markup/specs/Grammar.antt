@@ -35,6 +35,7 @@ use Rattle.wap_markup.specs.Strings.{Strings, IsInline, IsIndexed}
 
 -- ---- what the bytes before settle for those after them
 
+-- the pages of codes that count, and the names that have counted so far
 pub record State : Type 0 where
   -- the pages of codes, of tags and of attributes
   pub tag_page : ℕ
@@ -44,15 +45,19 @@ pub record State : Type 0 where
   pub in_root : Bool
   pub names : List (List ℕ)
 
+-- the same on this page of tags
 abbrev pub on_tag_page : ℕ → State → State
 on_tag_page page state = record state { tag_page = page }
 
+-- the same on this page of attributes
 abbrev pub on_attribute_page : ℕ → State → State
 on_attribute_page page state = record state { attribute_page = page }
 
+-- names, and one more, if it is none of them
 abbrev pub with_name : List (List ℕ) → List ℕ → List (List ℕ)
 with_name names name = if list_any (is_same_text name) names then names else names ++ (name ∷ [])
 
+-- the same after a name: in the root it counts
 abbrev pub counted : List ℕ → State → State
 counted name state =
     record state { names = if state.in_root then with_name state.names name else state.names }
@@ -64,6 +69,7 @@ table_size (name ∷ names) = utf8_len name + 1 + table_size names
 
 -- ---- what an item begins with: a byte, which a switch of the page may stand before
 
+-- a byte on this page; or a switch, the page to which it switches, and the byte on that page
 abbrev pub IsLead : ℕ → List ℕ → Lead → Type 0
 IsLead page (byte ∷ []) lead =
     (byte ≢ SWITCH_PAGE) × (lead ≡ record { switched = false; page = page; byte = byte })
@@ -74,10 +80,12 @@ IsLead page _ lead = ⊥
 -- ---- strings, characters, references to variables, extensions and opaque data, after the byte
 -- that says which it is
 
+-- a string as what it stands for: a text, or a reference to the variable of that name
 abbrev pub leaf_of : Role → List ℕ → Leaf
 leaf_of Shown text = leaf.Str text
 leaf_of (Variable conv) name = leaf.Var name conv
 
+-- a character by its number (section 5.8.4.3)
 abbrev pub IsCharacter : List ℕ → ℕ → Type 0
 IsCharacter bytes number = IsMb bytes number × (is_character number ≡ true)
 
@@ -85,6 +93,7 @@ IsCharacter bytes number = IsMb bytes number × (is_character number ≡ true)
 abbrev pub IsOpaque : List ℕ → List ℕ → Type 0
 IsOpaque = Then IsMb (λ number bytes opaque. (length bytes ≡ number) × (opaque ≡ bytes))
 
+-- what follows a byte that means the same in content and in attributes
 abbrev pub IsLeaf : Strings → LeafMark → List ℕ → Leaf → Type 0
 IsLeaf strings (mark.Inline role) = Told (leaf_of role) (IsInline strings)
 IsLeaf strings (mark.Indexed role) = Told (leaf_of role) (IsIndexed strings)
@@ -95,18 +104,23 @@ IsLeaf strings (mark.Extension number) = Given (leaf.Ext number)
 -- ---- names of the string table, for tags and for starts of attributes; those of the root fit into
 -- one table
 
+-- a name that counts, where those of the root still fit into one string table
 pub record IsCounted (before : State) (name : List ℕ) (after : State) : Type 0 where
   pub counts : after ≡ counted name before
   pub fits : table_size after.names < 2 ^ 32
 
+-- a name by its index in the string table, which counts
 abbrev pub IsName : Strings → State → List ℕ → List ℕ × State → Type 0
 IsName strings before bytes name = IsIndexed strings bytes name.0 × IsCounted before name.0 name.1
 
+-- a name as a tag or a start
 abbrev pub literal : List ℕ × State → Token × State
 literal name = (Literal name.0, name.1)
 
 -- ---- attributes
 
+-- the start of an attribute after its byte: a code is the byte itself, and a name follows it; no
+-- other byte starts one
 abbrev pub IsStartBehind : Strings → State → Lead → AttributeMark → List ℕ → Token × State → Type 0
 IsStartBehind strings before lead attribute.Coded = Given (Code lead.byte, before)
 IsStartBehind strings before lead attribute.Named = Told literal (IsName strings before)
@@ -115,6 +129,7 @@ IsStartBehind strings before lead attribute.Value = Never
 IsStartBehind strings before lead (attribute.Leaf mark) = Never
 IsStartBehind strings before lead attribute.Nothing = Never
 
+-- a leaf as a part of a value
 abbrev pub piece_of : Leaf → Piece
 piece_of (leaf.Str text) = piece.Str text
 piece_of (leaf.Entity number) = piece.Entity number
@@ -122,6 +137,7 @@ piece_of (leaf.Var name conv) = piece.Var name conv
 piece_of (leaf.Ext number) = piece.Ext number
 piece_of (leaf.Opaque bytes) = piece.Opaque bytes
 
+-- a part of a value after its byte: a code is the byte itself; no start and no end is one
 abbrev pub IsPieceBehind : Strings → Lead → AttributeMark → List ℕ → Piece → Type 0
 IsPieceBehind strings lead attribute.Value = Given (piece.Code lead.page lead.byte)
 IsPieceBehind strings lead (attribute.Leaf mark) = Told piece_of (IsLeaf strings mark)
@@ -136,6 +152,7 @@ IsPiece strings before = Then (IsLead before.attribute_page) (λ lead.
     Told (λ piece. (piece, on_attribute_page lead.page before))
     (IsPieceBehind strings lead (attribute_mark lead)))
 
+-- an attribute of this start and these parts, on the page of its first byte
 abbrev pub attribute_of : Lead → Token → List Piece × State → Attr × State
 attribute_of lead start value =
     (record { page = lead.page; start = start; value = value.0 }, value.1)
@@ -147,6 +164,7 @@ IsAttribute strings before = Then (IsLead before.attribute_page) (λ lead.
     (λ start.
     Told (attribute_of lead start.0) (ManyOf (IsPiece strings) start.1)))
 
+-- attributes, and an end
 abbrev pub IsAttributes : Strings → State → List ℕ → List Attr × State → Type 0
 IsAttributes strings = Ended END (IsAttribute strings)
 
@@ -162,6 +180,7 @@ abbrev pub IsTagBehind : Strings → State → ℕ → Bool → List ℕ → Tok
 IsTagBehind strings before byte true = Told literal (IsName strings before)
 IsTagBehind strings before byte false = Given (Code (byte % 64), before)
 
+-- a leaf as a part of content
 abbrev pub kid_of : Leaf → Kid
 kid_of (leaf.Str text) = kid.Str text
 kid_of (leaf.Entity number) = kid.Entity number
@@ -173,9 +192,11 @@ kid_of (leaf.Opaque bytes) = kid.Opaque bytes
 abbrev pub Elements : Type 1
 Elements = State → Lead → List ℕ → Element × State → Type 0
 
+-- what was read, as a part of content
 abbrev pub of_kid : {A : Type 0} → (A → Kid) → A × State → Kid × State
 of_kid make x = (make x.0, x.1)
 
+-- a part of content after its byte, by which elements may stand there; no end is one
 abbrev pub IsKidBehind : Strings → Elements → State → Lead → ContentMark → List ℕ
     → Kid × State → Type 0
 IsKidBehind strings Inner before lead content.Element =
@@ -193,6 +214,7 @@ IsKid strings Inner before =
     Then (IsLead before.tag_page) (λ lead.
     IsKidBehind strings Inner before lead (content_mark lead))
 
+-- an element of these parts, on the page of its tag's byte
 abbrev pub element_of : Lead → Token → List Attr → List Kid × State → Element × State
 element_of lead tag attributes kids =
     (record { page = lead.page; tag = tag; attrs = attributes; kids = kids.0 }, kids.1)

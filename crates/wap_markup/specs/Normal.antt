@@ -22,15 +22,18 @@ abbrev pub IsPart : Part → Type 0
 IsPart (Lit text) = text ≢ []
 IsPart (Var name conv) = is_name name ≡ true
 
+-- the parts of a value, neighbouring literals joined
 pub record IsValue (parts : List Part) : Type 0 where
   pub each : AllByRecursion IsPart parts
   pub together : joined parts ≡ parts
 
+-- an attribute with such a value
 abbrev pub IsAttribute : AttrName × List Part → Type 0
 IsAttribute attribute = IsValue attribute.1
 
 -- ---- content
 
+-- the parts of a text, or the node
 abbrev pub marks_in : ItemLevel → List Mark
 marks_in (Item-F.Text parts) = map part parts
 marks_in (Item-F.Node one) = node one ∷ []
@@ -39,14 +42,17 @@ marks_in (Item-F.Node one) = node one ∷ []
 abbrev pub marks_of : List Item → List Mark
 marks_of items = flat_map (λ item. marks_in (out-Item item)) items
 
+-- a text of such parts, or a node of which this holds
 abbrev pub IsItem : (Node → Type 0) → ItemLevel → Type 0
 IsItem inner (Item-F.Text parts) = AllByRecursion IsPart parts
 IsItem inner (Item-F.Node one) = inner one
 
+-- such items, neighbouring texts joined
 pub record IsContent (inner : Node → Type 0) (items : List Item) : Type 0 where
   pub each : AllByRecursion (λ item. IsItem inner (out-Item item)) items
   pub together : items_of (marks_of items) ≡ items
 
+-- a node of a known tag with such attributes and such content, by what holds of the nodes in it
 pub record IsElement (inner : Node → Type 0) (one : Node) : Type 0 where
   pub known : one.tag ≢ tags.Other
   pub attributes : AllByRecursion IsAttribute one.attrs
@@ -57,6 +63,7 @@ abbrev pub IsNode : ℕ → Node → Type 0
 IsNode zero one = ⊥
 IsNode (suc levels) one = IsElement (IsNode levels) one
 
+-- a deck that a document can mean; the tag of its root may be unknown
 pub record IsNormal (deck : Deck) : Type 0 where
   pub attributes : AllByRecursion IsAttribute deck.root.attrs
   pub content : IsContent (IsNode (LEVEL_LIMIT - 1)) deck.root.kids

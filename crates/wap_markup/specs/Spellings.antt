@@ -44,6 +44,7 @@ pub data Many {A S : Type 0} (Is : S → List ℕ → A × S → Type 0) : S →
       → Is before front (item, between) → Many Is between rest items after
       → Many Is before (front ++ rest) (item ∷ items) after
 
+-- the same with the items and the last state in a pair
 abbrev pub ManyOf : {A S : Type 0} → (S → List ℕ → A × S → Type 0) → S → List ℕ
     → List A × S → Type 0
 ManyOf Is before bytes x = Many Is before bytes x.0 x.1

@@ -12,6 +12,7 @@ pub record Strings : Type 0 where
   pub charset : Charset
   pub table : List ℕ
 
+-- whether a byte is another one than 0, which ends strings
 abbrev pub is_not_zero : ℕ → Bool
 is_not_zero byte = not (byte == 0)
 

@@ -20,6 +20,7 @@ use Rattle.wap_markup.specs.Tables.{is_same_tag, is_same_attr}
 abbrev pub ItemLevel : Type 0
 ItemLevel = Item-F Item Node
 
+-- an opened item as a node, if it is one
 abbrev pub node_from : ItemLevel → Option Node
 node_from (Item-F.Node node) = Some node
 node_from (Item-F.Text parts) = None
@@ -28,6 +29,7 @@ node_from (Item-F.Text parts) = None
 abbrev pub node_of : Item → Option Node
 node_of item = node_from (out-Item item)
 
+-- an opened item as the parts of a text, if it is one
 abbrev pub words_from : ItemLevel → Option (List Part)
 words_from (Item-F.Node node) = None
 words_from (Item-F.Text parts) = Some parts
@@ -36,6 +38,7 @@ words_from (Item-F.Text parts) = Some parts
 abbrev pub words_of : Item → Option (List Part)
 words_of item = words_from (out-Item item)
 
+-- a node, if there is one and it has this tag
 abbrev pub if_tagged : Tag → Option Node → Option Node
 if_tagged tag None = None
 if_tagged tag (Some node) = if is_same_tag node.tag tag then Some node else None
