@@ -11,7 +11,7 @@ use wap_layout::Flow;
 use wap_vars::Vars;
 
 /// What a card shows: its words, with those of its fields, and the breaks and modes between them.
-#[tactic(auto, unfolding(wap_cardrules::specs::Flow::flow_of))]
+#[tactic(auto, unfolding(wap_cardrules::specs::Flow::flow_of), using(crate::proofs::Numbers::fields_next))]
 pub fn flow(alloc: Global, card: &View<'_>, vars: &Vars) -> Result<Rows<Flow>, NoMemory>
     ensures { IfOk result (λ flow. flow ≡ flow_of vars.now card.now) }
 {

@@ -1,5 +1,5 @@
 //! What shows so far.
-ghost use Rattle.std.specs.Prelude.{◌≡◌, ◌∷◌, [], ◌+◌, IfOk, OnOk};
+ghost use Rattle.std.specs.Prelude.{◌≡◌, ◌∷◌, [], ◌+◌, ◌<◌, IfOk, OnOk};
 ghost use Rattle.wap_cardrules.specs.Flow.{followed_by, with_field, with_mode, mode_of};
 ghost use Rattle.wap_cardrules.specs.Flow.{begun, shown_with, nothing_shown};
 ghost use Rattle.wap_cards.specs.Lent.{mark_of};
@@ -75,17 +75,13 @@ impl Shown {
         flow
     }
 
-    /// Takes a field. Where no number is left for it, that is out of memory.
+    /// Takes a field, for which a number is left.
     fn take_field(&mut self, alloc: Global, vars: &Vars, field: &View<'_>) -> Result<(), NoMemory>
+        requires { self.old.fields < u64.MAX }
         ensures { OnOk result (self.new ≡ with_field vars.now self.old field.now) }
     {
-        match self.fields.checked_add(1) {
-            Some(number) => {
-                self.fields = number;
-                add_field(alloc, vars, number, field, &mut self.flow)
-            }
-            None => Err(NoMemory),
-        }
+        self.fields += 1;
+        add_field(alloc, vars, self.fields, field, &mut self.flow)
     }
 
     /// Takes the mode of a paragraph.
@@ -99,6 +95,7 @@ impl Shown {
 
     /// Takes an element that begins.
     fn begin(&mut self, alloc: Global, vars: &Vars, node: &View<'_>) -> Result<(), NoMemory>
+        requires { self.old.fields < u64.MAX }
         ensures { OnOk result (self.new ≡ begun vars.now self.old node.now) }
     {
         if is_field(node.tag()) {
@@ -110,8 +107,9 @@ impl Shown {
         add_before(alloc, vars, node, &mut self.flow)
     }
 
-    /// Takes what comes next in the document.
+    /// Takes what comes next in the document, where a number is left for a field.
     pub fn take(&mut self, alloc: Global, vars: &Vars, mark: &Mark<'_>) -> Result<(), NoMemory>
+        requires { self.old.fields < u64.MAX }
         ensures { OnOk result (self.new ≡ shown_with vars.now self.old (mark_of mark.now)) }
     {
         match mark {
