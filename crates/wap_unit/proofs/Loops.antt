@@ -6,6 +6,7 @@ use Rattle.wap_unit.specs.declared.fault.UnitFault.{UnitFault}
 use Rattle.wap_unit.specs.declared.fault.UnitFault.TheVariants.{NoMemory}
 use Rattle.wap_unit.specs.inside.Steps.{Reader, many}
 
+-- what comes of reading
 abbrev Read : Type 0 → Type 0
 Read A = Result (A × List ℕ) UnitFault
 
@@ -19,6 +20,7 @@ abbrev pub Continues : {A : Type 0} → Reader A → ℕ → ℕ → ℕ → Lis
 Continues read end turns done front bytes whole =
     with_front front (many read (turns - done) end bytes) ≡ whole
 
+-- one thing more at the end of a list
 regrouped : {A : Type 0} (front : List A) (x : A) (read : Read (List A))
     → with_front front (read >>= λ xs. Ok (x ∷ xs.0, xs.1)) ≡ with_front (front ++ x ∷ []) read
 regrouped {A = A} front x (Ok y) =
@@ -27,6 +29,7 @@ regrouped front x (Err f) = refl
 
 module _ {A : Type 0} (read : Reader A) (end turns done : ℕ) (front : List A) (bytes : List ℕ)
     (whole : Read (List A)) where
+  -- what is read after a thing
   abbrev rest_of : A × List ℕ → Read (List A)
   rest_of x = many read (turns - (done + 1)) end x.1 >>= λ xs. Ok (x.0 ∷ xs.0, xs.1)
 
@@ -36,6 +39,7 @@ module _ {A : Type 0} (read : Reader A) (end turns done : ℕ) (front : List A) 
       let left : turns - done ≡ suc (turns - (done + 1)) = omega arith in
       ap (λ (n : ℕ). with_front front (many read n end bytes)) (sym left) ∙ so_far
 
+  -- a thing more was read
   pub one_more : (x : A) (rest : List ℕ) → done < turns → read end bytes ≡ Ok (x, rest)
       → Continues read end turns done front bytes whole
       → Continues read end turns (done + 1) (front ++ x ∷ []) rest whole
@@ -44,6 +48,7 @@ module _ {A : Type 0} (read : Reader A) (end turns done : ℕ) (front : List A) 
       ∙ ap (λ (r : Read A). with_front front (r >>= rest_of)) (sym first)
       ∙ turn more so_far
 
+  -- the next thing is refused
   pub at_fault : (fault : UnitFault) → done < turns → read end bytes ≡ Err fault
       → Continues read end turns done front bytes whole → whole ≡ Err fault
   at_fault fault more first so_far =

@@ -87,6 +87,7 @@ headed bytes front back byte split one = split ∙ ap (λ (l : List ℕ). l ++ b
 
 -- ---- texts
 
+-- bytes after their number
 pub reads_sized : Reads sized_at IsSized RefusesSized
 unfolding sized_at
 reads_sized = reads_as (reads_in_turn reads_number reads_taken)
@@ -108,6 +109,7 @@ reads_sized = reads_as (reads_in_turn reads_number reads_taken)
       },
     ))
 
+-- a text in UTF-8
 reads_utf8 : (at : ℕ)
     → Reads (in_turn sized_at (λ content. judged (utf8_text at content))) (λ bytes text.
     Sized (λ content. IsUtf8Text content text) bytes) (RefusesText is_utf8 (fault.Text at))
@@ -131,9 +133,11 @@ reads_utf8 at =
       },
     ))
 
+-- bytes that are a text of the character set
 abbrev IsCoded : ℕ → List ℕ → List ℕ → Type 0
 IsCoded charset bytes text = Sized (λ content. (content ≡ text) × IsCodedText charset content) bytes
 
+-- a string of a character set that is read
 reads_text : (charset at : ℕ) (set : Charset) → charset_of charset ≡ Some set
     → Reads (in_turn sized_at (λ content. judged (coded_text set at content))) (IsCoded charset)
     (RefusesText (is_text set) (fault.Text at))
@@ -161,6 +165,7 @@ reads_text charset at set known =
 
 -- ---- constants
 
+-- a string of any character set
 reads_coded : (charset at : ℕ) (set : Option Charset) → charset_of charset ≡ set
     → Reads (coded_at at set) (λ bytes c.
     (text : List ℕ) × IsCoded charset bytes text × (c ≡ Coded text)) (RefusesCoded at set)
@@ -188,6 +193,7 @@ IsValue charset constant.Empty bytes c = (bytes ≡ []) × (c ≡ Empty)
 IsValue charset constant.Coded bytes c =
     (text : List ℕ) × IsCoded charset bytes text × (c ≡ Coded text)
 
+-- what follows the byte of a kind
 reads_value : (charset at : ℕ) (kind : ConstantKind) → Reads (value_at (charset_of charset) at kind)
     (IsValue charset kind) (RefusesValue charset at (Some kind))
 unfolding value_at utf8_at
@@ -203,15 +209,18 @@ reads_value charset at constant.Utf8 = reads_told (reads_utf8 at) Utf8
 reads_value charset at constant.Empty = reads_given Empty
 reads_value charset at constant.Coded = reads_coded charset at (charset_of charset) refl
 
+-- what follows a first byte, where that is of a kind
 abbrev IsValueBy : ℕ → Option ConstantKind → List ℕ → Constant → Type 0
 IsValueBy charset None bytes c = ⊥
 IsValueBy charset (Some kind) bytes c = IsValue charset kind bytes c
 
+-- what follows any first byte
 reads_value_by : (charset at : ℕ) (kind : Option ConstantKind) → Reads
     (value_by (charset_of charset) at kind) (IsValueBy charset kind) (RefusesValue charset at kind)
 reads_value_by charset at None = reads_failing (fault.ConstantKind at)
 reads_value_by charset at (Some kind) = reads_value charset at kind
 
+-- the byte of a kind of constants
 abbrev constant_code : ConstantKind → ℕ
 constant_code constant.Int8 = INT8
 constant_code constant.Int16 = INT16
@@ -221,6 +230,7 @@ constant_code constant.Utf8 = UTF8
 constant_code constant.Empty = EMPTY
 constant_code constant.Coded = CODED
 
+-- the kind tells its byte
 code-constant_kind : (byte : ℕ) (kind : ConstantKind) → constant_kind byte ≡ Some kind
     → byte ≡ constant_code kind
 code-constant_kind byte constant.Int8 e = grind (arith, nat_tests)
@@ -231,6 +241,7 @@ code-constant_kind byte constant.Utf8 e = grind (arith, nat_tests)
 code-constant_kind byte constant.Empty e = grind (arith, nat_tests)
 code-constant_kind byte constant.Coded e = grind (arith, nat_tests)
 
+-- a byte and the value after it are a constant
 valued : (charset : ℕ) (bytes back : List ℕ) (kind : ConstantKind) (c : Constant)
     → bytes ≡ constant_code kind ∷ back → IsValue charset kind back c → IsConstant charset bytes c
 valued charset bytes back constant.Int8 c spelled is =
@@ -273,6 +284,7 @@ valued charset bytes back constant.Empty c spelled is =
 valued charset bytes back constant.Coded c spelled is =
     subst (IsConstant charset bytes) (sym is.2) (back, spelled, is.1)
 
+-- so are a byte of a known kind and its value
 by_constant_kind : (charset : ℕ) (bytes back : List ℕ) (byte : ℕ) (kind : Option ConstantKind)
     (c : Constant) → constant_kind byte ≡ kind → bytes ≡ byte ∷ back → IsValueBy charset kind back c
     → IsConstant charset bytes c
@@ -288,6 +300,7 @@ begun : (charset : ℕ) (bytes back : List ℕ) (byte : ℕ) (c : Constant) → 
 begun charset bytes back byte c spelled is =
     (byte, record { front = byte ∷ []; back = back; split = spelled; first = refl; second = is })
 
+-- a constant begins with the byte of its kind
 constant_begun : (charset : ℕ) (bytes : List ℕ) (c : Constant) → IsConstant charset bytes c
     → Then IsByte (λ byte l. IsValueBy charset (constant_kind byte) l c) bytes
 constant_begun charset bytes (Int8 number) is =
@@ -304,6 +317,7 @@ constant_begun charset bytes Empty is = begun charset bytes [] EMPTY Empty is (r
 constant_begun charset bytes (Coded text) is =
     begun charset bytes is.0 CODED (Coded text) is.1 (text, is.2, refl)
 
+-- one constant
 reads_constant : (charset : ℕ)
     → Reads (constant_at (charset_of charset)) (IsConstant charset) (RefusesConstant charset)
 unfolding constant_at
@@ -315,6 +329,7 @@ reads_constant charset =
     (headed bytes is.1.front is.1.back is.0 is.1.split is.1.first) is.1.second)
     (constant_begun charset)
 
+-- the pool of constants
 pub reads_constants :
     Reads constants_at (λ bytes pool. AreConstants bytes pool.0 pool.1) RefusesConstants
 unfolding constants_at
@@ -360,6 +375,7 @@ reads_constants =
 
 -- ---- pragmas
 
+-- two numbers
 reads_pair : Reads pair_at (λ bytes pair. IsPair bytes pair.0 pair.1) RefusesPair
 unfolding pair_at
 reads_pair =
@@ -392,6 +408,7 @@ IsIndexes pragma.Scheme bytes p =
     Then IsMb
     (λ name l. (pair : ℕ × ℕ) × IsPair l pair.0 pair.1 × (p ≡ Scheme name pair.0 pair.1)) bytes
 
+-- the indexes of a pragma of a kind
 reads_indexes : (at : ℕ) (kind : PragmaKind)
     → Reads (indexes_at kind) (IsIndexes kind) (RefusesIndexes at (Some kind))
 unfolding indexes_at
@@ -401,21 +418,25 @@ reads_indexes at pragma.Property = reads_told reads_pair (λ pair. Property pair
 reads_indexes at pragma.Scheme =
     reads_in_turn reads_number (λ name. reads_told reads_pair (λ pair. Scheme name pair.0 pair.1))
 
+-- the indexes after a first byte, where that is of a kind
 abbrev IsIndexesBy : Option PragmaKind → List ℕ → Pragma → Type 0
 IsIndexesBy None bytes p = ⊥
 IsIndexesBy (Some kind) bytes p = IsIndexes kind bytes p
 
+-- what follows any first byte
 reads_indexes_by : (at : ℕ) (kind : Option PragmaKind)
     → Reads (indexes_by at kind) (IsIndexesBy kind) (RefusesIndexes at kind)
 reads_indexes_by at None = reads_failing (fault.PragmaKind at)
 reads_indexes_by at (Some kind) = reads_indexes at kind
 
+-- the byte of a kind of pragmas
 abbrev pragma_code : PragmaKind → ℕ
 pragma_code pragma.Domain = DOMAIN
 pragma_code pragma.Path = PATH
 pragma_code pragma.Property = PROPERTY
 pragma_code pragma.Scheme = SCHEME
 
+-- the kind tells its byte
 code-pragma_kind : (byte : ℕ) (kind : PragmaKind) → pragma_kind byte ≡ Some kind
     → byte ≡ pragma_code kind
 code-pragma_kind byte pragma.Domain e = grind (arith, nat_tests)
@@ -423,6 +444,7 @@ code-pragma_kind byte pragma.Path e = grind (arith, nat_tests)
 code-pragma_kind byte pragma.Property e = grind (arith, nat_tests)
 code-pragma_kind byte pragma.Scheme e = grind (arith, nat_tests)
 
+-- a byte and the indexes after it are a pragma
 indexed : (bytes back : List ℕ) (kind : PragmaKind) (p : Pragma) → bytes ≡ pragma_code kind ∷ back
     → IsIndexes kind back p → IsPragma bytes p
 indexed bytes back pragma.Domain p spelled is =
@@ -444,6 +466,7 @@ indexed bytes back pragma.Scheme p spelled is =
       },
     )
 
+-- so are a byte of a known kind and its indexes
 by_pragma_kind : (bytes back : List ℕ) (byte : ℕ) (kind : Option PragmaKind) (p : Pragma)
     → pragma_kind byte ≡ kind → bytes ≡ byte ∷ back → IsIndexesBy kind back p → IsPragma bytes p
 by_pragma_kind bytes back byte None p known spelled is = absurd is
@@ -458,6 +481,7 @@ led : (bytes back : List ℕ) (byte : ℕ) (p : Pragma) → bytes ≡ byte ∷ b
 led bytes back byte p spelled is =
     (byte, record { front = byte ∷ []; back = back; split = spelled; first = refl; second = is })
 
+-- a pragma begins with the byte of its kind
 pragma_begun : (bytes : List ℕ) (p : Pragma) → IsPragma bytes p
     → Then IsByte (λ byte l. IsIndexesBy (pragma_kind byte) l p) bytes
 pragma_begun bytes (Domain text) is = led bytes is.0 DOMAIN (Domain text) is.1 (text, is.2, refl)
@@ -477,6 +501,7 @@ pragma_begun bytes (Scheme name content scheme) is =
       },
     )
 
+-- one pragma
 reads_pragma : Reads pragma_at IsPragma RefusesPragma
 unfolding pragma_at
 reads_pragma =
@@ -487,6 +512,7 @@ reads_pragma =
     (headed bytes is.1.front is.1.back is.0 is.1.split is.1.first) is.1.second)
     pragma_begun
 
+-- the pragmas
 pub reads_pragmas : Reads pragmas_at (IsCounted IsPragma) (RefusesCounted IsPragma RefusesPragma)
 unfolding pragmas_at
 reads_pragmas = reads_as (reads_in_turn reads_number (λ count. reads_many reads_pragma count))
@@ -515,6 +541,7 @@ abbrev IsNameText : List ℕ → List ℕ → Type 0
 IsNameText bytes text =
     (content : List ℕ) × (bytes ≡ length content ∷ content) × IsUtf8Text content text
 
+-- the text of a name
 reads_name_text : (at : ℕ) → Reads (name_text_at at) IsNameText (RefusesNameText at)
 unfolding name_text_at utf8_text
 reads_name_text at =
@@ -553,6 +580,7 @@ reads_name_text at =
       },
     ))
 
+-- the name of one of so many functions
 reads_name : (count : ℕ) → Reads (name_at count) (IsName count) (RefusesName count)
 unfolding name_at
 reads_name count =
@@ -582,6 +610,7 @@ reads_name count =
       },
     ))
 
+-- one function
 reads_function : Reads function_at IsFunction RefusesFunction
 unfolding function_at
 reads_function =
@@ -621,6 +650,7 @@ reads_function =
       },
     ))
 
+-- names and functions
 abbrev NamedFunctions : Type 0
 NamedFunctions = List (ℕ × List ℕ) × List Code
 
@@ -632,6 +662,7 @@ record AreNamed (count : ℕ) (bytes : List ℕ) (found : NamedFunctions) : Type
       (λ back. IsRow IsFunction back found.1) rows
   so_many : length found.1 ≡ count
 
+-- the names, and so many functions
 reads_named_functions : (count : ℕ)
     → Reads (named_functions_at count) (AreNamed count) (RefusesNamesAndFunctions count)
 unfolding named_functions_at
@@ -677,6 +708,7 @@ reads_named_functions count =
       },
     ))
 
+-- the names and functions
 pub reads_functions :
     Reads functions_at (λ bytes found. AreFunctions bytes found.0 found.1) RefusesFunctions
 unfolding functions_at
@@ -727,6 +759,7 @@ pub record IsBodyOf (version : ℕ) (bytes : List ℕ) (unit : Unit) : Type 0 wh
   pub version_is : unit.version ≡ version
   pub body : IsBody bytes unit
 
+-- a unit by its parts
 abbrev unit_of : ℕ → ℕ × List Constant → List Pragma → NamedFunctions → Unit
 unit_of version pool pragmas functions = record {
   version = version;
@@ -737,6 +770,7 @@ unit_of version pool pragmas functions = record {
   functions = functions.1;
 }
 
+-- the parts of a unit
 pub reads_body : (version : ℕ) → Reads (body_at version) (IsBodyOf version) RefusesBody
 unfolding body_at
 reads_body version =

@@ -34,6 +34,7 @@ pub record Reads {A : Type 0} (read : Reader A) (Is : List ℕ → A → Type 0)
   pub fails : (end : ℕ) (bytes : List ℕ) (found : UnitFault) → Refuses end bytes found
       → read end bytes ≡ Err found
 
+-- a value and the rest are known of what is read
 pub pair_same : {A : Type 0} (x y : A) (l m : List ℕ)
     → ◌≡◌ {A = Result (A × List ℕ) UnitFault} (Ok (x, l)) (Ok (y, m)) → (x ≡ y) × (l ≡ m)
 pair_same {A = A} x y l m e =
@@ -42,6 +43,7 @@ pair_same {A = A} x y l m e =
 
 -- ---- bytes
 
+-- one byte
 pub reads_byte : Reads byte_at IsByte LacksByte
 reads_byte = record { takes = takes; again = again; stops = stops; fails = fails }
   where
@@ -66,6 +68,7 @@ reads_byte = record { takes = takes; again = again; stops = stops; fails = fails
     fails end bytes found lacks = ap (byte_at end) lacks.0 ∙ ap Err (sym lacks.1)
 
 module _ (size : ℕ) where
+  -- what is taken is a prefix of this length
   taken_takes : (end : ℕ) (bytes : List ℕ) (x : List ℕ) (rest : List ℕ)
       → taken_at size end bytes ≡ Ok (x, rest)
       → (front : List ℕ) × (bytes ≡ front ++ rest) × IsTaken size front x
@@ -85,6 +88,7 @@ module _ (size : ℕ) where
             )
       ]
 
+  -- a prefix of this length is taken
   taken_again : (end : ℕ) (front : List ℕ) (x : List ℕ) (rest : List ℕ) → IsTaken size front x
       → taken_at size end (front ++ rest) ≡ Ok (x, rest)
   taken_again end front x rest is =
@@ -97,6 +101,7 @@ module _ (size : ℕ) where
       (take_at front rest size so_long ∙ is.0)
       ∙ ap (λ (l : List ℕ). Ok (x, l)) (drop_at front rest size so_long)
 
+  -- where none is taken, too few are left
   taken_stops : (end : ℕ) (bytes : List ℕ) (found : UnitFault) → taken_at size end bytes ≡ Err found
       → LacksBytes size end bytes found
   taken_stops end bytes found e =
@@ -106,6 +111,7 @@ module _ (size : ℕ) where
         | inr f ↦ absurd (cc f.1)
       ]
 
+  -- so many bytes
   pub reads_taken : Reads (taken_at size) (IsTaken size) (LacksBytes size)
   reads_taken = record {
     takes = taken_takes;
@@ -119,6 +125,7 @@ module _ (size : ℕ) where
 
 -- ---- numbers
 
+-- where a number is read, it ends at some place
 number_ok : (end : ℕ) (bytes : List ℕ) (r : Result (ℕ × ℕ) ReadFault) (x : ℕ) (rest : List ℕ)
     → numbered end bytes r ≡ Ok (x, rest)
     → (next : ℕ) × (r ≡ Ok (x, next)) × (rest ≡ drop next bytes)
@@ -128,6 +135,7 @@ number_ok end bytes (Ok read) x rest e =
 number_ok end bytes (Err (number.Short at)) x rest e = absurd cc
 number_ok end bytes (Err (number.TooLong at)) x rest e = absurd cc
 
+-- what is read is a number
 number_takes : (end : ℕ) (bytes : List ℕ) (x : ℕ) (rest : List ℕ)
     → number_at end bytes ≡ Ok (x, rest) → (front : List ℕ) × (bytes ≡ front ++ rest) × IsMb front x
 unfolding number_at
@@ -143,6 +151,7 @@ number_takes end bytes x rest e =
       reads.number_is,
     )
 
+-- a number is read
 number_again : (end : ℕ) (front : List ℕ) (x : ℕ) (rest : List ℕ) → IsMb front x
     → number_at end (front ++ rest) ≡ Ok (x, rest)
 unfolding number_at
@@ -152,6 +161,7 @@ number_again end front x rest is =
     ap (numbered end (front ++ rest)) (mb_again (front ++ rest) 0 x (length front) reads)
     ∙ ap (λ (l : List ℕ). Ok (x, l)) (drop_at front rest (length front) refl)
 
+-- why a number is refused
 number_err : (end : ℕ) (bytes : List ℕ) (r : Result (ℕ × ℕ) ReadFault) (found : UnitFault)
     → mb_at bytes 0 ≡ r → numbered end bytes r ≡ Err found → RefusesNumber end bytes found
 number_err end bytes (Ok read) found is e = absurd cc
@@ -159,11 +169,13 @@ number_err end bytes (Err (number.Short at)) found is e = inl ((mb_stops_short b
 number_err end bytes (Err (number.TooLong at)) found is e =
     inr ((mb_stops_over bytes 0 at is).0, cc)
 
+-- where none is read, it is refused
 number_stops : (end : ℕ) (bytes : List ℕ) (found : UnitFault) → number_at end bytes ≡ Err found
     → RefusesNumber end bytes found
 unfolding number_at
 number_stops end bytes found e = number_err end bytes (mb_at bytes 0) found refl e
 
+-- where it is refused, none is read
 number_fails : (end : ℕ) (bytes : List ℕ) (found : UnitFault) → RefusesNumber end bytes found
     → number_at end bytes ≡ Err found
 unfolding number_at
@@ -172,6 +184,7 @@ number_fails end bytes found (inl short) =
 number_fails end bytes found (inr long) =
     ap (numbered end bytes) (mb_fails_over bytes 0 long.0) ∙ ap Err (sym long.1)
 
+-- one number
 pub reads_number : Reads number_at IsMb RefusesNumber
 reads_number = record {
   takes = number_takes;
@@ -182,6 +195,7 @@ reads_number = record {
 
 -- ---- a value and what follows it
 
+-- two prefixes are one
 pub joined : (bytes a l b rest : List ℕ) → bytes ≡ a ++ l → l ≡ b ++ rest → bytes ≡ (a ++ b) ++ rest
 joined bytes a l b rest first second =
     first ∙ ap (λ (x : List ℕ). a ++ x) second ∙ sym (append_assoc a b rest)
@@ -189,6 +203,7 @@ joined bytes a l b rest first second =
 module _ {A B : Type 0} {read : Reader A} {next : A → Reader B} {Is : List ℕ → A → Type 0}
     {Refuses : Refusal} {Are : A → List ℕ → B → Type 0} {Refused : A → Refusal}
     (first : Reads read Is Refuses) (second : (x : A) → Reads (next x) (Are x) (Refused x)) where
+  -- a value and what follows it are read
   both_takes : (end : ℕ) (bytes : List ℕ) (y : B) (rest : List ℕ)
       → in_turn read next end bytes ≡ Ok (y, rest)
       → (front : List ℕ) × (bytes ≡ front ++ rest) × Then Is (λ x l. Are x l y) front
@@ -204,6 +219,7 @@ module _ {A B : Type 0} {read : Reader A} {next : A → Reader B} {Is : List ℕ
         ),
       )
 
+  -- and read again
   both_again : (end : ℕ) (front : List ℕ) (y : B) (rest : List ℕ) → Then Is (λ x l. Are x l y) front
       → in_turn read next end (front ++ rest) ≡ Ok (y, rest)
   both_again end front y rest is =
@@ -215,6 +231,7 @@ module _ {A B : Type 0} {read : Reader A} {next : A → Reader B} {Is : List ℕ
       (first.again end parts.front is.0 (parts.back ++ rest) parts.first)
       ∙ (second is.0).again end parts.back y rest parts.second
 
+  -- where one of them isn't read, it is refused
   both_stops : (end : ℕ) (bytes : List ℕ) (found : UnitFault)
       → in_turn read next end bytes ≡ Err found → RefusesInTurn Refuses Is Refused end bytes found
   both_stops end bytes found e = elim (bind_err (read end bytes) (λ x. next x.0 end x.1) found e) [
@@ -231,6 +248,7 @@ module _ {A B : Type 0} {read : Reader A} {next : A → Reader B} {Is : List ℕ
         })
   ]
 
+  -- where one of them is refused, it isn't read
   both_fails : (end : ℕ) (bytes : List ℕ) (found : UnitFault)
       → RefusesInTurn Refuses Is Refused end bytes found → in_turn read next end bytes ≡ Err found
   both_fails end bytes found (inl a) =
@@ -242,6 +260,7 @@ module _ {A B : Type 0} {read : Reader A} {next : A → Reader B} {Is : List ℕ
       (first.again end b.front b.value b.rest b.whole)
       ∙ (second b.value).fails end b.rest found b.refused
 
+  -- a value and what follows it
   pub reads_in_turn : Reads (in_turn read next) (λ bytes y. Then Is (λ x l. Are x l y) bytes)
       (RefusesInTurn Refuses Is Refused)
   reads_in_turn =
@@ -249,6 +268,7 @@ module _ {A B : Type 0} {read : Reader A} {next : A → Reader B} {Is : List ℕ
 
 -- ---- one reading
 
+-- a value of no bytes
 pub reads_given : {A : Type 0} (x : A) → Reads (given x) (λ bytes y. (bytes ≡ []) × (y ≡ x)) Never
 reads_given x = record {
   takes =
@@ -261,6 +281,7 @@ reads_given x = record {
   fails = λ end bytes found refuses. absurd refuses;
 }
 
+-- nothing
 pub reads_failing : {A : Type 0} (failed : UnitFault)
     → Reads {A = A} (failing failed) (λ bytes y. ⊥) (λ end left found. found ≡ failed)
 reads_failing failed = record {
@@ -272,6 +293,7 @@ reads_failing failed = record {
 
 module _ {A : Type 0} {read : Reader A} {Is : List ℕ → A → Type 0} {Refuses : Refusal}
     (reads : Reads read Is Refuses) where
+  -- a value where a test is passed
   pub reads_passing : (test : Bool) (failed : UnitFault) → Reads (passing test failed read)
       (λ bytes x. (test ≡ true) × Is bytes x) (RefusesUnless test failed Refuses)
   reads_passing true failed = record {
@@ -292,6 +314,7 @@ module _ {A : Type 0} {read : Reader A} {Is : List ℕ → A → Type 0} {Refuse
         elim refuses [ inl no_pass ↦ ap Err (sym no_pass.1) | inr passed ↦ absurd (cc passed.0) ];
   }
 
+  -- what is made of a value
   pub reads_told : {B : Type 0} (made : A → B)
       → Reads (told made read) (λ bytes y. (x : A) × Is bytes x × (y ≡ made x)) Refuses
   reads_told made = record {
@@ -348,6 +371,7 @@ reads_here reads = record {
 
 module _ {A : Type 0} {read : Reader A} {Is : List ℕ → A → Type 0} {Refuses : Refusal}
     (reads : Reads read Is Refuses) where
+  -- so many things are read
   many_takes : (count end : ℕ) (bytes : List ℕ) (xs : List A) (rest : List ℕ)
       → many read count end bytes ≡ Ok (xs, rest)
       → (front : List ℕ) × (bytes ≡ front ++ rest) × (IsRow Is front xs × (length xs ≡ count))
@@ -384,6 +408,7 @@ module _ {A : Type 0} {read : Reader A} {Is : List ℕ → A → Type 0} {Refuse
         ),
       )
 
+  -- and read again
   many_again : (count end : ℕ) (front : List ℕ) (xs : List A) (rest : List ℕ) → IsRow Is front xs
       → length xs ≡ count → many read count end (front ++ rest) ≡ Ok (xs, rest)
   many_again zero end front [] rest row so_many = ap (λ (l : List ℕ). Ok ([], l ++ rest)) row
@@ -421,6 +446,7 @@ module _ {A : Type 0} {read : Reader A} {Is : List ℕ → A → Type 0} {Refuse
         refused = refuses.refused;
       }
 
+  -- where one of them isn't read, it is refused
   many_stops : (count end : ℕ) (bytes : List ℕ) (found : UnitFault)
       → many read count end bytes ≡ Err found → RefusesRow count Is Refuses end bytes found
   many_stops zero end bytes found e = absurd (cc e)
@@ -446,6 +472,7 @@ module _ {A : Type 0} {read : Reader A} {Is : List ℕ → A → Type 0} {Refuse
             ]
       ]
 
+  -- where one of them is refused, it isn't read
   many_fails : (count end : ℕ) (whole : List A) (front rest : List ℕ) (found : UnitFault)
       → IsRow Is front whole → length whole < count → Refuses end rest found
       → many read count end (front ++ rest) ≡ Err found
@@ -464,6 +491,7 @@ module _ {A : Type 0} {read : Reader A} {Is : List ℕ → A → Type 0} {Refuse
       ∙ ap (λ (r : Result (List A × List ℕ) UnitFault). r >>= λ ys. Ok (x ∷ ys.0, ys.1))
       (many_fails count end xs row.back rest found row.second (omega arith) refused)
 
+  -- so many things
   pub reads_many : (count : ℕ) → Reads (many read count)
       (λ bytes xs. IsRow Is bytes xs × (length xs ≡ count)) (RefusesRow count Is Refuses)
   reads_many count = record {

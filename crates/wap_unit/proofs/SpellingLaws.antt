@@ -30,21 +30,26 @@ use Rattle.wap_unit.specs.Spelling.{functions_spelling, body_spelling, spelling}
 use Rattle.wap_unit.specs.inside.Fitting.{FitsConstant, FitsConstants, FitsName}
 use Rattle.wap_unit.specs.inside.Fitting.{FitsFunction, FitsFunctions, FitsUnit}
 
+-- numbers below 256
 abbrev AreBytes : List ℕ → Type 0
 AreBytes bytes = AllByRecursion (λ byte. byte < 256) bytes
 
+-- a prefix of bytes is bytes
 bytes_front : (front back : List ℕ) → AreBytes (front ++ back) → AreBytes front
 bytes_front [] back are = tt
 bytes_front (byte ∷ front) back are = (are.0, bytes_front front back are.1)
 
+-- what follows a prefix is bytes
 bytes_back : (front back : List ℕ) → AreBytes (front ++ back) → AreBytes back
 bytes_back [] back are = are
 bytes_back (byte ∷ front) back are = bytes_back front back are.1
 
+-- bytes after bytes are bytes
 bytes_both : (front back : List ℕ) → AreBytes front → AreBytes back → AreBytes (front ++ back)
 bytes_both [] back are more = more
 bytes_both (byte ∷ front) back are more = (are.0, bytes_both front back are.1 more)
 
+-- each byte is below 256
 byte_below : (bytes : List ℕ) → AreBytes bytes → (i : ℕ) → get_or bytes i 0 < 256
 byte_below [] are i = omega arith
 byte_below (byte ∷ bytes) are zero = are.0
@@ -62,6 +67,7 @@ record Writes {A : Type 0} (Is : List ℕ → A → Type 0) (spell : A → List 
   written : (bytes : List ℕ) (x : A) → AreBytes bytes → Is bytes x → Written bytes (spell x)
   fits : (bytes : List ℕ) (x : A) → AreBytes bytes → Is bytes x → Fits x
 
+-- two parts are written one after the other
 written_both : (bytes front back a b : List ℕ) → bytes ≡ front ++ back → Written front a
     → Written back b → Written bytes (a ++ b)
 written_both bytes front back a b split first second =
@@ -73,9 +79,11 @@ written_both bytes front back a b split first second =
       short = omega (arith, length-append a b, length-append front back);
     }
 
+-- bytes are written as they were
 written_same : (bytes : List ℕ) → AreBytes bytes → Written bytes bytes
 written_same bytes are = record { are = are; short = omega arith }
 
+-- a byte is written, and what follows it
 written_behind : (byte : ℕ) (others bytes rest : List ℕ) → others ≡ byte ∷ rest → AreBytes others
     → Written rest bytes → Written others (byte ∷ bytes)
 written_behind byte others bytes rest spelled are behind =
@@ -83,14 +91,17 @@ written_behind byte others bytes rest spelled are behind =
     let all : length others ≡ suc (length rest) = ap (λ (l : List ℕ). length l) spelled in
     record { are = ((subst AreBytes spelled are).0, behind.are); short = omega arith }
 
+-- a part of bytes is bytes
 front_of : (bytes front back : List ℕ) → bytes ≡ front ++ back → AreBytes bytes → AreBytes front
 front_of bytes front back split are = bytes_front front back (subst AreBytes split are)
 
+-- so is what follows the part
 back_of : (bytes front back : List ℕ) → bytes ≡ front ++ back → AreBytes bytes → AreBytes back
 back_of bytes front back split are = bytes_back front back (subst AreBytes split are)
 
 -- ---- numbers
 
+-- the groups of a number are bytes
 carried_bytes : (allowed number : ℕ) → AreBytes (carried allowed number)
 carried_bytes zero number = tt
 carried_bytes (suc allowed) number =
@@ -102,6 +113,7 @@ carried_bytes (suc allowed) number =
     by_test true front last are below = tt
     by_test false front last are below = bytes_both front (last ∷ []) are (below, tt)
 
+-- one number
 writes_number : Writes IsMb mb_spelling (λ number. number < 2 ^ 32)
 writes_number = record {
   is = λ bytes number are is. (IsShortest-mb_spelling number is.fits).spells;
@@ -116,6 +128,7 @@ writes_number = record {
 
 -- ---- rows
 
+-- so many things
 writes_row : {A : Type 0} {Is : List ℕ → A → Type 0} {spell : A → List ℕ} {Fits : A → Type 0}
     → Writes Is spell Fits → Writes (IsRow Is) (flat_map spell) (AllByRecursion Fits)
 writes_row {A} {Is} {spell} {Fits} writes = record { is = is; written = written; fits = fits }
@@ -149,6 +162,7 @@ writes_row {A} {Is} {spell} {Fits} writes = record { is = is; written = written;
 
 -- ---- texts
 
+-- bytes after their number
 writes_sized : Writes IsSized sized (λ content. length content < 2 ^ 32)
 writes_sized = record {
   is = λ bytes content are is. record {
@@ -176,10 +190,12 @@ utf8_same content text is =
 
 -- ---- constants
 
+-- what follows the byte of a kind is bytes
 behind_kind : (bytes rest : List ℕ) (kind : ℕ) → bytes ≡ kind ∷ rest → AreBytes bytes
     → AreBytes rest
 behind_kind bytes rest kind spelled are = (subst AreBytes spelled are).1
 
+-- a number of one byte is that byte
 one_byte : (value : List ℕ) → length value ≡ 1 → AreBytes value
     → to_be_bytes w8 (from_be_bytes w8 value) ≡ value
 one_byte [] long are = absurd (omega arith)
@@ -189,29 +205,35 @@ one_byte (byte ∷ []) long are =
     ap (λ (b : ℕ). b ∷ []) same
 one_byte (byte ∷ next ∷ bytes) long are = absurd (omega arith)
 
+-- one byte is a number below 2^8
 below_8 : (value : List ℕ) → AreBytes value → from_be_bytes w8 value < 2 ^ 8
 below_8 value are = byte_below value are 0
 
+-- two bytes are a number below 2^16
 below_16 : (value : List ℕ) → AreBytes value → from_be_bytes w16 value < 2 ^ 16
 below_16 value are = let fits = byte_below value are in omega (arith, fits 0, fits 1)
 
+-- four bytes are a number below 2^32
 below_32 : (value : List ℕ) → AreBytes value → from_be_bytes w32 value < 2 ^ 32
 below_32 value are =
     let fits = byte_below value are in
     omega (arith, fits 0, fits 1, fits 2, fits 3)
 
+-- one byte is read and written as it was
 value_8 : (value : List ℕ) → length value ≡ 1 → AreBytes value
     → to_be_bytes w8 (cast_unsigned w8 (cast_signed w8 (from_be_bytes w8 value))) ≡ value
 value_8 value long are =
     ap (to_be_bytes w8) (of_z-to_z w8 (from_be_bytes w8 value) (below_8 value are))
     ∙ one_byte value long are
 
+-- so are two
 value_16 : (value : List ℕ) → length value ≡ 2 → AreBytes value
     → to_be_bytes w16 (cast_unsigned w16 (cast_signed w16 (from_be_bytes w16 value))) ≡ value
 value_16 value long are =
     ap (to_be_bytes w16) (of_z-to_z w16 (from_be_bytes w16 value) (below_16 value are))
     ∙ be_bytes_2 value (from_be_bytes w16 value) long (byte_below value are) refl
 
+-- so are four
 value_32 : (value : List ℕ) → length value ≡ 4 → AreBytes value
     → to_be_bytes w32 (cast_unsigned w32 (cast_signed w32 (from_be_bytes w32 value))) ≡ value
 value_32 value long are =
@@ -227,10 +249,12 @@ constant_same charset bytes c are is same = (
   subst (Written bytes) (sym same) (written_same bytes are),
 )
 
+-- a byte and a value that is written as it was
 fixed : (kind : ℕ) (bytes value again : List ℕ) → bytes ≡ kind ∷ value → again ≡ value
     → kind ∷ again ≡ bytes
 fixed kind bytes value again spelled same = ap (λ (l : List ℕ). kind ∷ l) same ∙ sym spelled
 
+-- what is written for a constant is the constant
 constant_law : (charset : ℕ) (bytes : List ℕ) (c : Constant) → AreBytes bytes
     → IsConstant charset bytes c
     → IsConstant charset (constant_spelling c) c × Written bytes (constant_spelling c)
@@ -251,8 +275,8 @@ constant_law charset bytes (Int32 number) are is =
     ∙ value_32 is.0 is.2.0 (behind_kind bytes is.0 INT32 is.1 are)))
 constant_law charset bytes (Float number) are is =
     constant_same charset bytes (Float number) are is
-    (fixed FLOAT bytes is.0 (to_be_bytes w32 number) is.1
-    (be_bytes_4 is.0 number is.2.0 (byte_below is.0 (behind_kind bytes is.0 FLOAT is.1 are)) is.2.1))
+    (fixed FLOAT bytes is.0 (to_be_bytes w32 number) is.1 (be_bytes_4 is.0 number is.2.0
+    (byte_below is.0 (behind_kind bytes is.0 FLOAT is.1 are)) is.2.1))
 constant_law charset bytes (Utf8 text) are is =
     let rest : AreBytes is.0 = behind_kind bytes is.0 UTF8 is.1 are in
     let content : List ℕ = is.2.0 in
@@ -281,6 +305,7 @@ constant_law charset bytes (Coded text) are is =
       written_behind CODED bytes (sized text) is.0 is.1 are written,
     )
 
+-- the length of a constant can be written
 constant_fits : (charset : ℕ) (bytes : List ℕ) (c : Constant) → AreBytes bytes
     → IsConstant charset bytes c → FitsConstant c
 constant_fits charset bytes (Int8 number) are is = tt
@@ -293,6 +318,7 @@ constant_fits charset bytes Empty are is = tt
 constant_fits charset bytes (Coded text) are is =
     subst (λ (l : List ℕ). length l < 2 ^ 32) is.2.2.0 is.2.1.first.fits
 
+-- one constant
 writes_constant : (charset : ℕ) → Writes (IsConstant charset) constant_spelling FitsConstant
 writes_constant charset = record {
   is = λ bytes c are is. (constant_law charset bytes c are is).0;
@@ -300,9 +326,11 @@ writes_constant charset = record {
   fits = constant_fits charset;
 }
 
+-- the number of the character set, and the constants
 abbrev Pool : Type 0
 Pool = ℕ × List Constant
 
+-- the pool of constants
 writes_constants : Writes (λ bytes (pool : Pool). AreConstants bytes pool.0 pool.1)
     (λ pool. constants_spelling pool.0 pool.1) (λ pool. FitsConstants pool.1)
 writes_constants = record {
@@ -351,6 +379,7 @@ writes_constants = record {
 
 -- ---- pragmas
 
+-- what is written for two numbers is the numbers
 pair_law : (bytes : List ℕ) (one two : ℕ) → AreBytes bytes → IsPair bytes one two
     → IsPair (mb_spelling one ++ mb_spelling two) one two
     × Written bytes (mb_spelling one ++ mb_spelling two)
@@ -369,6 +398,7 @@ pair_law bytes one two are is =
           (writes_number.written is.back two back is.second),
     )
 
+-- what is written for a pragma is the pragma
 pragma_law : (bytes : List ℕ) (p : Pragma) → AreBytes bytes → IsPragma bytes p
     → IsPragma (pragma_spelling p) p × Written bytes (pragma_spelling p)
 pragma_law bytes (Domain text) are is =
@@ -413,6 +443,7 @@ pragma_law bytes (Scheme name content scheme) are is =
           (writes_number.written inner.front name front inner.first) pair.1),
     )
 
+-- one pragma
 writes_pragma : Writes IsPragma pragma_spelling (λ p. ⊤)
 writes_pragma = record {
   is = λ bytes p are is. (pragma_law bytes p are is).0;
@@ -420,6 +451,7 @@ writes_pragma = record {
   fits = λ bytes p are is. tt;
 }
 
+-- the pragmas
 writes_pragmas : Writes (IsCounted IsPragma) (counted pragma_spelling) (λ ps. length ps < 2 ^ 32)
 writes_pragmas = record {
   is = λ bytes ps are is. record {
@@ -444,15 +476,18 @@ writes_pragmas = record {
 
 -- ---- functions
 
+-- the index of a function, and its name
 abbrev Name : Type 0
 Name = ℕ × List ℕ
 
+-- a name is written as it was
 name_same : (count : ℕ) (bytes : List ℕ) (name : Name) → (is : IsName count bytes name)
     → name_spelling name ≡ bytes
 name_same count bytes name is =
     ap (λ (l : List ℕ). name.0 ∷ length l ∷ l) (utf8_same is.content name.1 is.text)
     ∙ sym is.spelled
 
+-- the name of one of so many functions
 writes_name : (count : ℕ) → Writes (IsName count) name_spelling FitsName
 writes_name count = record {
   is =
@@ -468,6 +503,7 @@ writes_name count = record {
       subst (λ (l : List ℕ). length l < 2 ^ 8) (sym (utf8_same is.content name.1 is.text)) short;
 }
 
+-- what is written for a function is the function
 function_law : (bytes : List ℕ) (f : Code) → AreBytes bytes → IsFunction bytes f
     → IsFunction (function_spelling f) f × Written bytes (function_spelling f) × FitsFunction f
 function_law bytes f are is =
@@ -482,6 +518,7 @@ function_law bytes f are is =
       writes_sized.fits is.rest f.code rest is.code,
     )
 
+-- one function
 writes_function : Writes IsFunction function_spelling FitsFunction
 writes_function = record {
   is = λ bytes f are is. (function_law bytes f are is).0;
@@ -489,9 +526,11 @@ writes_function = record {
   fits = λ bytes f are is. (function_law bytes f are is).2;
 }
 
+-- names and functions
 abbrev Named : Type 0
 Named = List Name × List Code
 
+-- what is written for names and functions is those
 functions_law : (bytes : List ℕ) (found : Named) → AreBytes bytes
     → AreFunctions bytes found.0 found.1
     → AreFunctions (functions_spelling found.0 found.1) found.0 found.1
@@ -545,6 +584,7 @@ record BodyLaw (body : List ℕ) (unit : Unit) : Type 0 where
   pragmas : length unit.pragmas < 2 ^ 32
   functions : FitsFunctions unit.names unit.functions
 
+-- what is written for the parts of a unit is those
 body_law : (body : List ℕ) (unit : Unit) → AreBytes body → IsBody body unit → BodyLaw body unit
 unfolding body_spelling
 body_law body unit are is =
@@ -582,12 +622,14 @@ body_law body unit are is =
       functions = functions.2;
     }
 
+-- what follows the head is bytes
 body_bytes : (bytes : List ℕ) (version : ℕ) (body : List ℕ) → AreBytes bytes
     → IsHead bytes version body → (version < 256) × AreBytes body
 body_bytes bytes version body are head =
     let spelled : AreBytes (version ∷ (head.size ++ body)) = subst AreBytes head.spelled are in
     (spelled.0, bytes_back head.size body spelled.1)
 
+-- each length of a unit that was read can be written
 pub unit_fits : (bytes : List ℕ) (unit : Unit) → IsUnit bytes unit → FitsUnit unit
 unit_fits bytes unit is =
     let law =
@@ -602,6 +644,7 @@ unit_fits bytes unit is =
       body = omega arith;
     }
 
+-- what is written for a unit that was read is the unit
 pub unit_written : (bytes : List ℕ) (unit : Unit) → IsUnit bytes unit → IsUnit (spelling unit) unit
 unfolding spelling
 unit_written bytes unit is =

@@ -23,20 +23,25 @@ use Rattle.wap_unit.specs.inside.Reading.{body_at, ended, sized_body, unit_by, u
 use Rattle.wap_unit.proofs.Readers.{reads_byte, reads_number}
 use Rattle.wap_unit.proofs.Parts.{IsBodyOf, reads_body}
 
+-- what comes of reading the parts of a unit
 abbrev Read : Type 0
 Read = Result (Unit × List ℕ) UnitFault
 
+-- what comes of reading a number
 abbrev Number : Type 0
 Number = Result (ℕ × List ℕ) UnitFault
 
+-- the version byte
 first_byte : (end : ℕ) (bytes : List ℕ) (v : ℕ) (rest : List ℕ) → byte_at end bytes ≡ Ok (v, rest)
     → bytes ≡ v ∷ rest
 first_byte end bytes v rest e =
     let one = reads_byte.takes end bytes v rest e in
     one.1 ∙ ap (λ (l : List ℕ). l ++ rest) one.2
 
+-- the version and the number of the bytes that follow
 head_of : (bytes : List ℕ) (v : ℕ) (rest size body : List ℕ) (number : ℕ) → bytes ≡ v ∷ rest
-    → v ≤ GREATEST_VERSION → rest ≡ size ++ body → IsMb size number → number ≡ length body → IsHead bytes v body
+    → v ≤ GREATEST_VERSION → rest ≡ size ++ body → IsMb size number → number ≡ length body
+    → IsHead bytes v body
 head_of bytes v rest size body number first low split is same =
     record {
       size = size;
@@ -47,6 +52,7 @@ head_of bytes v rest size body number first low split is same =
 
 -- ---- what is read
 
+-- nothing follows the parts
 body_whole : (version : ℕ) (body front rest : List ℕ) (unit : Unit) → body ≡ front ++ rest
     → length rest ≤ 0 → IsBodyOf version front unit → IsBodyOf version body unit
 body_whole version body front rest unit split none is =
@@ -54,6 +60,7 @@ body_whole version body front rest unit split none is =
     subst (λ (l : List ℕ). IsBodyOf version l unit)
     (sym (split ∙ ap (λ (l : List ℕ). front ++ l) nothing ∙ append-nil front)) is
 
+-- what is read after the number is a body of this length
 sized_takes : (end v : ℕ) (size : ℕ × List ℕ) (unit : Unit) → sized_body end v size ≡ Ok unit
     → (size.0 ≡ length size.1) × IsBodyOf v size.1 unit
 sized_takes end v size unit e =
@@ -74,9 +81,11 @@ sized_takes end v size unit e =
       | inr f ↦ absurd (cc f.1)
     ]
 
+-- numbers below 256
 abbrev AreBytes : List ℕ → Type 0
 AreBytes bytes = AllByRecursion (λ byte. byte < 256) bytes
 
+-- what is read is a unit
 pub unit_takes : (bytes : List ℕ) (unit : Unit) → AreBytes bytes → unit_at bytes ≡ Ok unit
     → IsUnit bytes unit
 unfolding unit_at unit_by
@@ -84,8 +93,8 @@ unit_takes bytes unit are e =
     let end : ℕ = length bytes in
     let a = bind_ok (byte_at end bytes) (unit_by end) unit e in
     let v : ℕ = a.0.0 in
-    elim (chosen (ltb GREATEST_VERSION v) (Err (fault.Version 0)) (number_at end a.0.1 >>= sized_body end v)
-    (Ok unit) a.2) [
+    elim (chosen (ltb GREATEST_VERSION v) (Err (fault.Version 0))
+    (number_at end a.0.1 >>= sized_body end v) (Ok unit) a.2) [
       | inl high ↦ absurd (cc high.1)
       | inr low ↦
           let b = bind_ok (number_at end a.0.1) (sized_body end v) unit low.1 in
@@ -104,9 +113,11 @@ unit_takes bytes unit are e =
 
 -- ---- each unit is read
 
+-- the version is one that is read
 low_version : (v : ℕ) → v ≤ GREATEST_VERSION → ltb GREATEST_VERSION v ≡ false
 low_version v low = le-ltb GREATEST_VERSION v low
 
+-- the number of the bytes that follow is read
 number_read : (end v number : ℕ) (size body : List ℕ) → v ≤ GREATEST_VERSION → IsMb size number
     → unit_by end (v, size ++ body) ≡ sized_body end v (number, body)
 unfolding unit_by
@@ -116,9 +127,11 @@ number_read end v number size body low is =
     (low_version v low)
     ∙ ap (λ (r : Number). r >>= sized_body end v) (reads_number.again end size number body is)
 
+-- a number equals itself
 eqb-same : (n : ℕ) → eqb n n ≡ true
 eqb-same n = grind (arith, nat_tests)
 
+-- after the version and the number the parts are read
 entered : (bytes : List ℕ) (v : ℕ) (body : List ℕ) → IsHead bytes v body
     → unit_at bytes ≡ (body_at v (length bytes) body >>= ended (length bytes))
 unfolding unit_at
@@ -129,6 +142,7 @@ entered bytes v body head =
     ∙ ap (λ (b : Bool). cond b (body_at v end body >>= ended end) (Err (fault.Size 1)))
     (eqb-same (length body))
 
+-- a unit is read
 pub unit_again : (bytes : List ℕ) (unit : Unit) → IsUnit bytes unit → unit_at bytes ≡ Ok unit
 unit_again bytes unit is =
     let end : ℕ = length bytes in
@@ -140,6 +154,7 @@ unit_again bytes unit is =
 
 -- ---- what is refused
 
+-- what isn't read after the number is refused
 body_stops : (bytes : List ℕ) (v : ℕ) (body : List ℕ) (found : UnitFault) → IsHead bytes v body
     → (body_at v (length bytes) body >>= ended (length bytes)) ≡ Err found → IsRefused bytes found
 body_stops bytes v body found head e =
@@ -159,6 +174,7 @@ body_stops bytes v body found head e =
           ]
     ]
 
+-- what isn't read is refused
 pub unit_stops : (bytes : List ℕ) (found : UnitFault) → unit_at bytes ≡ Err found
     → IsRefused bytes found
 unfolding unit_at unit_by
@@ -195,10 +211,12 @@ unit_stops bytes found e =
           ]
     ]
 
+-- a test that numbers are equal fails where they differ
 tested : (b : Bool) (m n : ℕ) → eqb m n ≡ b → m ≢ n → b ≡ false
 tested true m n e apart = absurd (apart (eqb-true m n e))
 tested false m n e apart = refl
 
+-- what is refused isn't read
 pub unit_fails : (bytes : List ℕ) (found : UnitFault) → IsRefused bytes found
     → unit_at bytes ≡ Err found
 unfolding unit_at unit_by
@@ -249,21 +267,25 @@ read_or_refused bytes are = by_result (unit_at bytes) refl
     by_result (Ok unit) is = inl (unit, unit_takes bytes unit are is)
     by_result (Err found) is = inr (found, unit_stops bytes found is)
 
+-- equal outcomes have equal faults
 pub err_same : (one two : UnitFault) → ◌≡◌ {A = Result Unit UnitFault} (Err one) (Err two)
     → one ≡ two
 err_same one two e = cc e
 
 -- ---- for a call
 
+-- the bytes of a slice are bytes
 pub are_bytes : (bytes : List ℕ) → ((i : ℕ) → get_or bytes i 0 < 2 ^ 8) → AreBytes bytes
 are_bytes [] fits = tt
 are_bytes (byte ∷ bytes) fits = (fits 0, are_bytes bytes (λ i. fits (suc i)))
 
+-- what a call gives is the unit
 pub found_is : (bytes : List ℕ) (r : Result Unit UnitFault) → AreBytes bytes
     → Meets fault.NoMemory (λ u. u) r (unit_at bytes) → IfOk r (λ unit. IsUnit bytes unit)
 found_is bytes (Ok unit) are meets = unit_takes bytes unit are meets
 found_is bytes (Err found) are meets = tt
 
+-- why a call gives none is the fault
 pub refused_is : (bytes : List ℕ) (r : Result Unit UnitFault)
     → Meets fault.NoMemory (λ u. u) r (unit_at bytes)
     → IfErr r (λ found. found ≢ fault.NoMemory → IsRefused bytes found)

@@ -199,8 +199,8 @@ RefusesBody =
 -- the first thing in the bytes that no unit can have there, and its place
 pub data IsRefused (bytes : List ℕ) (found : UnitFault) : Type 0 where
   no_version : bytes ≡ [] → found ≡ fault.Short 0 → IsRefused bytes found
-  other_version : (version : ℕ) (rest : List ℕ) → bytes ≡ version ∷ rest → GREATEST_VERSION < version
-      → found ≡ fault.Version 0 → IsRefused bytes found
+  other_version : (version : ℕ) (rest : List ℕ) → bytes ≡ version ∷ rest
+      → GREATEST_VERSION < version → found ≡ fault.Version 0 → IsRefused bytes found
   no_size : (version : ℕ) (rest : List ℕ) → bytes ≡ version ∷ rest → version ≤ GREATEST_VERSION
       → RefusesNumber (length bytes) rest found → IsRefused bytes found
   other_size : (version number : ℕ) (size rest : List ℕ) → bytes ≡ version ∷ (size ++ rest)
