@@ -1,3 +1,4 @@
 pub mod Names
 pub mod Listing
+pub mod Splitting
 pub mod inside

@@ -29,19 +29,23 @@ use Rattle.wap_dis.specs.Names.{name_of}
 abbrev pub hex_digit : ℕ → ℕ
 hex_digit value = if nat_lt value 10 then digit_zero + value else small_a - 10 + value
 
+-- a byte as two such digits
 abbrev pub hex_byte : ℕ → List ℕ
 hex_byte byte = hex_digit (byte / 16) ∷ hex_digit (byte % 16) ∷ []
 
+-- bytes, each as two digits, with nothing between them
 abbrev pub hex : List ℕ → List ℕ
 hex bytes = flat_map hex_byte bytes
 
--- the UTF-8 of a text, its control characters as dots
+-- a byte of UTF-8, a control character as a dot
 abbrev pub shown_byte : ℕ → ℕ
 shown_byte byte = if nat_lt byte space || (byte == delete) then full_stop else byte
 
+-- the UTF-8 of a text, its control characters as dots
 abbrev pub shown : List ℕ → List ℕ
 shown text = map shown_byte (encode_utf8_all text)
 
+-- a word with a space before it
 abbrev pub spaced : List ℕ → List ℕ
 spaced word = space ∷ word
 
@@ -51,6 +55,7 @@ line first words = first ++ (flat_map spaced words ++ line_feed ∷ [])
 
 -- ---- constants and pragmas
 
+-- the kind of a constant, and its value: a number as it is, all else by its bytes or its text
 abbrev pub constant_words : Constant → List (List ℕ)
 constant_words (Int8 number) = codes "int8" ∷ signed_decimal number ∷ []
 constant_words (Int16 number) = codes "int16" ∷ signed_decimal number ∷ []
@@ -60,9 +65,11 @@ constant_words (Utf8 text) = codes "utf8" ∷ shown text ∷ []
 constant_words Empty = codes "empty" ∷ []
 constant_words (Coded text) = codes "coded" ∷ hex text ∷ []
 
+-- the index of a constant, and its words
 abbrev pub constant_line : ℕ × Constant → List ℕ
 constant_line (index, constant) = line (codes "const") (decimal index ∷ constant_words constant)
 
+-- the kind of a pragma, and the indexes of its strings
 abbrev pub pragma_words : Pragma → List (List ℕ)
 pragma_words (Domain text) = codes "domain" ∷ decimal text ∷ []
 pragma_words (Path text) = codes "path" ∷ decimal text ∷ []
@@ -70,19 +77,22 @@ pragma_words (Property name content) = codes "property" ∷ decimal name ∷ dec
 pragma_words (Scheme name content scheme) =
     codes "scheme" ∷ decimal name ∷ decimal content ∷ decimal scheme ∷ []
 
+-- the place of a pragma, and its words
 abbrev pub pragma_line : ℕ × Pragma → List ℕ
 pragma_line (index, pragma) = line (codes "pragma") (decimal index ∷ pragma_words pragma)
 
 -- ---- functions
 
--- the first name of a function, or a dash
+-- the name of a function, or a dash where it has none
 abbrev pub name_word : Option (List ℕ) → List ℕ
 name_word None = codes "-"
 name_word (Some name) = shown name
 
+-- the name of the first entry for the function with this index
 abbrev pub first_name : List (ℕ × List ℕ) → ℕ → Option (List ℕ)
 first_name names index = lookup (λ other. other == index) names
 
+-- the index of a function, its first name, its counts, and the length of its code
 abbrev pub head_line : Unit → ℕ → Code → List ℕ
 head_line unit index function = line (codes "function") (
     decimal index ∷ name_word (first_name unit.names index) ∷
@@ -90,6 +100,7 @@ head_line unit index function = line (codes "function") (
     ∷ codes "size" ∷ decimal (length function.code) ∷ []
     )
 
+-- 1 where there is an operand, else 0
 abbrev pub is_there : Slot → ℕ
 is_there Absent = 0
 is_there Low = 1
@@ -100,14 +111,17 @@ is_there Word = 1
 abbrev pub operand_count : Row → ℕ
 operand_count row = is_there row.a + is_there row.b + is_there row.c
 
+-- the name of an instruction, and as many operands as it has
 abbrev pub instr_words : Row → Instr → List (List ℕ)
 instr_words row instr =
     take (1 + operand_count row)
     (name_of instr.name ∷ decimal instr.a ∷ decimal instr.b ∷ decimal instr.c ∷ [])
 
+-- the place of an instruction, and its words
 abbrev pub instr_line : ℕ → Row → Instr → List ℕ
 instr_line at row instr = line (decimal at) (instr_words row instr)
 
+-- a byte of code at its place
 abbrev pub byte_line : ℕ × ℕ → List ℕ
 byte_line (at, byte) = line (decimal at) (codes "BYTE" ∷ hex_byte byte ∷ [])
 
@@ -115,10 +129,12 @@ byte_line (at, byte) = line (decimal at) (codes "BYTE" ∷ hex_byte byte ∷ [])
 abbrev pub byte_lines : List ℕ → ℕ → List ℕ
 byte_lines code at = flat_map byte_line (enumerate_from at (drop at code))
 
+-- an instruction of this row that was read, or none
 abbrev pub read_whole : Row → Result Instr InstrFault → Option (Row × Instr)
 read_whole row (Ok instr) = Some (row, instr)
 read_whole row (Err fault) = None
 
+-- the instruction at a place whose byte is a code of this row
 abbrev pub whole_by : List ℕ → ℕ → Option Row → Option (Row × Instr)
 whole_by code at None = None
 whole_by code at (Some row) = read_whole row (read_row row code at)
@@ -139,17 +155,20 @@ code_from (suc left) code at =
     if nat_lt at (length code) then then_more code at (code_from left code) (whole_at code at)
     else []
 
+-- the line that begins a function, and those of its code
 abbrev pub function_lines : Unit → ℕ × Code → List ℕ
 function_lines unit (index, function) =
     head_line unit index function ++ code_from (length function.code) function.code 0
 
 -- ---- units
 
+-- the version byte of a unit, and the number of its character set
 abbrev pub unit_line : Unit → List ℕ
 unit_line unit =
     line (codes "unit")
     (codes "version" ∷ decimal unit.version ∷ codes "charset" ∷ decimal unit.charset ∷ [])
 
+-- the line of the unit, of each constant, of each pragma, and those of each function
 unfoldable pub listing : Unit → List ℕ
 listing unit =
     unit_line unit

@@ -6,6 +6,7 @@ use Rattle.wap_code.specs.declared.row.OpName.TheVariants as op
 use Rattle.wap_code.specs.contracts.row.OpName.{the_type}
 use denote.Enum.Bare.{sameb}
 
+-- the names of the instructions in the standard's notation
 abbrev pub names : List (OpName × List ℕ)
 names =
     (op.JumpFwS, codes "JUMP_FW_S") ∷
@@ -79,8 +80,10 @@ names =
     (op.Debug, codes "DEBUG") ∷
     []
 
+-- whether it is this instruction
 abbrev pub is_op : OpName → OpName → Bool
 is_op name other = sameb the_type other name
 
+-- the name of an instruction
 unfoldable pub name_of : OpName → List ℕ
 name_of name = unwrap_or (lookup (is_op name) names) []
