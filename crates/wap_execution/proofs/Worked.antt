@@ -15,7 +15,7 @@ use Rattle.wap_execution.specs.declared.library.HostOut.TheVariants as answer
 use Rattle.wap_execution.specs.Frames.{Frame}
 use Rattle.wap_execution.specs.Effects.{effect_of, effect_at}
 use Rattle.wap_execution.specs.Outcomes.{value, fatal, waits, stuck, Ended, Hosting, Setting}
-use Rattle.wap_execution.specs.Running.{forward, looping, run_by, enter, resumed, finished}
+use Rattle.wap_execution.specs.Running.{forward_by, looping_by, goes, enter, resumed, finished}
 
 here : Url
 here = record { scheme = None; host = None; port = None; path = []; query = None; fragment = None }
@@ -43,7 +43,7 @@ host = record {
 
 -- the state counts the instructions
 counted : Setting ℕ
-counted = record { limits = default_limits; host = host; tick = λ count. count + 1 }
+counted = record { limits = default_limits; host = host; tick = λ function count. count + 1 }
 
 first : Unit → Frame
 first unit = record {
@@ -59,51 +59,53 @@ ran functions turns = finished counted (first (unit_of functions) ∷ []) turns 
 -- a jump to the end
 ends_empty : ran (code (0x80 ∷ []) ∷ []) 5
     ≡ record { outcome = value (Str []); turns = 5; state = 1 }
-unfolding ran unit_of code first counted finished run_by looping forward effect_at
+unfolding ran unit_of code first counted finished goes looping_by forward_by effect_at
     effect_of row_of resumed
 ends_empty = refl
 
 -- a jump to itself with four turns: the fifth instruction finds none
 loops : ran (code (0xA0 ∷ []) ∷ []) 4 ≡ record { outcome = fatal Budget; turns = 0; state = 5 }
-unfolding ran unit_of code first counted finished run_by looping forward effect_at effect_of row_of
+unfolding ran unit_of code first counted finished goes looping_by forward_by effect_at effect_of
+    row_of
 loops = refl
 
 gives_seven : ran (code (0x50 ∷ 0x3A ∷ []) ∷ []) 0
     ≡ record { outcome = value (Int (pos 7)); turns = 0; state = 2 }
-unfolding ran unit_of code first counted finished run_by looping forward effect_at
+unfolding ran unit_of code first counted finished goes looping_by forward_by effect_at
     effect_of row_of resumed
 gives_seven = refl
 
 -- invalid && f(): f isn't called
 short : ran (code (0x18 ∷ 0x34 ∷ 0xC1 ∷ 0x60 ∷ 0x3A ∷ []) ∷ []) 0
     ≡ record { outcome = value Invalid; turns = 0; state = 3 }
-unfolding ran unit_of code first counted finished run_by looping forward effect_at
+unfolding ran unit_of code first counted finished goes looping_by forward_by effect_at
     effect_of row_of resumed
 short = refl
 
 -- 0 || "": the second operand counts
 second : ran (code (0x14 ∷ 0x35 ∷ 0xC2 ∷ 0x17 ∷ 0x36 ∷ 0x3A ∷ []) ∷ []) 0
     ≡ record { outcome = value (Boolean false); turns = 0; state = 5 }
-unfolding ran unit_of code first counted finished run_by looping forward effect_at
+unfolding ran unit_of code first counted finished goes looping_by forward_by effect_at
     effect_of row_of resumed
 second = refl
 
 -- a function that calls itself, and one that calls another and adds 1
 deep : ran (code (0x60 ∷ 0x3A ∷ []) ∷ []) 100
     ≡ record { outcome = fatal Depth; turns = 36; state = 64 }
-unfolding ran unit_of code first counted finished run_by looping forward effect_at
+unfolding ran unit_of code first counted finished goes looping_by forward_by effect_at
     effect_of row_of enter
 deep = refl
 
 calls_other : ran (code (0x61 ∷ 0x1B ∷ 0x3A ∷ []) ∷ code (0x50 ∷ 0x3A ∷ []) ∷ []) 1
     ≡ record { outcome = value (Int (pos 8)); turns = 0; state = 5 }
-unfolding ran unit_of code first counted finished run_by looping forward effect_at effect_of
+unfolding ran unit_of code first counted finished goes looping_by forward_by effect_at effect_of
     row_of enter resumed
 calls_other = refl
 
 -- missing operands
 underflow : ran (code (0x20 ∷ 0x3A ∷ []) ∷ []) 1 ≡ record { outcome = stuck; turns = 1; state = 1 }
-unfolding ran unit_of code first counted finished run_by looping forward effect_at effect_of row_of
+unfolding ran unit_of code first counted finished goes looping_by forward_by effect_at effect_of
+    row_of
 underflow = refl
 
 -- an alert in a called function: both frames wait, and go on with the answer
@@ -117,12 +119,12 @@ waiting = record (first (unit_of asking)) {
 } ∷ record (first (unit_of asking)) { place = 1 } ∷ []
 
 asks : ran asking 2 ≡ record { outcome = waits (Alert []) waiting; turns = 0; state = 3 }
-unfolding asking waiting ran unit_of code first counted host finished run_by looping forward
+unfolding asking waiting ran unit_of code first counted host finished goes looping_by forward_by
     effect_at effect_of row_of lib_args enter
 asks = refl
 
 answered : resumed counted waiting (Str []) 0 3
     ≡ record { outcome = value (Int (pos 2)); turns = 0; state = 6 }
-unfolding asking waiting unit_of code first counted host resumed run_by looping forward effect_at
-    effect_of row_of lib_args enter
+unfolding asking waiting unit_of code first counted host resumed goes looping_by forward_by
+    effect_at effect_of row_of lib_args enter
 answered = refl

@@ -33,6 +33,7 @@ use Rattle.wap_execution.specs.declared.action.Action.TheVariants.{
   Pass,
 }
 
+-- what the operation of a name does
 abbrev pub action_of : OpName → Action
 action_of op.JumpFw = Jump
 action_of op.JumpFwS = Jump

@@ -71,10 +71,12 @@ pub data Effect : Type 0 where
 
 -- ---- what an instruction needs
 
+-- by the operand on top, and those below it
 abbrev pub with_top : List Value → (Value → List Value → Effect) → Effect
 with_top [] next = stuck
 with_top (value ∷ operands) next = next value operands
 
+-- by a value that has to be there
 abbrev pub with_value : Option Value → (Value → Effect) → Effect
 with_value None next = stuck
 with_value (Some value) next = next value
@@ -84,17 +86,19 @@ abbrev pub with_kept : Result Value ValueFault → (Value → Effect) → Effect
 with_kept (Err fault) next = ends TooLong
 with_kept (Ok value) next = next value
 
--- so many operands, the last of which is on top
+-- by so many operands, the last of which is on top, and those below them
 abbrev pub with_arguments : ℕ → List Value → (List Value → List Value → Effect) → Effect
 with_arguments count operands next =
     if nat_le count (length operands)
     then next (reverse (take count operands)) (drop count operands)
     else stuck
 
+-- by a number that has to be there
 abbrev pub with_count : Option ℕ → (ℕ → Effect) → Effect
 with_count None next = stuck
 with_count (Some count) next = next count
 
+-- by two texts, a URL and a name, that have to be there
 abbrev pub with_texts : Option (List ℕ) → Option (List ℕ) → (List ℕ → List ℕ → Effect) → Effect
 with_texts None name next = stuck
 with_texts (Some url) None next = stuck
@@ -111,6 +115,7 @@ backward place instr variables operands =
 abbrev pub jumps_at : Value → Bool
 jumps_at value = option_map_or not (boolean_of value) true
 
+-- a value is stored in a variable that has to be there
 abbrev pub stored : ℕ → List Value → Value → List Value → ℕ → Effect
 stored index variables value operands next =
     if nat_lt index (length variables) then onward next (slice_set variables index value) operands
@@ -190,10 +195,12 @@ decided (Some truth) decides target next variables operands =
     if is_decided decides truth then onward target variables (Boolean truth ∷ operands)
     else onward next variables operands
 
+-- a jump on a condition, forward
 abbrev pub is_jump_unless : Action → Bool
 is_jump_unless JumpUnless = true
 is_jump_unless _ = false
 
+-- the effect of a short-circuit, by the instruction that was read after it
 abbrev pub pair_with : Frame → Bool → Action → Result Instr InstrFault → Effect
 pair_with frame decides action (Err fault) = stuck
 pair_with frame decides action (Ok jump) = if is_jump_unless action
@@ -201,6 +208,7 @@ pair_with frame decides action (Ok jump) = if is_jump_unless action
     decided (boolean_of value) decides (jump.next + jump.a) jump.next frame.variables operands)
     else stuck
 
+-- the same, by the row of the byte after the short-circuit
 abbrev pub pair_by : Frame → Bool → List ℕ → ℕ → Option Row → Effect
 pair_by frame decides code at None = stuck
 pair_by frame decides code at (Some row) =
@@ -213,10 +221,12 @@ effect_read string frame (ShortCircuit decides) instr =
     (row_of (slice_index (code_of frame.function) instr.next))
 effect_read string frame action instr = effect_of string frame action instr
 
+-- the effect of an action whose instruction was read
 abbrev pub effect_with : ℕ → Frame → Action → Result Instr InstrFault → Effect
 effect_with string frame action (Err fault) = stuck
 effect_with string frame action (Ok instr) = effect_read string frame action instr
 
+-- the effect of what begins with a byte of this row
 abbrev pub effect_by : ℕ → Frame → Option Row → Effect
 effect_by string frame None = stuck
 effect_by string frame (Some row) =

@@ -12,12 +12,17 @@ use Rattle.wap_code.specs.declared.unit.Constant.TheVariants.{Int8, Int16, Int32
 use Rattle.wap_code.specs.declared.unit.Constant.TheVariants.{Empty, Coded}
 use Rattle.wap_code.specs.Strings.{string_of}
 
--- a function of a unit, with the unit's URL and that of the unit that called it, if one did
-pub record Function : Type 0 where
-  pub unit : Unit
+-- a function of a script, with the script's URL and that of the script that called it, if one did;
+-- scripts are units, and in meanings of sources programs
+pub record FunctionOf (U : Type 0) : Type 0 where
+  pub unit : U
   pub base : Url
   pub referer : Option Url
   pub index : ℕ
+
+-- a function of a unit
+abbrev pub Function : Type 0
+Function = FunctionOf Unit
 
 -- a function at work: the place in its code where it goes on, its variables, and its operands, the
 -- topmost first
@@ -27,9 +32,11 @@ pub record Frame : Type 0 where
   pub variables : List Value
   pub operands : List Value
 
+-- the function as it stands in its unit, if it is one of the unit's
 abbrev pub code_at : Function → Option Code
 code_at function = slice_get function.unit.functions function.index
 
+-- the bytes of a function's code, and none where the unit has no such function
 abbrev pub code_of : Function → List ℕ
 code_of function = option_map_or (λ found. found.code) (code_at function) []
 
@@ -60,5 +67,6 @@ constant_of charset (Utf8 text) = option_map Str (string_of charset (Utf8 text))
 constant_of charset Empty = option_map Str (string_of charset Empty)
 constant_of charset (Coded bytes) = option_map Str (string_of charset (Coded bytes))
 
+-- the value of a unit's constant, if there is one with this index
 abbrev pub constant_at : Unit → ℕ → Option Value
 constant_at unit index = option_and_then (constant_of unit.charset) (slice_get unit.constants index)

@@ -13,11 +13,14 @@ use Rattle.wap_execution.specs.declared.found.Found.{Found}
 use Rattle.wap_execution.specs.declared.found.Found.TheVariants.{Callee, Not}
 use Rattle.wap_execution.specs.declared.library.HostOut.{HostOut}
 use Rattle.wap_execution.specs.declared.library.HostOut.TheVariants as answer
-use Rattle.wap_execution.specs.Frames.{Function, Frame, code_at, code_of, begun, pushed}
+use Rattle.wap_execution.specs.Frames.{FunctionOf, Function, Frame, code_at, code_of, begun}
+use Rattle.wap_execution.specs.Frames.{pushed}
 use Rattle.wap_execution.specs.Effects.{Called, local, library, external, Effect, onward, back}
 use Rattle.wap_execution.specs.Effects.{calls, returns, ends, stuck as nowhere, effect_at}
-use Rattle.wap_execution.specs.Outcomes.{Outcome, value, exit, fatal, waits, stuck, Ended, Setting}
+use Rattle.wap_execution.specs.Outcomes.{Outcome, value, exit, fatal, waits, stuck, Ended}
+use Rattle.wap_execution.specs.Outcomes.{SettingOf, Setting}
 
+-- a run ended so
 abbrev pub ended : {S : Type 0} → Outcome → ℕ → S → Ended S
 ended outcome turns state = record { outcome = outcome; turns = turns; state = state }
 
@@ -37,12 +40,21 @@ returned_by frames next (waits dialog inner) turns state =
     ended (waits dialog (inner ++ frames)) turns state
 returned_by frames next stuck turns state = ended stuck turns state
 
+-- what frames make of what they called
 abbrev pub returned : {S : Type 0} → List Frame → (Value → ℕ → S → Ended S) → Ended S → Ended S
 returned frames next call = returned_by frames next call.outcome call.turns call.state
 
 -- what a function comes to that is entered with arguments
+abbrev pub EnterOf : Type 0 → Type 0 → Type 0
+EnterOf U S = FunctionOf U → List Value → ℕ → S → Ended S
+
+-- the same of a function of a unit
 abbrev pub Enter : Type 0 → Type 0
-Enter S = Function → List Value → ℕ → S → Ended S
+Enter S = EnterOf Unit S
+
+-- what the calls of a function come to, after their turns
+abbrev pub Calls : Type 0 → Type 0
+Calls S = Called → List Value → ℕ → S → Ended S
 
 -- a frame goes on at a place with these variables and operands
 abbrev pub Onward : Type 0 → Type 0
@@ -50,13 +62,15 @@ Onward S = ℕ → List Value → List Value → ℕ → S → Ended S
 
 -- ---- calls
 
+-- what a call of a library comes to
 abbrev pub library_gave : {S : Type 0} → HostOut → ℕ → S → Ended S
 library_gave (answer.Value v) turns state = ended (value v) turns state
 library_gave (answer.Exit v) turns state = ended (exit v) turns state
 library_gave (answer.Fatal why) turns state = ended (fatal why) turns state
 library_gave (answer.Asks dialog) turns state = ended (waits dialog []) turns state
 
-abbrev pub entered : {S : Type 0} → Enter S → Url → List Value → Found Unit → ℕ → S → Ended S
+-- what a call of another script comes to, by what the host found
+abbrev pub entered : {U S : Type 0} → EnterOf U S → Url → List Value → Found U → ℕ → S → Ended S
 entered enter caller arguments (Callee unit base index) turns state =
     enter (record { unit = unit; base = base; referer = Some caller; index = index })
     arguments turns state
@@ -64,8 +78,7 @@ entered enter caller arguments (Not why) turns state = ended (fatal why) turns s
 
 -- what a call comes to, after its turn: by the functions at work, and by what a function comes to
 -- that is entered
-abbrev pub called : {S : Type 0} → Setting S → ℕ → Enter S → Function → Called → List Value
-    → ℕ → S → Ended S
+abbrev pub called : {U S : Type 0} → SettingOf U S → ℕ → EnterOf U S → FunctionOf U → Calls S
 called setting working enter function (local index) arguments turns state =
     if nat_le setting.limits.depth working then ended (fatal Depth) turns state
     else enter (record function { index = index }) arguments turns state
@@ -78,64 +91,88 @@ called setting working enter function (external url name) arguments turns state 
 
 -- ---- one frame
 
+-- a function at work at a place
 abbrev pub at_place : Function → ℕ → List Value → List Value → Frame
 at_place function place variables operands =
     record { function = function; place = place; variables = variables; operands = operands }
 
+-- what a frame's run depends on: how long Strings may be, what is done before each instruction, and
+-- what calls come to
+pub record Ways (S : Type 0) : Type 0 where
+  pub string : ℕ
+  pub tick : S → S
+  pub call : Calls S
+
 -- what an effect comes to: by how the frame goes on further on, and how it goes on back there
-abbrev pub followed : {S : Type 0} → Setting S → ℕ → Enter S → Function → Onward S → Onward S
-    → Effect → ℕ → S → Ended S
-followed setting working enter function on again (onward place variables operands) turns state =
+abbrev pub followed_by : {S : Type 0} → Calls S → Function → Onward S → Onward S → Effect → ℕ → S
+    → Ended S
+followed_by call function on again (onward place variables operands) turns state =
     on place variables operands turns state
-followed setting working enter function on again (back place variables operands) turns state =
+followed_by call function on again (back place variables operands) turns state =
     taking_turn turns state (λ left. again place variables operands left state)
-followed setting working enter function on again
-    (calls callee arguments place variables operands) turns state =
+followed_by call function on again (calls callee arguments place variables operands) turns state =
     taking_turn turns state (λ left.
     returned (at_place function place variables operands ∷ [])
     (λ v. on place variables (v ∷ operands))
-    (called setting working enter function callee arguments left state))
-followed setting working enter function on again (returns v) turns state =
-    ended (value v) turns state
-followed setting working enter function on again (ends why) turns state =
-    ended (fatal why) turns state
-followed setting working enter function on again nowhere turns state = ended stuck turns state
+    (call callee arguments left state))
+followed_by call function on again (returns v) turns state = ended (value v) turns state
+followed_by call function on again (ends why) turns state = ended (fatal why) turns state
+followed_by call function on again nowhere turns state = ended stuck turns state
 
 -- with so many bytes of the code left, those before the place are passed over; a function that
--- comes to its end gives ""
-unfoldable pub forward : {S : Type 0} → Setting S → ℕ → Enter S → Function → Onward S → ℕ → Onward S
-forward setting working enter function again zero place variables operands turns state =
+-- comes to its end gives "". What stands at a place is read there, whether an instruction of the
+-- code begins there or not: a jump into an instruction reads its bytes as others, where a machine
+-- over the list of a code's instructions would be stuck. In units that were verified no jump leads
+-- there, and both are the same.
+unfoldable pub forward_by : {S : Type 0} → Ways S → Function → Onward S → ℕ → Onward S
+forward_by ways function again zero place variables operands turns state =
     if place == length (code_of function) then ended (value (Str [])) turns state
     else ended stuck turns state
-forward setting working enter function again (suc left) place variables operands turns state =
+forward_by ways function again (suc left) place variables operands turns state =
     if place + suc left == length (code_of function)
-    then followed setting working enter function
-    (forward setting working enter function again left) again
-    (effect_at setting.limits.string (at_place function place variables operands)) turns
-    (setting.tick state)
-    else forward setting working enter function again left place variables operands turns state
+    then followed_by ways.call function (forward_by ways function again left) again
+    (effect_at ways.string (at_place function place variables operands)) turns (ways.tick state)
+    else forward_by ways function again left place variables operands turns state
 
 -- at most so many jumps back; no more are made than there are turns
-unfoldable pub looping : {S : Type 0} → Setting S → ℕ → Enter S → Function → ℕ → Onward S
-looping setting working enter function zero place variables operands turns state =
+unfoldable pub looping_by : {S : Type 0} → Ways S → Function → ℕ → Onward S
+looping_by ways function zero place variables operands turns state =
     ended (fatal Budget) turns state
-looping setting working enter function (suc jumps) place variables operands turns state =
-    forward setting working enter function (looping setting working enter function jumps)
+looping_by ways function (suc jumps) place variables operands turns state =
+    forward_by ways function (looping_by ways function jumps)
     (length (code_of function)) place variables operands turns state
 
--- a frame goes on, with so many functions at work
-unfoldable pub run_by : {S : Type 0} → Setting S → ℕ → Enter S → Frame → ℕ → S → Ended S
-run_by setting working enter frame turns state =
-    looping setting working enter frame.function
+-- a frame goes on; with one jump more than there are turns, the turns decide
+unfoldable pub goes : {S : Type 0} → Ways S → Frame → ℕ → S → Ended S
+goes ways frame turns state =
+    looping_by ways frame.function
     (suc turns) frame.place frame.variables frame.operands turns state
+
+-- ---- one frame among units, with so many functions at work
+
+-- what a frame's run depends on there
+abbrev pub ways_of : {S : Type 0} → Setting S → ℕ → Enter S → Function → Ways S
+ways_of setting working enter function = record {
+  string = setting.limits.string;
+  tick = setting.tick function;
+  call = called setting working enter function;
+}
+
+-- a frame goes on there
+abbrev pub run_by : {S : Type 0} → Setting S → ℕ → Enter S → Frame → ℕ → S → Ended S
+run_by setting working enter frame = goes (ways_of setting working enter frame.function) frame
 
 -- ---- all frames
 
+-- a function that is there is entered with as many arguments as it takes, and with others it is
+-- stuck
 abbrev pub began : {S : Type 0} → Setting S → ℕ → Enter S → Function → Option Code → List Value
     → ℕ → S → Ended S
 began setting working enter function None arguments turns state = ended stuck turns state
 began setting working enter function (Some code) arguments turns state =
-    run_by setting working enter (begun function code arguments) turns state
+    if length arguments == code.args
+    then run_by setting working enter (begun function code arguments) turns state
+    else ended stuck turns state
 
 -- a function is entered, and after it so many more may be; no host finds a function where none may
 -- be

@@ -1,9 +1,8 @@
 -- Runs do few instructions between turns.
 use Rattle.std.proofs.Common.{◌≡◌, ℕ, zero, suc, ◌+◌, ◌-◌, ◌*◌, ◌≤◌, Bool, true, false, eqb}
 use Rattle.std.proofs.Common.{leb, cond, List, [], ◌∷◌, ◌++◌, length, Option, Some, None}
-use Rattle.std.proofs.Common.{refl, sym, subst, zero-add, arith}
-use Rattle.std.specs.Prelude.{⊤, slice_get}
-use Rattle.std.specs.Option.{option_map_or}
+use Rattle.std.proofs.Common.{refl, sym, subst, zero-add, inl, inr, arith}
+use Rattle.std.proofs.lemmas.Bool.Decides.{eqb_tells}
 use Rattle.wap_base.specs.declared.limits.Limits.{Limits}
 use Rattle.wap_base.specs.declared.limits.TheConstants.{MOST_DEPTH}
 use Rattle.wap_value.specs.declared.value.Value.{Value}
@@ -21,14 +20,16 @@ use Rattle.wap_execution.specs.Effects.{calls, returns, ends, stuck as nowhere, 
 use Rattle.wap_execution.specs.Outcomes.{Outcome, value, exit, fatal, waits}
 use Rattle.wap_execution.specs.Outcomes.{stuck, Ended, Hosting, Setting}
 use Rattle.wap_execution.specs.Running.{ended, returned_by, Enter, Onward, library_gave, entered}
-use Rattle.wap_execution.specs.Running.{called, at_place, followed, forward, looping, run_by, began}
-use Rattle.wap_execution.specs.Running.{enter, run, resumed, finished}
-use Rattle.wap_execution_laws.specs.Settings.{Counted, longest_code, longest_with, counting}
+use Rattle.wap_execution.specs.Running.{called, at_place, run_by, began, enter, run, resumed}
+use Rattle.wap_execution.specs.Running.{finished, forward_by, looping_by, goes}
+use Rattle.wap_execution_laws.specs.Settings.{Counted, counting}
 use Rattle.wap_execution_laws.specs.Dialogs.{answered_by, continued, with_count}
-use Rattle.wap_execution_laws.specs.Bounds.{longest_of, started, most_instructions}
+use Rattle.wap_execution_laws.specs.Bounds.{started, most_instructions}
+use Rattle.wap_execution_laws.proofs.Parts.{followed, forward, looping}
 use Rattle.wap_execution_laws.proofs.GrowthLaws.{Grows, grows_keeps, continued_grows}
 use Rattle.wap_execution_laws.proofs.RunLaws.{Keeps, Follows, EnterFollows, OnwardFollows}
-use Rattle.wap_execution_laws.proofs.RunLaws.{forward_follows, looping_follows, enter_follows}
+use Rattle.wap_execution_laws.proofs.RunLaws.{followed_follows, forward_follows, looping_follows}
+use Rattle.wap_execution_laws.proofs.RunLaws.{enter_follows}
 use Rattle.wap_execution_laws.proofs.RunLaws.{resumed_follows, finished_follows}
 
 -- what a turn pays for
@@ -47,27 +48,13 @@ left_over longest (fatal why) = 0
 left_over longest (waits dialog frames) = room longest frames
 left_over longest stuck = 0
 
-abbrev IsShort : ℕ → CodeUnit → Type 0
-IsShort longest unit = longest_code unit.functions ≤ longest
-
-abbrev AllShort : ℕ → List Frame → Type 0
-AllShort longest frames = longest_of frames ≤ longest
-
-abbrev IsShortOutcome : ℕ → Outcome → Type 0
-IsShortOutcome longest (value v) = ⊤
-IsShortOutcome longest (exit v) = ⊤
-IsShortOutcome longest (fatal why) = ⊤
-IsShortOutcome longest (waits dialog frames) = AllShort longest frames
-IsShortOutcome longest stuck = ⊤
-
 -- with so many turns, and so many instructions done or paid for before
 record Spent {S : Type 0} (longest turns before : ℕ) (end : Ended (Counted S)) : Type 0 where
   fewer : end.turns ≤ turns
   few : end.state.instructions + left_over longest end.outcome + end.turns * each longest
       ≤ before + turns * each longest
-  short : IsShortOutcome longest end.outcome
 
--- where nothing longer is found by the end
+-- where no longer code has done an instruction by the end
 abbrev Spends : {S : Type 0} → ℕ → ℕ → ℕ → Ended (Counted S) → Type 0
 Spends longest turns before end = end.state.longest ≤ longest → Spent longest turns before end
 
@@ -79,19 +66,6 @@ room_joined longest (frame ∷ some) more = let rest = room_joined longest some 
 room_is : (longest : ℕ) (frames : List Frame) → room longest frames ≡ length frames * longest
 room_is longest [] = omega arith
 room_is longest (frame ∷ frames) = let rest = room_is longest frames in omega arith
-
-short_joined : (longest : ℕ) (some more : List Frame) → AllShort longest some
-    → AllShort longest more → AllShort longest (some ++ more)
-short_joined longest [] more all others = others
-short_joined longest (frame ∷ some) more all others =
-    let rest = short_joined longest some more (omega arith) others in omega arith
-
-short_among : (functions : List Code) (index : ℕ)
-    → length (option_map_or (λ (c : Code). c.code) (slice_get functions index) [])
-    ≤ longest_code functions
-short_among [] index = omega arith
-short_among (code ∷ more) zero = omega arith
-short_among (code ∷ more) (suc index) = let rest = short_among more index in omega arith
 
 module _ {S : Type 0} (limits : Limits) (host : Hosting S) (longest : ℕ) where
   abbrev State : Type 0
@@ -106,7 +80,6 @@ module _ {S : Type 0} (limits : Limits) (host : Hosting S) (longest : ℕ) where
   abbrev EnterSpends : Enter State → Type 0
   EnterSpends into =
       (function : Function) (arguments : List Value) (turns : ℕ) (counted : State)
-      → IsShort longest function.unit
       → Spends longest turns (counted.instructions + longest)
       (into function arguments turns counted)
 
@@ -122,16 +95,15 @@ module _ {S : Type 0} (limits : Limits) (host : Hosting S) (longest : ℕ) where
   later turns left before spent end fewer paid spends = record {
     fewer = let falls = spends.fewer in omega arith;
     few = let few = spends.few in omega arith;
-    short = spends.short;
   }
 
   still : (outcome : Outcome) (turns : ℕ) (counted : State) (more : ℕ)
-      → left_over longest outcome ≡ 0 → IsShortOutcome longest outcome
+      → left_over longest outcome ≡ 0
       → Spends longest turns (counted.instructions + more) (ended outcome turns counted)
-  still outcome turns counted more none short =
-      λ within. record { fewer = omega arith; few = omega arith; short = short }
+  still outcome turns counted more none =
+      λ within. record { fewer = omega arith; few = omega arith }
 
-  module _ (frames : List Frame) (all : AllShort longest frames)
+  module _ (frames : List Frame)
       (next : Value → ℕ → State → Ended State) (rest most : ℕ)
       (nexts : (v : Value) (turns : ℕ) (counted : State)
       → Spends longest turns (counted.instructions + rest) (next v turns counted))
@@ -162,7 +134,6 @@ module _ {S : Type 0} (limits : Limits) (host : Hosting S) (longest : ℕ) where
       few =
           let done = (spends within).few in
           let joined = room_joined longest waiting frames in omega arith;
-      short = short_joined longest waiting frames (spends within).short all;
     }
     returned_spends stuck left counted spends = λ within.
         later turns inner before spent (ended stuck left counted) fewer (omega arith)
@@ -172,27 +143,22 @@ module _ {S : Type 0} (limits : Limits) (host : Hosting S) (longest : ℕ) where
 
   library_spends : (gave : HostOut) (turns : ℕ) (counted : State)
       → Spends longest turns (counted.instructions + longest) (library_gave gave turns counted)
-  library_spends (answer.Value v) turns counted = still (value v) turns counted longest refl tt
-  library_spends (answer.Exit v) turns counted = still (exit v) turns counted longest refl tt
-  library_spends (answer.Fatal why) turns counted = still (fatal why) turns counted longest refl tt
+  library_spends (answer.Value v) turns counted = still (value v) turns counted longest refl
+  library_spends (answer.Exit v) turns counted = still (exit v) turns counted longest refl
+  library_spends (answer.Fatal why) turns counted = still (fatal why) turns counted longest refl
   library_spends (answer.Asks dialog) turns counted =
-      still (waits dialog []) turns counted longest refl (omega arith)
+      still (waits dialog []) turns counted longest refl
 
   module _ (working : ℕ) (into : Enter State) (intos : EnterSpends into)
-      (grow : EnterFollows Grows into) (function : Function)
-      (short : IsShort longest function.unit) where
-    -- what was found is noted
+      (grow : EnterFollows Grows into) (function : Function) where
     entered_spends : (arguments : List Value) (found : Found CodeUnit) (turns : ℕ) (counted : State)
-        (old : ℕ) → counted.longest ≡ longest_with old found
         → Spends longest turns (counted.instructions + longest)
         (entered into function.base arguments found turns counted)
-    entered_spends arguments (Callee unit base index) turns counted old noted = λ within.
-        let callee : Function =
-        record { unit = unit; base = base; referer = Some function.base; index = index } in
-        let grown = (grow callee arguments turns counted).kin in
-        intos callee arguments turns counted (omega arith) within
-    entered_spends arguments (Not why) turns counted old noted =
-        still (fatal why) turns counted longest refl tt
+    entered_spends arguments (Callee unit base index) turns counted =
+        intos (record { unit = unit; base = base; referer = Some function.base; index = index })
+        arguments turns counted
+    entered_spends arguments (Not why) turns counted =
+        still (fatal why) turns counted longest refl
 
     called_spends : (callee : Called) (arguments : List Value) (turns : ℕ) (counted : State)
         → Spends longest turns (counted.instructions + longest)
@@ -202,8 +168,8 @@ module _ {S : Type 0} (limits : Limits) (host : Hosting S) (longest : ℕ) where
         Spends longest turns (counted.instructions + longest) (cond b
         (ended (fatal Depth) turns counted)
         (into (record function { index = index }) arguments turns counted))) [
-          | true ↦ still (fatal Depth) turns counted longest refl tt
-          | false ↦ intos (record function { index = index }) arguments turns counted short
+          | true ↦ still (fatal Depth) turns counted longest refl
+          | false ↦ intos (record function { index = index }) arguments turns counted
         ]
     called_spends (library number index) arguments turns counted =
         let gave =
@@ -212,10 +178,7 @@ module _ {S : Type 0} (limits : Limits) (host : Hosting S) (longest : ℕ) where
     called_spends (external url name) arguments turns counted =
         let found =
         host.external counted.state function.base url name (length arguments) working in
-        entered_spends arguments found.0 turns (record counted {
-          state = found.1;
-          longest = longest_with counted.longest found.0;
-        }) counted.longest refl
+        entered_spends arguments found.0 turns (record counted { state = found.1 })
 
     -- ---- one frame
 
@@ -227,7 +190,7 @@ module _ {S : Type 0} (limits : Limits) (host : Hosting S) (longest : ℕ) where
     followed_spends left on again ons on_grow agains few (onward place variables operands) turns
         counted = ons place variables operands turns counted
     followed_spends left on again ons on_grow agains few (back place variables operands) zero
-        counted = still (fatal Budget) 0 counted left refl tt
+        counted = still (fatal Budget) 0 counted left refl
     followed_spends left on again ons on_grow agains few (back place variables operands) (suc turns)
         counted = λ within.
         later (suc turns) turns (counted.instructions + left) (counted.instructions + longest)
@@ -235,11 +198,11 @@ module _ {S : Type 0} (limits : Limits) (host : Hosting S) (longest : ℕ) where
         (agains place variables operands turns counted within)
     followed_spends left on again ons on_grow agains few
         (calls callee arguments place variables operands) zero counted =
-        still (fatal Budget) 0 counted left refl tt
+        still (fatal Budget) 0 counted left refl
     followed_spends left on again ons on_grow agains few
         (calls callee arguments place variables operands) (suc turns) counted =
         let call = called setting working into function callee arguments turns counted in
-        returned_spends (at_place function place variables operands ∷ []) (omega arith)
+        returned_spends (at_place function place variables operands ∷ [])
         (λ v. on place variables (v ∷ operands)) left longest
         (λ v turns counted. ons place variables (v ∷ operands) turns counted)
         (λ v turns counted. on_grow place variables (v ∷ operands) turns counted)
@@ -247,107 +210,106 @@ module _ {S : Type 0} (limits : Limits) (host : Hosting S) (longest : ℕ) where
         turns (counted.instructions + longest) (omega arith) (omega arith)
         call.outcome call.turns call.state (called_spends callee arguments turns counted)
     followed_spends left on again ons on_grow agains few (returns v) turns counted =
-        still (value v) turns counted left refl tt
+        still (value v) turns counted left refl
     followed_spends left on again ons on_grow agains few (ends why) turns counted =
-        still (fatal why) turns counted left refl tt
+        still (fatal why) turns counted left refl
     followed_spends left on again ons on_grow agains few nowhere turns counted =
-        still stuck turns counted left refl tt
+        still stuck turns counted left refl
 
+    -- so many bytes are left; where an instruction was done, the code is no longer than the longest
     forward_spends : (again : Onward State) → OnwardSpends longest again
-        → OnwardFollows Grows again → (left : ℕ) → left ≤ longest
-        → OnwardSpends left (forward setting working into function again left)
-    unfolding forward
-    forward_spends again agains again_grow zero few place variables operands turns counted =
+        → OnwardFollows Grows again → (left most : ℕ)
+        → ((bytes : ℕ) → bytes ≤ left → bytes ≤ longest → bytes ≤ most)
+        → OnwardSpends most (forward setting working into function again left)
+    unfolding forward_by
+    forward_spends again agains again_grow zero most fits place variables operands turns counted =
         elim (eqb place (length (code_of function))) as (λ (b : Bool). Spends longest turns
-        (counted.instructions + 0)
+        (counted.instructions + most)
         (cond b (ended (value (Str [])) turns counted) (ended stuck turns counted))) [
-          | true ↦ still (value (Str [])) turns counted 0 refl tt
-          | false ↦ still stuck turns counted 0 refl tt
+          | true ↦ still (value (Str [])) turns counted most refl
+          | false ↦ still stuck turns counted most refl
         ]
-    forward_spends again agains again_grow (suc left) few place variables operands turns counted =
+    forward_spends again agains again_grow (suc left) most fits place variables operands turns
+        counted =
         let effect = effect_at limits.string (at_place function place variables operands) in
         let on = forward setting working into function again left in
-        let ons = forward_spends again agains again_grow left (omega arith) in
+        let ons = forward_spends again agains again_grow left left (λ bytes fewer short. fewer) in
         let on_grow =
         forward_follows setting Grows keeps working into grow function again again_grow left in
-        let ticked = setting.tick counted in
-        elim (eqb (place + suc left) (length (code_of function))) as (λ (b : Bool).
-        Spends longest turns (counted.instructions + suc left) (cond b
-        (followed setting working into function on again effect turns ticked)
-        (on place variables operands turns counted))) [
-          | true ↦
-              λ within.
-              later turns turns (counted.instructions + suc left)
-              (counted.instructions + 1 + left)
-              (followed setting working into function on again effect turns ticked)
-              (omega arith) (omega arith)
+        let ticked = setting.tick function counted in
+        let after = followed setting working into function on again effect turns ticked in
+        elim (eqb_tells (place + suc left) (length (code_of function))) [
+          | inl here ↦ rw (here.0) (λ within.
+              let grown = (followed_follows setting Grows keeps working into grow function on again
+              on_grow again_grow effect turns ticked).kin in
+              let same = here.1 in
+              let short : suc left ≤ longest = omega arith in
+              let room : suc left ≤ most = fits (suc left) (omega arith) short in
+              later turns turns (counted.instructions + most) (counted.instructions + 1 + left)
+              after (omega arith) (omega arith)
               (followed_spends left on again ons on_grow agains (omega arith) effect turns ticked
-              within)
-          | false ↦
-              λ within.
-              later turns turns (counted.instructions + suc left) (counted.instructions + left)
-              (on place variables operands turns counted) (omega arith) (omega arith)
-              (ons place variables operands turns counted within)
+              within))
+          | inr apart ↦ rw (apart.0)
+              (forward_spends again agains again_grow left most
+              (λ bytes fewer short. fits bytes (omega arith) short)
+              place variables operands turns counted)
         ]
-
-    short_code : length (code_of function) ≤ longest
-    short_code =
-        let among = short_among function.unit.functions function.index in omega arith
 
     looping_spends : (jumps : ℕ)
         → OnwardSpends longest (looping setting working into function jumps)
-    unfolding looping
+    unfolding looping_by
     looping_spends zero place variables operands turns counted =
-        still (fatal Budget) turns counted longest refl tt
-    looping_spends (suc jumps) place variables operands turns counted = λ within.
-        let again = looping setting working into function jumps in
-        let code = length (code_of function) in
-        let few : code ≤ longest = short_code in
-        later turns turns (counted.instructions + longest) (counted.instructions + code)
-        (forward setting working into function again code place variables operands turns counted)
-        (omega arith) (omega arith)
-        (forward_spends again (looping_spends jumps)
-        (looping_follows setting Grows keeps working into grow function jumps) code few
-        place variables operands turns counted within)
+        still (fatal Budget) turns counted longest refl
+    looping_spends (suc jumps) place variables operands turns counted =
+        forward_spends (looping setting working into function jumps) (looping_spends jumps)
+        (looping_follows setting Grows keeps working into grow function jumps)
+        (length (code_of function)) longest (λ bytes fewer short. short)
+        place variables operands turns counted
 
   run_by_spends : (working : ℕ) (into : Enter State) → EnterSpends into → EnterFollows Grows into
-      → (frame : Frame) (turns : ℕ) (counted : State) → IsShort longest frame.function.unit
+      → (frame : Frame) (turns : ℕ) (counted : State)
       → Spends longest turns (counted.instructions + longest)
       (run_by setting working into frame turns counted)
-  unfolding run_by
-  run_by_spends working into intos grow frame turns counted short =
-      looping_spends working into intos grow frame.function short
+  unfolding goes
+  run_by_spends working into intos grow frame turns counted =
+      looping_spends working into intos grow frame.function
       (suc turns) frame.place frame.variables frame.operands turns counted
 
   -- ---- all frames
 
   began_spends : (working : ℕ) (into : Enter State) → EnterSpends into → EnterFollows Grows into
       → (function : Function) (code : Option Code) (arguments : List Value) (turns : ℕ)
-      (counted : State) → IsShort longest function.unit
+      (counted : State)
       → Spends longest turns (counted.instructions + longest)
       (began setting working into function code arguments turns counted)
-  began_spends working into intos grow function None arguments turns counted short =
-      still stuck turns counted longest refl tt
-  began_spends working into intos grow function (Some code) arguments turns counted short =
-      run_by_spends working into intos grow (begun function code arguments) turns counted short
+  began_spends working into intos grow function None arguments turns counted =
+      still stuck turns counted longest refl
+  began_spends working into intos grow function (Some code) arguments turns counted =
+      elim (eqb (length arguments) code.args) as (λ (b : Bool).
+      Spends longest turns (counted.instructions + longest) (cond b
+      (run_by setting working into (begun function code arguments) turns counted)
+      (ended stuck turns counted))) [
+        | true ↦
+            run_by_spends working into intos grow (begun function code arguments) turns counted
+        | false ↦ still stuck turns counted longest refl
+      ]
 
   enter_spends : (more : ℕ) → EnterSpends (enter setting more)
   unfolding enter
-  enter_spends zero function arguments turns counted short =
-      still (fatal Depth) turns counted longest refl tt
-  enter_spends (suc more) function arguments turns counted short =
+  enter_spends zero function arguments turns counted =
+      still (fatal Depth) turns counted longest refl
+  enter_spends (suc more) function arguments turns counted =
       began_spends (MOST_DEPTH - more) (enter setting more) (enter_spends more)
       (enter_follows setting Grows keeps more) function (code_at function)
-      arguments turns counted short
+      arguments turns counted
 
   run_spends : (frame : Frame) (outer : List Frame) (turns : ℕ) (counted : State)
-      → IsShort longest frame.function.unit
       → Spends longest turns (counted.instructions + longest)
       (run setting frame outer turns counted)
-  run_spends frame outer turns counted short =
+  run_spends frame outer turns counted =
       let more = MOST_DEPTH - length (frame ∷ outer) in
       run_by_spends (length (frame ∷ outer)) (enter setting more) (enter_spends more)
-      (enter_follows setting Grows keeps more) frame turns counted short
+      (enter_follows setting Grows keeps more) frame turns counted
 
   abbrev ResumedSpends : List Frame → Type 0
   ResumedSpends frames =
@@ -357,34 +319,32 @@ module _ {S : Type 0} (limits : Limits) (host : Hosting S) (longest : ℕ) where
 
   -- the innermost frame, and then the others with its value
   outward_spends : (frame : Frame) (outer : List Frame) (turns : ℕ) (counted : State)
-      → AllShort longest (frame ∷ outer) → ResumedSpends outer
+      → ResumedSpends outer
       → let end = run setting frame outer turns counted in
       Spends longest turns (counted.instructions + room longest (frame ∷ outer))
       (returned_by outer (resumed setting outer) end.outcome end.turns end.state)
-  outward_spends frame outer turns counted all resumes =
+  outward_spends frame outer turns counted resumes =
       let end = run setting frame outer turns counted in
-      returned_spends outer (omega arith) (resumed setting outer)
+      returned_spends outer (resumed setting outer)
       (room longest outer) (room longest outer) resumes
       (resumed_follows setting Grows keeps outer) (omega arith) (omega arith)
       turns (counted.instructions + room longest (frame ∷ outer))
       turns (counted.instructions + longest) (omega arith) (omega arith)
-      end.outcome end.turns end.state (run_spends frame outer turns counted (omega arith))
+      end.outcome end.turns end.state (run_spends frame outer turns counted)
 
-  resumed_spends : (frames : List Frame) → AllShort longest frames → ResumedSpends frames
+  resumed_spends : (frames : List Frame) → ResumedSpends frames
   unfolding resumed
-  resumed_spends [] all v turns counted = still (value v) turns counted 0 refl tt
-  resumed_spends (frame ∷ outer) all v turns counted =
-      outward_spends (pushed v frame) outer turns counted all
-      (resumed_spends outer (omega arith))
+  resumed_spends [] v turns counted = still (value v) turns counted 0 refl
+  resumed_spends (frame ∷ outer) v turns counted =
+      outward_spends (pushed v frame) outer turns counted (resumed_spends outer)
 
   finished_spends : (frames : List Frame) (turns : ℕ) (counted : State)
-      → AllShort longest frames
       → Spends longest turns (counted.instructions + room longest frames)
       (finished setting frames turns counted)
   unfolding finished
-  finished_spends [] turns counted all = still stuck turns counted 0 refl tt
-  finished_spends (frame ∷ outer) turns counted all =
-      outward_spends frame outer turns counted all (resumed_spends outer (omega arith))
+  finished_spends [] turns counted = still stuck turns counted 0 refl
+  finished_spends (frame ∷ outer) turns counted =
+      outward_spends frame outer turns counted (resumed_spends outer)
 
   -- ---- after dialogs
 
@@ -398,14 +358,13 @@ module _ {S : Type 0} (limits : Limits) (host : Hosting S) (longest : ℕ) where
       let counted = with_count state end.state in
       let grown = (resumed_follows setting Grows keeps frames v end.turns counted).kin in
       let spent = spends (omega arith) in
-      let all : AllShort longest frames = subst (IsShortOutcome longest) is spent.short in
       let paid : end.state.instructions + room longest frames + end.turns * each longest
       ≤ before + turns * each longest =
       subst (λ (o : Outcome). end.state.instructions + left_over longest o
       + end.turns * each longest ≤ before + turns * each longest) is spent.few in
       later turns end.turns before (end.state.instructions + room longest frames)
       (resumed setting frames v end.turns counted) spent.fewer paid
-      (resumed_spends frames all v end.turns counted within)
+      (resumed_spends frames v end.turns counted within)
   answered_spends turns before v state end stuck is spends = spends
 
   continued_spends : (turns before : ℕ) (answers : List (Value × S)) (end : Ended State)
@@ -431,7 +390,7 @@ few_for working longest took turns left count over all paid =
 module _ {S : Type 0} (limits : Limits) (host : Hosting S) (frames : List Frame) (turns : ℕ)
     (state : S) (answers : List (Value × S)) where
   abbrev first : Ended (Counted S)
-  first = finished (counting limits host) frames turns (started frames state)
+  first = finished (counting limits host) frames turns (started state)
 
   abbrev last : Ended (Counted S)
   last = continued (counting limits host) with_count answers first
@@ -440,11 +399,11 @@ module _ {S : Type 0} (limits : Limits) (host : Hosting S) (frames : List Frame)
   spent =
       let longest = last.state.longest in
       let begins = (finished_follows (counting limits host) Grows (grows_keeps limits host)
-      frames turns (started frames state)).kin in
+      frames turns (started state)).kin in
       let goes_on = continued_grows limits host answers first in
       continued_spends limits host longest turns (room longest frames) answers first
       (subst (λ (n : ℕ). Spends longest turns n first) (zero-add (room longest frames))
-      (finished_spends limits host longest frames turns (started frames state) (omega arith)))
+      (finished_spends limits host longest frames turns (started state)))
       (omega arith)
 
   pub bounded : last.state.instructions

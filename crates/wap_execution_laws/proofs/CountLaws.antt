@@ -18,11 +18,12 @@ use Rattle.wap_execution.specs.Effects.{calls, returns, ends, stuck as nowhere, 
 use Rattle.wap_execution.specs.Outcomes.{Outcome, value, exit, fatal, waits}
 use Rattle.wap_execution.specs.Outcomes.{stuck, Ended, Hosting, Setting}
 use Rattle.wap_execution.specs.Running.{ended, returned_by, returned, Enter, Onward, library_gave}
-use Rattle.wap_execution.specs.Running.{entered, called, at_place, followed, forward, looping}
-use Rattle.wap_execution.specs.Running.{run_by, began, enter, run, resumed, finished}
-use Rattle.wap_execution_laws.specs.Settings.{uncounted, Counted, longest_with, counting}
+use Rattle.wap_execution.specs.Running.{entered, called, at_place, run_by, began, enter, run}
+use Rattle.wap_execution.specs.Running.{resumed, finished, forward_by, looping_by, goes}
+use Rattle.wap_execution_laws.specs.Settings.{uncounted, Counted, counting}
 use Rattle.wap_execution_laws.specs.Dialogs.{answered_by, continued, alone, with_count}
 use Rattle.wap_execution_laws.specs.Counts.{without_count, AgreesUncounted}
+use Rattle.wap_execution_laws.proofs.Parts.{followed, forward, looping}
 
 module _ {S : Type 0} (limits : Limits) (host : Hosting S) where
   abbrev State : Type 0
@@ -103,10 +104,7 @@ module _ {S : Type 0} (limits : Limits) (host : Hosting S) where
     called_same (external url name) arguments turns counted =
         let found =
         host.external counted.state function.base url name (length arguments) working in
-        entered_same arguments found.0 turns (record counted {
-          state = found.1;
-          longest = longest_with counted.longest found.0;
-        })
+        entered_same arguments found.0 turns (record counted { state = found.1 })
 
     -- ---- one frame
 
@@ -137,7 +135,7 @@ module _ {S : Type 0} (limits : Limits) (host : Hosting S) where
         → (left : ℕ)
         → SameOnward (forward with working into function again left)
         (forward without working into' function again' left)
-    unfolding forward
+    unfolding forward_by
     forward_same again again' agains zero place variables operands turns counted =
         elim (eqb place (length (code_of function))) as (λ (b : Bool). without_count
         (cond b (ended (value (Str [])) turns counted) (ended stuck turns counted))
@@ -151,13 +149,14 @@ module _ {S : Type 0} (limits : Limits) (host : Hosting S) where
         let on = forward with working into function again left in
         let on' = forward without working into' function again' left in
         elim (eqb (place + suc left) (length (code_of function))) as (λ (b : Bool). without_count
-        (cond b (followed with working into function on again effect turns (with.tick counted))
+        (cond b (followed with working into function on again effect turns
+        (with.tick function counted))
         (on place variables operands turns counted))
         ≡ cond b (followed without working into' function on' again' effect turns counted.state)
         (on' place variables operands turns counted.state)) [
           | true ↦
               followed_same on again on' again' (forward_same again again' agains left) agains
-              effect turns (with.tick counted)
+              effect turns (with.tick function counted)
           | false ↦
               forward_same again again' agains left place variables operands turns counted
         ]
@@ -165,7 +164,7 @@ module _ {S : Type 0} (limits : Limits) (host : Hosting S) where
     looping_same : (jumps : ℕ)
         → SameOnward (looping with working into function jumps)
         (looping without working into' function jumps)
-    unfolding looping
+    unfolding looping_by
     looping_same zero place variables operands turns counted = refl
     looping_same (suc jumps) place variables operands turns counted =
         forward_same (looping with working into function jumps)
@@ -174,7 +173,7 @@ module _ {S : Type 0} (limits : Limits) (host : Hosting S) where
 
   run_by_same : (working : ℕ) (into : Enter State) (into' : Enter S) → SameEnter into into'
       → (frame : Frame) → Same (run_by with working into frame) (run_by without working into' frame)
-  unfolding run_by
+  unfolding goes
   run_by_same working into into' intos frame turns counted =
       looping_same working into into' intos frame.function
       (suc turns) frame.place frame.variables frame.operands turns counted
@@ -185,7 +184,15 @@ module _ {S : Type 0} (limits : Limits) (host : Hosting S) where
       (began without working into' function code arguments)
   began_same working into into' intos function None arguments turns counted = refl
   began_same working into into' intos function (Some code) arguments turns counted =
-      run_by_same working into into' intos (begun function code arguments) turns counted
+      elim (eqb (length arguments) code.args) as (λ (b : Bool).
+      without_count (cond b
+      (run_by with working into (begun function code arguments) turns counted)
+      (ended stuck turns counted))
+      ≡ cond b (run_by without working into' (begun function code arguments) turns counted.state)
+      (ended stuck turns counted.state)) [
+        | true ↦ run_by_same working into into' intos (begun function code arguments) turns counted
+        | false ↦ refl
+      ]
 
   -- ---- all frames
 

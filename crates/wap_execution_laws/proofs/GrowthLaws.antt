@@ -1,32 +1,23 @@
 -- The longest code that is noted only grows.
-use Rattle.std.proofs.Common.{ℕ, ◌≤◌, List, [], ◌∷◌, arith}
+use Rattle.std.proofs.Common.{◌≤◌, List, [], ◌∷◌, arith}
 use Rattle.wap_base.specs.declared.limits.Limits.{Limits}
 use Rattle.wap_value.specs.declared.value.Value.{Value}
-use Rattle.wap_code.specs.declared.unit.Unit.{Unit as CodeUnit}
-use Rattle.wap_execution.specs.declared.found.Found.{Found}
-use Rattle.wap_execution.specs.declared.found.Found.TheVariants.{Callee, Not}
 use Rattle.wap_execution.specs.Outcomes.{Outcome, value, exit, fatal, waits}
 use Rattle.wap_execution.specs.Outcomes.{stuck, Ended, Hosting, Setting}
-use Rattle.wap_execution_laws.specs.Settings.{Counted, longest_with, counting}
+use Rattle.wap_execution_laws.specs.Settings.{Counted, counting}
 use Rattle.wap_execution_laws.specs.Dialogs.{answered_by, continued, with_count}
 use Rattle.wap_execution_laws.proofs.RunLaws.{Keeps, resumed_follows}
 
 abbrev pub Grows : {S : Type 0} → Counted S → Counted S → Type 0
 Grows one two = one.longest ≤ two.longest
 
-grows_with : (longest : ℕ) (found : Found CodeUnit) → longest ≤ longest_with longest found
-grows_with longest (Callee unit base index) = omega arith
-grows_with longest (Not why) = omega arith
-
 pub grows_keeps : {S : Type 0} (limits : Limits) (host : Hosting S)
     → Keeps (counting limits host) Grows
 grows_keeps limits host = record {
   same = λ counted. omega arith;
   chained = λ one two three some more. omega arith;
-  ticks = λ counted. omega arith;
-  external = λ counted caller url name count working.
-      grows_with counted.longest
-      (host.external counted.state caller url name count working).0;
+  ticks = λ function counted. omega arith;
+  external = λ counted caller url name count working. omega arith;
   library = λ counted base referer number index arguments. omega arith;
 }
 

@@ -21,13 +21,16 @@ use Rattle.wap_execution.specs.Effects.{Called, local, library, external, Effect
 use Rattle.wap_execution.specs.Effects.{calls, returns, ends, stuck as nowhere, effect_at}
 use Rattle.wap_execution.specs.Outcomes.{Outcome, value, exit, fatal, waits}
 use Rattle.wap_execution.specs.Outcomes.{stuck, Ended, Hosting, Setting}
-use Rattle.wap_execution.specs.Running.{ended, returned, Onward, library_gave, entered}
-use Rattle.wap_execution.specs.Running.{called, at_place, followed, forward, looping, run_by}
-use Rattle.wap_execution.specs.Running.{began, enter, run, resumed, finished}
+use Rattle.wap_execution.specs.Running.{ended, returned, Onward, library_gave, entered, called}
+use Rattle.wap_execution.specs.Running.{at_place, began, enter, run, resumed, finished, forward_by}
+use Rattle.wap_execution.specs.Running.{looping_by, goes}
 use Rattle.wap_execution_laws.specs.Settings.{uncounted}
 use Rattle.wap_execution_laws.specs.Keyed.{Answering, answered_in, keyed, gone_on}
 use Rattle.wap_execution_laws.specs.Keyed.{answered_each, AgreesKeyed}
-use Rattle.wap_execution_laws.proofs.PlaceLaws.{IsBehind, calls_behind}
+use Rattle.wap_execution_laws.specs.Keyed.{unrolled_by, GoesOnKeyed}
+use Rattle.wap_execution_laws.proofs.Parts.{followed, forward, looping}
+use Rattle.wap_execution_laws.proofs.RunLaws.{Any, any_keeps, resumed_follows, finished_follows}
+use Rattle.wap_execution_laws.proofs.PlaceLaws.{IsBehind, leads_behind}
 use Rattle.wap_execution_laws.proofs.FrameLaws.{inner, call_whole, enters}
 
 -- nothing waits
@@ -114,10 +117,22 @@ module _ {S : Type 0} (limits : Limits) (host : Hosting S) (answering : Answerin
               turns) (began set (MOST_DEPTH - less) (enter set less) function c arguments turns))
               (sym found) (stays more stuck turns state tt))
           by (suc less) is (Some code) found =
-              enters set' frames function code arguments turns state (omega arith) found
-              ∙ runs frames alike (begun function code arguments) more turns state few (omega arith)
-              ∙ ap (λ (end : Ended S). each more end)
-              (sym (enters set frames function code arguments turns state (omega arith) found))
+              elim (eqb_tells (length arguments) code.args) [
+                | inl many ↦
+                    enters set' frames function code arguments turns state (omega arith) found
+                    many.1
+                    ∙ runs frames alike (begun function code arguments) more turns state few
+                    (omega arith)
+                    ∙ ap (λ (end : Ended S). each more end)
+                    (sym (enters set frames function code arguments turns state (omega arith)
+                    found many.1))
+                | inr other ↦ at (suc less) is
+                    (subst (λ (c : Option Code).
+                    Same state (began set' (MOST_DEPTH - less) (enter set' less) function c
+                    arguments turns)
+                    (began set (MOST_DEPTH - less) (enter set less) function c arguments turns))
+                    (sym found) (rw (other.0) (stays more stuck turns state tt)))
+              ]
 
       -- what the state answers
       answer_alike : (gave : HostOut) (less : ℕ) (state : S) → turns ≤ less
@@ -203,7 +218,7 @@ module _ {S : Type 0} (limits : Limits) (host : Hosting S) (answering : Answerin
 
       followed_alike : (jumps rest : ℕ) → AlikeOn jumps (again set' jumps) (again set jumps)
           → AlikeOn (suc jumps) (on set' jumps rest) (on set jumps rest)
-          → (at : ℕ) (effect : Effect) → IsBehind at (length (code_of function)) effect
+          → (at : ℕ) (effect : Effect) → IsBehind at effect
           → at + suc rest ≡ length (code_of function)
           → (more turns : ℕ) (state : S) → turns < suc most → turns ≤ jumps → turns ≤ more
           → returned outer (resumed set' outer) (followed set' working (inner set' working) function
@@ -222,15 +237,14 @@ module _ {S : Type 0} (limits : Limits) (host : Hosting S) (answering : Answerin
           behind here more zero state few fits enough = stays more (fatal Budget) 0 state tt
       followed_alike jumps rest agains ons at (calls callee arguments place variables operands)
           behind here more (suc turns) state few fits enough =
-          let further : at < place = behind.0 in
-          let inside : place ≤ length (code_of function) = behind.1 in
+          let further : at < place = behind in
           let new = at_place function place variables operands in
           call_whole set' function outer jumps rest place turns callee arguments variables operands
-          state (omega arith) inside (omega arith)
+          state (omega arith) (omega arith)
           ∙ called_alike (new ∷ outer) (one_more new outer alike) more turns
           (omega arith) enough function callee arguments state
           ∙ ap (λ (end : Ended S). each more end) (sym (call_whole set function outer jumps rest
-          place turns callee arguments variables operands state (omega arith) inside (omega arith)))
+          place turns callee arguments variables operands state (omega arith) (omega arith)))
       followed_alike jumps rest agains ons at (returns v) behind here more turns state few fits
           enough = alike v more turns state few enough
       followed_alike jumps rest agains ons at (ends why) behind here more turns state few fits
@@ -240,7 +254,7 @@ module _ {S : Type 0} (limits : Limits) (host : Hosting S) (answering : Answerin
 
       forward_alike : (jumps : ℕ) → AlikeOn jumps (again set' jumps) (again set jumps) → (rest : ℕ)
           → AlikeOn (suc jumps) (on set' jumps rest) (on set jumps rest)
-      unfolding forward
+      unfolding forward_by
       forward_alike jumps agains zero place variables operands more turns state few fits enough =
           elim (eqb place (length (code_of function))) as (λ (b : Bool).
           returned outer (resumed set' outer) (cond b (ended (value (Str [])) turns state)
@@ -256,14 +270,14 @@ module _ {S : Type 0} (limits : Limits) (host : Hosting S) (answering : Answerin
             | inl here ↦
                 rw (here.0) (followed_alike jumps rest agains
                 (forward_alike jumps agains rest) place (effect_at limits.string frame)
-                (calls_behind limits.string frame) here.1 more turns state few (omega arith) enough)
+                (leads_behind limits.string frame) here.1 more turns state few (omega arith) enough)
             | inr before ↦
                 rw (before.0) (forward_alike jumps agains rest place variables operands more turns
                 state few fits enough)
           ]
 
       looping_alike : (jumps : ℕ) → AlikeOn jumps (again set' jumps) (again set jumps)
-      unfolding looping
+      unfolding looping_by
       looping_alike zero place variables operands more turns state few fits enough =
           absurd (omega arith)
       looping_alike (suc jumps) place variables operands more turns state few fits enough =
@@ -271,7 +285,7 @@ module _ {S : Type 0} (limits : Limits) (host : Hosting S) (answering : Answerin
           (length (code_of function)) place variables operands more turns state few fits enough
 
   runs_alike : (most : ℕ) → AlikeRuns most
-  unfolding run_by
+  unfolding goes
   runs_alike zero outer alike frame more turns state few enough = absurd (omega arith)
   runs_alike (suc most) outer alike frame more turns state few enough =
       looping_alike most (runs_alike most) outer alike frame.function (suc turns)
@@ -297,4 +311,51 @@ module _ {S : Type 0} (limits : Limits) (host : Hosting S) (answering : Answerin
     resuming =
         λ frames v turns state.
         frames_alike (suc turns) frames v turns turns state (omega arith) (omega arith);
+  }
+
+  -- ---- one dialog
+
+  got_unrolls : (frames : List Frame) (gave : HostOut) (less turns : ℕ) (state : S)
+      → turns ≤ less
+      → gone_on set (each less) frames gave turns state
+      ≡ gone_on set' (λ end. end) frames gave turns state
+  got_unrolls frames (answer.Value v) less turns state enough =
+      sym (frames_alike (suc turns) frames v less turns state (omega arith) enough)
+  got_unrolls frames (answer.Exit v) less turns state enough = refl
+  got_unrolls frames (answer.Fatal why) less turns state enough = refl
+  got_unrolls frames (answer.Asks other) less turns state enough = refl
+
+  unrolls_by : (outcome : Outcome) (less turns : ℕ) (state : S) → turns ≤ less
+      → each (suc less) (ended outcome turns state)
+      ≡ unrolled_by set' answering outcome turns state
+  unrolls_by (value v) less turns state enough = refl
+  unrolls_by (exit v) less turns state enough = refl
+  unrolls_by (fatal why) less turns state enough = refl
+  unrolls_by (waits dialog frames) less turns state enough =
+      let gave = answering state dialog in
+      got_unrolls frames gave.0 less turns gave.1 enough
+  unrolls_by stuck less turns state enough = refl
+
+  finishes : (frames : List Frame) (more turns : ℕ) (state : S) → turns ≤ more
+      → finished set' frames turns state ≡ each more (finished set frames turns state)
+  unfolding finished
+  finishes [] more turns state enough = stays more stuck turns state tt
+  finishes (frame ∷ outer) more turns state enough =
+      runs_alike (suc turns) outer (frames_alike (suc turns) outer) frame more turns state
+      (omega arith) enough
+
+  pub goes_on : GoesOnKeyed limits host answering
+  goes_on = record {
+    finishing =
+        λ frames turns state.
+        let end = finished set frames turns state in
+        finishes frames (suc turns) turns state (omega arith)
+        ∙ unrolls_by end.outcome turns end.turns end.state
+        (finished_follows set Any (any_keeps set) frames turns state).turns_fall;
+    resuming =
+        λ frames v turns state.
+        let end = resumed set frames v turns state in
+        frames_alike (suc turns) frames v (suc turns) turns state (omega arith) (omega arith)
+        ∙ unrolls_by end.outcome turns end.turns end.state
+        (resumed_follows set Any (any_keeps set) frames v turns state).turns_fall;
   }

@@ -1,7 +1,12 @@
-pub mod BoundLaws
-pub mod GrowthLaws
-pub mod CountLaws
+pub mod Parts
+pub mod Going
 pub mod RunLaws
 pub mod FrameLaws
 pub mod PlaceLaws
+pub mod InstructionLaws
+pub mod GrowthLaws
+pub mod BoundLaws
+pub mod CountLaws
 pub mod KeyedLaws
+pub mod SimLaws
+pub mod ForgetLaws

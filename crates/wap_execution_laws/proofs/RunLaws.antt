@@ -1,10 +1,7 @@
--- What runs by the definitions don't depend on, and what they leave: how many bytes or jumps may be
--- left makes no difference where there are enough, and turns only fall.
-use Rattle.std.proofs.Common.{◌≡◌, ℕ, zero, suc, ◌+◌, ◌-◌, ◌<◌, ◌≤◌, Bool, true, false}
+-- What runs by the definitions leave: turns only fall, and states stay kin.
+use Rattle.std.proofs.Common.{ℕ, zero, suc, ◌+◌, ◌-◌, ◌≤◌, Bool, true, false}
 use Rattle.std.proofs.Common.{eqb, leb, cond, List, [], ◌∷◌, length, Option, Some, None}
-use Rattle.std.proofs.Common.{refl, sym, ap, ◌∙◌, inl, inr, arith}
-use Rattle.std.proofs.lemmas.Bool.{eq-eqb}
-use Rattle.std.proofs.lemmas.Bool.Decides.{eqb_tells}
+use Rattle.std.proofs.Common.{arith}
 use Rattle.wap_base.specs.declared.limits.TheConstants.{MOST_DEPTH}
 use Rattle.wap_value.specs.declared.value.Value.{Value}
 use Rattle.wap_value.specs.declared.value.Value.TheVariants.{Str}
@@ -21,68 +18,10 @@ use Rattle.wap_execution.specs.Effects.{Called, local, library, external, Effect
 use Rattle.wap_execution.specs.Effects.{calls, returns, ends, stuck as nowhere, effect_at}
 use Rattle.wap_execution.specs.Outcomes.{Outcome, value, exit, fatal, waits, stuck, Ended, Setting}
 use Rattle.wap_execution.specs.Running.{ended, returned_by, Enter, Onward, library_gave, entered}
-use Rattle.wap_execution.specs.Running.{called, at_place, followed, forward, looping, run_by, began}
-use Rattle.wap_execution.specs.Running.{enter, run, resumed, finished}
-
--- ---- bytes that are left
-
-module _ {S : Type 0} (setting : Setting S) (working : ℕ) (into : Enter S) (function : Function)
-    (again : Onward S) where
-  -- what stands at the place decides, and not what is before it
-  pub forward_here : (left place : ℕ) (variables operands : List Value) (turns : ℕ) (state : S)
-      → place < length (code_of function) → length (code_of function) ≤ place + left
-      → forward setting working into function again left place variables operands turns state
-      ≡ followed setting working into function
-      (forward setting working into function again (length (code_of function) - place - 1)) again
-      (effect_at setting.limits.string (at_place function place variables operands)) turns
-      (setting.tick state)
-  unfolding forward
-  forward_here zero place variables operands turns state within covers = absurd (omega arith)
-  forward_here (suc left) place variables operands turns state within covers =
-      elim (eqb_tells (place + suc left) (length (code_of function))) [
-        | inl here ↦
-            let e : left ≡ length (code_of function) - place - 1 =
-            let same = here.1 in omega arith in
-            rw (here.0) (ap (λ (n : ℕ).
-            followed setting working into function
-            (forward setting working into function again n) again
-            (effect_at setting.limits.string (at_place function place variables operands)) turns
-            (setting.tick state)) e)
-        | inr before ↦
-            rw (before.0) (forward_here left place variables operands turns state within
-            (let apart = before.1 in omega arith))
-      ]
-
-  -- at the end the function gives ""
-  pub forward_end : (left place : ℕ) (variables operands : List Value) (turns : ℕ) (state : S)
-      → place ≡ length (code_of function)
-      → forward setting working into function again left place variables operands turns state
-      ≡ ended (value (Str [])) turns state
-  unfolding forward
-  forward_end zero place variables operands turns state at_end =
-      rw (eq-eqb place (length (code_of function)) at_end) refl
-  forward_end (suc left) place variables operands turns state at_end =
-      elim (eqb_tells (place + suc left) (length (code_of function))) [
-        | inl here ↦ let same = here.1 in absurd (omega arith)
-        | inr before ↦ rw (before.0) (forward_end left place variables operands turns state at_end)
-      ]
-
-  -- any two numbers that are enough are as good
-  pub forward_enough : (some other place : ℕ) (variables operands : List Value) (turns : ℕ)
-      (state : S) → place ≤ length (code_of function) → length (code_of function) ≤ place + some
-      → length (code_of function) ≤ place + other
-      → forward setting working into function again some place variables operands turns state
-      ≡ forward setting working into function again other place variables operands turns state
-  forward_enough some other place variables operands turns state within one two =
-      elim (eqb_tells place (length (code_of function))) [
-        | inl here ↦
-            forward_end some place variables operands turns state here.1
-            ∙ sym (forward_end other place variables operands turns state here.1)
-        | inr before ↦
-            let inside : place < length (code_of function) = let apart = before.1 in omega arith in
-            forward_here some place variables operands turns state inside one
-            ∙ sym (forward_here other place variables operands turns state inside two)
-      ]
+use Rattle.wap_execution.specs.Running.{called, at_place, run_by, began, enter, run, resumed}
+use Rattle.wap_execution.specs.Running.{finished, forward_by, looping_by, goes}
+use Rattle.wap_execution_laws.proofs.Parts.{followed, forward, looping}
+use Rattle.wap_execution_laws.proofs.Going.{TurnsFall}
 
 -- ---- turns only fall, and a state's kin are kept
 
@@ -90,7 +29,7 @@ module _ {S : Type 0} (setting : Setting S) (working : ℕ) (into : Enter S) (fu
 pub record Keeps {S : Type 0} (setting : Setting S) (Kin : S → S → Type 0) : Type 0 where
   pub same : (state : S) → Kin state state
   pub chained : (one two three : S) → Kin one two → Kin two three → Kin one three
-  pub ticks : (state : S) → Kin state (setting.tick state)
+  pub ticks : (function : Function) (state : S) → Kin state (setting.tick function state)
   pub external : (state : S) (caller : Url) (url name : List ℕ) (count working : ℕ)
       → Kin state (setting.host.external state caller url name count working).1
   pub library : (state : S) (base : Url) (referer : Option Url) (number index : ℕ)
@@ -139,7 +78,7 @@ module _ {S : Type 0} (setting : Setting S) (Kin : S → S → Type 0) (keeps : 
   returned_follows frames next nexts turns state stuck left later fewer kin =
       record { turns_fall = fewer; kin = kin }
 
-  library_follows : (gave : HostOut) (turns : ℕ) (state later : S) → Kin state later
+  pub library_follows : (gave : HostOut) (turns : ℕ) (state later : S) → Kin state later
       → Follows Kin turns state (library_gave gave turns later)
   library_follows (answer.Value v) turns state later kin =
       record { turns_fall = omega arith; kin = kin }
@@ -150,7 +89,7 @@ module _ {S : Type 0} (setting : Setting S) (Kin : S → S → Type 0) (keeps : 
   library_follows (answer.Asks dialog) turns state later kin =
       record { turns_fall = omega arith; kin = kin }
 
-  entered_follows : (into : Enter S) → EnterFollows Kin into → (caller : Url)
+  pub entered_follows : (into : Enter S) → EnterFollows Kin into → (caller : Url)
       (arguments : List Value) (found : Found CodeUnit) (turns : ℕ) (state later : S)
       → Kin state later
       → Follows Kin turns state (entered into caller arguments found turns later)
@@ -183,7 +122,7 @@ module _ {S : Type 0} (setting : Setting S) (Kin : S → S → Type 0) (keeps : 
 
   module _ (working : ℕ) (into : Enter S) (intos : EnterFollows Kin into)
       (function : Function) where
-    followed_follows : (on again : Onward S) → OnwardFollows Kin on → OnwardFollows Kin again
+    pub followed_follows : (on again : Onward S) → OnwardFollows Kin on → OnwardFollows Kin again
         → (effect : Effect) (turns : ℕ) (state : S)
         → Follows Kin turns state
         (followed setting working into function on again effect turns state)
@@ -211,7 +150,7 @@ module _ {S : Type 0} (setting : Setting S) (Kin : S → S → Type 0) (keeps : 
 
     pub forward_follows : (again : Onward S) → OnwardFollows Kin again → (left : ℕ)
         → OnwardFollows Kin (forward setting working into function again left)
-    unfolding forward
+    unfolding forward_by
     forward_follows again agains zero place variables operands turns state =
         elim (eqb place (length (code_of function))) as (λ (b : Bool). Follows Kin turns state
         (cond b (ended (value (Str [])) turns state) (ended stuck turns state))) [
@@ -223,21 +162,23 @@ module _ {S : Type 0} (setting : Setting S) (Kin : S → S → Type 0) (keeps : 
         elim (eqb (place + suc left) (length (code_of function))) as (λ (b : Bool).
         Follows Kin turns state (cond b
         (followed setting working into function
-        (forward setting working into function again left) again effect turns (setting.tick state))
+        (forward setting working into function again left) again effect turns
+        (setting.tick function state))
         (forward setting working into function again left place variables operands turns state))) [
           | true ↦
-              after_all turns turns state (setting.tick state) (followed setting working into
-              function (forward setting working into function again left) again effect turns
-              (setting.tick state))
-              (omega arith) (keeps.ticks state)
+              after_all turns turns state (setting.tick function state)
+              (followed setting working into function
+              (forward setting working into function again left) again effect turns
+              (setting.tick function state))
+              (omega arith) (keeps.ticks function state)
               (followed_follows (forward setting working into function again left) again
-              (forward_follows again agains left) agains effect turns (setting.tick state))
+              (forward_follows again agains left) agains effect turns (setting.tick function state))
           | false ↦ forward_follows again agains left place variables operands turns state
         ]
 
     pub looping_follows : (jumps : ℕ)
         → OnwardFollows Kin (looping setting working into function jumps)
-    unfolding looping
+    unfolding looping_by
     looping_follows zero place variables operands turns state = stays (fatal Budget) turns state
     looping_follows (suc jumps) place variables operands turns state =
         forward_follows (looping setting working into function jumps) (looping_follows jumps)
@@ -246,7 +187,7 @@ module _ {S : Type 0} (setting : Setting S) (Kin : S → S → Type 0) (keeps : 
   pub run_by_follows : (working : ℕ) (into : Enter S) → EnterFollows Kin into
       → (frame : Frame) (turns : ℕ) (state : S)
       → Follows Kin turns state (run_by setting working into frame turns state)
-  unfolding run_by
+  unfolding goes
   run_by_follows working into intos frame turns state =
       looping_follows working into intos frame.function
       (suc turns) frame.place frame.variables frame.operands turns state
@@ -256,7 +197,12 @@ module _ {S : Type 0} (setting : Setting S) (Kin : S → S → Type 0) (keeps : 
       → Follows Kin turns state (began setting working into function code arguments turns state)
   began_follows working into intos function None arguments turns state = stays stuck turns state
   began_follows working into intos function (Some code) arguments turns state =
-      run_by_follows working into intos (begun function code arguments) turns state
+      elim (eqb (length arguments) code.args) as (λ (b : Bool). Follows Kin turns state (cond b
+      (run_by setting working into (begun function code arguments) turns state)
+      (ended stuck turns state))) [
+        | true ↦ run_by_follows working into intos (begun function code arguments) turns state
+        | false ↦ stays stuck turns state
+      ]
 
   pub enter_follows : (more : ℕ) → EnterFollows Kin (enter setting more)
   unfolding enter
@@ -291,8 +237,6 @@ module _ {S : Type 0} (setting : Setting S) (Kin : S → S → Type 0) (keeps : 
       returned_follows outer (resumed setting outer) (resumed_follows outer)
       turns state end.outcome end.turns end.state follows.turns_fall follows.kin
 
--- ---- jumps that are left
-
 -- only turns count
 abbrev pub Any : {S : Type 0} → S → S → Type 0
 Any one two = Unit {0}
@@ -301,88 +245,15 @@ pub any_keeps : {S : Type 0} (setting : Setting S) → Keeps setting Any
 any_keeps setting = record {
   same = λ state. tt;
   chained = λ one two three some other. tt;
-  ticks = λ state. tt;
+  ticks = λ function state. tt;
   external = λ state caller url name count working. tt;
   library = λ state base referer number index arguments. tt;
 }
 
-module _ {S : Type 0} (setting : Setting S) (working : ℕ) (into : Enter S)
-    (intos : EnterFollows Any into) (function : Function) where
-  -- both do the same with fewer than so many turns
-  abbrev Alike : ℕ → Onward S → Onward S → Type 0
-  Alike turns some other =
-      (place : ℕ) (variables operands : List Value) (left : ℕ) (state : S) → left < turns
-      → some place variables operands left state ≡ other place variables operands left state
-
-  returned_same : (frames : List Frame) (some other : Value → ℕ → S → Ended S) (turns : ℕ)
-      → ((v : Value) (left : ℕ) (state : S) → left < turns → some v left state ≡ other v left state)
-      → (outcome : Outcome) (left : ℕ) (state : S) → left < turns
-      → returned_by frames some outcome left state ≡ returned_by frames other outcome left state
-  returned_same frames some other turns alike (value v) left state fewer = alike v left state fewer
-  returned_same frames some other turns alike (exit v) left state fewer = refl
-  returned_same frames some other turns alike (fatal why) left state fewer = refl
-  returned_same frames some other turns alike (waits dialog inner) left state fewer = refl
-  returned_same frames some other turns alike stuck left state fewer = refl
-
-  followed_same : (turns : ℕ) (on on' again again' : Onward S) → Alike (suc turns) on on'
-      → Alike turns again again' → (effect : Effect) (state : S)
-      → followed setting working into function on again effect turns state
-      ≡ followed setting working into function on' again' effect turns state
-  followed_same turns on on' again again' ons agains (onward place variables operands) state =
-      ons place variables operands turns state (omega arith)
-  followed_same zero on on' again again' ons agains (back place variables operands) state = refl
-  followed_same (suc left) on on' again again' ons agains (back place variables operands) state =
-      agains place variables operands left state (omega arith)
-  followed_same zero on on' again again' ons agains
-      (calls callee arguments place variables operands) state = refl
-  followed_same (suc left) on on' again again' ons agains
-      (calls callee arguments place variables operands) state =
-      let call = called setting working into function callee arguments left state in
-      let follows =
-      called_follows setting Any
-      (any_keeps setting) working into intos function callee arguments left state in
-      returned_same (at_place function place variables operands ∷ []) (λ v.
-      on place variables (v ∷ operands)) (λ v. on' place variables (v ∷ operands)) (suc (suc left))
-      (λ v fewer later less. ons place variables (v ∷ operands) fewer later less)
-      call.outcome call.turns call.state (let falls = follows.turns_fall in omega arith)
-  followed_same turns on on' again again' ons agains (returns v) state = refl
-  followed_same turns on on' again again' ons agains (ends why) state = refl
-  followed_same turns on on' again again' ons agains nowhere state = refl
-
-  forward_same : (turns : ℕ) (again again' : Onward S) → Alike turns again again' → (left : ℕ)
-      → Alike (suc turns) (forward setting working into function again left)
-      (forward setting working into function again' left)
-  unfolding forward
-  forward_same turns again again' agains zero place variables operands few state less = refl
-  forward_same turns again again' agains (suc left) place variables operands few state less =
-      let effect = effect_at setting.limits.string (at_place function place variables operands) in
-      elim (eqb (place + suc left) (length (code_of function))) as (λ (b : Bool). cond b
-      (followed setting working into function
-      (forward setting working into function again left) again effect few (setting.tick state))
-      (forward setting working into function again left place variables operands few state)
-      ≡ cond b
-      (followed setting working into function
-      (forward setting working into function again' left) again' effect few (setting.tick state))
-      (forward setting working into function again' left place variables operands few state)) [
-        | true ↦
-            followed_same few (forward setting working into function again left)
-            (forward setting working into function again' left) again again'
-            (λ p v o t s fewer. forward_same turns again again' agains left p v o t s (omega arith))
-            (λ p v o t s fewer. agains p v o t s (omega arith)) effect (setting.tick state)
-        | false ↦
-            forward_same turns again again' agains left place variables operands few state less
-      ]
-
-  -- more jumps than turns change nothing
-  pub looping_same : (some other place : ℕ) (variables operands : List Value) (turns : ℕ)
-      (state : S) → turns < some → turns < other
-      → looping setting working into function some place variables operands turns state
-      ≡ looping setting working into function other place variables operands turns state
-  unfolding looping
-  looping_same zero other place variables operands turns state one two = absurd (omega arith)
-  looping_same (suc some) zero place variables operands turns state one two = absurd (omega arith)
-  looping_same (suc some) (suc other) place variables operands turns state one two =
-      forward_same turns (looping setting working into function some)
-      (looping setting working into function other)
-      (λ p v o t s fewer. looping_same some other p v o t s (omega arith) (omega arith))
-      (length (code_of function)) place variables operands turns state (omega arith)
+-- no call gives turns back
+pub calls_fall : {S : Type 0} (setting : Setting S) (working more : ℕ) (function : Function)
+    → TurnsFall (called setting working (enter setting more) function)
+calls_fall setting working more function callee arguments turns state =
+    let follows = called_follows setting Any (any_keeps setting) working (enter setting more)
+    (enter_follows setting Any (any_keeps setting) more) function callee arguments turns state in
+    follows.turns_fall

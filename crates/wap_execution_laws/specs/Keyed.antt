@@ -18,6 +18,7 @@ Answering S = S → Dialog → HostOut × S
 
 -- ---- in the state
 
+-- a dialog that a call asks is answered in the state
 abbrev pub answered_in : {S : Type 0} → Answering S → HostOut → S → HostOut × S
 answered_in answering (Value v) state = (Value v, state)
 answered_in answering (Exit v) state = (Exit v, state)
@@ -43,6 +44,7 @@ gone_on setting next frames (Exit v) turns state = ended (exit v) turns state
 gone_on setting next frames (Fatal why) turns state = ended (fatal why) turns state
 gone_on setting next frames (Asks dialog) turns state = ended (waits dialog frames) turns state
 
+-- a run that waits goes on with what its state answers, and from there as `next` says
 abbrev pub answered_once : {S : Type 0}
     → Setting S → Answering S → (Ended S → Ended S) → Outcome → ℕ → S → Ended S
 answered_once setting answering next (value v) turns state = ended (value v) turns state
@@ -72,4 +74,32 @@ pub record AgreesKeyed {S : Type 0} (limits : Limits) (host : Hosting S) (answer
   pub resuming : (frames : List Frame) (v : GivenValue) (turns : ℕ) (state : S)
       → resumed (uncounted limits (keyed answering host)) frames v turns state
       ≡ answered_each (uncounted limits host) answering turns
+      (resumed (uncounted limits host) frames v turns state)
+
+-- ---- one dialog from outside, and the further ones in the state
+
+-- a run that waits goes on with what its state answers, and from there in another setting
+abbrev pub unrolled_by : {S : Type 0} → Setting S → Answering S → Outcome → ℕ → S → Ended S
+unrolled_by further answering (value v) turns state = ended (value v) turns state
+unrolled_by further answering (exit v) turns state = ended (exit v) turns state
+unrolled_by further answering (fatal why) turns state = ended (fatal why) turns state
+unrolled_by further answering (waits dialog frames) turns state =
+    let gave = answering state dialog in gone_on further (λ end. end) frames gave.0 turns gave.1
+unrolled_by further answering stuck turns state = ended stuck turns state
+
+-- the same of the end of a run
+abbrev pub unrolled : {S : Type 0} → Setting S → Answering S → Ended S → Ended S
+unrolled further answering end = unrolled_by further answering end.outcome end.turns end.state
+
+-- where the state answers dialogs, a run comes to what it comes to where its first dialog is
+-- answered from outside and the further ones in the state
+pub record GoesOnKeyed {S : Type 0} (limits : Limits) (host : Hosting S) (answering : Answering S)
+    : Type 0 where
+  pub finishing : (frames : List Frame) (turns : ℕ) (state : S)
+      → finished (uncounted limits (keyed answering host)) frames turns state
+      ≡ unrolled (uncounted limits (keyed answering host)) answering
+      (finished (uncounted limits host) frames turns state)
+  pub resuming : (frames : List Frame) (v : GivenValue) (turns : ℕ) (state : S)
+      → resumed (uncounted limits (keyed answering host)) frames v turns state
+      ≡ unrolled (uncounted limits (keyed answering host)) answering
       (resumed (uncounted limits host) frames v turns state)

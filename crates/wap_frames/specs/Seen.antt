@@ -13,6 +13,7 @@ use Rattle.wap_frames.specs.declared.next.Callee.TheVariants.{Local, Library, Ex
 use Rattle.wap_frames.specs.declared.next.Next.{Next}
 use Rattle.wap_frames.specs.declared.next.Next.TheVariants.{Onward, Back, Call, Return, End}
 
+-- a function of a unit, by its index
 abbrev pub function_in : Unit → Url → Option Url → ℕ → Function
 function_in unit base referer index = record {
   unit = unit;
@@ -34,18 +35,21 @@ frame_of function place variables items = record {
   operands = reverse items;
 }
 
+-- what is called, without the rows of the code
 abbrev pub called_of : Callee → Called
 called_of (Local index) = local index
 called_of (Library number index) = library number index
 called_of (External url name) = external url name
 
--- the frame at another place, and with another variable or other operands
+-- the frame at another place
 abbrev pub moved : ℕ → Frame → Frame
 moved place frame = record frame { place = place }
 
+-- the frame with a value stored in a variable
 abbrev pub with_variable : ℕ → Value → Frame → Frame
 with_variable index value frame = record frame { variables = slice_set frame.variables index value }
 
+-- the frame with other operands
 abbrev pub with_operands : List Value → Frame → Frame
 with_operands operands frame = record frame { operands = operands }
 

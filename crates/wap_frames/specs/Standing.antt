@@ -38,6 +38,7 @@ pub record IsBegun (function : Function) (arguments : List Value) (frame : Frame
 
 -- ---- effects
 
+-- a function of the unit can be entered, and one of a library takes so many arguments
 abbrev pub CanCall : Function → Called → List Value → Type 0
 CanCall function (local index) arguments = CanEnter (record function { index = index }) arguments
 CanCall function (library number index) arguments = lib_args number index ≡ Some (length arguments)
@@ -48,6 +49,7 @@ pub record Onwards (place : ℕ) (new : Frame) (coming : ℕ) : Type 0 where
   pub further : place < new.place
   pub stands : Stands new coming
 
+-- an effect leads on only to where a frame stands that can make the call, and nothing is missing
 abbrev pub Fits : Frame → Effect → Type 0
 Fits frame (onward place variables operands) =
     Onwards frame.place (at_place frame.function place variables operands) 0

@@ -19,7 +19,7 @@ told_bounded {S} meaning machine turns (Some state) outcome left later told =
     let end : Ended (Counted S) = counted_run_of machine meaning turns state in
     let same : end.turns ≡ left =
     ap (λ (e : Ended S). e.turns) ((agrees machine.limits meaning).finishing
-    machine.frames turns (started machine.frames state) [])
+    machine.frames turns (started state) [])
     ∙ sym told.turns_are in
     subst (λ (n : ℕ). end.state.instructions
     ≤ most_instructions (length machine.frames) (turns - n) end.state.longest) same

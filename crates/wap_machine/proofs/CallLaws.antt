@@ -50,7 +50,7 @@ module _ {S : Type 0} (set : Setting S) where
       (inner set (length frames) function arguments turns state)
       ≡ rest set step turns state
   into_same limits function arguments frames step turns state few goes =
-      enters set frames function goes.code arguments turns state few goes.found
+      enters set frames function goes.code arguments turns state few goes.found goes.many
       ∙ ap (λ (s : Step). rest set s turns state) (sym goes.is)
 
   pub local_same : (frame : Frame) (outer : List Frame) (index : ℕ) (arguments : List Value)

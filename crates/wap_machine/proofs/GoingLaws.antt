@@ -29,7 +29,6 @@ use Rattle.wap_machine.specs.inside.Goings.{HasPassed, Passed}
 use Rattle.wap_machine.specs.inside.Advances.{IsAdvanced}
 use Rattle.wap_machine.specs.inside.Steps.{rest, Same, calls_from}
 use Rattle.wap_machine.proofs.StepLaws.{
-  stays_inside,
   Kept,
   Turned,
   CanAsk,
@@ -134,8 +133,7 @@ module _ {S : Type 0} (limits : Limits) (meaning : Hosting S) where
   passed_same outer turns state first (frame ∷ frames) now are =
       passed_same outer turns state first frames frame are.1
       ∙ goes_onward set frame outer turns state are.0.within now are.0.acts.does.same
-      are.0.acts.does.is are.0.acts.fits.further
-      (stays_inside limits.string frame now Onward 0 are.0.acts are.0.acts.fits)
+      are.0.acts.does.is
 
   module _ (frames : List Frame) (turns : ℕ) (old : Option S) where
     abbrev before : S → Ended S

@@ -22,7 +22,7 @@ host_keeps limits meaning fetched external_grows library_grows = record {
   chained =
       λ one two three some more. grows_chained (uncounted limits meaning) fetched (fetched one)
       (fetched two) (fetched three) some more;
-  ticks = λ state. grows_same (uncounted limits meaning) fetched (fetched state);
+  ticks = λ function state. grows_same (uncounted limits meaning) fetched (fetched state);
   external = external_grows;
   library = library_grows;
 }

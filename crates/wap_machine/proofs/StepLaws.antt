@@ -75,7 +75,6 @@ module _ {S : Type 0} (limits : Limits) (meaning : Hosting S) where
             → finished set (frame ∷ outer) turns state ≡ rest set step turns state
         by next.Onward acts goes =
             goes_onward set frame outer turns state within new acts.does.same acts.does.is
-            acts.fits.further (stays_inside limits.string frame new next.Onward 0 acts acts.fits)
             ∙ ap (λ (s : Step). rest set s turns state)
             (sym (nothing_is step (Goes (stack limits (new ∷ outer))) goes))
         by next.Back acts goes = absurd (cc goes)
@@ -119,7 +118,7 @@ module _ {S : Type 0} (limits : Limits) (meaning : Hosting S) where
             → finished set (frame ∷ outer) turns state ≡ finished set machine.frames left state
         by next.Onward acts goes = absurd (cc goes)
         by next.Back acts goes =
-            goes_back set frame outer turns state within new acts.does.same left acts.does.is some
+            goes_back set frame outer turns state within new acts.does.same acts.does.is left some
             ∙ ap (λ (m : Stack). finished set m.frames left state)
             (sym (turn_is machine (stack limits (new ∷ outer)) goes))
         by (next.Call callee arguments) acts goes = absurd (cc goes)
@@ -174,8 +173,7 @@ module _ {S : Type 0} (limits : Limits) (meaning : Hosting S) where
         by next.Back acts goes = absurd (cc goes)
         by (next.Call other more) acts goes =
             makes_call set frame outer turns state within new acts.does.same
-            (called_of other) more.items acts.does.is left some acts.fits.0.further
-            (stays_inside limits.string frame new (next.Call other more) 1 acts acts.fits.0)
+            (called_of other) more.items acts.does.is left some
             ∙ sym (same_call waiting (stack limits (new ∷ outer)) callee other arguments more goes)
         by (next.Return v) acts goes = absurd (cc goes)
         by (next.End why) acts goes = absurd (cc goes)

@@ -36,17 +36,19 @@ abbrev pub IsCallable : ℕ → ℕ → Found Unit → Type 0
 IsCallable count depth (Callee unit base index) = CanBeCalled unit index count depth
 IsCallable count depth (Not why) = why ≢ Budget
 
+-- what a library answers isn't an end because turns ran out
 abbrev pub IsNoBudget : HostOut → Type 0
 IsNoBudget (Value value) = ⊤
 IsNoBudget (Exit value) = ⊤
 IsNoBudget (Fatal why) = why ≢ Budget
 IsNoBudget (Asks dialog) = ⊤
 
--- a count that was known is still known, and no lower
+-- a count is known, and no lower than this
 abbrev pub AtMost : ℕ → Option ℕ → Type 0
 AtMost count None = ⊥
 AtMost count (Some more) = count ≤ more
 
+-- a count that was known before is known after, and no lower
 abbrev pub Grows : Option ℕ → Option ℕ → Type 0
 Grows before after = IfSome before (λ count. AtMost count after)
 

@@ -32,9 +32,10 @@ run_of machine host = finished (uncounted machine.limits host) machine.frames
 -- the same run, with its instructions counted
 abbrev pub counted_run_of : {S : Type 0} → Stack → Hosting S → ℕ → S → Ended (Counted S)
 counted_run_of machine host turns state =
-    finished (counting machine.limits host) machine.frames turns (started machine.frames state)
+    finished (counting machine.limits host) machine.frames turns (started state)
 
--- it does no more instructions than the turns that it took allow, where so many are left
+-- it does no more instructions than the turns that it took allow, where so many are left, by the
+-- longest code among the functions that did one
 abbrev pub IsBounded : {S : Type 0} → Stack → Hosting S → ℕ → ℕ → S → Type 0
 IsBounded machine host turns left state =
     let end = counted_run_of machine host turns state in

@@ -73,6 +73,7 @@ pub record GoesInto
     (step : Step) : Type 0 where
   pub code : Code
   pub found : code_at function ≡ Some code
+  pub many : length arguments ≡ code.args
   pub is : step ≡ Goes (stack limits (begun function code arguments ∷ outer))
 
 -- a call of a function of the unit: it is entered, unless so many are at work
