@@ -126,6 +126,8 @@ impl Host<FailingPages> for SmallHost {
 
     ghost fetched = { λ state. None };
 
+    ghost kept = { λ one two. ⊤ };
+
     fn turn(&mut self) -> bool {
         if self.turns == 0 {
             return false;
@@ -175,6 +177,10 @@ impl Host<FailingPages> for SmallHost {
     }
 
     ghost counted = { λ host pages. tt };
+
+    ghost kept_still = { λ pages. tt };
+
+    ghost kept_then = { λ one two three first second. tt };
 
     ghost external_grows = { λ before caller target name count depth. tt };
 

@@ -1,5 +1,5 @@
 //! Calls that ask the host.
-ghost use Rattle.std.specs.Prelude.{◌≡◌, ◌<◌, ◌≤◌, length, IfOk, IsErrOf, IfSome};
+ghost use Rattle.std.specs.Prelude.{◌≡◌, ◌<◌, ◌≤◌, length, IfOk, OnOk, IsErrOf, IfSome};
 ghost use Rattle.wap_base.specs.Count.{Rose};
 ghost use Rattle.wap_execution.specs.Effects.{library, external};
 ghost use Rattle.wap_frames.specs.Seen.{called_of};
@@ -35,6 +35,8 @@ fn call_library<P, H: Host<P>>(
     ensures turns { H.turns host.new ≡ H.turns host.old }
     ensures grown { IfOk result (λ _. GrowsTold H.fetched
         (H.state host.old pages.old) (H.state host.new pages.new)) }
+    ensures kept { H.kept pages.old pages.new }
+    ensures steady { OnOk result (H.faults pages.new ≡ H.faults pages.old) }
     ensures faults { H.faults pages.old ≤ H.faults pages.new }
     ensures failed { IsErrOf result RunErr.Store
         → Rose (H.faults pages.old) (H.faults pages.new) }
@@ -69,6 +71,8 @@ fn call_external<P, H: Host<P>>(
     ensures turns { H.turns host.new ≡ H.turns host.old }
     ensures grown { IfOk result (λ _. GrowsTold H.fetched
         (H.state host.old pages.old) (H.state host.new pages.new)) }
+    ensures kept { H.kept pages.old pages.new }
+    ensures steady { OnOk result (H.faults pages.new ≡ H.faults pages.old) }
     ensures faults { H.faults pages.old ≤ H.faults pages.new }
     ensures failed { IsErrOf result RunErr.Store
         → Rose (H.faults pages.old) (H.faults pages.new) }
@@ -104,6 +108,8 @@ pub(crate) fn call<P, H: Host<P>>(
     ensures turns { H.turns host.new ≡ H.turns host.old }
     ensures grown { IfOk result (λ _. GrowsTold H.fetched
         (H.state host.old pages.old) (H.state host.new pages.new)) }
+    ensures kept { H.kept pages.old pages.new }
+    ensures steady { OnOk result (H.faults pages.new ≡ H.faults pages.old) }
     ensures faults { H.faults pages.old ≤ H.faults pages.new }
     ensures failed { IsErrOf result RunErr.Store
         → Rose (H.faults pages.old) (H.faults pages.new) }

@@ -1,6 +1,6 @@
 //! Hosts of machines.
 ghost use Rattle.std.specs.Prelude.{◌≡◌, ℕ, ◌-◌, ◌<◌, ◌≤◌, List, Option, Some};
-ghost use Rattle.std.specs.Prelude.{length, IsTrue, ◌↔◌, IfSome, IfOk, IsErrOf};
+ghost use Rattle.std.specs.Prelude.{length, IsTrue, ◌↔◌, IfSome, IfOk, OnOk, IsErrOf};
 ghost use Rattle.std.specs.Option.{option_copied};
 ghost use Rattle.wap_base.specs.Count.{Rose};
 ghost use Rattle.wap_url.specs.declared.url.Url.{Url as TheUrl};
@@ -41,6 +41,9 @@ pub trait Host<P> {
     /// The same, where the state tells it.
     ghost fetched: { State → Option ℕ };
 
+    /// What calls keep of the pages, however they end, as what a store holds.
+    ghost kept: { P → P → Type 0 };
+
     /// Takes a turn, if one is left.
     fn turn(&mut self) -> bool
         ensures some { IsTrue result ↔ (0 < turns self.old) }
@@ -68,6 +71,8 @@ pub trait Host<P> {
         ensures callable { IfOk result (λ found. IsCallable count depth (found_of found)) }
         ensures turns { turns self.new ≡ turns self.old }
 
+        ensures kept { kept pages.old pages.new }
+        ensures steady { OnOk result (faults pages.new ≡ faults pages.old) }
         ensures faults { faults pages.old ≤ faults pages.new }
         ensures failed { IsErrOf result RunErr.Store
             → Rose (faults pages.old) (faults pages.new) }
@@ -97,6 +102,8 @@ pub trait Host<P> {
         ensures no_budget { IfOk result IsNoBudget }
         ensures turns { turns self.new ≡ turns self.old }
 
+        ensures kept { kept pages.old pages.new }
+        ensures steady { OnOk result (faults pages.new ≡ faults pages.old) }
         ensures faults { faults pages.old ≤ faults pages.new }
         ensures failed { IsErrOf result RunErr.Store
             → Rose (faults pages.old) (faults pages.new) }
@@ -109,6 +116,12 @@ pub trait Host<P> {
     /// The state tells what the pages count.
     ghost counted: { (host : Self) (pages : P) → IfSome (state host pages)
         (λ now. IfSome (fetched now) (λ count. count ≡ fetches pages)) };
+
+    /// What is kept is so where nothing was called.
+    ghost kept_still: { (pages : P) → kept pages pages };
+
+    /// What each of two calls keeps, both keep.
+    ghost kept_then: { (one two three : P) → kept one two → kept two three → kept one three };
 
     /// No call takes a fetch back.
     ghost external_grows: { (before : State) (caller : TheUrl) (target name : List ℕ)

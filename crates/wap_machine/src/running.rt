@@ -1,5 +1,5 @@
 //! Runs of machines.
-ghost use Rattle.std.specs.Prelude.{◌≡◌, ◌≤◌, IfOk, IsErrOf, IfSome};
+ghost use Rattle.std.specs.Prelude.{◌≡◌, ◌≤◌, IfOk, OnOk, IsErrOf, IfSome};
 ghost use Rattle.wap_base.specs.Count.{Rose};
 ghost use Rattle.wap_machine.specs.Hosts.{Fetches};
 ghost use Rattle.wap_machine.specs.Runs.{run_of, IsEnd, IsBounded};
@@ -29,6 +29,9 @@ impl Machine {
         ensures limits { IfOk result (KeepsLimits self.limits) }
         ensures turns { H.turns host.new ≤ H.turns host.old }
 
+        // What calls keep of the pages, the run keeps; and where it ends, no store has failed.
+        ensures kept { H.kept pages.old pages.new }
+        ensures steady { OnOk result (H.faults pages.new ≡ H.faults pages.old) }
         // A store that failed has counted it, and no more was fetched than by the whole run.
         ensures faults { H.faults pages.old ≤ H.faults pages.new }
         ensures failed { IsErrOf result RunErr.Store

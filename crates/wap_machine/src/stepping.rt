@@ -1,5 +1,5 @@
 //! Steps of a machine in its host.
-ghost use Rattle.std.specs.Prelude.{◌≡◌, ◌≤◌, IfOk, IsErrOf, IfSome};
+ghost use Rattle.std.specs.Prelude.{◌≡◌, ◌≤◌, IfOk, OnOk, IsErrOf, IfSome};
 ghost use Rattle.wap_base.specs.Count.{Rose};
 ghost use Rattle.wap_machine.specs.Hosts.{Fetches, GrowsTold};
 ghost use Rattle.wap_execution_laws.specs.Settings.{uncounted};
@@ -31,6 +31,8 @@ pub(crate) fn step<P, H: Host<P>>(
     ensures turns { H.turns host.new ≤ H.turns host.old }
     ensures grown { IfOk result (λ _. GrowsTold H.fetched
         (H.state host.old pages.old) (H.state host.new pages.new)) }
+    ensures kept { H.kept pages.old pages.new }
+    ensures steady { OnOk result (H.faults pages.new ≡ H.faults pages.old) }
     ensures faults { H.faults pages.old ≤ H.faults pages.new }
     ensures failed { IsErrOf result RunErr.Store
         → Rose (H.faults pages.old) (H.faults pages.new) }

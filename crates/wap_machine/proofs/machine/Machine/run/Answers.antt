@@ -1,4 +1,4 @@
-use Rattle.std.proofs.Common.{Err, sym, ap, subst, ◌∙◌, arith}
+use Rattle.std.proofs.Common.{Err, refl, sym, ap, subst, ◌∙◌, arith}
 use Rattle.std.proofs.lemmas.Result.{err_from_is_err_and}
 use Rattle.wap_base.specs.declared.fault.RunErr.TheVariants.{Store}
 use Rattle.wap_machine.specs.declared.machine.Outcome.{Outcome}
@@ -20,6 +20,8 @@ loop-next-init g c = record {
       (g.H.Host.state c.args.host.now c.args.pages.now);
   faults = omega arith;
   fetches = omega arith;
+  kept = g.met.H.Host.kept_still c.args.pages.now;
+  steady = refl;
 }
 
 pub loop-next-preserved : goal.loop-next-preserved
@@ -51,6 +53,10 @@ loop-next-preserved g c =
           let before = c.loop-next.invariant.fetches in
           let after = c.in_ok-next.ensures.fetches in
           omega arith;
+      kept =
+          g.met.H.Host.kept_then c.args.pages.now c.loop-next.pages c.step.new.pages
+          c.loop-next.invariant.kept c.in_ok-next.ensures.kept;
+      steady = c.in_ok-next.ensures.steady ∙ c.loop-next.invariant.steady;
     }
 
 pub loop-next-smaller : goal.loop-next-smaller
@@ -91,3 +97,16 @@ returns-in_err-next-clause-fetched g c = λ is.
     (g.H.Host.fetches c.step.new.pages)
     (c.in_err-next.ensures.fetched (other_fault Outcome Step c.in_err-next.field-0.0 Store
     (sym (left.1 ∙ ap Err left.2) ∙ is)))
+
+pub returns-in-Ends-clause-kept : goal.returns-in-Ends-clause-kept
+returns-in-Ends-clause-kept g c =
+    g.met.H.Host.kept_then c.args.pages.now c.loop-next.pages c.step.new.pages
+    c.loop-next.invariant.kept c.in_ok-next.ensures.kept
+
+pub returns-in-Ends-clause-steady : goal.returns-in-Ends-clause-steady
+returns-in-Ends-clause-steady g c = c.in_ok-next.ensures.steady ∙ c.loop-next.invariant.steady
+
+pub returns-in_err-next-clause-kept : goal.returns-in_err-next-clause-kept
+returns-in_err-next-clause-kept g c =
+    g.met.H.Host.kept_then c.args.pages.now c.loop-next.pages c.step.new.pages
+    c.loop-next.invariant.kept c.in_err-next.ensures.kept

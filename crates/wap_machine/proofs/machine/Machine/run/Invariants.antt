@@ -1,4 +1,4 @@
-use Rattle.std.proofs.Common.{◌≤◌}
+use Rattle.std.proofs.Common.{◌≡◌, ◌≤◌}
 use Rattle.wap_machine.specs.inside.Efforts.{effort}
 use Rattle.wap_machine.proofs.RunsLaws.{Runs}
 use Rattle.wap_machine.proofs.machine.Machine.run.Given as goal
@@ -10,6 +10,8 @@ invariant-loop-next g l = record {
       (g.H.Host.state l.fn.host l.fn.pages) (g.H.Host.state l.host l.pages);
   faults : g.H.Host.faults l.fn.pages ≤ g.H.Host.faults l.pages;
   fetches : g.H.Host.fetches l.fn.pages ≤ g.H.Host.fetches l.pages;
+  kept : g.H.Host.kept l.fn.pages l.pages;
+  steady : g.H.Host.faults l.pages ≡ g.H.Host.faults l.fn.pages;
 }
 
 abbrev pub decreases-loop-next : goal.decreases-loop-next
