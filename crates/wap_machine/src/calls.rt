@@ -38,7 +38,7 @@ pub(crate) fn go_with(waiting: Waiting, out: HostOut) -> Step
     ensures light { IsLight result }
 {
     match out {
-        HostOut::Value(value) => Step::Goes(waiting.answer(value)),
+        HostOut::Value(value) => Step::Goes(waiting.go_on(value)),
         HostOut::Exit(value) => Step::Ends(Outcome::Exited(value)),
         HostOut::Fatal(why) => Step::Ends(Outcome::Fatal(why)),
         HostOut::Asks(dialog) => Step::Ends(Outcome::Asks(dialog, waiting)),

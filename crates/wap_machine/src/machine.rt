@@ -116,7 +116,7 @@ fn give(alloc: Global, limits: Limits, outer: Vec<Frame>, value: Value) -> Step
                 frame,
                 outer,
             };
-            Step::Goes(waiting.answer(value))
+            Step::Goes(waiting.go_on(value))
         }
         None => Step::Ends(Outcome::Done(value)),
     }
@@ -208,6 +208,13 @@ impl Machine {
 impl Waiting {
     /// The machine that goes on with a value.
     pub fn answer(self, v: Value) -> Machine
+        ensures { result ≡ stack self.limits (answered v self.frames) }
+    {
+        self.go_on(v)
+    }
+
+    /// The machine that goes on with a value, which is as light as all machines.
+    pub(crate) fn go_on(self, v: Value) -> Machine
         ensures is { result ≡ stack self.limits (answered v self.frames) }
         ensures light { weight result.frames < heavy }
     {

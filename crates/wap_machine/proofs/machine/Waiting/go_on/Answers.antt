@@ -2,7 +2,7 @@ use Rattle.std.proofs.Common.{◌+◌, ◌-◌, ◌<◌, length, reverse, sym, s
 use Rattle.wap_execution.specs.Frames.{Frame, code_of}
 use Rattle.wap_machine.specs.inside.Weights.{weight, heavy}
 use Rattle.wap_machine.proofs.Weighing.{light}
-use Rattle.wap_machine.proofs.machine.Waiting.answer.Goals as goal
+use Rattle.wap_machine.proofs.machine.Waiting.go_on.Goals as goal
 
 pub returns-clause-light : goal.returns-clause-light
 returns-clause-light c =
