@@ -2,7 +2,7 @@
 use crate::expressions::{Shown, add_expression};
 use wap_base::Rows;
 use wap_casebook::CaseFault;
-use wap_parse::{Boxed, Expr, Id, Span, Stmt};
+use wap_parse::{Expr, Id, Span, Stmt};
 
 /// Adds a blank and an expression, where there is one.
 fn add_optional(shown: &mut Shown, levels: u32, expr: &Option<Expr>) {
@@ -53,7 +53,14 @@ pub fn add_statement(shown: &mut Shown, levels: u32, statement: &Stmt) {
         }
         Stmt::Block(statements) => add_block(shown, levels, statements),
         Stmt::Vars(variables) => add_variables(shown, levels, variables),
-        Stmt::If(arms, last) => add_if(shown, levels, arms, last),
+        Stmt::If(condition, body, other) => {
+            shown.add("if ");
+            add_expression(shown, levels, condition);
+            add_inside(shown, levels, body.get());
+            if let Some(other) = other {
+                add_else(shown, levels, other.get());
+            }
+        }
         Stmt::While(condition, body) => {
             shown.add("while ");
             add_expression(shown, levels, condition);
@@ -77,18 +84,15 @@ pub fn add_statement(shown: &mut Shown, levels: u32, statement: &Stmt) {
     }
 }
 
-/// Adds each condition with what is done where it holds, and what is done where none does.
+/// Adds what is done else: an `if` as it is, any other statement in brackets.
 #[cycle(statements)]
-fn add_if(shown: &mut Shown, levels: u32, arms: &Rows<(Expr, Stmt)>, last: &Option<Boxed<Stmt>>) {
-    for (at, (condition, done)) in arms.as_slice().iter().enumerate() {
-        shown.add_between(at, " else ");
-        shown.add("if ");
-        add_expression(shown, levels, condition);
-        add_inside(shown, levels, done);
-    }
-    if let Some(last) = last {
-        shown.add(" else");
-        add_inside(shown, levels, last.get());
+fn add_else(shown: &mut Shown, levels: u32, other: &Stmt) {
+    shown.add(" else");
+    if let Stmt::If(..) = other {
+        shown.add(" ");
+        add_statement(shown, levels, other);
+    } else {
+        add_inside(shown, levels, other);
     }
 }
 

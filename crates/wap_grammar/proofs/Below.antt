@@ -29,7 +29,7 @@ use Rattle.wap_grammar.proofs.Items.{Reads}
 use Rattle.wap_grammar.proofs.Operands.{AllRead, AllStart}
 use Rattle.wap_grammar.proofs.Levels.{reads_part, part_starts, reads_expression, expression_starts}
 use Rattle.wap_grammar.proofs.Parts.{Anything}
-use Rattle.wap_grammar.proofs.Ifs.{ReadsStatements, reads_of, reads_statements}
+use Rattle.wap_grammar.proofs.Statements.{ReadsStatements, reads_of, reads_statements}
 use Rattle.wap_grammar.proofs.Whole.{program_ok_of, program_again_of, program_ok, program_again}
 use Rattle.wap_grammar.proofs.Guards.{Guard, nowhere, late, anywhere, Goes, Forks, past_of}
 use Rattle.wap_grammar.proofs.Depths.{expression_over, statement_over, late_expression}

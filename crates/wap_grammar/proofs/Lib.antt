@@ -4,8 +4,8 @@ pub mod Callees
 pub mod Operands
 pub mod Levels
 pub mod Parts
-pub mod Simple
-pub mod Ifs
+pub mod Elses
+pub mod Statements
 pub mod Pragmas
 pub mod Blocks
 pub mod Whole

@@ -2,7 +2,7 @@
 -- first such part.
 use Rattle.std.proofs.Common.{◌≡◌, ℕ, zero, suc, ◌<◌, ◌≤◌, Bool, true, false, List, [], ◌∷◌}
 use Rattle.std.proofs.Common.{length, Option, Some, None, Ok, refl, sym, arith}
-use Rattle.std.specs.Prelude.{nat_eq, ◌&&◌}
+use Rattle.std.specs.Prelude.{nat_eq}
 use Rattle.wap_value.specs.declared.operator.BinOp.{BinOp}
 use Rattle.wap_value.specs.declared.operator.UnOp.{UnOp}
 use Rattle.wap_program.specs.declared.expression.Literal.{Literal}
@@ -65,13 +65,10 @@ use Rattle.wap_grammar.specs.inside.Statements.{
   block_at,
   while_at,
   for_at,
-  simple_by,
-  simple_at,
   arm_at,
-  next_arm,
-  arms_at,
-  last_at,
+  else_at,
   if_at,
+  started_at,
   statement_by,
 }
 use Rattle.wap_grammar.proofs.Guards.{Guard, IsRest, Forks, forks_less, forks_then, forks_told}
@@ -411,6 +408,23 @@ module _ (src : List ℕ) (whole : List Lexeme) (limit : ℕ) where
         forks_told src whole limit (length e.1) (λ s. (e.0, s)) (λ g. read g e.1)
         (below e.1 left (omega (arith, less, few))))
 
+    splits_else : (c : List Lexeme) → Left c → length c < most →
+        Splits c (λ g. else_at (read g) c)
+    unfolding else_at
+    splits_else c is few = forks_if src whole limit (length c) (is_sign signs.Else (word_of c)) _
+        (λ g. Ok (None, c))
+        (λ so. forks_told src whole limit (length c) Some _ (forks_after src whole limit c
+        (λ g. read g (after c)) (below (after c) (after_left c is) (omega
+        (arith, few, no_more c))))) (λ so. forks_value src whole limit None c is)
+
+    splits_if : (c : List Lexeme) → Left c → length c < most →
+        Splits c (λ g. if_at src (inner g) (read g) c)
+    unfolding if_at
+    splits_if c is few = forks_then src whole limit (length c)
+        (λ g. arm_at src (inner g) (read g) c) _ (splits_arm c is few) (λ arm left less.
+        forks_told src whole limit (length arm.1) (stmt.If arm.0.0 arm.0.1)
+        (λ g. else_at (read g) arm.1) (splits_else arm.1 left (omega (arith, less, few))))
+
     splits_while : (c : List Lexeme) → Left c → length c < most →
         Splits c (λ g. while_at src (inner g) (read g) c)
     unfolding while_at
@@ -445,95 +459,42 @@ module _ (src : List ℕ) (whole : List Lexeme) (limit : ℕ) where
     splits_ended s c is = forks_closed src whole limit (length c) signs.Semicolon
         (λ g. Ok (s, after c)) (forks_next src whole limit s c is)
 
-    splits_simple : (k : Start) (c : List Lexeme) → start_of (word_of c) ≡ k → Left c →
-        length c ≤ most → Splits c (λ g. simple_by src (inner g) (read g) k c)
-    unfolding simple_by
-    splits_simple start.Empty c e is few = forks_next src whole limit stmt.Empty c is
-    splits_simple start.Block c e is few =
+    splits_started : (k : Start) (c : List Lexeme) → start_of (word_of c) ≡ k → Left c →
+        length c ≤ most → Splits c (λ g. started_at src (inner g) (read g) k c)
+    unfolding started_at
+    splits_started start.Empty c e is few = forks_next src whole limit stmt.Empty c is
+    splits_started start.Block c e is few =
         let less : length (after c) < length c = start_shorter start.Block c e (λ q. absurd cc) in
         forks_told src whole limit (length c) stmt.Block (λ g. block_at src (read g) (after c))
         (forks_after src whole limit c (λ g. block_at src (read g) (after c))
         (splits_block (after c) (after_left c is) (omega (arith, less, few))))
-    splits_simple start.Vars c e is few =
+    splits_started start.Vars c e is few =
         forks_after src whole limit c (λ g. variables_at src (inner g) (after c))
         (splits_variables (after c) (after_left c is) (omega (arith, few, no_more c)))
-    splits_simple start.If c e is few = forks_syntax src whole limit (length c) c
-    splits_simple start.While c e is few =
+    splits_started start.If c e is few =
+        let less : length (after c) < length c = start_shorter start.If c e (λ q. absurd cc) in
+        forks_after src whole limit c (λ g. if_at src (inner g) (read g) (after c))
+        (splits_if (after c) (after_left c is) (omega (arith, less, few)))
+    splits_started start.While c e is few =
         let less : length (after c) < length c = start_shorter start.While c e (λ q. absurd cc) in
         forks_after src whole limit c (λ g. while_at src (inner g) (read g) (after c))
         (splits_while (after c) (after_left c is) (omega (arith, less, few)))
-    splits_simple start.For c e is few =
+    splits_started start.For c e is few =
         let less : length (after c) < length c = start_shorter start.For c e (λ q. absurd cc) in
         forks_after src whole limit c (λ g. for_at src (inner g) (read g) (after c))
         (splits_for (after c) (after_left c is) (omega (arith, less, few)))
-    splits_simple start.Break c e is few = splits_ended (stmt.Break (span_of c)) c is
-    splits_simple start.Continue c e is few = splits_ended (stmt.Continue (span_of c)) c is
-    splits_simple start.Return c e is few = forks_told src whole limit (length c) stmt.Return
+    splits_started start.Break c e is few = splits_ended (stmt.Break (span_of c)) c is
+    splits_started start.Continue c e is few = splits_ended (stmt.Continue (span_of c)) c is
+    splits_started start.Return c e is few = forks_told src whole limit (length c) stmt.Return
         (λ g. optional_at src (inner g) signs.Semicolon (after c))
         (forks_after src whole limit c (λ g. optional_at src (inner g) signs.Semicolon (after c))
         (splits_optional signs.Semicolon (after c) (after_left c is) (omega
         (arith, few, no_more c))))
-    splits_simple start.Expression c e is few = forks_told src whole limit (length c) stmt.Expr _
+    splits_started start.Expression c e is few = forks_told src whole limit (length c) stmt.Expr _
         (forks_closed src whole limit (length c) signs.Semicolon (λ g. inner g COMMA c)
         (part COMMA c is few))
 
-    both_true : (p q : Bool) → (p && q) ≡ true → p ≡ true
-    both_true true q e = refl
-    both_true false q e = absurd cc
-
-    splits_next_arm : (c : List Lexeme) → Left c → length c ≤ most →
-        Splits c (λ g. next_arm src (inner g) (read g) c)
-    unfolding next_arm
-    splits_next_arm c is few = forks_if src whole limit (length c)
-        (is_sign signs.Else (word_of c) && is_sign signs.If (word_of (after c))) _
-        (λ g. Ok (None, c))
-        (λ so.
-        let less : length (after c) < length c = signed signs.Else c (both_true
-        (is_sign signs.Else (word_of c)) (is_sign signs.If (word_of (after c))) so) in
-        forks_told src whole limit (length c) Some
-        (λ g. arm_at src (inner g) (read g) (after (after c)))
-        (forks_less src whole limit (length (after (after c))) (length c)
-        (λ g. arm_at src (inner g) (read g) (after (after c))) (omega
-        (arith, less, no_more (after c)))
-        (splits_arm (after (after c)) (after_left (after c) (after_left c is)) (omega
-        (arith, less, no_more (after c), few)))))
-        (λ so. forks_value src whole limit None c is)
-
-    splits_last : (c : List Lexeme) → Left c → length c ≤ most →
-        Splits c (λ g. last_at src (inner g) (read g) c)
-    unfolding last_at simple_at
-    splits_last c is few = forks_if src whole limit (length c) (is_sign signs.Else (word_of c)) _
-        (λ g. Ok (None, c))
-        (λ so. forks_told src whole limit (length c) Some _ (forks_after src whole limit c
-        (λ g. simple_by src (inner g) (read g) (start_of (word_of (after c))) (after c))
-        (splits_simple (start_of (word_of (after c))) (after c) refl (after_left c is) (omega
-        (arith, few, no_more c))))) (λ so. forks_value src whole limit None c is)
-
-    splits_arms : (c : List Lexeme) → Left c → length c < most →
-        Splits c (λ g. arms_at src (inner g) (read g) c)
-    unfolding arms_at
-    splits_arms c is few = forks_then src whole limit (length c)
-        (λ g. arm_at src (inner g) (read g) c) _ (splits_arm c is few) (λ first left less.
-        forks_told src whole limit (length first.1) (λ others. first.0 ∷ others)
-        (λ g. items_at (next_arm src (inner g) (read g)) first.1)
-        (forks_items src whole limit (λ g. next_arm src (inner g) (read g)) most splits_next_arm
-        first.1 left (omega (arith, less, few))))
-
-    splits_if_at : (c : List Lexeme) → Left c → length c < most →
-        Splits c (λ g. if_at src (inner g) (read g) c)
-    unfolding if_at
-    splits_if_at c is few = forks_then src whole limit (length c)
-        (λ g. arms_at src (inner g) (read g) c) _ (splits_arms c is few) (λ arms left less.
-        forks_told src whole limit (length arms.1) (stmt.If arms.0)
-        (λ g. last_at src (inner g) (read g) arms.1)
-        (splits_last arms.1 left (omega (arith, less, few))))
-
     pub splits_statement_by : (c : List Lexeme) → Left c → length c ≤ most →
         Splits c (λ g. statement_by src (inner g) (read g) c)
-    unfolding statement_by simple_at
-    splits_statement_by c is few = forks_if src whole limit (length c)
-        (is_sign signs.If (word_of c)) (λ g. if_at src (inner g) (read g) (after c)) _
-        (λ so. forks_after src whole limit c (λ g. if_at src (inner g) (read g) (after c))
-        (splits_if_at (after c) (after_left c is) (omega
-        (arith, few, signed signs.If c so))))
-        (λ so. splits_simple (start_of (word_of c)) c refl is few)
+    unfolding statement_by
+    splits_statement_by c is few = splits_started (start_of (word_of c)) c refl is few

@@ -23,8 +23,8 @@ use Rattle.wap_grammar.specs.inside.Expressions.{named_at, primary_at, unary_at,
 use Rattle.wap_grammar.specs.inside.Expressions.{chain_at, conditional_at, assignment_at}
 use Rattle.wap_grammar.specs.inside.Expressions.{part_at, expression_at}
 use Rattle.wap_grammar.specs.inside.Statements.{optional_at, condition_at, next_statement, block_at}
-use Rattle.wap_grammar.specs.inside.Statements.{simple_by, simple_at, arm_at, next_arm, arms_at}
-use Rattle.wap_grammar.specs.inside.Statements.{last_at, if_at, statement_by, statement_at}
+use Rattle.wap_grammar.specs.inside.Statements.{arm_at, else_at, if_at}
+use Rattle.wap_grammar.specs.inside.Statements.{started_at, statement_by, statement_at}
 use Rattle.wap_grammar.specs.inside.Programs.{next_use, parameters_at, head_at}
 use Rattle.wap_grammar.specs.inside.Programs.{function_at, next_function, program_at}
 use Rattle.wap_grammar.proofs.Whole.{program_ok}
@@ -60,7 +60,7 @@ sums : IsProgram src 64 (within (s signs.Return ∷ v ∷ token (word.Operator o
     token (word.Operator op.Mul) here ∷ v ∷ s signs.Semicolon ∷ s signs.CloseBlock ∷ []))
     (one_of (stmt.Return (Some (expr.Chain f ((op.Add, expr.Chain f ((op.Mul, f) ∷ [])) ∷ [])))))
 unfolding src here f s v program_at next_use next_function function_at head_at parameters_at
-    block_at next_statement statement_at statement_by simple_at simple_by optional_at expression_at
+    block_at next_statement statement_at statement_by started_at optional_at expression_at
     part_at assignment_at conditional_at chain_at next_operand unary_at primary_at named_at
     callee_at callee_after variable_at literal_of id_at items_at expect_at
 sums = program_ok src 64 _ _ refl
@@ -69,12 +69,12 @@ sums = program_ok src 64 _ _ refl
 elses : IsProgram src 64 (within (s signs.If ∷ s signs.Open ∷ v ∷ s signs.Close ∷ s signs.If ∷
     s signs.Open ∷ v ∷ s signs.Close ∷ s signs.Semicolon ∷ s signs.Else ∷ s signs.Semicolon ∷
     s signs.CloseBlock ∷ []))
-    (one_of (stmt.If ((f, stmt.If ((f, stmt.Empty) ∷ []) (Some stmt.Empty)) ∷ []) None))
+    (one_of (stmt.If f (stmt.If f stmt.Empty (Some stmt.Empty)) None))
 unfolding src here f s v program_at next_use next_function function_at head_at parameters_at
-    block_at next_statement statement_at statement_by simple_at simple_by if_at arm_at next_arm
-    arms_at last_at condition_at optional_at expression_at part_at assignment_at conditional_at
-    chain_at next_operand unary_at primary_at named_at callee_at callee_after variable_at literal_of
-    id_at items_at expect_at
+    block_at next_statement statement_at statement_by started_at if_at arm_at
+    else_at condition_at optional_at expression_at part_at assignment_at conditional_at chain_at
+    next_operand unary_at primary_at named_at callee_at callee_after variable_at literal_of id_at
+    items_at expect_at
 elses = program_ok src 64 _ _ refl
 
 -- so many parentheses around f
@@ -87,14 +87,14 @@ returned n = within (s signs.Return ∷ around n (s signs.Semicolon ∷ s signs.
 
 deepest : is_ok (program_at src (statement_at src 64) (returned 62)) ≡ true
 unfolding around src here f s v program_at next_use next_function function_at head_at parameters_at
-    block_at next_statement statement_at statement_by simple_at simple_by optional_at expression_at
+    block_at next_statement statement_at statement_by started_at optional_at expression_at
     part_at assignment_at conditional_at chain_at next_operand unary_at primary_at named_at
     callee_at callee_after variable_at literal_of id_at items_at expect_at
 deepest = refl
 
 too_deep : program_at src (statement_at src 64) (returned 63) ≡ Err (fault.Nested 0)
 unfolding around src here f s v program_at next_use next_function function_at head_at parameters_at
-    block_at next_statement statement_at statement_by simple_at simple_by optional_at expression_at
+    block_at next_statement statement_at statement_by started_at optional_at expression_at
     part_at assignment_at conditional_at chain_at next_operand unary_at primary_at named_at
     callee_at callee_after variable_at literal_of id_at items_at expect_at
 too_deep = refl

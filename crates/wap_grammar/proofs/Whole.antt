@@ -28,7 +28,7 @@ use Rattle.wap_grammar.proofs.Firsts.{value_same, told_ok, sign_first, expect_ok
 use Rattle.wap_grammar.proofs.Items.{Reads, reads_items}
 use Rattle.wap_grammar.proofs.Parts.{closing_ok, closing_again, reads_listed}
 use Rattle.wap_grammar.proofs.Blocks.{block_ok, block_again, block_within}
-use Rattle.wap_grammar.proofs.Ifs.{ReadsStatements, reads_statements}
+use Rattle.wap_grammar.proofs.Statements.{ReadsStatements, reads_statements}
 use Rattle.wap_grammar.proofs.Pragmas.{NoUse, reads_uses}
 
 module _ (src : List ℕ) (Statement : Spelling Stmt) (statement : Statements)

@@ -1,5 +1,5 @@
--- Which tokens spell a statement (WAP-193, section 6.5). A statement's expressions, and the
--- statements in it but for that after `else`, stand one level deeper than it.
+-- Which tokens spell a statement (WAP-193, section 6.5). The expressions and statements in a
+-- statement stand one level deeper than it, also what stands after an `else`, be it an `if` or not.
 use Rattle.std.specs.Prelude.{◌≡◌, ℕ, zero, suc, false, List, ◌∷◌, Option, Some, None}
 use Rattle.wap_program.specs.declared.program.Span.{Span}
 use Rattle.wap_program.specs.declared.program.Id.{Id}
@@ -32,6 +32,7 @@ pub data IsOptional (Inner : Expressions) (s : Sign) : List Lexeme → Option Ex
   some : (span : Span) (x y : List Lexeme) (e : Expr) → Inner COMMA x e (sign s span ∷ y) →
       IsOptional Inner s x (Some e) y
 
+-- the statement that an expression is which may be missing
 abbrev pub done_first : Option Expr → Stmt
 done_first None = stmt.Empty
 done_first (Some e) = stmt.Expr e
@@ -51,70 +52,47 @@ pub data IsCondition (Inner : Expressions) : List Lexeme → Expr → List Lexem
       Inner COMMA x e (sign Close right ∷ y) →
       IsCondition Inner (sign Open left ∷ x) e y
 
--- a statement other than `if`, with such statements in it
-pub data IsSimple (src : List ℕ) (Inner : Expressions) (Statement : Spelling Stmt) : List Lexeme →
-    Stmt → List Lexeme → Type 0 where
-  empty : (end : Span) (x : List Lexeme) → IsSimple src Inner Statement
+-- what is done else, if that is said. An `else` belongs to the last `if` that it may belong to, so
+-- none stands where nothing is said.
+pub data IsElse (Statement : Spelling Stmt) : List Lexeme → Option Stmt → List Lexeme →
+    Type 0 where
+  without : (x : List Lexeme) → is_sign Else (word_of x) ≡ false → IsElse Statement x None x
+  with_else : (other : Span) (x y : List Lexeme) (s : Stmt) → Statement x s y →
+      IsElse Statement (sign Else other ∷ x) (Some s) y
+
+-- a statement with such statements in it
+pub data IsStatementOf (src : List ℕ) (Inner : Expressions)
+    (Statement : Spelling Stmt) : List Lexeme → Stmt → List Lexeme → Type 0 where
+  empty : (end : Span) (x : List Lexeme) → IsStatementOf src Inner Statement
       (sign Semicolon end ∷ x) stmt.Empty x
   expression : (end : Span) (x y : List Lexeme) (e : Expr) →
       Inner COMMA x e (sign Semicolon end ∷ y) →
-      IsSimple src Inner Statement x (stmt.Expr e) y
+      IsStatementOf src Inner Statement x (stmt.Expr e) y
   block : (left right : Span) (x y : List Lexeme) (ss : List Stmt) →
       Several Statement x ss (sign CloseBlock right ∷ y) →
-      IsSimple src Inner Statement (sign OpenBlock left ∷ x) (stmt.Block ss) y
+      IsStatementOf src Inner Statement (sign OpenBlock left ∷ x) (stmt.Block ss) y
   variables : (var end : Span) (x y : List Lexeme) (ds : List (Id × Option Expr)) →
       AreListed (IsDeclaration src Inner) x ds (sign Semicolon end ∷ y) →
-      IsSimple src Inner Statement (sign Var var ∷ x) (stmt.Vars ds) y
+      IsStatementOf src Inner Statement (sign Var var ∷ x) (stmt.Vars ds) y
+  if_ : (word : Span) (x y z u : List Lexeme) (c : Expr) (s : Stmt) (other : Option Stmt) →
+      IsCondition Inner x c y → Statement y s z → IsElse Statement z other u →
+      IsStatementOf src Inner Statement (sign If word ∷ x) (stmt.If c s other) u
   while : (word : Span) (x y z : List Lexeme) (c : Expr) (s : Stmt) → IsCondition Inner x c y →
       Statement y s z →
-      IsSimple src Inner Statement (sign While word ∷ x) (stmt.While c s) z
+      IsStatementOf src Inner Statement (sign While word ∷ x) (stmt.While c s) z
   for : (word left : Span) (x y z u v : List Lexeme) (first s : Stmt) (c update : Option Expr) →
       IsInitial src Inner x first y → IsOptional Inner Semicolon y c z →
       IsOptional Inner Close z update u →
-      Statement u s v → IsSimple src Inner Statement (sign For word ∷ sign Open left ∷ x)
+      Statement u s v → IsStatementOf src Inner Statement (sign For word ∷ sign Open left ∷ x)
       (stmt.For first c update s) v
   break : (word end : Span) (x : List Lexeme) →
-      IsSimple src Inner Statement (sign Break word ∷ sign Semicolon end ∷ x) (stmt.Break word) x
+      IsStatementOf src Inner Statement (sign Break word ∷ sign Semicolon end ∷ x)
+      (stmt.Break word) x
   continue : (word end : Span) (x : List Lexeme) →
-      IsSimple src Inner Statement (sign Continue word ∷ sign Semicolon end ∷ x)
+      IsStatementOf src Inner Statement (sign Continue word ∷ sign Semicolon end ∷ x)
       (stmt.Continue word) x
   return : (word : Span) (x y : List Lexeme) (e : Option Expr) → IsOptional Inner Semicolon x e y →
-      IsSimple src Inner Statement (sign Return word ∷ x) (stmt.Return e) y
-
--- a condition in parentheses, and what is done where it holds
-pub data IsArm (Inner : Expressions) (Statement : Spelling Stmt) : List Lexeme → Expr × Stmt →
-    List Lexeme → Type 0 where
-  arm : (x y z : List Lexeme) (c : Expr) (s : Stmt) → IsCondition Inner x c y → Statement y s z →
-      IsArm Inner Statement x (c, s) z
-
--- the same after `else if`
-pub data IsElseIf (Inner : Expressions) (Statement : Spelling Stmt) : List Lexeme → Expr × Stmt →
-    List Lexeme → Type 0 where
-  else_if : (other word : Span) (x y : List Lexeme) (p : Expr × Stmt) →
-      IsArm Inner Statement x p y →
-      IsElseIf Inner Statement (sign Else other ∷ sign If word ∷ x) p y
-
--- what is done where no condition holds, if that is said. It is no `if`, which would be one more
--- condition. An `else` belongs to the last `if` that it may belong to, so none stands where nothing
--- is said.
-pub data IsElse (src : List ℕ) (Inner : Expressions) (Statement : Spelling Stmt) : List Lexeme →
-    Option Stmt → List Lexeme → Type 0 where
-  without : (x : List Lexeme) → is_sign Else (word_of x) ≡ false →
-      IsElse src Inner Statement x None x
-  with_else : (other : Span) (x y : List Lexeme) (s : Stmt) → IsSimple src Inner Statement x s y →
-      IsElse src Inner Statement (sign Else other ∷ x) (Some s) y
-
--- a statement. All that stands after an `else` has the level of its `if`, so each `else if` has
--- that of the first.
-pub data IsStatementOf (src : List ℕ) (Inner : Expressions)
-    (Statement : Spelling Stmt) : List Lexeme → Stmt → List Lexeme → Type 0 where
-  simple : (x y : List Lexeme) (s : Stmt) → IsSimple src Inner Statement x s y →
-      IsStatementOf src Inner Statement x s y
-  arms : (word : Span) (x y z u : List Lexeme) (first : Expr × Stmt) (others : List (Expr × Stmt))
-      (last : Option Stmt) → IsArm Inner Statement x first y →
-      Several (IsElseIf Inner Statement) y others z →
-      IsElse src Inner Statement z last u →
-      IsStatementOf src Inner Statement (sign If word ∷ x) (stmt.If (first ∷ others) last) u
+      IsStatementOf src Inner Statement (sign Return word ∷ x) (stmt.Return e) y
 
 -- a statement that spans so many levels at most
 unfoldable pub IsStatement : List ℕ → ℕ → Spelling Stmt

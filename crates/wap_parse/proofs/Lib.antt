@@ -1,5 +1,4 @@
 pub mod Levels
-pub mod Lists
 pub mod Headers
 pub mod Nexts
 pub mod Signatures

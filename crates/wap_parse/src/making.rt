@@ -7,6 +7,19 @@ use std::alloc::Global;
 use wap_base::NoMemory;
 use wap_program::{Boxed, Expr, Stmt};
 
+/// `if`, from its condition and what is done where it holds, and what is done else.
+pub(crate) fn if_of(
+    alloc: Global,
+    arm: (Expr, Stmt),
+    other: Option<Boxed<Stmt>>,
+) -> Result<Stmt, NoMemory>
+    ensures { IfOk result (λ made. made ≡ stmt.If arm.0 arm.1 other) }
+{
+    let (condition, body) = arm;
+    let body = Boxed::new(alloc, body)?;
+    Ok(Stmt::If(condition, body, other))
+}
+
 /// `while`, from its condition and what is done as long as it holds.
 pub(crate) fn while_of(alloc: Global, arm: (Expr, Stmt)) -> Result<Stmt, NoMemory>
     ensures { IfOk result (λ made. made ≡ stmt.While arm.0 arm.1) }

@@ -1,11 +1,8 @@
 //! What statements begin with (WAP-193, section 6.5).
-ghost use Rattle.std.specs.Prelude.{◌≡◌, ◌&&◌};
-ghost use Rattle.wap_grammar.specs.declared.word.Sign.TheVariants as signs;
-ghost use Rattle.wap_grammar.specs.Words.{word_of, is_sign, start_by, start_of};
-ghost use Rattle.wap_grammar.specs.inside.Steps.{after};
+ghost use Rattle.std.specs.Prelude.{◌≡◌};
+ghost use Rattle.wap_grammar.specs.Words.{start_by, start_of};
 
-use wap_expressions::{after, is_sign};
-use wap_grammar::{Lexeme, Sign, Start, Word};
+use wap_grammar::{Sign, Start, Word};
 
 /// What a statement begins with.
 pub(crate) fn start_of(word: Word) -> Start
@@ -23,15 +20,4 @@ pub(crate) fn start_of(word: Word) -> Start
         Word::Sign(Sign::Return) => Start::Return,
         _ => Start::Expression,
     }
-}
-
-/// Whether `else if` stands first.
-pub(crate) fn is_else_if(lexemes: &[Lexeme]) -> bool
-    ensures { result ≡ (is_sign signs.Else (word_of lexemes.now)
-        && is_sign signs.If (word_of (after lexemes.now))) }
-{
-    if !is_sign(Sign::Else, lexemes) {
-        return false;
-    }
-    is_sign(Sign::If, after(lexemes))
 }

@@ -1,24 +1,22 @@
 //! Statements (WAP-193, section 6.5).
-ghost use Rattle.std.specs.Prelude.{◌≡◌, ◌++◌};
+ghost use Rattle.std.specs.Prelude.{◌≡◌};
 ghost use Rattle.wap_base.specs.Outcome.{Meets};
 ghost use Rattle.wap_program.specs.declared.statement.Stmt.TheVariants as stmt;
 ghost use Rattle.wap_grammar.specs.declared.fault.ParseFault.TheVariants as faults;
 ghost use Rattle.wap_grammar.specs.inside.Steps.{told, items_at};
 ghost use Rattle.wap_grammar.specs.inside.Expressions.{expression_at};
-ghost use Rattle.wap_grammar.specs.inside.Statements.{next_statement, block_at, while_at, for_at};
-ghost use Rattle.wap_grammar.specs.inside.Statements.{simple_at, arm_at, next_arm, arms_at};
-ghost use Rattle.wap_grammar.specs.inside.Statements.{last_at, if_at, statement_by, statement_at};
+ghost use Rattle.wap_grammar.specs.inside.Statements.{next_statement, block_at, arm_at, else_at};
+ghost use Rattle.wap_grammar.specs.inside.Statements.{if_at, while_at, for_at, statement_by};
+ghost use Rattle.wap_grammar.specs.inside.Statements.{statement_at};
 
 use crate::clauses::{
     Header, read_break, read_condition, read_continue, read_evaluation, read_header, read_return,
 };
-use crate::making::{for_of, while_of};
-use crate::starts::{is_else_if, start_of};
+use crate::making::{for_of, if_of, while_of};
+use crate::starts::start_of;
 use std::alloc::Global;
 use wap_base::Rows;
-use wap_expressions::{
-    after, close, is_sign, join, list_of_one, nesting_fault, read_variables, syntax_fault, word_of,
-};
+use wap_expressions::{after, close, is_sign, join, nesting_fault, read_variables, word_of};
 use wap_grammar::{Lexeme, ParseFault, Sign, Start};
 use wap_program::{Boxed, Expr, Stmt};
 
@@ -42,7 +40,7 @@ fn read_statement<'a>(
 
 /// A statement with so many levels left for its parts.
 #[cycle(statements)]
-#[tactic(auto, unfolding(wap_grammar::specs::inside::Statements::statement_by))]
+#[tactic(auto, unfolding(wap_grammar::specs::inside::Statements::statement_by, wap_grammar::specs::inside::Statements::started_at, wap_grammar::specs::inside::Statements::closed_at))]
 #[inline(always)]
 fn read_parts<'a>(
     alloc: Global,
@@ -54,10 +52,22 @@ fn read_parts<'a>(
         (statement_by src.now (expression_at src.now levels) (statement_at src.now levels)
         lexemes.now) }
 {
-    if is_sign(Sign::If, lexemes) {
-        return read_if(alloc, src, levels, after(lexemes));
+    let rest = after(lexemes);
+    match start_of(word_of(lexemes)) {
+        Start::Empty => Ok((Stmt::Empty, rest)),
+        Start::Block => {
+            let (statements, rest) = read_block(alloc, src, levels, rest)?;
+            Ok((Stmt::Block(statements), rest))
+        }
+        Start::Vars => read_variables(alloc, src, levels, rest),
+        Start::If => read_if(alloc, src, levels, rest),
+        Start::While => read_while(alloc, src, levels, rest),
+        Start::For => read_for(alloc, src, levels, rest),
+        Start::Break => read_break(src, lexemes),
+        Start::Continue => read_continue(src, lexemes),
+        Start::Return => read_return(alloc, src, levels, rest),
+        Start::Expression => read_evaluation(alloc, src, levels, lexemes),
     }
-    read_simple(alloc, src, levels, lexemes)
 }
 
 /// What stands after `if`.
@@ -73,27 +83,9 @@ fn read_if<'a>(
         (if_at src.now (expression_at src.now levels) (statement_at src.now levels)
         lexemes.now) }
 {
-    let (arms, rest) = read_arms(alloc, src, levels, lexemes)?;
-    let (last, rest) = read_last(alloc, src, levels, rest)?;
-    Ok((Stmt::If(arms, last), rest))
-}
-
-/// Each condition, the first and those of `else if`, and what is done where it holds.
-#[cycle(statements)]
-#[tactic(auto, unfolding(wap_grammar::specs::inside::Statements::arms_at))]
-fn read_arms<'a>(
-    alloc: Global,
-    src: &[u8],
-    levels: u32,
-    lexemes: &'a [Lexeme],
-) -> Result<(Rows<(Expr, Stmt)>, &'a [Lexeme]), ParseFault>
-    ensures { Meets faults.NoMemory (λ read. (read.0, read.1.now)) result
-        (arms_at src.now (expression_at src.now levels) (statement_at src.now levels)
-        lexemes.now) }
-{
-    let (first, rest) = read_arm(alloc, src, levels, lexemes)?;
-    let arms = list_of_one(alloc, first)?;
-    read_other_arms(alloc, src, levels, arms, rest)
+    let (arm, rest) = read_arm(alloc, src, levels, lexemes)?;
+    let (other, rest) = read_else(alloc, src, levels, rest)?;
+    Ok((if_of(alloc, arm, other)?, rest))
 }
 
 /// A condition, and what is done where it holds.
@@ -113,83 +105,24 @@ fn read_arm<'a>(
     join(condition, read_statement(alloc, src, levels, rest))
 }
 
-/// Some conditions with what is done, and those of each `else if` that follows.
+/// What is done after `else`, if that stands first.
 #[cycle(statements)]
-fn read_other_arms<'a>(
-    alloc: Global,
-    src: &[u8],
-    levels: u32,
-    first: Rows<(Expr, Stmt)>,
-    lexemes: &'a [Lexeme],
-) -> Result<(Rows<(Expr, Stmt)>, &'a [Lexeme]), ParseFault>
-    ensures { Meets faults.NoMemory (λ read. (read.0, read.1.now)) result
-        (told (λ others. first ++ others)
-        (items_at (next_arm src.now (expression_at src.now levels) (statement_at src.now levels))
-        lexemes.now)) }
-{
-    let mut arms = first;
-    let mut rest = lexemes;
-    for _ in 0..lexemes.len() {
-        if !is_else_if(rest) {
-            return Ok((arms, rest));
-        }
-        let (arm, behind) = read_arm(alloc, src, levels, after(after(rest)))?;
-        rest = behind;
-        arms.add(arm)?;
-    }
-    Ok((arms, rest))
-}
-
-/// What is done after a last `else`, if there is one.
-#[cycle(statements)]
-#[tactic(auto, unfolding(wap_grammar::specs::inside::Statements::last_at))]
-fn read_last<'a>(
+#[tactic(auto, unfolding(wap_grammar::specs::inside::Statements::else_at))]
+fn read_else<'a>(
     alloc: Global,
     src: &[u8],
     levels: u32,
     lexemes: &'a [Lexeme],
 ) -> Result<(Option<Boxed<Stmt>>, &'a [Lexeme]), ParseFault>
     ensures { Meets faults.NoMemory (λ read. (read.0, read.1.now)) result
-        (last_at src.now (expression_at src.now levels) (statement_at src.now levels)
-        lexemes.now) }
+        (else_at (statement_at src.now levels) lexemes.now) }
 {
     if !is_sign(Sign::Else, lexemes) {
         return Ok((None, lexemes));
     }
-    let (last, rest) = read_simple(alloc, src, levels, after(lexemes))?;
-    let last = Boxed::new(alloc, last)?;
-    Ok((Some(last), rest))
-}
-
-/// A statement other than `if`.
-#[cycle(statements)]
-#[tactic(auto, unfolding(wap_grammar::specs::inside::Statements::simple_at, wap_grammar::specs::inside::Statements::simple_by, wap_grammar::specs::inside::Statements::closed_at))]
-fn read_simple<'a>(
-    alloc: Global,
-    src: &[u8],
-    levels: u32,
-    lexemes: &'a [Lexeme],
-) -> Result<(Stmt, &'a [Lexeme]), ParseFault>
-    ensures { Meets faults.NoMemory (λ read. (read.0, read.1.now)) result
-        (simple_at src.now (expression_at src.now levels) (statement_at src.now levels)
-        lexemes.now) }
-{
-    let rest = after(lexemes);
-    match start_of(word_of(lexemes)) {
-        Start::Empty => Ok((Stmt::Empty, rest)),
-        Start::Block => {
-            let (statements, rest) = read_block(alloc, src, levels, rest)?;
-            Ok((Stmt::Block(statements), rest))
-        }
-        Start::Vars => read_variables(alloc, src, levels, rest),
-        Start::If => Err(syntax_fault(src, lexemes)),
-        Start::While => read_while(alloc, src, levels, rest),
-        Start::For => read_for(alloc, src, levels, rest),
-        Start::Break => read_break(src, lexemes),
-        Start::Continue => read_continue(src, lexemes),
-        Start::Return => read_return(alloc, src, levels, rest),
-        Start::Expression => read_evaluation(alloc, src, levels, lexemes),
-    }
+    let (other, rest) = read_statement(alloc, src, levels, after(lexemes))?;
+    let other = Boxed::new(alloc, other)?;
+    Ok((Some(other), rest))
 }
 
 /// Statements after a `{`, and the `}` after them.

@@ -13,9 +13,8 @@ pub enum Stmt {
     Block(Rows<Stmt>),
     /// `var`, with what each name begins with.
     Vars(Rows<(Id, Option<Expr>)>),
-    /// Each condition, that of `if` and then those of `else if`, with what is done where it is the
-    /// first that holds, and what is done where none does.
-    If(Rows<(Expr, Stmt)>, Option<Boxed<Stmt>>),
+    /// The condition, what is done where it holds, and what is done else.
+    If(Expr, Boxed<Stmt>, Option<Boxed<Stmt>>),
     While(Expr, Boxed<Stmt>),
     /// What is done first (an expression, `var` or nothing), the condition, what is done after
     /// each turn, and the body.

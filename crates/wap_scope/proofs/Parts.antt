@@ -156,30 +156,17 @@ module _ (inside : Bool) where
   of_variables pairs = ap says (sym (rolls-Vars pairs))
       ∙ ap at_place (fold-roll-Stmt (Bool → List Mention) mentions_by (Stmt-F.Vars pairs))
 
-  -- an arm says its condition, and then what is done
-  abbrev pub arm : Expr × Stmt → List Mention
-  arm pair = refers pair.0 ++ mentions pair.1 inside
-
-  arms_mapped : (arms : List (Expr × Stmt)) →
-      flat_map (λ (pair : Expr × (Bool → List Mention)). refers pair.0 ++ pair.1 inside)
-      (map (λ (pair : Expr × Stmt). (pair.0, mentions pair.1)) arms) ≡ flat_map arm arms
-  arms_mapped arms =
-      flat_mapped (λ (pair : Expr × Stmt). (pair.0, mentions pair.1))
-      (λ (pair : Expr × (Bool → List Mention)). refers pair.0 ++ pair.1 inside) arms
-
-  pub of_if : (arms : List (Expr × Stmt)) →
-      mentions (stmt.If arms None) inside ≡ flat_map arm arms ++ []
+  pub of_if : (c : Expr) (s : Stmt) →
+      mentions (stmt.If c s None) inside ≡ refers c ++ (mentions s inside ++ [])
   unfolding mentions
-  of_if arms = ap says (sym (rolls-If arms None))
-      ∙ ap at_place (fold-roll-Stmt (Bool → List Mention) mentions_by (Stmt-F.If arms None))
-      ∙ ap (λ some. some ++ []) (arms_mapped arms)
+  of_if c s = ap says (sym (rolls-If c s None))
+      ∙ ap at_place (fold-roll-Stmt (Bool → List Mention) mentions_by (Stmt-F.If c s None))
 
-  pub of_else : (arms : List (Expr × Stmt)) (other : Stmt) →
-      mentions (stmt.If arms (Some other)) inside ≡ flat_map arm arms ++ mentions other inside
+  pub of_else : (c : Expr) (s other : Stmt) → mentions (stmt.If c s (Some other)) inside
+      ≡ refers c ++ (mentions s inside ++ mentions other inside)
   unfolding mentions
-  of_else arms other = ap says (sym (rolls-If arms (Some other)))
-      ∙ ap at_place (fold-roll-Stmt (Bool → List Mention) mentions_by (Stmt-F.If arms (Some other)))
-      ∙ ap (λ some. some ++ mentions other inside) (arms_mapped arms)
+  of_else c s other = ap says (sym (rolls-If c s (Some other)))
+      ∙ ap at_place (fold-roll-Stmt (Bool → List Mention) mentions_by (Stmt-F.If c s (Some other)))
 
   pub of_while : (c : Expr) (s : Stmt) → mentions (stmt.While c s) inside
       ≡ refers c ++ mentions s true

@@ -11,10 +11,9 @@ use Rattle.wap_program.specs.declared.statement.Stmt.TheVariants as stmt
 use Rattle.wap_scope.specs.declared.fault.ScopeFault.{ScopeFault}
 use Rattle.wap_scope.specs.Names.{Mention, Jumps, refers, refers_if, declares, mentions}
 use Rattle.wap_scope.specs.Faults.{Scope}
-use Rattle.wap_scope.specs.inside.Walks.{each, mention_at, arm_at, walked, walked_each}
-use Rattle.wap_scope.proofs.Walking.{bind_end, bind_same, each_same, walked-append}
-use Rattle.wap_scope.proofs.Walking.{walked-flat, walked-flat_first}
-use Rattle.wap_scope.proofs.Parts.{arm, of_empty, of_value, of_block, of_variables, of_if, of_else}
+use Rattle.wap_scope.specs.inside.Walks.{mention_at, walked, walked_each}
+use Rattle.wap_scope.proofs.Walking.{bind_end, bind_same, walked-append, walked-flat}
+use Rattle.wap_scope.proofs.Parts.{of_empty, of_value, of_block, of_variables, of_if, of_else}
 use Rattle.wap_scope.proofs.Parts.{of_while, of_for, of_break, of_continue, of_return}
 
 module _ (scope : Scope) (known : List (List ℕ)) (s : Stmt) (inside : Bool) where
@@ -50,35 +49,26 @@ module _ (scope : Scope) (known : List (List ℕ)) (s : Stmt) (inside : Bool) wh
       by (stmt.Vars pairs) (flat_map declares pairs) is (of_variables inside pairs)
       ∙ walked-flat scope declares known pairs
 
-  abbrev arms_of : List (Expr × Stmt) → Known
-  arms_of arms = each (arm_at scope inside) known arms
+  -- what is done else
+  abbrev other_of : Option Stmt → List Mention
+  other_of None = []
+  other_of (Some other) = mentions other inside
 
-  arms_walked : (known : List (List ℕ)) (arms : List (Expr × Stmt)) →
-      walked_each scope (arm inside) known arms ≡ each (arm_at scope inside) known arms
-  arms_walked known arms =
-      each_same (λ (k : List (List ℕ)) (pair : Expr × Stmt). walked scope k (arm inside pair))
-      (arm_at scope inside)
-      (λ k pair. walked-append scope k (refers pair.0) (mentions pair.1 inside)) known arms
+  if_of : (c : Expr) (body : Stmt) (other : Option Stmt) → mentions (stmt.If c body other) inside
+      ≡ refers c ++ (mentions body inside ++ other_of other)
+  if_of c body None = of_if inside c body
+  if_of c body (Some other) = of_else inside c body other
 
-  abbrev then_of : (List (List ℕ) → Known) → Known → Known
-  then_of next arms = arms >>= next
-
-  -- what is done where no condition holds
-  abbrev other_of : Option Stmt → List (List ℕ) → Known
-  other_of None known = Ok known
-  other_of (Some other) known = of (mentions other inside) known
-
-  pub if_parts : (arms : List (Expr × Stmt)) (other : Option Stmt) → s ≡ stmt.If arms other →
-      whole ≡ (arms_of arms >>= other_of other)
-  if_parts arms None is =
-      by (stmt.If arms None) (flat_map (arm inside) arms ++ []) is (of_if inside arms)
-      ∙ walked-flat_first scope (arm inside) known arms []
-      ∙ ap (then_of (other_of None)) (arms_walked known arms)
-  if_parts arms (Some other) is =
-      by (stmt.If arms (Some other)) (flat_map (arm inside) arms ++ mentions other inside) is
-      (of_else inside arms other)
-      ∙ walked-flat_first scope (arm inside) known arms (mentions other inside)
-      ∙ ap (then_of (other_of (Some other))) (arms_walked known arms)
+  pub if_parts : (c : Expr) (body : Stmt) (other : Option Stmt) → s ≡ stmt.If c body other →
+      whole ≡ (of (refers c) known >>= (λ known. of (mentions body inside) known >>=
+      of (other_of other)))
+  if_parts c body other is =
+      by (stmt.If c body other) (refers c ++ (mentions body inside ++ other_of other)) is
+      (if_of c body other)
+      ∙ walked-append scope known (refers c) (mentions body inside ++ other_of other)
+      ∙ bind_same (of (refers c) known) (of (mentions body inside ++ other_of other))
+      (λ (k : List (List ℕ)). of (mentions body inside) k >>= of (other_of other))
+      (λ k. walked-append scope k (mentions body inside) (other_of other))
 
   pub while_parts : (c : Expr) (body : Stmt) → s ≡ stmt.While c body →
       whole ≡ (of (refers c) known >>= of (mentions body true))

@@ -33,15 +33,6 @@ each-append {S} {X} step known (x ∷ xs) ys =
     (λ (k : S). each step k xs >>= (λ (k : S). each step k ys)) (λ k. each-append step k xs ys)
     ∙ sym (bind_bind (step known x) (λ (k : S). each step k xs) (λ (k : S). each step k ys))
 
-pub each_same : {S X : Type 0} (step other : S → X → Result S ScopeFault) →
-    ((known : S) (here : X) → step known here ≡ other known here) → (known : S) (items : List X) →
-    each step known items ≡ each other known items
-each_same step other is known [] = refl
-each_same {S} {X} step other is known (here ∷ after) =
-    ap (λ (r : Result S ScopeFault). r >>= (λ (k : S). each step k after)) (is known here)
-    ∙ bind_same (other known here) (λ (k : S). each step k after)
-    (λ (k : S). each other k after) (λ k. each_same step other is k after)
-
 module _ (scope : Scope) where
   pub walked-append : (known : List (List ℕ)) (xs ys : List Mention) →
       walked scope known (xs ++ ys) ≡ (walked scope known xs >>= (λ known. walked scope known ys))
@@ -65,12 +56,3 @@ module _ (scope : Scope) where
       ∙ bind_same (walked scope known ms)
       (λ (k : List (List ℕ)). walked scope k (flat_map of xs))
       (λ (k : List (List ℕ)). walked_each scope of k xs) (λ k. walked-flat of k xs)
-
-  -- items, and then a part
-  pub walked-flat_first : {X : Type 0} (of : X → List Mention) (known : List (List ℕ))
-      (xs : List X) (ms : List Mention) → walked scope known (flat_map of xs ++ ms)
-      ≡ (walked_each scope of known xs >>= (λ known. walked scope known ms))
-  walked-flat_first of known xs ms =
-      walked-append known (flat_map of xs) ms
-      ∙ ap (λ (r : Result (List (List ℕ)) ScopeFault). r >>= (λ known. walked scope known ms))
-      (walked-flat of known xs)

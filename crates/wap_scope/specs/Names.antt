@@ -72,8 +72,7 @@ mentions_by Stmt-F.Empty inside = []
 mentions_by (Stmt-F.Expr e) inside = refers e
 mentions_by (Stmt-F.Block ss) inside = flat_map (λ s. s inside) ss
 mentions_by (Stmt-F.Vars pairs) inside = flat_map declares pairs
-mentions_by (Stmt-F.If arms other) inside =
-    flat_map (λ arm. refers arm.0 ++ arm.1 inside) arms ++ says_if inside other
+mentions_by (Stmt-F.If c s other) inside = refers c ++ (s inside ++ says_if inside other)
 mentions_by (Stmt-F.While c s) inside = refers c ++ s true
 mentions_by (Stmt-F.For first c update s) inside =
     first inside ++ (refers_if c ++ (refers_if update ++ s true))

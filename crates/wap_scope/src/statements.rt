@@ -4,7 +4,7 @@ ghost use Rattle.wap_base.specs.Outcome.{Meets};
 ghost use Rattle.wap_scope.specs.declared.fault.ScopeFault.TheVariants.{NoMemory};
 ghost use Rattle.wap_scope.specs.Names.{mentions, declares, refers, refers_if, Declares, Jumps};
 ghost use Rattle.wap_scope.specs.inside.Globals.{scope_by};
-ghost use Rattle.wap_scope.specs.inside.Walks.{each, mention_at, arm_at, walked, walked_each};
+ghost use Rattle.wap_scope.specs.inside.Walks.{mention_at, walked, walked_each};
 
 use crate::ScopeFault;
 use crate::expressions::judge_expression;
@@ -109,8 +109,9 @@ fn judge_statement(
         Stmt::Expr(value) => judge_expression(globals, known, value),
         Stmt::Block(inner) => judge_statements(alloc, globals, known, inside, inner.as_slice()),
         Stmt::Vars(pairs) => judge_variables(alloc, globals, known, pairs.as_slice()),
-        Stmt::If(arms, other) => {
-            judge_arms(alloc, globals, known, inside, arms.as_slice())?;
+        Stmt::If(condition, body, other) => {
+            judge_expression(globals, known, condition)?;
+            judge_statement(alloc, globals, known, inside, body.get())?;
             match other {
                 Some(other) => judge_statement(alloc, globals, known, inside, other.get()),
                 None => Ok(()),
@@ -130,25 +131,6 @@ fn judge_statement(
         Stmt::Continue(word) => judge_jump(globals, known, inside, *word),
         Stmt::Return(value) => judge_optional(globals, known, value),
     }
-}
-
-/// Judges conditions, each with what is done where it holds.
-#[cycle(statements)]
-fn judge_arms(
-    alloc: Global,
-    globals: &Globals,
-    known: &mut Names,
-    inside: bool,
-    arms: &[(Expr, Stmt)],
-) -> Result<(), ScopeFault>
-    ensures { Meets NoMemory (λ _. known.new) result
-        (each (arm_at (scope_by globals.now) inside) known.old arms.now) }
-{
-    for arm in arms {
-        judge_expression(globals, known, &arm.0)?;
-        judge_statement(alloc, globals, known, inside, &arm.1)?;
-    }
-    Ok(())
 }
 
 /// Judges statements that stand in a loop or not.

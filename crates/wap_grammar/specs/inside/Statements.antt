@@ -1,5 +1,5 @@
 -- Reading statements from the left. This project's own.
-use Rattle.std.specs.Prelude.{ℕ, zero, suc, if◌then◌else◌, ◌&&◌, List, ◌∷◌, Option, Some, None, Ok}
+use Rattle.std.specs.Prelude.{ℕ, zero, suc, if◌then◌else◌, List, ◌∷◌, Option, Some, None, Ok}
 use Rattle.wap_base.specs.Outcome.{◌>>=◌}
 use Rattle.wap_program.specs.declared.program.Id.{Id}
 use Rattle.wap_program.specs.declared.expression.Expr.{Expr}
@@ -13,7 +13,7 @@ use Rattle.wap_grammar.specs.declared.start.Start.{Start}
 use Rattle.wap_grammar.specs.declared.start.Start.TheVariants as start
 use Rattle.wap_grammar.specs.Words.{word_of, is_sign, is_comma, is_equals, start_of}
 use Rattle.wap_grammar.specs.Statements.{done_first}
-use Rattle.wap_grammar.specs.inside.Steps.{Reading, span_of, after, syntax, nested, told}
+use Rattle.wap_grammar.specs.inside.Steps.{Reading, span_of, after, nested, told}
 use Rattle.wap_grammar.specs.inside.Steps.{expect_at, closed, id_at, Next, items_at}
 use Rattle.wap_grammar.specs.inside.Expressions.{Reader, expression_at}
 
@@ -72,6 +72,21 @@ unfoldable pub block_at : List ℕ → Statements → List Lexeme → Reading (L
 block_at src statement lexemes = items_at (next_statement statement) lexemes >>= closed src
     sign.CloseBlock
 
+-- a condition in parentheses, and a statement
+unfoldable pub arm_at : List ℕ → Reader → Statements → List Lexeme → Reading (Expr × Stmt)
+arm_at src inner statement lexemes =
+    condition_at src inner lexemes >>= λ c. told (λ s. (c.0, s)) (statement c.1)
+
+unfoldable pub else_at : Statements → List Lexeme → Reading (Option Stmt)
+else_at statement lexemes =
+    if is_sign sign.Else (word_of lexemes) then told Some (statement (after lexemes)) else Ok
+    (None, lexemes)
+
+unfoldable pub if_at : List ℕ → Reader → Statements → List Lexeme → Reading Stmt
+if_at src inner statement lexemes =
+    arm_at src inner statement lexemes >>= λ arm. told (stmt.If arm.0.0 arm.0.1)
+    (else_at statement arm.1)
+
 unfoldable pub while_at : List ℕ → Reader → Statements → List Lexeme → Reading Stmt
 while_at src inner statement lexemes =
     condition_at src inner lexemes >>= λ c. told (stmt.While c.0) (statement c.1)
@@ -84,65 +99,33 @@ for_at src inner statement lexemes =
     optional_at src inner sign.Close c.1 >>= λ update.
     told (stmt.For first.0 c.0 update.0) (statement update.1)
 
-unfoldable pub simple_by : List ℕ → Reader → Statements → Start → List Lexeme → Reading Stmt
-simple_by src inner statement start.Empty lexemes = Ok (stmt.Empty, after lexemes)
-simple_by src inner statement start.Block lexemes = told stmt.Block (block_at src statement
+-- a statement by what it begins with
+unfoldable pub started_at : List ℕ → Reader → Statements → Start → List Lexeme → Reading Stmt
+started_at src inner statement start.Empty lexemes = Ok (stmt.Empty, after lexemes)
+started_at src inner statement start.Block lexemes = told stmt.Block (block_at src statement
     (after lexemes))
-simple_by src inner statement start.Vars lexemes = variables_at src inner (after lexemes)
-simple_by src inner statement start.If lexemes = syntax src lexemes
-simple_by src inner statement start.While lexemes = while_at src inner statement (after lexemes)
-simple_by src inner statement start.For lexemes = for_at src inner statement (after lexemes)
-simple_by src inner statement start.Break lexemes = closed src sign.Semicolon (
+started_at src inner statement start.Vars lexemes = variables_at src inner (after lexemes)
+started_at src inner statement start.If lexemes = if_at src inner statement (after lexemes)
+started_at src inner statement start.While lexemes = while_at src inner statement (after lexemes)
+started_at src inner statement start.For lexemes = for_at src inner statement (after lexemes)
+started_at src inner statement start.Break lexemes = closed src sign.Semicolon (
   stmt.Break
       (span_of lexemes),
   after lexemes,
 )
-simple_by src inner statement start.Continue lexemes = closed src sign.Semicolon (
+started_at src inner statement start.Continue lexemes = closed src sign.Semicolon (
   stmt.Continue
       (span_of lexemes),
   after lexemes,
 )
-simple_by src inner statement start.Return lexemes = told stmt.Return
+started_at src inner statement start.Return lexemes = told stmt.Return
     (optional_at src inner sign.Semicolon (after lexemes))
-simple_by src inner statement start.Expression lexemes = told stmt.Expr
+started_at src inner statement start.Expression lexemes = told stmt.Expr
     (inner COMMA lexemes >>= closed src sign.Semicolon)
-
-unfoldable pub simple_at : List ℕ → Reader → Statements → List Lexeme → Reading Stmt
-simple_at src inner statement lexemes = simple_by src inner statement (start_of
-    (word_of lexemes)) lexemes
-
--- ---- `if`: a condition and what is done, the same after each `else if`, and what is done after an
--- `else`
-
-unfoldable pub arm_at : List ℕ → Reader → Statements → List Lexeme → Reading (Expr × Stmt)
-arm_at src inner statement lexemes =
-    condition_at src inner lexemes >>= λ c. told (λ s. (c.0, s)) (statement c.1)
-
-unfoldable pub next_arm : List ℕ → Reader → Statements → Next (Expr × Stmt)
-next_arm src inner statement lexemes =
-    if is_sign sign.Else (word_of lexemes) && is_sign sign.If (word_of (after lexemes))
-    then told Some (arm_at src inner statement (after (after lexemes))) else Ok (None, lexemes)
-
-unfoldable pub arms_at : List ℕ → Reader → Statements → List Lexeme → Reading (List (Expr × Stmt))
-arms_at src inner statement lexemes =
-    arm_at src inner statement lexemes >>= λ first. told (λ others. first.0 ∷ others) (items_at
-    (next_arm src inner statement) first.1)
-
-unfoldable pub last_at : List ℕ → Reader → Statements → List Lexeme → Reading (Option Stmt)
-last_at src inner statement lexemes =
-    if is_sign sign.Else (word_of lexemes) then told Some (simple_at src inner statement
-    (after lexemes)) else
-    Ok (None, lexemes)
-
-unfoldable pub if_at : List ℕ → Reader → Statements → List Lexeme → Reading Stmt
-if_at src inner statement lexemes =
-    arms_at src inner statement lexemes >>= λ arms. told (stmt.If arms.0)
-    (last_at src inner statement arms.1)
 
 unfoldable pub statement_by : List ℕ → Reader → Statements → Statements
 statement_by src inner statement lexemes =
-    if is_sign sign.If (word_of lexemes) then if_at src inner statement (after lexemes) else
-    simple_at src inner statement lexemes
+    started_at src inner statement (start_of (word_of lexemes)) lexemes
 
 -- a statement with so many levels left for it and its parts
 unfoldable pub statement_at : List ℕ → ℕ → Statements

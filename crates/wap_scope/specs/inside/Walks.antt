@@ -46,11 +46,6 @@ abbrev pub walked_each : {X : Type 0} → Scope → (X → List Mention) → Lis
     Result (List (List ℕ)) ScopeFault
 walked_each scope of = each (λ known item. walked scope known (of item))
 
--- the same of a condition, and of what is done where it holds
-abbrev pub arm_at : Scope → Bool → List (List ℕ) → Expr × Stmt → Result (List (List ℕ)) ScopeFault
-arm_at scope inside known arm =
-    walked scope known (refers arm.0) >>= λ known. walked scope known (mentions arm.1 inside)
-
 -- the same of a parameter
 abbrev pub parameter_at : Scope → List (List ℕ) → Id → Result (List (List ℕ)) ScopeFault
 parameter_at scope known v = mention_at scope known (Declares v)

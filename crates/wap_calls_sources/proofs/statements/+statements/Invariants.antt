@@ -4,8 +4,8 @@ use Rattle.wap_calls_sources.proofs.statements.+statements.Given as goal
 abbrev pub decreases-add_statement : goal.decreases-add_statement
 decreases-add_statement l = 3 * l.levels
 
-abbrev pub decreases-add_if : goal.decreases-add_if
-decreases-add_if l = 3 * l.levels + 2
+abbrev pub decreases-add_else : goal.decreases-add_else
+decreases-add_else l = 3 * l.levels + 2
 
 abbrev pub decreases-add_inside : goal.decreases-add_inside
 decreases-add_inside l = 3 * l.levels + 1

@@ -1,14 +1,9 @@
-use Rattle.std.proofs.Common.{◌≡◌, true, false, List, ◌++◌, length, Err, ap, ◌∙◌, arith}
+use Rattle.std.proofs.Common.{length, Err, ap, ◌∙◌, arith}
 use Rattle.std.proofs.lemmas.Result.{err_from_is_err_and}
-use Rattle.wap_program.specs.declared.expression.Expr.{Expr}
-use Rattle.wap_program.specs.declared.statement.Stmt.{Stmt}
-use Rattle.wap_grammar.specs.inside.Steps.{Reading, after, told, items_at}
-use Rattle.wap_grammar.specs.inside.Expressions.{expression_at}
-use Rattle.wap_grammar.specs.inside.Statements.{next_statement, arm_at, next_arm, statement_at}
+use Rattle.wap_grammar.specs.inside.Steps.{items_at}
+use Rattle.wap_grammar.specs.inside.Statements.{next_statement, arm_at, statement_at}
 use Rattle.wap_expressions.proofs.Loops.{begins, another, no_other, at_fault, at_exit}
-use Rattle.wap_parse.proofs.Lists.{begins_after}
-use Rattle.wap_parse.proofs.Nexts.{arm_found, arm_fault, no_arm, statement_found}
-use Rattle.wap_parse.proofs.Nexts.{statement_fault, no_statement}
+use Rattle.wap_parse.proofs.Nexts.{statement_found, statement_fault, no_statement}
 use Rattle.wap_parse.proofs.Levels.{deeper_statement}
 use Rattle.wap_parse.proofs.statements.+statements.Goals as goal
 
@@ -25,59 +20,6 @@ read_arm-returns t c =
     rw c.in_ok-condition.ensures
     (c.join.ensures (statement_at c.args.src.now c.args.levels c.in_ok-condition.rest.now)
     c.read_statement.ensures)
-
-pub read_other_arms-loop-init : goal.read_other_arms-loop-init
-read_other_arms-loop-init t c =
-    begins_after (next_arm c.args.src.now (expression_at c.args.src.now c.args.levels)
-    (statement_at c.args.src.now c.args.levels)) c.args.first c.args.lexemes.now
-
-pub read_other_arms-loop-preserved : goal.read_other_arms-loop-preserved
-read_other_arms-loop-preserved t c =
-    let inner = expression_at c.args.src.now c.args.levels in
-    let statement = statement_at c.args.src.now c.args.levels in
-    let next = next_arm c.args.src.now inner statement in
-    let whole : Reading (List (Expr × Stmt)) = told (λ others. c.args.first ++ others)
-    (items_at next c.args.lexemes.now) in
-    let held : c.is_else_if.result ≡ true = cc in
-    let there : c.after-in-loop.result.now ≡ after (after c.loop.rest.now) = cc in
-    let first = arm_found c.args.src.now inner statement c.loop.rest.now c.is_else_if.result
-    c.is_else_if.ensures c.after-in-loop.result.now c.in_ok-arm.arm c.in_ok-arm.behind.now
-    held there c.in_ok-arm.ensures in
-    rw c.in_ok-add.ensures.ok
-    (another next (length c.args.lexemes.now) c.loop.counter c.loop.arms c.loop.rest.now
-    whole c.in_ok-arm.arm c.in_ok-arm.behind.now c.loop-test.true first c.loop.invariant)
-
-pub read_other_arms-returns-then-not-is_else_if : goal.read_other_arms-returns-then-not-is_else_if
-read_other_arms-returns-then-not-is_else_if t c =
-    let inner = expression_at c.args.src.now c.args.levels in
-    let statement = statement_at c.args.src.now c.args.levels in
-    let next = next_arm c.args.src.now inner statement in
-    let whole : Reading (List (Expr × Stmt)) = told (λ others. c.args.first ++ others)
-    (items_at next c.args.lexemes.now) in
-    let held : c.is_else_if.result ≡ false = cc in
-    let none = no_arm c.args.src.now inner statement c.loop.rest.now c.is_else_if.result
-    c.is_else_if.ensures held in
-    no_other next (length c.args.lexemes.now) c.loop.counter c.loop.arms c.loop.rest.now whole
-    c.loop.rest.now c.loop-test.true none c.loop.invariant
-
-pub read_other_arms-returns-in_err-arm : goal.read_other_arms-returns-in_err-arm
-read_other_arms-returns-in_err-arm t c =
-    let inner = expression_at c.args.src.now c.args.levels in
-    let statement = statement_at c.args.src.now c.args.levels in
-    let next = next_arm c.args.src.now inner statement in
-    let whole : Reading (List (Expr × Stmt)) = told (λ others. c.args.first ++ others)
-    (items_at next c.args.lexemes.now) in
-    let held : c.is_else_if.result ≡ true = cc in
-    let there : c.after-in-loop.result.now ≡ after (after c.loop.rest.now) = cc in
-    let fault = c.in_err-arm.field-0.0 in
-    let left = err_from_is_err_and c.from_residual.result c.from_residual.ensures.1 in
-    at_exit (λ read. (read.0, read.1.now)) c.from_residual.result fault whole
-    (left.1 ∙ ap Err left.2)
-    (λ other. at_fault next (length c.args.lexemes.now) c.loop.counter c.loop.arms
-    c.loop.rest.now whole fault c.loop-test.true
-    (arm_fault c.args.src.now inner statement c.loop.rest.now c.is_else_if.result
-    c.is_else_if.ensures c.after-in-loop.result.now fault held there
-    (c.in_err-arm.ensures other)) c.loop.invariant)
 
 -- ---- statements
 

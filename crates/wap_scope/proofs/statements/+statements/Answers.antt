@@ -26,23 +26,31 @@ judge_statement-returns-in-Vars t c =
     rw (variables_parts (scope_by c.args.globals.now) c.args.known.now c.args.statement.now
     c.args.inside c.in-Vars.pairs c.in-Vars.is) (search rules)
 
-pub judge_statement-returns-in_err-judge_arms-in-If :
-    goal.judge_statement-returns-in_err-judge_arms-in-If
-judge_statement-returns-in_err-judge_arms-in-If t c =
+pub judge_statement-returns-in_err-judge_expression-in-If :
+    goal.judge_statement-returns-in_err-judge_expression-in-If
+judge_statement-returns-in_err-judge_expression-in-If t c =
     rw (if_parts (scope_by c.args.globals.now) c.args.known.now c.args.statement.now
-    c.args.inside c.in-If.arms c.in-If.other c.in-If.is) (search rules)
+    c.args.inside c.in-If.condition c.in-If.body c.in-If.other c.in-If.is) (search rules)
 
-pub judge_statement-returns-in-None : goal.judge_statement-returns-in-None
+pub judge_statement-returns-in_err-judge_statement-in-If :
+    goal.judge_statement-returns-in_err-judge_statement-in-If
+judge_statement-returns-in_err-judge_statement-in-If t c =
+    rw (if_parts (scope_by c.args.globals.now) c.args.known.now c.args.statement.now
+    c.args.inside c.in-If.condition c.in-If.body c.in-If.other c.in-If.is) (search rules)
+
+pub judge_statement-returns-in-None :
+    goal.judge_statement-returns-in-None
 judge_statement-returns-in-None t c =
     rw (if_parts (scope_by c.args.globals.now) c.args.known.now c.args.statement.now
-    c.args.inside c.in-If.arms None
-    (c.in-If.is ∙ ap (stmt.If c.in-If.arms) c.in-None.is)) (search rules)
+    c.args.inside c.in-If.condition c.in-If.body None
+    (c.in-If.is ∙ ap (stmt.If c.in-If.condition c.in-If.body) c.in-None.is)) (search rules)
 
-pub judge_statement-returns-in-Some : goal.judge_statement-returns-in-Some
+pub judge_statement-returns-in-Some :
+    goal.judge_statement-returns-in-Some
 judge_statement-returns-in-Some t c =
     rw (if_parts (scope_by c.args.globals.now) c.args.known.now c.args.statement.now
-    c.args.inside c.in-If.arms (Some c.in-Some.other)
-    (c.in-If.is ∙ ap (stmt.If c.in-If.arms) c.in-Some.is)) (search rules)
+    c.args.inside c.in-If.condition c.in-If.body (Some c.in-Some.other)
+    (c.in-If.is ∙ ap (stmt.If c.in-If.condition c.in-If.body) c.in-Some.is)) (search rules)
 
 pub judge_statement-returns-in_err-judge_expression-in-While :
     goal.judge_statement-returns-in_err-judge_expression-in-While
