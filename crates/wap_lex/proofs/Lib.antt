@@ -10,3 +10,4 @@ pub mod FirstShapes
 pub mod FirstTexts
 pub mod Fronts
 pub mod Sources
+pub mod Unique

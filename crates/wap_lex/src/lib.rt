@@ -6,6 +6,7 @@ mod class;
 mod comments;
 mod fault;
 mod first;
+mod laws;
 mod lexer;
 mod marks;
 mod numbers;
@@ -15,6 +16,7 @@ mod token;
 mod words;
 
 pub use fault::LexFault;
+pub use laws::{faults_have_no_tokens, tokens_are_one_list};
 pub use lexer::lex;
 pub use numbers::integer_of;
 pub use shape::Shape;
