@@ -9,13 +9,14 @@ use Rattle.wap_code.specs.declared.instr.InstrFault.{InstrFault}
 use Rattle.wap_code.specs.declared.instr.InstrFault.TheVariants.{Opcode, Operand}
 use Rattle.wap_code.specs.Rows.{rows}
 
--- how many bytes an operand takes, and an instruction
+-- how many bytes an operand takes
 abbrev pub width : Slot → ℕ
 width Absent = 0
 width Low = 0
 width Byte = 1
 width Word = 2
 
+-- how many bytes an instruction takes, with its code
 abbrev pub size : Row → ℕ
 size row = 1 + width row.a + width row.b + width row.c
 
@@ -23,6 +24,7 @@ size row = 1 + width row.a + width row.b + width row.c
 abbrev pub has_code : ℕ → Row → Bool
 has_code code row = nat_le row.first code && nat_lt (code - row.first) row.count
 
+-- the row that a code is of
 unfoldable pub row_of : ℕ → Option Row
 row_of code = find (has_code code) rows
 
@@ -33,6 +35,7 @@ value code at Low low = low
 value code at Byte low = slice_index code at
 value code at Word low = 256 * slice_index code at + slice_index code (at + 1)
 
+-- an instruction of a row at a place, with its operands, and the place after it
 abbrev pub read : Row → List ℕ → ℕ → Instr
 read row code at =
     let low = slice_index code at - row.first in
@@ -44,10 +47,12 @@ read row code at =
       next = at + size row;
     }
 
+-- an instruction of a row at a place, where the bytes don't end inside it
 abbrev pub read_row : Row → List ℕ → ℕ → Result Instr InstrFault
 read_row row code at =
     if nat_lt (length code - at) (size row) then Err Operand else Ok (read row code at)
 
+-- an instruction at a place whose byte is a code of this row, or of none
 abbrev pub read_by : Option Row → List ℕ → ℕ → Result Instr InstrFault
 read_by None code at = Err Opcode
 read_by (Some row) code at = read_row row code at

@@ -4,6 +4,7 @@ use Rattle.std.specs.Prelude.{ℕ, Bool, ◌==◌, ◌&&◌, bytes_eq, codes}
 use Rattle.std.specs.Prelude.{encode_utf8_all, map, List, [], ◌∷◌, Option}
 use Rattle.std.specs.Map.{lookup}
 
+-- the functions, in the order of their numbers
 abbrev pub library : List (ℕ × ℕ × ℕ × List ℕ × List ℕ)
 library =
     (0, 0, 1, codes "Lang", codes "abs") ∷
@@ -79,6 +80,7 @@ by_number row = ((row.0, row.1), row.2)
 abbrev pub by_name : ℕ × ℕ × ℕ × List ℕ × List ℕ → (List ℕ × List ℕ) × (ℕ × ℕ × ℕ)
 by_name row = ((row.3, row.4), (row.0, row.1, row.2))
 
+-- whether these are the numbers of a library and of a function in it
 abbrev pub is_function : ℕ → ℕ → ℕ × ℕ → Bool
 is_function number function key = key.0 == number && key.1 == function
 
@@ -87,8 +89,10 @@ abbrev pub is_named : List ℕ → List ℕ → List ℕ × List ℕ → Bool
 is_named name function key =
     bytes_eq key.0 (encode_utf8_all name) && bytes_eq key.1 (encode_utf8_all function)
 
+-- how many arguments the function of these numbers takes
 unfoldable pub lib_args : ℕ → ℕ → Option ℕ
 lib_args number function = lookup (is_function number function) (map by_number library)
 
+-- the numbers of the function with these names, and how many arguments it takes
 unfoldable pub lib_named : List ℕ → List ℕ → Option (ℕ × ℕ × ℕ)
 lib_named name function = lookup (is_named name function) (map by_name library)

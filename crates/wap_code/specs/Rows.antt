@@ -32,6 +32,7 @@ row first count operation name a b c operands takes gives after = record {
   after = after;
 }
 
+-- the instructions, the shorter spellings of an operation first
 abbrev pub rows : List Row
 rows =
     row 0x80 32 op.JumpFw op.JumpFwS Low Absent Absent Plain (Values 0) 0 Forward ∷

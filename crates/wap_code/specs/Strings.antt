@@ -8,7 +8,7 @@ use Rattle.wap_code.specs.declared.unit.Constant.TheVariants.{Int8, Int16, Int32
 use Rattle.wap_code.specs.declared.unit.Constant.TheVariants.{Empty, Coded}
 use Rattle.wap_base.specs.Charsets.{charset_of, characters_of}
 
--- in a pool whose strings are in the character set of this number
+-- the characters of a string in a pool whose strings are in the character set of this number
 abbrev pub string_of : ℕ → Constant → Option (List ℕ)
 string_of charset (Int8 number) = None
 string_of charset (Int16 number) = None
@@ -18,10 +18,11 @@ string_of charset (Utf8 text) = Some text
 string_of charset Empty = Some []
 string_of charset (Coded text) = option_map (λ set. characters_of set text) (charset_of charset)
 
--- the constant with this index
+-- the characters of the constant with this index
 abbrev pub string_at : Unit → ℕ → Option (List ℕ)
 string_at unit index = option_and_then (string_of unit.charset) (slice_get unit.constants index)
 
+-- whether a constant is a string
 abbrev pub holds_text : Constant → Bool
 holds_text (Int8 number) = false
 holds_text (Int16 number) = false
