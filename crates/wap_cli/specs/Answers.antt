@@ -1,11 +1,12 @@
 -- What a command on one page comes to: verify, list, check and canon. This project's own.
 use Rattle.std.specs.Prelude.{◌≡◌, ◌≢◌, ◌≤◌, ℕ, List, Option, Some, None, IfSome, Result, Ok}
 use Rattle.std.specs.Prelude.{Err}
-use Rattle.wap_base.specs.declared.store.Fetched.{Fetched}
-use Rattle.wap_base.specs.declared.store.Fetched.TheVariants as fetched
+use Rattle.wap_devices.specs.declared.store.Fetched.{Fetched}
+use Rattle.wap_devices.specs.declared.store.Fetched.TheVariants as fetched
 use Rattle.wap_base.specs.Contents.{Contents, page_named}
 use Rattle.wap_base.specs.Count.{Rose}
-use Rattle.wap_base.specs.Transfer.{Appends, AppendsPrefix}
+use Rattle.wap_devices.specs.Transfer.{Appends, AppendsPrefix}
+use Rattle.wap_devices.specs.Sinks.{SinkSeen}
 use Rattle.wap_words.specs.declared.words.PageCommand.{PageCommand}
 use Rattle.wap_words.specs.declared.words.PageCommand.TheVariants as command
 use Rattle.wap_pages.specs.declared.fault.PageErr.{PageErr}
@@ -64,27 +65,26 @@ IsOfPage NoMemory = Unit {0}
 IsOfPage (BadKey line fault) = ⊥
 IsOfPage TooManyKeys = ⊥
 
--- what a command comes to on a page: the sink and its faults before and after, and how it ended
-pub record Answers (command : PageCommand) (page : Option (List ℕ)) (before after : Option (List ℕ))
-    (faults rest : ℕ)
+-- what a command comes to on a page: the sink before and after, and how it ended
+pub record Answers (command : PageCommand) (page : Option (List ℕ)) (before after : SinkSeen)
     (status : Status) : Type 0 where
   -- on Done its text was written
   pub done : status ≡ Done
-      → (text : List ℕ) × IsTextOf command page text × Appends before after text
+      → (text : List ℕ) × IsTextOf command page text × Appends before.written after.written text
   -- on Refused there is no text, for this reason
   pub refused : (fault : PageFault) → status ≡ Refused fault → IsReasonOf command page fault
   pub accepted : (text : List ℕ) (fault : PageFault) → IsTextOf command page text
       → status ≢ Refused fault
   -- where the sink failed, a prefix of its text was written
-  pub prefix : status ≡ WriteFault
-      → (text : List ℕ) × IsTextOf command page text × AppendsPrefix before after text
-  pub failed : status ≡ WriteFault → Rose faults rest
-  -- and else nothing
-  pub quiet : status ≢ Done → status ≢ WriteFault → after ≡ before
-  pub steady : status ≢ WriteFault → rest ≡ faults
-  pub counts : faults ≤ rest
+  pub prefix : status ≡ WriteFault → (text : List ℕ) × IsTextOf command page text
+      × AppendsPrefix before.written after.written text
+  pub failed : status ≡ WriteFault → Rose before.faults after.faults
+  -- and else nothing is written
+  pub unwritten : status ≢ Done → status ≢ WriteFault → after ≡ before
+  pub steady : status ≢ WriteFault → after.faults ≡ before.faults
+  pub counts : before.faults ≤ after.faults
   pub ends : IsOfPage status
-  pub told : status ≢ StoreFault
+  pub stored : status ≢ StoreFault
 
 -- how a command ends that has no text
 abbrev pub refused_by : PageErr → Status

@@ -7,8 +7,9 @@ ghost use Rattle.wap_cli.specs.Headline.{begun_by};
 
 use crate::Status;
 use std::alloc::Global;
-use wap_base::{Limits, NoMemory, Sink, Source, Store};
+use wap_base::{Limits, NoMemory};
 use wap_browse::Beginning;
+use wap_devices::{Sink, Source, Store};
 use wap_pages::Cached;
 use wap_words::Browse;
 
@@ -24,26 +25,14 @@ pub(crate) fn browse<S: Store, I: Source, O: Sink>(
     requires few { begun.cache ≤ MOST_CAPACITY }
     ensures { Browses (begun_by begun)
         (browsed begun.cache (record {
-          contents = S.contents store;
-          fetches = S.fetches store;
-          listings = S.listings store;
-          store_faults = S.faults store;
-          left = I.left keys.old;
-          ends = I.ends keys.old;
-          read_faults = I.faults keys.old;
-          written = O.written out.old;
-          write_faults = O.faults out.old;
+          store = S.seen store;
+          source = I.seen keys.old;
+          sink = O.seen out.old;
         }))
         (browsed begun.cache (record {
-          contents = S.contents result.1;
-          fetches = S.fetches result.1;
-          listings = S.listings result.1;
-          store_faults = S.faults result.1;
-          left = I.left keys.new;
-          ends = I.ends keys.new;
-          read_faults = I.faults keys.new;
-          written = O.written out.new;
-          write_faults = O.faults out.new;
+          store = S.seen result.1;
+          source = I.seen keys.new;
+          sink = O.seen out.new;
         }))
         result.0 }
 {

@@ -7,7 +7,8 @@ use crate::browsing::browse;
 use crate::pages::answer;
 use std::alloc::Global;
 use std::thread::Threads;
-use wap_base::{Gate, NoMemory, Sink, Source, Store, Text};
+use wap_base::{NoMemory, Text};
+use wap_devices::{Gate, Sink, Source, Store};
 use wap_words::{Command, read_words};
 
 /// Runs the command that the words are, over the pages of the store and the key lines of the
@@ -22,28 +23,8 @@ pub fn run<R: Threads + Sync, S: Store, I: Source, O: Sink, G: Gate + Sync>(
     _gate: &G,
 ) -> (Status, S)
     ensures { Runs (command words.now)
-        (record {
-          contents = S.contents store;
-          fetches = S.fetches store;
-          listings = S.listings store;
-          store_faults = S.faults store;
-          left = I.left keys.old;
-          ends = I.ends keys.old;
-          read_faults = I.faults keys.old;
-          written = O.written out.old;
-          write_faults = O.faults out.old;
-        })
-        (record {
-          contents = S.contents result.1;
-          fetches = S.fetches result.1;
-          listings = S.listings result.1;
-          store_faults = S.faults result.1;
-          left = I.left keys.new;
-          ends = I.ends keys.new;
-          read_faults = I.faults keys.new;
-          written = O.written out.new;
-          write_faults = O.faults out.new;
-        })
+        (record { store = S.seen store; source = I.seen keys.old; sink = O.seen out.old })
+        (record { store = S.seen result.1; source = I.seen keys.new; sink = O.seen out.new })
         result.0 }
 {
     match read_words(alloc, words) {

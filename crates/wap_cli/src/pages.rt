@@ -1,13 +1,14 @@
 //! Commands on one page.
-ghost use Rattle.std.specs.Prelude.{◌≡◌, ◌≢◌, ℕ, ◌≤◌, ◌<◌, ◌^◌, List, Option, Some, length};
-ghost use Rattle.wap_base.specs.Count.{raised, Rose};
-ghost use Rattle.wap_base.specs.Pages.{IsSmall};
-ghost use Rattle.wap_cli.specs.Answers.{IsOfPage, IsPageOf, Answers, page_of};
+ghost use Rattle.std.specs.Prelude.{◌≡◌, ◌<◌, ◌^◌, Some, length};
+ghost use Rattle.wap_devices.specs.Pages.{IsSmall};
+ghost use Rattle.wap_cli.specs.Answers.{Answers, page_of};
 ghost use Rattle.wap_cli.specs.Answers.{refused_by, written_so};
+ghost use Rattle.wap_cli.specs.Headline.{Serves};
 
 use crate::Status;
 use std::alloc::Global;
-use wap_base::{Bytes, Failed, Fetched, Sink, Store, StoreErr, Text, write_all};
+use wap_base::Text;
+use wap_devices::{Failed, Fetched, Sink, Store, StoreErr, write_all};
 use wap_dis::listing;
 use wap_inspect::{PageErr, PageFault, canonical, check_line, unit_in, verify_line};
 use wap_words::PageCommand;
@@ -35,8 +36,8 @@ fn written_so(wrote: Result<(), Failed>) -> Status
 /// Writes the line of a unit that may be run.
 fn verify<O: Sink>(alloc: Global, bytes: &[u8], out: &mut O) -> Status
     requires { length bytes.now < 2 ^ 31 }
-    ensures { Answers PageCommand.Verify (Some bytes.now) (O.written out.old) (O.written out.new)
-        (O.faults out.old) (O.faults out.new) result }
+    ensures { Answers PageCommand.Verify (Some bytes.now) (O.seen out.old) (O.seen out.new)
+        result }
 {
     match verify_line(alloc, bytes) {
         Ok(line) => written_so(write_all(out, line.as_slice())),
@@ -47,8 +48,8 @@ fn verify<O: Sink>(alloc: Global, bytes: &[u8], out: &mut O) -> Status
 /// Writes the listing of a unit.
 fn list<O: Sink>(alloc: Global, bytes: &[u8], out: &mut O) -> Status
     requires { length bytes.now < 2 ^ 31 }
-    ensures { Answers PageCommand.List (Some bytes.now) (O.written out.old) (O.written out.new)
-        (O.faults out.old) (O.faults out.new) result }
+    ensures { Answers PageCommand.List (Some bytes.now) (O.seen out.old) (O.seen out.new)
+        result }
 {
     match unit_in(alloc, bytes) {
         Ok(unit) => written_so(listing(&unit, out)),
@@ -59,8 +60,8 @@ fn list<O: Sink>(alloc: Global, bytes: &[u8], out: &mut O) -> Status
 /// Writes the one spelling of a document.
 fn canon<O: Sink>(alloc: Global, bytes: &[u8], out: &mut O) -> Status
     requires { length bytes.now < 2 ^ 31 }
-    ensures { Answers PageCommand.Canon (Some bytes.now) (O.written out.old) (O.written out.new)
-        (O.faults out.old) (O.faults out.new) result }
+    ensures { Answers PageCommand.Canon (Some bytes.now) (O.seen out.old) (O.seen out.new)
+        result }
 {
     match canonical(alloc, bytes) {
         Ok(text) => written_so(write_all(out, text.as_slice())),
@@ -71,8 +72,8 @@ fn canon<O: Sink>(alloc: Global, bytes: &[u8], out: &mut O) -> Status
 /// Writes the line of a good deck.
 fn check<O: Sink>(alloc: Global, bytes: &[u8], out: &mut O) -> Status
     requires { length bytes.now < 2 ^ 31 }
-    ensures { Answers PageCommand.Check (Some bytes.now) (O.written out.old) (O.written out.new)
-        (O.faults out.old) (O.faults out.new) result }
+    ensures { Answers PageCommand.Check (Some bytes.now) (O.seen out.old) (O.seen out.new)
+        result }
 {
     match check_line(alloc, bytes) {
         Ok(line) => written_so(write_all(out, line.as_slice())),
@@ -83,8 +84,8 @@ fn check<O: Sink>(alloc: Global, bytes: &[u8], out: &mut O) -> Status
 /// Does a command on a page with these bytes.
 fn answer_bytes<O: Sink>(alloc: Global, command: PageCommand, bytes: &[u8], out: &mut O) -> Status
     requires { length bytes.now < 2 ^ 31 }
-    ensures { Answers command (Some bytes.now) (O.written out.old) (O.written out.new)
-        (O.faults out.old) (O.faults out.new) result }
+    ensures { Answers command (Some bytes.now) (O.seen out.old) (O.seen out.new)
+        result }
 {
     match command {
         PageCommand::Verify => verify(alloc, bytes, out),
@@ -97,8 +98,8 @@ fn answer_bytes<O: Sink>(alloc: Global, command: PageCommand, bytes: &[u8], out:
 /// Does a command on what the store answered.
 fn answer_page<O: Sink>(alloc: Global, command: PageCommand, page: &Fetched, out: &mut O) -> Status
     requires { IsSmall page.now }
-    ensures { Answers command (page_of page.now) (O.written out.old) (O.written out.new)
-        (O.faults out.old) (O.faults out.new) result }
+    ensures { Answers command (page_of page.now) (O.seen out.old) (O.seen out.new)
+        result }
 {
     match page {
         Fetched::Missing => Status::Refused(PageFault::Missing),
@@ -114,25 +115,8 @@ pub(crate) fn answer<S: Store, O: Sink>(
     store: &mut S,
     out: &mut O,
 ) -> Status
-    ensures told { result ≢ Status.StoreFault → (page : Option (List ℕ))
-        × IsPageOf (S.contents store.old) name.now page
-        × Answers command page (O.written out.old) (O.written out.new)
-        (O.faults out.old) (O.faults out.new) result }
-    ensures ends { IsOfPage result }
-    ensures asked { S.fetches store.new ≡ raised (S.fetches store.old) }
-    ensures listings { S.listings store.new ≡ S.listings store.old }
-    ensures store_fault { result ≡ Status.StoreFault
-        → Rose (S.faults store.old) (S.faults store.new) }
-    ensures unwritten { result ≢ Status.Done → result ≢ Status.WriteFault
-        → O.written out.new ≡ O.written out.old }
-    ensures write_fault { result ≡ Status.WriteFault
-        → Rose (O.faults out.old) (O.faults out.new) }
-    ensures store_steady { result ≢ Status.StoreFault → result ≢ Status.NoMemory
-        → S.faults store.new ≡ S.faults store.old }
-    ensures write_steady { result ≢ Status.WriteFault → O.faults out.new ≡ O.faults out.old }
-    ensures kept { S.contents store.new ≡ S.contents store.old }
-    ensures store_faults { S.faults store.old ≤ S.faults store.new }
-    ensures sink_faults { O.faults out.old ≤ O.faults out.new }
+    ensures { Serves command name.now (S.seen store.old) (S.seen store.new) (O.seen out.old)
+        (O.seen out.new) result }
 {
     match store.fetch(name) {
         Ok(page) => answer_page(alloc, command, &page, out),

@@ -1,11 +1,10 @@
 //! How a run of the program ended.
-ghost use Rattle.std.specs.Prelude.{◌≡◌, ◌++◌, ◌≤◌, OnOk, OnErr, codes};
-ghost use Rattle.wap_base.specs.Count.{Rose};
-ghost use Rattle.wap_base.specs.Transfer.{Appends, AppendsPrefix};
+ghost use Rattle.std.specs.Prelude.{◌≡◌, ◌++◌, codes};
+ghost use Rattle.wap_devices.specs.Sinks.{Puts};
 ghost use Rattle.wap_status.specs.Statuses.{number_of, fault_name, fixed_line, status_line};
 
 use itoa::Buffer;
-use wap_base::{Failed, Sink, write_all};
+use wap_devices::{Failed, Sink, write_all};
 use wap_keys::KeyFault;
 use wap_pages::PageFault;
 
@@ -47,13 +46,7 @@ fn fault_end(fault: KeyFault) -> &'static [u8]
 
 /// Writes the line of a line that is no key line.
 fn print_bad_key<O: Sink>(out: &mut O, line: u32, fault: KeyFault) -> Result<(), Failed>
-    ensures whole { OnOk result (Appends (O.written out.old) (O.written out.new)
-        (status_line (Status.BadKey line fault))) }
-    ensures prefix { OnErr result (AppendsPrefix (O.written out.old) (O.written out.new)
-        (status_line (Status.BadKey line fault))) }
-    ensures steady { OnOk result (O.faults out.new ≡ O.faults out.old) }
-    ensures faults { O.faults out.old ≤ O.faults out.new }
-    ensures failed { OnErr result (Rose (O.faults out.old) (O.faults out.new)) }
+    ensures { Puts (status_line (Status.BadKey line fault)) (O.seen out.old) (O.seen out.new) result }
 {
     let mut buffer = Buffer::new();
     write_all(out, b"wap: line ")?;
@@ -63,13 +56,7 @@ fn print_bad_key<O: Sink>(out: &mut O, line: u32, fault: KeyFault) -> Result<(),
 
 /// Writes the line of a page that is refused.
 fn print_refused<O: Sink>(out: &mut O, fault: &PageFault) -> Result<(), Failed>
-    ensures whole { OnOk result (Appends (O.written out.old) (O.written out.new)
-        (status_line (Status.Refused fault.now))) }
-    ensures prefix { OnErr result (AppendsPrefix (O.written out.old) (O.written out.new)
-        (status_line (Status.Refused fault.now))) }
-    ensures steady { OnOk result (O.faults out.new ≡ O.faults out.old) }
-    ensures faults { O.faults out.old ≤ O.faults out.new }
-    ensures failed { OnErr result (Rose (O.faults out.old) (O.faults out.new)) }
+    ensures { Puts (status_line (Status.Refused fault.now)) (O.seen out.old) (O.seen out.new) result }
 {
     write_all(out, b"wap: refused ")?;
     fault.print(out)?;
@@ -111,13 +98,7 @@ impl Status {
 
     /// Writes the line that tells of it, and nothing where all went well.
     pub fn print<O: Sink>(&self, out: &mut O) -> Result<(), Failed>
-        ensures whole { OnOk result (Appends (O.written out.old) (O.written out.new)
-            (status_line self.now)) }
-        ensures prefix { OnErr result (AppendsPrefix (O.written out.old) (O.written out.new)
-            (status_line self.now)) }
-        ensures steady { OnOk result (O.faults out.new ≡ O.faults out.old) }
-        ensures faults { O.faults out.old ≤ O.faults out.new }
-        ensures failed { OnErr result (Rose (O.faults out.old) (O.faults out.new)) }
+        ensures { Puts (status_line self.now) (O.seen out.old) (O.seen out.new) result }
     {
         match self {
             Status::Refused(fault) => print_refused(out, fault),

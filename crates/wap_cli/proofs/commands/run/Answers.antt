@@ -19,13 +19,7 @@ browse-requires-clause-few g c =
 
 pub returns-in-Err : goal.returns-in-Err
 returns-in-Err g c = nothing_runs (command c.args.words.now) (record {
-  contents = g.S.Store.contents c.args.store;
-  fetches = g.S.Store.fetches c.args.store;
-  listings = g.S.Store.listings c.args.store;
-  store_faults = g.S.Store.faults c.args.store;
-  left = g.I.Source.left c.args.keys.now;
-  ends = g.I.Source.ends c.args.keys.now;
-  read_faults = g.I.Source.faults c.args.keys.now;
-  written = g.O.Sink.written c.args.out.now;
-  write_faults = g.O.Sink.faults c.args.out.now;
+  store = g.S.Store.seen c.args.store;
+  source = g.I.Source.seen c.args.keys.now;
+  sink = g.O.Sink.seen c.args.out.now;
 })

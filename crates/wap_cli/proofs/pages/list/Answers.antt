@@ -8,25 +8,18 @@ use Rattle.wap_cli.proofs.pages.list.Goals as goal
 
 pub returns-in-Ok : goal.returns-in-Ok
 returns-in-Ok g c =
-    let before = g.O.Sink.written c.args.out.now in
-    let after = g.O.Sink.written c.listing.new.out in
-    let faults = g.O.Sink.faults c.args.out.now in
-    let rest = g.O.Sink.faults c.listing.new.out in
-    subst (λ (status : Status).
-    Answers command.List (Some c.args.bytes.now) before after faults rest status)
+    let before = g.O.Sink.seen c.args.out.now in
+    let after = g.O.Sink.seen c.listing.new.out in
+    subst (λ (status : Status). Answers command.List (Some c.args.bytes.now) before after status)
     (sym c.written_so.ensures)
-    (answers_text command.List c.args.bytes.now before after faults rest c.listing.result
-    (listing c.in-Ok.unit) (c.in-Ok.unit, c.in-Ok.ensures.found, refl)
-    c.listing.ensures.whole c.listing.ensures.prefix c.listing.ensures.steady
-    c.listing.ensures.faults c.listing.ensures.failed)
+    (answers_text command.List c.args.bytes.now before after c.listing.result
+    (listing c.in-Ok.unit) (c.in-Ok.unit, c.in-Ok.ensures.found, refl) c.listing.ensures)
 
 pub returns-in-Err : goal.returns-in-Err
 returns-in-Err g c =
-    let before = g.O.Sink.written c.args.out.now in
-    let faults = g.O.Sink.faults c.args.out.now in
-    subst (λ (status : Status).
-    Answers command.List (Some c.args.bytes.now) before before faults faults status)
+    let sink = g.O.Sink.seen c.args.out.now in
+    subst (λ (status : Status). Answers command.List (Some c.args.bytes.now) sink sink status)
     (sym c.refused_by.ensures)
-    (answers_error command.List c.args.bytes.now before before faults faults c.in-Err.error
+    (answers_error command.List c.args.bytes.now sink c.in-Err.error
     (λ fault is. c.in-Err.ensures.refused fault (ap Err is))
     (λ text is other. no_value is.0 c.in-Err.error (c.in-Err.ensures.only is.0 is.1 other)))

@@ -1,4 +1,4 @@
-use Rattle.std.proofs.Common.{◌<◌, length, sym, refl, arith}
+use Rattle.std.proofs.Common.{◌<◌, length, arith}
 use Rattle.wap_devices.proofs.Putting.{has_put_nothing, puts_next, puts_next_fails, puts_all}
 use Rattle.wap_pages.specs.Printing.{field_text}
 use Rattle.wap_pages.proofs.printing.print_fields.Goals as goal
@@ -23,4 +23,6 @@ loop-field-preserved g c =
     c.in_ok-print_field.ensures
 
 pub returns : goal.returns
-returns g c = ?
+returns g c =
+    puts_all field_text c.args.fields.now c.loop-field.field-index c.loop-field-test.false
+    (g.O.Sink.seen c.args.out.now) (g.O.Sink.seen c.loop-field.out) tt c.loop-field.invariant

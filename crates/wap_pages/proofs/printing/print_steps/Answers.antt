@@ -1,4 +1,4 @@
-use Rattle.std.proofs.Common.{◌<◌, length, sym, refl, arith}
+use Rattle.std.proofs.Common.{◌<◌, length, arith}
 use Rattle.wap_devices.proofs.Putting.{has_put_nothing, puts_next, puts_next_fails, puts_all}
 use Rattle.wap_pages.specs.Printing.{step_text}
 use Rattle.wap_pages.proofs.printing.print_steps.Goals as goal
@@ -23,4 +23,6 @@ loop-number-preserved g c =
     c.in_ok-print_step.ensures
 
 pub returns : goal.returns
-returns g c = ?
+returns g c =
+    puts_all step_text c.args.numbers.now c.loop-number.number-index c.loop-number-test.false
+    (g.O.Sink.seen c.args.out.now) (g.O.Sink.seen c.loop-number.out) tt c.loop-number.invariant

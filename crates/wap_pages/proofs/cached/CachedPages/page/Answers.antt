@@ -112,8 +112,8 @@ returns-in_err-page-2-clause-failed g c = λ why.
     let left = err_from_is_err_and c.from_residual-in_err-page-2.result
     c.from_residual-in_err-page-2.ensures.1 in
     rw (← c.self.view_is)
-    (miss_fails behind (names_in c.self.inside.kept)
-    (g.S.Store.seen c.fetch.new.store).contents (names_in c.look_up.new.kept)
+    (miss_fails (g.S.Store.seen c.self.inside.store) (names_in c.self.inside.kept)
+    (g.S.Store.seen c.fetch.new.store) (names_in c.look_up.new.kept)
     (c.args.name.now, c.args.fresh) (looked.miss none) c.fetch.ensures.asks.counted
     (c.in_err-page-2.ensures.asks.failed
     (subst (λ (r : Result Page RunErr). IsErrOf r Store) (left.1 ∙ ap Err left.2) why)))
@@ -123,10 +123,9 @@ returns-in_err-page-2-clause-stays g c =
     let behind = (g.S.Store.seen c.self.inside.store).contents in
     let looked = c.look_up.ensures behind c.self.invariant in
     rw (← c.self.view_is)
-    (miss_stays behind (names_in c.self.inside.kept)
-    (g.S.Store.seen c.fetch.new.store).contents (names_in c.look_up.new.kept)
-    c.fetch.ensures.asks.kept looked.capacity c.fetch.ensures.asks.faults c.fetch.ensures.asks.counted
-    c.fetch.ensures.asks.listings)
+    (miss_stays (g.S.Store.seen c.self.inside.store) (names_in c.self.inside.kept)
+    (g.S.Store.seen c.fetch.new.store) (names_in c.look_up.new.kept)
+    c.fetch.ensures.asks looked.capacity)
 
 pub returns-in_err-page-2-clause-no_more : goal.returns-in_err-page-2-clause-no_more
 returns-in_err-page-2-clause-no_more g c =
