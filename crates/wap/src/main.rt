@@ -4,8 +4,9 @@
 use std::env;
 use std::io::ErrorKind;
 use std::process::ExitCode;
-use wap_base::{NoGate, NoMemory, Text};
+use wap_base::{NoMemory, Text};
 use wap_cli::{Status, run};
+use wap_devices::NoGate;
 use wap_system::{FolderStore, StdinSource, StdoutSink};
 
 /// The pages of the folder that is named first, and the words of the command after it, where there

@@ -1,8 +1,8 @@
 //! Calls of the listing.
 use crate::units::read_unit;
-use wap_base::MemSink;
 use wap_casebook::{Call, CaseFault, text};
 use wap_code::Unit;
+use wap_devices::MemSink;
 use wap_dis::listing;
 
 /// The most bytes of a listing.

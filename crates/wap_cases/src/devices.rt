@@ -1,7 +1,8 @@
 //! The devices that a case is played over.
 use std::alloc::Global;
-use wap_base::{MemSink, NoMemory};
+use wap_base::NoMemory;
 use wap_casebook::{CaseFault, number, split_word};
+use wap_devices::MemSink;
 
 /// The one number that a line has, from 0 on.
 pub fn one_number(line: &[u8]) -> Result<u64, CaseFault> {

@@ -2,11 +2,10 @@
 use crate::case::Case;
 use std::alloc::Global;
 use std::thread::Threads;
-use wap_base::{
-    Bytes, MemSink, MemSource, MemStore, NoGate, NoMemory, Source, Store, StoreErr, Text, are_pages,
-};
+use wap_base::{Bytes, NoMemory, Text};
 use wap_casebook::CaseFault;
 use wap_cli::{Status, run};
+use wap_devices::{MemSink, MemSource, MemStore, NoGate, Source, Store, StoreErr, are_pages};
 
 /// What came of a run.
 #[derive(Drop)]

@@ -1,16 +1,24 @@
 -- What a run comes to where memory runs out before anything is done.
-use Rattle.std.proofs.Common.{ℕ, List, Option, Some, None, inl, inr, refl, arith}
+use Rattle.std.proofs.Common.{◌≡◌, ◌≢◌, ℕ, List, Option, Some, None, Ok, Err, inl, inr, refl, ap, ◌∙◌, arith}
+use Rattle.std.specs.Prelude.{IfSome}
 use Rattle.wap_base.specs.Contents.{Contents, page_named}
 use Rattle.wap_devices.specs.Sinks.{SinkSeen}
 use Rattle.wap_words.specs.declared.words.Command.{Command}
 use Rattle.wap_words.specs.declared.words.Command.TheVariants.{Browse, Page}
 use Rattle.wap_words.specs.declared.words.PageCommand.{PageCommand}
-use Rattle.wap_status.specs.declared.status.Status.TheVariants.{NoMemory}
+use Rattle.wap_status.specs.declared.status.Status.{Status}
+use Rattle.wap_status.specs.declared.status.Status.TheVariants.{Done, Usage, Refused, StoreFault}
+use Rattle.wap_status.specs.declared.status.Status.TheVariants.{KeyReadFault, WriteFault, NoMemory}
+use Rattle.wap_status.specs.declared.status.Status.TheVariants.{BadKey, TooManyKeys}
+use Rattle.wap_devices.specs.Stores.{StoreSeen, Fetches}
+use Rattle.wap_devices.specs.Contents.{answer_of, answer_for}
+use Rattle.wap_devices.specs.declared.store.Fetched.{Fetched}
+use Rattle.wap_devices.specs.declared.store.StoreErr.TheVariants as store_error
 use Rattle.wap_browse.proofs.Exits.{nothing_browses}
 use Rattle.wap_browse.proofs.Summary.{browses_by}
-use Rattle.wap_cli.specs.Answers.{IsPageOf, Answers}
+use Rattle.wap_cli.specs.Answers.{IsPageOf, IsOfPage, Answers, page_of}
 use Rattle.wap_cli.specs.Devices.{Devices, browsed}
-use Rattle.wap_cli.specs.Headline.{begun_by, ServesUnread, Runs}
+use Rattle.wap_cli.specs.Headline.{begun_by, IsAnswer, Serves, ServesUnread, Runs}
 
 pub nothing_answered : (command : PageCommand) (page : Option (List ℕ)) (sink : SinkSeen)
     → Answers command page sink sink NoMemory
@@ -70,3 +78,98 @@ nothing_runs (Some (Browse one)) old =
     browses_by (begun_by one) (browsed one.cache old) (browsed one.cache old) NoMemory
     (nothing_browses (begun_by one) (browsed one.cache old))
 nothing_runs (Some (Page command name)) old = nothing_served command name old
+
+-- ---- what the store answered
+
+page_of_answer : (page : Option (List ℕ)) → page_of (answer_of page) ≡ page
+page_of_answer (Some bytes) = refl
+page_of_answer None = refl
+
+-- what the store answered is the page of the name
+found_page : (contents : Option Contents) (name : List ℕ) (fetched : Fetched)
+    → IfSome contents (λ pages. fetched ≡ answer_for name pages)
+    → IsPageOf contents name (page_of fetched)
+found_page None name fetched is = tt
+found_page (Some pages) name fetched is =
+    ap page_of is ∙ page_of_answer (page_named name pages)
+
+-- a status of a command on one page that is no fault
+is_answer : (status : Status) → IsOfPage status → status ≢ StoreFault → status ≢ WriteFault
+    → IsAnswer status
+is_answer Done of_page store sink = inl refl
+is_answer Usage of_page store sink = absurd of_page
+is_answer (Refused fault) of_page store sink = inr (inl (fault, refl))
+is_answer StoreFault of_page store sink = absurd (store refl)
+is_answer KeyReadFault of_page store sink = absurd of_page
+is_answer WriteFault of_page store sink = absurd (sink refl)
+is_answer NoMemory of_page store sink = inr (inr refl)
+is_answer (BadKey line fault) of_page store sink = absurd of_page
+is_answer TooManyKeys of_page store sink = absurd of_page
+
+module _ (command : PageCommand) (name : List ℕ) (store store_after : StoreSeen)
+    (sink sink_after : SinkSeen) where
+  -- the store answered, and the command did its work on that
+  pub serves_page : (fetched : Fetched) (status : Status)
+      → Fetches name store store_after (Ok fetched)
+      → Answers command (page_of fetched) sink sink_after status
+      → Serves command name store store_after sink sink_after status
+  serves_page fetched status fetches answers = record {
+    page = λ other.
+        (page_of fetched, found_page store.contents name fetched fetches.found, answers);
+    ends = answers.ends;
+    store_fault = λ is. absurd (answers.stored is);
+    write_fault = answers.failed;
+    unwritten = answers.unwritten;
+    store_steady = λ read remembered. fetches.asked.steady;
+    write_steady = answers.steady;
+    complete = λ store sink.
+        is_answer status answers.ends answers.stored (λ is. sink (answers.failed is));
+    asked = λ other. fetches.fetches;
+    once = inr fetches.fetches;
+    listings = fetches.listings;
+    kept = fetches.asked.contents;
+    store_counts = fetches.asked.counts;
+    write_counts = answers.counts;
+  }
+
+  -- the store failed
+  pub serves_fault : Fetches name store store_after (Err store_error.Failed)
+      → Serves command name store store_after sink sink StoreFault
+  serves_fault fetches = record {
+    page = λ other. absurd (other refl);
+    ends = tt;
+    store_fault = λ is. fetches.asked.failed refl;
+    write_fault = λ is. absurd cc;
+    unwritten = λ undone other. refl;
+    store_steady = λ read remembered. absurd (read refl);
+    write_steady = λ is. refl;
+    complete = λ store sink. absurd (store (fetches.asked.failed refl));
+    asked = λ other. fetches.fetches;
+    once = inr fetches.fetches;
+    listings = fetches.listings;
+    kept = fetches.asked.contents;
+    store_counts = fetches.asked.counts;
+    write_counts = omega arith;
+  }
+
+  -- memory ran out for the store's answer
+  pub serves_no_memory : Fetches name store store_after (Err store_error.NoMemory)
+      → Serves command name store store_after sink sink NoMemory
+  serves_no_memory fetches = record {
+    page = λ other.
+        let page = page_in store.contents name in
+        (page, page_there store.contents name, nothing_answered command page sink);
+    ends = tt;
+    store_fault = λ is. absurd cc;
+    write_fault = λ is. absurd cc;
+    unwritten = λ undone other. refl;
+    store_steady = λ read remembered. absurd (remembered refl);
+    write_steady = λ is. refl;
+    complete = λ store sink. inr (inr refl);
+    asked = λ other. fetches.fetches;
+    once = inr fetches.fetches;
+    listings = fetches.listings;
+    kept = fetches.asked.contents;
+    store_counts = fetches.asked.counts;
+    write_counts = omega arith;
+  }

@@ -1,7 +1,8 @@
 //! What stores answer, in words, and what is expected of it.
 use std::alloc::{AllocError, Global};
 use std::test::Fail;
-use wap_base::{Fetched, StoreErr, Text};
+use wap_base::Text;
+use wap_devices::{Fetched, StoreErr};
 
 /// Fails where something else came than is wanted.
 pub(crate) fn expect(came: &str, wanted: &str) -> Result<(), Fail> {

@@ -4,7 +4,8 @@ use std::fs::File;
 use std::os::unix::fs::symlink;
 use std::test::Fail;
 use std::{env, fs, io, process};
-use wap_base::{Store, Text};
+use wap_base::Text;
+use wap_devices::Store;
 use wap_system::FolderStore;
 
 /// A folder of the test's own, which isn't there yet.

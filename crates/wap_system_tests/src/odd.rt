@@ -6,7 +6,8 @@ use std::io;
 use std::io::{Error, ErrorKind, Read};
 use std::rt::Files;
 use std::test::Fail;
-use wap_base::{Store, Text};
+use wap_base::Text;
+use wap_devices::Store;
 use wap_system::FolderStore;
 
 /// A system whose folders hold these names, each ended by a NUL, and whose files have this length

@@ -1,7 +1,7 @@
 //! The source and the sink over standard streams, and over streams that break.
 use std::io;
 use std::io::{Error, ErrorKind, Read, Write};
-use wap_base::{Failed, Sink, Source, write_all};
+use wap_devices::{Failed, Sink, Source, write_all};
 use wap_system::{StdinSource, StdoutSink};
 
 /// What breaks after its first byte, and takes none before that.
