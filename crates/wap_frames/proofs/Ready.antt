@@ -503,7 +503,7 @@ module _ (string : ℕ) (function : Function) (place : ℕ) (variables : List Va
   -- ---- a short-circuit with its jump
 
   with_jump : (decides : Bool) (jump : Instr) → place < jump.next → (operands : List Value)
-      → Readiness (length operands) (pair 1 instr.next jump)
+      → Readiness (length operands) (pair 1 jump)
       → Fits (here operands) (with_top operands (λ value rest.
       decided (boolean_of value) decides (jump.next + jump.a) jump.next variables rest))
   with_jump decides jump onwards [] ready =
@@ -564,18 +564,18 @@ module _ (string : ℕ) (function : Function) (place : ℕ) (variables : List Va
       (ready : Readiness (length operands) step) (code_is : code_of function ≡ code.code) where
     by_jump : (row : Row) (r : Result Instr InstrFault) → read_row row code.code instr.next ≡ r
         → is_jump_unless (action_of row.operation) ≡ true
-        → jump_read function.index code.code instr.next 1 r ≡ Ok step
+        → jump_read function.index instr.next 1 r ≡ Ok step
         → Fits (here operands) (pair_with (here operands) decides (action_of row.operation) r)
     by_jump row (Err short) read jumps is = absurd (cc is)
     by_jump row (Ok jump) read jumps is =
         let onwards : place < jump.next =
         let more = next_is row code.code instr.next jump read in omega arith in
         rw jumps (with_jump decides jump onwards operands (subst (λ (s : Step).
-        Readiness (length operands) s) (sym (ok_same (pair 1 instr.next jump) step is)) ready))
+        Readiness (length operands) s) (sym (ok_same (pair 1 jump) step is)) ready))
 
     by_kind : (row : Row) (test : Bool) → is_conditional_forward row.after ≡ test
         → row_of (slice_index code.code instr.next) ≡ Some row
-        → cond test (jump_read function.index code.code instr.next 1
+        → cond test (jump_read function.index instr.next 1
         (read_row row code.code instr.next)) (Err (LoneShort function.index place)) ≡ Ok step
         → Fits (here operands) (pair_with (here operands) decides (action_of row.operation)
         (read_row row code.code instr.next))
