@@ -24,6 +24,7 @@ pub first_nil : (x y : List ℕ) → x ++ y ≡ [] → x ≡ []
 first_nil [] y e = refl
 first_nil (c ∷ x) y e = absurd cc
 
+-- and so is the second
 pub second_nil : (x y : List ℕ) → x ++ y ≡ [] → y ≡ []
 second_nil [] y e = e
 second_nil (c ∷ x) y e = absurd cc
@@ -33,6 +34,7 @@ pub some_from_length : (x : List ℕ) → false ≡ (length x == 0) → 0 < leng
 some_from_length [] test = absurd cc
 some_from_length (c ∷ x) test = omega arith
 
+-- and one that is empty
 pub none_from_length : (x : List ℕ) → true ≡ (length x == 0) → x ≡ []
 none_from_length x test = nil_from_length x (eqb-true (length x) 0 (sym test))
 
@@ -148,6 +150,7 @@ puts_fails x y a b first (Err other) failed = record {
 
 -- ---- the texts of a list, one after another
 
+-- the texts of a list and one thing more
 pub flat_map-push : {X : Type 0} (f : X → List ℕ) (xs : List X) (x : X)
     → flat_map f (xs ++ x ∷ []) ≡ flat_map f xs ++ f x
 flat_map-push f [] x = append-nil (f x)
@@ -155,6 +158,7 @@ flat_map-push f (y ∷ xs) x =
     ap (λ (l : List ℕ). f y ++ l) (flat_map-push f xs x)
     ∙ sym (append_assoc (f y) (flat_map f xs) (f x))
 
+-- the texts of two lists
 pub flat_map-append : {X : Type 0} (f : X → List ℕ) (xs ys : List X)
     → flat_map f (xs ++ ys) ≡ flat_map f xs ++ flat_map f ys
 flat_map-append f [] ys = refl

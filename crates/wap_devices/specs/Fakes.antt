@@ -45,6 +45,7 @@ pub record StoreState : Type 0 where
   pub fetches : ℕ
   pub listings : ℕ
 
+-- a store tells all
 abbrev pub seen_of_store : StoreState → StoreSeen
 seen_of_store store = record {
   contents = Some store.pages;
@@ -80,6 +81,7 @@ pub record SourceState : Type 0 where
   pub calls : Schedule
   pub ends : ℕ
 
+-- so does a source
 abbrev pub seen_of_source : SourceState → SourceSeen
 seen_of_source source = record {
   left = Some source.left;
@@ -93,6 +95,7 @@ seen_of_source source = record {
 abbrev pub read_count : SourceState → ℕ → ℕ
 read_count source room = min source.piece (min room (length source.left))
 
+-- after a read into so much room
 abbrev pub after_read : SourceState → ℕ → SourceState
 after_read source room = record {
   left = if fails_next source.calls then source.left else drop (read_count source room) source.left;
@@ -112,6 +115,7 @@ pub record SinkState : Type 0 where
   pub piece : ℕ
   pub calls : Schedule
 
+-- and so does a sink
 abbrev pub seen_of_sink : SinkState → SinkSeen
 seen_of_sink sink =
     record { written = Some sink.written; writes = sink.calls.made; faults = sink.calls.faults }
@@ -125,6 +129,7 @@ fails_write sink bytes =
 abbrev pub write_count : SinkState → List ℕ → ℕ
 write_count sink bytes = min sink.piece (min (sink.room - length sink.written) (length bytes))
 
+-- after a write of these bytes
 abbrev pub after_write : SinkState → List ℕ → SinkState
 after_write sink bytes = record {
   written =

@@ -4,6 +4,7 @@ use Rattle.wap_devices.specs.declared.store.TheConstants.{PAGE_LIMIT}
 use Rattle.wap_devices.specs.declared.store.Fetched.{Fetched}
 use Rattle.wap_devices.specs.declared.store.Fetched.TheVariants.{Found, Missing}
 
+-- the bytes are few enough for a page
 abbrev pub IsPage : List ℕ → Type 0
 IsPage bytes = length bytes < PAGE_LIMIT
 

@@ -5,6 +5,7 @@ use Rattle.wap_base.specs.Count.{raised, Rose}
 use Rattle.wap_devices.specs.Transfer.{Appends, AppendsPrefix}
 use Rattle.wap_devices.specs.declared.fault.Failed.{Failed}
 
+-- a sink at a moment
 pub record SinkSeen : Type 0 where
   -- the bytes that were written, where they are known
   pub written : Option (List ℕ)

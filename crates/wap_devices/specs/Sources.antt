@@ -5,6 +5,7 @@ use Rattle.wap_base.specs.Count.{raised, Rose}
 use Rattle.wap_devices.specs.Transfer.{grown_by, TakesFrom, IsAtEnd}
 use Rattle.wap_devices.specs.declared.fault.Failed.{Failed}
 
+-- a source at a moment
 pub record SourceSeen : Type 0 where
   -- the bytes that are left, where they are known
   pub left : Option (List ℕ)

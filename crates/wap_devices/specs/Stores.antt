@@ -10,6 +10,7 @@ use Rattle.wap_devices.specs.declared.store.Fetched.{Fetched}
 use Rattle.wap_devices.specs.declared.store.StoreErr.{StoreErr}
 use Rattle.wap_devices.specs.declared.store.StoreErr.TheVariants.{Failed}
 
+-- a store at a moment
 pub record StoreSeen : Type 0 where
   -- names and bytes of its pages, where they are known
   pub contents : Option Contents

@@ -11,6 +11,7 @@ pub record FolderState : Type 0 where
   pub fetches : ℕ
   pub listings : ℕ
 
+-- as a contract sees it
 abbrev pub seen_of_folder : FolderState → StoreSeen
 seen_of_folder folder = record {
   contents = None;
@@ -27,6 +28,7 @@ pub record ReaderState (I : Type 0) : Type 0 where
   pub ends : ℕ
   pub faults : ℕ
 
+-- as a contract sees it
 abbrev pub seen_of_reader : {I : Type 0} → ReaderState I → SourceSeen
 seen_of_reader source = record {
   left = None;
@@ -42,5 +44,6 @@ pub record WriterState (O : Type 0) : Type 0 where
   pub writes : ℕ
   pub faults : ℕ
 
+-- as a contract sees it
 abbrev pub seen_of_writer : {O : Type 0} → WriterState O → SinkSeen
 seen_of_writer sink = record { written = None; writes = sink.writes; faults = sink.faults }
