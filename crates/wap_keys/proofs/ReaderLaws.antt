@@ -8,7 +8,7 @@ use Rattle.std.proofs.Math.Seq.{take-append-add}
 use Rattle.std.proofs.lemmas.Bool.{le-ltb}
 use Rattle.wap_base.proofs.Choices.{some_same}
 use Rattle.std.proofs.lemmas.List.{append-nil, length-append}
-use Rattle.wap_base.specs.Transfer.{TakesFrom}
+use Rattle.wap_devices.specs.Transfer.{TakesFrom}
 use Rattle.wap_input.specs.declared.key.Key.{Key}
 use Rattle.wap_keys.specs.declared.limits.TheConstants.{KEYS_LIMIT, LINE_LIMIT, PIECE_LIMIT}
 use Rattle.wap_keys.specs.declared.ending.Ending.{Ending}

@@ -2,7 +2,7 @@
 use Rattle.std.specs.Prelude.{◌≡◌, ◌≢◌, ◌⊎◌, ℕ, ◌+◌, ◌≤◌, List, [], ◌∷◌, ◌++◌}
 use Rattle.std.specs.Prelude.{length, take, Option, Some, IfSome}
 use Rattle.wap_base.specs.Count.{raised}
-use Rattle.wap_base.specs.Transfer.{TakesFrom, IsAtEnd}
+use Rattle.wap_devices.specs.Transfer.{TakesFrom, IsAtEnd}
 use Rattle.wap_input.specs.declared.key.Key.{Key}
 use Rattle.wap_keys.specs.declared.limits.TheConstants.{KEYS_LIMIT, PIECE_LIMIT}
 use Rattle.wap_keys.specs.declared.fault.KeyFault.TheVariants.{NoMemory}

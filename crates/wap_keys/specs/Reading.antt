@@ -2,7 +2,7 @@
 use Rattle.std.specs.Prelude.{◌≡◌, ℕ, ◌+◌, ◌-◌, ◌≤◌, ◌<◌, Bool, true, if◌then◌else◌}
 use Rattle.std.specs.Prelude.{List, [], ◌∷◌, ◌++◌, length, Option}
 use Rattle.wap_base.specs.Count.{raised}
-use Rattle.wap_base.specs.Transfer.{TakesFrom, IsAtEnd}
+use Rattle.wap_devices.specs.Transfer.{TakesFrom, IsAtEnd}
 use Rattle.wap_input.specs.declared.key.Key.{Key}
 use Rattle.wap_keys.specs.declared.limits.TheConstants.{KEYS_LIMIT}
 use Rattle.wap_keys.specs.declared.ending.Ending.{Ending}

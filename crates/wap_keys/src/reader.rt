@@ -3,7 +3,8 @@ ghost use Rattle.std.specs.Prelude.{◌≡◌, ◌≢◌, ◌+◌, ◌<◌, ◌�
 ghost use Rattle.std.specs.Prelude.{true, false, length, take, drop, IfOk, IfNone, IfSome, OnOk};
 ghost use Rattle.std.specs.Prelude.{OnErr};
 ghost use Rattle.wap_base.specs.Count.{Rose};
-ghost use Rattle.wap_base.specs.Transfer.{TakesFrom, IsAtEnd, ends_after};
+ghost use Rattle.wap_devices.specs.Sources.{ends_after};
+ghost use Rattle.wap_devices.specs.Transfer.{TakesFrom, IsAtEnd};
 ghost use Rattle.wap_keys.specs.declared.ending.Next.TheVariants.{Ended};
 ghost use Rattle.wap_keys.specs.declared.ending.Ending.TheVariants.{ReadFault};
 ghost use Rattle.wap_keys.specs.declared.reader.More.TheVariants.{Failed as fails};
@@ -18,7 +19,8 @@ use crate::line::{Said, line_said, without_return};
 use crate::{Ending, KEYS_LIMIT, KeyFault, Next, PIECE_LIMIT};
 use std::alloc::Global;
 use std::marker::Model;
-use wap_base::{Failed, NoMemory, Source};
+use wap_base::NoMemory;
+use wap_devices::{Failed, Source};
 
 /// What a line comes to.
 #[derive(Drop)]
@@ -84,15 +86,15 @@ fn read_front<I: Source>(source: &mut I, buffer: &mut [u8], room: usize) -> Resu
     requires some { 0 < room }
     requires within { room ≤ length buffer.old }
     ensures within { IfOk result (λ count. count ≤ room) }
-    ensures bytes { IfOk result (λ count. TakesFrom (I.left source.old) (I.left source.new)
+    ensures bytes { IfOk result (λ count. TakesFrom (I.seen source.old).left (I.seen source.new).left
         (take count buffer.new)) }
-    ensures end { result ≡ Ok 0 → IsAtEnd (I.left source.old) }
+    ensures end { result ≡ Ok 0 → IsAtEnd (I.seen source.old).left }
     ensures length { length buffer.new ≡ length buffer.old }
-    ensures unmoved { OnErr result (I.left source.new ≡ I.left source.old) }
-    ensures faults { I.faults source.old ≤ I.faults source.new }
-    ensures failed { OnErr result (Rose (I.faults source.old) (I.faults source.new)) }
-    ensures steady { OnOk result (I.faults source.new ≡ I.faults source.old) }
-    ensures ends { I.ends source.new ≡ ends_after (I.ends source.old) result }
+    ensures unmoved { OnErr result ((I.seen source.new).left ≡ (I.seen source.old).left) }
+    ensures faults { (I.seen source.old).faults ≤ (I.seen source.new).faults }
+    ensures failed { OnErr result (Rose (I.seen source.old).faults (I.seen source.new).faults) }
+    ensures steady { OnOk result ((I.seen source.new).faults ≡ (I.seen source.old).faults) }
+    ensures ends { (I.seen source.new).ends ≡ ends_after (I.seen source.old).ends result }
 {
     source.read(buffer.split_at_mut(room).0)
 }
@@ -156,16 +158,16 @@ impl Reader {
 
     /// Reads more bytes.
     fn read_more<I: Source>(&mut self, source: &mut I) -> Result<More, NoMemory>
-        ensures more { IfOk result (ReadsMore (I.left source.old)
-            (I.left source.new) self.old self.new) }
-        ensures lost { OnErr result (TakesSome (I.left source.old) (I.left source.new) self.old) }
-        ensures faults { I.faults source.old ≤ I.faults source.new }
-        ensures failed { result ≡ Ok fails → Rose (I.faults source.old) (I.faults source.new) }
-        ensures steady { IfOk result (λ more. more ≢ fails → I.faults source.new
-            ≡ I.faults source.old) }
-        ensures lost_steady { OnErr result (I.faults source.new ≡ I.faults source.old) }
-        ensures ends { IfOk result (λ more. I.ends source.new ≡ ends_by (I.ends source.old) more) }
-        ensures lost_ends { OnErr result (I.ends source.new ≡ I.ends source.old) }
+        ensures more { IfOk result (ReadsMore (I.seen source.old).left
+            (I.seen source.new).left self.old self.new) }
+        ensures lost { OnErr result (TakesSome (I.seen source.old).left (I.seen source.new).left self.old) }
+        ensures faults { (I.seen source.old).faults ≤ (I.seen source.new).faults }
+        ensures failed { result ≡ Ok fails → Rose (I.seen source.old).faults (I.seen source.new).faults }
+        ensures steady { IfOk result (λ more. more ≢ fails → (I.seen source.new).faults
+            ≡ (I.seen source.old).faults) }
+        ensures lost_steady { OnErr result ((I.seen source.new).faults ≡ (I.seen source.old).faults) }
+        ensures ends { IfOk result (λ more. (I.seen source.new).ends ≡ ends_by (I.seen source.old).ends more) }
+        ensures lost_ends { OnErr result ((I.seen source.new).ends ≡ (I.seen source.old).ends) }
     {
         let left = KEYS_LIMIT - self.count;
         let room = if left == 0 { 1 } else { PIECE_LIMIT.min(left) };
@@ -207,20 +209,20 @@ impl Reader {
 
     /// The next key, or how the keys came to their end.
     pub fn next<I: Source>(&mut self, alloc: Global, source: &mut I) -> Result<Next, NoMemory>
-        ensures answers { IfOk result (Answers (I.left source.old)
-            (I.left source.new) self.old self.new) }
-        ensures gives_up { OnErr result (GivesUp (I.left source.old) (I.left source.new) self.old) }
+        ensures answers { IfOk result (Answers (I.seen source.old).left
+            (I.seen source.new).left self.old self.new) }
+        ensures gives_up { OnErr result (GivesUp (I.seen source.old).left (I.seen source.new).left self.old) }
         ensures falls { IfOk result (Falls self.old self.new) }
-        ensures faults { I.faults source.old ≤ I.faults source.new }
+        ensures faults { (I.seen source.old).faults ≤ (I.seen source.new).faults }
         ensures failed { IfOk result (λ next. next ≡ Ended ReadFault
-            → Rose (I.faults source.old) (I.faults source.new)) }
-        ensures steady { IfOk result (λ next. next ≢ Ended ReadFault → I.faults source.new
-            ≡ I.faults source.old) }
-        ensures lost_steady { OnErr result (I.faults source.new ≡ I.faults source.old) }
-        ensures ends { OnOk result (KeepsEnds self.old self.new (I.ends source.old)
-            (I.ends source.new)) }
-        ensures lost_ends { OnErr result (GivesUpEnds self.old (I.ends source.old)
-            (I.ends source.new)) }
+            → Rose (I.seen source.old).faults (I.seen source.new).faults) }
+        ensures steady { IfOk result (λ next. next ≢ Ended ReadFault → (I.seen source.new).faults
+            ≡ (I.seen source.old).faults) }
+        ensures lost_steady { OnErr result ((I.seen source.new).faults ≡ (I.seen source.old).faults) }
+        ensures ends { OnOk result (KeepsEnds self.old self.new (I.seen source.old).ends
+            (I.seen source.new).ends) }
+        ensures lost_ends { OnErr result (GivesUpEnds self.old (I.seen source.old).ends
+            (I.seen source.new).ends) }
     {
         while !self.over {
             let line = self.number;

@@ -4,7 +4,7 @@ use Rattle.std.specs.Prelude.{◌++◌, length, take, drop, Option, Some, None, 
 use Rattle.std.specs.List.{list_all}
 use Rattle.wap_base.specs.Ascii.{line_feed}
 use Rattle.wap_base.specs.Count.{raised}
-use Rattle.wap_base.specs.Transfer.{TakesFrom, IsAtEnd}
+use Rattle.wap_devices.specs.Transfer.{TakesFrom, IsAtEnd}
 use Rattle.wap_input.specs.declared.key.Key.{Key}
 use Rattle.wap_keys.specs.declared.limits.TheConstants.{KEYS_LIMIT, LINE_LIMIT, PIECE_LIMIT}
 use Rattle.wap_keys.specs.declared.fault.KeyFault.{KeyFault}

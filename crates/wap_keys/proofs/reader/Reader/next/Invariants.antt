@@ -6,11 +6,11 @@ use Rattle.wap_keys.proofs.reader.Reader.next.Given as goal
 
 abbrev pub invariant-loop-self : goal.invariant-loop-self
 invariant-loop-self g l = record {
-  keeps : Keeps (g.I.Source.left l.fn.source) (g.I.Source.left l.source) l.fn.self l.self;
+  keeps : Keeps (g.I.Source.seen l.fn.source).left (g.I.Source.seen l.source).left l.fn.self l.self;
   room : room l.self ≤ room l.fn.self;
   over : l.self.over ≡ l.fn.self.over;
-  steady : g.I.Source.faults l.source ≡ g.I.Source.faults l.fn.source;
-  ends : g.I.Source.ends l.source ≡ g.I.Source.ends l.fn.source;
+  steady : (g.I.Source.seen l.source).faults ≡ (g.I.Source.seen l.fn.source).faults;
+  ends : (g.I.Source.seen l.source).ends ≡ (g.I.Source.seen l.fn.source).ends;
 }
 
 abbrev pub decreases-loop-self : goal.decreases-loop-self
