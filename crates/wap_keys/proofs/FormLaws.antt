@@ -12,7 +12,7 @@ use Rattle.wap_keys.specs.declared.word.Word.{Word}
 use Rattle.wap_keys.specs.Decimal.{decimal_of}
 use Rattle.wap_keys.specs.Forms.{Form, nothing, text, text_or_none, number, form_of}
 use Rattle.wap_keys.specs.Forms.{number_of, number_in, key_by, key_of_word, word_named}
-use Rattle.wap_keys.specs.Forms.{front_of, rest_of, key_at}
+use Rattle.wap_keys.specs.Forms.{prefix_of, rest_of, key_at}
 
 number_wants_none : (n : Option ℕ) → number_of n ≡ Err NoMemory → ⊥
 number_wants_none None e = cc
@@ -41,8 +41,8 @@ form_wants_none (text make) (Some (c ∷ cs)) e = cc
 form_wants_none (text_or_none make) rest e = cc
 form_wants_none (number greatest form) None e = cc
 form_wants_none (number greatest form) (Some bytes) e =
-    then_wants_none (number_in greatest (front_of bytes)) (rest_of bytes)
-    (λ got. key_by (form got.0) got.1) (in_wants_none greatest (front_of bytes))
+    then_wants_none (number_in greatest (prefix_of bytes)) (rest_of bytes)
+    (λ got. key_by (form got.0) got.1) (in_wants_none greatest (prefix_of bytes))
     (λ n. form_wants_none (form n) (rest_of bytes)) e
 
 word_wants_none : (word : Option Word) (rest : Option (List ℕ))
@@ -52,11 +52,11 @@ word_wants_none (Some word) rest e = form_wants_none (form_of word) rest e
 
 line_wants_none : (line : List ℕ) (long is_text : Bool)
     → cond long (Err TooLong)
-    (cond is_text (key_of_word (word_named (front_of line)) (rest_of line)) (Err NotText))
+    (cond is_text (key_of_word (word_named (prefix_of line)) (rest_of line)) (Err NotText))
     ≡ Err NoMemory
     → ⊥
 line_wants_none line true is_text e = cc
-line_wants_none line false true e = word_wants_none (word_named (front_of line)) (rest_of line) e
+line_wants_none line false true e = word_wants_none (word_named (prefix_of line)) (rest_of line) e
 line_wants_none line false false e = cc
 
 pub key_wants_none : (line : List ℕ) → key_at line ≡ Err NoMemory → ⊥

@@ -8,10 +8,10 @@ use Rattle.wap_input.specs.declared.key.Key.{Key}
 use Rattle.wap_keys.specs.declared.limits.TheConstants.{LINE_LIMIT}
 use Rattle.wap_keys.specs.declared.fault.KeyFault.{KeyFault}
 use Rattle.wap_keys.specs.declared.fault.KeyFault.TheVariants.{TooLong, NotText}
-use Rattle.wap_keys.specs.Forms.{front_of, rest_of, word_named, key_of_word, key_at}
+use Rattle.wap_keys.specs.Forms.{prefix_of, rest_of, word_named, key_of_word, key_at}
 
 abbrev said : List ℕ → Result Key KeyFault
-said line = key_of_word (word_named (front_of line)) (rest_of line)
+said line = key_of_word (word_named (prefix_of line)) (rest_of line)
 
 pub long_key : (line : List ℕ) → LINE_LIMIT < length line → key_at line ≡ Err TooLong
 unfolding key_at

@@ -6,6 +6,6 @@ mod LineSteps
 pub mod ReaderLaws
 mod ReaderSteps
 pub mod WholeLaws
-pub mod EndLaws
+pub mod FaultLaws
 mod SpellLaws
 mod WordLaws

@@ -9,13 +9,13 @@ use Rattle.std.proofs.lemmas.List.Folds.{list_all-append}
 use Rattle.wap_input.specs.declared.key.Key.{Key}
 use Rattle.wap_keys.specs.declared.fault.KeyFault.{KeyFault}
 use Rattle.wap_keys.specs.declared.fault.KeyFault.TheVariants.{TooLong, NoMemory}
-use Rattle.wap_keys.specs.declared.front.Front.TheVariants as front
+use Rattle.wap_keys.specs.declared.prefix.Prefix.TheVariants as prefix
 use Rattle.wap_keys.specs.declared.line.Said.{Said}
 use Rattle.wap_keys.specs.declared.ending.Ending.{Ending}
 use Rattle.wap_keys.specs.declared.ending.Ending.TheVariants.{BadKey}
 use Rattle.wap_keys.specs.Lines.{lines_of, keys_from, key_before, without_return, content_key}
 use Rattle.wap_keys.specs.Reading.{Reading, said_yet}
-use Rattle.wap_keys.specs.inside.Taking.{is_unended, said_of, TakesFront, Advances, TakesSaid}
+use Rattle.wap_keys.specs.inside.Taking.{is_unended, said_of, TakesPrefix, Advances, TakesSaid}
 use Rattle.wap_keys.proofs.LineLaws.{line_before, too_long, content_wants_none}
 
 nothing : (bytes : List ℕ) → length bytes ≡ 0 → bytes ≡ []
@@ -46,7 +46,7 @@ pub takes_whole : (old : Reading) (line piece whole cleared : List ℕ) (at plac
     (over : Bool) (said : Said)
     → record { unread = line ++ drop at piece; number = number; count = count; over = over } ≡ old
     → is_unended line ≡ true
-    → TakesFront line whole (drop at piece) (front.Whole place)
+    → TakesPrefix line whole (drop at piece) (prefix.Whole place)
     → said ≡ said_of (content_key (without_return whole)) → cleared ≡ []
     → TakesSaid old (record {
       unread = cleared ++ drop (at + (place + 1)) piece;
@@ -89,7 +89,7 @@ takes_whole old line piece whole cleared at place number count over said view al
     (content_wants_none (without_return whole)) (refl, refl, fewer) tells))
 
 pub takes_long : (old : Reading) (line unread new : List ℕ) → line ++ unread ≡ old.unread
-    → is_unended line ≡ true → TakesFront line new unread front.TooLong
+    → is_unended line ≡ true → TakesPrefix line new unread prefix.TooLong
     → (ending : Ending) (rest : List ℕ)
     → said_yet old ending rest ≡ record { keys = []; ending = BadKey old.number TooLong }
 takes_long old line unread new view all (begun, others, split, unended, many, is) ending rest =

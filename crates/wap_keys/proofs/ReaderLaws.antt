@@ -1,44 +1,94 @@
--- What a reader has said.
+-- What a reader has said of the bytes that it took.
 use Rattle.std.proofs.Common.{◌≡◌, ℕ, zero, suc, ◌+◌, ◌-◌, ◌≤◌, take, Bool, true, false}
 use Rattle.std.proofs.Common.{cond, List, [], ◌∷◌, ◌++◌, length, Option, Some, None}
-use Rattle.std.proofs.Common.{refl, sym, ap, ◌∙◌, append_assoc, arith}
+use Rattle.std.proofs.Common.{refl, sym, ap, subst, ◌∙◌, inl, inr, append_assoc, arith}
 use Rattle.std.specs.Prelude.{nat_lt}
 use Rattle.std.specs.Option.{option_map, IfSome}
 use Rattle.std.proofs.Math.Seq.{take-append-add}
-use Rattle.std.proofs.lemmas.Bool.{le-ltb}
+use Rattle.std.proofs.lemmas.Bool.{le-leb, le-ltb}
 use Rattle.wap_base.proofs.Choices.{some_same}
+use Rattle.wap_base.specs.Count.{raised}
 use Rattle.std.proofs.lemmas.List.{append-nil, length-append}
-use Rattle.wap_devices.specs.Transfer.{TakesFrom}
+use Rattle.wap_devices.specs.Transfer.{TakesFrom, IsAtEnd}
+use Rattle.wap_devices.specs.Sources.{SourceSeen}
 use Rattle.wap_input.specs.declared.key.Key.{Key}
 use Rattle.wap_keys.specs.declared.limits.TheConstants.{KEYS_LIMIT, LINE_LIMIT, PIECE_LIMIT}
 use Rattle.wap_keys.specs.declared.ending.Ending.{Ending}
 use Rattle.wap_keys.specs.declared.ending.Ending.TheVariants.{End, TooManyKeys, ReadFault}
 use Rattle.wap_keys.specs.Lines.{Keys, is_end, lines_of, keys_from, keys_at, keys_of}
-use Rattle.wap_keys.specs.Read.{AreFirst, IsPrompt, HasGiven, keys_among, ending_before}
-use Rattle.wap_keys.specs.Reading.{Reading, behind_keys, said_yet, said_then, HasRead, GivesUp}
-use Rattle.wap_keys.specs.inside.Taking.{is_unended}
+use Rattle.wap_keys.specs.Read.{Takes, AtMostOnce, rose, ending_after, AreFirst, IsPrompt, HasGiven}
+use Rattle.wap_keys.specs.Read.{keys_among}
+use Rattle.wap_keys.specs.Reading.{Reading, keys_then, said_yet, said_then, ends_known, HasRead}
+use Rattle.wap_keys.specs.Reading.{GivesUp}
+use Rattle.wap_keys.specs.inside.Taking.{is_unended, LosesPiece}
 use Rattle.wap_keys.proofs.LineLaws.{cut_line}
 
-TakesFrom-nil : (a : Option (List ℕ)) → TakesFrom a a []
-TakesFrom-nil None = refl
-TakesFrom-nil (Some left) = refl
+-- ---- bytes that are taken
 
-pub takes_both : (start now behind : Option (List ℕ)) (front piece : List ℕ)
-    → TakesFrom start now front → TakesFrom now behind piece
-    → TakesFrom start behind (front ++ piece)
-takes_both start now None front piece took takes = took ∙ ap (option_map (λ l. front ++ l)) takes
-takes_both start now (Some others) front piece took takes =
-    took ∙ ap (option_map (λ l. front ++ l)) takes
-    ∙ ap (λ (l : List ℕ). Some l) (sym (append_assoc front piece others))
+-- no bytes are taken where nothing is done
+from_none : (left : Option (List ℕ)) → TakesFrom left left []
+from_none None = refl
+from_none (Some bytes) = refl
 
+-- one piece after another is the two together
+from_both : (start now last : Option (List ℕ)) (taken piece : List ℕ)
+    → TakesFrom start now taken → TakesFrom now last piece → TakesFrom start last (taken ++ piece)
+from_both start now None taken piece first second =
+    first ∙ ap (option_map (λ l. taken ++ l)) second
+from_both start now (Some rest) taken piece first second =
+    first ∙ ap (option_map (λ l. taken ++ l)) second
+    ∙ ap (λ (l : List ℕ). Some l) (sym (append_assoc taken piece rest))
+
+takes_none : (seen : SourceSeen) → Takes [] seen seen
+takes_none seen =
+    record { left = from_none seen.left; least = omega arith; most = omega arith }
+
+-- one piece after another is taken as the two together
+pub takes_both : (start now last : SourceSeen) (taken piece : List ℕ) → Takes taken start now
+    → Takes piece now last → Takes (taken ++ piece) start last
+takes_both start now last taken piece first second = record {
+  left = from_both start.left now.left last.left taken piece first.left second.left;
+  least = omega (arith, first.least, second.least, length-append taken piece);
+  most = omega (arith, first.most, second.most, length-append taken piece);
+}
+
+-- ---- how often the source gave its end
+
+-- once at most
+once_by : (over : Bool) (ends now : ℕ) → now ≡ cond over (raised ends) ends → AtMostOnce ends now
+once_by true ends now is = inr is
+once_by false ends now is = inl is
+
+-- where it gave its end its count rose
+rose_by : (ends now : ℕ) → now ≡ raised ends → rose ends now ≡ true
+rose_by ends now is = le-leb (raised ends) now (omega (arith, is))
+
+-- the source of a reader that is over gave its end
+over_ends : (reader : Reading) (ends now : ℕ) → now ≡ ends_known reader ends → reader.over ≡ true
+    → now ≡ raised ends
+over_ends reader ends now is over = is ∙ ap (λ (b : Bool). cond b (raised ends) ends) over
+
+-- a source whose end a reader doesn't know hasn't given it
+pub open_ends : (reader : Reading) (ends now : ℕ) → now ≡ ends_known reader ends
+    → reader.over ≡ false → now ≡ ends
+open_ends reader ends now is goes_on = is ∙ ap (λ (b : Bool). cond b (raised ends) ends) goes_on
+
+-- a count that stays does so for a reader that is over as much
+pub same_ends : (old new : Reading) (ends now last : ℕ) → now ≡ ends_known old ends → last ≡ now
+    → new.over ≡ old.over → last ≡ ends_known new ends
+same_ends old new ends now last known is same =
+    is ∙ known ∙ ap (λ (b : Bool). cond b (raised ends) ends) (sym same)
+
+-- ---- nothing was read
+
+-- these keys, and no others
 pub no_more : (keys : List Key) (ending : Ending)
-    → behind_keys keys (record { keys = []; ending = ending })
+    → keys_then keys (record { keys = []; ending = ending })
     ≡ record { keys = keys; ending = ending }
 no_more keys ending =
     ap (λ (all : List Key). record { keys = all; ending = ending }) (append-nil keys)
 
--- ---- nothing was read
-
+-- no bytes say no keys
 no_keys : keys_at ReadFault [] ≡ record { keys = []; ending = ReadFault }
 unfolding keys_at
 no_keys = refl
@@ -54,56 +104,68 @@ none_prompt = record {
   first = ([], refl);
 }
 
+-- a reader that has read nothing is to say all keys
 begun_by : (ending : Ending) (rest unread : List ℕ) → unread ≡ []
     → keys_at ending rest ≡ keys_from ending 1 (lines_of (unread ++ rest))
 unfolding keys_at
 begun_by ending rest unread none =
     ap (λ (l : List ℕ). keys_from ending 1 (lines_of (l ++ rest))) (sym none)
 
-pub begun : (start : Option (List ℕ)) (unread : List ℕ) → unread ≡ []
-    → HasRead start start [] [] (record { unread = unread; number = 1; count = 0; over = false })
-begun start unread none = record {
-  takes = TakesFrom-nil start;
+pub begun : (seen : SourceSeen) (unread : List ℕ) → unread ≡ []
+    → HasRead seen seen [] [] (record { unread = unread; number = 1; count = 0; over = false })
+begun seen unread none = record {
+  takes = takes_none seen;
   counted = refl;
   few = omega arith;
   prompt = none_prompt;
   says = λ ending rest _. begun_by ending rest unread none;
   ended = λ over. absurd cc;
+  ends = refl;
+  steady = refl;
 }
 
--- ---- a reader whose source isn't at its end
+-- ---- a reader whose source hasn't given its end
 
+-- a reader of an unfinished line, which isn't too long
+pub record IsOpen (reader : Reading) : Type 0 where
+  pub goes_on : reader.over ≡ false
+  pub unended : is_unended reader.unread ≡ true
+  pub short : length reader.unread ≤ LINE_LIMIT
+
+-- it has yet to say what its bytes say
 pub then_yet : (reader : Reading) (ending : Ending) (rest : List ℕ) → reader.over ≡ false
     → said_then reader ending rest ≡ said_yet reader ending rest
 then_yet reader ending rest goes_on =
     ap (λ (b : Bool).
     cond b (record { keys = []; ending = ending }) (said_yet reader ending rest)) goes_on
 
-pub said_open : (start left : Option (List ℕ)) (taken : List ℕ) (keys : List Key) (reader : Reading)
-    → HasRead start left taken keys reader → reader.over ≡ false → (ending : Ending) (rest : List ℕ)
-    → keys_at ending (taken ++ rest) ≡ behind_keys keys (said_yet reader ending rest)
-said_open start left taken keys reader read goes_on ending rest =
+-- and so all keys are what it has said and what it has yet to say
+pub said_open : (start now : SourceSeen) (taken : List ℕ) (keys : List Key) (reader : Reading)
+    → HasRead start now taken keys reader → reader.over ≡ false → (ending : Ending) (rest : List ℕ)
+    → keys_at ending (taken ++ rest) ≡ keys_then keys (said_yet reader ending rest)
+said_open start now taken keys reader read goes_on ending rest =
     read.says ending rest (λ over. absurd (no_both over))
-    ∙ ap (behind_keys keys) (then_yet reader ending rest goes_on)
+    ∙ ap (keys_then keys) (then_yet reader ending rest goes_on)
   where
     no_both : reader.over ≡ true → ⊥
     no_both over = absurd cc
 
--- a line that is only begun says nothing
-pub cut_open : (start left : Option (List ℕ)) (taken : List ℕ) (keys : List Key) (reader : Reading)
-    → HasRead start left taken keys reader → reader.over ≡ false → is_unended reader.unread ≡ true
-    → length reader.unread ≤ LINE_LIMIT
+-- an unfinished line says nothing
+pub cut_open : (start now : SourceSeen) (taken : List ℕ) (keys : List Key) (reader : Reading)
+    → HasRead start now taken keys reader → IsOpen reader
     → (ending : Ending) → is_end ending ≡ false
     → keys_at ending (taken ++ []) ≡ record { keys = keys; ending = ending }
-cut_open start left taken keys reader read goes_on all short ending cut =
-    said_open start left taken keys reader read goes_on ending []
-    ∙ ap (λ (l : List ℕ). behind_keys keys (keys_from ending reader.number (lines_of l)))
+cut_open start now taken keys reader read is_open ending cut =
+    said_open start now taken keys reader read is_open.goes_on ending []
+    ∙ ap (λ (l : List ℕ). keys_then keys (keys_from ending reader.number (lines_of l)))
     (append-nil reader.unread)
-    ∙ ap (behind_keys keys) (cut_line ending reader.number reader.unread cut all short)
+    ∙ ap (keys_then keys)
+    (cut_line ending reader.number reader.unread cut is_open.unended is_open.short)
     ∙ no_more keys ending
 
--- ---- what was given
+-- ---- of all bytes
 
+-- how bytes end of which those up to the limit count
 abbrev pub ending_past : List ℕ → Ending
 ending_past bytes = cond (nat_lt KEYS_LIMIT (length bytes)) TooManyKeys End
 
@@ -111,26 +173,17 @@ pub take_none : (n : ℕ) → take {A = ℕ} n [] ≡ []
 take_none zero = refl
 take_none (suc n) = refl
 
-pub take_past : (front rest : List ℕ) → length front ≤ KEYS_LIMIT
-    → take KEYS_LIMIT (front ++ rest) ≡ front ++ take (KEYS_LIMIT - length front) rest
-take_past front rest few =
-    let n = KEYS_LIMIT - length front in
-    let all : KEYS_LIMIT ≡ length front + n = omega (arith, few) in
-    ap (λ (count : ℕ). take count (front ++ rest)) all ∙ take-append-add front rest n
+-- bytes up to the limit are those that were taken, and some that weren't
+pub take_past : (taken rest : List ℕ) → length taken ≤ KEYS_LIMIT
+    → take KEYS_LIMIT (taken ++ rest) ≡ taken ++ take (KEYS_LIMIT - length taken) rest
+take_past taken rest few =
+    let n = KEYS_LIMIT - length taken in
+    let all : KEYS_LIMIT ≡ length taken + n = omega (arith, few) in
+    ap (λ (count : ℕ). take count (taken ++ rest)) all ∙ take-append-add taken rest n
 
+-- bytes that are known stay so
 pub no_bytes : (bytes : List ℕ) → Some bytes ≡ None → ⊥
 no_bytes bytes e = cc
-
-first_by : (start left : Option (List ℕ)) (taken : List ℕ) (keys : List Key) (reader : Reading)
-    → HasRead start left taken keys reader
-    → IfSome left (λ rest. AreFirst keys (keys_among taken rest))
-first_by start None taken keys reader read = tt
-first_by start (Some rest) taken keys reader read = (
-  (said_then reader (ending_before rest) []).keys,
-  ap (λ (l : List ℕ). (keys_at (ending_before rest) l).keys) (sym (append-nil taken))
-      ∙ ap (λ (all : Keys). all.keys)
-      (read.says (ending_before rest) [] (λ over. (ap ending_before (read.ended over), refl))),
-)
 
 -- of all bytes those up to the limit count
 pub all_by : (taken rest : List ℕ) → length taken ≤ KEYS_LIMIT
@@ -139,6 +192,7 @@ pub all_by : (taken rest : List ℕ) → length taken ≤ KEYS_LIMIT
 unfolding keys_of
 all_by taken rest few = ap (keys_at (ending_past (taken ++ rest))) (take_past taken rest few)
 
+-- where no byte is left none follows, up to the limit
 pub none_follows : (taken rest : List ℕ) → length taken ≤ KEYS_LIMIT → rest ≡ []
     → (ending_past (taken ++ rest) ≡ End) × (take (KEYS_LIMIT - length taken) rest ≡ [])
 none_follows taken rest few none = (
@@ -147,58 +201,67 @@ none_follows taken rest few none = (
   ap (take (KEYS_LIMIT - length taken)) none ∙ take_none (KEYS_LIMIT - length taken),
 )
 
-of_all_by : (start left : Option (List ℕ)) (taken : List ℕ) (keys : List Key) (reader : Reading)
-    → HasRead start left taken keys reader
-    → IfSome start (λ bytes. AreFirst keys (keys_of bytes).keys)
-of_all_by None left taken keys reader read = tt
-of_all_by (Some bytes) None taken keys reader read = absurd (no_bytes bytes read.takes)
-of_all_by (Some bytes) (Some rest) taken keys reader read =
+-- ---- what was given
+
+-- what was said is the first of what the whole lines say
+first_by : (start now : SourceSeen) (taken : List ℕ) (keys : List Key) (reader : Reading)
+    → HasRead start now taken keys reader
+    → AreFirst keys (keys_among (rose start.ends now.ends) taken)
+first_by start now taken keys reader read =
+    let ending = ending_after (rose start.ends now.ends) in (
+      (said_then reader ending []).keys,
+      ap (λ (l : List ℕ). (keys_at ending l).keys) (sym (append-nil taken))
+          ∙ ap (λ (all : Keys). all.keys)
+          (read.says ending [] (λ over. (
+            ap ending_after (rose_by start.ends now.ends
+                (over_ends reader start.ends now.ends read.ends over)),
+            refl,
+          ))),
+    )
+
+-- and the first of what all bytes say
+of_all_by : (start now : SourceSeen) (taken : List ℕ) (keys : List Key) (reader : Reading)
+    → HasRead start now taken keys reader → (before left : Option (List ℕ))
+    → TakesFrom before left taken → (reader.over ≡ true → IsAtEnd left)
+    → IfSome before (λ bytes. AreFirst keys (keys_of bytes).keys)
+of_all_by start now taken keys reader read None left takes ended = tt
+of_all_by start now taken keys reader read (Some bytes) None takes ended =
+    absurd (no_bytes bytes takes)
+of_all_by start now taken keys reader read (Some bytes) (Some rest) takes ended =
     let few : length taken ≤ KEYS_LIMIT = omega (arith, read.counted, read.few) in
     let ending = ending_past (taken ++ rest) in
     let more = take (KEYS_LIMIT - length taken) rest in (
       (said_then reader ending more).keys,
-      ap (λ (l : List ℕ). (keys_of l).keys) (some_same bytes (taken ++ rest) read.takes)
+      ap (λ (l : List ℕ). (keys_of l).keys) (some_same bytes (taken ++ rest) takes)
           ∙ ap (λ (all : Keys). all.keys) (all_by taken rest few)
           ∙ ap (λ (all : Keys). all.keys)
-          (read.says ending more (λ over. none_follows taken rest few (read.ended over))),
+          (read.says ending more (λ over. none_follows taken rest few (ended over))),
     )
 
-pub given_of : (start left : Option (List ℕ)) (taken : List ℕ) (keys : List Key) (reader : Reading)
-    → HasRead start left taken keys reader → HasGiven start left taken keys
-given_of start left taken keys reader read = record {
+-- a reader's bytes were taken
+pub given_of : (start now : SourceSeen) (taken : List ℕ) (keys : List Key) (reader : Reading)
+    → HasRead start now taken keys reader → HasGiven start now taken keys
+given_of start now taken keys reader read = record {
   takes = read.takes;
   few = omega (arith, read.counted, read.few);
   prompt = read.prompt;
-  first = first_by start left taken keys reader read;
-  of_all = of_all_by start left taken keys reader read;
+  first = first_by start now taken keys reader read;
+  of_all = of_all_by start now taken keys reader read start.left now.left
+      read.takes.left read.ended;
+  end_once = once_by reader.over start.ends now.ends read.ends;
 }
 
-same_front : (start left : Option (List ℕ)) (taken : List ℕ) (keys : List Key)
-    → HasGiven start left taken keys → HasGiven start left (taken ++ []) keys
-same_front start left taken keys given = rw append-nil given
+pub gives_up_at_once : (seen : SourceSeen) (reader : Reading) → GivesUp seen seen reader
+gives_up_at_once seen reader start taken keys read =
+    ([], rw append-nil (given_of start seen taken keys reader read))
 
-pub gives_up_at_once : (left : Option (List ℕ)) (reader : Reading) → GivesUp left left reader
-gives_up_at_once left reader start taken keys read =
-    ([], same_front start left taken keys (given_of start left taken keys reader read))
+-- ---- more bytes are taken after an unfinished line
 
--- more bytes were taken, and no key of them was said
-given_first : (start left last : Option (List ℕ)) (taken piece : List ℕ) (keys : List Key)
-    (reader : Reading) → HasRead start left taken keys reader → reader.over ≡ false
-    → IfSome last (λ rest. AreFirst keys (keys_among (taken ++ piece) rest))
-given_first start left None taken piece keys reader read goes_on = tt
-given_first start left (Some rest) taken piece keys reader read goes_on =
-    let ending = ending_before rest in (
-      (said_yet reader ending piece).keys,
-      ap (λ (all : Keys). all.keys)
-          (said_open start left taken keys reader read goes_on ending piece),
-    )
-
-pub next_prompt : (start left : Option (List ℕ)) (taken piece : List ℕ) (keys : List Key)
-    (reader : Reading) → HasRead start left taken keys reader → reader.over ≡ false
-    → is_unended reader.unread ≡ true → length reader.unread ≤ LINE_LIMIT
-    → length piece ≤ PIECE_LIMIT
-    → IsPrompt (taken ++ piece) keys
-next_prompt start left taken piece keys reader read goes_on all short small = record {
+-- all that was said was said before them
+pub next_prompt : (start now : SourceSeen) (taken piece : List ℕ) (keys : List Key)
+    (reader : Reading) → HasRead start now taken keys reader → IsOpen reader
+    → length piece ≤ PIECE_LIMIT → IsPrompt (taken ++ piece) keys
+next_prompt start now taken piece keys reader read is_open small = record {
   earlier = taken;
   piece = piece;
   said = keys;
@@ -206,22 +269,41 @@ next_prompt start left taken piece keys reader read goes_on all short small = re
   short = small;
   before =
       ap (keys_at ReadFault) (sym (append-nil taken))
-      ∙ cut_open start left taken keys reader read goes_on all short ReadFault refl;
+      ∙ cut_open start now taken keys reader read is_open ReadFault refl;
   first = ([], sym (append-nil keys));
 }
 
-pub given_more : (start left last : Option (List ℕ)) (taken piece : List ℕ) (keys : List Key)
-    (reader : Reading) → HasRead start left taken keys reader → reader.over ≡ false
-    → is_unended reader.unread ≡ true → length reader.unread ≤ LINE_LIMIT
-    → TakesFrom left last piece → length piece ≤ PIECE_LIMIT
-    → reader.count + length piece ≤ KEYS_LIMIT + 1 → HasGiven start last (taken ++ piece) keys
-given_more start left last taken piece keys reader read goes_on all short takes small few = record {
-  takes = takes_both start left last taken piece read.takes takes;
+-- no key of them was said yet
+pub given_more : (start now last : SourceSeen) (taken piece : List ℕ) (keys : List Key)
+    (reader : Reading) → HasRead start now taken keys reader → IsOpen reader
+    → Takes piece now last → length piece ≤ PIECE_LIMIT
+    → reader.count + length piece ≤ KEYS_LIMIT + 1 → AtMostOnce now.ends last.ends
+    → HasGiven start last (taken ++ piece) keys
+given_more start now last taken piece keys reader read is_open takes small few once = record {
+  takes = takes_both start now last taken piece read.takes takes;
   few = omega (arith, length-append taken piece, read.counted, few);
-  prompt = next_prompt start left taken piece keys reader read goes_on all short small;
-  first = given_first start left last taken piece keys reader read goes_on;
-  of_all = of_all_by start left taken keys reader read;
+  prompt = next_prompt start now taken piece keys reader read is_open small;
+  first =
+      let ending = ending_after (rose start.ends last.ends) in (
+        (said_yet reader ending piece).keys,
+        ap (λ (all : Keys). all.keys)
+            (said_open start now taken keys reader read is_open.goes_on ending piece),
+      );
+  of_all = of_all_by start now taken keys reader read start.left now.left
+      read.takes.left read.ended;
+  end_once =
+      subst (λ (ends : ℕ). AtMostOnce ends last.ends)
+      (open_ends reader start.ends now.ends read.ends is_open.goes_on) once;
 }
+
+pub lost : (now last : SourceSeen) (old : Reading) → IsOpen old → LosesPiece now last old
+    → GivesUp now last old
+lost now last old is_open loses start taken keys read = (
+  loses.piece,
+  given_more start now last taken loses.piece keys old read is_open loses.takes loses.small
+      loses.few
+      (inl loses.ends),
+)
 
 -- one key more was given
 pub more_prompt : (taken : List ℕ) (keys : List Key) (key : Key) → IsPrompt taken keys

@@ -27,7 +27,7 @@ use Rattle.wap_keys.specs.declared.word.Word.{Word}
 use Rattle.wap_keys.specs.declared.word.Word.TheVariants as word
 use Rattle.wap_keys.specs.Decimal.{decimal_of}
 use Rattle.wap_keys.specs.Forms.{Form, nothing, text, text_or_none, number, form_of, name_of}
-use Rattle.wap_keys.specs.Forms.{words, word_named, is_space, front_of, rest_of, number_of}
+use Rattle.wap_keys.specs.Forms.{words, word_named, is_space, prefix_of, rest_of, number_of}
 use Rattle.wap_keys.specs.Forms.{number_in, nothing_at, key_by, key_of_word, key_at}
 use Rattle.wap_keys.specs.Spelling.{spaced, HasNoSpace, Spells, Misspells, IsTextLine}
 use Rattle.wap_keys.specs.Spelling.{IsKeyLine, IsUnknown, MisspellsLine, IsNoKeyLine}
@@ -35,55 +35,56 @@ use Rattle.wap_keys.proofs.KeyLaws.{long_key, bad_text, good_text}
 
 -- ---- words and what follows them
 
-no_space_at : (front : List ℕ) (k : ℕ) → HasNoSpace front → k < length front
-    → is_space (get_or front k 0) ≡ false
-no_space_at front k none within =
-    not_true (is_space (get_or front k 0))
-    (AllPass-from_list_all (λ (c : ℕ). not (is_space c)) front none k 0 within)
+no_space_at : (prefix : List ℕ) (k : ℕ) → HasNoSpace prefix → k < length prefix
+    → is_space (get_or prefix k 0) ≡ false
+no_space_at prefix k none within =
+    not_true (is_space (get_or prefix k 0))
+    (AllPass-from_list_all (λ (c : ℕ). not (is_space c)) prefix none k 0 within)
   where
     not_true : (b : Bool) → not b ≡ true → b ≡ false
     not_true true e = absurd cc
     not_true false e = refl
 
-first_space : (front rest : List ℕ) → HasNoSpace front
-    → position_or_len is_space (front ++ 32 ∷ rest) ≡ length front
-first_space front rest none =
-    position_or_len_is is_space (front ++ 32 ∷ rest) (length front) 0
-    (omega (arith, length-append front (32 ∷ rest)))
+first_space : (prefix rest : List ℕ) → HasNoSpace prefix
+    → position_or_len is_space (prefix ++ 32 ∷ rest) ≡ length prefix
+first_space prefix rest none =
+    position_or_len_is is_space (prefix ++ 32 ∷ rest) (length prefix) 0
+    (omega (arith, length-append prefix (32 ∷ rest)))
     (λ k within.
-    ap is_space (get_or_append_left front (32 ∷ rest) 0 k within) ∙ no_space_at front k none within)
-    (λ _. ap is_space (get_or-append_seam front 32 rest 0))
+    ap is_space (get_or_append_left prefix (32 ∷ rest) 0 k within)
+    ∙ no_space_at prefix k none within)
+    (λ _. ap is_space (get_or-append_seam prefix 32 rest 0))
 
-no_first : (front : List ℕ) → HasNoSpace front → position_or_len is_space front ≡ length front
-no_first front none =
-    position_or_len_is is_space front (length front) 0 (omega arith)
-    (λ k within. no_space_at front k none within) (λ within. absurd (omega arith))
+no_first : (prefix : List ℕ) → HasNoSpace prefix → position_or_len is_space prefix ≡ length prefix
+no_first prefix none =
+    position_or_len_is is_space prefix (length prefix) 0 (omega arith)
+    (λ k within. no_space_at prefix k none within) (λ within. absurd (omega arith))
 
-pub front_spaced : (front : List ℕ) (rest : Option (List ℕ)) → HasNoSpace front
-    → front_of (spaced front rest) ≡ front
-front_spaced front None none =
-    ap (λ (n : ℕ). take n front) (no_first front none) ∙ take-length front
-front_spaced front (Some rest) none =
-    ap (λ (n : ℕ). take n (front ++ 32 ∷ rest)) (first_space front rest none)
-    ∙ take-append-le (length front) front (32 ∷ rest) (omega arith) ∙ take-length front
+pub prefix_spaced : (prefix : List ℕ) (rest : Option (List ℕ)) → HasNoSpace prefix
+    → prefix_of (spaced prefix rest) ≡ prefix
+prefix_spaced prefix None none =
+    ap (λ (n : ℕ). take n prefix) (no_first prefix none) ∙ take-length prefix
+prefix_spaced prefix (Some rest) none =
+    ap (λ (n : ℕ). take n (prefix ++ 32 ∷ rest)) (first_space prefix rest none)
+    ∙ take-append-le (length prefix) prefix (32 ∷ rest) (omega arith) ∙ take-length prefix
 
-pub rest_spaced : (front : List ℕ) (rest : Option (List ℕ)) → HasNoSpace front
-    → rest_of (spaced front rest) ≡ rest
-rest_spaced front None none =
-    ap (λ (b : Bool). cond b (Some (after_first is_space front)) None)
-    (le-ltb (position_or_len is_space front) (length front) (omega (arith, no_first front none)))
-rest_spaced front (Some rest) none =
-    let bytes = front ++ 32 ∷ rest in
+pub rest_spaced : (prefix : List ℕ) (rest : Option (List ℕ)) → HasNoSpace prefix
+    → rest_of (spaced prefix rest) ≡ rest
+rest_spaced prefix None none =
+    ap (λ (b : Bool). cond b (Some (after_first is_space prefix)) None)
+    (le-ltb (position_or_len is_space prefix) (length prefix) (omega (arith, no_first prefix none)))
+rest_spaced prefix (Some rest) none =
+    let bytes = prefix ++ 32 ∷ rest in
     ap (λ (b : Bool). cond b (Some (after_first is_space bytes)) None)
     (lt-ltb (position_or_len is_space bytes) (length bytes)
-    (omega (arith, first_space front rest none, length-append front (32 ∷ rest))))
-    ∙ ap (λ (n : ℕ). Some (drop (n + 1) bytes)) (first_space front rest none)
-    ∙ ap (λ (l : List ℕ). Some l) (drop-append-add front (32 ∷ rest) 1)
+    (omega (arith, first_space prefix rest none, length-append prefix (32 ∷ rest))))
+    ∙ ap (λ (n : ℕ). Some (drop (n + 1) bytes)) (first_space prefix rest none)
+    ∙ ap (λ (l : List ℕ). Some l) (drop-append-add prefix (32 ∷ rest) 1)
 
-front_none : (bytes : List ℕ) → HasNoSpace (front_of bytes)
-front_none bytes =
+prefix_none : (bytes : List ℕ) → HasNoSpace (prefix_of bytes)
+prefix_none bytes =
     let place = position_or_len is_space bytes in
-    list_all-from_AllPass (λ (c : ℕ). not (is_space c)) (front_of bytes)
+    list_all-from_AllPass (λ (c : ℕ). not (is_space c)) (prefix_of bytes)
     (λ k d within.
     let before : k < place = omega (arith, within, length-take place bytes) in
     ap (λ (c : ℕ). not (is_space c)) (get_or-take place bytes k d before)
@@ -92,22 +93,22 @@ front_none bytes =
 parts_by : (bytes : List ℕ)
     → (position_or_len is_space bytes < length bytes)
     ⊎ (length bytes ≤ position_or_len is_space bytes)
-    → bytes ≡ spaced (front_of bytes) (rest_of bytes)
+    → bytes ≡ spaced (prefix_of bytes) (rest_of bytes)
 parts_by bytes (inl within) =
     let place = position_or_len is_space bytes in
     let after = after_first is_space bytes in
     split_at_first is_space bytes 0 within
-    ∙ ap (λ (c : ℕ). front_of bytes ++ c ∷ after)
+    ∙ ap (λ (c : ℕ). prefix_of bytes ++ c ∷ after)
     (eqb-true (get_or bytes place 0) 32 (passes_at_first is_space bytes 0 within))
-    ∙ ap (spaced (front_of bytes))
+    ∙ ap (spaced (prefix_of bytes))
     (sym (ap (λ (b : Bool). cond b (Some after) None) (lt-ltb place (length bytes) within)))
 parts_by bytes (inr past) =
     let place = position_or_len is_space bytes in
     sym (take_all place bytes past)
-    ∙ ap (spaced (front_of bytes)) (sym (ap (λ (b : Bool).
+    ∙ ap (spaced (prefix_of bytes)) (sym (ap (λ (b : Bool).
     cond b (Some (after_first is_space bytes)) None) (le-ltb place (length bytes) past)))
 
-pub parts : (bytes : List ℕ) → bytes ≡ spaced (front_of bytes) (rest_of bytes)
+pub parts : (bytes : List ℕ) → bytes ≡ spaced (prefix_of bytes) (rest_of bytes)
 parts bytes = parts_by bytes (cases_lt (position_or_len is_space bytes) (length bytes))
 
 -- ---- arguments
@@ -131,40 +132,41 @@ more_said greatest form digits others rest n (Ok key) is none decimal said =
 more_said greatest form digits others rest n (Err fault) is none decimal said =
     inr (inr (digits, others, n, is, none, decimal, said))
 
-some_front : (c : ℕ) (cs : List ℕ) → c ∷ cs ≡ [] → ⊥
-some_front c cs e = cc
+some_prefix : (c : ℕ) (cs : List ℕ) → c ∷ cs ≡ [] → ⊥
+some_prefix c cs e = cc
 
-split_is : (bytes front : List ℕ) → front_of bytes ≡ front → bytes ≡ spaced front (rest_of bytes)
-split_is bytes front is = parts bytes ∙ ap (λ (l : List ℕ). spaced l (rest_of bytes)) is
+split_is : (bytes prefix : List ℕ) → prefix_of bytes ≡ prefix
+    → bytes ≡ spaced prefix (rest_of bytes)
+split_is bytes prefix is = parts bytes ∙ ap (λ (l : List ℕ). spaced l (rest_of bytes)) is
 
 decimal_said : (greatest : ℕ) (form : ℕ → Form) (bytes : List ℕ) (c : ℕ) (cs : List ℕ)
-    (n : Option ℕ) → front_of bytes ≡ c ∷ cs → decimal_of greatest (c ∷ cs) ≡ n
+    (n : Option ℕ) → prefix_of bytes ≡ c ∷ cs → decimal_of greatest (c ∷ cs) ≡ n
     → ((n : ℕ) → Said (form n) (rest_of bytes) (key_by (form n) (rest_of bytes)))
     → Said (number greatest form) (Some bytes)
     ((number_of n >>= with_rest (rest_of bytes)) >>= goes_on form)
-decimal_said greatest form bytes c cs None front decimal said =
+decimal_said greatest form bytes c cs None prefix decimal said =
     inr (inl (
       c ∷ cs,
       rest_of bytes,
-      ap Some (split_is bytes (c ∷ cs) front),
-      subst HasNoSpace front (front_none bytes),
-      some_front c cs,
+      ap Some (split_is bytes (c ∷ cs) prefix),
+      subst HasNoSpace prefix (prefix_none bytes),
+      some_prefix c cs,
       decimal,
       refl,
     ))
-decimal_said greatest form bytes c cs (Some n) front decimal said =
+decimal_said greatest form bytes c cs (Some n) prefix decimal said =
     more_said greatest form (c ∷ cs) (rest_of bytes) (Some bytes) n
-    (key_by (form n) (rest_of bytes)) (ap Some (split_is bytes (c ∷ cs) front))
-    (subst HasNoSpace front (front_none bytes)) decimal (said n)
+    (key_by (form n) (rest_of bytes)) (ap Some (split_is bytes (c ∷ cs) prefix))
+    (subst HasNoSpace prefix (prefix_none bytes)) decimal (said n)
 
-front_said : (greatest : ℕ) (form : ℕ → Form) (bytes front : List ℕ) → front_of bytes ≡ front
+prefix_said : (greatest : ℕ) (form : ℕ → Form) (bytes prefix : List ℕ) → prefix_of bytes ≡ prefix
     → ((n : ℕ) → Said (form n) (rest_of bytes) (key_by (form n) (rest_of bytes)))
     → Said (number greatest form) (Some bytes)
-    ((number_in greatest front >>= with_rest (rest_of bytes)) >>= goes_on form)
-front_said greatest form bytes [] front said =
-    inl (inr (rest_of bytes, ap Some (split_is bytes [] front)), refl)
-front_said greatest form bytes (c ∷ cs) front said =
-    decimal_said greatest form bytes c cs (decimal_of greatest (c ∷ cs)) front refl said
+    ((number_in greatest prefix >>= with_rest (rest_of bytes)) >>= goes_on form)
+prefix_said greatest form bytes [] prefix said =
+    inl (inr (rest_of bytes, ap Some (split_is bytes [] prefix)), refl)
+prefix_said greatest form bytes (c ∷ cs) prefix said =
+    decimal_said greatest form bytes c cs (decimal_of greatest (c ∷ cs)) prefix refl said
 
 form_said : (form : Form) (rest : Option (List ℕ)) → Said form rest (key_by form rest)
 form_said (nothing key) None = (refl, refl)
@@ -176,7 +178,7 @@ form_said (text_or_none make) None = inl (refl, refl)
 form_said (text_or_none make) (Some t) = inr (t, refl, refl)
 form_said (number greatest form) None = inl (inl refl, refl)
 form_said (number greatest form) (Some bytes) =
-    front_said greatest form bytes (front_of bytes) refl (λ n. form_said (form n) (rest_of bytes))
+    prefix_said greatest form bytes (prefix_of bytes) refl (λ n. form_said (form n) (rest_of bytes))
 
 -- ---- and the other way
 
@@ -191,7 +193,7 @@ number_reads : (greatest : ℕ) (form : ℕ → Form) (argument : List ℕ) (oth
     ≡ (number_in greatest argument >>= λ n. key_by (form n) others)
 number_reads greatest form argument others none =
     ap (λ (l : List ℕ). (number_in greatest l >>= with_rest (rest_of (spaced argument others)))
-    >>= goes_on form) (front_spaced argument others none)
+    >>= goes_on form) (prefix_spaced argument others none)
     ∙ ap
     (λ (rest : Option (List ℕ)). (number_in greatest argument >>= with_rest rest) >>= goes_on form)
     (rest_spaced argument others none)
@@ -294,20 +296,20 @@ passes : (p : Word → Bool) (vs : List Word) (w : Word) → find p vs ≡ Some 
 passes p [] w found = absurd (no_word w found)
 passes p (v ∷ vs) w found = passes_by p v vs w (p v) refl found (passes p vs w)
 
-pub name_is : (front : List ℕ) (w : Word) → word_named front ≡ Some w → front ≡ name_of w
-name_is front w found =
-    (bytes_decides front (name_of w)).0
-    (passes (λ (w : Word). is_same_text front (name_of w)) words w found)
+pub name_is : (prefix : List ℕ) (w : Word) → word_named prefix ≡ Some w → prefix ≡ name_of w
+name_is prefix w found =
+    (bytes_decides prefix (name_of w)).0
+    (passes (λ (w : Word). is_same_text prefix (name_of w)) words w found)
 
 -- ---- lines
 
 pub word_reads : (line : List ℕ) (w : Word) (rest : Option (List ℕ))
     → line ≡ spaced (name_of w) rest
-    → key_of_word (word_named (front_of line)) (rest_of line) ≡ key_by (form_of w) rest
+    → key_of_word (word_named (prefix_of line)) (rest_of line) ≡ key_by (form_of w) rest
 word_reads line w rest is =
-    ap (λ (l : List ℕ). key_of_word (word_named (front_of l)) (rest_of l)) is
+    ap (λ (l : List ℕ). key_of_word (word_named (prefix_of l)) (rest_of l)) is
     ∙ ap (λ (l : List ℕ). key_of_word (word_named l) (rest_of (spaced (name_of w) rest)))
-    (front_spaced (name_of w) rest (unspaced w))
+    (prefix_spaced (name_of w) rest (unspaced w))
     ∙ ap (λ (word : Option Word). key_of_word word (rest_of (spaced (name_of w) rest))) (named w)
     ∙ ap (key_by (form_of w)) (rest_spaced (name_of w) rest (unspaced w))
 
@@ -323,17 +325,17 @@ misspelt_line line fault is_text (w, rest, is, misspells) =
     good_text line is_text.0 is_text.1 ∙ word_reads line w rest is
     ∙ form_misspelt (form_of w) rest fault misspells
 
-unknown_by : (line : List ℕ) (w : Option Word) → word_named (front_of line) ≡ w → IsUnknown line
+unknown_by : (line : List ℕ) (w : Option Word) → word_named (prefix_of line) ≡ w → IsUnknown line
     → key_of_word w (rest_of line) ≡ Err UnknownWord
 unknown_by line None found unknown = refl
 unknown_by line (Some w) found unknown =
-    absurd (unknown w (rest_of line) (split_is line (name_of w) (name_is (front_of line) w found)))
+    absurd (unknown w (rest_of line) (split_is line (name_of w) (name_is (prefix_of line) w found)))
 
 pub misspelt : (line : List ℕ) (fault : KeyFault) → IsNoKeyLine line fault → key_at line ≡ Err fault
 misspelt line TooLong long = long_key line long
 misspelt line NotText (short, none) = bad_text line short none
 misspelt line UnknownWord (is_text, unknown) =
-    good_text line is_text.0 is_text.1 ∙ unknown_by line (word_named (front_of line)) refl unknown
+    good_text line is_text.0 is_text.1 ∙ unknown_by line (word_named (prefix_of line)) refl unknown
 misspelt line Missing (is_text, misspells) = misspelt_line line Missing is_text misspells
 misspelt line BadNumber (is_text, misspells) = misspelt_line line BadNumber is_text misspells
 misspelt line Surplus (is_text, misspells) = misspelt_line line Surplus is_text misspells
@@ -378,23 +380,23 @@ judged_form line w (Err fault) is_text is said =
     no_line line fault is_text (w, rest_of line, is, said)
     (of_argument (form_of w) (rest_of line) fault said)
 
-judged_word : (line : List ℕ) (w : Option Word) → word_named (front_of line) ≡ w → IsTextLine line
+judged_word : (line : List ℕ) (w : Option Word) → word_named (prefix_of line) ≡ w → IsTextLine line
     → Judged line (key_of_word w (rest_of line))
 judged_word line None found is_text = (
   is_text,
-  λ w rest is. no_word w (sym found ∙ ap (λ (l : List ℕ). word_named (front_of l)) is
-      ∙ ap word_named (front_spaced (name_of w) rest (unspaced w)) ∙ named w),
+  λ w rest is. no_word w (sym found ∙ ap (λ (l : List ℕ). word_named (prefix_of l)) is
+      ∙ ap word_named (prefix_spaced (name_of w) rest (unspaced w)) ∙ named w),
 )
 judged_word line (Some w) found is_text =
     judged_form line w (key_by (form_of w) (rest_of line)) is_text (split_is line (name_of w)
-    (name_is (front_of line) w found)) (form_said (form_of w) (rest_of line))
+    (name_is (prefix_of line) w found)) (form_said (form_of w) (rest_of line))
 
 judged_text : (line : List ℕ) (b : Bool) → is_utf8 line ≡ b → length line ≤ LINE_LIMIT
     → Judged line (key_at line)
 judged_text line true good short =
     let is_text : IsTextLine line = (short, IsUtf8-from_is_utf8 line good) in
     subst (Judged line) (sym (good_text line short is_text.1))
-    (judged_word line (word_named (front_of line)) refl is_text)
+    (judged_word line (word_named (prefix_of line)) refl is_text)
 judged_text line false none_is short =
     let none : IsUtf8 line → ⊥ =
     λ utf8. not_both (is_utf8 line) (is_utf8-from_IsUtf8 line utf8) none_is in

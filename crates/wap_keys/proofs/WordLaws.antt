@@ -16,12 +16,12 @@ use Rattle.wap_keys.specs.declared.fault.KeyFault.{KeyFault}
 use Rattle.wap_keys.specs.declared.fault.KeyFault.TheVariants.{NotText, UnknownWord, NoMemory}
 use Rattle.wap_keys.specs.declared.word.Word.{Word}
 use Rattle.wap_keys.specs.declared.word.Word.TheVariants as word
-use Rattle.wap_keys.specs.Forms.{form_of, name_of, word_named, front_of}
+use Rattle.wap_keys.specs.Forms.{form_of, name_of, word_named, prefix_of}
 use Rattle.wap_keys.specs.Forms.{rest_of, key_by, key_of_word, key_at}
 use Rattle.wap_keys.specs.Spelling.{spaced, HasNoSpace}
 use Rattle.wap_keys.specs.inside.Wording.{IsTextOrNone, IsRestText, key_of_rest, unknown_fault}
 use Rattle.wap_keys.proofs.KeyLaws.{bad_text, good_text, no_text}
-use Rattle.wap_keys.proofs.SpellLaws.{front_spaced, name_is, word_reads}
+use Rattle.wap_keys.proofs.SpellLaws.{prefix_spaced, name_is, word_reads}
 
 abbrev are_low : List ℕ → Bool
 are_low bytes = list_all (λ c. nat_lt c 128) bytes
@@ -91,13 +91,13 @@ named_key line w None short is =
 named_key line w (Some rest) short is = rest_key line w rest (is_utf8 rest) refl short is
 
 -- the key of a line that begins with a word of a form
-pub word_key : (line front : List ℕ) (rest : Option (List ℕ)) (w : Word) → length line ≤ LINE_LIMIT
-    → line ≡ spaced front rest → word_named front ≡ Some w → key_at line ≡ key_of_rest w rest
-word_key line front rest w short is found =
-    named_key line w rest short (is ∙ ap (λ (l : List ℕ). spaced l rest) (name_is front w found))
+pub word_key : (line prefix : List ℕ) (rest : Option (List ℕ)) (w : Word) → length line ≤ LINE_LIMIT
+    → line ≡ spaced prefix rest → word_named prefix ≡ Some w → key_at line ≡ key_of_rest w rest
+word_key line prefix rest w short is found =
+    named_key line w rest short (is ∙ ap (λ (l : List ℕ). spaced l rest) (name_is prefix w found))
 
 unknown_by : (line : List ℕ) (b : Bool) → is_utf8 line ≡ b → length line ≤ LINE_LIMIT
-    → word_named (front_of line) ≡ None → key_at line ≡ Err (unknown_fault line)
+    → word_named (prefix_of line) ≡ None → key_at line ≡ Err (unknown_fault line)
 unknown_by line true text short none =
     good_text line short (IsUtf8-from_is_utf8 line text)
     ∙ ap (λ (w : Option Word). key_of_word w (rest_of line)) none
@@ -107,12 +107,12 @@ unknown_by line false other short none =
     ∙ sym (ap (λ (b : Bool). Err (cond b UnknownWord NotText)) other)
 
 -- and of one that begins with none
-pub unknown_key : (line front : List ℕ) (rest : Option (List ℕ)) → length line ≤ LINE_LIMIT
-    → line ≡ spaced front rest → HasNoSpace front → word_named front ≡ None
+pub unknown_key : (line prefix : List ℕ) (rest : Option (List ℕ)) → length line ≤ LINE_LIMIT
+    → line ≡ spaced prefix rest → HasNoSpace prefix → word_named prefix ≡ None
     → key_at line ≡ Err (unknown_fault line)
-unknown_key line front rest short is none found =
+unknown_key line prefix rest short is none found =
     unknown_by line (is_utf8 line) refl short
-    (ap word_named (ap front_of is ∙ front_spaced front rest none) ∙ found)
+    (ap word_named (ap prefix_of is ∙ prefix_spaced prefix rest none) ∙ found)
 
 -- ---- what follows a word, and lines without one
 

@@ -20,12 +20,13 @@ use Rattle.wap_keys.specs.Decimal.{decimal_of}
 
 -- ---- words and what follows them
 
+-- a space ends a word or an argument
 abbrev pub is_space : ℕ → Bool
 is_space c = c == space
 
 -- what stands before the first space
-abbrev pub front_of : List ℕ → List ℕ
-front_of = before_first is_space
+abbrev pub prefix_of : List ℕ → List ℕ
+prefix_of = before_first is_space
 
 -- and what stands after it, if there is one
 abbrev pub rest_of : List ℕ → Option (List ℕ)
@@ -42,12 +43,15 @@ pub data Form : Type 0 where
   text_or_none : (List ℕ → Key) → Form
   number : ℕ → (ℕ → Form) → Form
 
+-- the greatest number of 16 bits
 abbrev pub greatest_u16 : ℕ
 greatest_u16 = 65535
 
+-- and of 32
 abbrev pub greatest_u32 : ℕ
 greatest_u32 = 4294967295
 
+-- the form of a word
 abbrev pub form_of : Word → Form
 form_of word.Open = text key.Open
 form_of word.Do = text key.Do
@@ -77,33 +81,40 @@ name_of word.Answer = codes "answer"
 name_of word.Stop = codes "stop"
 name_of word.Vars = codes "vars"
 
+-- all words
 abbrev pub words : List Word
 words =
     word.Open ∷ word.Do ∷ word.Pick ∷ word.Type ∷ word.Choose ∷ word.Back ∷ word.Tick ∷ word.Ok
     ∷ word.Cancel ∷ word.Answer ∷ word.Stop ∷ word.Vars ∷ []
 
+-- the word of a name, if there is one
 abbrev pub word_named : List ℕ → Option Word
 word_named name = find (λ word. is_same_text name (name_of word)) words
 
 -- ---- arguments
 
+-- a text that has to be there, and isn't empty
 abbrev pub text_at : Option (List ℕ) → Result (List ℕ) KeyFault
 text_at None = Err Missing
 text_at (Some []) = Err Missing
 text_at (Some (c ∷ cs)) = Ok (chars (c ∷ cs))
 
+-- a text that may be missing or empty
 abbrev pub text_or_none_at : Option (List ℕ) → List ℕ
 text_or_none_at None = []
 text_or_none_at (Some bytes) = chars bytes
 
+-- a key after whose word nothing follows
 abbrev pub nothing_at : Key → Option (List ℕ) → Result Key KeyFault
 nothing_at key None = Ok key
 nothing_at key (Some bytes) = Err Surplus
 
+-- the number that digits write, if they write one
 abbrev pub number_of : Option ℕ → Result ℕ KeyFault
 number_of None = Err BadNumber
 number_of (Some n) = Ok n
 
+-- the number that an argument is
 abbrev pub number_in : ℕ → List ℕ → Result ℕ KeyFault
 number_in greatest [] = Err Missing
 number_in greatest (c ∷ cs) = number_of (decimal_of greatest (c ∷ cs))
@@ -111,7 +122,8 @@ number_in greatest (c ∷ cs) = number_of (decimal_of greatest (c ∷ cs))
 -- a number, and what follows it
 abbrev pub number_at : ℕ → Option (List ℕ) → Result (ℕ × Option (List ℕ)) KeyFault
 number_at greatest None = Err Missing
-number_at greatest (Some bytes) = number_in greatest (front_of bytes) >>= λ n. Ok (n, rest_of bytes)
+number_at greatest (Some bytes) =
+    number_in greatest (prefix_of bytes) >>= λ n. Ok (n, rest_of bytes)
 
 -- a call read this number, and has what follows it
 abbrev pub ReadsNumber : Result (ℕ × Option (Bor (List ℕ))) KeyFault
@@ -128,6 +140,7 @@ key_by (number greatest form) rest = number_at greatest rest >>= λ read. key_by
 
 -- ---- lines
 
+-- the key of a word and of what follows it
 abbrev pub key_of_word : Option Word → Option (List ℕ) → Result Key KeyFault
 key_of_word None rest = Err UnknownWord
 key_of_word (Some word) rest = key_by (form_of word) rest
@@ -136,4 +149,4 @@ key_of_word (Some word) rest = key_by (form_of word) rest
 unfoldable pub key_at : List ℕ → Result Key KeyFault
 key_at line =
     if nat_lt LINE_LIMIT (length line) then Err TooLong else
-    if is_utf8 line then key_of_word (word_named (front_of line)) (rest_of line) else Err NotText
+    if is_utf8 line then key_of_word (word_named (prefix_of line)) (rest_of line) else Err NotText

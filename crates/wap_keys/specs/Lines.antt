@@ -19,6 +19,7 @@ pub record Line : Type 0 where
   pub bytes : List ℕ
   pub ended : Bool
 
+-- a byte stands before lines, in the first of them
 abbrev pub led : ℕ → List Line → List Line
 led c [] = record { bytes = c ∷ []; ended = false } ∷ []
 led c (line ∷ lines) = record { bytes = c ∷ line.bytes; ended = line.ended } ∷ lines
@@ -35,11 +36,13 @@ abbrev pub without_return : List ℕ → List ℕ
 without_return line =
     if ends_with nat_eq line (carriage_return ∷ []) then take (length line - 1) line else line
 
+-- what counts of a line
 abbrev pub content : Line → List ℕ
 content line = if line.ended then without_return line.bytes else line.bytes
 
 -- ---- what a line says
 
+-- a key that a line says
 abbrev pub some_key : Result Key KeyFault → Result (Option Key) KeyFault
 some_key (Ok key) = Ok (Some key)
 some_key (Err fault) = Err fault
@@ -70,6 +73,7 @@ pub record Keys : Type 0 where
   pub keys : List Key
   pub ending : Ending
 
+-- what one line says, and then others
 abbrev pub key_before : ℕ → Result (Option Key) KeyFault → Keys → Keys
 key_before number (Err fault) others = record { keys = []; ending = BadKey number fault }
 key_before number (Ok None) others = others

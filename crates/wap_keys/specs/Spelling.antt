@@ -17,9 +17,10 @@ use Rattle.wap_keys.specs.Forms.{number, form_of, name_of, is_space}
 
 -- a word or an argument that has no space, and one space before what follows it, if something does
 abbrev pub spaced : List ℕ → Option (List ℕ) → List ℕ
-spaced front None = front
-spaced front (Some rest) = front ++ space ∷ rest
+spaced prefix None = prefix
+spaced prefix (Some rest) = prefix ++ space ∷ rest
 
+-- no space is among the bytes
 abbrev pub HasNoSpace : List ℕ → Type 0
 HasNoSpace bytes = list_all (λ c. not (is_space c)) bytes ≡ true
 

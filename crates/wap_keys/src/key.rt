@@ -8,7 +8,7 @@ ghost use Rattle.wap_input.specs.declared.key.Key.{Key};
 ghost use Rattle.wap_keys.specs.declared.fault.KeyFault.{KeyFault};
 ghost use Rattle.wap_keys.specs.declared.fault.KeyFault.TheVariants.{NoMemory};
 ghost use Rattle.wap_keys.specs.declared.word.Word.TheVariants as word;
-ghost use Rattle.wap_keys.specs.Forms.{front_of, rest_of, form_of, text_at};
+ghost use Rattle.wap_keys.specs.Forms.{prefix_of, rest_of, form_of, text_at};
 ghost use Rattle.wap_keys.specs.Forms.{text_or_none_at, nothing_at, number_in, number_at};
 ghost use Rattle.wap_keys.specs.Forms.{ReadsNumber, greatest_u16, key_by, key_at};
 ghost use Rattle.wap_keys.specs.Spelling.{spaced, HasNoSpace, IsKeyLine, IsNoKeyLine};
@@ -19,15 +19,15 @@ use crate::word::Word;
 use crate::{Key, KeyFault, LINE_LIMIT};
 use std::alloc::Global;
 use std::str;
-use wap_base::{NoMemory as WantOfMemory, Text};
+use wap_base::{NoMemory as OutOfMemory, Text};
 
 /// What stands before the first space, and what stands after it.
 fn split(text: &str) -> (&str, Option<&str>)
-    ensures prefix { result.0.now ≡ front_of text.now }
+    ensures prefix { result.0.now ≡ prefix_of text.now }
     ensures rest { option_map (λ rest. rest.now) result.1 ≡ rest_of text.now }
 {
     match text.split_once(' ') {
-        Some((front, rest)) => (front, Some(rest)),
+        Some((prefix, rest)) => (prefix, Some(rest)),
         None => (text, None),
     }
 }
@@ -42,7 +42,7 @@ fn read_text(alloc: Global, rest: Option<&str>) -> Result<Text, KeyFault>
     }
 }
 
-fn read_text_or_none(alloc: Global, rest: Option<&str>) -> Result<Text, WantOfMemory>
+fn read_text_or_none(alloc: Global, rest: Option<&str>) -> Result<Text, OutOfMemory>
     ensures { IfOk result (λ text. text ≡ text_or_none_at
         (option_map (λ rest. rest.now) rest.entry)) }
 {
@@ -213,8 +213,8 @@ fn read_line(alloc: Global, line: &[u8]) -> Result<Key, KeyFault>
     if line.len() > LINE_LIMIT {
         return Err(KeyFault::TooLong);
     }
-    let (front, rest) = split_word(line);
-    match Word::of(front) {
+    let (prefix, rest) = split_word(line);
+    match Word::of(prefix) {
         Some(word) => read_rest(alloc, word, rest),
         None => Err(unknown_fault(line)),
     }

@@ -4,10 +4,10 @@
 mod decimal;
 mod ending;
 mod fault;
-mod front;
 mod key;
 mod limits;
 mod line;
+mod prefix;
 mod reader;
 mod reading;
 mod word;

@@ -1,7 +1,7 @@
 //! What one line says.
 ghost use Rattle.std.specs.Prelude.{◌≡◌, IfOk};
 ghost use Rattle.wap_base.specs.Outcome.{Meets};
-ghost use Rattle.wap_keys.specs.declared.fault.KeyFault.TheVariants.{NoMemory as WantsMemory};
+ghost use Rattle.wap_keys.specs.declared.fault.KeyFault.TheVariants.{NoMemory as OutOfMemory};
 ghost use Rattle.wap_keys.specs.Lines.{without_return, content_key};
 ghost use Rattle.wap_keys.specs.inside.Taking.{said_of};
 
@@ -31,7 +31,7 @@ pub(crate) fn without_return(line: &[u8]) -> &[u8]
 
 /// The key of a line, where it isn't empty and no comment.
 fn content_key(alloc: Global, content: &[u8]) -> Result<Option<Key>, KeyFault>
-    ensures { Meets WantsMemory (λ key. key) result (content_key content.now) }
+    ensures { Meets OutOfMemory (λ key. key) result (content_key content.now) }
 {
     match content {
         [] | [b'#', ..] => Ok(None),

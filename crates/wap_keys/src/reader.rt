@@ -1,21 +1,14 @@
 //! Reading one key after the other.
-ghost use Rattle.std.specs.Prelude.{◌≡◌, ◌≢◌, ◌+◌, ◌<◌, ◌≤◌, [], ◌∷◌, ◌++◌, Option, List, ℕ, Ok};
-ghost use Rattle.std.specs.Prelude.{true, false, length, take, drop, IfOk, IfNone, IfSome, OnOk};
-ghost use Rattle.std.specs.Prelude.{OnErr};
-ghost use Rattle.wap_base.specs.Count.{Rose};
-ghost use Rattle.wap_devices.specs.Sources.{ends_after};
-ghost use Rattle.wap_devices.specs.Transfer.{TakesFrom, IsAtEnd};
-ghost use Rattle.wap_keys.specs.declared.ending.Next.TheVariants.{Ended};
-ghost use Rattle.wap_keys.specs.declared.ending.Ending.TheVariants.{ReadFault};
-ghost use Rattle.wap_keys.specs.declared.reader.More.TheVariants.{Failed as fails};
+ghost use Rattle.std.specs.Prelude.{◌≡◌, ◌<◌, ◌≤◌, [], length, true, false, IfOk, OnOk, OnErr};
+ghost use Rattle.wap_devices.specs.Sources.{SourceSeen};
 ghost use Rattle.wap_keys.specs.declared.limits.TheConstants.{LINE_LIMIT};
 ghost use Rattle.wap_keys.specs.Lines.{content_key};
-ghost use Rattle.wap_keys.specs.Reading.{HasRead, Answers, GivesUp, Falls, KeepsEnds, GivesUpEnds};
-ghost use Rattle.wap_keys.specs.inside.Taking.{is_unended, said_of, TakesLine, ReadsMore, ends_by};
-ghost use Rattle.wap_keys.specs.inside.Taking.{TakesSome, last_next};
+ghost use Rattle.wap_keys.specs.Reading.{HasRead, Answers, GivesUp, Falls, CountsFaults};
+ghost use Rattle.wap_keys.specs.inside.Taking.{is_unended, said_of, last_next, TakesLine};
+ghost use Rattle.wap_keys.specs.inside.Taking.{ReadsPrefix, ReadsMore, LosesPiece};
 
-use crate::front::{Front, take_front, whole_line};
 use crate::line::{Said, line_said, without_return};
+use crate::prefix::{Prefix, take_prefix, whole_line};
 use crate::{Ending, KEYS_LIMIT, KeyFault, Next, PIECE_LIMIT};
 use std::alloc::Global;
 use std::marker::Model;
@@ -82,19 +75,11 @@ impl Model for Reader {
 }
 
 /// Reads the next bytes into so long a prefix of the buffer, and answers their number.
-fn read_front<I: Source>(source: &mut I, buffer: &mut [u8], room: usize) -> Result<usize, Failed>
+fn read_prefix<I: Source>(source: &mut I, buffer: &mut [u8], room: usize) -> Result<usize, Failed>
     requires some { 0 < room }
     requires within { room ≤ length buffer.old }
-    ensures within { IfOk result (λ count. count ≤ room) }
-    ensures bytes { IfOk result (λ count. TakesFrom (I.seen source.old).left (I.seen source.new).left
-        (take count buffer.new)) }
-    ensures end { result ≡ Ok 0 → IsAtEnd (I.seen source.old).left }
-    ensures length { length buffer.new ≡ length buffer.old }
-    ensures unmoved { OnErr result ((I.seen source.new).left ≡ (I.seen source.old).left) }
-    ensures faults { (I.seen source.old).faults ≤ (I.seen source.new).faults }
-    ensures failed { OnErr result (Rose (I.seen source.old).faults (I.seen source.new).faults) }
-    ensures steady { OnOk result ((I.seen source.new).faults ≡ (I.seen source.old).faults) }
-    ensures ends { (I.seen source.new).ends ≡ ends_after (I.seen source.old).ends result }
+    ensures { ReadsPrefix room buffer.old buffer.new (I.seen source.old) (I.seen source.new)
+        result }
 {
     source.read(buffer.split_at_mut(room).0)
 }
@@ -102,7 +87,7 @@ fn read_front<I: Source>(source: &mut I, buffer: &mut [u8], room: usize) -> Resu
 impl Reader {
     /// A reader that has read nothing.
     pub fn new(alloc: Global) -> Reader
-        ensures read { (start : Option (List ℕ)) → HasRead start start [] [] result }
+        ensures read { (seen : SourceSeen) → HasRead seen seen [] [] result }
         ensures begun { result.over ≡ false }
     {
         Reader {
@@ -139,39 +124,33 @@ impl Reader {
         ensures { IfOk result (TakesLine self.old self.new) }
     {
         let (_, unread) = self.piece.as_slice().split_at(self.at);
-        match take_front(&mut self.line, unread)? {
-            Front::Begun => {
+        match take_prefix(&mut self.line, unread)? {
+            Prefix::Begun => {
                 self.piece.clear();
                 self.at = 0;
                 Ok(Taken::Begun)
             }
-            Front::Whole(place) => {
+            Prefix::Whole(place) => {
                 self.at += place + 1;
                 let said = line_said(alloc, without_return(&self.line))?;
                 self.line.clear();
                 self.number += 1;
                 Ok(Taken::Line(said))
             }
-            Front::TooLong => Ok(Taken::Line(Said::Bad(KeyFault::TooLong))),
+            Prefix::TooLong => Ok(Taken::Line(Said::Bad(KeyFault::TooLong))),
         }
     }
 
     /// Reads more bytes.
     fn read_more<I: Source>(&mut self, source: &mut I) -> Result<More, NoMemory>
-        ensures more { IfOk result (ReadsMore (I.seen source.old).left
-            (I.seen source.new).left self.old self.new) }
-        ensures lost { OnErr result (TakesSome (I.seen source.old).left (I.seen source.new).left self.old) }
-        ensures faults { (I.seen source.old).faults ≤ (I.seen source.new).faults }
-        ensures failed { result ≡ Ok fails → Rose (I.seen source.old).faults (I.seen source.new).faults }
-        ensures steady { IfOk result (λ more. more ≢ fails → (I.seen source.new).faults
-            ≡ (I.seen source.old).faults) }
-        ensures lost_steady { OnErr result ((I.seen source.new).faults ≡ (I.seen source.old).faults) }
-        ensures ends { IfOk result (λ more. (I.seen source.new).ends ≡ ends_by (I.seen source.old).ends more) }
-        ensures lost_ends { OnErr result ((I.seen source.new).ends ≡ (I.seen source.old).ends) }
+        ensures more { IfOk result (ReadsMore (I.seen source.old) (I.seen source.new)
+            self.old self.new) }
+        ensures lost { OnErr result (LosesPiece (I.seen source.old) (I.seen source.new)
+            self.old) }
     {
         let left = KEYS_LIMIT - self.count;
         let room = if left == 0 { 1 } else { PIECE_LIMIT.min(left) };
-        let Ok(count) = read_front(source, &mut self.buffer, room) else {
+        let Ok(count) = read_prefix(source, &mut self.buffer, room) else {
             return Ok(More::Failed);
         };
         if count == 0 {
@@ -209,20 +188,13 @@ impl Reader {
 
     /// The next key, or how the keys came to their end.
     pub fn next<I: Source>(&mut self, alloc: Global, source: &mut I) -> Result<Next, NoMemory>
-        ensures answers { IfOk result (Answers (I.seen source.old).left
-            (I.seen source.new).left self.old self.new) }
-        ensures gives_up { OnErr result (GivesUp (I.seen source.old).left (I.seen source.new).left self.old) }
+        ensures answers { IfOk result (Answers (I.seen source.old) (I.seen source.new)
+            self.old self.new) }
+        ensures gives_up { OnErr result (GivesUp (I.seen source.old) (I.seen source.new)
+            self.old) }
         ensures falls { IfOk result (Falls self.old self.new) }
-        ensures faults { (I.seen source.old).faults ≤ (I.seen source.new).faults }
-        ensures failed { IfOk result (λ next. next ≡ Ended ReadFault
-            → Rose (I.seen source.old).faults (I.seen source.new).faults) }
-        ensures steady { IfOk result (λ next. next ≢ Ended ReadFault → (I.seen source.new).faults
-            ≡ (I.seen source.old).faults) }
-        ensures lost_steady { OnErr result ((I.seen source.new).faults ≡ (I.seen source.old).faults) }
-        ensures ends { OnOk result (KeepsEnds self.old self.new (I.seen source.old).ends
-            (I.seen source.new).ends) }
-        ensures lost_ends { OnErr result (GivesUpEnds self.old (I.seen source.old).ends
-            (I.seen source.new).ends) }
+        ensures faults { CountsFaults (I.seen source.old).faults (I.seen source.new).faults
+            result }
     {
         while !self.over {
             let line = self.number;

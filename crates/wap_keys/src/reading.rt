@@ -14,22 +14,22 @@ use wap_devices::Source;
 /// Reads keys to their end: that of the source, a line that is no key line, a byte too many, or a
 /// fault of the source.
 pub fn read_keys<I: Source>(alloc: Global, source: &mut I) -> Result<(Vec<Key>, Ending), NoMemory>
-    ensures read { IfOk result (λ read. ReadsTo (I.seen source.old).left
-        (I.seen source.new).left read.0.items read.1) }
-    ensures told { IfOk result (λ read. read.1 ≢ ReadFault
+    ensures read { IfOk result (λ read. ReadsTo (I.seen source.old) (I.seen source.new)
+        read.0.items read.1) }
+    ensures known { IfOk result (λ read. read.1 ≢ ReadFault
         → IfSome (I.seen source.old).left (λ bytes. keys_of bytes
         ≡ record { keys = read.0.items; ending = read.1 })) }
     ensures before { IfOk result (λ read. read.1 ≡ ReadFault
         → IfSome (I.seen source.old).left (IsReadBefore read.0.items (I.seen source.new).left)) }
     ensures first { IfOk result (λ read. IfSome (I.seen source.old).left
         (λ bytes. AreFirst read.0.items (keys_of bytes).keys)) }
-    ensures few { TakesAtMost (KEYS_LIMIT + 1) (I.seen source.old).left (I.seen source.new).left }
+    ensures few { TakesAtMost (KEYS_LIMIT + 1) (I.seen source.old) (I.seen source.new) }
     ensures failed { IfOk result (λ read. read.1 ≡ ReadFault
         → Rose (I.seen source.old).faults (I.seen source.new).faults) }
-    ensures steady { IfOk result (λ read. read.1 ≢ ReadFault → (I.seen source.new).faults
-        ≡ (I.seen source.old).faults) }
+    ensures steady { IfOk result (λ read. read.1 ≢ ReadFault
+        → (I.seen source.new).faults ≡ (I.seen source.old).faults) }
     ensures faults { (I.seen source.old).faults ≤ (I.seen source.new).faults }
-    // The source reports its end once at most.
+    // The source gives its end once at most.
     ensures ends { AtMostOnce (I.seen source.old).ends (I.seen source.new).ends }
 {
     let mut reader = Reader::new(alloc);

@@ -3,8 +3,10 @@ use Rattle.std.specs.Prelude.{◌≡◌, ◌≢◌, ℕ, ◌+◌, ◌<◌, ◌�
 use Rattle.std.specs.Prelude.{◌++◌, length, take, drop, Option, Some, None, Result, Ok, Err}
 use Rattle.std.specs.List.{list_all}
 use Rattle.wap_base.specs.Ascii.{line_feed}
-use Rattle.wap_base.specs.Count.{raised}
-use Rattle.wap_devices.specs.Transfer.{TakesFrom, IsAtEnd}
+use Rattle.wap_base.specs.Count.{raised, Rose}
+use Rattle.wap_devices.specs.Transfer.{IsAtEnd}
+use Rattle.wap_devices.specs.Sources.{SourceSeen, Reads}
+use Rattle.wap_devices.specs.declared.fault.Failed.{Failed}
 use Rattle.wap_input.specs.declared.key.Key.{Key}
 use Rattle.wap_keys.specs.declared.limits.TheConstants.{KEYS_LIMIT, LINE_LIMIT, PIECE_LIMIT}
 use Rattle.wap_keys.specs.declared.fault.KeyFault.{KeyFault}
@@ -13,8 +15,8 @@ use Rattle.wap_keys.specs.declared.ending.Ending.{Ending}
 use Rattle.wap_keys.specs.declared.ending.Ending.TheVariants.{End, BadKey}
 use Rattle.wap_keys.specs.declared.ending.Next.{Next}
 use Rattle.wap_keys.specs.declared.ending.Next.TheVariants as next
-use Rattle.wap_keys.specs.declared.front.Front.{Front}
-use Rattle.wap_keys.specs.declared.front.Front.TheVariants as front
+use Rattle.wap_keys.specs.declared.prefix.Prefix.{Prefix}
+use Rattle.wap_keys.specs.declared.prefix.Prefix.TheVariants as prefix
 use Rattle.wap_keys.specs.declared.line.Said.{Said}
 use Rattle.wap_keys.specs.declared.line.Said.TheVariants as said
 use Rattle.wap_keys.specs.declared.reader.Taken.{Taken}
@@ -22,24 +24,28 @@ use Rattle.wap_keys.specs.declared.reader.Taken.TheVariants as taken
 use Rattle.wap_keys.specs.declared.reader.More.{More}
 use Rattle.wap_keys.specs.declared.reader.More.TheVariants as more
 use Rattle.wap_keys.specs.Lines.{key_before}
+use Rattle.wap_keys.specs.Read.{Takes}
 use Rattle.wap_keys.specs.Reading.{Reading, said_yet}
+
+-- ---- lines
 
 -- no line feed is among the bytes
 abbrev pub is_unended : List ℕ → Bool
 is_unended bytes = list_all (λ c. not (c == line_feed)) bytes
 
 -- a line that is begun goes on with what follows it, up to a line feed
-abbrev pub TakesFront : List ℕ → List ℕ → List ℕ → Front → Type 0
-TakesFront old new unread front.Begun =
+abbrev pub TakesPrefix : List ℕ → List ℕ → List ℕ → Prefix → Type 0
+TakesPrefix old new unread prefix.Begun =
     (is_unended unread ≡ true) × (new ≡ old ++ unread) × (length new ≤ LINE_LIMIT)
-TakesFront old new unread (front.Whole place) =
+TakesPrefix old new unread (prefix.Whole place) =
     (place < length unread) × (unread ≡ take place unread ++ line_feed ∷ drop (place + 1) unread)
     × (is_unended (take place unread) ≡ true)
     × (new ≡ old ++ take place unread) × (length new ≤ LINE_LIMIT)
-TakesFront old new unread front.TooLong =
+TakesPrefix old new unread prefix.TooLong =
     (begun : List ℕ) × (rest : List ℕ) × (unread ≡ begun ++ rest) × (is_unended begun ≡ true)
     × (LINE_LIMIT < length old + length begun) × (new ≡ old)
 
+-- what a line says, by what its content comes to
 abbrev pub said_of : Result (Option Key) KeyFault → Said
 said_of (Ok None) = said.Nothing
 said_of (Ok (Some key)) = said.Key key
@@ -70,34 +76,71 @@ TakesLine old new taken.Begun =
     (is_unended old.unread ≡ true) × (length old.unread ≤ LINE_LIMIT) × (new ≡ old)
 TakesLine old new (taken.Line said) = TakesSaid old new said
 
--- more bytes are read; or the source is at its end, has more than may be read, or failed
-abbrev pub ReadsMore : Option (List ℕ) → Option (List ℕ) → Reading → Reading → More → Type 0
-ReadsMore before after old new more.Piece =
-    (piece : List ℕ) × TakesFrom before after piece × (0 < length piece)
-    × (length piece ≤ PIECE_LIMIT) × (old.count + length piece ≤ KEYS_LIMIT)
-    × (new ≡ record old { unread = old.unread ++ piece; count = old.count + length piece })
-ReadsMore before after old new more.AtEnd =
-    IsAtEnd before × TakesFrom before after [] × (new ≡ record old { over = true })
-ReadsMore before after old new more.Past =
-    (piece : List ℕ) × TakesFrom before after piece × (length piece ≡ 1)
-    × (old.count ≡ KEYS_LIMIT) × (new ≡ old)
-ReadsMore before after old new more.Failed = (after ≡ before) × (new ≡ old)
-
--- how often a source has reported its end, after a read that comes to this
-abbrev pub ends_by : ℕ → More → ℕ
-ends_by ends more.Piece = ends
-ends_by ends more.AtEnd = raised ends
-ends_by ends more.Past = ends
-ends_by ends more.Failed = ends
-
--- some bytes were taken, and are lost
-abbrev pub TakesSome : Option (List ℕ) → Option (List ℕ) → Reading → Type 0
-TakesSome before after old =
-    (piece : List ℕ) × TakesFrom before after piece × (length piece ≤ PIECE_LIMIT)
-    × (old.count + length piece ≤ KEYS_LIMIT + 1)
-
 -- what the last line comes to
 abbrev pub last_next : ℕ → Said → Next
 last_next number said.Nothing = next.Ended End
 last_next number (said.Key key) = next.Key key
 last_next number (said.Bad fault) = next.Ended (BadKey number fault)
+
+-- ---- bytes
+
+-- the next bytes are read into so long a prefix of a buffer
+pub record ReadsPrefix (room : ℕ) (old new : List ℕ) (before after : SourceSeen)
+    (result : Result ℕ Failed) : Type 0 where
+  pub reads : Reads (take room old) (take room new) before after result
+  pub rest : drop room new ≡ drop room old
+  pub len : length new ≡ length old
+
+-- a piece is read
+pub record ReadsPiece (before after : SourceSeen) (old new : Reading) : Type 0 where
+  pub piece : List ℕ
+  pub takes : Takes piece before after
+  pub some : 0 < length piece
+  pub small : length piece ≤ PIECE_LIMIT
+  pub few : old.count + length piece ≤ KEYS_LIMIT
+  pub reader
+      : new ≡ record old { unread = old.unread ++ piece; count = old.count + length piece }
+  pub ends : after.ends ≡ before.ends
+  pub steady : after.faults ≡ before.faults
+
+-- or the source gives its end
+pub record ReadsEnd (before after : SourceSeen) (old new : Reading) : Type 0 where
+  pub none : IsAtEnd before.left
+  pub takes : Takes [] before after
+  pub reader : new ≡ record old { over = true }
+  pub ends : after.ends ≡ raised before.ends
+  pub steady : after.faults ≡ before.faults
+
+-- or a byte past the limit is read
+pub record ReadsPast (before after : SourceSeen) (old new : Reading) : Type 0 where
+  pub piece : List ℕ
+  pub takes : Takes piece before after
+  pub one : length piece ≡ 1
+  pub full : old.count ≡ KEYS_LIMIT
+  pub reader : new ≡ old
+  pub ends : after.ends ≡ before.ends
+  pub steady : after.faults ≡ before.faults
+
+-- or the source fails
+pub record FailsToRead (before after : SourceSeen) (old new : Reading) : Type 0 where
+  pub takes : Takes [] before after
+  pub reader : new ≡ old
+  pub ends : after.ends ≡ before.ends
+  pub counts : before.faults ≤ after.faults
+  pub rose : Rose before.faults after.faults
+
+-- what a read comes to
+abbrev pub ReadsMore : SourceSeen → SourceSeen → Reading → Reading → More → Type 0
+ReadsMore before after old new more.Piece = ReadsPiece before after old new
+ReadsMore before after old new more.AtEnd = ReadsEnd before after old new
+ReadsMore before after old new more.Past = ReadsPast before after old new
+ReadsMore before after old new more.Failed = FailsToRead before after old new
+
+-- out of memory: some bytes were taken, and are lost
+pub record LosesPiece (before after : SourceSeen) (old : Reading) : Type 0 where
+  pub piece : List ℕ
+  pub takes : Takes piece before after
+  pub small : length piece ≤ PIECE_LIMIT
+  pub few : old.count + length piece ≤ KEYS_LIMIT + 1
+  pub ends : after.ends ≡ before.ends
+  pub steady : after.faults ≡ before.faults

@@ -2,9 +2,9 @@ use Rattle.std.proofs.Common.{◌≡◌, ◌≢◌, ℕ, List, ◌++◌, drop, a
 use Rattle.wap_keys.specs.Reading.{Reading}
 use Rattle.wap_keys.specs.Lines.{without_return, content_key}
 use Rattle.wap_keys.specs.declared.fault.KeyFault.TheVariants.{TooLong, NoMemory}
-use Rattle.wap_keys.specs.declared.front.Front.{Front}
-use Rattle.wap_keys.specs.declared.front.Front.TheVariants as front
-use Rattle.wap_keys.specs.inside.Taking.{said_of, TakesFront}
+use Rattle.wap_keys.specs.declared.prefix.Prefix.{Prefix}
+use Rattle.wap_keys.specs.declared.prefix.Prefix.TheVariants as prefix
+use Rattle.wap_keys.specs.inside.Taking.{said_of, TakesPrefix}
 use Rattle.wap_keys.proofs.LineSteps.{takes_whole, takes_long}
 use Rattle.wap_keys.proofs.reader.Reader.go_on.Goals as goal
 
@@ -12,12 +12,13 @@ pub returns-in_ok-said-in-Whole : goal.returns-in_ok-said-in-Whole
 returns-in_ok-said-in-Whole c =
     let line = c.self.inside.line.items in
     let piece = c.self.inside.piece.items in
-    let whole = c.take_front.new.line.items in
+    let whole = c.take_prefix.new.line.items in
     let unread : c.split_at.result.1.now ≡ drop c.self.inside.at piece = cc in
-    let takes : TakesFront line whole (drop c.self.inside.at piece) (front.Whole c.in-Whole.place) =
-    subst (λ (l : List ℕ). TakesFront line whole l (front.Whole c.in-Whole.place)) unread
-    (subst (λ (front : Front). TakesFront line whole c.split_at.result.1.now front)
-    c.in-Whole.is c.in_ok-take_front.ensures.takes) in
+    let takes
+    : TakesPrefix line whole (drop c.self.inside.at piece) (prefix.Whole c.in-Whole.place) =
+    subst (λ (l : List ℕ). TakesPrefix line whole l (prefix.Whole c.in-Whole.place)) unread
+    (subst (λ (prefix : Prefix). TakesPrefix line whole c.split_at.result.1.now prefix)
+    c.in-Whole.is c.in_ok-take_prefix.ensures.takes) in
     let content : c.without_return.result.now ≡ without_return whole =
     c.without_return.ensures
     ∙ ap without_return (let same : c.deref.result.now ≡ whole = cc in same) in
@@ -32,14 +33,14 @@ pub returns-in-TooLong : goal.returns-in-TooLong
 returns-in-TooLong c =
     let line = c.self.inside.line.items in
     let piece = c.self.inside.piece.items in
-    let whole = c.take_front.new.line.items in
+    let whole = c.take_prefix.new.line.items in
     let view : line ++ drop c.self.inside.at piece ≡ c.args.self.now.unread =
     ap (λ (r : Reading). r.unread) c.self.view_is in
     let unread : c.split_at.result.1.now ≡ drop c.self.inside.at piece = cc in
-    let takes : TakesFront line whole (drop c.self.inside.at piece) front.TooLong =
-    subst (λ (l : List ℕ). TakesFront line whole l front.TooLong) unread
-    (subst (λ (front : Front). TakesFront line whole c.split_at.result.1.now front)
-    c.in-TooLong.is c.in_ok-take_front.ensures.takes) in
+    let takes : TakesPrefix line whole (drop c.self.inside.at piece) prefix.TooLong =
+    subst (λ (l : List ℕ). TakesPrefix line whole l prefix.TooLong) unread
+    (subst (λ (prefix : Prefix). TakesPrefix line whole c.split_at.result.1.now prefix)
+    c.in-TooLong.is c.in_ok-take_prefix.ensures.takes) in
     let no_want : TooLong ≢ NoMemory = λ e. absurd (let none : ⊥ = cc in none) in (
       no_want,
       ap (λ (r : Reading). r.over) c.self.view_is,

@@ -1,8 +1,8 @@
 use Rattle.std.proofs.Common.{◌≡◌, ℕ, List, [], length, drop, true, ap, subst, sym, ◌∙◌}
 use Rattle.std.specs.Prelude.{◌==◌}
 use Rattle.wap_keys.specs.Lines.{without_return, content_key}
-use Rattle.wap_keys.specs.declared.front.Front.TheVariants as front
-use Rattle.wap_keys.specs.inside.Taking.{said_of, TakesFront}
+use Rattle.wap_keys.specs.declared.prefix.Prefix.TheVariants as prefix
+use Rattle.wap_keys.specs.inside.Taking.{said_of, TakesPrefix}
 use Rattle.wap_keys.proofs.LineSteps.{takes_whole, no_bytes}
 use Rattle.wap_keys.proofs.reader.Reader.take_line.Goals as goal
 
@@ -15,9 +15,10 @@ returns c =
     let yes : c.is_empty.result ≡ true = cc in
     let empty : line ≡ [] = no_bytes line (sym tested ∙ yes) in
     let unread : c.split_at.result.1.now ≡ drop c.self.inside.at piece = cc in
-    let takes : TakesFront line whole (drop c.self.inside.at piece) (front.Whole (length whole)) =
-    subst (λ (l : List ℕ). TakesFront line whole l (front.Whole (length whole))) unread
-    (subst (λ (l : List ℕ). TakesFront l whole c.split_at.result.1.now (front.Whole (length whole)))
+    let takes : TakesPrefix line whole (drop c.self.inside.at piece) (prefix.Whole (length whole)) =
+    subst (λ (l : List ℕ). TakesPrefix line whole l (prefix.Whole (length whole))) unread
+    (subst (λ (l : List ℕ).
+    TakesPrefix l whole c.split_at.result.1.now (prefix.Whole (length whole)))
     (sym empty) c.in-Some.ensures.takes) in
     let says : c.in_ok-said.said ≡ said_of (content_key (without_return whole)) =
     c.in_ok-said.ensures ∙ ap (λ (l : List ℕ). said_of (content_key l)) c.without_return.ensures in

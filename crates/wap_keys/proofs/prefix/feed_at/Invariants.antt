@@ -1,6 +1,6 @@
 use Rattle.std.proofs.Common.{◌≡◌, true, take}
 use Rattle.wap_keys.specs.inside.Taking.{is_unended}
-use Rattle.wap_keys.proofs.front.feed_at.Given as goal
+use Rattle.wap_keys.proofs.prefix.feed_at.Given as goal
 
 -- no line feed so far
 abbrev pub invariant-loop-place : goal.invariant-loop-place

@@ -2,15 +2,15 @@
 ghost use Rattle.std.specs.Prelude.{◌≡◌, ◌<◌, ◌≤◌, ◌+◌, ◌++◌, [], ◌∷◌, true, length, take, drop};
 ghost use Rattle.std.specs.Prelude.{IfOk, OnErr, IfNone, IfSome};
 ghost use Rattle.wap_base.specs.Ascii.{line_feed};
-ghost use Rattle.wap_keys.specs.declared.front.Front.TheVariants.{Whole};
-ghost use Rattle.wap_keys.specs.inside.Taking.{is_unended, TakesFront};
+ghost use Rattle.wap_keys.specs.declared.prefix.Prefix.TheVariants.{Whole};
+ghost use Rattle.wap_keys.specs.inside.Taking.{is_unended, TakesPrefix};
 
 use crate::LINE_LIMIT;
 use wap_base::NoMemory;
 
 /// What follows a line that is begun.
 #[derive(Clone, Copy)]
-pub(crate) enum Front {
+pub(crate) enum Prefix {
     /// There is no line feed yet.
     Begun,
     /// A line feed stands at a place.
@@ -38,7 +38,7 @@ fn feed_at(bytes: &[u8]) -> Option<usize>
 /// The line that bytes begin with, where it is whole and not too long.
 pub(crate) fn whole_line(unread: &[u8]) -> Option<&[u8]>
     ensures within { IfSome result (λ line. length line.now < length unread.now) }
-    ensures takes { IfSome result (λ line. TakesFront [] line.now unread.now
+    ensures takes { IfSome result (λ line. TakesPrefix [] line.now unread.now
         (Whole (length line.now))) }
 {
     let place = feed_at(unread)?;
@@ -49,22 +49,22 @@ pub(crate) fn whole_line(unread: &[u8]) -> Option<&[u8]>
 }
 
 /// Appends to a line what follows it up to the first line feed, unless that is too long.
-pub(crate) fn take_front(line: &mut Vec<u8>, unread: &[u8]) -> Result<Front, NoMemory>
+pub(crate) fn take_prefix(line: &mut Vec<u8>, unread: &[u8]) -> Result<Prefix, NoMemory>
     requires { length line.old.items ≤ LINE_LIMIT }
-    ensures takes { IfOk result (TakesFront line.old.items line.new.items unread.now) }
+    ensures takes { IfOk result (TakesPrefix line.old.items line.new.items unread.now) }
     ensures err { OnErr result (line.new.items ≡ line.old.items) }
 {
     let room = LINE_LIMIT - line.as_slice().len();
     let Some(place) = feed_at(unread) else {
         if unread.len() > room {
-            return Ok(Front::TooLong);
+            return Ok(Prefix::TooLong);
         }
         line.extend_from_slice(unread)?;
-        return Ok(Front::Begun);
+        return Ok(Prefix::Begun);
     };
     if place > room {
-        return Ok(Front::TooLong);
+        return Ok(Prefix::TooLong);
     }
     line.extend_from_slice(unread.split_at(place).0)?;
-    Ok(Front::Whole(place))
+    Ok(Prefix::Whole(place))
 }
