@@ -15,6 +15,7 @@ use Rattle.wap_grammar.specs.Values.{id_of, text_of}
 use Rattle.wap_grammar.specs.Spellings.{Spelling, token, name, sign, Several, AreListed}
 use Rattle.wap_grammar.specs.Statements.{IsStatement}
 
+-- a token that is a string
 abbrev pub text : Span → Lexeme
 text = token word.Str
 
@@ -51,6 +52,7 @@ pub data IsProperty (src : List ℕ) : List Lexeme → List ℕ × List ℕ × O
             (text_of src s),
       ) x
 
+-- a pragma, with its `use` and its `;`
 pub data IsUse (src : List ℕ) : List Lexeme → Use → List Lexeme → Type 0 where
   url : (word kind u t end : Span) (x : List Lexeme) →
       IsUse src (sign signs.Use word ∷ sign signs.Url kind ∷ name u ∷ text t ∷ sign signs.Semicolon
@@ -83,6 +85,7 @@ pub data IsHead : List Lexeme → Bool → List Lexeme → Type 0 where
   external : (extern word : Span) (x : List Lexeme) → IsHead
       (sign signs.Extern extern ∷ sign signs.Function word ∷ x) true x
 
+-- the name of a parameter
 pub data IsParameter (src : List ℕ) : List Lexeme → Id → List Lexeme → Type 0 where
   parameter : (v : Span) (x : List Lexeme) → IsParameter src (name v ∷ x) (id_of src v) x
 

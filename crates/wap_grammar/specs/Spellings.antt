@@ -15,9 +15,11 @@ Spelling A = List Lexeme → A → List Lexeme → Type 0
 abbrev pub token : Word → Span → Lexeme
 token w span = record { word = w; span = span }
 
+-- a token that is a name
 abbrev pub name : Span → Lexeme
 name = token word.Name
 
+-- a token that is a sign
 abbrev pub sign : Sign → Span → Lexeme
 sign s = token (word.Sign s)
 

@@ -19,6 +19,7 @@ use Rattle.wap_grammar.specs.Words.{text_in}
 abbrev pub id_of : List ℕ → Span → Id
 id_of src span = record { name = text_in src span; span = span }
 
+-- the literal that an integer is, if it is in range
 abbrev pub integer_of : List ℕ → Option Literal
 integer_of text =
     if nat_le (integer_value text) integer_limit then Some (lit.Int (pos
@@ -34,10 +35,12 @@ literal_of src span word.False = Some (lit.Bool false)
 literal_of src span word.Invalid = Some lit.Invalid
 literal_of src span _ = None
 
+-- a call, by what it names and its arguments
 abbrev pub called : Callee → List Expr → Expr
 called (callee.Local f) arguments = expr.Call f arguments
 called (callee.External unit f) arguments = expr.External unit f arguments
 called (callee.Library library f) arguments = expr.Library library f arguments
 
+-- the text that the string in a part of the source stands for
 abbrev pub text_of : List ℕ → Span → List ℕ
 text_of src span = string_of (text_in src span)

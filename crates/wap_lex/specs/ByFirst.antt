@@ -15,6 +15,7 @@ use Rattle.wap_lex.specs.declared.shape.Shape.TheVariants.{Blank, Comment, Word,
 use Rattle.wap_lex.specs.declared.shape.Shape.TheVariants.{Float, Str, Mark}
 use Rattle.wap_lex.specs.Characters.{is_white, is_quote}
 
+-- what a first byte is
 abbrev pub first_of : ℕ → First
 first_of c =
     if is_white c then White else
@@ -48,18 +49,23 @@ is_assigned c = list_any (nat_eq c) (codes "=!*/%^")
 abbrev pub is_doubled : ℕ → Bool
 is_doubled c = list_any (nat_eq c) (codes "+-&|")
 
+-- `=` or nothing
 abbrev pub after_assigned : List (List ℕ)
 after_assigned = codes "=" ∷ [] ∷ []
 
+-- the same byte again, `=` or nothing
 abbrev pub after_doubled : ℕ → List (List ℕ)
 after_doubled c = (c ∷ []) ∷ codes "=" ∷ [] ∷ []
 
+-- after `<`
 abbrev pub after_less : List (List ℕ)
 after_less = codes "<=" ∷ codes "<" ∷ codes "=" ∷ [] ∷ []
 
+-- after `>`
 abbrev pub after_greater : List (List ℕ)
 after_greater = codes ">>=" ∷ codes ">>" ∷ codes ">=" ∷ codes ">" ∷ codes "=" ∷ [] ∷ []
 
+-- after `d`: no other mark begins with a letter
 abbrev pub after_d : List (List ℕ)
 after_d = codes "iv=" ∷ []
 

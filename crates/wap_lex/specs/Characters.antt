@@ -9,6 +9,7 @@ use Rattle.wap_lex.specs.declared.class.Class.{Class}
 use Rattle.wap_lex.specs.declared.class.Class.TheVariants.{InWord, Digit, OctalDigit}
 use Rattle.wap_lex.specs.declared.class.Class.TheVariants.{HexadecimalDigit, White, InLine}
 
+-- 0 to 7
 abbrev pub is_octal_digit : ℕ → Bool
 is_octal_digit = is_in_range digit_zero digit_seven
 
@@ -24,6 +25,7 @@ is_white c = (c == space) || is_in_range tab carriage_return c
 abbrev pub is_quote : ℕ → Bool
 is_quote c = (c == apostrophe) || (c == quotation_mark)
 
+-- whether a byte is of a class
 abbrev pub is_in : Class → ℕ → Bool
 is_in InWord = continues_name
 is_in Digit = is_ascii_digit

@@ -5,6 +5,7 @@ use Rattle.wap_base.specs.Ascii.{asterisk, slash}
 use Rattle.wap_lex.specs.Characters.{is_in}
 use Rattle.wap_lex.specs.declared.class.Class.TheVariants.{InLine}
 
+-- whether no bytes are left
 abbrev pub is_nothing : List ℕ → Bool
 is_nothing [] = true
 is_nothing (c ∷ rest) = false

@@ -14,5 +14,6 @@ marks =
     codes "?" ∷ codes ":" ∷ codes "=" ∷ codes "," ∷ codes ";" ∷ codes "." ∷ codes "#" ∷ codes "(" ∷
     codes ")" ∷ codes "{" ∷ codes "}" ∷ []
 
+-- whether a text is a mark
 abbrev pub is_mark : List ℕ → Bool
 is_mark text = list_any (is_same_text text) marks

@@ -39,6 +39,7 @@ digit_value c =
     if nat_le c digit_nine then c - digit_zero else
     if nat_le c capital_f then c - (capital_a - 10) else c - (small_a - 10)
 
+-- a number in a base with one more digit
 abbrev pub with_digit : ℕ → ℕ → ℕ → ℕ
 with_digit base value digit = value * base + digit_value digit
 
@@ -46,6 +47,7 @@ with_digit base value digit = value * base + digit_value digit
 abbrev pub numeral : ℕ → List ℕ → ℕ
 numeral base = fold (with_digit base) 0
 
+-- the value of a decimal, octal or hexadecimal integer
 abbrev pub integer_value : List ℕ → ℕ
 integer_value [] = 0
 integer_value (a ∷ []) = numeral 10 (a ∷ [])

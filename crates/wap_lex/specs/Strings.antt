@@ -48,6 +48,7 @@ pub data AreItems (quote : ℕ) : List ℕ → Type 0 where
   more : (item others : List ℕ) → IsItem quote item → AreItems quote others →
       AreItems quote (item ++ others)
 
+-- items between two quotes of one kind
 pub data IsString : List ℕ → Type 0 where
   quoted : (quote : ℕ) (items : List ℕ) → is_quote quote ≡ true → AreItems quote items →
       IsString (quote ∷ (items ++ quote ∷ []))

@@ -55,9 +55,11 @@ pub record IsPiece (shape : Shape) (text more : List ℕ) : Type 0 where
       length longer ≤ length text
   pub closed : IsOpenComment (text ++ more) → ⊥
 
+-- an integer is no greater than any may be
 abbrev pub IsInRange : Shape → List ℕ → Type 0
 IsInRange shape text = shape ≡ Integer → integer_value text ≤ integer_limit
 
+-- tokens, and one before them where a piece is one
 abbrev pub token_before : Option Kind → ℕ → ℕ → List Token → List Token
 token_before None from to tokens = tokens
 token_before (Some kind) from to tokens = record { kind = kind; from = from; to = to } ∷ tokens
@@ -109,6 +111,7 @@ pub data StopsIn : ℕ → List ℕ → LexFault → Type 0 where
       IsPiece shape text more →
       IsInRange shape text → StopsIn (at + length text) more fault → StopsIn at (text ++ more) fault
 
+-- the fault of a source: it is no text, or the first thing that is wrong
 pub data IsRefused (src : List ℕ) : LexFault → Type 0 where
   no_text : ¬ (IsUtf8 src) → IsRefused src NotText
   stops : (fault : LexFault) → IsUtf8 src → StopsIn 0 src fault → IsRefused src fault

@@ -17,5 +17,6 @@ reserved_words =
     codes "throw" ∷ codes "true" ∷ codes "try" ∷ codes "typeof" ∷ codes "url" ∷ codes "use" ∷
     codes "user" ∷ codes "var" ∷ codes "void" ∷ codes "while" ∷ codes "with" ∷ []
 
+-- whether a word is no name
 abbrev pub is_reserved : List ℕ → Bool
 is_reserved word = list_any (is_same_text word) reserved_words

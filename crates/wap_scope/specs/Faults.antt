@@ -17,6 +17,7 @@ use Rattle.wap_scope.specs.Names.{Mention, Declares, Refers, Jumps, said}
 use Rattle.wap_scope.specs.Names.{names_declared, function_named, units, accesses}
 use Rattle.wap_scope.specs.Scoped.{is_among, arity_of, library_arity, is_taken}
 
+-- the fault where something is wrong, else none
 abbrev pub fault_if : Bool → ScopeFault → List ScopeFault
 fault_if true fault = fault ∷ []
 fault_if false fault = []
@@ -27,6 +28,7 @@ pub record Scope : Type 0 where
   pub units : List (List ℕ)
   pub arity : List ℕ → Option ℕ
 
+-- the units and functions of a program
 abbrev pub scope_of : Program → Scope
 scope_of p = record { units = units p.uses; arity = arity_of p.functions }
 
@@ -46,6 +48,7 @@ reference_faults scope known (Library library f count) =
     fault_if (is_none (lib_named library.name f.name)) (fault.NoLibrary library.span) ++
     fault_if (not (is_taken count (library_arity library.name f.name))) (fault.Arguments f.span)
 
+-- the faults of a declaration, a name or a jump, where these variables are known
 abbrev pub mention_faults : Scope → List (List ℕ) → Mention → List ScopeFault
 mention_faults scope known (Declares v) =
     fault_if (is_among v.name known) (fault.TwoVariables v.span) ++
@@ -60,6 +63,7 @@ one_by_one rule before [] = []
 one_by_one rule before (here ∷ after) =
     rule before here ++ one_by_one rule (before ++ here ∷ []) after
 
+-- the same after other mentions of the function
 abbrev pub mention_rule : Scope → List Mention → Mention → List ScopeFault
 mention_rule scope before here = mention_faults scope (names_declared before) here
 
@@ -78,10 +82,12 @@ use_rule before (Access domain path span) =
 use_rule before (Agent name content scheme) = []
 use_rule before Note = []
 
+-- all faults of a program: those of its pragmas, then those of its functions
 abbrev pub faults : Program → List ScopeFault
 faults p =
     one_by_one use_rule [] p.uses ++ one_by_one (function_rule (scope_of p)) [] p.functions
 
+-- the first of some faults, if there is one
 abbrev pub first_fault : List ScopeFault → Option ScopeFault
 first_fault [] = None
 first_fault (first ∷ others) = Some first

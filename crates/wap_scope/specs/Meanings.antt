@@ -16,12 +16,15 @@ pub record StandsOnce (name : List ℕ) (names : List (List ℕ)) (place : ℕ) 
   pub only : (other : ℕ) → other < length names → slice_index_or names other [] ≡ name →
       other ≡ place
 
+-- the names of the functions of a program
 abbrev pub function_names : Program → List (List ℕ)
 function_names p = map (λ f. f.name.name) p.functions
 
+-- how many parameters each of its functions has
 abbrev pub parameter_counts : Program → List ℕ
 parameter_counts p = map (λ f. length f.params) p.functions
 
+-- each name of a program means one thing
 pub record HaveMeanings (p : Program) : Type 0 where
   -- a variable that is used is one of its function's, and declared before
   pub variable : (before : List Mention) (v : Id) → (says : Says p before (Refers (Variable v))) →

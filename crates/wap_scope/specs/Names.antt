@@ -39,6 +39,7 @@ references_by (Expr-F.Call f es) = Local f (length es) ∷ flat_map (λ e. e) es
 references_by (Expr-F.External unit f es) = External unit f (length es) ∷ flat_map (λ e. e) es
 references_by (Expr-F.Library library f es) = Library library f (length es) ∷ flat_map (λ e. e) es
 
+-- what an expression names, from left to right
 unfoldable pub references : Expr → List Reference
 references = fold-Expr (List Reference) references_by
 
@@ -51,9 +52,11 @@ pub data Mention : Type 0 where
   Refers : (reference : Reference) → Mention
   Jumps : (word : Span) (inside : Bool) → Mention
 
+-- what an expression names, as mentions
 abbrev pub refers : Expr → List Mention
 refers e = map Refers (references e)
 
+-- the same of an expression that may be missing
 abbrev pub refers_if : Option Expr → List Mention
 refers_if None = []
 refers_if (Some e) = refers e
@@ -62,6 +65,7 @@ refers_if (Some e) = refers e
 abbrev pub declares : Id × Option Expr → List Mention
 declares pair = Declares pair.0 ∷ refers_if pair.1
 
+-- the mentions of a statement that may be missing
 abbrev pub says_if : Bool → Option (Bool → List Mention) → List Mention
 says_if inside None = []
 says_if inside (Some s) = s inside
@@ -80,6 +84,7 @@ mentions_by (Stmt-F.Break word) inside = Jumps word inside ∷ []
 mentions_by (Stmt-F.Continue word) inside = Jumps word inside ∷ []
 mentions_by (Stmt-F.Return e) inside = refers_if e
 
+-- the mentions of a statement that stands in a loop or not, from left to right
 unfoldable pub mentions : Stmt → Bool → List Mention
 mentions = fold-Stmt (Bool → List Mention) mentions_by
 
@@ -105,6 +110,7 @@ function_named name = find (λ f. is_same_text name f.name.name)
 
 -- ---- pragmas
 
+-- the name of a unit that a pragma makes known
 abbrev pub unit_of : Use → Option (List ℕ)
 unit_of (Url u t) = Some u.name
 unit_of (Access domain path word) = None
@@ -115,6 +121,7 @@ unit_of Note = None
 abbrev pub units : List Use → List (List ℕ)
 units = filter_map unit_of
 
+-- the place of a pragma that says who may call the unit
 abbrev pub access_of : Use → Option Span
 access_of (Url u t) = None
 access_of (Access domain path span) = Some span

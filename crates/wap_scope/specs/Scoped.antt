@@ -18,6 +18,7 @@ use Rattle.wap_scope.specs.Names.{Reference, Variable, Local, External, Library}
 use Rattle.wap_scope.specs.Names.{Mention, Declares, Refers, Jumps, said}
 use Rattle.wap_scope.specs.Names.{names_declared, function_named, units, accesses}
 
+-- whether a name is among some
 abbrev pub is_among : List ℕ → List (List ℕ) → Bool
 is_among name names = list_any (is_same_text name) names
 
@@ -64,6 +65,7 @@ pub record HasUse (p : Program) (before : List Use) (here : Use) : Type 0 where
 
 -- ---- the rules
 
+-- the names of a program are in order
 pub record IsScoped (p : Program) : Type 0 where
   -- a variable is used after its declaration in the same function
   pub no_variable : (before : List Mention) (v : Id) → Says p before (Refers (Variable v)) →
