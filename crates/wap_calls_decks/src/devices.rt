@@ -1,11 +1,12 @@
 //! Calls of the stores, sources and sinks in memory.
 ghost use Rattle.std.specs.Prelude.{◌<◌, IfOk};
 
-use wap_base::{
-    Bytes, Failed, Fetched, MemSink, MemSource, MemStore, Sink, Source, Store, StoreErr, Text,
-    are_pages, write_all,
-};
+use wap_base::{Bytes, Text};
 use wap_casebook::{Call, CaseFault, meaning_of};
+use wap_devices::{
+    Failed, Fetched, MemSink, MemSource, MemStore, Sink, Source, Store, StoreErr, are_pages,
+    write_all,
+};
 
 /// A call of a device.
 #[derive(Clone, Copy)]

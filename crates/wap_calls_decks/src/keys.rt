@@ -1,6 +1,7 @@
 //! Calls of key lines.
-use wap_base::{Bytes, MemSource, Text};
+use wap_base::{Bytes, Text};
 use wap_casebook::{Call, CaseFault, meaning_of};
+use wap_devices::MemSource;
 use wap_keys::{Ending, Key, KeyFault, read_key, read_keys};
 
 /// A call of key lines.

@@ -1,9 +1,7 @@
 //! What may be sent to threads and shared by them.
 use std::marker::{Send, Sync};
-use wap_base::{
-    Bytes, Failed, Fetched, Limits, MemSink, MemSource, MemStore, Name, NameFault, NoGate,
-    NoMemory, Part, ReadFault, Rows, RunErr, StoreErr, Text,
-};
+use wap_base::{Bytes, Limits, Name, NameFault, NoMemory, Part, ReadFault, Rows, RunErr, Text};
+use wap_devices::{Failed, Fetched, MemSink, MemSource, MemStore, NoGate, StoreErr};
 use wap_keys::{Ending, Key, KeyFault};
 use wap_layout::{Flow, Mode};
 use wap_mask::{Class, Mask, Symbol};
