@@ -1,7 +1,9 @@
 -- What is said of browsing says nothing of what a cache keeps afterwards.
 use Rattle.std.proofs.Common.{◌≡◌, ℕ, List, [], Option, Some, refl, sym, subst}
 use Rattle.std.specs.Prelude.{option_map}
-use Rattle.wap_base.specs.Contents.{Contents}
+use Rattle.wap_devices.specs.Stores.{StoreSeen}
+use Rattle.wap_devices.specs.Sources.{SourceSeen}
+use Rattle.wap_devices.specs.Sinks.{SinkSeen}
 use Rattle.wap_input.specs.declared.key.Key.{Key}
 use Rattle.wap_site.specs.Pages.{Pages}
 use Rattle.wap_site.specs.Misses.{Cache}
@@ -20,69 +22,60 @@ abbrev pub with_cache : Option Cache → Outside → Outside
 with_cache cache new = record new { pages = record new.pages { cache = cache } }
 
 module _ (begun : Begun) (old new : Outside) (status : Status) (cache : Option Cache) where
-  played : (pages : Pages) (keys : List Key) → IsPlayed pages begun keys old new
-      → IsPlayed pages begun keys old (with_cache cache new)
-  played pages keys so = record { wrote = so.wrote; asked = so.asked }
+  -- a session that was played to its end
+  played : (pages : Pages) (given : List Key) → IsPlayed pages begun given old new
+      → IsPlayed pages begun given old (with_cache cache new)
+  played pages given so = record { wrote = so.wrote; asked = so.asked }
 
-  at_store : (pages : Pages) (keys : List Key) (taken : List ℕ)
-      → StopsAtStore pages begun keys taken old new
-      → StopsAtStore pages begun keys taken old (with_cache cache new)
-  at_store pages keys taken so = record {
-    count = so.count;
-    few = so.few;
-    wrote = so.wrote;
-    asked = so.asked;
-    prompt = so.prompt;
-  }
+  -- one that the store stopped
+  at_store : (pages : Pages) (given : List Key) → StopsAtStore pages begun given old new
+      → StopsAtStore pages begun given old (with_cache cache new)
+  at_store pages given so = record { wrote = so.wrote; asked = so.asked }
 
-  at_sink : (pages : Pages) (keys : List Key) (taken : List ℕ)
-      → StopsAtSink pages begun keys taken old new
-      → StopsAtSink pages begun keys taken old (with_cache cache new)
-  at_sink pages keys taken so = record {
-    count = so.count;
-    few = so.few;
-    wrote = so.wrote;
-    asked = so.asked;
-    prompt = so.prompt;
-  }
+  -- one that the sink stopped
+  at_sink : (pages : Pages) (given : List Key) → StopsAtSink pages begun given old new
+      → StopsAtSink pages begun given old (with_cache cache new)
+  at_sink pages given so = record { wrote = so.wrote; asked = so.asked }
 
-  for_memory : (pages : Pages) (keys : List Key) (taken : List ℕ)
-      → StopsForMemory pages begun keys taken old new
-      → StopsForMemory pages begun keys taken old (with_cache cache new)
-  for_memory pages keys taken so =
-      record { count = so.count; few = so.few; wrote = so.wrote; prompt = so.prompt }
+  -- one that memory stopped
+  for_memory : (pages : Pages) (given : List Key) → StopsForMemory pages begun given old new
+      → StopsForMemory pages begun given old (with_cache cache new)
+  for_memory pages given so =
+      record { count = so.count; least = so.least; most = so.most; wrote = so.wrote }
 
-  shows : (pages : Pages) (bytes taken rest : List ℕ)
-      → Shows pages begun bytes taken rest old new status
-      → Shows pages begun bytes taken rest old (with_cache cache new) status
-  shows pages bytes taken rest so = record {
+  -- what was written
+  shows : (pages : Pages) (bytes : List ℕ) (given : List Key)
+      → Shows pages begun bytes given old new status
+      → Shows pages begun bytes given old (with_cache cache new) status
+  shows pages bytes given so = record {
     prefix = so.prefix;
-    done = λ is. played pages _ (so.done is);
-    bad_key = λ line fault is. played pages _ (so.bad_key line fault is);
-    too_many_keys = λ is. played pages _ (so.too_many_keys is);
-    read_fault = λ is. played pages _ (so.read_fault is);
-    store_fault = λ is. at_store pages _ taken (so.store_fault is);
-    write_fault = λ is. at_sink pages _ taken (so.write_fault is);
-    no_memory = λ is. for_memory pages _ taken (so.no_memory is);
+    played = λ ending is. played pages given (so.played ending is);
+    store_fault = λ is. at_store pages given (so.store_fault is);
+    write_fault = λ is. at_sink pages given (so.write_fault is);
+    no_memory = λ is. for_memory pages given (so.no_memory is);
   }
 
+  -- what was read
   reads : (bytes : List ℕ) → Reads begun bytes old new status
       → Reads begun bytes old (with_cache cache new) status
   reads bytes so = record {
     taken = so.taken;
     rest = so.rest;
     split = so.split;
-    still = so.still;
+    left_is = so.left_is;
+    given = so.given;
+    first = so.first;
+    prompt = so.prompt;
     done = so.done;
     bad_key = so.bad_key;
     too_many_keys = so.too_many_keys;
     read_fault = so.read_fault;
     complete = so.complete;
     shows = if_some old.pages.contents
-        (λ pages. Shows pages begun bytes so.taken so.rest old (with_cache cache new) status)
-        (λ pages told. shows pages bytes so.taken so.rest
+        (λ pages. Shows pages begun bytes so.given old (with_cache cache new) status)
+        (λ pages known. shows pages bytes so.given
         (some_fact old.pages.contents
-        (λ p. Shows p begun bytes so.taken so.rest old new status) pages told so.shows));
+        (λ p. Shows p begun bytes so.given old new status) pages known so.shows));
   }
 
   -- but that its capacity is as before
@@ -91,10 +84,10 @@ module _ (begun : Begun) (old new : Outside) (status : Status) (cache : Option C
       ≡ option_map (λ kept. kept.capacity) old.pages.cache
       → Browses begun old new status → Browses begun old (with_cache cache new) status
   forget_cache same so = record {
-    told = if_some old.left
+    known = if_some old.source.left
         (λ bytes. Reads begun bytes old (with_cache cache new) status)
         (λ bytes said. reads bytes
-        (some_fact old.left (λ b. Reads begun b old new status) bytes said so.told));
+        (some_fact old.source.left (λ b. Reads begun b old new status) bytes said so.known));
     store_fault = so.store_fault;
     read_fault = so.read_fault;
     write_fault = so.write_fault;
@@ -103,6 +96,7 @@ module _ (begun : Begun) (old new : Outside) (status : Status) (cache : Option C
     write_steady = so.write_steady;
     command = so.command;
     accepted = so.accepted;
+    of_line = so.of_line;
     stays = record {
       contents = so.stays.contents;
       behind = so.stays.behind;
@@ -119,52 +113,37 @@ module _ (begun : Begun) (old new : Outside) (status : Status) (cache : Option C
 
 -- ---- over the pages of a store
 
-module _ {S : Type 0} (contents : S → Option Contents) (faults fetches listings : S → ℕ) where
+module _ {S : Type 0} (seen : S → StoreSeen) where
   -- the outside of a browser over a cache
-  abbrev pub outside_over : CachedPages S → Option (List ℕ) → ℕ → ℕ → Option (List ℕ) → ℕ → Outside
-  outside_over cached left ends read_faults written write_faults = record {
-    pages = seen_over (contents cached.store) (cache_of cached) (faults cached.store)
-        (fetches cached.store) (listings cached.store);
-    left = left;
-    ends = ends;
-    read_faults = read_faults;
-    written = written;
-    write_faults = write_faults;
+  abbrev pub outside_over : CachedPages S → SourceSeen → SinkSeen → Outside
+  outside_over cached source sink = record {
+    pages = seen_over (seen cached.store) (cache_of cached);
+    source = source;
+    sink = sink;
   }
 
-  abbrev pub devices_of : S → Option (List ℕ) → ℕ → ℕ → Option (List ℕ) → ℕ → Devices
-  devices_of store left ends read_faults written write_faults = record {
-    contents = contents store;
-    fetches = fetches store;
-    listings = listings store;
-    store_faults = faults store;
-    left = left;
-    ends = ends;
-    read_faults = read_faults;
-    written = written;
-    write_faults = write_faults;
-  }
+  abbrev pub devices_of : S → SourceSeen → SinkSeen → Devices
+  devices_of store source sink = record { store = seen store; source = source; sink = sink }
 
   -- a cache that kept nothing at first
   pub browsed_over : (begun : Begun) (first last : CachedPages S) (store back : S) (capacity : ℕ)
-      (left left' : Option (List ℕ)) (ends ends' reads reads' : ℕ)
-      (written written' : Option (List ℕ)) (writes writes' : ℕ) (status : Status)
+      (source source_after : SourceSeen) (sink sink_after : SinkSeen) (status : Status)
       → first.store ≡ store → first.kept ≡ [] → first.capacity ≡ capacity → back ≡ last.store
-      → Browses begun (outside_over first left ends reads written writes)
-      (outside_over last left' ends' reads' written' writes') status
-      → Browses begun (browsed capacity (devices_of store left ends reads written writes))
-      (browsed capacity (devices_of back left' ends' reads' written' writes')) status
-  browsed_over begun first last store back capacity left left' ends ends' reads reads' written
-      written' writes writes' status of none many is so =
-      let before : Outside = browsed capacity (devices_of store left ends reads written writes) in
-      let after : Outside = outside_over last left' ends' reads' written' writes' in
+      → Browses begun (outside_over first source sink) (outside_over last source_after sink_after)
+      status
+      → Browses begun (browsed capacity (devices_of store source sink))
+      (browsed capacity (devices_of back source_after sink_after)) status
+  browsed_over begun first last store back capacity source source_after sink sink_after status of
+      none many is so =
+      let before : Outside = browsed capacity (devices_of store source sink) in
+      let after : Outside = outside_over last source_after sink_after in
       let from : first ≡ record { store = store; kept = []; capacity = capacity } =
       λ i. record { store = of i; kept = none i; capacity = many i } in
       let new : Browses begun before after status =
       subst (λ (cached : CachedPages S).
-      Browses begun (outside_over cached left ends reads written writes) after status) from so in
+      Browses begun (outside_over cached source sink) after status) from so in
       subst (λ (s : S). Browses begun before
-      (browsed capacity (devices_of s left' ends' reads' written' writes')) status) (sym is)
+      (browsed capacity (devices_of s source_after sink_after)) status) (sym is)
       (forget_cache begun before after status
       (Some (record { names = []; capacity = capacity })) refl
       new)

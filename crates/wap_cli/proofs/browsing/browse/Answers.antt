@@ -11,16 +11,11 @@ use Rattle.wap_cli.proofs.browsing.browse.Goals as goal
 
 pub returns-in-Err : goal.returns-in-Err
 returns-in-Err g c =
-    let old = browsed c.args.begun.cache (devices_of g.S.Store.contents g.S.Store.faults
-    g.S.Store.fetches g.S.Store.listings c.args.store
-    (g.I.Source.left c.args.keys.now) (g.I.Source.ends c.args.keys.now)
-    (g.I.Source.faults c.args.keys.now)
-    (g.O.Sink.written c.args.out.now) (g.O.Sink.faults c.args.out.now)) in
-    subst (λ store. Browses (begun_by c.args.begun) old (browsed c.args.begun.cache
-    (devices_of g.S.Store.contents g.S.Store.faults g.S.Store.fetches g.S.Store.listings store
-    (g.I.Source.left c.args.keys.now) (g.I.Source.ends c.args.keys.now)
-    (g.I.Source.faults c.args.keys.now)
-    (g.O.Sink.written c.args.out.now) (g.O.Sink.faults c.args.out.now))) NoMemory)
+    let source = g.I.Source.seen c.args.keys.now in
+    let sink = g.O.Sink.seen c.args.out.now in
+    let old = browsed c.args.begun.cache (devices_of g.S.Store.seen c.args.store source sink) in
+    subst (λ store. Browses (begun_by c.args.begun) old
+    (browsed c.args.begun.cache (devices_of g.S.Store.seen store source sink)) NoMemory)
     (sym c.in-Err.ensures.back)
     (browses_by (begun_by c.args.begun) old old NoMemory
     (nothing_browses (begun_by c.args.begun) old))
@@ -30,6 +25,10 @@ returns g c =
     let played = c.browse-status.new in
     let begun = c.args.begun in
     let status = c.browse-status.result in
+    let source = g.I.Source.seen c.args.keys.now in
+    let source_after = g.I.Source.seen played.keys in
+    let sink = g.O.Sink.seen c.args.out.now in
+    let sink_after = g.O.Sink.seen played.out in
     let so = subst (λ (limits : Limits).
     Browses (record {
       url = begun.url;
@@ -37,24 +36,10 @@ returns g c =
       budget = begun.budget;
       limits = limits;
     })
-    (outside_over g.S.Store.contents g.S.Store.faults g.S.Store.fetches g.S.Store.listings
-    c.in-Ok.pages
-    (g.I.Source.left c.args.keys.now) (g.I.Source.ends c.args.keys.now)
-    (g.I.Source.faults c.args.keys.now)
-    (g.O.Sink.written c.args.out.now) (g.O.Sink.faults c.args.out.now))
-    (outside_over g.S.Store.contents g.S.Store.faults g.S.Store.fetches g.S.Store.listings
-    played.pages
-    (g.I.Source.left played.keys) (g.I.Source.ends played.keys)
-    (g.I.Source.faults played.keys)
-    (g.O.Sink.written played.out) (g.O.Sink.faults played.out))
+    (outside_over g.S.Store.seen c.in-Ok.pages source sink)
+    (outside_over g.S.Store.seen played.pages source_after sink_after)
     status)
     c.default.ensures.0 c.browse-status.ensures in
-    browsed_over g.S.Store.contents g.S.Store.faults g.S.Store.fetches g.S.Store.listings
-    (begun_by begun) c.in-Ok.pages played.pages c.args.store c.into_store.result begun.cache
-    (g.I.Source.left c.args.keys.now) (g.I.Source.left played.keys)
-    (g.I.Source.ends c.args.keys.now) (g.I.Source.ends played.keys)
-    (g.I.Source.faults c.args.keys.now) (g.I.Source.faults played.keys)
-    (g.O.Sink.written c.args.out.now) (g.O.Sink.written played.out)
-    (g.O.Sink.faults c.args.out.now) (g.O.Sink.faults played.out)
-    status
+    browsed_over g.S.Store.seen (begun_by begun) c.in-Ok.pages played.pages c.args.store
+    c.into_store.result begun.cache source source_after sink sink_after status
     c.in-Ok.ensures.store c.in-Ok.ensures.kept c.in-Ok.ensures.capacity c.into_store.ensures so
