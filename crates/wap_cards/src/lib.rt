@@ -25,3 +25,4 @@ pub use texts::Texts;
 pub use timers::{text_under, timer_of};
 pub use titles::title;
 pub use values::{is_true, is_word, plain_value, variable_in};
+pub use wap_cardrules::{Chosen, Entered, Event, Go, Task};
