@@ -1,16 +1,14 @@
 -- A session that goes on, key by key.
-use Rattle.std.proofs.Common.{◌≡◌, ◌≢◌, ℕ, false, Bool, cond, List, [], ◌∷◌, ◌++◌, map}
-use Rattle.std.proofs.Common.{Option, Some, refl, sym, ap, subst, ◌∙◌}
+use Rattle.std.proofs.Common.{◌≡◌, ℕ, false, List, [], ◌∷◌, ◌++◌, map}
+use Rattle.std.proofs.Common.{Some, refl, sym, ap, subst, ◌∙◌}
 use Rattle.std.specs.Prelude.{IfSome}
-use Rattle.wap_base.specs.Count.{raised}
-use Rattle.wap_base.specs.Transfer.{Appends}
-use Rattle.wap_base.proofs.Transfers.{Appends-then, Appends-nil}
+use Rattle.wap_devices.specs.Transfer.{Appends}
+use Rattle.wap_devices.specs.Sources.{SourceSeen}
+use Rattle.wap_devices.proofs.Transfers.{Appends-then, Appends-nil}
 use Rattle.wap_input.specs.declared.key.Key.{Key}
 use Rattle.wap_input.specs.declared.key.Key.TheVariants.{Open}
 use Rattle.wap_keys.specs.declared.ending.Next.TheVariants as next
-use Rattle.wap_keys.specs.declared.ending.Ending.TheVariants.{ReadFault}
-use Rattle.wap_keys.specs.Reading.{Reading, HasRead, Answers, ends_told, KeepsEnds}
-use Rattle.wap_keys.proofs.EndLaws.{key_goes_on}
+use Rattle.wap_keys.specs.Reading.{Reading, HasRead, Answers}
 use Rattle.wap_site.specs.Pages.{Pages}
 use Rattle.wap_site.specs.Misses.{Asked}
 use Rattle.wap_site.specs.Asking.{Stays, Asks}
@@ -23,7 +21,7 @@ use Rattle.wap_world.specs.Sessions.{Begun, played, shown_by, world_of}
 use Rattle.wap_context.specs.Browsers.{IsOver}
 use Rattle.wap_session.specs.Feeding.{State, beginning}
 use Rattle.wap_browse.specs.Outside.{Outside}
-use Rattle.wap_browse.specs.inside.Played.{Moment, IfTold, Leads, GoesOn}
+use Rattle.wap_browse.specs.inside.Played.{Moment, IfKnown, Leads, GoesOn}
 use Rattle.wap_browse.proofs.Optional.{if_some, some_fact}
 use Rattle.wap_browse.proofs.Stepping.{none_world, none_lines, none_asked}
 use Rattle.wap_browse.proofs.Stepping.{more_world, more_asked, more_bytes}
@@ -32,43 +30,35 @@ use Rattle.wap_browse.proofs.Stepping.{more_world, more_asked, more_bytes}
 
 -- what a key may move of the outside
 abbrev pub moment_of : Outside → State → Moment
-moment_of now state = record {
-  pages = now.pages;
-  state = state;
-  written = now.written;
-  faults = now.write_faults;
-}
+moment_of now state = record { pages = now.pages; state = state; sink = now.sink }
 
+-- the outside after a key
 abbrev pub played_to : Outside → Moment → Outside
-played_to now moment =
-    record now { pages = moment.pages; written = moment.written; write_faults = moment.faults }
+played_to now moment = record now { pages = moment.pages; sink = moment.sink }
 
-abbrev pub read_to : Outside → Option (List ℕ) → ℕ → ℕ → Outside
-read_to now left ends faults = record now { left = left; ends = ends; read_faults = faults }
+-- and after the next was read
+abbrev pub read_to : Outside → SourceSeen → Outside
+read_to now source = record now { source = source }
 
 -- ---- what holds after keys that were pressed
 
+-- where the pages are known: the session and the outside stand where these keys lead
 pub record Stands (pages : Pages) (begun : Begun) (pressed : List Key) (old now : Outside)
     (state : State) : Type 0 where
   pub world : state.browser.world ≡ (played pages pressed (world_of begun)).world
   pub over : IsOver pages state.browser
   pub asks : Asks (played pages pressed (world_of begun)).asked old.pages now.pages
-  pub wrote : Appends old.written now.written
+  pub wrote : Appends old.sink.written now.sink.written
       (lines_bytes (shown_by (played pages pressed (world_of begun))))
 
+-- so far nothing failed, and the session stands where these keys lead
 pub record Browsed (begun : Begun) (pressed : List Key) (old now : Outside) (state : State) : Type 0
   where
     pub stands : IfSome old.pages.contents (λ pages. Stands pages begun pressed old now state)
     pub ready : state.is_over ≡ false
     pub stays : Stays old.pages now.pages
     pub steady : now.pages.faults ≡ old.pages.faults
-    pub write_steady : now.write_faults ≡ old.write_faults
-
-pub record HasKeys (taken : List ℕ) (given : List Key) (old now : Outside) (reader : Reading)
-    : Type 0 where
-  pub read : HasRead old.left now.left taken given reader
-  pub steady : now.read_faults ≡ old.read_faults
-  pub ends : now.ends ≡ ends_told reader old.ends
+    pub write_steady : now.sink.faults ≡ old.sink.faults
 
 -- some keys were pressed, and this one is next; the first is the URL's, the others were given
 pub record Goes (begun : Begun) (old now : Outside) (reader : Reading) (state : State) (key : Key)
@@ -78,10 +68,11 @@ pub record Goes (begun : Begun) (old now : Outside) (reader : Reading) (state : 
   pub taken : List ℕ
   pub next : pressed ++ key ∷ [] ≡ Open begun.url ∷ given
   pub browsed : Browsed begun pressed old now state
-  pub keys : HasKeys taken given old now reader
+  pub read : HasRead old.source now.source taken given reader
 
 -- ---- the beginning
 
+-- before any key
 stands_first : (pages : Pages) (begun : Begun) (old : Outside)
     → Stands pages begun [] old old (beginning begun)
 stands_first pages begun old =
@@ -91,16 +82,17 @@ stands_first pages begun old =
       over = refl;
       asks = subst (λ (asked : List Asked). Asks asked old.pages old.pages)
           (sym (none_asked pages world)) (Asks-nil old.pages);
-      wrote = subst (Appends old.written old.written)
+      wrote = subst (Appends old.sink.written old.sink.written)
           (sym (ap (λ (lines : List (List ℕ)). lines_bytes (map shown_line lines))
           (none_lines pages world)))
-          (Appends-nil old.written);
+          (Appends-nil old.sink.written);
     }
 
+-- the URL is the first key, and no other was read
 pub goes_first : (begun : Begun) (old : Outside) (reader : Reading) (state : State)
-    → state ≡ beginning begun → HasRead old.left old.left [] [] reader → reader.over ≡ false
+    → state ≡ beginning begun → HasRead old.source old.source [] [] reader
     → Goes begun old old reader state (Open begun.url)
-goes_first begun old reader state is read goes_on = record {
+goes_first begun old reader state is read = record {
   pressed = [];
   given = [];
   taken = [];
@@ -108,34 +100,31 @@ goes_first begun old reader state is read goes_on = record {
   browsed = subst (Browsed begun [] old old) (sym is) (record {
     stands = if_some old.pages.contents
         (λ pages. Stands pages begun [] old old (beginning begun))
-        (λ pages told. stands_first pages begun old);
+        (λ pages known. stands_first pages begun old);
     ready = refl;
     stays = Stays-same old.pages;
     steady = refl;
     write_steady = refl;
   });
-  keys = record {
-    read = read;
-    steady = refl;
-    ends = sym (ap (λ (b : Bool). cond b (raised old.ends) old.ends) goes_on);
-  };
+  read = read;
 }
 
 -- ---- a key
 
 -- a fact of a key's step, where the session stands
-pub step_told : (pages : Pages) (begun : Begun) (pressed : List Key) (old now : Outside)
+pub step_known : (pages : Pages) (begun : Begun) (pressed : List Key) (old now : Outside)
     (state : State) (key : Key) (Fact : Pages → Step → Type 0)
     → old.pages.contents ≡ Some pages → Stays old.pages now.pages
     → Stands pages begun pressed old now state
-    → IfTold key (moment_of now state) Fact
+    → IfKnown key (moment_of now state) Fact
     → Fact pages (react pages key [] (played pages pressed (world_of begun)).world)
-step_told pages begun pressed old now state key Fact told stays stands fact =
+step_known pages begun pressed old now state key Fact known stays stands fact =
     subst (λ (world : World). Fact pages (react pages key [] world)) stands.world
     (some_fact now.pages.contents
     (λ p. IsOver p state.browser → Fact p (react p key [] state.browser.world)) pages
-    (stays.contents ∙ told) fact stands.over)
+    (stays.contents ∙ known) fact stands.over)
 
+-- one key further
 stands_more : (pages : Pages) (begun : Begun) (pressed : List Key) (old now : Outside)
     (state : State) (key : Key) (new : Moment)
     → Stands pages begun pressed old now state
@@ -152,9 +141,10 @@ stands_more pages begun pressed old now state key new stands leads =
       asks = subst (λ (asked : List Asked). Asks asked old.pages new.pages)
           (sym (more_asked pages pressed key world))
           (Asks-then step.asked one.asked old.pages now.pages new.pages stands.asks leads.asks);
-      wrote = subst (Appends old.written new.written)
+      wrote = subst (Appends old.sink.written new.sink.written)
           (sym (more_bytes pages pressed key world))
-          (Appends-then old.written now.written new.written (lines_bytes (shown_by step))
+          (Appends-then old.sink.written now.sink.written new.sink.written
+          (lines_bytes (shown_by step))
           (lines_bytes (shown_by one)) stands.wrote leads.wrote);
     }
 
@@ -166,12 +156,12 @@ pub browsed_more : (begun : Begun) (pressed : List Key) (old now : Outside) (sta
 browsed_more begun pressed old now state key new browsed goes = record {
   stands = if_some old.pages.contents
       (λ pages. Stands pages begun (pressed ++ key ∷ []) old (played_to now new) new.state)
-      (λ pages told.
+      (λ pages known.
       let stands = some_fact old.pages.contents
-      (λ p. Stands p begun pressed old now state) pages told browsed.stands in
+      (λ p. Stands p begun pressed old now state) pages known browsed.stands in
       stands_more pages begun pressed old now state key new stands
-      (step_told pages begun pressed old now state key
-      (λ p step. Leads p step (moment_of now state) new) told browsed.stays stands goes.leads));
+      (step_known pages begun pressed old now state key
+      (λ p step. Leads p step (moment_of now state) new) known browsed.stays stands goes.leads));
   ready = goes.ready;
   stays = Stays-then old.pages now.pages new.pages browsed.stays goes.stays;
   steady = goes.steady ∙ browsed.steady;
@@ -191,14 +181,14 @@ all_pressed begun old now reader state key new goes so =
 
 -- what is read moves nothing else
 read_on : (begun : Begun) (pressed : List Key) (old now : Outside) (state : State)
-    (left : Option (List ℕ)) (ends faults : ℕ) → Browsed begun pressed old now state
-    → Browsed begun pressed old (read_to now left ends faults) state
-read_on begun pressed old now state left ends faults browsed = record {
+    (source : SourceSeen) → Browsed begun pressed old now state
+    → Browsed begun pressed old (read_to now source) state
+read_on begun pressed old now state source browsed = record {
   stands = if_some old.pages.contents
-      (λ pages. Stands pages begun pressed old (read_to now left ends faults) state)
-      (λ pages told.
+      (λ pages. Stands pages begun pressed old (read_to now source) state)
+      (λ pages known.
       let stands = some_fact old.pages.contents
-      (λ p. Stands p begun pressed old now state) pages told browsed.stands in
+      (λ p. Stands p begun pressed old now state) pages known browsed.stands in
       record {
         world = stands.world;
         over = stands.over;
@@ -211,28 +201,20 @@ read_on begun pressed old now state left ends faults browsed = record {
   write_steady = browsed.write_steady;
 }
 
+-- a key was played, and one more is given
 pub goes_more : (begun : Begun) (old now : Outside) (reader after : Reading) (state : State)
-    (key one : Key) (new : Moment) (left : Option (List ℕ)) (ends faults : ℕ)
+    (key one : Key) (new : Moment) (source : SourceSeen)
     → Goes begun old now reader state key → GoesOn key (moment_of now state) new
-    → Answers now.left left reader after (next.Key one)
-    → (next.Key one ≢ next.Ended ReadFault → faults ≡ now.read_faults)
-    → KeepsEnds reader after now.ends ends
-    → Goes begun old (read_to (played_to now new) left ends faults) after new.state one
-goes_more begun old now reader after state key one new left ends faults goes so
-    answers steady keeps =
-    let keys = goes.keys in
-    let (more, read) = answers old.left goes.taken goes.given keys.read in
-    let browsed = all_pressed begun old now reader state key new goes so in
+    → Answers now.source source reader after (next.Key one)
+    → Goes begun old (read_to (played_to now new) source) after new.state one
+goes_more begun old now reader after state key one new source goes so answers =
+    let (more, read) = answers old.source goes.taken goes.given goes.read in
     record {
       pressed = Open begun.url ∷ goes.given;
       given = goes.given ++ one ∷ [];
       taken = goes.taken ++ more;
       next = refl;
       browsed = read_on begun (Open begun.url ∷ goes.given) old (played_to now new) new.state
-          left ends faults browsed;
-      keys = record {
-        read = read;
-        steady = steady (key_goes_on one) ∙ keys.steady;
-        ends = keeps old.ends keys.ends;
-      };
+          source (all_pressed begun old now reader state key new goes so);
+      read = read;
     }

@@ -15,6 +15,7 @@ use Rattle.wap_world.proofs.Laws.{plays_in_parts}
 
 -- ---- bytes
 
+-- the bytes of lines in two parts
 lines_bytes-append : (first others : List (List ℕ))
     → lines_bytes (map shown_line (first ++ others))
     ≡ lines_bytes (map shown_line first) ++ lines_bytes (map shown_line others)
@@ -34,6 +35,7 @@ bytes_in_parts pages first others world =
 
 -- ---- nothing, and one key
 
+-- no keys play nothing
 pub none_world : (pages : Pages) (world : World) → (played pages [] world).world ≡ world
 unfolding played
 none_world pages world = refl
@@ -62,6 +64,7 @@ rest_asked : (pages : Pages) (keys : List Key) (world : World)
 rest_asked pages [] world = refl
 rest_asked pages (key ∷ keys) world = refl
 
+-- one key plays what it comes to
 one_world : (pages : Pages) (key : Key) (world : World)
     → (played pages (key ∷ []) world).world ≡ (react pages key [] world).world
 unfolding played
@@ -86,6 +89,7 @@ one_asked pages key world =
 
 -- ---- one key more
 
+-- some keys, and one more
 pub more_world : (pages : Pages) (pressed : List Key) (key : Key) (world : World)
     → (played pages (pressed ++ key ∷ []) world).world
     ≡ (react pages key [] (played pages pressed world).world).world

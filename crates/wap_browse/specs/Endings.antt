@@ -5,6 +5,7 @@ use Rattle.wap_status.specs.declared.status.Status.{Status}
 use Rattle.wap_status.specs.declared.status.Status.TheVariants.{Done, KeyReadFault}
 use Rattle.wap_status.specs.declared.status.Status.TheVariants.{BadKey, TooManyKeys}
 
+-- the status of a session whose keys came to this end
 abbrev pub ended : Ending → Status
 ended ending.End = Done
 ended (ending.BadKey line fault) = BadKey line fault

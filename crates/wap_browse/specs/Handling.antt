@@ -1,7 +1,7 @@
 -- The first keys of a session: what is written for them, and how often the store is asked. The URL
 -- that is opened counts as the first. This project's own.
 use Rattle.std.specs.Prelude.{◌≡◌, ℕ, List, IfSome}
-use Rattle.wap_base.specs.Transfer.{Appends}
+use Rattle.wap_devices.specs.Transfer.{Appends}
 use Rattle.wap_input.specs.declared.key.Key.{Key}
 use Rattle.wap_site.specs.Pages.{Pages}
 use Rattle.wap_site.specs.Misses.{Cache, misses}
@@ -22,7 +22,7 @@ first_misses pages begun keys cache count = misses (first_steps pages begun keys
 pub record IsPlayed (pages : Pages) (begun : Begun) (keys : List Key) (old new : Outside) : Type 0
   where
     -- exactly its transcript was written
-    pub wrote : Appends old.written new.written (transcript pages begun keys)
+    pub wrote : Appends old.sink.written new.sink.written (transcript pages begun keys)
     -- and the store was asked exactly for what the cache didn't keep
     pub asked : IfSome old.pages.cache (λ cache. new.pages.fetches
         ≡ raised_by (misses (session pages begun keys).asked cache) old.pages.fetches)

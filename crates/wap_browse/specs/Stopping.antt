@@ -1,8 +1,8 @@
--- Where a session stops before its end. This project's own.
-use Rattle.std.specs.Prelude.{◌≡◌, ℕ, ◌+◌, ◌<◌, ◌≤◌, List, ◌++◌, length, take, Option, IfSome}
-use Rattle.wap_base.specs.Transfer.{Appends}
+-- Where a session stops before its end. Of the keys that were given all but the last were handled
+-- whole by then, and the URL that is opened counts as the first. This project's own.
+use Rattle.std.specs.Prelude.{◌≡◌, ℕ, ◌+◌, ◌<◌, ◌≤◌, List, ◌++◌, length, Option, IfSome}
+use Rattle.wap_devices.specs.Transfer.{Appends}
 use Rattle.wap_input.specs.declared.key.Key.{Key}
-use Rattle.wap_keys.specs.Read.{IsPrompt}
 use Rattle.wap_site.specs.Pages.{Pages}
 use Rattle.wap_site.specs.Asking.{raised_by}
 use Rattle.wap_world.specs.Sessions.{Begun}
@@ -20,43 +20,38 @@ pub record RoseWithin (least most before after : ℕ) : Type 0 where
 pub record WritesPart (before after : Option (List ℕ)) (first others : List ℕ) : Type 0 where
   pub part : List ℕ
   pub rest : List ℕ
-  pub behind : others ≡ first ++ (part ++ rest)
+  pub split : others ≡ first ++ (part ++ rest)
   pub wrote : Appends before after (first ++ part)
 
--- these bytes of keys were taken, and they say these keys; the store failed
-pub record StopsAtStore (pages : Pages) (begun : Begun) (keys : List Key) (taken : List ℕ)
-    (old new : Outside) : Type 0 where
-  -- so many first keys were handled whole, and it failed at the next
-  pub count : ℕ
-  pub few : count ≤ length keys
-  -- nothing of the next was written
-  pub wrote : Appends old.written new.written (first_lines pages begun keys count)
-  -- the store was asked for a page of the next
+-- the store failed at the last of the keys that were given
+pub record StopsAtStore (pages : Pages) (begun : Begun) (given : List Key) (old new : Outside)
+    : Type 0 where
+  -- nothing of it was written
+  pub wrote : Appends old.sink.written new.sink.written
+      (first_lines pages begun given (length given))
+  -- the store was asked for a page of it
   pub asked : IfSome old.pages.cache (λ cache. RoseWithin
-      (first_misses pages begun keys cache count) (first_misses pages begun keys cache (count + 1))
+      (first_misses pages begun given cache (length given))
+      (first_misses pages begun given cache (length given + 1))
       old.pages.fetches new.pages.fetches)
-  -- no more keys were read than were handled, but for those of the last piece
-  pub prompt : IsPrompt taken (take count keys)
 
--- the sink failed
-pub record StopsAtSink (pages : Pages) (begun : Begun) (keys : List Key) (taken : List ℕ)
-    (old new : Outside) : Type 0 where
-  -- so many first keys were handled whole, and it failed at the lines of the next
-  pub count : ℕ
-  pub few : count ≤ length keys
-  pub wrote : WritesPart old.written new.written
-      (first_lines pages begun keys count) (first_lines pages begun keys (count + 1))
-  -- the store was asked for all pages of the next
+-- the sink failed at the lines of the last
+pub record StopsAtSink (pages : Pages) (begun : Begun) (given : List Key) (old new : Outside)
+    : Type 0 where
+  -- a prefix of them was written
+  pub wrote : WritesPart old.sink.written new.sink.written
+      (first_lines pages begun given (length given))
+      (first_lines pages begun given (length given + 1))
+  -- the store was asked for all its pages
   pub asked : IfSome old.pages.cache (λ cache. new.pages.fetches
-      ≡ raised_by (first_misses pages begun keys cache (count + 1)) old.pages.fetches)
-  pub prompt : IsPrompt taken (take count keys)
+      ≡ raised_by (first_misses pages begun given cache (length given + 1)) old.pages.fetches)
 
--- memory ran out
-pub record StopsForMemory (pages : Pages) (begun : Begun) (keys : List Key) (taken : List ℕ)
-    (old new : Outside) : Type 0 where
-  -- so many first keys were handled whole
+-- memory ran out at the last, or as one more was read
+pub record StopsForMemory (pages : Pages) (begun : Begun) (given : List Key) (old new : Outside)
+    : Type 0 where
+  -- so many were handled whole
   pub count : ℕ
-  pub few : count ≤ length keys + 1
+  pub least : length given ≤ count
+  pub most : count ≤ length given + 1
   -- nothing of the next was written
-  pub wrote : Appends old.written new.written (first_lines pages begun keys count)
-  pub prompt : IsPrompt taken (take count keys)
+  pub wrote : Appends old.sink.written new.sink.written (first_lines pages begun given count)

@@ -6,7 +6,8 @@ use crate::Beginning;
 use crate::ending::status_of;
 use crate::playing::play;
 use std::alloc::Global;
-use wap_base::{NoMemory, Sink, Source};
+use wap_base::NoMemory;
+use wap_devices::{Sink, Source};
 use wap_keys::{Next, Reader};
 use wap_session::{Key, Session};
 use wap_site::Pages;
@@ -22,22 +23,8 @@ pub fn browse<P: Pages, I: Source, O: Sink>(
     out: &mut O,
 ) -> Status
     ensures { Browses (begun_with begun)
-        (record {
-          pages = P.seen pages.old;
-          left = I.left keys.old;
-          ends = I.ends keys.old;
-          read_faults = I.faults keys.old;
-          written = O.written out.old;
-          write_faults = O.faults out.old;
-        })
-        (record {
-          pages = P.seen pages.new;
-          left = I.left keys.new;
-          ends = I.ends keys.new;
-          read_faults = I.faults keys.new;
-          written = O.written out.new;
-          write_faults = O.faults out.new;
-        })
+        (record { pages = P.seen pages.old; source = I.seen keys.old; sink = O.seen out.old })
+        (record { pages = P.seen pages.new; source = I.seen keys.new; sink = O.seen out.new })
         result }
 {
     let mut session = Session::new(alloc, begun.seed, begun.budget, begun.limits);

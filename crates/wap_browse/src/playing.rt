@@ -4,7 +4,7 @@ ghost use Rattle.wap_browse.specs.inside.Played.{Plays};
 
 use crate::lines::put_lines;
 use std::alloc::Global;
-use wap_base::{Failed, Sink, write_all};
+use wap_devices::{Failed, Sink, write_all};
 use wap_session::{Key, Session, SessionFault};
 use wap_site::Pages;
 use wap_status::Status;
@@ -21,18 +21,8 @@ pub(crate) fn play<P: Pages, O: Sink>(
 ) -> Result<(), Status>
     requires { session.old.is_over ≡ false }
     ensures { Plays key.now
-        (record {
-          pages = P.seen pages.old;
-          state = session.old;
-          written = O.written out.old;
-          faults = O.faults out.old;
-        })
-        (record {
-          pages = P.seen pages.new;
-          state = session.new;
-          written = O.written out.new;
-          faults = O.faults out.new;
-        })
+        (record { pages = P.seen pages.old; state = session.old; sink = O.seen out.old })
+        (record { pages = P.seen pages.new; state = session.new; sink = O.seen out.new })
         result }
 {
     let lines = match session.feed(alloc, key, pages) {

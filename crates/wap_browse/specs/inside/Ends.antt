@@ -1,11 +1,13 @@
 -- What browsing comes to, status by status. This project's own.
-use Rattle.std.specs.Prelude.{◌≡◌, ℕ, ◌+◌, ◌≤◌, List, ◌++◌, Some, IfSome}
+use Rattle.std.specs.Prelude.{◌≡◌, ◌≢◌, ℕ, ◌+◌, ◌≤◌, List, [], ◌++◌, length, Some, IfSome}
 use Rattle.wap_base.specs.Count.{Rose}
-use Rattle.wap_base.specs.Transfer.{AppendsPrefix}
+use Rattle.wap_devices.specs.Transfer.{AppendsPrefix}
+use Rattle.wap_input.specs.declared.key.Key.{Key}
 use Rattle.wap_keys.specs.declared.limits.TheConstants.{KEYS_LIMIT}
+use Rattle.wap_keys.specs.declared.fault.KeyFault.TheVariants as key
 use Rattle.wap_keys.specs.declared.ending.Ending.TheVariants as ending
 use Rattle.wap_keys.specs.Lines.{keys_of, keys_at}
-use Rattle.wap_keys.specs.Read.{keys_among, TakesAtMost, AtMostOnce}
+use Rattle.wap_keys.specs.Read.{AreFirst, keys_among, rose, IsPrompt, TakesAtMost, AtMostOnce}
 use Rattle.wap_site.specs.Pages.{Pages}
 use Rattle.wap_site.specs.Asking.{Stays}
 use Rattle.wap_world.specs.Sessions.{Begun, transcript}
@@ -18,53 +20,70 @@ use Rattle.wap_browse.specs.Handling.{IsPlayed}
 use Rattle.wap_browse.specs.Stopping.{StopsAtStore, StopsAtSink, StopsForMemory}
 
 -- the bytes end so
-abbrev pub EndsSo : Status → List ℕ → List ℕ → Type 0
-EndsSo Done bytes taken = (keys_of bytes).ending ≡ ending.End
-EndsSo Usage bytes taken = ⊥
-EndsSo (Refused fault) bytes taken = ⊥
-EndsSo StoreFault bytes taken = Unit {0}
-EndsSo KeyReadFault bytes taken = (keys_at ending.ReadFault taken).ending ≡ ending.ReadFault
-EndsSo WriteFault bytes taken = Unit {0}
-EndsSo NoMemory bytes taken = Unit {0}
-EndsSo (BadKey line fault) bytes taken = (keys_of bytes).ending ≡ ending.BadKey line fault
-EndsSo TooManyKeys bytes taken = (keys_of bytes).ending ≡ ending.TooManyKeys
+abbrev pub EndsSo : Status → List ℕ → List ℕ → List ℕ → List Key → Type 0
+EndsSo Done bytes taken rest given =
+    (rest ≡ []) × (keys_of bytes ≡ record { keys = given; ending = ending.End })
+EndsSo Usage bytes taken rest given = ⊥
+EndsSo (Refused fault) bytes taken rest given = ⊥
+EndsSo StoreFault bytes taken rest given = Unit {0}
+EndsSo KeyReadFault bytes taken rest given =
+    keys_at ending.ReadFault taken ≡ record { keys = given; ending = ending.ReadFault }
+EndsSo WriteFault bytes taken rest given = Unit {0}
+EndsSo NoMemory bytes taken rest given = Unit {0}
+EndsSo (BadKey line fault) bytes taken rest given =
+    keys_of bytes ≡ record { keys = given; ending = ending.BadKey line fault }
+EndsSo TooManyKeys bytes taken rest given =
+    (length taken ≡ KEYS_LIMIT + 1)
+    × (keys_of bytes ≡ record { keys = given; ending = ending.TooManyKeys })
 
 -- so much was written
-abbrev pub ShowsTo : Status → Pages → Begun → List ℕ → List ℕ → List ℕ → Outside → Outside → Type 0
-ShowsTo Done pages begun bytes taken rest old new =
-    IsPlayed pages begun (keys_of bytes).keys old new
-ShowsTo Usage pages begun bytes taken rest old new = ⊥
-ShowsTo (Refused fault) pages begun bytes taken rest old new = ⊥
-ShowsTo StoreFault pages begun bytes taken rest old new =
-    StopsAtStore pages begun (keys_among taken rest) taken old new
-ShowsTo KeyReadFault pages begun bytes taken rest old new =
-    IsPlayed pages begun (keys_at ending.ReadFault taken).keys old new
-ShowsTo WriteFault pages begun bytes taken rest old new =
-    StopsAtSink pages begun (keys_among taken rest) taken old new
-ShowsTo NoMemory pages begun bytes taken rest old new =
-    StopsForMemory pages begun (keys_among taken rest) taken old new
-ShowsTo (BadKey line fault) pages begun bytes taken rest old new =
-    IsPlayed pages begun (keys_of bytes).keys old new
-ShowsTo TooManyKeys pages begun bytes taken rest old new =
-    IsPlayed pages begun (keys_of bytes).keys old new
+abbrev pub ShowsTo : Status → Pages → Begun → List Key → Outside → Outside → Type 0
+ShowsTo Done pages begun given old new = IsPlayed pages begun given old new
+ShowsTo Usage pages begun given old new = ⊥
+ShowsTo (Refused fault) pages begun given old new = ⊥
+ShowsTo StoreFault pages begun given old new = StopsAtStore pages begun given old new
+ShowsTo KeyReadFault pages begun given old new = IsPlayed pages begun given old new
+ShowsTo WriteFault pages begun given old new = StopsAtSink pages begun given old new
+ShowsTo NoMemory pages begun given old new = StopsForMemory pages begun given old new
+ShowsTo (BadKey line fault) pages begun given old new = IsPlayed pages begun given old new
+ShowsTo TooManyKeys pages begun given old new = IsPlayed pages begun given old new
 
-pub record Written (status : Status) (pages : Pages) (begun : Begun) (bytes taken rest : List ℕ)
-    (old new : Outside) : Type 0 where
-  pub prefix : AppendsPrefix old.written new.written (transcript pages begun (keys_of bytes).keys)
-  pub shows : ShowsTo status pages begun bytes taken rest old new
+-- what was written over these pages
+pub record Written (status : Status) (pages : Pages) (begun : Begun) (bytes : List ℕ)
+    (given : List Key) (old new : Outside) : Type 0 where
+  pub prefix : AppendsPrefix old.sink.written new.sink.written
+      (transcript pages begun (keys_of bytes).keys)
+  pub shows : ShowsTo status pages begun given old new
 
+-- what a source with these bytes gave
 pub record Comes (begun : Begun) (bytes : List ℕ) (old new : Outside) (status : Status) : Type 0
   where
     pub taken : List ℕ
     pub rest : List ℕ
     pub split : bytes ≡ taken ++ rest
-    pub still : new.left ≡ Some rest
-    pub ends : EndsSo status bytes taken
+    pub left_is : new.source.left ≡ Some rest
+    pub given : List Key
+    pub first : AreFirst given (keys_among (rose old.source.ends new.source.ends) taken)
+    pub prompt : IsPrompt taken given
+    pub ends : EndsSo status bytes taken rest given
     pub written : IfSome old.pages.contents
-        (λ pages. Written status pages begun bytes taken rest old new)
+        (λ pages. Written status pages begun bytes given old new)
+
+-- out of memory is no fault of a line
+abbrev pub IsOfLine : Status → Type 0
+IsOfLine Done = Unit {0}
+IsOfLine Usage = Unit {0}
+IsOfLine (Refused fault) = Unit {0}
+IsOfLine StoreFault = Unit {0}
+IsOfLine KeyReadFault = Unit {0}
+IsOfLine WriteFault = Unit {0}
+IsOfLine NoMemory = Unit {0}
+IsOfLine (BadKey line fault) = fault ≢ key.NoMemory
+IsOfLine TooManyKeys = Unit {0}
 
 -- ---- counts of faults, before and after
 
+-- that of the store
 abbrev pub StoreMoves : Status → ℕ → ℕ → Type 0
 StoreMoves Done before after = after ≡ before
 StoreMoves Usage before after = ⊥
@@ -76,6 +95,7 @@ StoreMoves NoMemory before after = Unit {0}
 StoreMoves (BadKey line fault) before after = after ≡ before
 StoreMoves TooManyKeys before after = after ≡ before
 
+-- that of the source
 abbrev pub ReadMoves : Status → ℕ → ℕ → Type 0
 ReadMoves Done before after = after ≡ before
 ReadMoves Usage before after = ⊥
@@ -87,6 +107,7 @@ ReadMoves NoMemory before after = after ≡ before
 ReadMoves (BadKey line fault) before after = after ≡ before
 ReadMoves TooManyKeys before after = after ≡ before
 
+-- that of the sink
 abbrev pub WriteMoves : Status → ℕ → ℕ → Type 0
 WriteMoves Done before after = after ≡ before
 WriteMoves Usage before after = ⊥
@@ -101,12 +122,13 @@ WriteMoves TooManyKeys before after = after ≡ before
 -- ---- all together
 
 pub record BrowsesTo (begun : Begun) (old new : Outside) (status : Status) : Type 0 where
-  pub told : IfSome old.left (λ bytes. Comes begun bytes old new status)
+  pub known : IfSome old.source.left (λ bytes. Comes begun bytes old new status)
   pub store : StoreMoves status old.pages.faults new.pages.faults
-  pub read : ReadMoves status old.read_faults new.read_faults
-  pub write : WriteMoves status old.write_faults new.write_faults
+  pub read : ReadMoves status old.source.faults new.source.faults
+  pub write : WriteMoves status old.sink.faults new.sink.faults
+  pub of_line : IsOfLine status
   pub stays : Stays old.pages new.pages
-  pub read_counts : old.read_faults ≤ new.read_faults
-  pub write_counts : old.write_faults ≤ new.write_faults
-  pub few : TakesAtMost (KEYS_LIMIT + 1) old.left new.left
-  pub end_once : AtMostOnce old.ends new.ends
+  pub read_counts : old.source.faults ≤ new.source.faults
+  pub write_counts : old.sink.faults ≤ new.sink.faults
+  pub few : TakesAtMost (KEYS_LIMIT + 1) old.source new.source
+  pub end_once : AtMostOnce old.source.ends new.source.ends

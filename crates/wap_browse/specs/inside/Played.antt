@@ -1,7 +1,8 @@
 -- A key that is played, and whose lines are written. This project's own.
-use Rattle.std.specs.Prelude.{◌≡◌, ℕ, ◌≤◌, false, List, [], Option, Result, Ok, Err}
+use Rattle.std.specs.Prelude.{◌≡◌, ◌≤◌, false, [], Result, Ok, Err}
 use Rattle.wap_base.specs.Count.{Rose}
-use Rattle.wap_base.specs.Transfer.{Appends, AppendsPrefix}
+use Rattle.wap_devices.specs.Sinks.{SinkSeen}
+use Rattle.wap_devices.specs.Transfer.{Appends, AppendsPrefix}
 use Rattle.wap_input.specs.declared.key.Key.{Key}
 use Rattle.wap_site.specs.Pages.{Pages}
 use Rattle.wap_site.specs.Asking.{Seen, Stays, Asks, Fails}
@@ -16,16 +17,15 @@ use Rattle.wap_status.specs.declared.status.Status.TheVariants.{Done, Usage, Ref
 use Rattle.wap_status.specs.declared.status.Status.TheVariants.{KeyReadFault, WriteFault, NoMemory}
 use Rattle.wap_status.specs.declared.status.Status.TheVariants.{BadKey, TooManyKeys}
 
--- what a key is seen to move: pages, the session, what was written and how often the sink failed
+-- what a key is seen to move: pages, the session and the sink
 pub record Moment : Type 0 where
   pub pages : Seen
   pub state : State
-  pub written : Option (List ℕ)
-  pub faults : ℕ
+  pub sink : SinkSeen
 
 -- a fact of a key's step, where the pages are known and have the deck
-abbrev pub IfTold : Key → Moment → (Pages → Step → Type 0) → Type 0
-IfTold key old Fact = IfOver old.pages.contents old.state.browser
+abbrev pub IfKnown : Key → Moment → (Pages → Step → Type 0) → Type 0
+IfKnown key old Fact = IfOver old.pages.contents old.state.browser
     (λ pages. Fact pages (react pages key [] old.state.browser.world))
 
 -- a step that was played, and its lines written
@@ -33,45 +33,48 @@ pub record Leads (pages : Pages) (step : Step) (old new : Moment) : Type 0 where
   pub world : new.state.browser.world ≡ step.world
   pub over : IsOver pages new.state.browser
   pub asks : Asks step.asked old.pages new.pages
-  pub wrote : Appends old.written new.written (lines_bytes (shown_by step))
+  pub wrote : Appends old.sink.written new.sink.written (lines_bytes (shown_by step))
 
 -- a step that was played, and a prefix of its lines written
 pub record LeadsPart (step : Step) (old new : Moment) : Type 0 where
   pub asks : Asks step.asked old.pages new.pages
-  pub wrote : AppendsPrefix old.written new.written (lines_bytes (shown_by step))
+  pub wrote : AppendsPrefix old.sink.written new.sink.written (lines_bytes (shown_by step))
 
 -- ---- what each answer says
 
+-- the key was played, and its lines were written
 pub record GoesOn (key : Key) (old new : Moment) : Type 0 where
-  pub leads : IfTold key old (λ pages step. Leads pages step old new)
+  pub leads : IfKnown key old (λ pages step. Leads pages step old new)
   pub ready : new.state.is_over ≡ false
   pub stays : Stays old.pages new.pages
   pub steady : new.pages.faults ≡ old.pages.faults
-  pub write_steady : new.faults ≡ old.faults
+  pub write_steady : new.sink.faults ≡ old.sink.faults
 
+-- the store failed, and nothing was written
 pub record FailsAtStore (key : Key) (old new : Moment) : Type 0 where
   pub rose : Rose old.pages.faults new.pages.faults
-  pub missed : IfTold key old (λ pages step. Fails step.asked old.pages new.pages)
-  pub unwritten : new.written ≡ old.written
+  pub missed : IfKnown key old (λ pages step. Fails step.asked old.pages new.pages)
+  pub unwritten : new.sink ≡ old.sink
   pub stays : Stays old.pages new.pages
-  pub write_steady : new.faults ≡ old.faults
 
+-- the sink failed
 pub record FailsAtSink (key : Key) (old new : Moment) : Type 0 where
-  pub leads : IfTold key old (λ pages step. LeadsPart step old new)
-  pub rose : Rose old.faults new.faults
-  pub counts : old.faults ≤ new.faults
+  pub leads : IfKnown key old (λ pages step. LeadsPart step old new)
+  pub rose : Rose old.sink.faults new.sink.faults
+  pub counts : old.sink.faults ≤ new.sink.faults
   pub stays : Stays old.pages new.pages
   pub steady : new.pages.faults ≡ old.pages.faults
 
-pub record WantsMemory (old new : Moment) : Type 0 where
-  pub unwritten : new.written ≡ old.written
+-- memory ran out, and nothing was written
+pub record RunsOut (old new : Moment) : Type 0 where
+  pub unwritten : new.sink ≡ old.sink
   pub stays : Stays old.pages new.pages
-  pub write_steady : new.faults ≡ old.faults
 
+-- why a session stops at a key
 abbrev pub Stops : Status → Key → Moment → Moment → Type 0
 Stops StoreFault key old new = FailsAtStore key old new
 Stops WriteFault key old new = FailsAtSink key old new
-Stops NoMemory key old new = WantsMemory old new
+Stops NoMemory key old new = RunsOut old new
 Stops Done key old new = ⊥
 Stops Usage key old new = ⊥
 Stops (Refused fault) key old new = ⊥
@@ -79,6 +82,7 @@ Stops KeyReadFault key old new = ⊥
 Stops (BadKey line fault) key old new = ⊥
 Stops TooManyKeys key old new = ⊥
 
+-- a key was played, or the session stops
 abbrev pub Plays : Key → Moment → Moment → {A : Type 0} → Result A Status → Type 0
 Plays key old new (Ok done) = GoesOn key old new
 Plays key old new (Err status) = Stops status key old new
