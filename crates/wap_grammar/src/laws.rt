@@ -1,13 +1,15 @@
-//! What holds of the grammar.
-ghost use Rattle.std.specs.Prelude.{◌≡◌, ℕ, List, All};
+//! What holds of the grammar. The functions here do nothing, and carry the laws alone.
+ghost use Rattle.std.specs.Prelude.{◌≡◌, ℕ, List, All, map};
 ghost use Rattle.wap_lex.specs.declared.token.Token.{Token};
 ghost use Rattle.wap_lex.specs.declared.token.Kind.TheVariants.{Str};
 ghost use Rattle.wap_lex.specs.Tokens.{AreTokens};
 ghost use Rattle.wap_grammar.specs.declared.lexeme.Lexeme.{Lexeme};
 ghost use Rattle.wap_grammar.specs.Programs.{Spells};
 ghost use Rattle.wap_grammar.specs.Texts.{StandsForText};
-ghost use Rattle.wap_grammar.specs.Words.{text_in, lexeme_of};
+ghost use Rattle.wap_grammar.specs.Words.{word_rows, text_in, lexeme_of};
 ghost use Rattle.wap_program.specs.declared.program.Program.{Program};
+
+use crate::WORDS;
 
 /// No tokens are spelled by two programs.
 pub fn one_program()
@@ -20,4 +22,10 @@ pub fn strings_are_texts()
     ensures { (src : List ℕ) (tokens : List Token) → AreTokens src tokens →
         All (λ token. token.kind ≡ Str → StandsForText (text_in src (lexeme_of src token).span))
         tokens }
+{}
+
+/// The table of words in the code is that of the definitions.
+#[tactic(auto, unfolding(crate::specs::Words::word_rows))]
+pub fn words_are_listed()
+    ensures { map (λ row. (row.0.now, row.1)) WORDS ≡ word_rows }
 {}
