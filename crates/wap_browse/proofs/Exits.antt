@@ -1,5 +1,5 @@
 -- How a session comes to its end.
-use Rattle.std.proofs.Common.{◌≡◌, ◌≢◌, ℕ, ◌+◌, ◌≤◌, List, [], ◌∷◌, ◌++◌, Option, Some}
+use Rattle.std.proofs.Common.{◌≡◌, ◌≢◌, ℕ, ◌≤◌, List, [], ◌∷◌, ◌++◌, Option, Some}
 use Rattle.std.proofs.Common.{refl, sym, ap, subst, map, ◌∙◌, arith}
 use Rattle.std.specs.Prelude.{IfSome, Ok}
 use Rattle.wap_base.specs.Count.{Rose}

@@ -7,7 +7,6 @@ use Rattle.wap_words.specs.declared.words.PageCommand.{PageCommand}
 use Rattle.wap_pages.specs.declared.fault.PageFault.{PageFault}
 use Rattle.wap_pages.specs.declared.fault.PageErr.{PageErr}
 use Rattle.wap_pages.specs.declared.fault.PageErr.TheVariants as error
-use Rattle.wap_status.specs.declared.status.Status.TheVariants.{Refused, NoMemory}
 use Rattle.wap_cli.specs.Answers.{IsText, IsReason, Answers, refused_by, written_so}
 
 module _ (command : PageCommand) (bytes : List ℕ) where
