@@ -29,8 +29,9 @@ budget_stays : (pages : Pages) (one : Key) (world : World)
     → (react pages one [] world).world.budget ≡ world.budget
 unfolding react
 budget_stays pages one world =
-    (apply_fine KeepsBudget (λ w. refl) (λ u v w a b. b ∙ a) (λ w v. refl) (λ w t. refl)
-    (λ w n e. refl) (λ w. refl) (λ w e. refl) (λ w e. refl) pages (renewed world) one).moves []
+    (apply_fine pages KeepsBudget (λ w. refl) (λ u v w a b. b ∙ a) (λ w v. refl) (λ w. refl)
+    (λ w t place here. refl) (λ w n e. refl) (λ w. refl) (λ w url deck has. refl)
+    (λ w e deck has. refl) (renewed world) one).moves []
 
 abbrev begun : ℕ → Browser → Browser
 begun budget browser = record browser
