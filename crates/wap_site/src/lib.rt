@@ -4,8 +4,7 @@
 pub mod laws;
 mod page;
 mod pages;
-mod shared;
 
 pub use page::Page;
 pub use pages::Pages;
-pub use shared::Shared;
+pub use wap_shared::Shared;
