@@ -1,0 +1,85 @@
+//! The names of instructions in lines.
+use wap_code::OpName;
+
+/// Each name of an instruction, as a listing shows it.
+pub static NAMES: [(&str, OpName); 69] = [
+    ("JUMP_FW_S", OpName::JumpFwS),
+    ("JUMP_FW", OpName::JumpFw),
+    ("JUMP_FW_W", OpName::JumpFwW),
+    ("JUMP_BW_S", OpName::JumpBwS),
+    ("JUMP_BW", OpName::JumpBw),
+    ("JUMP_BW_W", OpName::JumpBwW),
+    ("TJUMP_FW_S", OpName::TjumpFwS),
+    ("TJUMP_FW", OpName::TjumpFw),
+    ("TJUMP_FW_W", OpName::TjumpFwW),
+    ("TJUMP_BW", OpName::TjumpBw),
+    ("TJUMP_BW_W", OpName::TjumpBwW),
+    ("CALL_S", OpName::CallS),
+    ("CALL", OpName::Call),
+    ("CALL_LIB_S", OpName::CallLibS),
+    ("CALL_LIB", OpName::CallLib),
+    ("CALL_LIB_W", OpName::CallLibW),
+    ("CALL_URL", OpName::CallUrl),
+    ("CALL_URL_W", OpName::CallUrlW),
+    ("LOAD_VAR_S", OpName::LoadVarS),
+    ("LOAD_VAR", OpName::LoadVar),
+    ("STORE_VAR_S", OpName::StoreVarS),
+    ("STORE_VAR", OpName::StoreVar),
+    ("INCR_VAR_S", OpName::IncrVarS),
+    ("INCR_VAR", OpName::IncrVar),
+    ("DECR_VAR", OpName::DecrVar),
+    ("LOAD_CONST_S", OpName::LoadConstS),
+    ("LOAD_CONST", OpName::LoadConst),
+    ("LOAD_CONST_W", OpName::LoadConstW),
+    ("CONST_0", OpName::Const0),
+    ("CONST_1", OpName::Const1),
+    ("CONST_M1", OpName::ConstM1),
+    ("CONST_ES", OpName::ConstEs),
+    ("CONST_INVALID", OpName::ConstInvalid),
+    ("CONST_TRUE", OpName::ConstTrue),
+    ("CONST_FALSE", OpName::ConstFalse),
+    ("INCR", OpName::Incr),
+    ("DECR", OpName::Decr),
+    ("ADD_ASG", OpName::AddAsg),
+    ("SUB_ASG", OpName::SubAsg),
+    ("UMINUS", OpName::Uminus),
+    ("ADD", OpName::Add),
+    ("SUB", OpName::Sub),
+    ("MUL", OpName::Mul),
+    ("DIV", OpName::Div),
+    ("IDIV", OpName::Idiv),
+    ("REM", OpName::Rem),
+    ("B_AND", OpName::BAnd),
+    ("B_OR", OpName::BOr),
+    ("B_XOR", OpName::BXor),
+    ("B_NOT", OpName::BNot),
+    ("B_LSHIFT", OpName::BLshift),
+    ("B_RSSHIFT", OpName::BRsshift),
+    ("B_RSZSHIFT", OpName::BRszshift),
+    ("EQ", OpName::Eq),
+    ("LE", OpName::Le),
+    ("LT", OpName::Lt),
+    ("GE", OpName::Ge),
+    ("GT", OpName::Gt),
+    ("NE", OpName::Ne),
+    ("NOT", OpName::Not),
+    ("SCAND", OpName::Scand),
+    ("SCOR", OpName::Scor),
+    ("TOBOOL", OpName::Tobool),
+    ("POP", OpName::Pop),
+    ("TYPEOF", OpName::Typeof),
+    ("ISVALID", OpName::Isvalid),
+    ("RETURN", OpName::Return),
+    ("RETURN_ES", OpName::ReturnEs),
+    ("DEBUG", OpName::Debug),
+];
+
+/// The word of a name.
+pub fn word_of(name: OpName) -> &'static str {
+    for (word, known) in &NAMES {
+        if *known == name {
+            return word;
+        }
+    }
+    ""
+}

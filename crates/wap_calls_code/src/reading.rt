@@ -1,0 +1,42 @@
+//! Calls that read an instruction, or the table of libraries.
+use crate::names::word_of;
+use wap_asm::{lib_args, next_instr};
+use wap_casebook::{Call, CaseFault};
+use wap_code::{Instr, InstrFault};
+
+/// Gives an instruction: its name, its operands and where it ends.
+fn give_instr(call: &mut Call, instr: Instr) {
+    call.give_word(word_of(instr.name));
+    call.give_number(i64::from(instr.a));
+    call.give_number(i64::from(instr.b));
+    call.give_number(i64::from(instr.c));
+    call.give_count(instr.next);
+}
+
+/// Gives the instruction at a place of code, or why there is none.
+pub fn read_next(call: &mut Call) -> Result<(), CaseFault> {
+    let code = call.bytes();
+    let at = call.count();
+    if at >= code.len() {
+        return Err(CaseFault::Argument);
+    }
+    match next_instr(code.as_slice(), at) {
+        Ok(instr) => give_instr(call, instr),
+        Err(InstrFault::Opcode) => call.give_word("Opcode"),
+        Err(InstrFault::Operand) => call.give_word("Operand"),
+    }
+    Ok(())
+}
+
+/// Gives how many arguments a function of a library takes, by its numbers.
+pub fn count_arguments(call: &mut Call) -> Result<(), CaseFault> {
+    let (library, function) = (call.count(), call.count());
+    let (Ok(library), Ok(function)) = (u16::try_from(library), u8::try_from(function)) else {
+        return Err(CaseFault::Argument);
+    };
+    match lib_args(library, function) {
+        Some(count) => call.give_number(i64::from(count)),
+        None => call.give_word("none"),
+    }
+    Ok(())
+}
