@@ -10,3 +10,4 @@ pub mod Once
 pub mod OneMeaning
 pub mod Soundness
 pub mod Completeness
+pub mod Ascending

@@ -1,5 +1,5 @@
 -- Walks over parts, one after the other.
-use Rattle.std.proofs.Common.{◌≡◌, ℕ, List, [], ◌∷◌, ◌++◌, Result, Ok, Err, refl, sym, ap, ◌∙◌}
+use Rattle.std.proofs.Common.{◌≡◌, ℕ, List, [], ◌∷◌, ◌++◌, Result, Ok, Err, refl, sym, ◌∙◌}
 use Rattle.std.specs.List.{flat_map}
 use Rattle.wap_base.specs.Outcome.{◌>>=◌}
 use Rattle.wap_scope.specs.declared.fault.ScopeFault.{ScopeFault}

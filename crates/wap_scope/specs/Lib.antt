@@ -2,4 +2,5 @@ pub mod Names
 pub mod Scoped
 pub mod Faults
 pub mod Meanings
+pub mod Places
 pub mod inside

@@ -42,8 +42,8 @@ impl Scoped {
 }
 
 /// The program as one whose names are in order, or the first of its faults: in the order of the
-/// source, and at one place in the order in which `ScopeFault` lists them. A program that is
-/// refused comes back, also where memory runs out.
+/// source (`faults_ascend`), and at one place in the order in which `ScopeFault` lists them. A
+/// program that is refused comes back, also where memory runs out.
 pub fn resolve(alloc: Global, program: Program) -> Result<Scoped, (Program, ScopeFault)>
     ensures same { IfOk result (λ scoped. scoped ≡ program) }
     ensures scoped { OnOk result (IsScoped program) }

@@ -6,12 +6,10 @@ use Rattle.wap_program.specs.declared.program.Id.{Id}
 use Rattle.wap_program.specs.declared.program.Use.{Use}
 use Rattle.wap_program.specs.declared.program.Use.TheVariants.{Url, Access, Agent, Note}
 use Rattle.wap_program.specs.declared.program.Function.{Function}
-use Rattle.wap_program.specs.declared.expression.Expr.{Expr}
-use Rattle.wap_program.specs.declared.statement.Stmt.{Stmt}
 use Rattle.wap_scope.specs.declared.limits.TheConstants.{FUNCTION_LIMIT}
 use Rattle.wap_scope.specs.declared.fault.ScopeFault.{ScopeFault}
 use Rattle.wap_scope.specs.declared.fault.ScopeFault.TheVariants as fault
-use Rattle.wap_scope.specs.Names.{Mention, Declares, declared, refers, mentions, said}
+use Rattle.wap_scope.specs.Names.{Mention, Declares, declared, said}
 use Rattle.wap_scope.specs.Scoped.{is_among}
 use Rattle.wap_scope.specs.Faults.{Scope, fault_if, mention_faults}
 
