@@ -1,0 +1,8 @@
+use Rattle.wap_source_laws.proofs.Programs.{names_ascend, faults_ascend}
+use Rattle.wap_source_laws.proofs.parsed_names_ascend.Goals as goal
+
+pub returns-clause-names : goal.returns-clause-names
+returns-clause-names c = names_ascend
+
+pub returns-clause-faults : goal.returns-clause-faults
+returns-clause-faults c = faults_ascend

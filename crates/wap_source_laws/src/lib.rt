@@ -1,0 +1,21 @@
+//! Laws of sources, from their tokens to their names. The functions here do nothing, and carry the
+//! laws alone.
+#![tactic(auto)]
+
+ghost use Rattle.std.specs.Prelude.{ℕ, List};
+ghost use Rattle.wap_lex.specs.declared.token.Token.{Token};
+ghost use Rattle.wap_lex.specs.Tokens.{AreTokens};
+ghost use Rattle.wap_grammar.specs.Words.{lexemes_of};
+ghost use Rattle.wap_grammar.specs.Programs.{Spells};
+ghost use Rattle.wap_program.specs.declared.program.Program.{Program};
+ghost use Rattle.wap_scope.specs.Faults.{faults};
+ghost use Rattle.wap_scope.specs.Places.{places, fault_places, AscendFrom};
+
+/// The names of a program stand in its source in the order in which they are judged, and so do its
+/// faults: the first of them is the first of the source.
+pub fn parsed_names_ascend()
+    ensures names { (src : List ℕ) (tokens : List Token) (p : Program) → AreTokens src tokens
+        → Spells src p (lexemes_of src tokens) → AscendFrom 0 (places p) }
+    ensures faults { (src : List ℕ) (tokens : List Token) (p : Program) → AreTokens src tokens
+        → Spells src p (lexemes_of src tokens) → AscendFrom 0 (fault_places (faults p)) }
+{}
