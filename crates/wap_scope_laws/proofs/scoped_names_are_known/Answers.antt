@@ -1,0 +1,8 @@
+use Rattle.wap_scope_laws.proofs.Known.{all_can_be, parameters_first}
+use Rattle.wap_scope_laws.proofs.scoped_names_are_known.Goals as goal
+
+pub returns-clause-known : goal.returns-clause-known
+returns-clause-known c = all_can_be
+
+pub returns-clause-parameters : goal.returns-clause-parameters
+returns-clause-parameters c = parameters_first
