@@ -84,8 +84,24 @@ fn read_if<'a>(
         lexemes.now) }
 {
     let (arm, rest) = read_arm(alloc, src, levels, lexemes)?;
-    let (other, rest) = read_else(alloc, src, levels, rest)?;
-    Ok((if_of(alloc, arm, other)?, rest))
+    let arm = Boxed::new(alloc, arm)?;
+    read_alternative(alloc, src, levels, arm, rest)
+}
+
+/// What is done else, after a condition and what is done where it holds.
+#[cycle(statements)]
+fn read_alternative<'a>(
+    alloc: Global,
+    src: &[u8],
+    levels: u32,
+    arm: Boxed<(Expr, Stmt)>,
+    lexemes: &'a [Lexeme],
+) -> Result<(Stmt, &'a [Lexeme]), ParseFault>
+    ensures { Meets faults.NoMemory (λ read. (read.0, read.1.now)) result
+        (told (stmt.If arm.0 arm.1) (else_at (statement_at src.now levels) lexemes.now)) }
+{
+    let (other, rest) = read_else(alloc, src, levels, lexemes)?;
+    Ok((if_of(alloc, arm.into_inner(), other)?, rest))
 }
 
 /// A condition, and what is done where it holds.

@@ -13,6 +13,9 @@ decreases-read_parts l = 16 * l.levels + 5
 abbrev pub decreases-read_if : goal.decreases-read_if
 decreases-read_if l = 16 * l.levels + 4
 
+abbrev pub decreases-read_alternative : goal.decreases-read_alternative
+decreases-read_alternative l = 16 * l.levels + 2
+
 abbrev pub decreases-read_else : goal.decreases-read_else
 decreases-read_else l = 16 * l.levels + 1
 
