@@ -1,4 +1,7 @@
 //! Calls of tokens.
+ghost use Rattle.std.specs.Prelude.{IfOk, IfSome};
+ghost use Rattle.wap_lex.specs.Tokens.{AreTokens};
+
 use wap_casebook::{Call, CaseFault, text};
 use wap_lex::{Kind, LexFault, Token, lex};
 
@@ -59,7 +62,9 @@ fn give_place(call: &mut Call, word: &str, at: usize) {
 }
 
 /// The tokens of a source, or nothing where why it has none was given.
-pub fn tokens_of(call: &mut Call, source: &[u8]) -> Result<Option<Vec<Token>>, CaseFault> {
+pub fn tokens_of(call: &mut Call, source: &[u8]) -> Result<Option<Vec<Token>>, CaseFault>
+    ensures { IfOk result (λ found. IfSome found (λ tokens. AreTokens source.now tokens.items)) }
+{
     if source.len() > MOST {
         return Err(CaseFault::Argument);
     }

@@ -2,6 +2,7 @@
 ghost use Rattle.std.specs.Prelude.{◌≡◌, ℕ, Ok, IfOk, IfErr};
 ghost use Rattle.wap_base.specs.Outcome.{Meets};
 ghost use Rattle.wap_program.specs.declared.program.Program.{Program};
+ghost use Rattle.wap_lex.specs.Tokens.{AreTokens};
 ghost use Rattle.wap_grammar.specs.declared.fault.ParseFault.TheVariants as faults;
 ghost use Rattle.wap_grammar.specs.Words.{lexemes_of};
 ghost use Rattle.wap_grammar.specs.Programs.{IsProgram, Spells};
@@ -18,9 +19,10 @@ use wap_grammar::{LEVEL_LIMIT, Lexeme, ParseFault};
 use wap_lex::Token;
 use wap_program::{Function, Program, Use};
 
-/// The program that the tokens of a source spell. A string whose bytes stand for no text is
-/// answered as `NoMemory`, but a source has none (`wap_grammar::strings_are_texts`).
+/// The program that the tokens of a source spell. Each of its strings stands for a text
+/// (`wap_grammar::strings_are_texts`), so `NoMemory` is answered only where memory runs out.
 pub fn parse(alloc: Global, src: &[u8], tokens: &[Token]) -> Result<Program, ParseFault>
+    requires { AreTokens src.now tokens.now }
     // What is answered is the program whose parts stand at levels up to 64, and no other is.
     ensures found { IfOk result (λ program.
         IsProgram src.now LEVEL_LIMIT (lexemes_of src.now tokens.now) program) }
