@@ -1,0 +1,6 @@
+pub mod Following
+pub mod Steps
+pub mod Trees
+pub mod Variables
+mod Units
+mod Worked
