@@ -1,0 +1,2 @@
+//! Pieces of placed code do what parts of sources do: lemmas in `proofs/`. There is no code here.
+#![tactic(auto)]
