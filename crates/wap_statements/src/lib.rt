@@ -1,0 +1,2 @@
+//! Statements of sources and their code agree: lemmas in `proofs/`. There is no code here.
+#![tactic(auto)]
