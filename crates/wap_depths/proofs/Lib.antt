@@ -1,0 +1,4 @@
+pub mod Flow
+pub mod Shapes
+pub mod Trees
+pub mod Bodies

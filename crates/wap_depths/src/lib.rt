@@ -1,0 +1,3 @@
+//! The code of sources has one number of operands at each form: lemmas in `proofs/`. There is no
+//! code here.
+#![tactic(auto)]
