@@ -8,6 +8,7 @@ mod names;
 mod operators;
 mod runs;
 mod small_host;
+mod small_library;
 mod threads;
 mod units;
 mod values;

@@ -3,11 +3,11 @@ use crate::small_host::{FailingPages, SmallHost};
 use crate::values::{give_value, value};
 use crate::verifier::verified_of;
 use std::alloc::Global;
-use std::sync::Arc;
 use wap_base::{Limits, RunErr, Text};
 use wap_casebook::{Call, CaseFault};
 use wap_execution::{Dialog, Fatal};
 use wap_machine::{Machine, Outcome};
+use wap_shared::Shared;
 use wap_url::Url;
 use wap_value::Value;
 use wap_verify::Verified;
@@ -90,7 +90,7 @@ fn play(
     call: &mut Call,
 ) -> Result<(), CaseFault> {
     let mut machine = machine;
-    let mut pages = FailingPages { faults: 0 };
+    let mut pages = FailingPages { asked: 0 };
     for value in answers {
         match machine.run(host, &mut pages) {
             Ok(Outcome::Asks(dialog, waiting)) => {
@@ -128,7 +128,7 @@ fn base(alloc: Global) -> Result<Url, CaseFault> {
 /// The machine of a function at its beginning, if there is one that takes so many arguments.
 fn start(
     alloc: Global,
-    unit: Arc<Verified, Global>,
+    unit: Shared<Verified>,
     function: u8,
     arguments: Vec<Value>,
     depth: u8,
@@ -162,7 +162,7 @@ fn byte(call: &mut Call) -> u8 {
 }
 
 /// The unit of the next argument, or none where that is empty.
-fn next_unit(call: &mut Call) -> Result<Option<Arc<Verified, Global>>, CaseFault> {
+fn next_unit(call: &mut Call) -> Result<Option<Shared<Verified>>, CaseFault> {
     let bytes = call.bytes();
     if bytes.is_empty() {
         return Ok(None);
@@ -195,7 +195,7 @@ pub fn run(call: &mut Call) -> Result<(), CaseFault> {
     let function = byte(call);
     let arguments = values(call)?;
     let answers = values(call)?;
-    let machine = start(alloc, Arc::try_clone(&first)?, function, arguments, depth)?;
+    let machine = start(alloc, first.share()?, function, arguments, depth)?;
     let mut host = SmallHost {
         alloc,
         turns,

@@ -1,14 +1,18 @@
-//! A small host: the dialogs ask, `exit` and `abort` end, the library WMLBrowser fails, and other
-//! library calls give invalid. The units `first` and `second` may be called.
-ghost use Rattle.std.specs.Prelude.{◌≡◌, ◌≢◌, ◌<◌, ◌≤◌, Option, Some, None, IfSome, IfOk, IfErr};
+//! A small host, which tells its state: the dialogs ask, `exit` and `abort` end, the library
+//! WMLBrowser fails, and other library calls give invalid. The units `first` and `second` may be
+//! called.
+ghost use Rattle.std.specs.Prelude.{◌≡◌, ◌≢◌, IfOk, IfErr};
+ghost use Rattle.std.specs.Option.{option_copied};
 ghost use Rattle.wap_execution.specs.declared.fatal.Fatal.TheVariants.{Budget};
-ghost use Rattle.wap_machine.specs.Hosts.{CanBeCalled, IsNoBudget};
+ghost use Rattle.wap_machine.specs.Hosts.{CanBeCalled};
+ghost use Rattle.wap_calls_units.specs.Small.{callable, unit_at};
 
+use crate::small_library::answer;
 use std::alloc::Global;
-use std::sync::Arc;
 use wap_base::{RunErr, Text};
-use wap_execution::{Dialog, Fatal, Found, HostOut};
+use wap_execution::{Fatal, Found, HostOut};
 use wap_machine::Host;
+use wap_shared::Shared;
 use wap_url::Url;
 use wap_value::Value;
 use wap_verify::Verified;
@@ -18,13 +22,15 @@ use wap_verify::Verified;
 pub struct SmallHost {
     pub alloc: Global,
     pub turns: u64,
-    pub first: Arc<Verified, Global>,
-    pub second: Option<Arc<Verified, Global>>,
+    pub first: Shared<Verified>,
+    pub second: Option<Shared<Verified>>,
 }
 
 impl SmallHost {
     /// The unit of this URL.
-    fn unit_at(&self, url: &Text) -> Option<&Arc<Verified, Global>> {
+    fn unit_at(&self, url: &Text) -> Option<&Shared<Verified>>
+        ensures { option_copied result ≡ unit_at self.now.first self.now.second url.now }
+    {
         if url.as_str() == "first" {
             return Some(&self.first);
         }
@@ -38,7 +44,7 @@ impl SmallHost {
 /// Pages that fail wherever they are asked, and count that.
 #[derive(Drop)]
 pub struct FailingPages {
-    pub faults: u64,
+    pub asked: u64,
 }
 
 /// The library WMLBrowser, whose functions ask the pages.
@@ -49,6 +55,7 @@ const MOST_AT_WORK: u32 = 255;
 
 /// The function of a name, where it takes so many arguments and one more may be at work.
 fn callable(unit: &Verified, name: &Text, count: u8, depth: u32) -> Result<u8, Fatal>
+    ensures is { result ≡ callable unit.now name.now count depth }
     ensures found { IfOk result (λ index. CanBeCalled unit.now index count depth) }
     ensures refused { IfErr result (λ why. why ≢ Budget) }
 {
@@ -69,64 +76,31 @@ fn callable(unit: &Verified, name: &Text, count: u8, depth: u32) -> Result<u8, F
     }
 }
 
-/// The text of a String.
-fn text_of(value: Option<Value>) -> Option<Text> {
-    match value {
-        Some(Value::Str(text)) => Some(text),
-        _ => None,
-    }
-}
-
-/// What a function of the library Dialogs asks, where its arguments are Strings.
-fn dialog(function: u8, arguments: Vec<Value>) -> Option<Dialog> {
-    let mut arguments = arguments;
-    match function {
-        0 => {
-            let first = text_of(arguments.pop())?;
-            Some(Dialog::Prompt(text_of(arguments.pop())?, first))
-        }
-        1 => {
-            let no = text_of(arguments.pop())?;
-            let yes = text_of(arguments.pop())?;
-            Some(Dialog::Confirm(text_of(arguments.pop())?, yes, no))
-        }
-        _ => Some(Dialog::Alert(text_of(arguments.pop())?)),
-    }
-}
-
-/// What a function of a library gives.
-fn result_of(library: u16, function: u8, arguments: Vec<Value>) -> Option<HostOut>
-    ensures { IfSome result IsNoBudget }
-{
-    let mut arguments = arguments;
-    match (library, function) {
-        (0, 10) => Some(HostOut::Exit(arguments.pop()?)),
-        (0, 11) => Some(HostOut::Fatal(Fatal::Aborted(text_of(arguments.pop())?))),
-        (5, _) => Some(HostOut::Asks(dialog(function, arguments)?)),
-        _ => None,
-    }
-}
-
 impl Host<FailingPages> for SmallHost {
-    ghost use Rattle.std.specs.Prelude.{⊤, ◌≡◌, ◌-◌, ◌<◌, ◌≤◌, IsTrue, ◌↔◌};
-    ghost use Rattle.std.specs.Prelude.{None, IfOk, IfSome, IsErrOf};
-    ghost use Rattle.wap_calls_units.specs.Silent.{silent};
+    ghost use Rattle.std.specs.Prelude.{◌≡◌, ◌-◌, ◌<◌, ◌≤◌, IsTrue, ◌↔◌};
+    ghost use Rattle.std.specs.Prelude.{Some, IfOk, IfSome, IsErrOf};
+    ghost use Rattle.wap_calls_units.specs.Small.{Small, small};
+    ghost use Rattle.wap_calls_units.specs.inside.Asking.{still, both, library_grows};
 
-    ghost State = { ⊤ };
+    ghost State = { Small };
 
     ghost turns = { λ host. host.turns };
 
-    ghost state = { λ host pages. None };
+    ghost state = { λ host pages. Some (record {
+      first = host.first;
+      second = host.second;
+      asked = pages.asked;
+    }) };
 
-    ghost meaning = { silent };
+    ghost meaning = { small };
 
-    ghost faults = { λ pages. pages.faults };
+    ghost faults = { λ pages. pages.asked };
 
-    ghost fetches = { λ pages. 0 };
+    ghost fetches = { λ pages. pages.asked };
 
-    ghost fetched = { λ state. None };
+    ghost fetched = { λ state. Some state.asked };
 
-    ghost kept = { λ one two. ⊤ };
+    ghost kept = { λ one two. one.asked ≤ two.asked };
 
     fn turn(&mut self) -> bool {
         if self.turns == 0 {
@@ -144,15 +118,12 @@ impl Host<FailingPages> for SmallHost {
         function: &Text,
         count: u8,
         depth: u32,
-    ) -> Result<Found<Arc<Verified, Global>>, RunErr> {
+    ) -> Result<Found<Shared<Verified>>, RunErr> {
         let Some(unit) = self.unit_at(target) else {
             return Ok(Found::Not(Fatal::NoUnit));
         };
         match callable(unit, function, count, depth) {
-            Ok(index) => match Arc::try_clone(unit) {
-                Ok(unit) => Ok(Found::Callee(unit, caller.copy(self.alloc)?, index)),
-                Err(_) => Err(RunErr::NoMemory),
-            },
+            Ok(index) => Ok(Found::Callee(unit.share()?, caller.copy(self.alloc)?, index)),
             Err(why) => Ok(Found::Not(why)),
         }
     }
@@ -167,22 +138,23 @@ impl Host<FailingPages> for SmallHost {
         arguments: Vec<Value>,
     ) -> Result<HostOut, RunErr> {
         if library == ASKS_PAGES {
-            pages.faults = pages.faults.saturating_add(1);
+            pages.asked = pages.asked.saturating_add(1);
             return Err(RunErr::Store);
         }
-        match result_of(library, function, arguments) {
+        match answer(self.alloc, library, function, &arguments)? {
             Some(out) => Ok(out),
             None => Ok(HostOut::Value(Value::Invalid)),
         }
     }
 
-    ghost counted = { λ host pages. tt };
+    ghost counted = { λ host pages. λ i. pages.asked };
 
-    ghost kept_still = { λ pages. tt };
+    ghost kept_still = { λ pages. still pages.asked };
 
-    ghost kept_then = { λ one two three first second. tt };
+    ghost kept_then = { λ one two three first second.
+        both one.asked two.asked three.asked first second };
 
-    ghost external_grows = { λ before caller target name count depth. tt };
+    ghost external_grows = { λ before caller target name count depth. still before.asked };
 
-    ghost library_grows = { λ before base referer library function arguments. tt };
+    ghost library_grows = { library_grows };
 }

@@ -3,10 +3,10 @@ ghost use Rattle.wap_unit.specs.Spelling.{HasSpelling};
 
 use crate::units::{read_unit, unit_of};
 use std::alloc::Global;
-use std::sync::Arc;
 use wap_base::Bytes;
 use wap_casebook::{Call, CaseFault};
 use wap_code::Unit;
+use wap_shared::Shared;
 use wap_verify::{Verified, VerifyFault, verify};
 
 /// Gives the name of a fault and its place.
@@ -71,9 +71,9 @@ pub fn read_and_verify(call: &mut Call) -> Result<(), CaseFault> {
 }
 
 /// The unit that bytes spell, where it may be run.
-pub fn verified_of(alloc: Global, bytes: &Bytes) -> Result<Arc<Verified, Global>, CaseFault> {
+pub fn verified_of(alloc: Global, bytes: &Bytes) -> Result<Shared<Verified>, CaseFault> {
     match verify(alloc, unit_of(alloc, bytes)?) {
-        Ok(verified) => Ok(Arc::new(alloc, verified)?),
+        Ok(verified) => Ok(Shared::new(alloc, verified)?),
         Err((_, VerifyFault::NoMemory)) => Err(CaseFault::NoMemory),
         Err(_) => Err(CaseFault::Argument),
     }

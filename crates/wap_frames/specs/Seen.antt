@@ -1,6 +1,5 @@
 -- The machine's types as the definitions see them. This project's own.
 use Rattle.std.specs.Prelude.{ℕ, List, reverse, slice_set, Option}
-use Rattle.std.specs.Arc.{arc_value}
 use Rattle.wap_value.specs.declared.value.Value.{Value}
 use Rattle.wap_url.specs.declared.url.Url.{Url}
 use Rattle.wap_code.specs.declared.unit.Unit.{Unit}
@@ -24,7 +23,7 @@ function_in unit base referer index = record {
 
 -- the function of a script with this index
 abbrev pub function_of : Script → ℕ → Function
-function_of script index = function_in (arc_value script.unit) script.base script.referer index
+function_of script index = function_in script.unit script.base script.referer index
 
 -- a frame whose operands lie in a list with the topmost last
 abbrev pub frame_of : Function → ℕ → List Value → List Value → Frame

@@ -1,7 +1,6 @@
 //! Functions at work.
 ghost use Rattle.std.specs.Prelude.{◌≡◌, [], ◌++◌, replicate, ◌+◌, ◌<◌, ◌≤◌, length, take, drop};
 ghost use Rattle.std.specs.Prelude.{reverse, slice_get, Some, IsTrue, ◌↔◌, IfOk, OnOk, MatchOption};
-ghost use Rattle.std.specs.Arc.{arc_value};
 ghost use Rattle.wap_execution.specs.Frames.{code_of, pushed};
 ghost use Rattle.wap_base.specs.Limits.{IsStringLimit};
 ghost use Rattle.wap_base.specs.Outcome.{Meets};
@@ -17,15 +16,15 @@ use crate::script::Script;
 use std::alloc::Global;
 use std::marker::Model;
 use std::mem;
-use std::sync::Arc;
 use wap_base::{NoMemory, Text};
+use wap_shared::Shared;
 use wap_value::{BinOp, Value, ValueFault, binary};
 use wap_verify::Verified;
 
 /// A function at work. A contract sees its operands with the topmost first.
 #[derive(Drop)]
 pub struct Frame {
-    script: Arc<Script, Global>,
+    script: Shared<Script>,
     index: u8,
     place: usize,
     variables: Vec<Value>,
@@ -35,30 +34,29 @@ pub struct Frame {
 
 impl Model for Frame {
     ghost use Rattle.std.specs.Prelude.{vec_capacity};
-    ghost use Rattle.std.specs.Arc.{arc_value};
     ghost use Rattle.wap_execution.specs.Frames.{Frame};
     ghost use Rattle.wap_frames.specs.Seen.{function_of, frame_of};
     ghost use Rattle.wap_frames.specs.Standing.{HasRoom};
 
     ghost Value = { Frame };
 
-    ghost view = { λ frame. frame_of (function_of (arc_value frame.script) frame.index)
+    ghost view = { λ frame. frame_of (function_of frame.script frame.index)
         frame.place frame.variables.items frame.operands.items };
 
     ghost invariant = { λ frame. HasRoom
-        (function_of (arc_value frame.script) frame.index) (vec_capacity frame.operands) };
+        (function_of frame.script frame.index) (vec_capacity frame.operands) };
 }
 
 impl Frame {
     /// A function at its beginning.
     pub fn begin(
         alloc: Global,
-        script: Arc<Script, Global>,
+        script: Shared<Script>,
         index: u8,
         arguments: Vec<Value>,
     ) -> Result<Frame, NoMemory>
-        requires { CanEnter (function_of (arc_value script) index) arguments.items }
-        ensures { IfOk result (IsBegun (function_of (arc_value script) index) arguments.items) }
+        requires { CanEnter (function_of script index) arguments.items }
+        ensures { IfOk result (IsBegun (function_of script index) arguments.items) }
     {
         let Some(function) = script.unit.unit().functions.get(index as usize) else {
             unreachable!()
@@ -75,8 +73,8 @@ impl Frame {
     }
 
     /// The unit with its URLs.
-    pub fn script(&self) -> &Arc<Script, Global>
-        ensures { function_of (arc_value result.now) self.now.function.index ≡ self.now.function }
+    pub fn script(&self) -> &Shared<Script>
+        ensures { function_of result.now self.now.function.index ≡ self.now.function }
     {
         &self.script
     }

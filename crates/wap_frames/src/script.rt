@@ -1,6 +1,5 @@
 //! Units at work.
-use std::alloc::Global;
-use std::sync::Arc;
+use wap_shared::Shared;
 use wap_url::Url;
 use wap_verify::Verified;
 
@@ -8,7 +7,7 @@ use wap_verify::Verified;
 #[derive(Drop)]
 pub struct Script {
     /// What runs; functions that are at work share it.
-    pub unit: Arc<Verified, Global>,
+    pub unit: Shared<Verified>,
     /// The unit's URL, to which its references are joined.
     pub base: Url,
     /// The URL of the unit that called it, if one did.

@@ -1,7 +1,5 @@
 -- What machines are promised by their hosts. This project's own.
 use Rattle.std.specs.Prelude.{⊤, ◌≡◌, ◌≢◌, ℕ, ◌<◌, ◌≤◌, Option, Some, None, IfSome, slice_get}
-use Rattle.std.specs.declared.sync.Arc.{Arc}
-use Rattle.std.specs.Arc.{arc_value}
 use Rattle.wap_base.specs.Count.{Rose}
 use Rattle.wap_base.specs.declared.limits.TheConstants.{MOST_DEPTH}
 use Rattle.wap_code.specs.declared.unit.Unit.{Unit}
@@ -11,11 +9,6 @@ use Rattle.wap_execution.specs.declared.found.Found.{Found}
 use Rattle.wap_execution.specs.declared.found.Found.TheVariants.{Callee, Not}
 use Rattle.wap_execution.specs.declared.library.HostOut.{HostOut}
 use Rattle.wap_execution.specs.declared.library.HostOut.TheVariants.{Value, Exit, Fatal, Asks}
-
--- what was found, with the unit itself
-abbrev pub found_of : {Z : Type 0} → Found (Arc Unit Z) → Found Unit
-found_of (Callee unit base index) = Callee (arc_value unit) base index
-found_of (Not why) = Not why
 
 -- what was answered and the state after it are these
 pub record Gives {A S : Type 0} (means : A × S) (answer : A) (after : Option S) : Type 0 where

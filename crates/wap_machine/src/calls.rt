@@ -2,16 +2,15 @@
 ghost use Rattle.std.specs.Prelude.{◌≡◌, List, ◌∷◌, length, IfOk};
 ghost use Rattle.wap_execution.specs.Frames.{Frame as TheFrame};
 ghost use Rattle.wap_execution.specs.Effects.{local};
-ghost use Rattle.wap_machine.specs.Hosts.{found_of, IsCallable};
+ghost use Rattle.wap_machine.specs.Hosts.{IsCallable};
 ghost use Rattle.wap_machine.specs.inside.Efforts.{IsLight};
 ghost use Rattle.wap_machine.specs.inside.Steps.{CanCallFrom, goes_with, GoesLocally, GoesFound};
 
 use crate::machine::{Outcome, Step, Waiting};
-use std::alloc::Global;
-use std::sync::Arc;
 use wap_base::NoMemory;
 use wap_execution::{Fatal, Found, HostOut};
 use wap_frames::Script;
+use wap_shared::Shared;
 use wap_value::Value;
 use wap_verify::Verified;
 
@@ -28,7 +27,7 @@ pub(crate) fn enter_local(
     if waiting.depth() >= waiting.limits().depth as usize {
         return Ok(Step::Ends(Outcome::Fatal(Fatal::Depth)));
     }
-    let script = Arc::try_clone(waiting.frame().script())?;
+    let script = waiting.frame().script().share()?;
     Ok(Step::Goes(waiting.enter(script, index, arguments)?))
 }
 
@@ -48,14 +47,14 @@ pub(crate) fn go_with(waiting: Waiting, out: HostOut) -> Step
 /// Goes into a function of another unit, if one was found.
 pub(crate) fn enter_found(
     waiting: Waiting,
-    found: Found<Arc<Verified, Global>>,
+    found: Found<Shared<Verified>>,
     arguments: Vec<Value>,
 ) -> Result<Step, NoMemory>
-    requires { IsCallable (length arguments.items) (length waiting.frames) (found_of found) }
+    requires { IsCallable (length arguments.items) (length waiting.frames) found }
     ensures goes { IfOk result (λ step. (frame : TheFrame) (outer : List TheFrame)
         → waiting.frames ≡ frame ∷ outer
         → GoesFound waiting.limits waiting.frames frame.function.base
-        (found_of found) arguments.items step) }
+        found arguments.items step) }
     ensures light { IfOk result IsLight }
 {
     match found {
@@ -68,7 +67,7 @@ pub(crate) fn enter_found(
                 base,
                 referer: Some(caller),
             };
-            let script = Arc::new(alloc, script)?;
+            let script = Shared::new(alloc, script)?;
             Ok(Step::Goes(waiting.enter(script, index, arguments)?))
         }
     }

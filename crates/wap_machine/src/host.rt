@@ -7,12 +7,11 @@ ghost use Rattle.wap_url.specs.declared.url.Url.{Url as TheUrl};
 ghost use Rattle.wap_value.specs.declared.value.Value.{Value as TheValue};
 ghost use Rattle.wap_code.specs.Libraries.{lib_args};
 ghost use Rattle.wap_execution.specs.Outcomes.{Hosting};
-ghost use Rattle.wap_machine.specs.Hosts.{Gives, Grows, Fetches, found_of, IsCallable, IsNoBudget};
+ghost use Rattle.wap_machine.specs.Hosts.{Gives, Grows, Fetches, IsCallable, IsNoBudget};
 
-use std::alloc::Global;
-use std::sync::Arc;
 use wap_base::{RunErr, Text};
 use wap_execution::{Found, HostOut};
+use wap_shared::Shared;
 use wap_url::Url;
 use wap_value::Value;
 use wap_verify::Verified;
@@ -63,12 +62,12 @@ pub trait Host<P> {
         function: &Text,
         count: u8,
         depth: u32,
-    ) -> Result<Found<Arc<Verified, Global>>, RunErr>
+    ) -> Result<Found<Shared<Verified>>, RunErr>
         // What is known is so, and stays known.
         ensures told { IfOk result (λ found. IfSome (state self.old pages.old) (λ before. Gives
             (meaning.external before caller.now target.now function.now count depth)
-            (found_of found) (state self.new pages.new))) }
-        ensures callable { IfOk result (λ found. IsCallable count depth (found_of found)) }
+            found (state self.new pages.new))) }
+        ensures callable { IfOk result (λ found. IsCallable count depth found) }
         ensures turns { turns self.new ≡ turns self.old }
 
         ensures kept { kept pages.old pages.new }

@@ -1,7 +1,6 @@
 //! Machines, and machines that wait.
 ghost use Rattle.std.specs.Prelude.{◌≡◌, [], ◌∷◌, ◌<◌, ◌≤◌, length, reverse, IfOk};
 ghost use Rattle.std.specs.List.{AllByRecursion};
-ghost use Rattle.std.specs.Arc.{arc_value};
 ghost use Rattle.wap_base.specs.declared.limits.TheConstants.{MOST_DEPTH};
 ghost use Rattle.wap_base.specs.Limits.{AreInRange};
 ghost use Rattle.wap_frames.specs.Seen.{function_in, function_of};
@@ -16,10 +15,10 @@ ghost use Rattle.wap_machine.specs.inside.Advances.{gives, wanted_for, IsAdvance
 use crate::going::go_on;
 use std::alloc::Global;
 use std::marker::Model;
-use std::sync::Arc;
 use wap_base::{Limits, NoMemory};
 use wap_execution::{Dialog, Fatal};
 use wap_frames::{Callee, Frame, Next, Script};
+use wap_shared::Shared;
 use wap_url::Url;
 use wap_value::Value;
 use wap_verify::Verified;
@@ -176,7 +175,7 @@ impl Machine {
     /// A function of a unit at its beginning.
     pub fn start(
         alloc: Global,
-        unit: Arc<Verified, Global>,
+        unit: Shared<Verified>,
         base: Url,
         referer: Option<Url>,
         function: u8,
@@ -184,17 +183,17 @@ impl Machine {
         limits: Limits,
     ) -> Result<Machine, NoMemory>
         requires function { CanEnter
-            (function_in (arc_value unit) base referer function) args.items }
+            (function_in unit base referer function) args.items }
         requires limits { AreInRange limits }
         ensures { IfOk result (IsEntered limits
-            (function_in (arc_value unit) base referer function) args.items []) }
+            (function_in unit base referer function) args.items []) }
     {
         let script = Script {
             unit,
             base,
             referer,
         };
-        let script = Arc::new(alloc, script)?;
+        let script = Shared::new(alloc, script)?;
         let frame = Frame::begin(alloc, script, function, args)?;
         Ok(Machine {
             alloc,
@@ -236,14 +235,14 @@ impl Waiting {
     /// The machine that goes into a function.
     pub(crate) fn enter(
         self,
-        script: Arc<Script, Global>,
+        script: Shared<Script>,
         index: u8,
         arguments: Vec<Value>,
     ) -> Result<Machine, NoMemory>
         requires few { length self.frames < MOST_DEPTH }
-        requires function { CanEnter (function_of (arc_value script) index) arguments.items }
+        requires function { CanEnter (function_of script index) arguments.items }
         ensures is { IfOk result (IsEntered self.limits
-            (function_of (arc_value script) index) arguments.items self.frames) }
+            (function_of script index) arguments.items self.frames) }
         ensures light { IfOk result (λ machine. weight machine.frames < heavy) }
     {
         let Waiting {

@@ -8,7 +8,7 @@ use Rattle.wap_execution.specs.Frames.{Function, Frame}
 use Rattle.wap_execution.specs.Effects.{external}
 use Rattle.wap_frames.specs.declared.script.Script.{Script}
 use Rattle.wap_machine.specs.declared.machine.Step.{Step}
-use Rattle.wap_machine.specs.Hosts.{Gives, Fetches, IsCallable, found_of}
+use Rattle.wap_machine.specs.Hosts.{Gives, Fetches, IsCallable}
 use Rattle.wap_execution_laws.specs.Settings.{uncounted}
 use Rattle.wap_machine.specs.inside.Steps.{rest, Same, calls_from, GoesFound}
 use Rattle.wap_machine.proofs.CallLaws.{external_told, external_fetches, found_order}
@@ -33,23 +33,23 @@ returns-clause-told g c =
     let told =
     subst
     (λ (d : ℕ). IfSome old (λ before. Gives (g.H.Host.meaning.external before frame.function.base
-    c.args.url c.args.name (length items) d) (found_of c.in_ok-found.found) new)) depth
+    c.args.url c.args.name (length items) d) c.in_ok-found.found new)) depth
     (subst
     (λ (n : ℕ). IfSome old (λ before. Gives (g.H.Host.meaning.external before frame.function.base
-    c.args.url c.args.name n c.depth-depth.result) (found_of c.in_ok-found.found) new)) count
+    c.args.url c.args.name n c.depth-depth.result) c.in_ok-found.found new)) count
     (subst (λ (b : Url). IfSome old (λ before. Gives (g.H.Host.meaning.external before b c.args.url
-    c.args.name c.len-count.result c.depth-depth.result) (found_of c.in_ok-found.found) new))
+    c.args.name c.len-count.result c.depth-depth.result) c.in_ok-found.found new))
     base c.in_ok-found.ensures.told)) in
     let callable =
-    subst (λ (d : ℕ). IsCallable (length items) d (found_of c.in_ok-found.found)) depth (subst (λ (n : ℕ).
-    IsCallable n c.depth-depth.result (found_of c.in_ok-found.found)) count c.in_ok-found.ensures.callable) in
+    subst (λ (d : ℕ). IsCallable (length items) d c.in_ok-found.found) depth (subst (λ (n : ℕ).
+    IsCallable n c.depth-depth.result c.in_ok-found.found) count c.in_ok-found.ensures.callable) in
     let goes =
     subst (λ (l : List Frame). GoesFound c.args.waiting.limits l frame.function.base
-    (found_of c.in_ok-found.found) items c.in_ok-enter_found.field-0) are
+    c.in_ok-found.found items c.in_ok-enter_found.field-0) are
     (c.in_ok-enter_found.ensures.goes frame outer are) in
     let same =
     external_told set frame outer items turns c.args.url c.args.name
-    (found_of c.in_ok-found.found) c.in_ok-enter_found.field-0 old new told callable goes in
+    c.in_ok-found.found c.in_ok-enter_found.field-0 old new told callable goes in
     subst (λ (l : List Frame). Same (calls_from set l (external c.args.url c.args.name) items turns)
     old (rest set c.in_ok-enter_found.field-0 (g.H.Host.turns c.external.new.self)) new) (sym are)
     (subst (λ (n : ℕ). Same (calls_from set (frame ∷ outer) (external c.args.url c.args.name)
@@ -58,7 +58,7 @@ returns-clause-told g c =
 pub returns-clause-order : goal.returns-clause-order
 returns-clause-order g c =
     found_order c.args.waiting.limits c.args.waiting.frames c.frame.result.now.function.base
-    (found_of c.in_ok-found.found)
+    c.in_ok-found.found
     c.args.arguments.items c.in_ok-enter_found.field-0 c.len-count.result c.depth-depth.result
     c.in_ok-found.ensures.callable (c.in_ok-enter_found.ensures.goes c.frame.result.now
     c.frame.ensures.outer c.frame.ensures.are) c.in_ok-enter_found.ensures.light
@@ -106,7 +106,7 @@ returns-clause-grown g c =
     g.H.Host.meaning.external before c.deref.result.now.base c.args.url c.args.name
     c.len-count.result c.depth-depth.result)
     (g.H.Host.state c.args.host.now c.args.pages.now) (g.H.Host.state c.external.new.self
-    c.external.new.pages) (found_of c.in_ok-found.found) c.in_ok-found.ensures.told
+    c.external.new.pages) c.in_ok-found.found c.in_ok-found.ensures.told
     (λ before.
     g.met.H.Host.external_grows before c.deref.result.now.base c.args.url c.args.name
     c.len-count.result c.depth-depth.result)

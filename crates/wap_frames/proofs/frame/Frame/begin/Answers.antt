@@ -1,5 +1,4 @@
 use Rattle.std.proofs.Common.{◌≡◌, ◌∙◌, ap, subst, arith, slice_get, Some}
-use Rattle.std.specs.Arc.{arc_value}
 use Rattle.wap_code.specs.declared.unit.Unit.{Unit as CodeUnit}
 use Rattle.wap_code.specs.declared.unit.Code.{Code}
 use Rattle.wap_verify.specs.Sound.{IsRoom}
@@ -8,8 +7,8 @@ use Rattle.wap_frames.proofs.frame.Frame.begin.Goals as goal
 
 pub invariant_of-result : goal.invariant_of-result
 invariant_of-result c =
-    let unit : c.deref-4.result.now ≡ arc_value (arc_value c.args.script).unit =
-    c.deref-4.ensures ∙ ap (λ (s : Script). arc_value s.unit) c.deref-3.ensures in
+    let unit : c.deref-4.result.now ≡ c.args.script.unit =
+    c.deref-4.ensures ∙ ap (λ (s : Script). s.unit) c.deref-3.ensures in
     let room =
     subst (λ (u : CodeUnit). (code : Code)
     → slice_get u.functions c.args.index ≡ Some code

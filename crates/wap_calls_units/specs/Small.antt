@@ -1,0 +1,115 @@
+-- What a small host finds and answers. This project's own.
+use Rattle.std.specs.Prelude.{ℕ, ◌+◌, ◌==◌, nat_le, List, Option, Some, None, Result, Ok, Err, not}
+use Rattle.std.specs.Prelude.{if◌then◌else◌, bytes_eq, codes, encode_utf8_all, slice_get}
+use Rattle.std.specs.Prelude.{option_map, option_and_then}
+use Rattle.std.specs.Option.{option_map_or}
+use Rattle.wap_value.specs.declared.value.Value.{Value as Given}
+use Rattle.wap_value.specs.declared.value.Value.TheVariants.{Int, Bool, Str, Invalid}
+use Rattle.wap_url.specs.declared.url.Url.{Url}
+use Rattle.wap_code.specs.declared.unit.Unit.{Unit}
+use Rattle.wap_code.specs.declared.unit.Code.{Code}
+use Rattle.wap_verify.specs.Kept.{function_named}
+use Rattle.wap_execution.specs.declared.dialog.Dialog.{Dialog}
+use Rattle.wap_execution.specs.declared.dialog.Dialog.TheVariants.{Prompt, Confirm, Alert}
+use Rattle.wap_execution.specs.declared.fatal.Fatal.{Fatal as Why}
+use Rattle.wap_execution.specs.declared.fatal.Fatal.TheVariants as why
+use Rattle.wap_execution.specs.declared.found.Found.{Found}
+use Rattle.wap_execution.specs.declared.found.Found.TheVariants.{Callee, Not}
+use Rattle.wap_execution.specs.declared.library.HostOut.{HostOut}
+use Rattle.wap_execution.specs.declared.library.HostOut.TheVariants.{Value, Exit, Fatal, Asks}
+use Rattle.wap_execution.specs.Outcomes.{Hosting}
+
+-- the units of the URLs `first` and `second`, and how often the pages were asked
+pub record Small : Type 0 where
+  pub first : Unit
+  pub second : Option Unit
+  pub asked : ℕ
+
+-- ---- functions of other units
+
+-- the unit of a URL, if it is one of the two
+abbrev pub unit_at : Unit → Option Unit → List ℕ → Option Unit
+unit_at first second url =
+    if bytes_eq (encode_utf8_all url) (codes "first") then Some first
+    else if bytes_eq (encode_utf8_all url) (codes "second") then second
+    else None
+
+-- the function takes so many arguments, and one more may be at work
+abbrev pub callable_as : ℕ → ℕ → ℕ → Option Code → Result ℕ Why
+callable_as count working index None = Err why.NoFunction
+callable_as count working index (Some code) =
+    if not (code.args == count) then Err why.Arguments
+    else if nat_le 255 working then Err why.Depth
+    else Ok index
+
+-- the function of an entry, if there is one
+abbrev pub callable_at : Unit → ℕ → ℕ → Option ℕ → Result ℕ Why
+callable_at unit count working None = Err why.NoFunction
+callable_at unit count working (Some index) =
+    callable_as count working index (slice_get unit.functions index)
+
+-- the function of a name, or why it may not be called
+abbrev pub callable : Unit → List ℕ → ℕ → ℕ → Result ℕ Why
+callable unit name count working = callable_at unit count working (function_named unit name)
+
+-- what was found in a unit; its URL is that of the caller
+abbrev pub found_as : Unit → Url → Result ℕ Why → Found Unit
+found_as unit base (Ok index) = Callee unit base index
+found_as unit base (Err refused) = Not refused
+
+-- what was found where there may be a unit
+abbrev pub found_in : Option Unit → Url → List ℕ → ℕ → ℕ → Found Unit
+found_in None base name count working = Not why.NoUnit
+found_in (Some unit) base name count working = found_as unit base (callable unit name count working)
+
+-- ---- libraries
+
+-- the characters of a value that is a String
+abbrev pub text_of : Given → Option (List ℕ)
+text_of (Int number) = None
+text_of (Bool truth) = None
+text_of (Str text) = Some text
+text_of Invalid = None
+
+-- the characters of an argument that is a String
+abbrev pub text_at : List Given → ℕ → Option (List ℕ)
+text_at arguments index = option_and_then text_of (slice_get arguments index)
+
+-- what a function of the library Dialogs asks, where its arguments are Strings
+abbrev pub dialog_of : ℕ → List Given → Option Dialog
+dialog_of function arguments = option_and_then (λ message.
+    if function == 0 then option_map (λ first. Prompt message first) (text_at arguments 1)
+    else if function == 1 then option_and_then (λ yes.
+    option_map (λ no. Confirm message yes no) (text_at arguments 2)) (text_at arguments 1)
+    else Some (Alert message)) (text_at arguments 0)
+
+-- `exit` and `abort` of the library Lang, which end the script
+abbrev pub end_of : ℕ → List Given → Option HostOut
+end_of function arguments =
+    if function == 10 then option_map (λ value. Exit value) (slice_get arguments 0)
+    else if function == 11
+    then option_map (λ message. Fatal (why.Aborted message)) (text_at arguments 0)
+    else None
+
+-- what ends the script or asks its user, if the call does
+abbrev pub answer_of : ℕ → ℕ → List Given → Option HostOut
+answer_of library function arguments =
+    if library == 0 then end_of function arguments
+    else if library == 5 then option_map (λ dialog. Asks dialog) (dialog_of function arguments)
+    else None
+
+-- ---- the host
+
+-- functions of the library WMLBrowser ask the pages; other calls that don't end the script or ask
+-- its user give invalid
+abbrev pub small : Hosting Small
+small = record {
+  external = λ state caller url name count working.
+      (found_in (unit_at state.first state.second url) caller name count working, state);
+  library = λ state base referer library function arguments.
+      if library == 4 then (Value Invalid, record state { asked = state.asked + 1 })
+      else (
+        option_map_or (λ out. out) (answer_of library function arguments) (Value Invalid),
+        state,
+      );
+}
