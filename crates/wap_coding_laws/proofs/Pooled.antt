@@ -1,0 +1,185 @@
+-- What is needed stands in the pool, under its number.
+use Rattle.std.proofs.Common.{◌≡◌, ℕ, zero, suc, Bool, true, false, ◌||◌, cond, ltb, List, [], ◌∷◌}
+use Rattle.std.proofs.Common.{◌++◌, map, ℤ, pos, negsuc, Some, refl, sym, ap, ◌∙◌}
+use Rattle.std.proofs.Common.{slice_get, option_and_then, option_map}
+use Rattle.std.specs.Cmp.{signed_Decides}
+use Rattle.std.specs.Cmp.Lexicographic.{bytes_decides}
+use Rattle.wap_value.specs.declared.value.Value.TheVariants.{Int}
+use Rattle.wap_code.specs.declared.unit.Unit.{Unit as CodeUnit}
+use Rattle.wap_code.specs.declared.unit.Constant.{Constant}
+use Rattle.wap_code.specs.Strings.{string_of, string_at}
+use Rattle.wap_program.specs.declared.expression.Literal.{Literal}
+use Rattle.wap_execution.specs.Frames.{constant_of, constant_at}
+use Rattle.wap_meaning.specs.Expressions.{value_of}
+use Rattle.wap_coding.specs.Constants.{same_literal, is_in, place_in, with_literal, pooled}
+use Rattle.wap_coding.specs.Constants.{integer_constant, constant_for, HasPool}
+use Rattle.wap_program.specs.declared.expression.Literal.TheVariants as literal
+
+-- ---- literals of a pool
+
+-- literals that may be constants
+abbrev pub IsPoolable : Literal → Type 0
+IsPoolable (literal.Int z) = Unit {0}
+IsPoolable (literal.Str text) = Unit {0}
+IsPoolable _ = ⊥
+
+-- literals that are one constant are the same
+same_is : (l x : Literal) → same_literal l x ≡ true → l ≡ x
+same_is (literal.Int a) (literal.Int b) same = ap literal.Int ((signed_Decides a b).0 same)
+same_is (literal.Str s) (literal.Str t) same = ap literal.Str ((bytes_decides s t).0 same)
+same_is _ _ same = absurd (cc same)
+
+-- a literal is one constant with itself
+is_same : (l : Literal) → IsPoolable l → same_literal l l ≡ true
+is_same (literal.Int a) able = (signed_Decides a a).1 refl
+is_same (literal.Str s) able = (bytes_decides s s).1 refl
+is_same literal.Float able = absurd able
+is_same (literal.Bool truth) able = absurd able
+is_same literal.Invalid able = absurd able
+
+-- what is in the pool stands at its place
+stands : (l : Literal) (pool : List Literal) → is_in l pool ≡ true
+    → slice_get pool (place_in l pool) ≡ Some l
+stands l [] there = absurd (cc there)
+stands l (x ∷ pool) there = by (same_literal l x) refl there (stands l pool)
+  where
+    by : (same : Bool) → same_literal l x ≡ same → (same || is_in l pool) ≡ true
+        → (is_in l pool ≡ true → slice_get pool (place_in l pool) ≡ Some l)
+        → slice_get (x ∷ pool) (cond same 0 (suc (place_in l pool))) ≡ Some l
+    by true same there further = ap Some (sym (same_is l x same))
+    by false same there further = further there
+
+-- what is in a pool is in a longer one
+in_more : (l : Literal) (pool more : List Literal) → is_in l pool ≡ true
+    → is_in l (pool ++ more) ≡ true
+in_more l [] more there = absurd (cc there)
+in_more l (x ∷ pool) more there = by (same_literal l x) there (in_more l pool more)
+  where
+    by : (same : Bool) → (same || is_in l pool) ≡ true
+        → (is_in l pool ≡ true → is_in l (pool ++ more) ≡ true)
+        → (same || is_in l (pool ++ more)) ≡ true
+    by true there further = refl
+    by false there further = further there
+
+-- what is added at the end is in the pool
+in_last : (l : Literal) → IsPoolable l → (pool : List Literal) → is_in l (pool ++ l ∷ []) ≡ true
+in_last l able [] = ap (λ (b : Bool). b || false) (is_same l able)
+in_last l able (x ∷ pool) = by (same_literal l x) (in_last l able pool)
+  where
+    by : (same : Bool) → is_in l (pool ++ l ∷ []) ≡ true
+        → (same || is_in l (pool ++ l ∷ [])) ≡ true
+    by true further = refl
+    by false further = further
+
+-- what is in a pool stays in it
+kept : (l x : Literal) (pool : List Literal) → is_in l pool ≡ true
+    → is_in l (with_literal pool x) ≡ true
+kept l x pool there = by (is_in x pool)
+  where
+    by : (known : Bool) → is_in l (cond known pool (pool ++ x ∷ [])) ≡ true
+    by true = there
+    by false = in_more l pool (x ∷ []) there
+
+-- what is added is in it
+added : (l : Literal) → IsPoolable l → (pool : List Literal) → is_in l (with_literal pool l) ≡ true
+added l able pool = by (is_in l pool) refl
+  where
+    by : (known : Bool) → is_in l pool ≡ known → is_in l (cond known pool (pool ++ l ∷ [])) ≡ true
+    by true there = there
+    by false there = in_last l able pool
+
+-- what is in a pool stays in it, however many are added
+pub kept_on : (l : Literal) (pool more : List Literal) → is_in l pool ≡ true
+    → is_in l (pooled pool more) ≡ true
+kept_on l pool [] there = there
+kept_on l pool (x ∷ more) there = kept_on l (with_literal pool x) more (kept l x pool there)
+
+-- each of the literals is in their pool
+abbrev pub AllIn : List Literal → List Literal → Type 0
+AllIn pool [] = Unit {0}
+AllIn pool (l ∷ more) = (IsPoolable l → is_in l pool ≡ true) × AllIn pool more
+
+-- what is in a pool is in one that has all of it
+in_longer : (pool : List Literal) (needed more : List Literal)
+    → ((l : Literal) → IsPoolable l → is_in l pool ≡ true → is_in l more ≡ true)
+    → AllIn pool needed → AllIn more needed
+in_longer pool [] more grows all = tt
+in_longer pool (l ∷ needed) more grows all =
+    (λ able. grows l able (all.0 able), in_longer pool needed more grows all.1)
+
+-- all that are added are in the pool
+pub all_in : (pool needed : List Literal) → AllIn (pooled pool needed) needed
+all_in pool [] = tt
+all_in pool (l ∷ needed) = (
+  λ able. kept_on l (with_literal pool l) needed (added l able pool),
+  all_in (with_literal pool l) needed,
+)
+
+-- ---- constants
+
+-- the constant of an integer has its value
+integer_is : (charset : ℕ) (z : ℤ) → constant_of charset (integer_constant z) ≡ Some (Int z)
+integer_is charset (pos n) = by (ltb n 128) (ltb n 32768)
+  where
+    by : (short medium : Bool) → constant_of charset (cond short
+        (Rattle.wap_code.specs.declared.unit.Constant.TheVariants.Int8 (pos n)) (cond medium
+        (Rattle.wap_code.specs.declared.unit.Constant.TheVariants.Int16 (pos n))
+        (Rattle.wap_code.specs.declared.unit.Constant.TheVariants.Int32 (pos n))))
+        ≡ Some (Int (pos n))
+    by true medium = refl
+    by false true = refl
+    by false false = refl
+integer_is charset (negsuc n) = by (ltb n 128) (ltb n 32768)
+  where
+    by : (short medium : Bool) → constant_of charset (cond short
+        (Rattle.wap_code.specs.declared.unit.Constant.TheVariants.Int8 (negsuc n)) (cond medium
+        (Rattle.wap_code.specs.declared.unit.Constant.TheVariants.Int16 (negsuc n))
+        (Rattle.wap_code.specs.declared.unit.Constant.TheVariants.Int32 (negsuc n))))
+        ≡ Some (Int (negsuc n))
+    by true medium = refl
+    by false true = refl
+    by false false = refl
+
+-- the constant of a literal has its value
+constant_is : (charset : ℕ) (l : Literal) → IsPoolable l
+    → constant_of charset (constant_for l) ≡ Some (value_of l)
+constant_is charset (literal.Int z) able = integer_is charset z
+constant_is charset (literal.Str []) able = refl
+constant_is charset (literal.Str (c ∷ cs)) able = refl
+constant_is charset literal.Float able = absurd able
+constant_is charset (literal.Bool truth) able = absurd able
+constant_is charset literal.Invalid able = absurd able
+
+-- the constant of a text is this text
+text_is : (charset : ℕ) (t : List ℕ) → string_of charset (constant_for (literal.Str t)) ≡ Some t
+text_is charset [] = refl
+text_is charset (c ∷ cs) = refl
+
+-- what stands in a list stands in what it is mapped to
+mapped : {X Y : Type 0} (f : X → Y) (xs : List X) (i : ℕ) (x : X) → slice_get xs i ≡ Some x
+    → slice_get (map f xs) i ≡ Some (f x)
+mapped f [] i x is = absurd (cc is)
+mapped f (y ∷ xs) zero x is = ap (option_map f) is
+mapped f (y ∷ xs) (suc i) x is = mapped f xs i x is
+
+module _ (u : CodeUnit) (pool : List Literal) (has : HasPool u pool) where
+  -- a literal of the pool has its constant under its number
+  constant_there : (l : Literal) → is_in l pool ≡ true
+      → slice_get u.constants (place_in l pool) ≡ Some (constant_for l)
+  constant_there l there =
+      ap (λ (constants : List Constant). slice_get constants (place_in l pool)) has.constants
+      ∙ mapped constant_for pool (place_in l pool) l (stands l pool there)
+
+  -- a literal of the pool is the constant with its number
+  pub literal_at : (l : Literal) → IsPoolable l → is_in l pool ≡ true
+      → constant_at u (place_in l pool) ≡ Some (value_of l)
+  literal_at l able there =
+      ap (option_and_then (constant_of u.charset)) (constant_there l there)
+      ∙ constant_is u.charset l able
+
+  -- and so is a text
+  pub text_at : (t : List ℕ) → is_in (literal.Str t) pool ≡ true
+      → string_at u (place_in (literal.Str t) pool) ≡ Some t
+  text_at t there =
+      ap (option_and_then (string_of u.charset)) (constant_there (literal.Str t) there)
+      ∙ text_is u.charset t
