@@ -1,0 +1,63 @@
+-- What the operands of operations have to name, in a unit and a function with so many variables.
+use Rattle.std.proofs.Common.{◌≡◌, ℕ, ◌<◌, List, length, Option, Some, None}
+use Rattle.std.proofs.Common.{refl}
+use Rattle.std.proofs.Common.{option_and_then, option_map, slice_get}
+use Rattle.std.proofs.lemmas.Option.{slice_get_within}
+use Rattle.wap_value.specs.declared.value.Value.{Value}
+use Rattle.wap_code.specs.declared.unit.Unit.{Unit as CodeUnit}
+use Rattle.wap_code.specs.declared.unit.Code.{Code}
+use Rattle.wap_code.specs.declared.unit.Constant.{Constant}
+use Rattle.wap_code.specs.declared.row.OpName.{OpName}
+use Rattle.wap_code.specs.declared.row.OpName.TheVariants as op
+use Rattle.wap_code.specs.declared.row.Operands.{Operands}
+use Rattle.wap_code.specs.declared.row.Operands.TheVariants as operands
+use Rattle.wap_code.specs.declared.instr.Instr.{Instr}
+use Rattle.wap_code.specs.Libraries.{lib_args}
+use Rattle.wap_code.specs.Strings.{string_at}
+use Rattle.wap_execution.specs.Frames.{constant_of, constant_at}
+
+-- what the operands of an operation name; those of jumps name nothing
+abbrev pub kind_of : OpName → Operands
+kind_of op.LoadVar = operands.Variable
+kind_of op.StoreVar = operands.Variable
+kind_of op.IncrVar = operands.Variable
+kind_of op.DecrVar = operands.Variable
+kind_of op.AddAsg = operands.Variable
+kind_of op.SubAsg = operands.Variable
+kind_of op.LoadConst = operands.Constant
+kind_of op.Call = operands.Function
+kind_of op.CallLib = operands.Library
+kind_of op.CallUrl = operands.Address
+kind_of _ = operands.Plain
+
+-- what they name is there
+abbrev pub AreThere : CodeUnit → ℕ → Operands → Instr → Type 0
+AreThere unit count operands.Plain instr = Unit {0}
+AreThere unit count operands.Variable instr = instr.a < count
+AreThere unit count operands.Constant instr = instr.a < length unit.constants
+AreThere unit count operands.Function instr = instr.a < length unit.functions
+AreThere unit count operands.Library instr = (n : ℕ) × (lib_args instr.b instr.a ≡ Some n)
+AreThere unit count operands.Address instr =
+    ((url : List ℕ) × (string_at unit instr.a ≡ Some url))
+    × ((name : List ℕ) × (string_at unit instr.b ≡ Some name))
+
+-- a constant that has a value is there
+pub constant_within : (unit : CodeUnit) (index : ℕ) (v : Value) → constant_at unit index ≡ Some v
+    → index < length unit.constants
+constant_within unit index v is = by (slice_get unit.constants index) refl is
+  where
+    by : (o : Option Constant) → slice_get unit.constants index ≡ o
+        → option_and_then (constant_of unit.charset) o ≡ Some v → index < length unit.constants
+    by None here is = absurd (cc is)
+    by (Some c) here is = slice_get_within unit.constants index c here
+
+-- a function that takes so many arguments is there
+pub function_within : (unit : CodeUnit) (index count : ℕ)
+    → option_map (λ (code : Code). code.args) (slice_get unit.functions index) ≡ Some count
+    → index < length unit.functions
+function_within unit index count is = by (slice_get unit.functions index) refl is
+  where
+    by : (o : Option Code) → slice_get unit.functions index ≡ o
+        → option_map (λ (code : Code). code.args) o ≡ Some count → index < length unit.functions
+    by None here is = absurd (cc is)
+    by (Some code) here is = slice_get_within unit.functions index code here
