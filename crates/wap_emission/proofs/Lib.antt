@@ -1,0 +1,4 @@
+mod Extending
+mod Chaining
+mod Numbered
+mod Parts
