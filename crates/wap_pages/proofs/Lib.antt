@@ -1,5 +1,5 @@
 pub mod Errors
-mod Ends
+pub mod Ends
 mod Judgements
 mod Keeping
 mod Seeing

@@ -1,0 +1,4 @@
+pub mod Reports
+pub mod Fetching
+pub mod Preparing
+pub mod inside

@@ -1,0 +1,72 @@
+-- The report on the pages of a folder: the name of each with its kind and whether it is refused, in
+-- order, and how many there are. This project's own.
+use Rattle.std.specs.Prelude.{◌≡◌, ℕ, Bool, if◌then◌else◌, List, ◌++◌, Option, Some, None, is_none}
+use Rattle.std.specs.Prelude.{IfSome, All, length, filter, codes, decimal}
+use Rattle.std.specs.List.{flat_map}
+use Rattle.std.specs.List.Sorted.{IsPermutation}
+use Rattle.std.specs.Map.{keys_of}
+use Rattle.wap_base.specs.Contents.{Contents, names_of, page_named}
+use Rattle.wap_base.specs.Texts.{AreAscending}
+use Rattle.wap_dis.specs.Listing.{shown}
+use Rattle.wap_pages.specs.declared.fault.PageFault.{PageFault}
+use Rattle.wap_pages.specs.declared.fault.PageFault.TheVariants.{Missing}
+use Rattle.wap_pages.specs.Judged.{has_end, Refuses}
+use Rattle.wap_pages.specs.Printing.{page_text}
+
+-- ---- what a page is judged
+
+-- the fault for which it is refused, or none, by its name and its bytes
+abbrev pub IsVerdict : List ℕ → Option (List ℕ) → Option PageFault → Type 0
+IsVerdict name (Some bytes) (Some fault) = Refuses name bytes fault
+IsVerdict name (Some bytes) None = (fault : PageFault) → ¬ Refuses name bytes fault
+IsVerdict name None verdict = verdict ≡ Some Missing
+
+-- a name, and what its page is judged
+abbrev pub Entry : Type 0
+Entry = List ℕ × Option PageFault
+
+-- an entry is right, where the pages are known
+abbrev pub IsEntry : Option Contents → Entry → Type 0
+IsEntry contents entry =
+    IfSome contents (λ pages. IsVerdict entry.0 (page_named entry.0 pages) entry.1)
+
+-- the entries of all pages, in the order of the UTF-8 bytes of their names
+pub record AreEntries (contents : Option Contents) (entries : List Entry) : Type 0 where
+  pub ascending : AreAscending (keys_of entries)
+  pub all : IfSome contents (λ pages. IsPermutation (names_of pages) (keys_of entries))
+  pub right : All (IsEntry contents) entries
+
+-- ---- how it is written
+
+-- what the page of a name is read as, which its end says
+abbrev pub kind_word : List ℕ → List ℕ
+kind_word name =
+    if has_end (codes ".wmls") name then codes "source"
+    else if has_end (codes ".wmlsc") name then codes "unit"
+    else if has_end (codes ".txt") name then codes "text"
+    else codes "deck"
+
+abbrev pub verdict_text : Option PageFault → List ℕ
+verdict_text None = codes "ok"
+verdict_text (Some fault) = codes "refused " ++ page_text fault
+
+-- a line: the name, its control characters as dots, the kind, and the verdict
+abbrev pub entry_line : Entry → List ℕ
+entry_line entry = shown entry.0 ++ (codes " " ++ (kind_word entry.0
+    ++ (codes " " ++ (verdict_text entry.1 ++ codes "\n"))))
+
+-- there is no fault for which the page is refused
+unfoldable pub is_accepted : Entry → Bool
+is_accepted entry = is_none entry.1
+
+-- how many are accepted
+abbrev pub accepted : List Entry → ℕ
+accepted entries = length (filter is_accepted entries)
+
+-- the last line: how many pages there are, and how many of them are accepted
+abbrev pub last_line : List Entry → List ℕ
+last_line entries = codes "pages " ++ (decimal (length entries)
+    ++ (codes " ok " ++ (decimal (accepted entries) ++ codes "\n")))
+
+abbrev pub report : List Entry → List ℕ
+report entries = flat_map entry_line entries ++ last_line entries

@@ -1,0 +1,10 @@
+//! What a folder's pages are judged, side by side, and the report of it.
+#![tactic(auto)]
+
+mod draft;
+mod fetching;
+mod judging;
+mod preparing;
+mod report;
+
+pub use preparing::prepare;

@@ -1,0 +1,105 @@
+//! Preparing a folder.
+ghost use Rattle.std.specs.Prelude.{◌<◌, ◌≡◌, All, IfOk, length};
+ghost use Rattle.std.specs.List.{AllZip};
+ghost use Rattle.std.specs.Map.{keys_of};
+ghost use Rattle.wap_prepare.specs.Reports.{IsEntry};
+ghost use Rattle.wap_prepare.specs.Fetching.{AsksFor};
+ghost use Rattle.wap_prepare.specs.Preparing.{Prepares};
+ghost use Rattle.wap_prepare.specs.inside.Jobs.{IsRight};
+ghost use Rattle.wap_prepare.specs.inside.Ends.{ReportsTo};
+
+use crate::fetching::fetch_all;
+use crate::judging::{Judging, all_answers};
+use crate::report::report_on;
+use std::alloc::Global;
+use std::marker::Sync;
+use std::thread::Threads;
+use wap_base::{NoMemory, Text};
+use wap_devices::{Failed, Fetched, Gate, Sink, Store, StoreErr, write_all};
+use wap_folder::run_jobs;
+use wap_pages::PageFault;
+use wap_status::Status;
+
+/// What each page is judged that a store answered.
+fn judge_pages<R: Threads + Sync, G: Gate + Sync>(
+    rt: &R,
+    alloc: Global,
+    jobs: &[(Text, Fetched)],
+    workers: u8,
+    gate: &G,
+) -> Result<Vec<(Text, Option<PageFault>)>, NoMemory>
+    requires { 0 < workers }
+    ensures { IfOk result (λ entries. AllZip IsRight jobs.now entries.items) }
+{
+    let work = Judging { alloc };
+    let answers = run_jobs(rt, alloc, &work, jobs, workers, gate)?;
+    all_answers(alloc, answers)
+}
+
+/// What the page of each name is judged. So many workers share the pages.
+fn judge_all<R: Threads + Sync, S: Store, G: Gate + Sync>(
+    rt: &R,
+    alloc: Global,
+    store: &mut S,
+    names: &[Text],
+    workers: u8,
+    gate: &G,
+) -> Result<Vec<(Text, Option<PageFault>)>, StoreErr>
+    requires { 0 < workers }
+    ensures names { IfOk result (λ entries. keys_of entries.items ≡ names.now) }
+    ensures right { IfOk result (λ entries. All (IsEntry (S.seen store.old).contents)
+        entries.items) }
+    ensures asks { AsksFor (length names.now) (S.seen store.old) (S.seen store.new) result }
+{
+    let jobs = match fetch_all(alloc, store, names) {
+        Ok(jobs) => jobs,
+        Err(fault) => return Err(fault),
+    };
+    match judge_pages(rt, alloc, &jobs, workers, gate) {
+        Ok(entries) => Ok(entries),
+        Err(NoMemory) => Err(StoreErr::NoMemory),
+    }
+}
+
+/// Writes the report on these pages.
+fn write_report<O: Sink>(
+    alloc: Global,
+    entries: &[(Text, Option<PageFault>)],
+    out: &mut O,
+) -> Status
+    ensures { ReportsTo entries.now (O.seen out.old) (O.seen out.new) result }
+{
+    let Ok(text) = report_on(alloc, entries) else {
+        return Status::NoMemory;
+    };
+    match write_all(out, text.as_slice()) {
+        Ok(()) => Status::Done,
+        Err(Failed) => Status::WriteFault,
+    }
+}
+
+/// Judges all pages of the store, and writes the report on them once all are judged. So many
+/// workers share the pages.
+pub fn prepare<R: Threads + Sync, S: Store, O: Sink, G: Gate + Sync>(
+    rt: &R,
+    alloc: Global,
+    store: &mut S,
+    workers: u8,
+    gate: &G,
+    out: &mut O,
+) -> Status
+    requires { 0 < workers }
+    ensures { Prepares (S.seen store.old) (S.seen store.new) (O.seen out.old) (O.seen out.new)
+        result }
+{
+    let names = match store.list() {
+        Ok(names) => names,
+        Err(StoreErr::Failed) => return Status::StoreFault,
+        Err(StoreErr::NoMemory) => return Status::NoMemory,
+    };
+    match judge_all(rt, alloc, store, &names, workers, gate) {
+        Ok(entries) => write_report(alloc, &entries, out),
+        Err(StoreErr::Failed) => Status::StoreFault,
+        Err(StoreErr::NoMemory) => Status::NoMemory,
+    }
+}
