@@ -1,0 +1,6 @@
+pub mod Spelled
+pub mod Table
+pub mod Stepping
+pub mod Reached
+pub mod Sound
+pub mod Enough
