@@ -10,7 +10,8 @@ use Rattle.wap_asm.specs.declared.form.Form.TheVariants.{Jump}
 use Rattle.wap_program.specs.declared.expression.Expr.{Expr}
 use Rattle.wap_coding.specs.Coded.{Exits, Coded, empty, ◌⨾◌, all_code, label}
 use Rattle.wap_coding.specs.Constants.{Numbers}
-use Rattle.wap_coding.specs.Expressions.{expr_code, chain_code, joined_code, assigned_code, cond_code}
+use Rattle.wap_coding.specs.Expressions.{expr_code, chain_code, joined_code, assigned_code}
+use Rattle.wap_coding.specs.Expressions.{cond_code}
 use Rattle.wap_emission.specs.declared.operators.Joint.{Joint}
 use Rattle.wap_emission.specs.declared.operators.Joint.TheVariants as joint
 use Rattle.wap_emission.specs.inside.Adding.{Adds, Extends}
@@ -42,7 +43,8 @@ pub operand_adds : (join : Joint) (second : Coded) (old begun behind new : List 
     → Extends (joint_code join second) old new
 operand_adds (joint.Short name) second old begun behind new jump begins adds ends exits =
     let opened = begins.2 in
-    let long : length begun ≡ length begins.0 + 1 = ap length opened ∙ length_push begins.0 (Jump op.TjumpFw 0) in
+    let long : length begun ≡ length begins.0 + 1 =
+    ap length opened ∙ length_push begins.0 (Jump op.TjumpFw 0) in
     let counts : length behind + 1 ≡ length begins.0 + 1 + (second.size + 1) =
     omega (arith, (adds exits).sized, long) in
     adds_both (begins.1 exits)
@@ -81,7 +83,8 @@ operands_more numbers operands i operand old here next within is leaves adds fir
       adds_both found.1 (adds exits),
       ap (λ (one : BinOp × Expr). chain_code (found.0 ⨾ joined_code one.0 (expr_code numbers one.1))
           (coded numbers (drop (i + 1) operands))) is
-          ∙ sym (at_drop_more (λ ys. chain_code found.0 (coded numbers ys)) operands i operand within)
+          ∙ sym (at_drop_more (λ ys. chain_code found.0 (coded numbers ys)) operands i operand
+          within)
           ∙ found.2,
     )
 
@@ -154,8 +157,8 @@ pub cond_adds : (c first second : Coded) (exits : Exits)
     → end ≡ length labelled → closed ≡ set ended jump (Jump op.JumpFw end)
     → new ≡ set closed test (Jump op.TjumpFw other)
     → Adds (cond_code c first second) exits old new
-cond_adds c first second exits old tested begun chosen over behind labelled ended closed new test jump
-    other end one opens tests two leaps jumps three others four five ends closes last =
+cond_adds c first second exits old tested begun chosen over behind labelled ended closed new test
+    jump other end one opens tests two leaps jumps three others four five ends closes last =
     let begun_long : length begun ≡ length tested + 1 =
     ap length opens ∙ length_push tested (Jump op.TjumpFw 0) in
     let over_long : length over ≡ length chosen + 1 =

@@ -82,4 +82,5 @@ abbrev pub LeavesOperands : Numbers → List (BinOp × Expr) → ℕ → List Fo
 LeavesOperands numbers operands i old here =
     (first : Coded) (exits : Exits) (before : List Form) → Adds first exits before old
     → (whole : Coded) × Adds whole exits before here
-    × (chain_code whole (coded numbers (drop i operands)) ≡ chain_code first (coded numbers operands))
+    × (chain_code whole (coded numbers (drop i operands))
+    ≡ chain_code first (coded numbers operands))

@@ -58,7 +58,8 @@ add_expression-returns-in_ok-add_expression-in-Unary t c =
     (sym (ap (expr_code c.args.numbering.now) c.in-Unary.is
     ∙ of_unary c.args.numbering.now c.in-Unary.operator c.in-Unary.operand))
     (after_both _ _ _ _ _ c.add_operator.result
-    (part_same c.args.numbering.now _ _ _ _ c.get-in-Unary.ensures c.in_ok-add_expression-in-Unary.ensures)
+    (part_same c.args.numbering.now _ _ _ _ c.get-in-Unary.ensures
+    c.in_ok-add_expression-in-Unary.ensures)
     c.add_operator.ensures)
 
 pub add_expression-returns-in_ok-add_expression-in-Chain :
@@ -70,8 +71,10 @@ add_expression-returns-in_ok-add_expression-in-Chain t c =
     (after_chain c.args.numbering.now (expr_code c.args.numbering.now c.in-Chain.first)
     c.in-Chain.operands c.args.forms.now.items c.add_expression-in-Chain.new.forms.items
     c.add_operands.new.forms.items c.add_operands.result
-    (part_same c.args.numbering.now _ _ _ _ c.get-in-Chain.ensures c.in_ok-add_expression-in-Chain.ensures)
-    (chains_same c.args.numbering.now _ _ _ _ c.add_operands.result c.as_slice.ensures c.add_operands.ensures))
+    (part_same c.args.numbering.now _ _ _ _ c.get-in-Chain.ensures
+    c.in_ok-add_expression-in-Chain.ensures)
+    (chains_same c.args.numbering.now _ _ _ _ c.add_operands.result c.as_slice.ensures
+    c.add_operands.ensures))
 
 pub add_expression-returns-in_ok-end-in-Cond : goal.add_expression-returns-in_ok-end-in-Cond
 add_expression-returns-in_ok-end-in-Cond t c = λ exits.

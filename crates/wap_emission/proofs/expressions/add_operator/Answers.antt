@@ -4,7 +4,8 @@ use Rattle.wap_emission.proofs.expressions.add_operator.Goals as goal
 
 pub returns-in_ok-add_plain-in-Plus : goal.returns-in_ok-add_plain-in-Plus
 returns-in_ok-add_plain-in-Plus c =
-    rw c.in-Plus.is (after_both _ _ _ _ _ c.add_plain-in-Plus.result c.in_ok-add_plain-in-Plus.ensures
+    rw c.in-Plus.is (after_both _ _ _ _ _ c.add_plain-in-Plus.result
+    c.in_ok-add_plain-in-Plus.ensures
     c.add_plain-in-Plus.ensures)
 
 pub returns-in-Minus : goal.returns-in-Minus
