@@ -1,5 +1,5 @@
--- Where a world is: the deck that pages have there, and what leaves a world where it is.
-use Rattle.std.proofs.Common.{◌≡◌, ℕ, List, Option, Some, None, Ok, refl, sym, ap, ◌∙◌}
+-- Where a world is: the deck that a shelf has there, and what leaves a world where it is.
+use Rattle.std.proofs.Common.{◌≡◌, ℕ, List, Option, Some, None, refl, sym, ap, ◌∙◌}
 use Rattle.std.specs.Prelude.{slice_get}
 use Rattle.std.specs.Option.{option_map, option_and_then}
 use Rattle.std.specs.List.{last_or}
@@ -8,56 +8,46 @@ use Rattle.wap_markup.specs.declared.deck.Node.{Node}
 use Rattle.wap_markup.specs.Cards.{cards_of}
 use Rattle.wap_cardrules.specs.Timers.{timer_in, timer_variable}
 use Rattle.wap_cardrules.specs.Values.{Pairs}
-use Rattle.wap_site.specs.Pages.{Pages}
-use Rattle.wap_site.specs.declared.page.Page.{Page}
-use Rattle.wap_site.specs.declared.page.Page.TheVariants as page
 use Rattle.wap_world.specs.declared.history.Entry.{Entry}
 use Rattle.wap_world.specs.declared.timer.Timer.{Timer}
-use Rattle.wap_world.specs.declared.timer.Timer.TheVariants.{NotStarted, Running, Off}
+use Rattle.wap_world.specs.declared.timer.Timer.TheVariants.{NotStarted, Running, Off, Expired}
+use Rattle.wap_world.specs.Shelves.{Shelf}
 use Rattle.wap_world.specs.World.{World, Place, place_in, place_of, place_now}
-use Rattle.wap_world.specs.World.{deck_in, deck_at, last_entry}
+use Rattle.wap_world.specs.World.{deck_at, last_entry}
 use Rattle.wap_world.specs.Timers.{store_under, store_left}
 use Rattle.wap_world.specs.Screens.{at_place}
 use Rattle.wap_world.specs.Entering.{leave_place}
-use Rattle.wap_world.specs.Requests.{deck_answer}
 use Rattle.wap_world.specs.Tasks.{leave_and_set}
 
 -- ---- its deck
 
--- the deck that answers is the page's
-pub answered : (one : Page) (deck : Deck) → deck_answer one ≡ Ok deck → deck_in one ≡ Some deck
-answered (page.Deck other) deck is = cc
-answered (page.Words text) deck is = absurd (cc)
-answered page.Refused deck is = absurd (cc)
-answered page.Missing deck is = absurd (cc)
-
-card_there : (pages : Pages) (entry : Entry) (deck : Deck) (card : Option Node) (place : Place)
+card_there : (shelf : Shelf) (entry : Entry) (deck : Deck) (card : Option Node) (place : Place)
     → option_map (λ found. record { url = entry.url; deck = deck; card = found }) card ≡ Some place
-    → deck_at pages entry.url ≡ Some deck → deck_at pages place.url ≡ Some place.deck
-card_there pages entry deck None place is has = absurd (cc)
-card_there pages entry deck (Some card) place is has =
+    → deck_at shelf entry.url ≡ Some deck → deck_at shelf place.url ≡ Some place.deck
+card_there shelf entry deck None place is has = absurd (cc)
+card_there shelf entry deck (Some card) place is has =
     let url : entry.url ≡ place.url = cc in
     let same : deck ≡ place.deck = cc in
-    ap (deck_at pages) (sym url) ∙ has ∙ ap Some same
+    ap (deck_at shelf) (sym url) ∙ has ∙ ap Some same
 
-entry_there : (pages : Pages) (entry : Entry) (deck : Option Deck) (place : Place)
-    → option_and_then (place_in entry) deck ≡ Some place → deck_at pages entry.url ≡ deck
-    → deck_at pages place.url ≡ Some place.deck
-entry_there pages entry None place is has = absurd (cc)
-entry_there pages entry (Some deck) place is has =
-    card_there pages entry deck (slice_get (cards_of deck) entry.card) place is has
+entry_there : (shelf : Shelf) (entry : Entry) (deck : Option Deck) (place : Place)
+    → option_and_then (place_in entry) deck ≡ Some place → deck_at shelf entry.url ≡ deck
+    → deck_at shelf place.url ≡ Some place.deck
+entry_there shelf entry None place is has = absurd (cc)
+entry_there shelf entry (Some deck) place is has =
+    card_there shelf entry deck (slice_get (cards_of deck) entry.card) place is has
 
-last_there : (pages : Pages) (last : Option Entry) (place : Place)
-    → option_and_then (place_of pages) last ≡ Some place
-    → deck_at pages place.url ≡ Some place.deck
-last_there pages None place is = absurd (cc)
-last_there pages (Some entry) place is =
-    entry_there pages entry (deck_at pages entry.url) place is refl
+last_there : (shelf : Shelf) (last : Option Entry) (place : Place)
+    → option_and_then (place_of shelf) last ≡ Some place
+    → deck_at shelf place.url ≡ Some place.deck
+last_there shelf None place is = absurd (cc)
+last_there shelf (Some entry) place is =
+    entry_there shelf entry (deck_at shelf entry.url) place is refl
 
 -- the deck of the place where a world is stands under its URL
-pub deck_there : (pages : Pages) (w : World) (place : Place) → place_now pages w ≡ Some place
-    → deck_at pages place.url ≡ Some place.deck
-deck_there pages w place is = last_there pages (last_entry w) place is
+pub deck_there : (shelf : Shelf) (w : World) (place : Place) → place_now shelf w ≡ Some place
+    → deck_at shelf place.url ≡ Some place.deck
+deck_there shelf w place is = last_there shelf (last_entry w) place is
 
 -- ---- leaving a card
 
@@ -72,6 +62,7 @@ left_history NotStarted card w = refl
 left_history (Running time) card w =
     under_history (option_and_then timer_variable (timer_in card)) time w
 left_history Off card w = refl
+left_history Expired card w = refl
 
 leave_history : (place : Option Place) (w : World)
     → (at_place leave_place place w).world.history ≡ w.history
@@ -79,8 +70,8 @@ leave_history None w = refl
 leave_history (Some place) w = left_history w.timer place.card w
 
 -- leaving a card and setting variables leaves the world where it is
-pub left_there : (pages : Pages) (sets : Pairs) (w : World)
-    → place_now pages (leave_and_set pages sets w).world ≡ place_now pages w
-left_there pages sets w =
-    ap (λ (history : List Entry). option_and_then (place_of pages) (last_or None history))
-    (leave_history (place_now pages w) w)
+pub left_there : (shelf : Shelf) (sets : Pairs) (w : World)
+    → place_now shelf (leave_and_set shelf sets w).world ≡ place_now shelf w
+left_there shelf sets w =
+    ap (λ (history : List Entry). option_and_then (place_of shelf) (last_or None history))
+    (leave_history (place_now shelf w) w)

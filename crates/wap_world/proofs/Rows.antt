@@ -21,7 +21,7 @@ use Rattle.wap_cardrules.specs.Flow.{nothing_shown, shown_with}
 use Rattle.wap_world.specs.declared.timer.Timer.TheVariants.{NotStarted}
 use Rattle.wap_world.specs.World.{World, Place, place_now, first_world}
 use Rattle.wap_world.specs.Lines.{do_line}
-use Rattle.wap_world.specs.Steps.{and_then, settled, quiet, still}
+use Rattle.wap_world.specs.Steps.{and_then, settled, quiet, still, after_step}
 use Rattle.wap_world.specs.History.{pushed}
 use Rattle.wap_world.specs.Setting.{with_set}
 use Rattle.wap_world.specs.Timers.{started}
@@ -44,8 +44,11 @@ use Rattle.wap_cardrules.specs.Flow.{flow_of}
 use Rattle.wap_cardrules.proofs.Opening.{out_text, out_node}
 use Rattle.wap_site.specs.Pages.{Pages}
 use Rattle.wap_site.specs.declared.page.Page.TheVariants as page_is
-use Rattle.wap_world.specs.Access.{access_of}
-use Rattle.wap_world.specs.Tasks.{is_new_context, arrive, after_step, request, prev, visit}
+use Rattle.wap_world.specs.Shelves.{Shelf}
+use Rattle.wap_world.specs.Sites.{Site}
+use Rattle.wap_world.specs.Decks.{shelf_of, decks_site}
+use Rattle.wap_world.specs.Access.{access_of, entrance_of}
+use Rattle.wap_world.specs.Tasks.{is_new_context, arrive, request, prev, visit}
 use Rattle.wap_world.specs.Keys.{react}
 use Rattle.wap_world.specs.Sessions.{played, shown}
 use Rattle.wap_world.specs.Requests.{plain_get, ask, test, test_of}
@@ -81,8 +84,14 @@ content : content_of card1 ≡ begins p1 ∷ words hi ∷ ends p1 ∷ []
 unfolding content_of rule_of rules
 content = simp (out_text, out_node) refl
 
-abbrev site : Pages
-site = (codes "h/a.wmlc", page_is.Deck deck1) ∷ []
+abbrev one_page : Pages
+one_page = (codes "h/a.wmlc", page_is.Deck deck1) ∷ []
+
+abbrev shelf : Shelf
+shelf = shelf_of one_page
+
+abbrev site : Site
+site = decks_site one_page
 
 -- the world after the URL was opened, before the card is shown
 abbrev page : Url
@@ -107,12 +116,12 @@ place = record { url = page; deck = deck1; card = card1 }
 same_context : is_new_context deck1 0 ≡ false
 same_context = ap (λ cs. option_map_or (is_true attrs.Newcontext) (slice_get cs 0) false) cards
 
-here_now : place_now site inside ≡ Some place
+here_now : place_now shelf inside ≡ Some place
 here_now =
     ap (λ cs.
     option_map (λ card. record { url = page; deck = deck1; card = card }) (slice_get cs 0)) cards
 
-no_task : event_task site Forward inside ≡ None
+no_task : event_task shelf Forward inside ≡ None
 no_task = ap (option_and_then (λ p. binding [] p.deck p.card Forward)) here_now ∙ event
 
 flows : flow_of [] card1 ≡ Wrap ∷ Words (codes "Hi") ∷ []
@@ -139,7 +148,7 @@ nothing_set =
     ap (λ ms.
     set_each default [] (filter (λ node. is_field node.tag) (filter_map begun_by ms))) content
 
-shown_here : (show site inside).lines ≡ codes "=" ∷ codes "Hi" ∷ []
+shown_here : (show shelf inside).lines ≡ codes "=" ∷ codes "Hi" ∷ []
 shown_here =
     ap (λ o. (at_place show_place o inside).lines) here_now
     ∙ ap (λ set.
@@ -147,31 +156,31 @@ shown_here =
     nothing_set
     ∙ the_screen
 
-arrived : arrive site [] [] page turned deck1 ≡ settled (quiet [] (show site inside))
+arrived : arrive shelf [] [] page turned deck1 ≡ settled (quiet [] (show shelf inside))
 arrived =
     ap (λ (b : Bool).
-    after_step (quiet [] (still turned)) (enter site [] Forward (pushed (if b then record turned {
+    after_step (quiet [] (still turned)) (enter shelf [] Forward (pushed (if b then record turned {
       vars = [];
       history = [];
       timer = NotStarted;
     } else turned) (record { url = page; card = 0 })))) same_context
-    ∙ ap (λ o. after_step (quiet [] (still turned)) (entered site [] inside o)) no_task
+    ∙ ap (λ o. after_step (quiet [] (still turned)) (entered shelf [] inside o)) no_task
 
 requested : (request site [] [] None (plain_get page) turned).step.lines
     ≡ codes "> GET http://h/a.wmlc" ∷ codes "=" ∷ codes "Hi" ∷ []
 requested =
     ap (λ once. (after_step (ask [] (plain_get page) turned)
-    (after_step (test [] (test_of page None deck1) turned) once)).step.lines) arrived
+    (after_step (test [] (test_of page None (entrance_of deck1)) turned) once)).step.lines) arrived
     ∙ ap (λ ls. codes "> GET http://h/a.wmlc" ∷ ls) shown_here
 
 -- ---- whole sessions
 
 -- what a URL shows that is opened over these pages
 abbrev opened : List ℕ → Pages → List (List ℕ)
-opened text pages = shown pages (Open text ∷ []) (first_world 0 3 default_limits)
+opened text pages = shown (decks_site pages) (Open text ∷ []) (first_world 0 3 default_limits)
 
 -- on its card there is no card to go back to
-shows_first_again : (prev site [] [] inside).step.lines
+shows_first_again : (prev shelf [] [] inside).step.lines
     ≡ codes "! first" ∷ codes "=" ∷ codes "Hi" ∷ []
 shows_first_again = ap (λ ls. codes "! first" ∷ ls) shown_here
 

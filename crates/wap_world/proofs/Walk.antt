@@ -1,18 +1,22 @@
--- A walk through all rules: what each change of a world keeps, every key keeps; and no key outside
--- a dialog uses or sees the keys after it.
-use Rattle.std.proofs.Common.{◌≡◌, ℕ, zero, suc, Bool, true, false, List, [], ◌++◌}
-use Rattle.std.proofs.Common.{Option, Some, None, Ok, Err, refl, sym, ap, ◌∙◌}
-use Rattle.std.specs.Prelude.{Result, if◌then◌else◌}
+-- A walk through all rules: what each change of a world keeps, and each script, every key keeps. It
+-- is said of a world with the keys that are left.
+use Rattle.std.proofs.Common.{◌≡◌, ℕ, zero, suc, Bool, true, false, List, [], cond, eqb, ltb}
+use Rattle.std.proofs.Common.{Option, Some, None, refl, length, ◌∙◌, subst}
+use Rattle.std.specs.Prelude.{Result, Ok, Err, ◌-◌}
 use Rattle.std.specs.Option.{option_and_then}
+use Rattle.std.specs.List.{list_any}
 use Rattle.wap_cardrules.specs.Timers.{timer_in, timer_variable}
-use Rattle.wap_world.specs.Setting.{set_variables}
+use Rattle.wap_cardrules.specs.Dos.{do_task}
+use Rattle.wap_cardrules.specs.Fields.{link_task}
 use Rattle.wap_filling.specs.Variables.{Variables}
 use Rattle.wap_input.specs.declared.key.Key.{Key}
 use Rattle.wap_input.specs.declared.key.Key.TheVariants as key
 use Rattle.wap_url.specs.declared.url.Url.{Url}
-use Rattle.wap_url.specs.Printing.{name_for}
+use Rattle.wap_url.specs.Printing.{name_for, without_fragment}
+use Rattle.wap_value.specs.declared.value.Value.{Value}
 use Rattle.wap_markup.specs.declared.deck.Deck.{Deck}
 use Rattle.wap_markup.specs.declared.deck.Node.{Node}
+use Rattle.wap_execution.specs.declared.fatal.Fatal.TheVariants as fatal
 use Rattle.wap_cardrules.specs.declared.answers.Entered.{Entered}
 use Rattle.wap_cardrules.specs.declared.answers.Entered.TheVariants as entered
 use Rattle.wap_cardrules.specs.declared.answers.Chosen.{Chosen}
@@ -28,23 +32,28 @@ use Rattle.wap_world.specs.declared.history.Entry.{Entry}
 use Rattle.wap_world.specs.declared.refusal.Refusal.{Refusal}
 use Rattle.wap_world.specs.declared.refusal.Refusal.TheVariants as refusals
 use Rattle.wap_world.specs.declared.timer.Timer.{Timer}
-use Rattle.wap_world.specs.declared.timer.Timer.TheVariants.{NotStarted, Running, Off}
-use Rattle.wap_site.specs.Pages.{Pages, page_of}
-use Rattle.wap_world.specs.World.{World, Place, place_now, deck_at}
-use Rattle.wap_world.specs.Steps.{Scene, Step, Once, still, quiet, followed, settled}
+use Rattle.wap_world.specs.declared.timer.Timer.TheVariants.{NotStarted, Running, Off, Expired}
+use Rattle.wap_world.specs.Shelves.{Shelf, Shelved, deck_page, script_page, text_page}
+use Rattle.wap_world.specs.Shelves.{refused_page, no_page}
+use Rattle.wap_world.specs.Sites.{External, Call, End, done, failed, unanswered, Site}
+use Rattle.wap_world.specs.World.{World, Place, place_now, deck_in, deck_at}
+use Rattle.wap_world.specs.Steps.{Scene, Step, Once, Next, then_task, still, quiet}
+use Rattle.wap_world.specs.Access.{entrance_of}
+use Rattle.wap_world.specs.Setting.{set_variables}
 use Rattle.wap_world.specs.History.{pushed, earlier_entry, in_deck, back_at, entry_of}
-use Rattle.wap_world.specs.Timers.{start_timer, started, store_under, store_left, end_timer}
+use Rattle.wap_world.specs.Timers.{start_timer, started as started_in, store_under, store_left}
+use Rattle.wap_world.specs.Timers.{end_timer, settled_timer}
 use Rattle.wap_world.specs.Screens.{at_place, show_place, show, show_screen}
 use Rattle.wap_world.specs.Screens.{screen_lines, apply_defaults}
 use Rattle.wap_world.specs.Entering.{leave, leave_place, entered as entered_by, enter, event_task}
-use Rattle.wap_world.specs.Urls.{target_of}
-use Rattle.wap_world.specs.Requests.{Request, ask, answer_to, test, test_of}
-use Rattle.wap_world.specs.Requests.{request_of, plain_get}
+use Rattle.wap_world.specs.Urls.{target_of, is_same_page}
+use Rattle.wap_world.specs.Requests.{Request, answer_to, test_of, request_of, plain_get}
+use Rattle.wap_world.specs.Starting.{not_started, in_world, or_show, rest, end_done, end_by}
+use Rattle.wap_world.specs.Starting.{ended_script, prepared, is_too_long, started, start_external}
+use Rattle.wap_world.specs.Starting.{start_call, start_if}
 use Rattle.wap_world.specs.Tasks.{
-  after_step,
   refused,
   leave_and_set,
-  with_deck,
   with_url,
   with_turn,
   in_context,
@@ -52,7 +61,7 @@ use Rattle.wap_world.specs.Tasks.{
   card_for,
   arrive,
   arrive_if,
-  try_deck,
+  answered,
   request,
   is_here,
   here_with,
@@ -60,6 +69,7 @@ use Rattle.wap_world.specs.Tasks.{
   go,
   open_url,
   return,
+  returned,
   ask_back,
   card_here,
   back_from,
@@ -68,6 +78,8 @@ use Rattle.wap_world.specs.Tasks.{
   refresh_place,
   refresh,
   url_now,
+  base_now,
+  task_by,
   task_once,
   go_on,
   onward,
@@ -75,50 +87,71 @@ use Rattle.wap_world.specs.Tasks.{
   act,
   visit,
 }
-use Rattle.wap_world.specs.Keys.{act_or, after_text, type_text, after_choice}
-use Rattle.wap_world.specs.Keys.{choose_option, expire, pass_time, at_card, apply}
-use Rattle.wap_world.proofs.Places.{answered, deck_there, left_there}
+use Rattle.wap_world.specs.Keys.{ignored, act_or, after_text, type_text, after_choice}
+use Rattle.wap_world.specs.Keys.{choose_option, expire, pass_time, at_card, apply, renewed, react}
+use Rattle.wap_world.proofs.Places.{deck_there, left_there}
 
--- ---- keys that are left
+-- what a world, with the keys that are left, keeps
+abbrev pub Keeping : Type 1
+Keeping = List Key → World → List Key → World → Type 0
 
--- the same step before other keys
-abbrev pub before : List Key → Step → Step
-before keys step = record step { keys = keys }
+-- each script keeps it, its turns being those of the world
+abbrev pub KeepsSite : Keeping → Site → Type 0
+KeepsSite K site =
+    (name : List ℕ) (base : Url) (referer : Option Url) (index : ℕ) (arguments : List Value)
+    (turns : ℕ) (step : Step)
+    → let ran = site.run name base referer index arguments turns step in
+    K step.keys (record step.world { turns = turns })
+    ran.step.keys (record ran.step.world { turns = ran.turns })
 
-abbrev pub once_before : List Key → Once → Once
-once_before keys once = record once { step = before keys once.step }
+-- each change of a world keeps it: a timer is started or ends where there is a card, and cards are
+-- those of decks that stand under their URLs
+pub record Kept (K : Keeping) (shelf : Shelf) : Type 0 where
+  pub none : (k : List Key) (w : World) → K k w k w
+  pub joins : (k : List Key) (u : World) (l : List Key) (v : World) (m : List Key) (w : World)
+      → K k u l v → K l v m w → K k u m w
+  pub vars : (k : List Key) (w : World) (v : Variables) → K k w k (record w { vars = v })
+  pub reset : (k : List Key) (w : World) → K k w k (record w { timer = NotStarted })
+  pub timer : (k : List Key) (w : World) (t : Timer) (place : Place)
+      → place_now shelf w ≡ Some place → K k w k (record w { timer = t })
+  pub settle : (k : List Key) (w : World) → K k w k (record w { timer = settled_timer w.timer })
+  pub pending : (k : List Key) (w : World) (t : Option Task) → K k w k (record w { pending = t })
+  pub turn : (k : List Key) (w : World) (n : ℕ) → w.turns ≡ suc n
+      → K k w k (record w { turns = n })
+  pub clear : (k : List Key) (w : World)
+      → K k w k (record w { vars = []; history = []; timer = NotStarted })
+  pub push : (k : List Key) (w : World) (url : Url) (deck : Deck) → deck_at shelf url ≡ Some deck
+      → K k w k (pushed w (entry_of url (card_for deck url)))
+  pub pop : (k : List Key) (w : World) (e : Entry) (deck : Deck)
+      → deck_at shelf e.url ≡ Some deck → K k w k (back_at w (in_deck deck e))
 
-abbrev pub joined : Step → Step → Step
-joined one others = record {
-  world = others.world;
-  keys = others.keys;
-  lines = one.lines ++ others.lines;
-  asked = one.asked ++ others.asked;
-  tests = one.tests ++ others.tests;
-}
+-- what a navigation keeps that begins with these keys
+abbrev pub Moves : Keeping → List Key → World → Once → Type 0
+Moves K keys w once = K keys w once.step.keys once.step.world
 
--- ---- the walk
+-- ---- rules that ask pages alone
 
-module _ (pages : Pages) (R : World → World → Type 0)
-    (stays : (w : World) → R w w)
-    (onto : (u v w : World) → R u v → R v w → R u w)
-    (vars : (w : World) (v : Variables) → R w (record w { vars = v }))
-    (reset : (w : World) → R w (record w { timer = NotStarted }))
-    (timer : (w : World) (t : Timer) (place : Place) → place_now pages w ≡ Some place
-    → R w (record w { timer = t }))
-    (turn : (w : World) (n : ℕ) → w.turns ≡ suc n → R w (record w { turns = n }))
-    (clear : (w : World) → R w (record w { vars = []; history = []; timer = NotStarted }))
-    (push : (w : World) (url : Url) (deck : Deck) → deck_at pages url ≡ Some deck
-    → R w (pushed w (entry_of url (card_for deck url))))
-    (pop : (w : World) (e : Entry) (deck : Deck) → deck_at pages e.url ≡ Some deck
-    → R w (back_at w (in_deck deck e))) where
+module _ (K : Keeping) (shelf : Shelf) (kept : Kept K shelf) where
+  abbrev R : World → World → Type 0
+  R w v = (k : List Key) → K k w k v
+
+  stays : (w : World) → R w w
+  stays w k = kept.none k w
+
+  onto : (u v w : World) → R u v → R v w → R u w
+  onto u v w a b k = kept.joins k u k v k w (a k) (b k)
+
+  vars : (w : World) (v : Variables) → R w (record w { vars = v })
+  vars w v k = kept.vars k w v
+
   -- ---- scenes
 
-  started_goes : (t : Timer) (w : World) (place : Place) → place_now pages w ≡ Some place
-      → R w (started t place.card w)
-  started_goes NotStarted w place here = timer w _ place here
+  started_goes : (t : Timer) (w : World) (place : Place) → place_now shelf w ≡ Some place
+      → R w (started_in t place.card w)
+  started_goes NotStarted w place here = λ k. kept.timer k w _ place here
   started_goes (Running time) w place here = stays w
   started_goes Off w place here = stays w
+  started_goes Expired w place here = stays w
 
   store_under_goes : (name : Option (List ℕ)) (time : ℕ) (w : World)
       → R w (store_under name time w).world
@@ -130,380 +163,458 @@ module _ (pages : Pages) (R : World → World → Type 0)
   store_left_goes (Running time) card w =
       store_under_goes (option_and_then timer_variable (timer_in card)) time w
   store_left_goes Off card w = stays w
+  store_left_goes Expired card w = stays w
 
-  end_timer_goes : (w : World) (place : Place) → place_now pages w ≡ Some place
+  pub end_timer_goes : (w : World) (place : Place) → place_now shelf w ≡ Some place
       → R w (end_timer place.card w).world
   end_timer_goes w place here =
       let off = record w { timer = Off } in
-      onto w off _ (timer w Off place here)
+      onto w off _ (λ k. kept.timer k w Off place here)
       (store_under_goes (option_and_then timer_variable (timer_in place.card)) 0 off)
 
   -- a rule for the place where a world is
   at_place_goes : (rule : Place → World → Scene) (w : World)
-      → ((p : Place) → place_now pages w ≡ Some p → R w (rule p w).world)
-      → (place : Option Place) → place_now pages w ≡ place → R w (at_place rule place w).world
+      → ((p : Place) → place_now shelf w ≡ Some p → R w (rule p w).world)
+      → (place : Option Place) → place_now shelf w ≡ place → R w (at_place rule place w).world
   at_place_goes rule w goes None here = stays w
   at_place_goes rule w goes (Some place) here = goes place here
 
-  show_place_goes : (w : World) (place : Place) → place_now pages w ≡ Some place
+  show_place_goes : (w : World) (place : Place) → place_now shelf w ≡ Some place
       → R w (show_place place w).world
   show_place_goes w place here =
       let given = apply_defaults place w in
       onto w given.world _ (vars w given.world.vars)
       (started_goes given.world.timer given.world place here)
 
-  show_goes : (w : World) → R w (show pages w).world
-  show_goes w = at_place_goes show_place w (show_place_goes w) (place_now pages w) refl
+  pub show_goes : (w : World) → R w (show shelf w).world
+  show_goes w = at_place_goes show_place w (show_place_goes w) (place_now shelf w) refl
 
-  show_screen_goes : (w : World) → R w (show_screen pages w).world
+  pub show_screen_goes : (w : World) → R w (show_screen shelf w).world
   show_screen_goes w =
-      at_place_goes screen_lines w (λ p here. stays w) (place_now pages w) refl
+      at_place_goes screen_lines w (λ p here. stays w) (place_now shelf w) refl
 
-  leave_goes : (w : World) → R w (leave pages w).world
+  leave_goes : (w : World) → R w (leave shelf w).world
   leave_goes w =
       at_place_goes leave_place w (λ p here. store_left_goes w.timer p.card w)
-      (place_now pages w) refl
+      (place_now shelf w) refl
 
-  leave_and_set_goes : (sets : Pairs) (w : World)
-      → R w (leave_and_set pages sets w).world
+  leave_and_set_goes : (sets : Pairs) (w : World) → R w (leave_and_set shelf sets w).world
   leave_and_set_goes sets w =
-      let left = (leave pages w).world in
+      let left = (leave shelf w).world in
       onto w left _ (leave_goes w) (vars left (set_variables sets left).world.vars)
 
   -- ---- navigations
 
-  pub record Fine (u : World) (f : List Key → Once) : Type 0 where
-    pub moves : (keys : List Key) → R u (f keys).step.world
-    pub same : (keys : List Key) → f keys ≡ once_before keys (f [])
+  later : (keys : List Key) (u v : World) (once : Once) → R u v → Moves K keys v once
+      → Moves K keys u once
+  later keys u v once r moves = kept.joins keys u keys v once.step.keys once.step.world (r keys) moves
 
-  later : (u v : World) (f : List Key → Once) → R u v → Fine v f → Fine u f
-  later u v f r fine = record { moves = λ keys. onto u v _ r (fine.moves keys); same = fine.same }
+  refused_moves : (keys : List Key) (why : Refusal) (w : World)
+      → Moves K keys w (refused shelf keys why w)
+  refused_moves keys why w = show_goes w keys
 
-  quiet_fine : (u : World) (scene : Scene) → R u scene.world
-      → Fine u (λ keys. settled (quiet keys scene))
-  quiet_fine u scene r = record { moves = λ keys. r; same = λ keys. refl }
+  pub url_moves : (keys : List Key) (w : World) (next : Url → Once) (r : Result Url Refusal)
+      → ((url : Url) → Moves K keys w (next url)) → Moves K keys w (with_url shelf keys w next r)
+  url_moves keys w next (Ok url) nexts = nexts url
+  url_moves keys w next (Err why) nexts = refused_moves keys why w
 
-  behind_fine : (u : World) (s : List Key → Step) (f : List Key → Once)
-      → ((keys : List Key) → s keys ≡ before keys (s [])) → Fine u f
-      → Fine u (λ keys. after_step (s keys) (f keys))
-  behind_fine u s f same fine = record {
-    moves = fine.moves;
-    same =
-        λ keys. ap (λ one. after_step one (f keys)) (same keys)
-        ∙ ap (λ once. after_step (before keys (s [])) once) (fine.same keys);
-  }
+  pub turn_moves : (keys : List Key) (w : World) (turns : ℕ) (next : World → Once)
+      → ((v : World) → Moves K keys v (next v)) → w.turns ≡ turns
+      → Moves K keys w (with_turn shelf keys w turns next)
+  turn_moves keys w zero next nexts is = refused_moves keys refusals.Budget w
+  turn_moves keys w (suc turns) next nexts is =
+      let v = record w { turns = turns } in
+      later keys w v (next v) (λ k. kept.turn k w turns is) (nexts v)
 
-  if_fine : (u : World) (b : Bool) (f g : List Key → Once) → Fine u f → Fine u g
-      → Fine u (λ keys. if b then f keys else g keys)
-  if_fine u true f g one other = one
-  if_fine u false f g one other = other
+  entered_moves : (keys : List Key) (w : World) (next : Option Task)
+      → Moves K keys w (entered_by shelf keys w next)
+  entered_moves keys w None = show_goes w keys
+  entered_moves keys w (Some one) = kept.none keys w
 
-  refused_fine : (why : Refusal) (w : World)
-      → Fine w (λ keys. refused pages keys why w)
-  refused_fine why w = quiet_fine w _ (show_goes w)
-
-  with_deck_fine : (w : World) (next : List Key → Deck → Once)
-      → (result : Result Deck Refusal)
-      → ((deck : Deck) → result ≡ Ok deck → Fine w (λ keys. next keys deck))
-      → Fine w (λ keys. with_deck pages keys w (next keys) result)
-  with_deck_fine w next (Ok deck) fine = fine deck refl
-  with_deck_fine w next (Err refusal) fine = refused_fine refusal w
-
-  with_url_fine : (w : World) (next : List Key → Url → Once)
-      → ((url : Url) → Fine w (λ keys. next keys url)) → (result : Result Url Refusal)
-      → Fine w (λ keys. with_url pages keys w (next keys) result)
-  with_url_fine w next fine (Ok url) = fine url
-  with_url_fine w next fine (Err refusal) = refused_fine refusal w
-
-  with_turn_fine : (w : World) (turns : ℕ) (next : List Key → World → Once)
-      → ((v : World) → Fine v (λ keys. next keys v)) → w.turns ≡ turns
-      → Fine w (λ keys. with_turn pages keys w turns (next keys))
-  with_turn_fine w zero next fine e = refused_fine refusals.Budget w
-  with_turn_fine w (suc turns) next fine e =
-      later w (record w { turns = turns }) _ (turn w turns e) (fine _)
-
-  entered_fine : (w : World) (next : Option Task)
-      → Fine w (λ keys. entered_by pages keys w next)
-  entered_fine w None = quiet_fine w _ (show_goes w)
-  entered_fine w (Some one) = record { moves = λ keys. stays w; same = λ keys. refl }
-
-  enter_fine : (event : Event) (w : World)
-      → Fine w (λ keys. enter pages keys event w)
-  enter_fine event w =
+  enter_moves : (keys : List Key) (event : Event) (w : World)
+      → Moves K keys w (enter shelf keys event w)
+  enter_moves keys event w =
       let inside = record w { timer = NotStarted } in
-      later w inside _ (reset w)
-      (entered_fine inside (event_task pages event inside))
+      later keys w inside (entered_by shelf keys inside (event_task shelf event inside))
+      (λ k. kept.reset k w) (entered_moves keys inside (event_task shelf event inside))
 
   context_goes : (new : Bool) (w : World)
-      → R w (if new then record w { vars = []; history = []; timer = NotStarted } else w)
-  context_goes true w = clear w
-  context_goes false w = stays w
+      → R w (cond new (record w { vars = []; history = []; timer = NotStarted }) w)
+  context_goes true w k = kept.clear k w
+  context_goes false w k = kept.none k w
 
-  arrive_fine : (sets : Pairs) (url : Url) (w : World) (deck : Deck)
-      → deck_at pages url ≡ Some deck → Fine w (λ keys. arrive pages keys sets url w deck)
-  arrive_fine sets url w deck has =
+  pub arrive_moves : (keys : List Key) (sets : Pairs) (url : Url) (w : World) (deck : Deck)
+      → deck_at shelf url ≡ Some deck → Moves K keys w (arrive shelf keys sets url w deck)
+  arrive_moves keys sets url w deck has =
       let number = card_for deck url in
-      let left = leave_and_set pages sets w in
-      let context = in_context deck number left.world in
+      let left = (leave_and_set shelf sets w).world in
+      let context = in_context deck number left in
       let inside = pushed context (entry_of url number) in
-      behind_fine w (λ keys. quiet keys left)
-      (λ keys. enter pages keys event.Forward inside) (λ keys. refl)
-      (later w left.world _ (leave_and_set_goes sets w)
-      (later left.world context _ (context_goes (is_new_context deck number) left.world)
-      (later context inside _ (push context url deck has) (enter_fine event.Forward inside))))
+      let once = enter shelf keys event.Forward inside in
+      later keys w left once (leave_and_set_goes sets w)
+      (later keys left context once (context_goes (is_new_context deck number) left)
+      (later keys context inside once (λ k. kept.push k context url deck has)
+      (enter_moves keys event.Forward inside)))
 
-  arrive_if_fine : (sets : Pairs) (url : Url) (w : World) (deck : Deck)
-      → deck_at pages url ≡ Some deck → (allowed : Bool)
-      → Fine w (λ keys. arrive_if pages keys sets url w deck allowed)
-  arrive_if_fine sets url w deck has true = arrive_fine sets url w deck has
-  arrive_if_fine sets url w deck has false = refused_fine refusals.Denied w
+  pub arrive_if_moves : (keys : List Key) (sets : Pairs) (url : Url) (w : World) (deck : Deck)
+      (allowed : Bool) → deck_at shelf url ≡ Some deck
+      → Moves K keys w (arrive_if shelf keys sets url w deck allowed)
+  arrive_if_moves keys sets url w deck true has = arrive_moves keys sets url w deck has
+  arrive_if_moves keys sets url w deck false has = refused_moves keys refusals.Denied w
 
-  try_deck_fine : (sets : Pairs) (caller : Option Url) (url : Url) (w : World)
-      (deck : Deck) → deck_at pages url ≡ Some deck
-      → Fine w (λ keys. try_deck pages keys sets caller url w deck)
-  try_deck_fine sets caller url w deck has =
-      let one = test_of url caller deck in
-      behind_fine w (λ keys. test keys one w)
-      (λ keys. arrive_if pages keys sets url w deck one.allowed) (λ keys. refl)
-      (arrive_if_fine sets url w deck has one.allowed)
+  return_moves : (keys : List Key) (sets : Pairs) (earlier : Entry) (w : World) (deck : Deck)
+      → deck_at shelf earlier.url ≡ Some deck
+      → Moves K keys w (return shelf keys sets earlier w deck)
+  return_moves keys sets earlier w deck has =
+      let left = (leave_and_set shelf sets w).world in
+      let inside = back_at left (in_deck deck earlier) in
+      let once = enter shelf keys event.Backward inside in
+      later keys w left once (leave_and_set_goes sets w)
+      (later keys left inside once (λ k. kept.pop k left earlier deck has)
+      (enter_moves keys event.Backward inside))
 
-  request_fine : (sets : Pairs) (caller : Option Url) (one : Request) (w : World)
-      → Fine w (λ keys. request pages keys sets caller one w)
-  request_fine sets caller one w =
-      behind_fine w (λ keys. ask keys one w) _ (λ keys. refl)
-      (with_deck_fine w (λ keys. try_deck pages keys sets caller one.url w) (answer_to pages one)
-      (λ deck answer. try_deck_fine sets caller one.url w deck
-      (answered (page_of (name_for one.url) pages) deck answer)))
+  returned_moves : (keys : List Key) (sets : Pairs) (earlier : Entry) (w : World) (page : Shelved)
+      → deck_at shelf earlier.url ≡ deck_in page
+      → Moves K keys w (returned shelf keys sets earlier w page)
+  returned_moves keys sets earlier w (deck_page deck) has =
+      return_moves keys sets earlier w deck has
+  returned_moves keys sets earlier w (script_page entrance) has = show_goes w keys
+  returned_moves keys sets earlier w (text_page text) has = show_goes w keys
+  returned_moves keys sets earlier w refused_page has = show_goes w keys
+  returned_moves keys sets earlier w no_page has = show_goes w keys
 
-  stay_or_ask_fine : (sets : Pairs) (caller : Option Url) (one : Request)
-      (w : World) (place : Option Place) → place_now pages w ≡ place
-      → Fine w (λ keys. stay_or_ask pages keys sets caller one w place)
-  stay_or_ask_fine sets caller one w None here = request_fine sets caller one w
-  stay_or_ask_fine sets caller one w (Some place) here =
-      if_fine w (is_here one place) _ _
-      (arrive_fine sets (here_with place one.url) w place.deck (deck_there pages w place here))
-      (request_fine sets caller one w)
+  back_from_moves : (keys : List Key) (sets : Pairs) (earlier : Entry) (w : World)
+      (place : Option Place) → place_now shelf w ≡ place
+      → Moves K keys w (back_from shelf keys sets earlier w place)
+  back_from_moves keys sets earlier w None here =
+      returned_moves keys sets earlier w (answer_to shelf (plain_get earlier.url)) refl
+  back_from_moves keys sets earlier w (Some place) here =
+      by (is_same_page earlier.url place.url)
+    where
+      by : (b : Bool) → Moves K keys w (cond b
+          (return shelf keys sets (card_here place earlier) w place.deck)
+          (ask_back shelf keys sets earlier w))
+      by true =
+          return_moves keys sets (card_here place earlier) w place.deck
+          (deck_there shelf w place here)
+      by false = returned_moves keys sets earlier w (answer_to shelf (plain_get earlier.url)) refl
 
-  pub go_fine : (base : Option Url) (one : Go) (w : World)
-      → Fine w (λ keys. go pages keys base one w)
-  go_fine base one w =
-      with_url_fine w (λ keys url.
-      stay_or_ask pages keys one.sets base (request_of base one url) w (place_now pages w))
-      (λ url.
-      stay_or_ask_fine one.sets base (request_of base one url) w (place_now pages w) refl)
-      (target_of base one.href)
+  back_to_moves : (keys : List Key) (sets : Pairs) (w : World) (earlier : Option Entry)
+      → Moves K keys w (back_to shelf keys sets w earlier)
+  back_to_moves keys sets w None = show_goes w keys
+  back_to_moves keys sets w (Some earlier) =
+      back_from_moves keys sets earlier w (place_now shelf w) refl
 
-  open_fine : (text : List ℕ) (w : World)
-      → Fine w (λ keys. open_url pages keys text w)
-  open_fine text w =
-      with_url_fine w (λ keys url. request pages keys [] None (plain_get url) w)
-      (λ url. request_fine [] None (plain_get url) w) (target_of (url_now pages w) text)
-
-  return_fine : (sets : Pairs) (earlier : Entry) (w : World) (deck : Deck)
-      → deck_at pages earlier.url ≡ Some deck
-      → Fine w (λ keys. return pages keys sets earlier w deck)
-  return_fine sets earlier w deck has =
-      let left = leave_and_set pages sets w in
-      let inside = back_at left.world (in_deck deck earlier) in
-      behind_fine w (λ keys. quiet keys left)
-      (λ keys. enter pages keys event.Backward inside) (λ keys. refl)
-      (later w left.world _ (leave_and_set_goes sets w)
-      (later left.world inside _ (pop left.world earlier deck has)
-      (enter_fine event.Backward inside)))
-
-  ask_back_fine : (sets : Pairs) (earlier : Entry) (w : World)
-      → Fine w (λ keys. ask_back pages keys sets earlier w)
-  ask_back_fine sets earlier w =
-      behind_fine w (λ keys. ask keys (plain_get earlier.url) w) _ (λ keys. refl)
-      (with_deck_fine w (λ keys. return pages keys sets earlier w)
-      (answer_to pages (plain_get earlier.url))
-      (λ deck answer. return_fine sets earlier w deck
-      (answered (page_of (name_for earlier.url) pages) deck answer)))
-
-  back_from_fine : (sets : Pairs) (earlier : Entry) (w : World)
-      (place : Option Place) → place_now pages w ≡ place
-      → Fine w (λ keys. back_from pages keys sets earlier w place)
-  back_from_fine sets earlier w None here = ask_back_fine sets earlier w
-  back_from_fine sets earlier w (Some place) here =
-      if_fine w _ _ _
-      (return_fine sets (card_here place earlier) w place.deck (deck_there pages w place here))
-      (ask_back_fine sets earlier w)
-
-  back_to_fine : (sets : Pairs) (w : World) (earlier : Option Entry)
-      → Fine w (λ keys. back_to pages keys sets w earlier)
-  back_to_fine sets w None = refused_fine refusals.First w
-  back_to_fine sets w (Some earlier) = back_from_fine sets earlier w (place_now pages w) refl
-
-  pub prev_fine : (sets : Pairs) (w : World) → Fine w (λ keys. prev pages keys sets w)
-  prev_fine sets w = back_to_fine sets w (earlier_entry w)
+  pub prev_moves : (keys : List Key) (sets : Pairs) (w : World)
+      → Moves K keys w (prev shelf keys sets w)
+  prev_moves keys sets w = back_to_moves keys sets w (earlier_entry w)
 
   refresh_place_goes : (sets : Pairs) (w : World) (place : Place)
-      → place_now pages w ≡ Some place → R w (refresh_place pages sets place w).world
+      → place_now shelf w ≡ Some place → R w (refresh_place shelf sets place w).world
   refresh_place_goes sets w place here =
-      let left = (leave_and_set pages sets w).world in
+      let left = (leave_and_set shelf sets w).world in
       onto w left _ (leave_and_set_goes sets w)
-      (timer left (start_timer place.card left).timer place (left_there pages sets w ∙ here))
+      (λ k. kept.timer k left (start_timer place.card left).timer place
+      (left_there shelf sets w ∙ here))
 
-  refresh_goes : (sets : Pairs) (w : World) → R w (refresh pages sets w).world
+  pub refresh_goes : (sets : Pairs) (w : World) → R w (refresh shelf sets w).world
   refresh_goes sets w =
-      at_place_goes (refresh_place pages sets) w (refresh_place_goes sets w)
-      (place_now pages w) refl
+      at_place_goes (refresh_place shelf sets) w (refresh_place_goes sets w)
+      (place_now shelf w) refl
 
-  task_once_fine : (w : World) (one : Task)
-      → Fine w (λ keys. task_once pages keys w one)
-  task_once_fine w (task.Go one) =
-      with_turn_fine w w.turns (λ keys v. go pages keys (url_now pages v) one v)
-      (λ v. go_fine (url_now pages v) one v) refl
-  task_once_fine w (task.Prev sets) =
-      with_turn_fine w w.turns (λ keys. prev pages keys sets) (prev_fine sets) refl
-  task_once_fine w (task.Refresh sets) = quiet_fine w _ (refresh_goes sets w)
+  -- ---- the end of a script
+
+  or_show_moves : (keys : List Key) (next : Option Task) (w : World)
+      → Moves K keys w (or_show shelf keys next w)
+  or_show_moves keys None w = show_goes w keys
+  or_show_moves keys (Some one) w = kept.none keys w
+
+  -- a timer of this state is settled
+  settled_goes : (t : Timer) (w : World) → w.timer ≡ t
+      → R w (record w { timer = settled_timer t })
+  settled_goes t w is k =
+      subst (λ s. K k w k (record w { timer = settled_timer s })) is (kept.settle k w)
+
+  rest_moves : (keys : List Key) (t : Timer) (w : World) → w.timer ≡ t
+      → Moves K keys w (rest shelf keys t w)
+  rest_moves keys NotStarted w is = show_goes w keys
+  rest_moves keys (Running time) w is = show_goes w keys
+  rest_moves keys Off w is = show_goes w keys
+  rest_moves keys Expired w is =
+      let late = record w { timer = Off } in
+      let one = event_task shelf event.Timer late in
+      later keys w late (or_show shelf keys one late) (settled_goes Expired w is)
+      (or_show_moves keys one late)
+
+  end_done_moves : (base : Url) (pending : Option Task) (step : Step)
+      → Moves K step.keys step.world (end_done shelf base pending step)
+  end_done_moves base None step = rest_moves step.keys step.world.timer step.world refl
+  end_done_moves base (Some one) step =
+      let quits = record step.world { pending = None } in
+      kept.joins step.keys step.world step.keys quits step.keys
+      (record quits { timer = settled_timer step.world.timer })
+      (kept.pending step.keys step.world None) (kept.settle step.keys quits)
+
+  pub end_moves : (base : Url) (end : End) (step : Step)
+      → Moves K step.keys step.world (end_by shelf base end step)
+  end_moves base done step = end_done_moves base step.world.pending step
+  end_moves base (failed why) step =
+      let quits = record step.world { pending = None } in
+      later step.keys step.world quits (rest shelf step.keys quits.timer quits)
+      (λ k. kept.pending k step.world None) (rest_moves step.keys quits.timer quits refl)
+  end_moves base unanswered step = kept.none step.keys step.world
+
+-- ---- rules that start scripts
+
+module _ (K : Keeping) (site : Site) (kept : Kept K site.shelf) (runs : KeepsSite K site) where
+  abbrev Goes : World → World → Type 0
+  Goes w v = (k : List Key) → K k w k v
+
+  shows : (keys : List Key) (w : World) → K keys w keys (show site.shelf w).world
+  shows keys w = show_goes K site.shelf kept w keys
+
+  first : (keys : List Key) (u v : World) (once : Once) → Goes u v → Moves K keys v once
+      → Moves K keys u once
+  first = later K site.shelf kept
+
+  started_moves : (keys : List Key) (sets : Pairs) (caller : Option Url) (url : Url) (w : World)
+      (index : ℕ) (arguments : List Value)
+      → Moves K keys w (started site keys sets caller url w index arguments)
+  started_moves keys sets caller url w index arguments =
+      let base = without_fragment url in
+      let set = set_variables sets w in
+      let s = quiet keys (record set { world = prepared set.world }) in
+      let ran = site.run (name_for url) base caller index arguments set.world.turns s in
+      let back = record ran.step.world { turns = ran.turns } in
+      let once = ended_script site.shelf base ran in
+      first keys w set.world once (λ k. kept.vars k w set.world.vars)
+      (first keys set.world (record set.world { pending = None }) once
+      (λ k. kept.pending k set.world None)
+      (kept.joins keys (record set.world { pending = None }) ran.step.keys back once.step.keys
+      once.step.world (runs (name_for url) base caller index arguments set.world.turns s)
+      (end_moves K site.shelf kept base ran.end (in_world back ran.step))))
+
+  external_moves : (keys : List Key) (sets : Pairs) (caller : Option Url) (url : Url) (w : World)
+      (arguments : List Value) (o : Option External)
+      → Moves K keys w (start_external site keys sets caller url w arguments o)
+  external_moves keys sets caller url w arguments None = shows keys w
+  external_moves keys sets caller url w arguments (Some one) =
+      by (eqb one.arguments (length arguments)) (list_any (is_too_long w.limits.string) arguments)
+    where
+      by : (b c : Bool) → Moves K keys w (cond b (cond c
+          (not_started site.shelf keys fatal.TooLong w)
+          (started site keys sets caller url w one.index arguments))
+          (not_started site.shelf keys fatal.Arguments w))
+      by true true = shows keys w
+      by true false = started_moves keys sets caller url w one.index arguments
+      by false c = shows keys w
+
+  call_moves : (keys : List Key) (sets : Pairs) (caller : Option Url) (url : Url) (w : World)
+      (o : Option Call) → Moves K keys w (start_call site keys sets caller url w o)
+  call_moves keys sets caller url w None = shows keys w
+  call_moves keys sets caller url w (Some call) =
+      external_moves keys sets caller url w call.arguments
+      (site.external (name_for url) call.function)
+
+  start_moves : (keys : List Key) (sets : Pairs) (caller : Option Url) (url : Url) (w : World)
+      (b : Bool) → Moves K keys w (start_if site keys sets caller url w b)
+  start_moves keys sets caller url w true =
+      call_moves keys sets caller url w (option_and_then site.call url.fragment)
+  start_moves keys sets caller url w false = shows keys w
+
+  answered_moves : (keys : List Key) (sets : Pairs) (caller : Option Url) (url : Url) (w : World)
+      (page : Shelved) → deck_at site.shelf url ≡ deck_in page
+      → Moves K keys w (answered site keys sets caller url w page)
+  answered_moves keys sets caller url w (deck_page deck) has =
+      arrive_if_moves K site.shelf kept keys sets url w deck
+      (test_of url caller (entrance_of deck)).allowed has
+  answered_moves keys sets caller url w (script_page entrance) has =
+      start_moves keys sets caller url w (test_of url caller entrance).allowed
+  answered_moves keys sets caller url w (text_page text) has = shows keys w
+  answered_moves keys sets caller url w refused_page has = shows keys w
+  answered_moves keys sets caller url w no_page has = shows keys w
+
+  request_moves : (keys : List Key) (sets : Pairs) (caller : Option Url) (one : Request) (w : World)
+      → Moves K keys w (request site keys sets caller one w)
+  request_moves keys sets caller one w =
+      answered_moves keys sets caller one.url w (answer_to site.shelf one) refl
+
+  stay_moves : (keys : List Key) (sets : Pairs) (caller : Option Url) (one : Request) (w : World)
+      (place : Option Place) → place_now site.shelf w ≡ place
+      → Moves K keys w (stay_or_ask site keys sets caller one w place)
+  stay_moves keys sets caller one w None here = request_moves keys sets caller one w
+  stay_moves keys sets caller one w (Some place) here = by (is_here one place)
+    where
+      by : (b : Bool) → Moves K keys w (cond b
+          (arrive site.shelf keys sets (here_with place one.url) w place.deck)
+          (request site keys sets caller one w))
+      by true =
+          arrive_moves K site.shelf kept keys sets (here_with place one.url) w place.deck
+          (deck_there site.shelf w place here)
+      by false = request_moves keys sets caller one w
+
+  pub go_moves : (keys : List Key) (base : Option Url) (one : Go) (w : World)
+      → Moves K keys w (go site keys base one w)
+  go_moves keys base one w =
+      url_moves K site.shelf kept keys w (λ url. stay_or_ask site keys one.sets base
+      (request_of base one url) w (place_now site.shelf w)) (target_of base one.href)
+      (λ url. stay_moves keys one.sets base (request_of base one url) w
+      (place_now site.shelf w) refl)
+
+  task_moves : (keys : List Key) (w : World) (from : Option Url) (one : Task)
+      → Moves K keys w (task_by site keys w from one)
+  task_moves keys w from (task.Go one) =
+      turn_moves K site.shelf kept keys w w.turns
+      (λ v. go site keys (base_now site.shelf v from) one v)
+      (λ v. go_moves keys (base_now site.shelf v from) one v) refl
+  task_moves keys w from (task.Prev sets) =
+      turn_moves K site.shelf kept keys w w.turns (prev site.shelf keys sets)
+      (prev_moves K site.shelf kept keys sets) refl
+  task_moves keys w from (task.Refresh sets) = refresh_goes K site.shelf kept sets w keys
 
   -- ---- steps
 
-  pub record StepFine (u : World) (f : List Key → Step) : Type 0 where
-    pub moves : (keys : List Key) → R u (f keys).world
-    pub same : (keys : List Key) → f keys ≡ before keys (f [])
+  abbrev Steps : List Key → World → Step → Type 0
+  Steps keys w step = K keys w step.keys step.world
 
-  quiet_step : (u : World) (scene : Scene) → R u scene.world → StepFine u (λ keys. quiet keys scene)
-  quiet_step u scene r = record { moves = λ keys. r; same = λ keys. refl }
+  abbrev ActsSo : (List Key → World → Next → Step) → Type 0
+  ActsSo f = (keys : List Key) (w : World) (next : Next) → Steps keys w (f keys w next)
 
-  step_later : (u v : World) (f : List Key → Step) → R u v → StepFine v f → StepFine u f
-  step_later u v f r fine =
-      record { moves = λ keys. onto u v _ r (fine.moves keys); same = fine.same }
+  onward_moves : (f : List Key → World → Next → Step) → ActsSo f → (keys : List Key) (w : World)
+      (step : Step) (o : Option Next) → Steps keys w step → Steps keys w (go_on f step o)
+  onward_moves f acts keys w step None moves = moves
+  onward_moves f acts keys w step (Some next) moves =
+      let others = f step.keys step.world next in
+      kept.joins keys w step.keys step.world others.keys others.world moves
+      (acts step.keys step.world next)
 
-  -- a scene, and then a step
-  after_scene : (u : World) (scene : Scene) (g : List Key → World → Step) → R u scene.world
-      → StepFine scene.world (λ keys. g keys scene.world)
-      → StepFine u (λ keys. followed (quiet keys scene) g)
-  after_scene u scene g r fine = record {
-    moves = λ keys. onto u scene.world _ r (fine.moves keys);
-    same = λ keys. ap (joined (quiet [] scene)) (fine.same keys);
-  }
+  act_in_moves : (turns : ℕ) → ActsSo (act_in turns site)
+  act_in_moves zero keys w next = task_moves keys w next.from next.task
+  act_in_moves (suc turns) keys w next =
+      let once = task_once site keys w next in
+      onward_moves (act_in turns site) (act_in_moves turns) keys w once.step once.next
+      (task_moves keys w next.from next.task)
 
-  module _ (next : List Key → World → Task → Step)
-      (fine : (v : World) (one : Task) → StepFine v (λ keys. next keys v one)) where
-    go_on_moves : (u : World) (step : Step) (one : Option Task) → R u step.world
-        → R u (go_on next step one).world
-    go_on_moves u step None r = r
-    go_on_moves u step (Some one) r = onto u step.world _ r ((fine step.world one).moves step.keys)
-
-    go_on_same : (keys : List Key) (step : Step) (one : Option Task)
-        → go_on next (before keys step) one ≡ before keys (go_on next step one)
-    go_on_same keys step None = refl
-    go_on_same keys step (Some one) =
-        ap (joined step) ((fine step.world one).same keys)
-        ∙ sym
-        (ap (λ others. before keys (joined step others)) ((fine step.world one).same step.keys))
-
-    onward_fine : (u : World) (f : List Key → Once) → Fine u f
-        → StepFine u (λ keys. onward next (f keys))
-    onward_fine u f once = record {
-      moves = λ keys. go_on_moves u (f keys).step (f keys).next (once.moves keys);
-      same = λ keys. ap (onward next) (once.same keys) ∙ go_on_same keys (f []).step (f []).next;
-    }
-
-  act_in_fine : (turns : ℕ) (w : World) (one : Task)
-      → StepFine w (λ keys. act_in turns pages keys w one)
-  act_in_fine zero w one =
-      let fine = task_once_fine w one in
-      record { moves = fine.moves; same = λ keys. ap (λ (once : Once). once.step) (fine.same keys) }
-  act_in_fine (suc turns) w one =
-      onward_fine (act_in turns pages) (act_in_fine turns) w
-      (λ keys. task_once pages keys w one) (task_once_fine w one)
-
-  act_fine : (w : World) (one : Task) → StepFine w (λ keys. act pages keys w one)
+  pub act_moves : ActsSo (act site)
   unfolding act
-  act_fine w one = act_in_fine w.turns w one
+  act_moves keys w next = act_in_moves w.turns keys w next
 
-  visit_fine : (w : World) (text : List ℕ)
-      → StepFine w (λ keys. visit pages keys w text)
+  pub leads_moves : (keys : List Key) (w : World) (once : Once) → Moves K keys w once
+      → Steps keys w (onward (act site) once)
+  leads_moves keys w once moves = onward_moves (act site) act_moves keys w once.step once.next moves
+
+  visit_moves : (keys : List Key) (w : World) (text : List ℕ)
+      → Steps keys w (visit site keys w text)
   unfolding visit
-  visit_fine w text =
-      onward_fine (act pages) act_fine w
-      (λ keys. with_turn pages keys w w.turns (open_url pages keys text))
-      (with_turn_fine w w.turns (λ keys. open_url pages keys text)
-      (open_fine text) refl)
+  visit_moves keys w text =
+      leads_moves keys w (with_turn site.shelf keys w w.turns (open_url site keys text))
+      (turn_moves K site.shelf kept keys w w.turns (open_url site keys text)
+      (λ v. url_moves K site.shelf kept keys v
+      (λ url. request site keys [] None (plain_get url) v) (target_of (url_now site.shelf v) text)
+      (λ url. request_moves keys [] None (plain_get url) v)) refl)
 
   -- ---- keys
 
-  act_or_fine : (otherwise : Scene) (w : World) (one : Option Task)
-      → R w otherwise.world → StepFine w (λ keys. act_or otherwise pages keys w one)
-  act_or_fine otherwise w None goes = quiet_step w _ goes
-  act_or_fine otherwise w (Some one) goes = act_fine w one
+  or_moves : (otherwise : Scene) (keys : List Key) (w : World) (one : Option Task)
+      → Goes w otherwise.world → Steps keys w (act_or otherwise site keys w one)
+  or_moves otherwise keys w None goes = goes keys
+  or_moves otherwise keys w (Some one) goes = act_moves keys w (then_task one)
 
-  after_text_goes : (w : World) (answer : Entered)
-      → R w (after_text pages w answer).world
-  after_text_goes w entered.NoInput = stays w
-  after_text_goes w entered.Refused = show_screen_goes w
-  after_text_goes w entered.Full = show_goes w
-  after_text_goes w entered.Set = show_goes w
+  text_goes : (w : World) (answer : Entered) → Goes w (after_text site.shelf w answer).world
+  text_goes w entered.NoInput = λ k. kept.none k w
+  text_goes w entered.Refused = show_screen_goes K site.shelf kept w
+  text_goes w entered.Full = show_goes K site.shelf kept w
+  text_goes w entered.Set = show_goes K site.shelf kept w
 
-  type_text_goes : (n : ℕ) (text : List ℕ) (place : Place) (w : World)
-      → R w (type_text pages n text place w).world
-  type_text_goes n text place w =
+  type_goes : (n : ℕ) (text : List ℕ) (place : Place) (w : World)
+      → Goes w (type_text site.shelf n text place w).world
+  type_goes n text place w k =
       let typed = enter_text w.vars place.card n text in
       let v = record w { vars = typed.vars } in
-      onto w v _ (vars w typed.vars) (after_text_goes v typed.answer)
+      kept.joins k w k v k _ (kept.vars k w typed.vars) (text_goes v typed.answer k)
 
-  after_choice_fine : (w : World) (answer : Chosen)
-      → StepFine w (λ keys. after_choice pages keys w answer)
-  after_choice_fine w chosen.NoOption = quiet_step w _ (stays w)
-  after_choice_fine w (chosen.Set faults one) =
-      after_scene w _ (λ left v. act_or (show pages v) pages left v one) (stays w)
-      (act_or_fine _ w one (show_goes w))
+  choice_moves : (keys : List Key) (w : World) (answer : Chosen)
+      → Steps keys w (after_choice site keys w answer)
+  choice_moves keys w chosen.NoOption = kept.none keys w
+  choice_moves keys w (chosen.Set faults one) =
+      or_moves (show site.shelf w) keys w one (show_goes K site.shelf kept w)
 
-  choose_fine : (n m : ℕ) (place : Place) (w : World)
-      → StepFine w (λ keys. choose_option pages keys n m place w)
-  choose_fine n m place w =
+  choose_moves : (keys : List Key) (n m : ℕ) (place : Place) (w : World)
+      → Steps keys w (choose_option site keys n m place w)
+  choose_moves keys n m place w =
       let made = choose w.vars place.card n m in
-      step_later w (record w { vars = made.vars }) _ (vars w made.vars)
-      (after_choice_fine (record w { vars = made.vars }) made.answer)
+      let v = record w { vars = made.vars } in
+      let step = after_choice site keys v made.answer in
+      kept.joins keys w keys v step.keys step.world (kept.vars keys w made.vars)
+      (choice_moves keys v made.answer)
 
-  expire_fine : (w : World) (place : Place) → place_now pages w ≡ Some place
-      → StepFine w (λ keys. expire pages keys place w)
-  expire_fine w place here =
-      let ended = end_timer place.card w in
-      after_scene w ended (λ left v. act_or (still v) pages left v (event_task pages event.Timer v))
-      (end_timer_goes w place here)
-      (act_or_fine _ ended.world (event_task pages event.Timer ended.world) (stays ended.world))
+  expire_moves : (keys : List Key) (place : Place) (w : World) → place_now site.shelf w ≡ Some place
+      → Steps keys w (expire site keys place w)
+  expire_moves keys place w here =
+      let late = (end_timer place.card w).world in
+      let one = event_task site.shelf event.Timer late in
+      let step = act_or (still late) site keys late one in
+      kept.joins keys w keys late step.keys step.world
+      (end_timer_goes K site.shelf kept w place here keys)
+      (or_moves (still late) keys late one (λ k. kept.none k late))
 
-  if_step : (u : World) (b : Bool) (f g : List Key → Step) → StepFine u f → StepFine u g
-      → StepFine u (λ keys. if b then f keys else g keys)
-  if_step u true f g one other = one
-  if_step u false f g one other = other
+  time_moves : (keys : List Key) (n : ℕ) (t : Timer) (place : Place) (w : World)
+      → place_now site.shelf w ≡ Some place → Steps keys w (pass_time site keys n t place w)
+  time_moves keys n NotStarted place w here = kept.none keys w
+  time_moves keys n (Running time) place w here = by (ltb n time)
+    where
+      by : (b : Bool) → Steps keys w (cond b
+          (quiet keys (still (record w { timer = Running (time - n) })))
+          (expire site keys place w))
+      by true = kept.timer keys w (Running (time - n)) place here
+      by false = expire_moves keys place w here
+  time_moves keys n Off place w here = kept.none keys w
+  time_moves keys n Expired place w here = kept.none keys w
 
-  pass_time_fine : (n : ℕ) (t : Timer) (w : World) (place : Place)
-      → place_now pages w ≡ Some place → StepFine w (λ keys. pass_time pages keys n t place w)
-  pass_time_fine n NotStarted w place here = quiet_step w _ (stays w)
-  pass_time_fine n (Running time) w place here =
-      if_step w _ _ _ (quiet_step w _ (timer w _ place here)) (expire_fine w place here)
-  pass_time_fine n Off w place here = quiet_step w _ (stays w)
+  card_moves : (keys : List Key) (w : World) (rule : Place → Step)
+      → ((place : Place) → place_now site.shelf w ≡ Some place → Steps keys w (rule place))
+      → (o : Option Place) → place_now site.shelf w ≡ o → Steps keys w (at_card keys w rule o)
+  card_moves keys w rule rules None here = kept.none keys w
+  card_moves keys w rule rules (Some place) here = rules place here
 
-  at_card_fine : (w : World) (rule : List Key → Place → Step)
-      → ((p : Place) → place_now pages w ≡ Some p → StepFine w (λ keys. rule keys p))
-      → (place : Option Place) → place_now pages w ≡ place
-      → StepFine w (λ keys. at_card keys w (rule keys) place)
-  at_card_fine w rule fine None here = quiet_step w _ (stays w)
-  at_card_fine w rule fine (Some place) here = fine place here
+  on_card_moves : (keys : List Key) (w : World) (rule : Place → Step)
+      → ((place : Place) → place_now site.shelf w ≡ Some place → Steps keys w (rule place))
+      → Steps keys w (at_card keys w rule (place_now site.shelf w))
+  on_card_moves keys w rule rules = card_moves keys w rule rules (place_now site.shelf w) refl
 
-  pub apply_fine : (w : World) (one : Key)
-      → StepFine w (λ keys. apply pages keys w one)
-  apply_fine w (key.Open url) = visit_fine w url
-  apply_fine w (key.Do name) =
-      at_card_fine w _ (λ place here. act_or_fine _ w _ (stays w)) (place_now pages w) refl
-  apply_fine w (key.Pick n) =
-      at_card_fine w _ (λ place here. act_or_fine _ w _ (stays w)) (place_now pages w) refl
-  apply_fine w (key.Enter n text) =
-      at_card_fine w _ (λ place here. quiet_step w _ (type_text_goes n text place w))
-      (place_now pages w) refl
-  apply_fine w (key.Choose n m) =
-      at_card_fine w _ (λ place here. choose_fine n m place w) (place_now pages w) refl
-  apply_fine w key.Back =
-      at_card_fine w _ (λ place here. act_fine w (task.Prev [])) (place_now pages w) refl
-  apply_fine w (key.Tick n) =
-      at_card_fine w _ (pass_time_fine n w.timer w) (place_now pages w) refl
-  apply_fine w key.Ok = quiet_step w _ (stays w)
-  apply_fine w key.Cancel = quiet_step w _ (stays w)
-  apply_fine w (key.Answer text) = quiet_step w _ (stays w)
-  apply_fine w key.Stop = quiet_step w _ (stays w)
-  apply_fine w key.Vars = quiet_step w _ (stays w)
+  ignores : (keys : List Key) (w : World) (one : Option Task)
+      → Steps keys w (act_or (ignored w) site keys w one)
+  ignores keys w one = or_moves (ignored w) keys w one (λ k. kept.none k w)
+
+  pub apply_moves : (keys : List Key) (w : World) (one : Key) → Steps keys w (apply site keys w one)
+  apply_moves keys w (key.Open url) = visit_moves keys w url
+  apply_moves keys w (key.Do name) =
+      on_card_moves keys w
+      (λ place. act_or (ignored w) site keys w (do_task w.vars place.deck place.card name))
+      (λ place here. ignores keys w (do_task w.vars place.deck place.card name))
+  apply_moves keys w (key.Pick n) =
+      on_card_moves keys w
+      (λ place. act_or (ignored w) site keys w (link_task w.vars place.card n))
+      (λ place here. ignores keys w (link_task w.vars place.card n))
+  apply_moves keys w (key.Enter n text) =
+      on_card_moves keys w (λ place. quiet keys (type_text site.shelf n text place w))
+      (λ place here. type_goes n text place w keys)
+  apply_moves keys w (key.Choose n m) =
+      on_card_moves keys w (λ place. choose_option site keys n m place w)
+      (λ place here. choose_moves keys n m place w)
+  apply_moves keys w key.Back =
+      on_card_moves keys w (λ place. act site keys w (then_task (task.Prev [])))
+      (λ place here. act_moves keys w (then_task (task.Prev [])))
+  apply_moves keys w (key.Tick n) =
+      on_card_moves keys w (λ place. pass_time site keys n w.timer place w)
+      (λ place here. time_moves keys n w.timer place w here)
+  apply_moves keys w key.Ok = kept.none keys w
+  apply_moves keys w key.Cancel = kept.none keys w
+  apply_moves keys w (key.Answer text) = kept.none keys w
+  apply_moves keys w key.Stop = kept.none keys w
+  apply_moves keys w key.Vars = kept.none keys w
+
+  pub react_moves : (one : Key) (keys : List Key) (w : World)
+      → Steps keys (renewed w) (react site one keys w)
+  unfolding react
+  react_moves one keys w = apply_moves keys (renewed w) one

@@ -1,7 +1,8 @@
--- Who may enter a deck (WAP-191, section 11.3.1).
+-- Who may enter a deck (WAP-191, section 11.3.1), or call a script (WAP-193, section 6.7).
 use Rattle.std.specs.Prelude.{ℕ, Bool, true, false, ◌&&◌, if◌then◌else◌, map}
 use Rattle.std.specs.Prelude.{unwrap_or, List, [], ◌∷◌, Option, Some, None}
-use Rattle.std.specs.Option.{option_map_or, option_and_then}
+use Rattle.std.specs.Option.{option_map, option_map_or, option_and_then}
+use Rattle.wap_world.specs.Shelves.{Entrance}
 use Rattle.std.specs.List.{starts_with, ends_with}
 use Rattle.std.specs.Char.{to_ascii_lowercase}
 use Rattle.wap_base.specs.Texts.{is_same_text}
@@ -63,10 +64,10 @@ rooted_path page path =
     if begins_with is_slash path then path else (joined page (path_reference path)).path
 
 -- the domain is that of the page where there is none, and the path the root
-abbrev pub access_in : Url → Node → Access
-access_in page node = record {
-  domain = unwrap_or (access_text attrs.Domain node) (unwrap_or page.host []);
-  path = rooted_path page (unwrap_or (access_text attrs.Path node) (slash ∷ []));
+abbrev pub access_in : Url → Entrance → Access
+access_in page entrance = record {
+  domain = unwrap_or entrance.domain (unwrap_or page.host []);
+  path = rooted_path page (unwrap_or entrance.path (slash ∷ []));
 }
 
 -- the first access element of the first head
@@ -74,8 +75,15 @@ abbrev pub access_of : Deck → Option Node
 access_of deck =
     option_and_then (λ head. first_with tags.Access head.kids) (first_with tags.Head deck.root.kids)
 
--- without one anybody may enter, and a user who opens a URL always may
-abbrev pub may_enter : Url → Deck → Option Url → Bool
-may_enter page deck None = true
-may_enter page deck (Some caller) =
-    option_map_or (λ node. allows (access_in page node) caller) (access_of deck) true
+-- who may enter a deck; without an access element anybody may
+abbrev pub entrance_of : Deck → Option Entrance
+entrance_of deck = option_map (λ node. record {
+  domain = access_text attrs.Domain node;
+  path = access_text attrs.Path node;
+}) (access_of deck)
+
+-- without an entrance anybody may enter, and a user who opens a URL always may
+abbrev pub may_enter : Url → Option Entrance → Option Url → Bool
+may_enter page entrance None = true
+may_enter page entrance (Some caller) =
+    option_map_or (λ one. allows (access_in page one) caller) entrance true

@@ -1,6 +1,6 @@
 -- The history (WAP-191, section 9.2): the cards that were entered, the current one last. How many
 -- it keeps is this project's own.
-use Rattle.std.specs.Prelude.{ℕ, ◌-◌, nat_lt, if◌then◌else◌, List, [], ◌∷◌}
+use Rattle.std.specs.Prelude.{ℕ, ◌-◌, ◌≤◌, nat_lt, if◌then◌else◌, List, [], ◌∷◌}
 use Rattle.std.specs.Prelude.{◌++◌, length, take, drop, Option, None}
 use Rattle.std.specs.List.{last_or}
 use Rattle.wap_url.specs.declared.url.Url.{Url}
@@ -38,3 +38,8 @@ in_deck deck entry =
 abbrev pub back_at : World → Entry → World
 back_at world earlier =
     record world { history = all_but_last (all_but_last world.history) ++ earlier ∷ [] }
+
+-- the history has no more entries than its limit, which is at least 1
+pub record KeepsToLimit (world : World) : Type 0 where
+  pub some : 1 ≤ world.limits.history
+  pub few : length world.history ≤ world.limits.history

@@ -16,11 +16,12 @@ use Rattle.wap_cardrules.specs.Fields.{link_task}
 use Rattle.wap_cardrules.specs.Entering.{enter_text, choose}
 use Rattle.wap_world.specs.declared.refusal.Refusal.TheVariants as refusals
 use Rattle.wap_world.specs.declared.timer.Timer.{Timer}
-use Rattle.wap_world.specs.declared.timer.Timer.TheVariants.{NotStarted, Running, Off}
-use Rattle.wap_site.specs.Pages.{Pages}
+use Rattle.wap_world.specs.declared.timer.Timer.TheVariants.{NotStarted, Running, Off, Expired}
+use Rattle.wap_world.specs.Shelves.{Shelf}
+use Rattle.wap_world.specs.Sites.{Site}
 use Rattle.wap_world.specs.World.{World, Place, place_now}
 use Rattle.wap_world.specs.Lines.{refusal_line, variable_line}
-use Rattle.wap_world.specs.Steps.{Scene, Step, still, behind, quiet, followed}
+use Rattle.wap_world.specs.Steps.{Scene, Step, then_task, still, behind, quiet, followed}
 use Rattle.wap_world.specs.Setting.{fault_lines}
 use Rattle.wap_world.specs.Timers.{end_timer}
 use Rattle.wap_world.specs.Screens.{show, show_screen, refuse}
@@ -32,53 +33,54 @@ abbrev pub ignored : World → Scene
 ignored world = record { world = world; lines = refusal_line refusals.Ignored ∷ [] }
 
 -- a task, or what happens without one
-abbrev pub act_or : Scene → Pages → List Key → World → Option Task → Step
-act_or otherwise pages keys world None = quiet keys otherwise
-act_or otherwise pages keys world (Some task) = act pages keys world task
+abbrev pub act_or : Scene → Site → List Key → World → Option Task → Step
+act_or otherwise site keys world None = quiet keys otherwise
+act_or otherwise site keys world (Some task) = act site keys world (then_task task)
 
 -- ---- fields
 
 -- a text that a field takes is set and shown; one that it doesn't take leaves the screen as it was
-abbrev pub after_text : Pages → World → Entered → Scene
-after_text pages world entered.NoInput = ignored world
-after_text pages world entered.Refused =
-    behind (refusal_line refusals.Mask ∷ []) (show_screen pages world)
-after_text pages world entered.Full = refuse pages refusals.Full world
-after_text pages world entered.Set = show pages world
+abbrev pub after_text : Shelf → World → Entered → Scene
+after_text shelf world entered.NoInput = ignored world
+after_text shelf world entered.Refused =
+    behind (refusal_line refusals.Mask ∷ []) (show_screen shelf world)
+after_text shelf world entered.Full = refuse shelf refusals.Full world
+after_text shelf world entered.Set = show shelf world
 
 -- a text is entered into the field of a number
-abbrev pub type_text : Pages → ℕ → List ℕ → Place → World → Scene
-type_text pages n text place world =
+abbrev pub type_text : Shelf → ℕ → List ℕ → Place → World → Scene
+type_text shelf n text place world =
     let typed = enter_text world.vars place.card n text in
-    after_text pages (record world { vars = typed.vars }) typed.answer
+    after_text shelf (record world { vars = typed.vars }) typed.answer
 
 -- the sets that were refused, and then the task of onpick, or show
-abbrev pub after_choice : Pages → List Key → World → Chosen → Step
-after_choice pages keys world chosen.NoOption = quiet keys (ignored world)
-after_choice pages keys world (chosen.Set refused task) = followed
+abbrev pub after_choice : Site → List Key → World → Chosen → Step
+after_choice site keys world chosen.NoOption = quiet keys (ignored world)
+after_choice site keys world (chosen.Set refused task) = followed
     (quiet keys (record { world = world; lines = flat_map fault_lines refused }))
-    (λ left w. act_or (show pages w) pages left w task)
+    (λ left w. act_or (show site.shelf w) site left w task)
 
 -- an option is chosen in the field of a number
-abbrev pub choose_option : Pages → List Key → ℕ → ℕ → Place → World → Step
-choose_option pages keys n m place world =
+abbrev pub choose_option : Site → List Key → ℕ → ℕ → Place → World → Step
+choose_option site keys n m place world =
     let made = choose world.vars place.card n m in
-    after_choice pages keys (record world { vars = made.vars }) made.answer
+    after_choice site keys (record world { vars = made.vars }) made.answer
 
 -- ---- the timer
 
 -- the timer has run out: its variable is 0, and its task runs
-abbrev pub expire : Pages → List Key → Place → World → Step
-expire pages keys place world = followed (quiet keys (end_timer place.card world))
-    (λ left w. act_or (still w) pages left w (event_task pages event.Timer w))
+abbrev pub expire : Site → List Key → Place → World → Step
+expire site keys place world = followed (quiet keys (end_timer place.card world))
+    (λ left w. act_or (still w) site left w (event_task site.shelf event.Timer w))
 
 -- some time passes: less than remains, or all
-abbrev pub pass_time : Pages → List Key → ℕ → Timer → Place → World → Step
-pass_time pages keys n NotStarted place world = quiet keys (ignored world)
-pass_time pages keys n (Running time) place world =
+abbrev pub pass_time : Site → List Key → ℕ → Timer → Place → World → Step
+pass_time site keys n NotStarted place world = quiet keys (ignored world)
+pass_time site keys n (Running time) place world =
     if nat_lt n time then quiet keys (still (record world { timer = Running (time - n) }))
-    else expire pages keys place world
-pass_time pages keys n Off place world = quiet keys (ignored world)
+    else expire site keys place world
+pass_time site keys n Off place world = quiet keys (ignored world)
+pass_time site keys n Expired place world = quiet keys (ignored world)
 
 -- ---- each key
 
@@ -88,36 +90,36 @@ at_card keys world rule None = quiet keys (ignored world)
 at_card keys world rule (Some place) = rule place
 
 -- a rule for the card where the browser is
-abbrev pub on_card : Pages → List Key → World → (Place → Step) → Step
-on_card pages keys world rule = at_card keys world rule (place_now pages world)
+abbrev pub on_card : Site → List Key → World → (Place → Step) → Step
+on_card site keys world rule = at_card keys world rule (place_now site.shelf world)
 
 -- each key has its turns
 abbrev pub renewed : World → World
 renewed world = record world { turns = world.budget }
 
 -- what each key does; those of dialogs fit nothing outside one
-abbrev pub apply : Pages → List Key → World → Key → Step
-apply pages keys world (key.Open url) = visit pages keys world url
-apply pages keys world (key.Do name) = on_card pages keys world
+abbrev pub apply : Site → List Key → World → Key → Step
+apply site keys world (key.Open url) = visit site keys world url
+apply site keys world (key.Do name) = on_card site keys world
     (λ place.
-    act_or (ignored world) pages keys world (do_task world.vars place.deck place.card name))
-apply pages keys world (key.Pick n) = on_card pages keys world
-    (λ place. act_or (ignored world) pages keys world (link_task world.vars place.card n))
-apply pages keys world (key.Enter n text) = on_card pages keys world
-    (λ place. quiet keys (type_text pages n text place world))
-apply pages keys world (key.Choose n m) = on_card pages keys world
-    (λ place. choose_option pages keys n m place world)
-apply pages keys world key.Back = on_card pages keys world
-    (λ place. act pages keys world (Prev []))
-apply pages keys world (key.Tick n) = on_card pages keys world
-    (λ place. pass_time pages keys n world.timer place world)
-apply pages keys world key.Ok = quiet keys (ignored world)
-apply pages keys world key.Cancel = quiet keys (ignored world)
-apply pages keys world (key.Answer text) = quiet keys (ignored world)
-apply pages keys world key.Stop = quiet keys (ignored world)
-apply pages keys world key.Vars =
+    act_or (ignored world) site keys world (do_task world.vars place.deck place.card name))
+apply site keys world (key.Pick n) = on_card site keys world
+    (λ place. act_or (ignored world) site keys world (link_task world.vars place.card n))
+apply site keys world (key.Enter n text) = on_card site keys world
+    (λ place. quiet keys (type_text site.shelf n text place world))
+apply site keys world (key.Choose n m) = on_card site keys world
+    (λ place. choose_option site keys n m place world)
+apply site keys world key.Back = on_card site keys world
+    (λ place. act site keys world (then_task (Prev [])))
+apply site keys world (key.Tick n) = on_card site keys world
+    (λ place. pass_time site keys n world.timer place world)
+apply site keys world key.Ok = quiet keys (ignored world)
+apply site keys world key.Cancel = quiet keys (ignored world)
+apply site keys world (key.Answer text) = quiet keys (ignored world)
+apply site keys world key.Stop = quiet keys (ignored world)
+apply site keys world key.Vars =
     quiet keys (record { world = world; lines = map variable_line world.vars })
 
 -- a key, before keys that are left
-unfoldable pub react : Pages → Key → List Key → World → Step
-react pages one keys world = apply pages keys (renewed world) one
+unfoldable pub react : Site → Key → List Key → World → Step
+react site one keys world = apply site keys (renewed world) one

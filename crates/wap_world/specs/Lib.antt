@@ -1,3 +1,4 @@
+pub mod Shelves
 pub mod World
 pub mod Lines
 pub mod Steps
@@ -9,6 +10,9 @@ pub mod Entering
 pub mod Urls
 pub mod Access
 pub mod Requests
+pub mod Sites
+pub mod Decks
+pub mod Starting
 pub mod Tasks
 pub mod Keys
 pub mod Sessions

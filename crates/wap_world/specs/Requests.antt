@@ -1,7 +1,7 @@
 -- Requests (WAP-191, sections 9.5.1 and 9.3): what a go asks for, the line that it shows, and the
 -- page that answers.
 use Rattle.std.specs.Prelude.{ℕ, Bool, false, if◌then◌else◌, List, [], ◌∷◌, ◌++◌, map}
-use Rattle.std.specs.Prelude.{Option, Some, None, Result, Ok, Err, codes}
+use Rattle.std.specs.Prelude.{Option, Some, None, codes}
 use Rattle.std.specs.Option.{option_map, option_map_or}
 use Rattle.std.specs.List.{join_with_byte}
 use Rattle.wap_base.specs.Ascii.{space, ampersand, equals_sign}
@@ -10,14 +10,9 @@ use Rattle.wap_url.specs.declared.url.Url.{Url}
 use Rattle.wap_url.specs.Escapes.{escaped}
 use Rattle.wap_url.specs.Printing.{text_without_fragment, name_for}
 use Rattle.wap_url.specs.Relative.{relative_form}
-use Rattle.wap_markup.specs.declared.deck.Deck.{Deck}
 use Rattle.wap_cardrules.specs.declared.task.Go.{Go}
 use Rattle.wap_cardrules.specs.Values.{Pairs}
-use Rattle.wap_world.specs.declared.refusal.Refusal.{Refusal}
-use Rattle.wap_world.specs.declared.refusal.Refusal.TheVariants as refusals
-use Rattle.wap_site.specs.declared.page.Page.{Page}
-use Rattle.wap_site.specs.declared.page.Page.TheVariants as page
-use Rattle.wap_site.specs.Pages.{Pages, page_of}
+use Rattle.wap_world.specs.Shelves.{Shelf, Shelved, Entrance}
 use Rattle.wap_world.specs.Access.{may_enter}
 use Rattle.wap_world.specs.World.{World}
 use Rattle.wap_world.specs.Steps.{AccessTest, Step}
@@ -84,13 +79,6 @@ request_line request =
 
 -- ---- its answer
 
--- the deck that a page is, or why there is none
-abbrev pub deck_answer : Page → Result Deck Refusal
-deck_answer (page.Deck deck) = Ok deck
-deck_answer (page.Words text) = Err refusals.Refused
-deck_answer page.Refused = Err refusals.Refused
-deck_answer page.Missing = Err refusals.Missing
-
 -- the request is shown, and the page is asked for
 abbrev pub ask : List Key → Request → World → Step
 ask keys request world = record {
@@ -99,18 +87,25 @@ ask keys request world = record {
   lines = request_line request ∷ [];
   asked = (name_for request.url, request.fresh) ∷ [];
   tests = [];
+  is_open = false;
 }
 
 -- what these pages answer
-abbrev pub answer_to : Pages → Request → Result Deck Refusal
-answer_to pages request = deck_answer (page_of (name_for request.url) pages)
+abbrev pub answer_to : Shelf → Request → Shelved
+answer_to shelf request = shelf (name_for request.url)
 
--- it is decided whether a deck may be entered from a URL, or by a user who opens it
-abbrev pub test_of : Url → Option Url → Deck → AccessTest
-test_of page caller deck =
-    record { page = name_for page; caller = caller; allowed = may_enter page deck caller }
+-- it is decided whether a page may be entered from a URL, or by a user who opens it
+abbrev pub test_of : Url → Option Url → Option Entrance → AccessTest
+test_of page caller entrance =
+    record { page = name_for page; caller = caller; allowed = may_enter page entrance caller }
 
 -- the test is made; nothing else happens
 abbrev pub test : List Key → AccessTest → World → Step
-test keys one world =
-    record { world = world; keys = keys; lines = []; asked = []; tests = one ∷ [] }
+test keys one world = record {
+  world = world;
+  keys = keys;
+  lines = [];
+  asked = [];
+  tests = one ∷ [];
+  is_open = false;
+}

@@ -8,7 +8,7 @@ use Rattle.wap_cardrules.specs.Dos.{do_labels}
 use Rattle.wap_cardrules.specs.Flow.{flow_of, title_of}
 use Rattle.wap_world.specs.declared.refusal.Refusal.{Refusal}
 use Rattle.wap_world.specs.declared.screen.TheConstants.{COLUMNS}
-use Rattle.wap_site.specs.Pages.{Pages}
+use Rattle.wap_world.specs.Shelves.{Shelf}
 use Rattle.wap_world.specs.World.{World, Place, place_now}
 use Rattle.wap_world.specs.Lines.{title_line, do_line, refusal_line}
 use Rattle.wap_world.specs.Steps.{Scene, still, behind, and_then}
@@ -28,8 +28,8 @@ at_place rule None world = still world
 at_place rule (Some place) world = rule place world
 
 -- a rule for the card where the browser is
-abbrev pub here : Pages → (Place → World → Scene) → World → Scene
-here pages rule world = at_place rule (place_now pages world) world
+abbrev pub here : Shelf → (Place → World → Scene) → World → Scene
+here shelf rule world = at_place rule (place_now shelf world) world
 
 -- ---- the screen is shown
 
@@ -38,8 +38,8 @@ abbrev pub screen_lines : Place → World → Scene
 screen_lines place world = record { world = world; lines = screen world.vars place }
 
 -- the screen alone
-abbrev pub show_screen : Pages → World → Scene
-show_screen pages world = here pages screen_lines world
+abbrev pub show_screen : Shelf → World → Scene
+show_screen shelf world = here shelf screen_lines world
 
 -- ---- show
 
@@ -53,9 +53,9 @@ show_place place world =
     and_then (apply_defaults place world) (λ w. screen_lines place (started w.timer place.card w))
 
 -- defaults, timer and screen
-abbrev pub show : Pages → World → Scene
-show pages world = here pages show_place world
+abbrev pub show : Shelf → World → Scene
+show shelf world = here shelf show_place world
 
 -- a refusal that ends a navigation is followed by show
-abbrev pub refuse : Pages → Refusal → World → Scene
-refuse pages refusal world = behind (refusal_line refusal ∷ []) (show pages world)
+abbrev pub refuse : Shelf → Refusal → World → Scene
+refuse shelf refusal world = behind (refusal_line refusal ∷ []) (show shelf world)

@@ -8,7 +8,8 @@
 --    5. With get the current deck isn't asked for again, unless it is to be fetched anew: on with
 -- step 8.
 --    6. The request is shown, and the page is asked for.
---    7. The page's access element decides whether it may be entered from the current deck.
+--    7. The page's access element, or a script's access pragmas, decide whether it may be entered
+-- from the current deck. A script is then started (`Starting`).
 --    8. The card whose id is the fragment is taken, else the first.
 --    9. The old card is left.
 --   10. Variables are set.
@@ -32,9 +33,14 @@ use Rattle.wap_world.specs.declared.history.Entry.{Entry}
 use Rattle.wap_world.specs.declared.timer.Timer.TheVariants.{NotStarted}
 use Rattle.wap_world.specs.declared.refusal.Refusal.{Refusal}
 use Rattle.wap_world.specs.declared.refusal.Refusal.TheVariants as refusals
-use Rattle.wap_site.specs.Pages.{Pages}
+use Rattle.wap_world.specs.Shelves.{Shelf, Shelved, deck_page, script_page, text_page}
+use Rattle.wap_world.specs.Shelves.{refused_page, no_page}
+use Rattle.wap_world.specs.Sites.{Site}
+use Rattle.wap_world.specs.Access.{entrance_of}
+use Rattle.wap_world.specs.Starting.{start_if}
 use Rattle.wap_world.specs.World.{World, Place, place_now}
-use Rattle.wap_world.specs.Steps.{Scene, Step, Once, and_then, quiet, followed, settled}
+use Rattle.wap_world.specs.Steps.{Scene, Step, Once, Next, and_then, quiet, followed, settled}
+use Rattle.wap_world.specs.Steps.{after_step}
 use Rattle.wap_world.specs.History.{entry_of, pushed, earlier_entry, in_deck, back_at}
 use Rattle.wap_world.specs.Setting.{set_variables}
 use Rattle.wap_world.specs.Timers.{start_timer}
@@ -45,36 +51,31 @@ use Rattle.wap_world.specs.Requests.{Request, plain_get, request_of, ask, answer
 
 -- ---- what navigations share
 
--- a step, and then a navigation
-abbrev pub after_step : Step → Once → Once
-after_step step once = record once { step = followed step (λ keys world. once.step) }
-
 -- a navigation that ends with a refusal, after which the current card is shown
-abbrev pub refused : Pages → List Key → Refusal → World → Once
-refused pages keys refusal world = settled (quiet keys (refuse pages refusal world))
+abbrev pub refused : Shelf → List Key → Refusal → World → Once
+refused shelf keys refusal world = settled (quiet keys (refuse shelf refusal world))
 
 -- the current card is left, and variables are set
-abbrev pub leave_and_set : Pages → Pairs → World → Scene
-leave_and_set pages sets world = and_then (leave pages world) (set_variables sets)
+abbrev pub leave_and_set : Shelf → Pairs → World → Scene
+leave_and_set shelf sets world = and_then (leave shelf world) (set_variables sets)
 
 -- the URL of the current deck
-abbrev pub url_now : Pages → World → Option Url
-url_now pages world = option_map (λ place. place.url) (place_now pages world)
+abbrev pub url_now : Shelf → World → Option Url
+url_now shelf world = option_map (λ place. place.url) (place_now shelf world)
 
--- on with the deck that answers, or the refusal
-abbrev pub with_deck : Pages → List Key → World → (Deck → Once) → Result Deck Refusal → Once
-with_deck pages keys world next (Ok deck) = next deck
-with_deck pages keys world next (Err refusal) = refused pages keys refusal world
+-- the URL of the current deck; without a card, that of the script that asked
+abbrev pub base_now : Shelf → World → Option Url → Option Url
+base_now shelf world from = option_map_or Some (url_now shelf world) from
 
 -- on with the URL, or its refusal
-abbrev pub with_url : Pages → List Key → World → (Url → Once) → Result Url Refusal → Once
-with_url pages keys world next (Ok url) = next url
-with_url pages keys world next (Err refusal) = refused pages keys refusal world
+abbrev pub with_url : Shelf → List Key → World → (Url → Once) → Result Url Refusal → Once
+with_url shelf keys world next (Ok url) = next url
+with_url shelf keys world next (Err refusal) = refused shelf keys refusal world
 
 -- a turn is taken, if one is left
-abbrev pub with_turn : Pages → List Key → World → ℕ → (World → Once) → Once
-with_turn pages keys world zero next = refused pages keys refusals.Budget world
-with_turn pages keys world (suc turns) next = next (record world { turns = turns })
+abbrev pub with_turn : Shelf → List Key → World → ℕ → (World → Once) → Once
+with_turn shelf keys world zero next = refused shelf keys refusals.Budget world
+with_turn shelf keys world (suc turns) next = next (record world { turns = turns })
 
 -- ---- go, by the steps of its rule
 
@@ -94,30 +95,42 @@ in_context deck number world =
     then record world { vars = []; history = []; timer = NotStarted } else world
 
 -- 9 to 13: the old card is left, variables are set, the new card is pushed and entered
-abbrev pub arrive : Pages → List Key → Pairs → Url → World → Deck → Once
-arrive pages keys sets url world deck =
+abbrev pub arrive : Shelf → List Key → Pairs → Url → World → Deck → Once
+arrive shelf keys sets url world deck =
     let number = card_for deck url in
-    let left = leave_and_set pages sets world in
+    let left = leave_and_set shelf sets world in
     let inside = pushed (in_context deck number left.world) (entry_of url number) in
-    after_step (quiet keys left) (enter pages keys Forward inside)
+    after_step (quiet keys left) (enter shelf keys Forward inside)
 
 -- 7: whether the deck may be entered
-abbrev pub arrive_if : Pages → List Key → Pairs → Url → World → Deck → Bool → Once
-arrive_if pages keys sets url world deck true = arrive pages keys sets url world deck
-arrive_if pages keys sets url world deck false = refused pages keys refusals.Denied world
+abbrev pub arrive_if : Shelf → List Key → Pairs → Url → World → Deck → Bool → Once
+arrive_if shelf keys sets url world deck true = arrive shelf keys sets url world deck
+arrive_if shelf keys sets url world deck false = refused shelf keys refusals.Denied world
 
 -- the test is made, and the deck is entered where it may be
-abbrev pub try_deck : Pages → List Key → Pairs → Option Url → Url → World → Deck → Once
-try_deck pages keys sets caller url world deck =
-    let one = test_of url caller deck in
-    after_step (test keys one world) (arrive_if pages keys sets url world deck one.allowed)
+abbrev pub try_deck : Shelf → List Key → Pairs → Option Url → Url → World → Deck → Once
+try_deck shelf keys sets caller url world deck =
+    let one = test_of url caller (entrance_of deck) in
+    after_step (test keys one world) (arrive_if shelf keys sets url world deck one.allowed)
+
+-- by the page that answers
+abbrev pub answered : Site → List Key → Pairs → Option Url → Url → World → Shelved → Once
+answered site keys sets caller url world (deck_page deck) =
+    try_deck site.shelf keys sets caller url world deck
+answered site keys sets caller url world (script_page entrance) =
+    let one = test_of url caller entrance in
+    after_step (test keys one world) (start_if site keys sets caller url world one.allowed)
+answered site keys sets caller url world (text_page text) =
+    refused site.shelf keys refusals.Refused world
+answered site keys sets caller url world refused_page =
+    refused site.shelf keys refusals.Refused world
+answered site keys sets caller url world no_page = refused site.shelf keys refusals.Missing world
 
 -- 6: the page is asked for
-abbrev pub request : Pages → List Key → Pairs → Option Url → Request → World → Once
-request pages keys sets caller one world =
+abbrev pub request : Site → List Key → Pairs → Option Url → Request → World → Once
+request site keys sets caller one world =
     after_step (ask keys one world)
-    (with_deck pages keys world
-    (try_deck pages keys sets caller one.url world) (answer_to pages one))
+    (answered site keys sets caller one.url world (answer_to site.shelf one))
 
 -- 5: no request is made for the current deck, but for a post and for a page that is to be fetched
 -- anew
@@ -130,106 +143,123 @@ here_with place url = record place.url { fragment = url.fragment }
 
 -- the current deck is entered anew where it is asked for, else the page is asked for
 abbrev pub stay_or_ask
-    : Pages → List Key → Pairs → Option Url → Request → World → Option Place → Once
-stay_or_ask pages keys sets caller one world None = request pages keys sets caller one world
-stay_or_ask pages keys sets caller one world (Some place) =
-    if is_here one place then arrive pages keys sets (here_with place one.url) world place.deck
-    else request pages keys sets caller one world
+    : Site → List Key → Pairs → Option Url → Request → World → Option Place → Once
+stay_or_ask site keys sets caller one world None = request site keys sets caller one world
+stay_or_ask site keys sets caller one world (Some place) =
+    if is_here one place
+    then arrive site.shelf keys sets (here_with place one.url) world place.deck
+    else request site keys sets caller one world
 
 -- 3 and 4: the URL, as a reference to that of the deck, with what the postfields make of it
-abbrev pub go : Pages → List Key → Option Url → Go → World → Once
-go pages keys base one world = with_url pages keys world
-    (λ url. stay_or_ask pages keys one.sets base (request_of base one url) world
-    (place_now pages world))
+abbrev pub go : Site → List Key → Option Url → Go → World → Once
+go site keys base one world = with_url site.shelf keys world
+    (λ url. stay_or_ask site keys one.sets base (request_of base one url) world
+    (place_now site.shelf world))
     (target_of base one.href)
 
 -- ---- open: a go of a user, from no URL; a request is always made
 
 -- the text is a reference to the current deck's URL, or stands by itself without one
-abbrev pub open_url : Pages → List Key → List ℕ → World → Once
-open_url pages keys text world = with_url pages keys world
-    (λ url. request pages keys [] None (plain_get url) world)
-    (target_of (url_now pages world) text)
+abbrev pub open_url : Site → List Key → List ℕ → World → Once
+open_url site keys text world = with_url site.shelf keys world
+    (λ url. request site keys [] None (plain_get url) world)
+    (target_of (url_now site.shelf world) text)
 
 -- ---- prev
 
 -- the old card is left, variables are set, and the earlier card is entered
-abbrev pub return : Pages → List Key → Pairs → Entry → World → Deck → Once
-return pages keys sets earlier world deck =
-    let left = leave_and_set pages sets world in
+abbrev pub return : Shelf → List Key → Pairs → Entry → World → Deck → Once
+return shelf keys sets earlier world deck =
+    let left = leave_and_set shelf sets world in
     after_step (quiet keys left)
-    (enter pages keys Backward (back_at left.world (in_deck deck earlier)))
+    (enter shelf keys Backward (back_at left.world (in_deck deck earlier)))
+
+-- a script isn't gone back to
+abbrev pub returned : Shelf → List Key → Pairs → Entry → World → Shelved → Once
+returned shelf keys sets earlier world (deck_page deck) =
+    return shelf keys sets earlier world deck
+returned shelf keys sets earlier world (script_page entrance) =
+    refused shelf keys refusals.Refused world
+returned shelf keys sets earlier world (text_page text) =
+    refused shelf keys refusals.Refused world
+returned shelf keys sets earlier world refused_page = refused shelf keys refusals.Refused world
+returned shelf keys sets earlier world no_page = refused shelf keys refusals.Missing world
 
 -- the earlier card's deck, where it is not the current one, is asked for; access is not tested
-abbrev pub ask_back : Pages → List Key → Pairs → Entry → World → Once
-ask_back pages keys sets earlier world =
+abbrev pub ask_back : Shelf → List Key → Pairs → Entry → World → Once
+ask_back shelf keys sets earlier world =
     let one = plain_get earlier.url in
     after_step (ask keys one world)
-    (with_deck pages keys world (return pages keys sets earlier world) (answer_to pages one))
+    (returned shelf keys sets earlier world (answer_to shelf one))
 
 -- an earlier card of the current deck
 abbrev pub card_here : Place → Entry → Entry
 card_here place earlier = record earlier { url = place.url }
 
 -- the current deck is kept where the earlier card is one of it
-abbrev pub back_from : Pages → List Key → Pairs → Entry → World → Option Place → Once
-back_from pages keys sets earlier world None = ask_back pages keys sets earlier world
-back_from pages keys sets earlier world (Some place) =
+abbrev pub back_from : Shelf → List Key → Pairs → Entry → World → Option Place → Once
+back_from shelf keys sets earlier world None = ask_back shelf keys sets earlier world
+back_from shelf keys sets earlier world (Some place) =
     if is_same_page earlier.url place.url
-    then return pages keys sets (card_here place earlier) world place.deck
-    else ask_back pages keys sets earlier world
+    then return shelf keys sets (card_here place earlier) world place.deck
+    else ask_back shelf keys sets earlier world
 
 -- with one card or none there is no earlier one
-abbrev pub back_to : Pages → List Key → Pairs → World → Option Entry → Once
-back_to pages keys sets world None = refused pages keys refusals.First world
-back_to pages keys sets world (Some earlier) =
-    back_from pages keys sets earlier world (place_now pages world)
+abbrev pub back_to : Shelf → List Key → Pairs → World → Option Entry → Once
+back_to shelf keys sets world None = refused shelf keys refusals.First world
+back_to shelf keys sets world (Some earlier) =
+    back_from shelf keys sets earlier world (place_now shelf world)
 
 -- back to the card that was entered before
-abbrev pub prev : Pages → List Key → Pairs → World → Once
-prev pages keys sets world = back_to pages keys sets world (earlier_entry world)
+abbrev pub prev : Shelf → List Key → Pairs → World → Once
+prev shelf keys sets world = back_to shelf keys sets world (earlier_entry world)
 
 -- ---- refresh
 
 -- the card is left, variables are set, the timer starts, and the screen is shown; it takes no turn
-abbrev pub refresh_place : Pages → Pairs → Place → World → Scene
-refresh_place pages sets place world =
-    and_then (leave_and_set pages sets world) (λ w. screen_lines place (start_timer place.card w))
+abbrev pub refresh_place : Shelf → Pairs → Place → World → Scene
+refresh_place shelf sets place world =
+    and_then (leave_and_set shelf sets world) (λ w. screen_lines place (start_timer place.card w))
 
 -- without a card nothing happens
-abbrev pub refresh : Pages → Pairs → World → Scene
-refresh pages sets world = here pages (refresh_place pages sets) world
+abbrev pub refresh : Shelf → Pairs → World → Scene
+refresh shelf sets world = here shelf (refresh_place shelf sets) world
 
 -- ---- one navigation, repeated
 
+-- by the URL that stands for the current deck's where there is no card
+abbrev pub task_by : Site → List Key → World → Option Url → Task → Once
+task_by site keys world from (task.Go one) = with_turn site.shelf keys world world.turns
+    (λ w. go site keys (base_now site.shelf w from) one w)
+task_by site keys world from (task.Prev sets) =
+    with_turn site.shelf keys world world.turns (prev site.shelf keys sets)
+task_by site keys world from (task.Refresh sets) =
+    settled (quiet keys (refresh site.shelf sets world))
+
 -- what a task comes to
-abbrev pub task_once : Pages → List Key → World → Task → Once
-task_once pages keys world (task.Go one) =
-    with_turn pages keys world world.turns (λ w. go pages keys (url_now pages w) one w)
-task_once pages keys world (task.Prev sets) =
-    with_turn pages keys world world.turns (prev pages keys sets)
-task_once pages keys world (task.Refresh sets) = settled (quiet keys (refresh pages sets world))
+abbrev pub task_once : Site → List Key → World → Next → Once
+task_once site keys world next = task_by site keys world next.from next.task
 
 -- a step, and then the task that is next, if there is one
-abbrev pub go_on : (List Key → World → Task → Step) → Step → Option Task → Step
+abbrev pub go_on : (List Key → World → Next → Step) → Step → Option Next → Step
 go_on act step None = step
 go_on act step (Some next) = followed step (λ keys world. act keys world next)
 
 -- one navigation, and then all that it leads to
-abbrev pub onward : (List Key → World → Task → Step) → Once → Step
+abbrev pub onward : (List Key → World → Next → Step) → Once → Step
 onward act once = go_on act once.step once.next
 
 -- a task and all that it leads to; with no turn left it leads no further
-abbrev pub act_in : ℕ → Pages → List Key → World → Task → Step
-act_in zero pages keys world one = (task_once pages keys world one).step
-act_in (suc turns) pages keys world one =
-    onward (act_in turns pages) (task_once pages keys world one)
+abbrev pub act_in : ℕ → Site → List Key → World → Next → Step
+act_in zero site keys world next = (task_once site keys world next).step
+act_in (suc turns) site keys world next =
+    onward (act_in turns site) (task_once site keys world next)
 
 -- a task and all that it leads to; each that leads to another takes a turn, so these count enough
-unfoldable pub act : Pages → List Key → World → Task → Step
-act pages keys world one = act_in world.turns pages keys world one
+unfoldable pub act : Site → List Key → World → Next → Step
+act site keys world next = act_in world.turns site keys world next
 
 -- a URL that a user opens, and all that it leads to
-unfoldable pub visit : Pages → List Key → World → List ℕ → Step
-visit pages keys world text =
-    onward (act pages) (with_turn pages keys world world.turns (open_url pages keys text))
+unfoldable pub visit : Site → List Key → World → List ℕ → Step
+visit site keys world text =
+    onward (act site) (with_turn site.shelf keys world world.turns (open_url site keys text))

@@ -5,7 +5,7 @@ use Rattle.std.specs.Option.{option_and_then}
 use Rattle.wap_markup.specs.declared.deck.Node.{Node}
 use Rattle.wap_cardrules.specs.Timers.{timer_in, timer_variable, timer_of}
 use Rattle.wap_world.specs.declared.timer.Timer.{Timer}
-use Rattle.wap_world.specs.declared.timer.Timer.TheVariants.{NotStarted, Running, Off}
+use Rattle.wap_world.specs.declared.timer.Timer.TheVariants.{NotStarted, Running, Off, Expired}
 use Rattle.wap_world.specs.World.{World}
 use Rattle.wap_world.specs.Steps.{Scene, still}
 use Rattle.wap_world.specs.Setting.{set_variables}
@@ -27,6 +27,7 @@ abbrev pub started : Timer → Node → World → World
 started NotStarted card world = start_timer card world
 started (Running time) card world = world
 started Off card world = world
+started Expired card world = world
 
 -- ---- the variable
 
@@ -46,9 +47,19 @@ abbrev pub store_left : Timer → Node → World → Scene
 store_left NotStarted card world = still world
 store_left (Running time) card world = store_time card time world
 store_left Off card world = still world
+store_left Expired card world = still world
 
 -- ---- the end
 
 -- the timer has run out
 abbrev pub end_timer : Node → World → Scene
 end_timer card world = store_time card 0 (record world { timer = Off })
+
+-- ---- while a script waits
+
+-- a timer that ran out meanwhile is off before the script's navigation is tried
+abbrev pub settled_timer : Timer → Timer
+settled_timer NotStarted = NotStarted
+settled_timer (Running time) = Running time
+settled_timer Off = Off
+settled_timer Expired = Off

@@ -14,9 +14,8 @@ use Rattle.wap_cardrules.specs.declared.task.Task.{Task}
 use Rattle.wap_world.specs.declared.history.Entry.{Entry}
 use Rattle.wap_world.specs.declared.timer.Timer.{Timer}
 use Rattle.wap_world.specs.declared.timer.Timer.TheVariants.{NotStarted}
-use Rattle.wap_site.specs.declared.page.Page.{Page}
-use Rattle.wap_site.specs.declared.page.Page.TheVariants as page
-use Rattle.wap_site.specs.Pages.{Pages, page_of}
+use Rattle.wap_world.specs.Shelves.{Shelved, deck_page, script_page, text_page, refused_page}
+use Rattle.wap_world.specs.Shelves.{no_page, Shelf}
 
 -- what a browser keeps
 pub record World : Type 0 where
@@ -55,15 +54,16 @@ pub record Place : Type 0 where
   pub card : Node
 
 -- the deck that a page is, if it is one
-abbrev pub deck_in : Page → Option Deck
-deck_in (page.Deck deck) = Some deck
-deck_in (page.Words text) = None
-deck_in page.Refused = None
-deck_in page.Missing = None
+abbrev pub deck_in : Shelved → Option Deck
+deck_in (deck_page deck) = Some deck
+deck_in (script_page entrance) = None
+deck_in (text_page text) = None
+deck_in refused_page = None
+deck_in no_page = None
 
 -- the deck that pages have under the name of a URL
-abbrev pub deck_at : Pages → Url → Option Deck
-deck_at pages url = deck_in (page_of (name_for url) pages)
+abbrev pub deck_at : Shelf → Url → Option Deck
+deck_at shelf url = deck_in (shelf (name_for url))
 
 -- the card of an entry in a deck, if the deck has so many
 abbrev pub place_in : Entry → Deck → Option Place
@@ -72,13 +72,13 @@ place_in entry deck =
     (slice_get (cards_of deck) entry.card)
 
 -- the card of an entry, where pages have its deck
-abbrev pub place_of : Pages → Entry → Option Place
-place_of pages entry = option_and_then (place_in entry) (deck_at pages entry.url)
+abbrev pub place_of : Shelf → Entry → Option Place
+place_of shelf entry = option_and_then (place_in entry) (deck_at shelf entry.url)
 
 -- the entry of the current card
 abbrev pub last_entry : World → Option Entry
 last_entry world = last_or None world.history
 
 -- where the browser is, once a card was entered
-abbrev pub place_now : Pages → World → Option Place
-place_now pages world = option_and_then (place_of pages) (last_entry world)
+abbrev pub place_now : Shelf → World → Option Place
+place_now shelf world = option_and_then (place_of shelf) (last_entry world)

@@ -1,6 +1,6 @@
-//! What a browser of decks does, as definitions in `specs/`: the world and its history, what is
-//! shown, requests, tasks, events, timers, keys, and transcripts. There is no code here but the
-//! types that those and the crates above share.
+//! What a browser does, as definitions in `specs/`: the world and its history, what is shown,
+//! requests, tasks, events, timers, the start and the end of scripts, keys, and transcripts. There
+//! is no code here but the types that those and the crates above share.
 #![tactic(auto)]
 
 mod history;

@@ -9,4 +9,6 @@ pub enum Timer {
     Running(u32),
     /// It has run out, or there is none.
     Off,
+    /// It has run out while a script waits for its user.
+    Expired,
 }

@@ -7,16 +7,16 @@ use Rattle.wap_markup.specs.declared.deck.Node.{Node}
 use Rattle.wap_markup.specs.declared.name.Tag.TheVariants as tags
 use Rattle.wap_cardrules.specs.Fields.{field_with, numbered}
 use Rattle.wap_cardrules.specs.Selects.{options_of}
-use Rattle.wap_site.specs.Pages.{Pages}
+use Rattle.wap_world.specs.Sites.{Site}
 use Rattle.wap_world.specs.declared.timer.Timer.{Timer}
-use Rattle.wap_world.specs.declared.timer.Timer.TheVariants.{NotStarted, Running, Off}
+use Rattle.wap_world.specs.declared.timer.Timer.TheVariants.{NotStarted, Running, Off, Expired}
 use Rattle.wap_world.specs.World.{World}
 use Rattle.wap_world.specs.Steps.{quiet}
 use Rattle.wap_world.specs.Keys.{react, renewed, ignored}
 
 -- the key shows the line of an ignored key, and changes nothing but that it has its turns
-abbrev pub IsIgnored : Pages → Key → List Key → World → Type 0
-IsIgnored pages one keys world = react pages one keys world ≡ quiet keys (ignored (renewed world))
+abbrev pub IsIgnored : Site → Key → List Key → World → Type 0
+IsIgnored site one keys world = react site one keys world ≡ quiet keys (ignored (renewed world))
 
 -- whether a key is for a card: all but one that opens a URL and one that shows the variables
 abbrev pub is_for_card : Key → Bool
@@ -43,3 +43,4 @@ abbrev pub is_running : Timer → Bool
 is_running NotStarted = false
 is_running (Running time) = true
 is_running Off = false
+is_running Expired = false

@@ -1,2 +1,3 @@
 pub mod Ignored
 pub mod Standing
+pub mod Scripts

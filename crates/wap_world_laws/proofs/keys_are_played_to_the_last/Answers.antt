@@ -5,10 +5,10 @@ pub returns-clause-none : goal.returns-clause-none
 returns-clause-none c = plays_none
 
 pub returns-clause-first : goal.returns-clause-first
-returns-clause-first c = plays_first
+returns-clause-first c = λ site one keys world falls. plays_first site falls one keys world
 
 pub returns-clause-left : goal.returns-clause-left
 returns-clause-left c = keys_left
 
 pub returns-clause-all : goal.returns-clause-all
-returns-clause-all c = plays_all
+returns-clause-all c = λ site keys world falls. plays_all site falls keys world

@@ -2,10 +2,10 @@ use Rattle.wap_world_laws.proofs.Following.{act_goes_on, visit_goes_on, task_spe
 use Rattle.wap_world_laws.proofs.tasks_are_followed_to_their_end.Goals as goal
 
 pub returns-clause-of_task : goal.returns-clause-of_task
-returns-clause-of_task c = act_goes_on
+returns-clause-of_task c = λ site keys world one falls. act_goes_on site falls keys world one
 
 pub returns-clause-of_url : goal.returns-clause-of_url
 returns-clause-of_url c = visit_goes_on
 
 pub returns-clause-turns : goal.returns-clause-turns
-returns-clause-turns c = task_spends
+returns-clause-turns c = λ site keys world one falls. task_spends site falls keys world one

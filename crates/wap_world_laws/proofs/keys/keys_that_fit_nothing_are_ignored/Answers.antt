@@ -1,6 +1,6 @@
 use Rattle.wap_world_laws.proofs.Ignored.{ignores_do, ignores_pick, ignores_type, ignores_option}
 use Rattle.wap_world_laws.proofs.Ignored.{ignores_tick, ignores_dialog_keys, ignores_without_card}
-use Rattle.wap_world_laws.proofs.keys_that_fit_nothing_are_ignored.Goals as goal
+use Rattle.wap_world_laws.proofs.keys.keys_that_fit_nothing_are_ignored.Goals as goal
 
 pub returns-clause-of_do : goal.returns-clause-of_do
 returns-clause-of_do c = ignores_do
@@ -18,8 +18,8 @@ pub returns-clause-of_timer : goal.returns-clause-of_timer
 returns-clause-of_timer c = ignores_tick
 
 pub returns-clause-of_dialog : goal.returns-clause-of_dialog
-returns-clause-of_dialog c = λ pages keys world text.
-    let dialog = ignores_dialog_keys pages keys world in
+returns-clause-of_dialog c = λ site keys world text.
+    let dialog = ignores_dialog_keys site keys world in
     (dialog.ok, dialog.cancel, dialog.answer text, dialog.stop)
 
 pub returns-clause-without_card : goal.returns-clause-without_card
