@@ -9,7 +9,7 @@ mod lines;
 mod requests;
 mod urls;
 
-pub use access::may_enter;
+pub use access::{Entrance, entrance_of, may_enter};
 pub use laws::access_is_by_labels_and_segments;
 pub use lines::request_line;
 pub use requests::{Request, plain_get, request_of};
