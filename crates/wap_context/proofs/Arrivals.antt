@@ -1,7 +1,7 @@
 -- Entering cards.
 use Rattle.std.proofs.Common.{◌≡◌, ◌∙◌, Bool, true, false, List, [], ◌∷◌, ◌++◌, Option, Some, None}
 use Rattle.std.proofs.Common.{Ok, Err, refl, sym, ap, ap₂, subst, append_assoc, append-nil}
-use Rattle.std.specs.Prelude.{Result, if◌then◌else◌, nat_lt, length, drop}
+use Rattle.std.specs.Prelude.{Result, IfOk, if◌then◌else◌, nat_lt, length, drop}
 use Rattle.wap_markup.specs.Cards.{cards_of}
 use Rattle.std.specs.Option.{option_and_then}
 use Rattle.wap_markup.specs.declared.deck.Deck.{Deck}
@@ -10,26 +10,26 @@ use Rattle.wap_cardrules.specs.declared.event.Event.{Event}
 use Rattle.wap_cardrules.specs.declared.event.Event.TheVariants.{Forward, Backward}
 use Rattle.wap_cardrules.specs.declared.task.Task.{Task}
 use Rattle.wap_cardrules.specs.Values.{Pairs}
-use Rattle.wap_site.specs.Pages.{Pages, page_of}
+use Rattle.wap_world.specs.Shelves.{Shelf}
 use Rattle.wap_site.specs.declared.page.Page.{Page}
+use Rattle.wap_site.specs.declared.page.Page.TheVariants as page
 use Rattle.wap_world.specs.declared.history.Entry.{Entry}
 use Rattle.wap_world.specs.declared.refusal.Refusal.{Refusal}
 use Rattle.wap_world.specs.declared.timer.Timer.TheVariants.{NotStarted}
 use Rattle.wap_world.specs.World.{World, Place, place_in, deck_in, deck_at, last_entry}
-use Rattle.wap_world.specs.Steps.{Scene, Once, quiet, settled}
-use Rattle.wap_world.specs.Requests.{deck_answer, test, test_of}
-use Rattle.wap_world.specs.Access.{may_enter}
-use Rattle.wap_url.specs.Printing.{name_for}
+use Rattle.wap_world.specs.Steps.{Scene, Once, quiet, settled, after_step}
+use Rattle.wap_world.specs.Decks.{shelved}
+use Rattle.wap_world.specs.Requests.{test, test_of}
+use Rattle.wap_world.specs.Access.{entrance_of, may_enter}
 use Rattle.wap_world.specs.declared.refusal.Refusal.TheVariants as refusals
 use Rattle.wap_world.specs.History.{pushed, entry_of, in_deck, back_at, all_but_last}
-use Rattle.wap_world.specs.Tasks.{after_step, card_for, is_new_context, in_context}
+use Rattle.wap_world.specs.Tasks.{card_for, is_new_context, in_context}
 use Rattle.wap_context.specs.Browsers.{Browser, IsOver, place_held}
 use Rattle.wap_context.specs.inside.Held.{not_started, show_at, leave_and_set_at, event_at}
 use Rattle.wap_context.specs.inside.Held.{entered_at, enter_at, arrive_at, arrive_if_at}
 use Rattle.wap_context.specs.inside.Held.{return_at, refused_at, with_deck_at}
-use Rattle.wap_context.specs.inside.Moving.{Line, PlaysAt, Moves, HasDeck, Answers}
+use Rattle.wap_context.specs.inside.Moving.{Line, PlaysAt, Moves, HasDeck, Answers, deck_answer}
 use Rattle.wap_world.proofs.Entries.{last_pushed, earlier_url}
-use Rattle.wap_world.proofs.Places.{answered}
 use Rattle.wap_context.proofs.Plays.{history_kept, turns_kept, over_kept}
 
 -- a scene that settles a navigation
@@ -37,7 +37,7 @@ pub moves_settled : (rule : Option Place → World → Scene) (old new : Browser
     (before after : List Line)
     → PlaysAt rule old new before after
     → Moves (settled (quiet [] (rule (place_held old) old.world)))
-    (λ pages. IsOver pages old) old new before after None
+    (λ shelf. IsOver shelf old) old new before after None
 moves_settled rule old new before after one =
     let scene = rule (place_held old) old.world in
     record {
@@ -48,7 +48,7 @@ moves_settled rule old new before after one =
       asked = refl;
       turns = turns_kept scene old.world new.world before after one.plays;
       over =
-          λ pages over. over_kept pages old new one.deck
+          λ shelf over. over_kept shelf old new one.deck
           (history_kept scene old.world new.world before after one.plays) over;
     }
 
@@ -56,11 +56,11 @@ abbrev Entered : Event → Browser → Browser → List Line → List Line → O
     → Option Task → Type 0
 Entered event old new before after next task =
     Moves (entered_at (place_held old) (not_started old).world task)
-    (λ pages. IsOver pages old) old new before after next
+    (λ shelf. IsOver shelf old) old new before after next
 
 pub enter_some : (event : Event) (old : Browser) (lines : List Line) (task : Task)
     → Some task ≡ event_at event (place_held old) (not_started old).world
-    → Moves (enter_at event (place_held old) old.world) (λ pages. IsOver pages old) old
+    → Moves (enter_at event (place_held old) old.world) (λ shelf. IsOver shelf old) old
     (not_started old) lines lines (Some task)
 enter_some event old lines task is =
     subst (Entered event old (not_started old) lines lines (Some task)) is
@@ -71,14 +71,14 @@ enter_some event old lines task is =
       keys = refl;
       asked = refl;
       turns = refl;
-      over = λ pages over. over;
+      over = λ shelf over. over;
     })
 
 pub enter_none : (event : Event) (old new : Browser) (before after : List Line)
     → None ≡ event_at event (place_held old) (not_started old).world
     → PlaysAt show_at (not_started old) new before after
     → Moves (enter_at event (place_held old) old.world)
-    (λ pages. IsOver pages old) old new before after None
+    (λ shelf. IsOver shelf old) old new before after None
 enter_none event old new before after is shown =
     let moves = moves_settled show_at (not_started old) new before after shown in
     subst (Entered event old new before after None) is
@@ -99,11 +99,11 @@ pub enter_some_at : (event : Event) (old mid : Browser) (lines : List Line)
     (found : Option Task) (task : Task)
     → mid ≡ not_started old → EventIs event found mid → found ≡ Some task
     → Moves (enter_at event (place_held old) old.world)
-    (λ pages. IsOver pages old) old mid lines lines (Some task)
+    (λ shelf. IsOver shelf old) old mid lines lines (Some task)
 enter_some_at event old mid lines found task is here there =
     subst (λ (b : Browser).
     Moves (enter_at event (place_held old) old.world)
-    (λ pages. IsOver pages old) old b lines lines (Some task))
+    (λ shelf. IsOver shelf old) old b lines lines (Some task))
     (sym is)
     (enter_some event old lines task (sym there ∙ subst (EventIs event found) is here))
 
@@ -112,7 +112,7 @@ pub enter_none_at : (event : Event) (old mid new : Browser) (before after : List
     → mid ≡ not_started old → EventIs event found mid → found ≡ None
     → PlaysAt show_at mid new before after
     → Moves (enter_at event (place_held old) old.world)
-    (λ pages. IsOver pages old) old new before after None
+    (λ shelf. IsOver shelf old) old new before after None
 enter_none_at event old mid new before after found is here there shown =
     enter_none event old new before after (sym there ∙ subst (EventIs event found) is here)
     (subst (λ (b : Browser). PlaysAt show_at b new before after) is shown)
@@ -124,7 +124,7 @@ module _ (sets : Pairs) (event : Event) (old left mid new : Browser)
     (leaves : PlaysAt (leave_and_set_at sets) old left before shown)
     (there : place_held mid ≡ place_in entry deck)
     (enters : Moves (enter_at event (place_held mid) mid.world)
-    (λ pages. IsOver pages mid) mid new shown after next) where
+    (λ shelf. IsOver shelf mid) mid new shown after next) where
   abbrev scene : Scene
   scene = leave_and_set_at sets (place_held old) old.world
 
@@ -133,7 +133,7 @@ module _ (sets : Pairs) (event : Event) (old left mid new : Browser)
 
   pub moves_on : (url : Url) (inside : World → World) → mid.world ≡ inside left.world
       → mid.world.turns ≡ left.world.turns
-      → ((pages : Pages) → HasDeck url deck pages → IsOver pages mid)
+      → ((shelf : Shelf) → HasDeck url deck shelf → IsOver shelf mid)
       → Moves (after_step (quiet [] scene) (entered (inside scene.world)))
       (HasDeck url deck) old new before after next
   moves_on url inside mid_is turns over =
@@ -151,7 +151,7 @@ module _ (sets : Pairs) (event : Event) (old left mid new : Browser)
         asked = sym (ap (λ (o : Once). o.step.asked) onces) ∙ enters.asked;
         turns =
             enters.turns ∙ turns ∙ turns_kept scene old.world left.world before shown leaves.plays;
-        over = λ pages has. enters.over pages (over pages has);
+        over = λ shelf has. enters.over shelf (over shelf has);
       }
 
 -- ---- the place after a push
@@ -167,18 +167,23 @@ place_pushed history entry mid deck is held =
     option_and_then (λ (one : Entry). option_and_then (place_in one) d) e) held last
 
 pub over_pushed : (history : List Entry) (entry : Entry) (mid : Browser)
-    (deck : Deck) (pages : Pages)
+    (deck : Deck) (shelf : Shelf)
     → mid.world.history ≡ history ++ entry ∷ [] → mid.deck ≡ Some deck
-    → deck_at pages entry.url ≡ Some deck → IsOver pages mid
-over_pushed history entry mid deck pages is held has =
+    → deck_at shelf entry.url ≡ Some deck → IsOver shelf mid
+over_pushed history entry mid deck shelf is held has =
     let last : last_entry mid.world ≡ Some entry =
     ap (λ (h : List Entry). last_entry (record mid.world { history = h })) is
     ∙ last_pushed None history entry in
-    ap (option_and_then (λ (one : Entry). deck_at pages one.url)) last ∙ has ∙ sym held
+    ap (option_and_then (λ (one : Entry). deck_at shelf one.url)) last ∙ has ∙ sym held
 
--- the deck that answers is the pages'
-pub has_deck : (deck : Deck) (one : Page) → Ok deck ≡ deck_answer one → deck_in one ≡ Some deck
-has_deck deck one is = answered one deck (sym is)
+-- a deck that answers is what the page is to the rules
+pub answers_deck : (one : Page) (answer : Result Deck Refusal) → answer ≡ deck_answer one
+    → IfOk answer (λ deck. deck_in (shelved one) ≡ Some deck)
+answers_deck one (Err why) is = tt
+answers_deck (page.Deck other) (Ok deck) is = cc
+answers_deck (page.Words text) (Ok deck) is = absurd (cc)
+answers_deck page.Refused (Ok deck) is = absurd (cc)
+answers_deck page.Missing (Ok deck) is = absurd (cc)
 
 pub context_turns : (new : Bool) (w : World)
     → (if new then record w { vars = []; history = []; timer = NotStarted } else w).turns ≡ w.turns
@@ -195,7 +200,7 @@ pub arrives : (sets : Pairs) (url : Url) (deck : Deck) (old left mid new : Brows
       deck = Some deck;
     }
     → Moves (enter_at Forward (place_held mid) mid.world)
-    (λ pages. IsOver pages mid) mid new shown after next
+    (λ shelf. IsOver shelf mid) mid new shown after next
     → Moves (arrive_at sets url (place_held old) old.world deck)
     (HasDeck url deck) old new before after next
 arrives sets url deck old left mid new before shown after next leaves mid_is enters =
@@ -213,14 +218,14 @@ arrives sets url deck old left mid new before shown after next leaves mid_is ent
     (λ w. pushed (in_context deck number w) entry) (ap (λ (b : Browser). b.world) mid_is)
     (ap (λ (b : Browser). b.world.turns) mid_is
     ∙ context_turns (is_new_context deck number) left.world)
-    (λ pages has. over_pushed kept entry mid deck pages history held has)
+    (λ shelf has. over_pushed kept entry mid deck shelf history held has)
 
 pub returns_to : (sets : Pairs) (earlier : Entry) (deck : Deck) (old left mid new : Browser)
     (before shown after : List Line) (next : Option Task)
     → PlaysAt (leave_and_set_at sets) old left before shown
     → mid ≡ record { world = back_at left.world (in_deck deck earlier); deck = Some deck }
     → Moves (enter_at Backward (place_held mid) mid.world)
-    (λ pages. IsOver pages mid) mid new shown after next
+    (λ shelf. IsOver shelf mid) mid new shown after next
     → Moves (return_at sets earlier (place_held old) old.world deck)
     (HasDeck earlier.url deck) old new before after next
 returns_to sets earlier deck old left mid new before shown after next leaves mid_is enters =
@@ -235,13 +240,13 @@ returns_to sets earlier deck old left mid new before shown after next leaves mid
     (place_pushed kept entry mid deck history held) enters earlier.url
     (λ w. back_at w entry) (ap (λ (b : Browser). b.world) mid_is)
     (ap (λ (b : Browser). b.world.turns) mid_is)
-    (λ pages has. over_pushed kept entry mid deck pages history held (ap (deck_at pages) url ∙ has))
+    (λ shelf has. over_pushed kept entry mid deck shelf history held (ap (deck_at shelf) url ∙ has))
 
 -- ---- answers
 
-pub moves_where : (once : Once) (These Others : Pages → Type 0) (old new : Browser)
+pub moves_where : (once : Once) (These Others : Shelf → Type 0) (old new : Browser)
     (before after : List Line) (next : Option Task)
-    → ((pages : Pages) → Others pages → These pages) → Moves once These old new before after next
+    → ((shelf : Shelf) → Others shelf → These shelf) → Moves once These old new before after next
     → Moves once Others old new before after next
 moves_where once These Others old new before after next onto moves = record {
   world = moves.world;
@@ -250,7 +255,7 @@ moves_where once These Others old new before after next onto moves = record {
   keys = moves.keys;
   asked = moves.asked;
   turns = moves.turns;
-  over = λ pages so. moves.over pages (onto pages so);
+  over = λ shelf so. moves.over shelf (onto shelf so);
 }
 
 module _ (rule : Deck → Once) (url : Url) (old new : Browser) (before after : List Line)
@@ -261,34 +266,34 @@ module _ (rule : Deck → Once) (url : Url) (old new : Browser) (before after : 
       Moves (with_deck_at (place_held old) old.world rule one)
       (Answers url one old) old new before after next
 
-  pub moves_ok : (deck : Deck) (These : Pages → Type 0) → answer ≡ Ok deck
-      → ((pages : Pages) → IsOver pages old → HasDeck url deck pages → These pages)
+  pub moves_ok : (deck : Deck) (These : Shelf → Type 0) → answer ≡ Ok deck
+      → ((shelf : Shelf) → IsOver shelf old → HasDeck url deck shelf → These shelf)
       → Moves (rule deck) These old new before after next → MovesBy answer
   moves_ok deck These is onto moves = subst MovesBy (sym is)
       (moves_where (rule deck) These (Answers url (Ok deck) old) old new before after next
-      (λ pages so. onto pages so.0 (has_deck deck (page_of (name_for url) pages) so.1)) moves)
+      (λ shelf so. onto shelf so.0 so.1) moves)
 
   pub moves_no : (refusal : Refusal) → answer ≡ Err refusal
       → Moves (refused_at refusal (place_held old) old.world)
-      (λ pages. IsOver pages old) old new before after next
+      (λ shelf. IsOver shelf old) old new before after next
       → MovesBy answer
   moves_no refusal is moves = subst MovesBy (sym is)
-      (moves_where (refused_at refusal (place_held old) old.world) (λ pages. IsOver pages old)
+      (moves_where (refused_at refusal (place_held old) old.world) (λ shelf. IsOver shelf old)
       (Answers url (Err refusal) old) old new before after next
-      (λ pages so. so.0) moves)
+      (λ shelf so. so.0) moves)
 
 module _ (sets : Pairs) (caller : Option Url) (url : Url) (deck : Deck) (old new : Browser)
     (before after : List Line) (next : Option Task) where
   abbrev Tries : Bool → Type 0
   Tries b =
-      Moves (after_step (test [] (test_of url caller deck) old.world)
+      Moves (after_step (test [] (test_of url caller (entrance_of deck)) old.world)
       (arrive_if_at sets url (place_held old) old.world deck b))
-      (λ pages. IsOver pages old × HasDeck url deck pages) old new before after next
+      (λ shelf. IsOver shelf old × HasDeck url deck shelf) old new before after next
 
-  pub tries_allowed : may_enter url deck caller ≡ true
+  pub tries_allowed : may_enter url (entrance_of deck) caller ≡ true
       → Moves (arrive_at sets url (place_held old) old.world deck)
       (HasDeck url deck) old new before after next
-      → Tries (may_enter url deck caller)
+      → Tries (may_enter url (entrance_of deck) caller)
   tries_allowed is moves = subst Tries (sym is) (record {
     world = moves.world;
     lines = moves.lines;
@@ -296,13 +301,13 @@ module _ (sets : Pairs) (caller : Option Url) (url : Url) (deck : Deck) (old new
     keys = moves.keys;
     asked = moves.asked;
     turns = moves.turns;
-    over = λ pages so. moves.over pages so.1;
+    over = λ shelf so. moves.over shelf so.1;
   })
 
-  pub tries_denied : may_enter url deck caller ≡ false
+  pub tries_denied : may_enter url (entrance_of deck) caller ≡ false
       → Moves (refused_at refusals.Denied (place_held old) old.world)
-      (λ pages. IsOver pages old) old new before after next
-      → Tries (may_enter url deck caller)
+      (λ shelf. IsOver shelf old) old new before after next
+      → Tries (may_enter url (entrance_of deck) caller)
   tries_denied is moves = subst Tries (sym is) (record {
     world = moves.world;
     lines = moves.lines;
@@ -310,5 +315,5 @@ module _ (sets : Pairs) (caller : Option Url) (url : Url) (deck : Deck) (old new
     keys = moves.keys;
     asked = moves.asked;
     turns = moves.turns;
-    over = λ pages so. moves.over pages so.0;
+    over = λ shelf so. moves.over shelf so.0;
   })

@@ -8,7 +8,7 @@ use Rattle.std.proofs.lemmas.List.{get_or-take}
 use Rattle.wap_markup.specs.declared.deck.Deck.{Deck}
 use Rattle.wap_markup.specs.declared.deck.Node.{Node}
 use Rattle.wap_markup.specs.Cards.{cards_of}
-use Rattle.wap_site.specs.Pages.{Pages}
+use Rattle.wap_world.specs.Shelves.{Shelf}
 use Rattle.wap_world.specs.declared.history.Entry.{Entry}
 use Rattle.wap_world.specs.World.{Place, place_in, place_of, place_now, deck_at, last_entry}
 use Rattle.wap_context.specs.Browsers.{Browser, IsOver, place_held}
@@ -45,16 +45,16 @@ earlier_at (x ∷ y ∷ ys) some =
 
 -- ---- the place at hand is where the browser is
 
-now_by : (pages : Pages) (entry : Option Entry) (deck : Option Deck)
-    → option_and_then (λ (one : Entry). deck_at pages one.url) entry ≡ deck
-    → option_and_then (place_of pages) entry
+now_by : (shelf : Shelf) (entry : Option Entry) (deck : Option Deck)
+    → option_and_then (λ (one : Entry). deck_at shelf one.url) entry ≡ deck
+    → option_and_then (place_of shelf) entry
     ≡ option_and_then (λ (one : Entry). option_and_then (place_in one) deck) entry
-now_by pages None deck is = refl
-now_by pages (Some entry) deck is = ap (option_and_then (place_in entry)) is
+now_by shelf None deck is = refl
+now_by shelf (Some entry) deck is = ap (option_and_then (place_in entry)) is
 
-pub held_now : (pages : Pages) (browser : Browser) → IsOver pages browser
-    → place_now pages browser.world ≡ place_held browser
-held_now pages browser is = now_by pages (last_entry browser.world) browser.deck is
+pub held_now : (shelf : Shelf) (browser : Browser) → IsOver shelf browser
+    → place_now shelf browser.world ≡ place_held browser
+held_now shelf browser is = now_by shelf (last_entry browser.world) browser.deck is
 
 -- ---- the card at hand
 

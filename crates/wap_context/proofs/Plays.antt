@@ -9,7 +9,7 @@ use Rattle.wap_markup.specs.declared.deck.Deck.{Deck}
 use Rattle.wap_cardrules.specs.declared.event.Event.{Event}
 use Rattle.wap_cardrules.specs.Events.{binding}
 use Rattle.wap_cardrules.specs.Values.{Pairs}
-use Rattle.wap_site.specs.Pages.{Pages}
+use Rattle.wap_world.specs.Shelves.{Shelf}
 use Rattle.wap_world.specs.declared.history.Entry.{Entry}
 use Rattle.wap_world.specs.World.{World, Place, place_in, deck_at, last_entry}
 use Rattle.wap_world.specs.Steps.{Scene, still, behind, and_then}
@@ -51,11 +51,11 @@ place_kept old new deck history = ap₂
     (λ (d : Option Deck) (h : List Entry).
     option_and_then (λ (e : Entry). option_and_then (place_in e) d) (last_or None h)) deck history
 
-pub over_kept : (pages : Pages) (old new : Browser) → new.deck ≡ old.deck
-    → new.world.history ≡ old.world.history → IsOver pages old → IsOver pages new
-over_kept pages old new deck history over =
+pub over_kept : (shelf : Shelf) (old new : Browser) → new.deck ≡ old.deck
+    → new.world.history ≡ old.world.history → IsOver shelf old → IsOver shelf new
+over_kept shelf old new deck history over =
     ap (λ (h : List Entry).
-    option_and_then (λ (e : Entry). deck_at pages e.url) (last_or None h)) history
+    option_and_then (λ (e : Entry). deck_at shelf e.url) (last_or None h)) history
     ∙ over ∙ sym deck
 
 pub plays_at_then : (first next : Option Place → World → Scene) (a b c : Browser)
@@ -225,20 +225,20 @@ refresh_joined sets old new before after one at joined =
       deck = joined.deck;
     }
 
--- ---- a scene over pages that have the deck
+-- ---- a scene over a shelf that has the deck
 
 pub shows_of : (rule : Place → World → Scene) (old new : Browser) (before lines : List Line)
     → before ≡ []
     → PlaysAt (at_place rule) old new before lines
-    → Shows old new lines (λ pages world. here pages rule world)
+    → Shows old new lines (λ shelf world. here shelf rule world)
 shows_of rule old new before lines none one = record {
-  world = λ pages over. one.plays.world
+  world = λ shelf over. one.plays.world
       ∙ ap (λ (p : Option Place). (at_place rule p old.world).world)
-      (sym (held_now pages old over));
-  tells = λ pages over. one.plays.lines
+      (sym (held_now shelf old over));
+  tells = λ shelf over. one.plays.lines
       ∙ ap₂ (λ (l : List Line) (p : Option Place). l ++ (at_place rule p old.world).lines) none
-      (sym (held_now pages old over));
-  over = λ pages over. over_kept pages old new one.deck
+      (sym (held_now shelf old over));
+  over = λ shelf over. over_kept shelf old new one.deck
       (history_kept (at_place rule (place_held old) old.world)
       old.world new.world before lines one.plays) over;
 }

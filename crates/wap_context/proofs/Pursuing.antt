@@ -3,6 +3,7 @@ use Rattle.std.proofs.Common.{◌≡◌, ◌∙◌, ℕ, zero, suc, ◌+◌, ◌
 use Rattle.std.proofs.Common.{Option, Some, None, Ok, Err, refl, sym, ap, ap₂, subst}
 use Rattle.std.proofs.Common.{append_assoc, append-nil, arith}
 use Rattle.std.specs.Prelude.{Result, IfSome}
+use Rattle.std.specs.Option.{option_map}
 use Rattle.wap_base.specs.declared.fault.RunErr.{RunErr}
 use Rattle.wap_base.specs.declared.fault.RunErr.TheVariants.{Store}
 use Rattle.wap_base.specs.Count.{Rose}
@@ -13,7 +14,9 @@ use Rattle.wap_site.specs.Asking.{Seen, Stays, Asks, Fails}
 use Rattle.wap_site.proofs.Asking.{Asks-nil, Asks-then, Asks-fails}
 use Rattle.wap_site.proofs.Asking.{Fails-more, Stays-same, Stays-then}
 use Rattle.wap_world.specs.World.{World}
-use Rattle.wap_world.specs.Steps.{Step, Once, followed}
+use Rattle.wap_world.specs.Sites.{Site}
+use Rattle.wap_world.specs.Decks.{decks_site}
+use Rattle.wap_world.specs.Steps.{Step, Once, Next, then_task, followed}
 use Rattle.wap_world.specs.Tasks.{task_once, go_on, act_in, act}
 use Rattle.wap_context.specs.Browsers.{Browser, IsOver, IfOver}
 use Rattle.wap_context.specs.Acting.{Acts}
@@ -28,111 +31,115 @@ pub record Same (a b : Step) : Type 0 where
   pub asked : a.asked ≡ b.asked
 
 -- what one navigation leads on to
-abbrev led_on : Pages → Once → Step
-led_on pages once = followed once.step (λ keys world. pursued pages once.next world)
+abbrev led_on : Site → Once → Step
+led_on site once = followed once.step (λ keys world. pursued site once.next world)
 
-led_by : (pages : Pages) (turns : ℕ) (step : Step) (next : Option Task) → step.keys ≡ []
+led_by : (site : Site) (turns : ℕ) (step : Step) (next : Option Next) → step.keys ≡ []
     → IfSome next (λ one. step.world.turns ≡ turns)
-    → Same (go_on (act_in turns pages) step next)
-    (followed step (λ keys world. pursued pages next world))
+    → Same (go_on (act_in turns site) step next)
+    (followed step (λ keys world. pursued site next world))
 unfolding act
-led_by pages turns step None keys fewer =
+led_by site turns step None keys fewer =
     record {
       world = refl;
       lines = sym (append-nil step.lines);
       asked = sym (append-nil step.asked);
     }
-led_by pages turns step (Some one) keys fewer =
-    let is : act_in turns pages step.keys step.world one
-    ≡ act_in step.world.turns pages [] step.world one =
-    ap₂ (λ (t : ℕ) (k : List Key). act_in t pages k step.world one) (sym fewer) keys in
+led_by site turns step (Some one) keys fewer =
+    let is : act_in turns site step.keys step.world one
+    ≡ act_in step.world.turns site [] step.world one =
+    ap₂ (λ (t : ℕ) (k : List Key). act_in t site k step.world one) (sym fewer) keys in
     record {
       world = ap (λ (s : Step). s.world) is;
       lines = ap (λ (s : Step). step.lines ++ s.lines) is;
       asked = ap (λ (s : Step). step.asked ++ s.asked) is;
     }
 
-zero_by : (pages : Pages) (world : World) (step : Step) (next : Option Task) → world.turns ≡ zero
+zero_by : (site : Site) (world : World) (step : Step) (next : Option Next) → world.turns ≡ zero
     → IfSome next (λ one. step.world.turns + 1 ≡ world.turns)
-    → Same step (followed step (λ keys world. pursued pages next world))
-zero_by pages world step None none spent =
+    → Same step (followed step (λ keys world. pursued site next world))
+zero_by site world step None none spent =
     record {
       world = refl;
       lines = sym (append-nil step.lines);
       asked = sym (append-nil step.asked);
     }
-zero_by pages world step (Some one) none spent = absurd (omega (arith, none, spent))
+zero_by site world step (Some one) none spent = absurd (omega (arith, none, spent))
 
-fewer_by : (world : World) (turns : ℕ) (step : Step) (next : Option Task) → world.turns ≡ suc turns
+fewer_by : (world : World) (turns : ℕ) (step : Step) (next : Option Next) → world.turns ≡ suc turns
     → IfSome next (λ one. step.world.turns + 1 ≡ world.turns)
     → IfSome next (λ one. step.world.turns ≡ turns)
 fewer_by world turns step None is spent = tt
 fewer_by world turns step (Some one) is spent = omega (arith, is, spent)
 
-act_by : (pages : Pages) (world : World) (one : Task) (turns : ℕ) → world.turns ≡ turns
-    → (task_once pages [] world one).step.keys ≡ []
-    → IfSome (task_once pages [] world one).next
-    (λ next. (task_once pages [] world one).step.world.turns + 1 ≡ world.turns)
-    → Same (act_in turns pages [] world one) (led_on pages (task_once pages [] world one))
-act_by pages world one zero is keys spent =
-    zero_by pages world (task_once pages [] world one).step
-    (task_once pages [] world one).next is spent
-act_by pages world one (suc turns) is keys spent =
-    let once = task_once pages [] world one in
-    led_by pages turns once.step once.next keys (fewer_by world turns once.step once.next is spent)
+act_by : (site : Site) (world : World) (one : Next) (turns : ℕ) → world.turns ≡ turns
+    → (task_once site [] world one).step.keys ≡ []
+    → IfSome (task_once site [] world one).next
+    (λ next. (task_once site [] world one).step.world.turns + 1 ≡ world.turns)
+    → Same (act_in turns site [] world one) (led_on site (task_once site [] world one))
+act_by site world one zero is keys spent =
+    zero_by site world (task_once site [] world one).step
+    (task_once site [] world one).next is spent
+act_by site world one (suc turns) is keys spent =
+    let once = task_once site [] world one in
+    led_by site turns once.step once.next keys (fewer_by world turns once.step once.next is spent)
 
-act_leads : (pages : Pages) (world : World) (one : Task)
-    → (task_once pages [] world one).step.keys ≡ []
-    → IfSome (task_once pages [] world one).next
-    (λ next. (task_once pages [] world one).step.world.turns + 1 ≡ world.turns)
-    → Same (act pages [] world one) (led_on pages (task_once pages [] world one))
+act_leads : (site : Site) (world : World) (one : Next)
+    → (task_once site [] world one).step.keys ≡ []
+    → IfSome (task_once site [] world one).next
+    (λ next. (task_once site [] world one).step.world.turns + 1 ≡ world.turns)
+    → Same (act site [] world one) (led_on site (task_once site [] world one))
 unfolding act
-act_leads pages world one keys spent = act_by pages world one world.turns refl keys spent
+act_leads site world one keys spent = act_by site world one world.turns refl keys spent
 
 -- it asks first for what its first navigation asks for
-pub asked_by : (next : List Key → World → Task → Step) (step : Step) (one : Option Task)
+pub asked_by : (next : List Key → World → Next → Step) (step : Step) (one : Option Next)
     → (rest : List (List ℕ × Bool)) × ((go_on next step one).asked ≡ step.asked ++ rest)
 asked_by next step None = ([], sym (append-nil step.asked))
 asked_by next step (Some one) = (_, refl)
 
-asked_in : (pages : Pages) (world : World) (one : Task) (turns : ℕ)
+asked_in : (site : Site) (world : World) (one : Next) (turns : ℕ)
     → (rest : List (List ℕ × Bool))
-    × ((act_in turns pages [] world one).asked ≡ (task_once pages [] world one).step.asked ++ rest)
-asked_in pages world one zero = ([], sym (append-nil (task_once pages [] world one).step.asked))
-asked_in pages world one (suc turns) =
-    asked_by (act_in turns pages) (task_once pages [] world one).step
-    (task_once pages [] world one).next
+    × ((act_in turns site [] world one).asked ≡ (task_once site [] world one).step.asked ++ rest)
+asked_in site world one zero = ([], sym (append-nil (task_once site [] world one).step.asked))
+asked_in site world one (suc turns) =
+    asked_by (act_in turns site) (task_once site [] world one).step
+    (task_once site [] world one).next
 
-act_asks : (pages : Pages) (world : World) (one : Task)
+act_asks : (site : Site) (world : World) (one : Next)
     → (rest : List (List ℕ × Bool))
-    × ((act pages [] world one).asked ≡ (task_once pages [] world one).step.asked ++ rest)
+    × ((act site [] world one).asked ≡ (task_once site [] world one).step.asked ++ rest)
 unfolding act
-act_asks pages world one = asked_in pages world one world.turns
+act_asks site world one = asked_in site world one world.turns
 
 -- ---- a loop over tasks: what is left to do leads to the same
 
-pub record Behind (pages : Pages) (step : Step) (seen now : Seen) (browser : Browser)
+-- what a task leads to, if there is one
+abbrev pub left_of : Site → Option Task → World → Step
+left_of site next world = pursued site (option_map then_task next) world
+
+pub record Behind (site : Site) (step : Step) (seen now : Seen) (browser : Browser)
     (before shown : List Line)
     (next : Option Task) : Type 0 where
-  pub over : IsOver pages browser
-  pub world : (pursued pages next browser.world).world ≡ step.world
-  pub lines : shown ++ (pursued pages next browser.world).lines ≡ before ++ step.lines
+  pub over : IsOver site.shelf browser
+  pub world : (left_of site next browser.world).world ≡ step.world
+  pub lines : shown ++ (left_of site next browser.world).lines ≡ before ++ step.lines
   pub so_far : List (List ℕ × Bool)
   pub asks : Asks so_far seen now
-  pub asked : so_far ++ (pursued pages next browser.world).asked ≡ step.asked
+  pub asked : so_far ++ (left_of site next browser.world).asked ≡ step.asked
 
 pub record Goes (first : Option Task) (seen now : Seen) (old browser : Browser)
     (before shown : List Line)
     (next : Option Task) : Type 0 where
   pub follows : IfOver seen.contents old
-      (λ pages. Behind pages (pursued pages first old.world) seen now browser before shown next)
+      (λ site. Behind site (left_of site first old.world) seen now browser before shown next)
   pub steady : now.faults ≡ seen.faults
   pub stays : Stays seen now
 
 pub begins : (first : Option Task) (seen : Seen) (old : Browser) (before : List Line)
     → Goes first seen seen old old before before first
 begins first seen old before = record {
-  follows = over_all seen.contents old (λ pages over.
+  follows = over_all seen.contents old (λ site over.
       record {
         over = over;
         world = refl;
@@ -145,28 +152,34 @@ begins first seen old before = record {
   stays = Stays-same seen;
 }
 
+spends_next : (old new : Browser) (found : Option Task) → Spends old new found
+    → IfSome (option_map then_task found) (λ one. new.world.turns + 1 ≡ old.world.turns)
+spends_next old new None spends = tt
+spends_next old new (Some task) spends = spends
+
 spent_by : (old new : Browser) (world : World) (once : Once) (found : Option Task)
-    → new.world ≡ once.step.world → found ≡ once.next
+    → new.world ≡ once.step.world → option_map then_task found ≡ once.next
     → Spends old new found → IfSome once.next (λ one. once.step.world.turns + 1 ≡ old.world.turns)
 spent_by old new world once found is leads spends =
     subst (λ (w : World). IfSome once.next (λ one. w.turns + 1 ≡ old.world.turns)) is
-    (subst (λ (n : Option Task). IfSome n (λ one. new.world.turns + 1 ≡ old.world.turns))
-    leads spends)
+    (subst (λ (n : Option Next). IfSome n (λ one. new.world.turns + 1 ≡ old.world.turns))
+    leads (spends_next old new found spends))
 
-behind_next : (pages : Pages) (step : Step) (seen now after : Seen) (b new : Browser)
+behind_next : (site : Site) (step : Step) (seen now after : Seen) (b new : Browser)
     (before shown more : List Line) (one : Task) (next : Option Task)
-    → Behind pages step seen now b before shown (Some one)
-    → Leads pages (task_once pages [] b.world one) new shown more next → Spends b new next
-    → Asks (task_once pages [] b.world one).step.asked now after
-    → Behind pages step seen after new before more next
-behind_next pages step seen now after b new before shown more one next so_far leads spends asks =
-    let once = task_once pages [] b.world one in
+    → Behind site step seen now b before shown (Some one)
+    → Leads site.shelf (task_once site [] b.world (then_task one)) new shown more next
+    → Spends b new next
+    → Asks (task_once site [] b.world (then_task one)).step.asked now after
+    → Behind site step seen after new before more next
+behind_next site step seen now after b new before shown more one next so_far leads spends asks =
+    let once = task_once site [] b.world (then_task one) in
     let law =
-    act_leads pages b.world one leads.keys
+    act_leads site b.world (then_task one) leads.keys
     (spent_by b new b.world once next leads.world leads.leads spends) in
-    let left : pursued pages next new.world ≡ pursued pages once.next once.step.world =
-    ap₂ (λ (n : Option Task) (w : World). pursued pages n w) leads.leads leads.world in
-    let rest = pursued pages once.next once.step.world in
+    let left : left_of site next new.world ≡ pursued site once.next once.step.world =
+    ap₂ (λ (n : Option Next) (w : World). pursued site n w) leads.leads leads.world in
+    let rest = pursued site once.next once.step.world in
     record {
       over = leads.over;
       world = ap (λ (s : Step). s.world) left ∙ sym law.world ∙ so_far.world;
@@ -180,48 +193,51 @@ behind_next pages step seen now after b new before shown more one next so_far le
           ∙ ap (λ (l : List (List ℕ × Bool)). so_far.so_far ++ l) (sym law.asked) ∙ so_far.asked;
     }
 
--- facts of known pages, where both are of the same pages
-pub both_told : (contents here : Option Pages) (old b : Browser) {P Q G : Pages → Type 0}
+-- facts of known pages, where both are of the same ones
+pub both_told : (contents here : Option Pages) (old b : Browser) {P Q G : Site → Type 0}
     → here ≡ contents
-    → ((pages : Pages) → P pages → IsOver pages b)
-    → ((pages : Pages) → P pages → Q pages → G pages)
+    → ((site : Site) → P site → IsOver site.shelf b)
+    → ((site : Site) → P site → Q site → G site)
     → IfOver contents old P → IfOver here b Q → IfOver contents old G
 both_told None here old b is onto f one two = tt
 both_told (Some pages) here old b {P} {Q} {G} is onto f one two =
+    let site = decks_site pages in
     λ over.
-    f pages (one over) (subst (λ (o : Option Pages). IfOver o b Q) is two (onto pages (one over)))
+    f site (one over) (subst (λ (o : Option Pages). IfOver o b Q) is two (onto site (one over)))
 
 pub goes_on : (first : Option Task) (seen now after : Seen) (old b new : Browser)
     (before shown more : List Line) (one : Task) (next : Option Task)
     → Goes first seen now old b before shown (Some one)
-    → Onces (λ told world. task_once told [] world one) now after b new shown more (Ok next)
+    → Onces (λ site world. task_once site [] world (then_task one)) now after b new shown more
+    (Ok next)
     → Goes first seen after old new before more next
 goes_on first seen now after old b new before shown more one next so_far once =
-    let step : Pages → Step = λ pages. pursued pages first old.world in
+    let step : Site → Step = λ site. left_of site first old.world in
     let same = so_far.stays.contents in
-    let asked : IfOver seen.contents old (λ pages.
-    Behind pages (step pages) seen now b before shown (Some one)
-    × Asks (task_once pages [] b.world one).step.asked now after) =
+    let asked : IfOver seen.contents old (λ site.
+    Behind site (step site) seen now b before shown (Some one)
+    × Asks (task_once site [] b.world (then_task one)).step.asked now after) =
     both_told seen.contents now.contents old
-    b {P = λ pages. Behind pages (step pages) seen now b before shown (Some one)}
-    {Q = λ pages. Asks (task_once pages [] b.world one).step.asked now after} same
-    (λ pages behind. behind.over) (λ pages behind asks. (behind, asks)) so_far.follows once.asks in
+    b {P = λ site. Behind site (step site) seen now b before shown (Some one)}
+    {Q = λ site. Asks (task_once site [] b.world (then_task one)).step.asked now after} same
+    (λ site behind. behind.over) (λ site behind asks. (behind, asks)) so_far.follows once.asks in
     record {
       follows = both_told seen.contents now.contents old b
-          {P = λ pages. Behind pages (step pages) seen now b before shown (Some one)
-          × Asks (task_once pages [] b.world one).step.asked now after}
-          {Q = λ pages. Leads pages (task_once pages [] b.world one) new shown more next} same
-          (λ pages both. both.0.over)
-          (λ pages both leads.
-          behind_next pages (step pages)
+          {P = λ site. Behind site (step site) seen now b before shown (Some one)
+          × Asks (task_once site [] b.world (then_task one)).step.asked now after}
+          {Q = λ site.
+          Leads site.shelf (task_once site [] b.world (then_task one)) new shown more next} same
+          (λ site both. both.0.over)
+          (λ site both leads.
+          behind_next site (step site)
           seen now after b new before shown more one next both.0 leads once.spends both.1)
           asked once.follows;
       steady = once.steady ∙ so_far.steady;
       stays = Stays-then seen now after so_far.stays once.stays;
     }
 
-abbrev pub Pursued : Option Task → Pages → World → Step
-Pursued first told world = pursued told first world
+abbrev pub Pursued : Option Task → Site → World → Step
+Pursued first site world = left_of site first world
 
 pub ends : (first : Option Task) (seen now : Seen) (old b : Browser) (before shown : List Line)
     (next : Option Task) → next ≡ None
@@ -231,16 +247,16 @@ ends first seen now old b before shown next is so_far =
     let done = subst (Goes first seen now old b before shown) is so_far in
     record {
       leads =
-          over_map seen.contents old old (λ pages over. over)
-          (λ pages over behind. behind.world) done.follows;
+          over_map seen.contents old old (λ site over. over)
+          (λ site over behind. behind.world) done.follows;
       lines =
-          over_map seen.contents old old (λ pages over. over)
-          (λ pages over behind. sym (append-nil shown) ∙ behind.lines) done.follows;
+          over_map seen.contents old old (λ site over. over)
+          (λ site over behind. sym (append-nil shown) ∙ behind.lines) done.follows;
       over =
-          over_map seen.contents old old (λ pages over. over)
-          (λ pages over behind. behind.over) done.follows;
-      asks = over_map seen.contents old old (λ pages over. over)
-          (λ pages over behind. subst (λ (a : List (List ℕ × Bool)). Asks a seen now)
+          over_map seen.contents old old (λ site over. over)
+          (λ site over behind. behind.over) done.follows;
+      asks = over_map seen.contents old old (λ site over. over)
+          (λ site over behind. subst (λ (a : List (List ℕ × Bool)). Asks a seen now)
           (sym (append-nil behind.so_far) ∙ behind.asked) behind.asks) done.follows;
       steady = done.steady;
       failed = λ failed. absurd (cc);
@@ -252,13 +268,14 @@ pub store_of : (err : RunErr) → ◌≡◌ {A = Result (Unit {0}) RunErr} (Err 
     → ◌≡◌ {A = Result (Option Task) RunErr} (Err err) (Err Store)
 store_of err is = cc
 
-fails_behind : (pages : Pages) (step : Step) (seen now after : Seen) (b : Browser)
+fails_behind : (site : Site) (step : Step) (seen now after : Seen) (b : Browser)
     (before shown : List Line) (one : Task)
-    → Behind pages step seen now b before shown (Some one)
-    → Fails (task_once pages [] b.world one).step.asked now after → Fails step.asked seen after
-fails_behind pages step seen now after b before shown one behind fails =
-    let asked = (task_once pages [] b.world one).step.asked in
-    let rest = act_asks pages b.world one in
+    → Behind site step seen now b before shown (Some one)
+    → Fails (task_once site [] b.world (then_task one)).step.asked now after
+    → Fails step.asked seen after
+fails_behind site step seen now after b before shown one behind fails =
+    let asked = (task_once site [] b.world (then_task one)).step.asked in
+    let rest = act_asks site b.world (then_task one) in
     subst (λ (a : List (List ℕ × Bool)). Fails a seen after)
     (append_assoc behind.so_far asked rest.0
     ∙ ap (λ (a : List (List ℕ × Bool)). behind.so_far ++ a) (sym rest.1) ∙ behind.asked)
@@ -268,7 +285,8 @@ fails_behind pages step seen now after b before shown one behind fails =
 pub fails : (first : Option Task) (seen now after : Seen) (old b new : Browser)
     (before shown more : List Line) (one : Task) (next : Option Task) (err : RunErr)
     → next ≡ Some one → Goes first seen now old b before shown next
-    → Onces (λ told world. task_once told [] world one) now after b new shown more (Err err)
+    → Onces (λ site world. task_once site [] world (then_task one)) now after b new shown more
+    (Err err)
     → Pursues (Pursued first) seen after old new before more (Err err)
 fails first seen now after old b new before shown more one next err is so_far once =
     let done = subst (Goes first seen now old b before shown) is so_far in
@@ -279,13 +297,13 @@ fails first seen now after old b new before shown more one next err is so_far on
       asks = tt;
       steady = tt;
       failed = λ failed. both_told seen.contents now.contents old b
-          {P = λ pages.
-          Behind pages (pursued pages first old.world) seen now b before shown (Some one)}
-          {Q = λ pages. Fails (task_once pages [] b.world one).step.asked now after}
-          done.stays.contents (λ pages behind. behind.over)
-          (λ pages behind found.
-          fails_behind pages
-          (pursued pages first old.world) seen now after b before shown one behind found)
+          {P = λ site.
+          Behind site (left_of site first old.world) seen now b before shown (Some one)}
+          {Q = λ site. Fails (task_once site [] b.world (then_task one)).step.asked now after}
+          done.stays.contents (λ site behind. behind.over)
+          (λ site behind found.
+          fails_behind site
+          (left_of site first old.world) seen now after b before shown one behind found)
           done.follows (once.failed (store_of err failed));
       rose =
           λ failed.
@@ -313,7 +331,8 @@ falls old new one found next is spends =
 pub goes_on_from : (first : Option Task) (seen now after : Seen) (old b new : Browser)
     (before shown more : List Line) (one : Task) (found next : Option Task)
     → found ≡ Some one → Goes first seen now old b before shown found
-    → Onces (λ told world. task_once told [] world one) now after b new shown more (Ok next)
+    → Onces (λ site world. task_once site [] world (then_task one)) now after b new shown more
+    (Ok next)
     → Goes first seen after old new before more next
 goes_on_from first seen now after old b new before shown more one found next is so_far once =
     goes_on first seen now after old b new before shown more one next
@@ -321,20 +340,21 @@ goes_on_from first seen now after old b new before shown more one found next is 
 
 -- ---- a call's answer
 
-all_told : (contents : Option Pages) (old : Browser) {P Q R G : Pages → Type 0}
-    → ((pages : Pages) → P pages → Q pages → R pages → G pages)
+all_told : (contents : Option Pages) (old : Browser) {P Q R G : Site → Type 0}
+    → ((site : Site) → P site → Q site → R site → G site)
     → IfOver contents old P → IfOver contents old Q → IfOver contents old R → IfOver contents old G
 all_told None old f one two three = tt
-all_told (Some pages) old f one two three = λ over. f pages (one over) (two over) (three over)
+all_told (Some pages) old f one two three =
+    λ over. f (decks_site pages) (one over) (two over) (three over)
 
-pub acts_ok : (rule : Pages → World → Step) (seen after : Seen) (old new : Browser)
+pub acts_ok : (rule : Site → World → Step) (seen after : Seen) (old new : Browser)
     (before lines : List Line) → before ≡ []
     → Pursues rule seen after old new before lines (Ok tt) → Acts rule seen after old new (Ok lines)
 acts_ok rule seen after old new before lines none so = record {
   follows = all_told seen.contents old
-      (λ pages leads told over. record {
+      (λ site leads told over. record {
         leads = leads;
-        tells = told ∙ ap (λ (l : List Line). l ++ (rule pages old.world).lines) none;
+        tells = told ∙ ap (λ (l : List Line). l ++ (rule site old.world).lines) none;
         over = over;
       })
       so.leads so.lines so.over;
@@ -349,7 +369,7 @@ unit_of : (err : RunErr) → ◌≡◌ {A = Result (List Line) RunErr} (Err err)
     → ◌≡◌ {A = Result (Unit {0}) RunErr} (Err err) (Err Store)
 unit_of err is = cc
 
-pub acts_err : (rule : Pages → World → Step) (seen after : Seen) (old new : Browser)
+pub acts_err : (rule : Site → World → Step) (seen after : Seen) (old new : Browser)
     (before lines : List Line) (err : RunErr)
     → Pursues rule seen after old new before lines (Err err)
     → Acts rule seen after old new (Err err)
@@ -363,7 +383,7 @@ acts_err rule seen after old new before lines err so = record {
 }
 
 -- the same where the fault is handed on
-pub acts_fault : (rule : Pages → World → Step) (seen after : Seen) (old new : Browser)
+pub acts_fault : (rule : Site → World → Step) (seen after : Seen) (old new : Browser)
     (before lines : List Line) (err : RunErr) (result : Result (List Line) RunErr)
     → result ≡ Err err → Pursues rule seen after old new before lines (Err err)
     → Acts rule seen after old new result
@@ -371,7 +391,7 @@ acts_fault rule seen after old new before lines err result is so =
     subst (λ (r : Result (List Line) RunErr). Acts rule seen after old new r) (sym is)
     (acts_err rule seen after old new before lines err so)
 
-pub pursues_fault : (rule : Pages → World → Step) (seen after : Seen) (old new : Browser)
+pub pursues_fault : (rule : Site → World → Step) (seen after : Seen) (old new : Browser)
     (before lines : List Line) (err : RunErr) (result : Result (Unit {0}) RunErr)
     → result ≡ Err err → Pursues rule seen after old new before lines (Err err)
     → Pursues rule seen after old new before lines result

@@ -1,12 +1,15 @@
 -- What is seen of a browser that stands on a card: its world, and the deck that it has at hand.
 -- This project's own.
 use Rattle.std.specs.Prelude.{◌≡◌, ℕ, List, Option, IfSome}
-use Rattle.std.specs.Option.{option_and_then, option_map_or}
+use Rattle.std.specs.Option.{option_map, option_and_then, option_map_or}
 use Rattle.wap_filling.specs.Variables.{Variables}
 use Rattle.wap_cardrules.specs.declared.answers.Entered.TheVariants as entered
 use Rattle.wap_cardrules.specs.Entering.{TextEntered, enter_text, OptionChosen, none_chosen, choose}
 use Rattle.wap_markup.specs.declared.deck.Deck.{Deck}
 use Rattle.wap_site.specs.Pages.{Pages}
+use Rattle.wap_world.specs.Shelves.{Shelf}
+use Rattle.wap_world.specs.Sites.{Site}
+use Rattle.wap_world.specs.Decks.{decks_site}
 use Rattle.wap_world.specs.World.{World, Place, place_in, deck_at, last_entry}
 use Rattle.wap_world.specs.Steps.{Scene}
 
@@ -21,21 +24,22 @@ abbrev pub place_held : Browser → Option Place
 place_held browser = option_and_then (λ entry. option_and_then (place_in entry) browser.deck)
     (last_entry browser.world)
 
--- these pages have the deck under the URL of the current card
-abbrev pub IsOver : Pages → Browser → Type 0
-IsOver pages browser =
-    option_and_then (λ entry. deck_at pages entry.url) (last_entry browser.world) ≡ browser.deck
+-- this shelf has the deck under the URL of the current card
+abbrev pub IsOver : Shelf → Browser → Type 0
+IsOver shelf browser =
+    option_and_then (λ entry. deck_at shelf entry.url) (last_entry browser.world) ≡ browser.deck
 
--- a fact of the pages, where they are known and have the deck
-abbrev pub IfOver : Option Pages → Browser → (Pages → Type 0) → Type 0
-IfOver contents browser Fact = IfSome contents (λ pages. IsOver pages browser → Fact pages)
+-- a fact of the site of pages, where they are known and have the deck
+abbrev pub IfOver : Option Pages → Browser → (Site → Type 0) → Type 0
+IfOver contents browser Fact =
+    IfSome (option_map decks_site contents) (λ site. IsOver site.shelf browser → Fact site)
 
--- a scene over any pages that have the deck: where it leads, and its lines
-pub record Shows (old new : Browser) (lines : List (List ℕ)) (rule : Pages → World → Scene) : Type 0
+-- a scene over any shelf that has the deck: where it leads, and its lines
+pub record Shows (old new : Browser) (lines : List (List ℕ)) (rule : Shelf → World → Scene) : Type 0
   where
-    pub world : (pages : Pages) → IsOver pages old → new.world ≡ (rule pages old.world).world
-    pub tells : (pages : Pages) → IsOver pages old → lines ≡ (rule pages old.world).lines
-    pub over : (pages : Pages) → IsOver pages old → IsOver pages new
+    pub world : (shelf : Shelf) → IsOver shelf old → new.world ≡ (rule shelf old.world).world
+    pub tells : (shelf : Shelf) → IsOver shelf old → lines ≡ (rule shelf old.world).lines
+    pub over : (shelf : Shelf) → IsOver shelf old → IsOver shelf new
 
 -- ---- variables
 

@@ -1,7 +1,7 @@
 //! Asking for a page.
 ghost use Rattle.std.specs.Prelude.{◌≡◌};
-ghost use Rattle.wap_world.specs.Requests.{plain_get, deck_answer};
-ghost use Rattle.wap_context.specs.inside.Moving.{Asked};
+ghost use Rattle.wap_world.specs.Requests.{plain_get};
+ghost use Rattle.wap_context.specs.inside.Moving.{Asked, deck_answer};
 
 use std::alloc::Global;
 use wap_base::{NoMemory, Rows, RunErr, Text};

@@ -2,6 +2,7 @@
 ghost use Rattle.std.specs.Prelude.{◌≡◌, [], None, is_some, IfOk, OnOk};
 ghost use Rattle.std.specs.Option.{option_map, option_copied};
 ghost use Rattle.wap_world.specs.World.{first_world};
+ghost use Rattle.wap_world.specs.Steps.{then_task};
 ghost use Rattle.wap_world.specs.Screens.{show, show_screen};
 ghost use Rattle.wap_world.specs.Tasks.{act, visit};
 ghost use Rattle.wap_context.specs.Browsers.{place_held, Shows, with_vars, typed_in, chosen_in};
@@ -67,7 +68,7 @@ impl Context {
         pages: &mut P,
         url: &Text,
     ) -> Result<Rows<Text>, RunErr>
-        ensures { Acts (λ told world. visit told [] world url.now)
+        ensures { Acts (λ site world. visit site [] world url.now)
             (P.seen pages.old) (P.seen pages.new) self.old self.new result }
     {
         let mut lines = Rows::new(alloc);
@@ -83,7 +84,7 @@ impl Context {
         pages: &mut P,
         task: Task,
     ) -> Result<Rows<Text>, RunErr>
-        ensures { Acts (λ told world. act told [] world task) (P.seen pages.old)
+        ensures { Acts (λ site world. act site [] world (then_task task)) (P.seen pages.old)
             (P.seen pages.new) self.old self.new result }
     {
         let mut lines = Rows::new(alloc);

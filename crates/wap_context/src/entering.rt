@@ -16,7 +16,7 @@ use wap_base::{NoMemory, Rows, Text};
 use wap_cardrules::{Event, Task};
 use wap_cards::{binding, is_true};
 use wap_good::{AttrName, GoodDeck};
-use wap_requests::may_enter;
+use wap_requests::{entrance_of, may_enter};
 use wap_site::Shared;
 use wap_url::Url;
 use wap_world::{Entry, Refusal, Timer};
@@ -94,7 +94,7 @@ impl Context {
         lines: &mut Rows<Text>,
     ) -> Result<Option<Task>, NoMemory>
         ensures { IfOk result (λ next. Moves (enter_at event (place_held self.old) self.old.world)
-            (λ pages. IsOver pages self.old) self.old self.new lines.old lines.new next) }
+            (λ shelf. IsOver shelf self.old) self.old self.new lines.old lines.new next) }
     {
         self.reset_timer();
         match self.event_task(alloc, event)? {
@@ -115,7 +115,7 @@ impl Context {
     ) -> Result<Option<Task>, NoMemory>
         ensures { IfOk result (λ next.
             Moves (refused_at refusal (place_held self.old) self.old.world)
-            (λ pages. IsOver pages self.old) self.old self.new lines.old lines.new next) }
+            (λ shelf. IsOver shelf self.old) self.old self.new lines.old lines.new next) }
     {
         self.add_refusal(alloc, refusal, lines)?;
         Ok(None)
@@ -168,10 +168,11 @@ impl Context {
     ) -> Result<Option<Task>, NoMemory>
         ensures { IfOk result (λ next. Moves
             (try_deck_at sets caller.now url (place_held self.old) self.old.world deck)
-            (λ pages. IsOver pages self.old × HasDeck url deck pages)
+            (λ shelf. IsOver shelf self.old × HasDeck url deck shelf)
             self.old self.new lines.old lines.new next) }
     {
-        let is_allowed = may_enter(alloc, &url, &deck, caller)?;
+        let entrance = entrance_of(alloc, &deck)?;
+        let is_allowed = may_enter(alloc, &url, entrance, caller)?;
         if is_allowed {
             self.arrive(alloc, sets, url, deck, lines)
         } else {

@@ -1,5 +1,7 @@
 //! Tasks, and all that they lead to.
 ghost use Rattle.std.specs.Prelude.{◌≡◌};
+ghost use Rattle.std.specs.Option.{option_map};
+ghost use Rattle.wap_world.specs.Steps.{then_task};
 ghost use Rattle.wap_context.specs.inside.Moving.{Pursues, pursued};
 
 use crate::context::Context;
@@ -17,7 +19,7 @@ impl Context {
         first: Option<Task>,
         lines: &mut Rows<Text>,
     ) -> Result<(), RunErr>
-        ensures { Pursues (λ told world. pursued told first world)
+        ensures { Pursues (λ site world. pursued site (option_map then_task first) world)
             (P.seen pages.old) (P.seen pages.new) self.old self.new lines.old lines.new result }
     {
         let mut next = first;

@@ -1,8 +1,8 @@
 //! Go, open and prev (WAP-191, sections 9.2, 9.5 and 9.10).
 ghost use Rattle.std.specs.Prelude.{◌≡◌, [], None, true, false, IfSome, IfOk};
-ghost use Rattle.wap_site.specs.Pages.{Pages as Told};
 ghost use Rattle.std.specs.Option.{option_map};
 ghost use Rattle.wap_world.specs.World.{place_now};
+ghost use Rattle.wap_world.specs.Steps.{then_task};
 ghost use Rattle.wap_world.specs.Tasks.{url_now, is_here, with_turn, go, open_url, prev};
 ghost use Rattle.wap_world.specs.Tasks.{stay_or_ask, request, ask_back, back_from, task_once};
 ghost use Rattle.wap_context.specs.Browsers.{IsOver, place_held};
@@ -80,7 +80,7 @@ impl Context {
         one: Request,
         lines: &mut Rows<Text>,
     ) -> Result<Option<Task>, RunErr>
-        ensures { Takes (λ told world. request told [] sets caller.now one world)
+        ensures { Takes (λ site world. request site [] sets caller.now one world)
             (P.seen pages.old) (P.seen pages.new) self.old self.new lines.old lines.new result }
     {
         let answer = ask(alloc, pages, &one, lines)?;
@@ -98,7 +98,7 @@ impl Context {
         lines: &mut Rows<Text>,
     ) -> Result<Option<Task>, RunErr>
         ensures { Takes
-            (λ told world. stay_or_ask told [] sets caller.now one world (place_now told world))
+            (λ site world. stay_or_ask site [] sets caller.now one world (place_now site.shelf world))
             (P.seen pages.old) (P.seen pages.new) self.old self.new lines.old lines.new result }
     {
         match self.page_here(alloc, &one)? {
@@ -118,7 +118,7 @@ impl Context {
         one: Go,
         lines: &mut Rows<Text>,
     ) -> Result<Option<Task>, RunErr>
-        ensures { Takes (λ told world. go told [] (url_now told world) one world)
+        ensures { Takes (λ site world. go site [] (url_now site.shelf world) one world)
             (P.seen pages.old) (P.seen pages.new) self.old self.new lines.old lines.new result }
     {
         let base = self.url(alloc)?;
@@ -139,7 +139,7 @@ impl Context {
         url: &Text,
         lines: &mut Rows<Text>,
     ) -> Result<Option<Task>, RunErr>
-        ensures { Takes (λ told world. open_url told [] url.now world)
+        ensures { Takes (λ site world. open_url site [] url.now world)
             (P.seen pages.old) (P.seen pages.new) self.old self.new lines.old lines.new result }
     {
         let base = self.url(alloc)?;
@@ -161,7 +161,7 @@ impl Context {
         earlier: Entry,
         lines: &mut Rows<Text>,
     ) -> Result<Option<Task>, RunErr>
-        ensures { Takes (λ told world. ask_back told [] sets earlier world)
+        ensures { Takes (λ site world. ask_back site.shelf [] sets earlier world)
             (P.seen pages.old) (P.seen pages.new) self.old self.new lines.old lines.new result }
     {
         let answer = ask_for(alloc, pages, &earlier.url, lines)?;
@@ -178,7 +178,7 @@ impl Context {
         lines: &mut Rows<Text>,
     ) -> Result<Option<Task>, RunErr>
         ensures { Takes
-            (λ told world. back_from told [] sets earlier world (place_now told world))
+            (λ site world. back_from site.shelf [] sets earlier world (place_now site.shelf world))
             (P.seen pages.old) (P.seen pages.new) self.old self.new lines.old lines.new result }
     {
         match self.page_under(alloc, &earlier.url)? {
@@ -201,7 +201,7 @@ impl Context {
         sets: Rows<(Text, Text)>,
         lines: &mut Rows<Text>,
     ) -> Result<Option<Task>, RunErr>
-        ensures { Takes (λ told world. prev told [] sets world)
+        ensures { Takes (λ site world. prev site.shelf [] sets world)
             (P.seen pages.old) (P.seen pages.new) self.old self.new lines.old lines.new result }
     {
         match self.state.earlier(alloc)? {
@@ -231,7 +231,7 @@ impl Context {
         lines: &mut Rows<Text>,
     ) -> Result<Option<Task>, RunErr>
         ensures { Onces
-            (λ told world. with_turn told [] world world.turns (open_url told [] url.now))
+            (λ site world. with_turn site.shelf [] world world.turns (open_url site [] url.now))
             (P.seen pages.old) (P.seen pages.new) self.old self.new lines.old lines.new result }
     {
         if self.take_turn() {
@@ -249,7 +249,7 @@ impl Context {
         task: Task,
         lines: &mut Rows<Text>,
     ) -> Result<Option<Task>, RunErr>
-        ensures { Onces (λ told world. task_once told [] world task)
+        ensures { Onces (λ site world. task_once site [] world (then_task task))
             (P.seen pages.old) (P.seen pages.new) self.old self.new lines.old lines.new result }
     {
         match task {

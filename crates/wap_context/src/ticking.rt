@@ -25,7 +25,7 @@ impl Context {
         }
         match self.timer() {
             Timer::Running(left) => Some(left),
-            Timer::NotStarted | Timer::Off => None,
+            Timer::NotStarted | Timer::Off | Timer::Expired => None,
         }
     }
 

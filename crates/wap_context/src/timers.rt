@@ -70,7 +70,7 @@ impl State {
     {
         match self.timer {
             Timer::NotStarted => self.start_timer(alloc, card),
-            Timer::Running(_) | Timer::Off => Ok(()),
+            Timer::Running(_) | Timer::Off | Timer::Expired => Ok(()),
         }
     }
 
@@ -101,7 +101,7 @@ impl State {
     {
         match self.timer {
             Timer::Running(time) => self.store_time(alloc, card, time, lines),
-            Timer::NotStarted | Timer::Off => Ok(()),
+            Timer::NotStarted | Timer::Off | Timer::Expired => Ok(()),
         }
     }
 

@@ -20,14 +20,16 @@ use Rattle.wap_world.specs.declared.refusal.Refusal.TheVariants as refusals
 use Rattle.wap_world.specs.declared.timer.Timer.TheVariants.{NotStarted}
 use Rattle.wap_world.specs.World.{World, Place, place_in, last_entry}
 use Rattle.wap_world.specs.Lines.{refusal_line}
-use Rattle.wap_world.specs.Steps.{Scene, Once, still, behind, and_then, quiet, settled}
+use Rattle.wap_world.specs.Steps.{Scene, Once, then_task, still, behind, and_then, quiet, settled}
+use Rattle.wap_world.specs.Steps.{after_step}
+use Rattle.wap_world.specs.Access.{entrance_of}
 use Rattle.wap_world.specs.Setting.{with_set, set_variables}
 use Rattle.wap_world.specs.Timers.{started, start_timer}
 use Rattle.wap_world.specs.History.{pushed, entry_of, in_deck, back_at}
 use Rattle.wap_world.specs.Screens.{at_place, show_place, screen_lines}
 use Rattle.wap_world.specs.Entering.{leave_place}
 use Rattle.wap_world.specs.Requests.{Request, test, test_of}
-use Rattle.wap_world.specs.Tasks.{after_step, card_for, in_context, is_here}
+use Rattle.wap_world.specs.Tasks.{card_for, in_context, is_here}
 use Rattle.wap_world.specs.Urls.{is_same_page}
 use Rattle.wap_screens.specs.Screens.{screen_of}
 use Rattle.wap_context.specs.Browsers.{Browser}
@@ -97,7 +99,10 @@ not_started browser = record browser { world = record browser.world { timer = No
 
 abbrev pub entered_at : Option Place → World → Option Task → Once
 entered_at place world None = settled (quiet [] (show_at place world))
-entered_at place world (Some task) = record { step = quiet [] (still world); next = Some task }
+entered_at place world (Some task) = record {
+  step = quiet [] (still world);
+  next = Some (then_task task);
+}
 
 abbrev pub enter_at : Event → Option Place → World → Once
 enter_at event place world =
@@ -118,7 +123,7 @@ arrive_if_at sets url place world deck false = refused_at refusals.Denied place 
 
 abbrev pub try_deck_at : Pairs → Option Url → Url → Option Place → World → Deck → Once
 try_deck_at sets caller url place world deck =
-    let one = test_of url caller deck in
+    let one = test_of url caller (entrance_of deck) in
     after_step (test [] one world) (arrive_if_at sets url place world deck one.allowed)
 
 abbrev pub return_at : Pairs → Entry → Option Place → World → Deck → Once

@@ -1,7 +1,8 @@
 -- What the parts of a navigation come to. Contracts inside the crate cite it; those of its public
 -- calls don't. This project's own.
 use Rattle.std.specs.Prelude.{◌≡◌, ℕ, ◌+◌, List, [], ◌∷◌, ◌++◌, Option, Some}
-use Rattle.std.specs.Prelude.{None, IfSome, IfOk, OnOk, Result, Err}
+use Rattle.std.specs.Prelude.{None, IfSome, IfOk, OnOk, Result, Ok, Err}
+use Rattle.std.specs.Option.{option_map}
 use Rattle.wap_base.specs.declared.fault.RunErr.{RunErr}
 use Rattle.wap_base.specs.declared.fault.RunErr.TheVariants.{Store}
 use Rattle.wap_base.specs.Count.{Rose}
@@ -9,12 +10,17 @@ use Rattle.wap_url.specs.declared.url.Url.{Url}
 use Rattle.wap_markup.specs.declared.deck.Deck.{Deck}
 use Rattle.wap_url.specs.Printing.{name_for}
 use Rattle.wap_cardrules.specs.declared.task.Task.{Task}
-use Rattle.wap_site.specs.Pages.{Pages, page_of}
+use Rattle.wap_site.specs.declared.page.Page.{Page}
+use Rattle.wap_site.specs.declared.page.Page.TheVariants as page
+use Rattle.wap_site.specs.Pages.{page_of}
 use Rattle.wap_site.specs.Asking.{Seen, Stays, Asks, Fails}
 use Rattle.wap_world.specs.declared.refusal.Refusal.{Refusal}
+use Rattle.wap_world.specs.declared.refusal.Refusal.TheVariants as refusals
+use Rattle.wap_world.specs.Shelves.{Shelf}
+use Rattle.wap_world.specs.Sites.{Site}
 use Rattle.wap_world.specs.World.{World, Place, deck_at}
-use Rattle.wap_world.specs.Steps.{Scene, Step, Once, still, quiet}
-use Rattle.wap_world.specs.Requests.{Request, request_line, deck_answer, answer_to}
+use Rattle.wap_world.specs.Steps.{Scene, Step, Once, Next, then_task, still, quiet}
+use Rattle.wap_world.specs.Requests.{Request, request_line}
 use Rattle.wap_world.specs.Tasks.{act}
 use Rattle.wap_context.specs.Browsers.{Browser, IsOver, IfOver, place_held}
 
@@ -37,55 +43,63 @@ pub record PlaysAt (rule : Option Place → World → Scene) (old new : Browser)
 
 -- ---- navigations
 
--- a navigation for which nothing more is asked, where these pages are
-pub record Moves (once : Once) (AreThese : Pages → Type 0) (old new : Browser)
+-- a navigation for which nothing more is asked, where such shelves are
+pub record Moves (once : Once) (IsSuch : Shelf → Type 0) (old new : Browser)
     (before after : List Line) (next : Option Task) : Type 0 where
   pub world : new.world ≡ once.step.world
   pub lines : after ≡ before ++ once.step.lines
-  pub leads : next ≡ once.next
+  pub leads : option_map then_task next ≡ once.next
   pub keys : once.step.keys ≡ []
   pub asked : once.step.asked ≡ []
   pub turns : new.world.turns ≡ old.world.turns
-  pub over : (pages : Pages) → AreThese pages → IsOver pages new
+  pub over : (shelf : Shelf) → IsSuch shelf → IsOver shelf new
 
--- the pages have this deck there
-abbrev pub HasDeck : Url → Deck → Pages → Type 0
-HasDeck url deck pages = deck_at pages url ≡ Some deck
+-- the shelf has this deck there
+abbrev pub HasDeck : Url → Deck → Shelf → Type 0
+HasDeck url deck shelf = deck_at shelf url ≡ Some deck
 
--- the pages are the browser's, and answer this
-abbrev pub Answers : Url → Result Deck Refusal → Browser → Pages → Type 0
-Answers url answer browser pages =
-    IsOver pages browser × (answer ≡ deck_answer (page_of (name_for url) pages))
+-- the deck that a page is, or why none is entered
+abbrev pub deck_answer : Page → Result Deck Refusal
+deck_answer (page.Deck deck) = Ok deck
+deck_answer (page.Words text) = Err refusals.Refused
+deck_answer page.Refused = Err refusals.Refused
+deck_answer page.Missing = Err refusals.Missing
+
+-- the shelf is the browser's, and has the deck that answers
+abbrev pub Answers : Url → Result Deck Refusal → Browser → Shelf → Type 0
+Answers url answer browser shelf =
+    IsOver shelf browser × IfOk answer (λ deck. HasDeck url deck shelf)
 
 -- a page that was asked for: the answer, and the line
 pub record Asked (request : Request) (seen after : Seen) (before shown : List Line)
     (result : Result (Result Deck Refusal) RunErr) : Type 0 where
   pub answer :
-      IfOk result (λ answer. IfSome seen.contents (λ pages. answer ≡ answer_to pages request))
+      IfOk result (λ answer. IfSome seen.contents (λ pages.
+      answer ≡ deck_answer (page_of (name_for request.url) pages)))
   pub lines : OnOk result (shown ≡ before ++ request_line request ∷ [])
   pub asks : OnOk result (Asks ((name_for request.url, request.fresh) ∷ []) seen after)
   pub failed : result ≡ Err Store → Fails ((name_for request.url, request.fresh) ∷ []) seen after
   pub stays : Stays seen after
 
--- a navigation over these pages
-pub record Leads (pages : Pages) (once : Once) (new : Browser) (before after : List Line)
+-- a navigation over this shelf
+pub record Leads (shelf : Shelf) (once : Once) (new : Browser) (before after : List Line)
     (next : Option Task) : Type 0 where
   pub world : new.world ≡ once.step.world
   pub lines : after ≡ before ++ once.step.lines
-  pub leads : next ≡ once.next
+  pub leads : option_map then_task next ≡ once.next
   pub keys : once.step.keys ≡ []
-  pub over : IsOver pages new
+  pub over : IsOver shelf new
 
 -- a call that follows a rule for one navigation
-pub record Takes (rule : Pages → World → Once) (seen after : Seen) (old new : Browser)
+pub record Takes (rule : Site → World → Once) (seen after : Seen) (old new : Browser)
     (before shown : List Line) (result : Result (Option Task) RunErr) : Type 0 where
   pub follows : IfOk result (λ next. IfOver seen.contents old
-      (λ pages. Leads pages (rule pages old.world) new before shown next))
+      (λ site. Leads site.shelf (rule site old.world) new before shown next))
   pub asks : OnOk result (IfOver seen.contents old
-      (λ pages. Asks (rule pages old.world).step.asked seen after))
+      (λ site. Asks (rule site old.world).step.asked seen after))
   pub steady : OnOk result (after.faults ≡ seen.faults)
   pub failed : result ≡ Err Store → IfOver seen.contents old
-      (λ pages. Fails (rule pages old.world).step.asked seen after)
+      (λ site. Fails (rule site old.world).step.asked seen after)
   pub rose : result ≡ Err Store → Rose seen.faults after.faults
   pub stays : Stays seen after
   pub turns : OnOk result (new.world.turns ≡ old.world.turns)
@@ -104,15 +118,15 @@ pub record HasNone (old new : Browser) : Type 0 where
   pub none : old.world.turns ≡ 0
 
 -- the same of a task, which takes a turn
-pub record Onces (rule : Pages → World → Once) (seen after : Seen) (old new : Browser)
+pub record Onces (rule : Site → World → Once) (seen after : Seen) (old new : Browser)
     (before shown : List Line) (result : Result (Option Task) RunErr) : Type 0 where
   pub follows : IfOk result (λ next. IfOver seen.contents old
-      (λ pages. Leads pages (rule pages old.world) new before shown next))
+      (λ site. Leads site.shelf (rule site old.world) new before shown next))
   pub asks : OnOk result (IfOver seen.contents old
-      (λ pages. Asks (rule pages old.world).step.asked seen after))
+      (λ site. Asks (rule site old.world).step.asked seen after))
   pub steady : OnOk result (after.faults ≡ seen.faults)
   pub failed : result ≡ Err Store → IfOver seen.contents old
-      (λ pages. Fails (rule pages old.world).step.asked seen after)
+      (λ site. Fails (rule site old.world).step.asked seen after)
   pub rose : result ≡ Err Store → Rose seen.faults after.faults
   pub stays : Stays seen after
   pub spends : IfOk result (Spends old new)
@@ -120,21 +134,21 @@ pub record Onces (rule : Pages → World → Once) (seen after : Seen) (old new 
 -- ---- all that a task leads to
 
 -- what is left to do
-abbrev pub pursued : Pages → Option Task → World → Step
-pursued pages None world = quiet [] (still world)
-pursued pages (Some task) world = act pages [] world task
+abbrev pub pursued : Site → Option Next → World → Step
+pursued site None world = quiet [] (still world)
+pursued site (Some next) world = act site [] world next
 
-pub record Pursues (rule : Pages → World → Step) (seen after : Seen) (old new : Browser)
+pub record Pursues (rule : Site → World → Step) (seen after : Seen) (old new : Browser)
     (before shown : List Line) (result : Result (Unit {0}) RunErr) : Type 0 where
   pub leads :
-      OnOk result (IfOver seen.contents old (λ pages. new.world ≡ (rule pages old.world).world))
+      OnOk result (IfOver seen.contents old (λ site. new.world ≡ (rule site old.world).world))
   pub lines : OnOk result (IfOver seen.contents old
-      (λ pages. shown ≡ before ++ (rule pages old.world).lines))
-  pub over : OnOk result (IfOver seen.contents old (λ pages. IsOver pages new))
+      (λ site. shown ≡ before ++ (rule site old.world).lines))
+  pub over : OnOk result (IfOver seen.contents old (λ site. IsOver site.shelf new))
   pub asks : OnOk result (IfOver seen.contents old
-      (λ pages. Asks (rule pages old.world).asked seen after))
+      (λ site. Asks (rule site old.world).asked seen after))
   pub steady : OnOk result (after.faults ≡ seen.faults)
   pub failed : result ≡ Err Store → IfOver seen.contents old
-      (λ pages. Fails (rule pages old.world).asked seen after)
+      (λ site. Fails (rule site old.world).asked seen after)
   pub rose : result ≡ Err Store → Rose seen.faults after.faults
   pub stays : Stays seen after

@@ -1,5 +1,7 @@
 use Rattle.std.proofs.Common.{Err, ap, ◌∙◌}
 use Rattle.std.proofs.lemmas.Result.{err_from_is_err_and}
+use Rattle.std.specs.Option.{option_map}
+use Rattle.wap_world.specs.Steps.{then_task}
 use Rattle.wap_context.specs.inside.Moving.{pursued}
 use Rattle.wap_context.proofs.Pursuing.{begins, goes_on_from, ends, fails, falls}
 use Rattle.wap_context.proofs.Pursuing.{pursues_fault}
@@ -15,7 +17,8 @@ loop-next-preserved g c =
     (g.P.Pages.seen c.task_once.new.pages)
     c.args.self.now c.loop-next.self c.task_once.new.self c.args.lines.now c.loop-next.lines
     c.task_once.new.lines
-    c.in-Some.task c.loop-next.next c.in_ok-next.next c.in-Some.is c.loop-next.invariant c.in_ok-next.ensures
+    c.in-Some.task c.loop-next.next c.in_ok-next.next c.in-Some.is c.loop-next.invariant
+    c.in_ok-next.ensures
 
 pub loop-next-smaller : goal.loop-next-smaller
 loop-next-smaller g c =
@@ -31,7 +34,8 @@ returns g c =
 pub returns-in_err-next : goal.returns-in_err-next
 returns-in_err-next g c =
     let left = err_from_is_err_and c.from_residual.result c.from_residual.ensures.1 in
-    pursues_fault (λ told world. pursued told c.args.first world) (g.P.Pages.seen c.args.pages.now)
+    pursues_fault (λ site world. pursued site (option_map then_task c.args.first) world)
+    (g.P.Pages.seen c.args.pages.now)
     (g.P.Pages.seen c.task_once.new.pages) c.args.self.now c.task_once.new.self c.args.lines.now
     c.task_once.new.lines c.in_err-next.field-0.0 c.from_residual.result (left.1 ∙ ap Err left.2)
     (fails c.args.first (g.P.Pages.seen c.args.pages.now) (g.P.Pages.seen c.loop-next.pages)

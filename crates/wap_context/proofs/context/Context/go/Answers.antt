@@ -7,15 +7,15 @@ use Rattle.wap_context.proofs.context.Context.go.Goals as goal
 
 pub returns-in_ok-request-in-Ok : goal.returns-in_ok-request-in-Ok
 returns-in_ok-request-in-Ok g c =
-    takes_from (λ told world. go told [] (url_now told world) c.args.one world)
-    (λ told world.
-    stay_or_ask told [] c.args.one.sets c.in_ok-base.base c.in_ok-request-in-Ok.request world
-    (place_now told world))
+    takes_from (λ site world. go site [] (url_now site.shelf world) c.args.one world)
+    (λ site world.
+    stay_or_ask site [] c.args.one.sets c.in_ok-base.base c.in_ok-request-in-Ok.request world
+    (place_now site.shelf world))
     (g.P.Pages.seen c.args.pages.now)
     (g.P.Pages.seen c.stay_or_ask.new.pages) c.args.self.now c.stay_or_ask.new.self
     c.args.lines.now c.stay_or_ask.new.lines c.stay_or_ask.result
-    (λ pages over.
-    go_is pages c.args.self.now over c.in_ok-base.base c.args.one c.in-Ok.url
+    (λ site over.
+    go_is site c.args.self.now over c.in_ok-base.base c.args.one c.in-Ok.url
     c.in_ok-request-in-Ok.request
     c.in_ok-base.ensures (sym c.in-Ok.is ∙ c.in_ok-url.ensures) c.in_ok-request-in-Ok.ensures)
     c.stay_or_ask.ensures
@@ -24,17 +24,17 @@ pub returns-in_ok-refuse-in-Err : goal.returns-in_ok-refuse-in-Err
 returns-in_ok-refuse-in-Err g c =
     refused_takes (g.P.Pages.seen c.args.pages.now)
     c.args.self.now c.refuse.new.self c.args.lines.now
-    (λ told world. go told [] (url_now told world) c.args.one world)
+    (λ site world. go site [] (url_now site.shelf world) c.args.one world)
     c.refuse.new.lines c.in_ok-refuse-in-Err.field-0 c.in-Err.refusal
-    (λ pages over.
-    go_refused pages c.args.self.now over c.in_ok-base.base c.args.one c.in-Err.refusal
+    (λ site over.
+    go_refused site c.args.self.now over c.in_ok-base.base c.args.one c.in-Err.refusal
     c.in_ok-base.ensures
     (sym c.in-Err.is ∙ c.in_ok-url.ensures))
     c.in_ok-refuse-in-Err.ensures
 
 pub returns-in_err-url : goal.returns-in_err-url
 returns-in_err-url g c =
-    takes_rejected (λ told world. go told [] (url_now told world) c.args.one world)
+    takes_rejected (λ site world. go site [] (url_now site.shelf world) c.args.one world)
     (g.P.Pages.seen c.args.pages.now)
     c.args.self.now c.args.self.now c.args.lines.now c.args.lines.now
     c.from_residual-in_err-url.result c.from_residual-in_err-url.ensures.0
@@ -42,7 +42,7 @@ returns-in_err-url g c =
 
 pub returns-in_err-request-in-Ok : goal.returns-in_err-request-in-Ok
 returns-in_err-request-in-Ok g c =
-    takes_rejected (λ told world. go told [] (url_now told world) c.args.one world)
+    takes_rejected (λ site world. go site [] (url_now site.shelf world) c.args.one world)
     (g.P.Pages.seen c.args.pages.now)
     c.args.self.now c.args.self.now c.args.lines.now c.args.lines.now
     c.from_residual-in_err-request-in-Ok.result c.from_residual-in_err-request-in-Ok.ensures.0
@@ -50,7 +50,7 @@ returns-in_err-request-in-Ok g c =
 
 pub returns-in_err-refuse-in-Err : goal.returns-in_err-refuse-in-Err
 returns-in_err-refuse-in-Err g c =
-    takes_rejected (λ told world. go told [] (url_now told world) c.args.one world)
+    takes_rejected (λ site world. go site [] (url_now site.shelf world) c.args.one world)
     (g.P.Pages.seen c.args.pages.now)
     c.args.self.now c.refuse.new.self c.args.lines.now c.refuse.new.lines
     c.from_residual-in_err-refuse-in-Err.result c.from_residual-in_err-refuse-in-Err.ensures.0

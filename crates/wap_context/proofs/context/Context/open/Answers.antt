@@ -7,7 +7,7 @@ use Rattle.wap_context.proofs.context.Context.open.Goals as goal
 
 pub returns : goal.returns
 returns g c =
-    acts_ok (λ told world. visit told [] world c.args.url.now) (g.P.Pages.seen c.args.pages.now)
+    acts_ok (λ site world. visit site [] world c.args.url.now) (g.P.Pages.seen c.args.pages.now)
     (g.P.Pages.seen c.follow.new.pages)
     c.args.self.now c.follow.new.self c.new-lines.result c.follow.new.lines c.new-lines.ensures
     (visit_ok c.args.url.now (g.P.Pages.seen c.args.pages.now)
@@ -21,7 +21,7 @@ returns-in_err-follow g c =
     let fault = c.in_err-follow.field-0.0 in
     let left = err_from_is_err_and c.from_residual-in_err-follow.result
     c.from_residual-in_err-follow.ensures.1 in
-    acts_fault (λ told world. visit told [] world c.args.url.now) (g.P.Pages.seen c.args.pages.now)
+    acts_fault (λ site world. visit site [] world c.args.url.now) (g.P.Pages.seen c.args.pages.now)
     (g.P.Pages.seen c.follow.new.pages)
     c.args.self.now c.follow.new.self c.new-lines.result c.follow.new.lines fault
     c.from_residual-in_err-follow.result (left.1 ∙ ap Err left.2)
@@ -35,7 +35,7 @@ pub returns-in_err-next : goal.returns-in_err-next
 returns-in_err-next g c =
     let fault = c.in_err-next.field-0.0 in
     let left = err_from_is_err_and c.from_residual.result c.from_residual.ensures.1 in
-    acts_fault (λ told world. visit told [] world c.args.url.now) (g.P.Pages.seen c.args.pages.now)
+    acts_fault (λ site world. visit site [] world c.args.url.now) (g.P.Pages.seen c.args.pages.now)
     (g.P.Pages.seen c.visit_once.new.pages)
     c.args.self.now c.visit_once.new.self c.new-lines.result c.visit_once.new.lines fault
     c.from_residual.result (left.1 ∙ ap Err left.2)

@@ -8,15 +8,15 @@ use Rattle.wap_context.proofs.context.Context.open_url.Goals as goal
 
 pub returns-in-Ok : goal.returns-in-Ok
 returns-in-Ok g c =
-    takes_from (λ told world. open_url told [] c.args.url.now world)
-    (λ told world. request told [] c.new-sets.result None c.plain_get.result world)
+    takes_from (λ site world. open_url site [] c.args.url.now world)
+    (λ site world. request site [] c.new-sets.result None c.plain_get.result world)
     (g.P.Pages.seen c.args.pages.now)
     (g.P.Pages.seen c.request.new.pages) c.args.self.now c.request.new.self
     c.args.lines.now c.request.new.lines c.request.result
-    (λ pages over.
-    ap₂ (λ (s : Pairs) (r : Request). request pages [] s None r c.args.self.now.world)
+    (λ site over.
+    ap₂ (λ (s : Pairs) (r : Request). request site [] s None r c.args.self.now.world)
     c.new-sets.ensures c.plain_get.ensures
-    ∙ open_is pages c.args.self.now over c.in_ok-base.base c.args.url.now c.in-Ok.url
+    ∙ open_is site c.args.self.now over c.in_ok-base.base c.args.url.now c.in-Ok.url
     c.in_ok-base.ensures
     (sym c.in-Ok.is ∙ c.in_ok-url.ensures))
     c.request.ensures
@@ -25,10 +25,10 @@ pub returns : goal.returns
 returns g c =
     refused_takes (g.P.Pages.seen c.args.pages.now)
     c.args.self.now c.refuse.new.self c.args.lines.now
-    (λ told world. open_url told [] c.args.url.now world)
+    (λ site world. open_url site [] c.args.url.now world)
     c.refuse.new.lines c.in_ok-refuse-in-Err.field-0 c.in-Err.refusal
-    (λ pages over.
-    open_refused pages c.args.self.now over c.in_ok-base.base c.args.url.now c.in-Err.refusal
+    (λ site over.
+    open_refused site c.args.self.now over c.in_ok-base.base c.args.url.now c.in-Err.refusal
     c.in_ok-base.ensures
     (sym c.in-Err.is ∙ c.in_ok-url.ensures))
     c.in_ok-refuse-in-Err.ensures

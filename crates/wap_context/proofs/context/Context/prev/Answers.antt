@@ -10,13 +10,14 @@ use Rattle.wap_context.proofs.context.Context.prev.Goals as goal
 
 pub returns-in-Some : goal.returns-in-Some
 returns-in-Some g c =
-    takes_from (λ told world. prev told [] c.args.sets world)
-    (λ told world. back_from told [] c.args.sets c.in-Some.earlier world (place_now told world))
+    takes_from (λ site world. prev site.shelf [] c.args.sets world)
+    (λ site world. back_from site.shelf [] c.args.sets c.in-Some.earlier world
+    (place_now site.shelf world))
     (g.P.Pages.seen c.args.pages.now)
     (g.P.Pages.seen c.back_to.new.pages) c.args.self.now c.back_to.new.self
     c.args.lines.now c.back_to.new.lines c.back_to.result
-    (λ pages over.
-    prev_some pages c.args.sets c.args.self.now.world c.in_ok-earlier.field-0 c.in-Some.earlier
+    (λ site over.
+    prev_some site c.args.sets c.args.self.now.world c.in_ok-earlier.field-0 c.in-Some.earlier
     (c.in_ok-earlier.ensures ∙ ap (λ (b : Browser). earlier_entry b.world) c.self.view_is)
     c.in-Some.is)
     c.back_to.ensures
@@ -25,9 +26,9 @@ pub returns-in_ok-refuse-in-None : goal.returns-in_ok-refuse-in-None
 returns-in_ok-refuse-in-None g c =
     refused_takes (g.P.Pages.seen c.args.pages.now)
     c.args.self.now c.refuse.new.self c.args.lines.now
-    (λ told world. prev told [] c.args.sets world)
+    (λ site world. prev site.shelf [] c.args.sets world)
     c.refuse.new.lines c.in_ok-refuse-in-None.field-0 refusals.First
-    (λ pages over. prev_none pages c.args.sets c.args.self.now.world c.in_ok-earlier.field-0
+    (λ site over. prev_none site c.args.sets c.args.self.now.world c.in_ok-earlier.field-0
     (c.in_ok-earlier.ensures ∙ ap (λ (b : Browser). earlier_entry b.world) c.self.view_is)
     c.in-None.is)
     c.in_ok-refuse-in-None.ensures

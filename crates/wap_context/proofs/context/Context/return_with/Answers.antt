@@ -12,7 +12,7 @@ returns-in-Ok c =
     moves_ok (return_at c.args.sets c.args.earlier
     (place_held c.args.self.now) c.args.self.now.world) c.args.earlier.url c.args.self.now
     c.return_to.new.self c.args.lines.now c.return_to.new.lines next c.args.answer c.in-Ok.deck
-    (HasDeck c.args.earlier.url c.in-Ok.deck) c.in-Ok.is (λ pages over has. has))
+    (HasDeck c.args.earlier.url c.in-Ok.deck) c.in-Ok.is (λ shelf over has. has))
     c.return_to.ensures
 
 pub returns-in-Err : goal.returns-in-Err

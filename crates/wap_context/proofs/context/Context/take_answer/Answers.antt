@@ -12,8 +12,8 @@ returns-in-Ok c =
     moves_ok (try_deck_at c.args.sets c.args.caller.now c.args.url
     (place_held c.args.self.now) c.args.self.now.world) c.args.url c.args.self.now
     c.try_deck.new.self c.args.lines.now c.try_deck.new.lines next c.args.answer c.in-Ok.deck
-    (λ pages. IsOver pages c.args.self.now × HasDeck c.args.url c.in-Ok.deck pages) c.in-Ok.is
-    (λ pages over has. (over, has)))
+    (λ shelf. IsOver shelf c.args.self.now × HasDeck c.args.url c.in-Ok.deck shelf) c.in-Ok.is
+    (λ shelf over has. (over, has)))
     c.try_deck.ensures
 
 pub returns-in-Err : goal.returns-in-Err
