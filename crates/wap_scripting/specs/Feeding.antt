@@ -1,0 +1,40 @@
+-- What a key does without further keys, and what it leaves to these: all that a browser knows which
+-- is fed one key after the other. This project's own.
+use Rattle.std.specs.Prelude.{◌≡◌, ℕ, List, ◌∷◌, Option, Some, None}
+use Rattle.wap_input.specs.declared.key.Key.{Key}
+use Rattle.wap_world.specs.World.{World}
+use Rattle.wap_world.specs.Steps.{Step, joined}
+use Rattle.wap_world.specs.Sites.{Call}
+use Rattle.wap_world.specs.Keys.{react}
+use Rattle.wap_scripting.specs.Sites.{Pages, units_site}
+use Rattle.wap_scripting.specs.Waiting.{Waits, State, left_over, resumed_step, played_from}
+
+-- what was done, and what waits
+pub record Fed : Type 0 where
+  pub step : Step
+  pub waiting : Option Waits
+
+module _ (call : List ℕ → Option Call) (pages : Pages) where
+  -- what was done, and then what is left to further keys
+  abbrev pub meaning : Fed → List Key → Step
+  meaning one keys = joined one.step (left_over call pages one.waiting keys one.step.world)
+
+  -- a rule for a key and those after it: this was done without these
+  abbrev pub Means : Fed → (List Key → Step) → Type 0
+  Means one rule = (keys : List Key) → rule keys ≡ meaning one keys
+
+  -- a key, with keys after it
+  abbrev pub turned : Option Waits → World → Key → List Key → Step
+  turned None world key keys = react (units_site call pages) key keys world
+  turned (Some one) world key keys = resumed_step call pages one (key ∷ keys) world
+
+  -- a key does this without further keys, and leaves the rest to these
+  abbrev pub Turns : State → Key → Fed → Type 0
+  Turns state key one = Means one (turned state.waiting state.world key)
+
+  -- the lines of a key, and then what any further keys show from the state after it, are what the
+  -- key and these show from the state before
+  abbrev pub Feeds : State → Key → Fed → Type 0
+  Feeds state key one = (keys : List Key) → played_from call pages state (key ∷ keys)
+      ≡ joined one.step
+      (played_from call pages (record { world = one.step.world; waiting = one.waiting }) keys)

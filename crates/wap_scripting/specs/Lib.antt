@@ -1,0 +1,13 @@
+pub mod Units
+pub mod Steps
+pub mod Dialogs
+pub mod Browsing
+pub mod Loading
+pub mod Hosting
+pub mod Pages
+pub mod Sites
+pub mod Waiting
+pub mod Halves
+pub mod Feeding
+pub mod Views
+pub mod Sources
