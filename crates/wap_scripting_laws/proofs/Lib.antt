@@ -1,0 +1,9 @@
+pub mod Plain
+pub mod Keeping
+pub mod Runs
+pub mod Viewing
+pub mod Feeding
+pub mod Replying
+pub mod Replacing
+pub mod Denying
+pub mod Refusing

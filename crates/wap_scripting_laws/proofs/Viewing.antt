@@ -1,0 +1,135 @@
+-- The code's host and the definition's come to the same, where the deck at hand is the current one.
+use Rattle.std.proofs.Common.{◌≡◌, inl, ℕ, zero, suc, List, [], ◌∷◌, ◌++◌, cond, eqb}
+use Rattle.std.proofs.Common.{Option, refl, sym, ap, ◌∙◌, subst}
+use Rattle.std.specs.Option.{option_map, option_and_then}
+use Rattle.wap_base.specs.declared.limits.Limits.{Limits}
+use Rattle.wap_url.specs.declared.url.Url.{Url}
+use Rattle.wap_value.specs.declared.value.Value.{Value}
+use Rattle.wap_markup.specs.declared.deck.Deck.{Deck}
+use Rattle.wap_execution.specs.declared.library.HostOut.{HostOut}
+use Rattle.wap_execution_laws.specs.Simulation.{Both, AreAlike, RunAlike}
+use Rattle.wap_execution_laws.proofs.SimLaws as sim_laws
+use Rattle.wap_site.specs.Misses.{Asked}
+use Rattle.wap_world.specs.declared.history.Entry.{Entry}
+use Rattle.wap_world.specs.Shelves.{Shelf}
+use Rattle.wap_world.specs.World.{World, Place, place_in, place_of, place_now, last_entry}
+use Rattle.wap_world.specs.Steps.{Step, still, quiet}
+use Rattle.wap_scripting.specs.Browsing.{current_card, refreshed, wml_browser, dialogs}
+use Rattle.wap_scripting.specs.Hosting.{within, url_call, pure_call, library_call}
+use Rattle.wap_scripting.specs.Sites.{Pages, shelf_of, externals_of, unit_under, host_of}
+use Rattle.wap_scripting.specs.Views.{Counted, counted_once, counted_all, View, place_with, added, fresh}
+use Rattle.wap_scripting.specs.Views.{viewing, view_of, Shows, IsAtHand, NoStep, NoView, ViewsRunAlike}
+use Rattle.wap_world.proofs.Joining.{joined_nothing}
+use Rattle.wap_scripting_laws.proofs.Plain.{fronted, rekeyed, IsPlain, external_plain, library_plain}
+
+-- ---- the current card alone is asked of the pages
+
+wml_now : (one other : World → Option Place) (base : Url) (function : ℕ) (arguments : List Value)
+    (s : Step) → one s.world ≡ other s.world
+    → wml_browser one base function arguments s ≡ wml_browser other base function arguments s
+wml_now one other base zero arguments s same = refl
+wml_now one other base (suc zero) arguments s same = refl
+wml_now one other base (suc (suc zero)) arguments s same = refl
+wml_now one other base (suc (suc (suc zero))) arguments s same = refl
+wml_now one other base (suc (suc (suc (suc zero)))) arguments s same = refl
+wml_now one other base (suc (suc (suc (suc (suc zero))))) arguments s same =
+    ap (current_card base s) same
+wml_now one other base (suc (suc (suc (suc (suc (suc n)))))) arguments s same =
+    ap (refreshed s) same
+
+library_now : (shelf : Shelf) (one other : World → Option Place) (s : Step) (base : Url)
+    (referer : Option Url) (library function : ℕ) (arguments : List Value)
+    → one s.world ≡ other s.world
+    → library_call shelf one s base referer library function arguments
+    ≡ library_call shelf other s base referer library function arguments
+library_now shelf one other s base referer library function arguments same =
+    ap (λ (gave : HostOut × Step). cond (eqb library 5) (dialogs function arguments s)
+    (cond (eqb library 4) (within gave)
+    (cond (eqb library 3) (within (url_call shelf base referer function arguments s))
+    (pure_call library function arguments s))))
+    (wml_now one other base function arguments s same)
+
+-- ---- counts
+
+counted_then : (some more : List Asked) (first : Option Counted)
+    → counted_all (some ++ more) first ≡ counted_all more (counted_all some first)
+counted_then [] more first = refl
+counted_then (one ∷ some) more first = counted_then some more (option_map (counted_once one) first)
+
+module _ (pages : Pages) (deck : Option Deck) (first : Option Counted) (entry : Option Entry)
+    (over : IsAtHand pages deck entry) where
+  here : (s : Step) → last_entry s.world ≡ entry
+      → place_now (shelf_of pages) s.world ≡ place_with deck s.world
+  here s last =
+      ap (option_and_then (place_of (shelf_of pages))) last ∙ over
+      ∙ sym (ap (option_and_then (λ e. option_and_then (place_in e) deck)) last)
+
+  -- a plain row adds to a step what it adds to a fresh one
+  row_is : {A : Type 0} (f : Step → A × Step) → IsPlain f → (s : Step)
+      → f s ≡ fronted s (rekeyed s.keys (f (quiet [] (still s.world))))
+  row_is f plain s =
+      ap f (sym (joined_nothing s s.keys))
+      ∙ plain.behind s (quiet s.keys (still s.world))
+      ∙ ap (fronted s) (plain.unread s.keys (quiet [] (still s.world)))
+
+  row_shows : {A : Type 0} (f : Step → A × Step) → IsPlain f → (s : Step) (v : View) → Shows pages deck first entry s v
+      → Both (Shows pages deck first entry) NoStep NoView (f s) (added v (f (fresh v)))
+  row_shows f plain s v shows =
+      let r = f (quiet [] (still s.world)) in
+      let same = row_is f plain s in
+      let v_is : added v (f (fresh v)) ≡ added (view_of pages deck first s) r =
+      ap (λ (u : View). added u (f (fresh u))) shows.is in
+      inl (
+        ap (λ g. g.0) same ∙ sym (ap (λ g. g.0) v_is),
+        record {
+          is = ap (λ g. g.1) v_is
+              ∙ ap (λ (c : Option Counted). record (added (view_of pages deck first s) r).1 { counted = c })
+              (sym (counted_then s.asked r.1.asked first))
+              ∙ sym (ap (λ g. view_of pages deck first g.1) same);
+          last = plain.last s ∙ shows.last;
+        },
+      )
+
+  abbrev held : World → Option Place
+  held = place_with deck
+
+  views_alike : AreAlike (Shows pages deck first entry) NoStep NoView (host_of pages) viewing
+  views_alike = record {
+    external = λ s v caller url name count working shows.
+        let f : Step → _ × Step = λ u. (host_of pages).external u caller url name count working in
+        subst (λ (p : View). Both (Shows pages deck first entry) NoStep NoView (f s)
+        (viewing.external p caller url name count working)) (sym shows.is)
+        (row_shows f (external_plain (shelf_of pages) (externals_of pages) (unit_under pages) caller
+        name count working url) s (view_of pages deck first s) (record { is = refl; last = shows.last }));
+    library = λ s v base referer number index arguments shows.
+        let shelf = shelf_of pages in
+        let f : Step → HostOut × Step = λ u. library_call shelf held u base referer number index
+        arguments in
+        subst (λ (g : HostOut × Step). Both (Shows pages deck first entry) NoStep NoView g
+        (viewing.library v base referer number index arguments))
+        (sym (library_now shelf (place_now shelf) held s base referer number index arguments
+        (here s shows.last)))
+        (subst (λ (p : View). Both (Shows pages deck first entry) NoStep NoView (f s)
+        (viewing.library p base referer number index arguments)) (sym shows.is)
+        (row_shows f (library_plain shelf held base referer number index arguments) s (view_of pages deck first s)
+        (record { is = refl; last = shows.last })));
+    stays = record {
+      external = λ s caller url name count working no. absurd no;
+      library = λ s base referer number index arguments no. absurd no;
+    };
+    stays' = record {
+      external = λ s caller url name count working no. absurd no;
+      library = λ s base referer number index arguments no. absurd no;
+    };
+  }
+
+  -- what the machine is proved against tells what the definition says: outcome and turns, world and
+  -- lines, and the cache and the count after what was asked for
+  pub runs_alike : (limits : Limits) → RunAlike (Shows pages deck first entry) NoStep NoView limits (host_of pages) viewing
+  runs_alike limits =
+      sim_laws.agrees (Shows pages deck first entry) NoStep NoView limits (host_of pages) viewing views_alike
+
+-- over all pages
+pub views_run_alike : ViewsRunAlike
+views_run_alike pages deck first entry over limits =
+    runs_alike pages deck first entry over limits
