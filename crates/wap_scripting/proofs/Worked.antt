@@ -1,5 +1,6 @@
 -- A small unit that asks, and others, computed from the definitions.
-use Rattle.std.specs.Prelude.{◌≡◌, ℕ, Bool, true, false, Option, List, [], ◌∷◌, Some, None, codes, refl}
+use Rattle.std.specs.Prelude.{◌≡◌, ℕ, Bool, true, false, Option, List, [], ◌∷◌, Some, None, codes}
+use Rattle.std.specs.Prelude.{refl}
 use Rattle.wap_base.specs.Limits.{default_limits}
 use Rattle.wap_input.specs.declared.key.Key.{Key}
 use Rattle.wap_input.specs.declared.key.Key.TheVariants as key
@@ -49,7 +50,8 @@ asking = code (0x17 ∷ 0x6A ∷ 0x05 ∷ 0x3A ∷ [])
 -- every fragment names a function without arguments
 site : List Pragma → Code → Site
 site pragmas one = units_site (λ fragment. Some (record { function = fragment; arguments = [] }))
-    ((codes "h/a.wmlsc", script (unit_of pragmas one)) ∷ (codes "h/b.wmlsc", script (unit_of [] asking)) ∷ [])
+    ((codes "h/a.wmlsc", script (unit_of pragmas one))
+    ∷ (codes "h/b.wmlsc", script (unit_of [] asking)) ∷ [])
 
 -- the script's page, and the deck from which it is started
 page : Url
@@ -101,8 +103,8 @@ asks : seen (opened [] asking []) ≡ record {
   tests = true ∷ [];
   next = None;
 }
-unfolding seen opened site unit_of code page caller turned asking units_site finished goes looping_by
-    forward_by effect_at effect_of row_of resumed lib_args enter
+unfolding seen opened site unit_of code page caller turned asking units_site finished goes
+    looping_by forward_by effect_at effect_of row_of resumed lib_args enter
 asks = refl
 
 -- a key that answers is taken, and those after it are left
@@ -114,21 +116,22 @@ answered : seen (opened [] asking (key.Ok ∷ key.Vars ∷ [])) ≡ record {
   tests = true ∷ [];
   next = None;
 }
-unfolding seen opened site unit_of code page caller turned asking units_site finished goes looping_by
-    forward_by effect_at effect_of row_of resumed lib_args enter
+unfolding seen opened site unit_of code page caller turned asking units_site finished goes
+    looping_by forward_by effect_at effect_of row_of resumed lib_args enter
 answered = refl
 
 -- a key that fits no dialog is taken too, and one that stops the script
 stopped : seen (opened [] asking (key.Back ∷ key.Stop ∷ key.Vars ∷ [])) ≡ record {
-  lines = codes "> GET http://h/a.wmlsc" ∷ codes "? alert " ∷ codes "! ignored" ∷ codes "! script stopped" ∷ [];
+  lines = codes "> GET http://h/a.wmlsc" ∷ codes "? alert " ∷ codes "! ignored"
+      ∷ codes "! script stopped" ∷ [];
   is_open = false;
   keys = key.Vars ∷ [];
   turns = 1;
   tests = true ∷ [];
   next = None;
 }
-unfolding seen opened site unit_of code page caller turned asking units_site finished goes looping_by
-    forward_by effect_at effect_of row_of resumed lib_args enter
+unfolding seen opened site unit_of code page caller turned asking units_site finished goes
+    looping_by forward_by effect_at effect_of row_of resumed lib_args enter
 stopped = refl
 
 -- prev is asked for, and is next when the script is at its end
@@ -140,8 +143,8 @@ goes_back : seen (opened [] (code (0x6B ∷ 0x04 ∷ 0x3A ∷ [])) (key.Vars ∷
   tests = true ∷ [];
   next = Some (task.Prev []);
 }
-unfolding seen opened site unit_of code page caller turned asking units_site finished goes looping_by
-    forward_by effect_at effect_of row_of resumed lib_args enter
+unfolding seen opened site unit_of code page caller turned asking units_site finished goes
+    looping_by forward_by effect_at effect_of row_of resumed lib_args enter
 goes_back = refl
 
 -- a script that isn't for the caller isn't started
@@ -153,8 +156,8 @@ denied : seen (opened (Domain 2 ∷ []) asking (key.Ok ∷ [])) ≡ record {
   tests = false ∷ [];
   next = None;
 }
-unfolding seen opened site unit_of code page caller turned asking units_site finished goes looping_by
-    forward_by effect_at effect_of row_of resumed lib_args enter
+unfolding seen opened site unit_of code page caller turned asking units_site finished goes
+    looping_by forward_by effect_at effect_of row_of resumed lib_args enter
 denied = refl
 
 -- another unit's function asks, and its answer goes back to the first
@@ -166,8 +169,8 @@ calls : seen (opened [] (code (0x0C ∷ 0x00 ∷ 0x01 ∷ 0x00 ∷ 0x3A ∷ []))
   tests = true ∷ true ∷ [];
   next = None;
 }
-unfolding seen opened site unit_of code page caller turned asking units_site finished goes looping_by
-    forward_by effect_at effect_of row_of resumed lib_args enter
+unfolding seen opened site unit_of code page caller turned asking units_site finished goes
+    looping_by forward_by effect_at effect_of row_of resumed lib_args enter
 calls = refl
 
 -- ---- whole sessions
@@ -208,8 +211,8 @@ informs_first : seen_all (informs []) ≡ record {
   lines = codes "> GET http://h/p.wmlsc" ∷ codes "? alert in" ∷ [];
   is_open = true;
 }
-unfolding seen_all informs informed informing units_site finished goes looping_by forward_by effect_at
-    effect_of row_of resumed lib_args enter played react visit act
+unfolding seen_all informs informed informing units_site finished goes looping_by forward_by
+    effect_at effect_of row_of resumed lib_args enter played react visit act
 informs_first = refl
 
 -- `ok` answers it
@@ -217,8 +220,8 @@ informs_ok : seen_all (informs (key.Ok ∷ [])) ≡ record {
   lines = codes "> GET http://h/p.wmlsc" ∷ codes "? alert in" ∷ [];
   is_open = false;
 }
-unfolding seen_all informs informed informing units_site finished goes looping_by forward_by effect_at
-    effect_of row_of resumed lib_args enter played react visit act
+unfolding seen_all informs informed informing units_site finished goes looping_by forward_by
+    effect_at effect_of row_of resumed lib_args enter played react visit act
 informs_ok = refl
 
 -- `back` fits nothing in a dialog, and `stop` ends the script
@@ -227,6 +230,6 @@ informs_stopped : seen_all (informs (key.Back ∷ key.Stop ∷ [])) ≡ record {
       ∷ codes "! script stopped" ∷ [];
   is_open = false;
 }
-unfolding seen_all informs informed informing units_site finished goes looping_by forward_by effect_at
-    effect_of row_of resumed lib_args enter played react visit act
+unfolding seen_all informs informed informing units_site finished goes looping_by forward_by
+    effect_at effect_of row_of resumed lib_args enter played react visit act
 informs_stopped = refl

@@ -1,9 +1,9 @@
 -- What a key does without further keys, and what it leaves to these: all that a browser knows which
 -- is fed one key after the other. This project's own.
-use Rattle.std.specs.Prelude.{◌≡◌, ℕ, List, ◌∷◌, Option, Some, None}
+use Rattle.std.specs.Prelude.{◌≡◌, ⊤, ℕ, List, [], ◌∷◌, Option, Some, None}
 use Rattle.wap_input.specs.declared.key.Key.{Key}
 use Rattle.wap_world.specs.World.{World}
-use Rattle.wap_world.specs.Steps.{Step, joined}
+use Rattle.wap_world.specs.Steps.{Step, still, quiet, joined}
 use Rattle.wap_world.specs.Sites.{Call}
 use Rattle.wap_world.specs.Keys.{react}
 use Rattle.wap_scripting.specs.Sites.{Pages, units_site}
@@ -38,3 +38,26 @@ module _ (call : List ℕ → Option Call) (pages : Pages) where
   Feeds state key one = (keys : List Key) → played_from call pages state (key ∷ keys)
       ≡ joined one.step
       (played_from call pages (record { world = one.step.world; waiting = one.waiting }) keys)
+
+-- the state after a key
+abbrev pub after_fed : Fed → State
+after_fed one = record { world = one.step.world; waiting = one.waiting }
+
+-- the state after keys
+abbrev pub last_fed : State → List Fed → State
+last_fed state [] = state
+last_fed state (one ∷ more) = last_fed (after_fed one) more
+
+-- what keys did, one after the other
+abbrev pub all_fed : State → List Fed → Step
+all_fed state [] = quiet [] (still state.world)
+all_fed state (one ∷ more) = joined one.step (all_fed (after_fed one) more)
+
+module _ (call : List ℕ → Option Call) (pages : Pages) where
+  -- each of these keys did this without those after it, and left the rest to them
+  abbrev pub AreFed : State → List Key → List Fed → Type 0
+  AreFed state [] [] = ⊤
+  AreFed state [] (one ∷ more) = ⊥
+  AreFed state (key ∷ keys) [] = ⊥
+  AreFed state (key ∷ keys) (one ∷ more) =
+      Turns call pages state key one × AreFed (after_fed one) keys more

@@ -1,5 +1,5 @@
--- What a run of a script comes to before any key is read: its end, or a dialog; and what it comes to
--- with keys. This project's own.
+-- What a run of a script comes to before any key is read: its end, or a dialog; and what it comes
+-- to with keys. This project's own.
 use Rattle.std.specs.Prelude.{◌≡◌, ℕ, List, [], Option, Some, None}
 use Rattle.wap_base.specs.declared.limits.Limits.{Limits}
 use Rattle.wap_input.specs.declared.key.Key.{Key}
@@ -65,8 +65,8 @@ once_of pages half keys = once_by pages half.once half.waiting keys
 
 -- ---- both are the same
 
--- a run that starts, or goes on with an answer, comes with any keys to what it comes to without, and
--- then to what these make of the dialog that waits
+-- a run that starts, or goes on with an answer, comes with any keys to what it comes to without,
+-- and then to what these make of the dialog that waits
 pub record GoesOnWithKeys (pages : Pages) (base : Url) (limits : Limits) : Type 0 where
   pub starting : (frames : List Frame) (turns : ℕ) (scene : Scene) (keys : List Key)
       → scene.world.turns ≡ 0

@@ -42,7 +42,8 @@ use Rattle.wap_world.specs.Shelves.{no_page, Entrance}
 use Rattle.wap_world.specs.World.{World, Place, place_now}
 use Rattle.wap_world.specs.Steps.{AccessTest}
 use Rattle.wap_world.specs.Sessions.{played_in, played}
-use Rattle.wap_world.specs.Steps.{Scene, Step, Once, Next, then_task, joined, after_step, still, quiet}
+use Rattle.wap_world.specs.Steps.{Scene, Step, Once, Next, then_task, joined, after_step, still}
+use Rattle.wap_world.specs.Steps.{quiet}
 use Rattle.wap_world.specs.Steps.{followed}
 use Rattle.wap_world.specs.Timers.{end_timer}
 use Rattle.wap_world.specs.Screens.{show}
@@ -54,7 +55,9 @@ use Rattle.wap_world.specs.Sites.{External, Call, End, done, failed, unanswered,
 use Rattle.wap_world.specs.Starting.{in_world, rest, end_done, ended_script, prepared}
 use Rattle.wap_world.specs.Starting.{is_too_long, started, start_external, start_call, start_if}
 use Rattle.wap_world.specs.Starting.{not_started}
-use Rattle.wap_world.specs.Tasks.{with_url, with_turn, arrive, answered, request, is_here, here_with, stay_or_ask, go, open_url, base_now, url_now, task_by, task_once, go_on, onward, act_in, act, visit}
+use Rattle.wap_world.specs.Tasks.{with_url, with_turn, arrive, answered, request, is_here}
+use Rattle.wap_world.specs.Tasks.{here_with, stay_or_ask, go, open_url, base_now, url_now, task_by}
+use Rattle.wap_world.specs.Tasks.{task_once, go_on, onward, act_in, act, visit}
 use Rattle.wap_world.specs.Keys.{ignored, act_or, after_choice, choose_option, expire, pass_time}
 use Rattle.wap_world.specs.Keys.{at_card, renewed, apply, react}
 use Rattle.wap_scripting.specs.Steps.{with_scene, asking_for}
@@ -169,7 +172,8 @@ module _ (among : List ℕ → Bool) where
       library = λ s base referer number index arguments lost.
           let gave = library_call shelf (place_now shelf) s base referer number index arguments in
           subst Entered (sym (in_tests shelf gave.0 gave.1))
-          (plain_lost (λ u. library_call shelf (place_now shelf) u base referer number index arguments)
+          (plain_lost
+          (λ u. library_call shelf (place_now shelf) u base referer number index arguments)
           (library_plain shelf (place_now shelf) base referer number index arguments) s lost);
     }
 
@@ -190,8 +194,8 @@ module _ (among : List ℕ → Bool) where
         inl (
           ap (λ (b : Bool). callable_if b (callable (code name) (without_fragment url) count depth
               working (externals name function))) is
-              ∙ sym (ap (λ (b : Bool). callable_if b (callable (code' name) (without_fragment url) count
-              depth working (externals' name function))) is),
+              ∙ sym (ap (λ (b : Bool). callable_if b (callable (code' name)
+              (without_fragment url) count depth working (externals' name function))) is),
           refl,
         )
     script_alike caller url function count working s entrance true false is about =
@@ -208,7 +212,8 @@ module _ (among : List ℕ → Bool) where
     script_alike caller url function count working s entrance true true is about =
         let test_is = test_of url (Some caller) entrance in
         let entered_it : Entered (test_is ∷ []) =
-        entered_by (name_for url) (may_enter url entrance (Some caller)) [] (Some caller) is about in
+        entered_by (name_for url) (may_enter url entrance (Some caller)) [] (Some caller) is
+        about in
         inr (second s.tests (test_is ∷ []) entered_it, second s.tests (test_is ∷ []) entered_it)
 
     under_alike : (caller url : Url) (function : List ℕ) (count working : ℕ) (s : Step)
@@ -294,7 +299,8 @@ module _ (among : List ℕ → Bool) where
       subst (λ (c : Step). E (followed a f) (followed c g)) is
       (joined_E a (f a.keys a.world) (g a.keys a.world) (same a.keys a.world))
   followed_E f g same a b (inr lost) =
-      inr (first a.tests (f a.keys a.world).tests lost.0, first b.tests (g b.keys b.world).tests lost.1)
+      inr
+      (first a.tests (f a.keys a.world).tests lost.0, first b.tests (g b.keys b.world).tests lost.1)
 
   -- ---- the end of a script
 
@@ -514,7 +520,8 @@ module _ (among : List ℕ → Bool) where
         let late = end_timer place.card w in
         let one = event_task shelf event.Timer late.world in
         joined_E (quiet keys late) (act_or (still late.world) s1 keys late.world one)
-        (act_or (still late.world) s2 keys late.world one) (or_E (still late.world) keys late.world one)
+        (act_or (still late.world) s2 keys late.world one)
+        (or_E (still late.world) keys late.world one)
 
     time_E : (keys : List Key) (n : ℕ) (timer : Timer) (place : Place) (w : World)
         → E (pass_time s1 keys n timer place w) (pass_time s2 keys n timer place w)
@@ -681,7 +688,8 @@ module _ (among : List ℕ → Bool) where
           → played (units_site call one) keys w ≡ played (units_site call other) keys w
       unfolding units_site
       same_play keys w none =
-          unless_lost (played (units_site call one) keys w) (played (site_over (shelf_of one)) keys w) none
+          unless_lost (played (units_site call one) keys w)
+          (played (site_over (shelf_of one)) keys w) none
           (played_E (shelf_of one) call (externals_of one) (externals_of other)
           (run_over (shelf_of one) one) (run_over (shelf_of one) other) names_are runs_E keys w)
           ∙ ap (λ (f : Shelf). played (site_over f) keys w) shelf_is

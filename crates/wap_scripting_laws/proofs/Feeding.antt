@@ -1,5 +1,5 @@
 -- What a key did, and what it left to further keys.
-use Rattle.std.proofs.Common.{◌≡◌, ℕ, suc, ◌≤◌, List, [], ◌∷◌, Option, Some, None}
+use Rattle.std.proofs.Common.{◌≡◌, ℕ, suc, ◌≤◌, List, [], ◌∷◌, ◌++◌, Option, Some, None}
 use Rattle.std.proofs.Common.{refl, sym, ap, ◌∙◌, arith, length}
 use Rattle.std.specs.Prelude.{is_some}
 use Rattle.wap_base.specs.declared.limits.Limits.{Limits}
@@ -11,7 +11,8 @@ use Rattle.wap_execution_laws.specs.Settings.{uncounted}
 use Rattle.wap_execution_laws.specs.Keyed.{gone_on}
 use Rattle.wap_execution_laws.proofs.RunLaws.{resumed_follows}
 use Rattle.wap_world.specs.World.{World}
-use Rattle.wap_world.specs.Steps.{Scene, Step, Once, Next, joined, after_step, followed, quiet, still}
+use Rattle.wap_world.specs.Steps.{Scene, Step, Once, Next, joined, after_step, followed, quiet}
+use Rattle.wap_world.specs.Steps.{still}
 use Rattle.wap_world.specs.Sites.{Call, Site}
 use Rattle.wap_world.specs.Starting.{ended_script}
 use Rattle.wap_world.specs.Tasks.{go_on, onward, act}
@@ -20,7 +21,8 @@ use Rattle.wap_scripting.specs.Dialogs.{answered_by}
 use Rattle.wap_scripting.specs.Sites.{Pages, shelf_of, keyed_host, ran_of, units_site}
 use Rattle.wap_scripting.specs.Waiting.{Waits, State, inside, resumed_once, resumed_step, left_over}
 use Rattle.wap_scripting.specs.Waiting.{played_from}
-use Rattle.wap_scripting.specs.Feeding.{Fed, Means, turned, Turns, Feeds}
+use Rattle.wap_scripting.specs.Feeding.{Fed, Means, turned, Turns, Feeds, AreFed, after_fed}
+use Rattle.wap_scripting.specs.Feeding.{last_fed, all_fed}
 use Rattle.wap_world.proofs.Joining.{once_before, joined_assoc, after_assoc, joined_nothing}
 use Rattle.wap_scripting.specs.Halves.{once_by}
 use Rattle.wap_world.proofs.Joining.{onward_after}
@@ -129,6 +131,21 @@ module _ (call : List ℕ → Option Call) (pages : Pages) where
   pub feeds : (state : State) (key : Key) (one : Fed) → Turns call pages state key one
       → Feeds call pages state key one
   feeds state key one turns = feeds_by state.waiting state.world key one turns
+
+  -- keys in two parts: what the first did, and then what the others do from the state after these
+  pub plays_in_parts : (state : State) (keys : List Key) (feds : List Fed)
+      → AreFed call pages state keys feds → (others : List Key)
+      → played_from call pages state (keys ++ others)
+      ≡ joined (all_fed state feds) (played_from call pages (last_fed state feds) others)
+  plays_in_parts state [] [] fed others = refl
+  plays_in_parts state [] (one ∷ more) fed others = absurd fed
+  plays_in_parts state (key ∷ keys) [] fed others = absurd fed
+  plays_in_parts state (key ∷ keys) (one ∷ more) fed others =
+      let state' = after_fed one in
+      feeds state key one fed.0 (keys ++ others)
+      ∙ ap (joined one.step) (plays_in_parts state' keys more fed.1 others)
+      ∙ sym (joined_assoc one.step (all_fed state' more)
+      (played_from call pages (last_fed state' more) others))
 
   -- a key that never comes shows nothing, and asks for nothing; a dialog is open where one waits
   pub record ShowsNothing (state : State) : Type 0 where

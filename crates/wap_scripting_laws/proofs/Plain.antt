@@ -45,8 +45,10 @@ use Rattle.wap_world.specs.Requests.{Request, request_line, plain_get, test_of}
 use Rattle.wap_world.specs.Sites.{External}
 use Rattle.wap_scripting.specs.Steps.{asking_for}
 use Rattle.wap_scripting.specs.Browsing.{gives, on_text, get_var, set_by, pends, pending_go}
-use Rattle.wap_scripting.specs.Browsing.{current_card, card_reference, refreshed, wml_browser, asks, dialogs}
-use Rattle.wap_scripting.specs.Loading.{text_in, not_acceptable, loaded, load_at, load_from, load_string, get_base, get_referer}
+use Rattle.wap_scripting.specs.Browsing.{current_card, card_reference, refreshed, wml_browser, asks}
+use Rattle.wap_scripting.specs.Browsing.{dialogs}
+use Rattle.wap_scripting.specs.Loading.{text_in, not_acceptable, loaded, load_at, load_from}
+use Rattle.wap_scripting.specs.Loading.{load_string, get_base, get_referer}
 use Rattle.wap_scripting.specs.Hosting.{found_under, found_at, external_call, pure_call, within}
 use Rattle.wap_scripting.specs.Hosting.{load_call, url_call, library_call}
 use Rattle.wap_world.proofs.Joining.{before}
@@ -304,11 +306,13 @@ wml_plain now base (suc (suc (suc (suc (suc (suc n)))))) arguments = refresh_pla
 asks_plain : (dialog : Dialog) → IsPlain (λ s. asks dialog s)
 asks_plain dialog = with_lines (λ w. out.Asks dialog) (λ w. dialog_line dialog ∷ [])
 
-dialogs_plain : (function : ℕ) (arguments : List Value) → IsPlain (λ s. dialogs function arguments s)
+dialogs_plain : (function : ℕ) (arguments : List Value)
+    → IsPlain (λ s. dialogs function arguments s)
 dialogs_plain zero arguments =
     text_plain (text_of (argument arguments 0))
     (λ message s. on_text (argument arguments 1) s (λ first. asks (Prompt message first) s))
-    (λ message. text_plain (text_of (argument arguments 1)) (λ first s. asks (Prompt message first) s)
+    (λ message. text_plain (text_of (argument arguments 1))
+    (λ first s. asks (Prompt message first) s)
     (λ first. asks_plain (Prompt message first)))
 dialogs_plain (suc zero) arguments =
     text_plain (text_of (argument arguments 0))
@@ -318,7 +322,8 @@ dialogs_plain (suc zero) arguments =
     (λ ok s. on_text (argument arguments 2) s (λ cancel.
     asks (Confirm message (label_or ok (codes "OK")) (label_or cancel (codes "Cancel"))) s))
     (λ ok. text_plain (text_of (argument arguments 2))
-    (λ cancel s. asks (Confirm message (label_or ok (codes "OK")) (label_or cancel (codes "Cancel"))) s)
+    (λ cancel s.
+    asks (Confirm message (label_or ok (codes "OK")) (label_or cancel (codes "Cancel"))) s)
     (λ cancel. asks_plain _)))
 dialogs_plain (suc (suc n)) arguments =
     text_plain (text_of (argument arguments 0)) (λ message s. asks (Alert message) s)
@@ -359,7 +364,8 @@ load_call_plain shelf arguments =
     (λ type. by_bool (starts_with nat_eq type (codes "text/")) (λ s. load_from shelf (url_at url) s)
     (λ s. gives Invalid s) (load_plain shelf (url_at url)) (just (λ w. _))))
 
-url_plain : (shelf : Shelf) (base : Url) (referer : Option Url) (function : ℕ) (arguments : List Value)
+url_plain : (shelf : Shelf) (base : Url) (referer : Option Url) (function : ℕ)
+    (arguments : List Value)
     → IsPlain (λ s. url_call shelf base referer function arguments s)
 url_plain shelf base referer function arguments =
     by_bool (eqb function 8) (λ s. get_base base s)
@@ -373,8 +379,8 @@ url_plain shelf base referer function arguments =
     (λ s. pure_call 3 function arguments s) (load_call_plain shelf arguments)
     (pure_plain 3 function arguments)))
 
-pub library_plain : (shelf : Shelf) (now : World → Option Place) (base : Url) (referer : Option Url) (library function : ℕ)
-    (arguments : List Value)
+pub library_plain : (shelf : Shelf) (now : World → Option Place) (base : Url)
+    (referer : Option Url) (library function : ℕ) (arguments : List Value)
     → IsPlain (λ s. library_call shelf now s base referer library function arguments)
 library_plain shelf now base referer library function arguments =
     by_bool (eqb library 5) (λ s. dialogs function arguments s)

@@ -29,15 +29,15 @@ pub refuses_call : (pages : Pages) (step : Step) (caller url : Url) (target func
             ++ record { page = name_for url; caller = Some caller; allowed = false } ∷ [];
       },
     )
-refuses_call pages step caller url target function count working entrance to_page is_script no_entry =
+refuses_call pages step caller url target function count working entrance to_page is_script denied =
     let shelf = shelf_of pages in
     let asked = asking_for (plain_get url) step in
     ap (found_at shelf (externals_of pages) (unit_under pages) caller function count working step)
     to_page
-    ∙ ap (found_under shelf (externals_of pages) (unit_under pages) caller url function count working
-    asked) is_script
+    ∙ ap (found_under shelf (externals_of pages) (unit_under pages) caller url function count
+    working asked) is_script
     ∙ ap (λ (b : Bool). (
       callable_if b (callable (unit_under pages (name_for url)) (without_fragment url) count
           asked.world.limits.depth working (externals_of pages (name_for url) function)),
       with_test (record { page = name_for url; caller = Some caller; allowed = b }) asked,
-    )) no_entry
+    )) denied

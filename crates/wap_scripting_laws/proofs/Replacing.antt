@@ -1,6 +1,7 @@
 -- Units in place of the sources with which they agree leave the site.
 use Rattle.std.proofs.Common.{◌≡◌, ℕ, zero, suc, ◌-◌, ◌≤◌, Bool, true, false, List, [], ◌∷◌, length}
-use Rattle.std.proofs.Common.{Option, Some, None, refl, sym, ap, ◌∙◌, leb, eqb, cond, arith, inl, inr}
+use Rattle.std.proofs.Common.{Option, Some, None, refl, sym, ap, ◌∙◌, leb, eqb, cond, arith, inl}
+use Rattle.std.proofs.Common.{inr}
 use Rattle.std.proofs.Math.Path.{fun_ext}
 use Rattle.std.proofs.lemmas.Bool.Decides.{eqb_tells}
 use Rattle.std.specs.Prelude.{Result, Ok, Err}
@@ -185,7 +186,8 @@ module _ {P : Type 0} (language : LanguageOf P) (compiler : P → Unit)
   callable_same name base count depth working None = refl
   callable_same name base count depth working (Some one) =
       elim (eqb one.arguments count) as (λ (b : Bool).
-      cond b (cond (leb depth working) (Not fatal_is.Depth) (Callee (code_of (scripts name)) base one.index))
+      cond b (cond (leb depth working) (Not fatal_is.Depth)
+      (Callee (code_of (scripts name)) base one.index))
       (Not fatal_is.Arguments)
       ≡ as_unit (cond b
       (cond (leb depth working) (Not fatal_is.Depth) (Callee (scripts name) base one.index))

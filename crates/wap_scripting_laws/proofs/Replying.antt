@@ -1,5 +1,6 @@
 -- Keys in a dialog.
-use Rattle.std.proofs.Common.{◌≡◌, ℕ, Bool, true, false, List, [], ◌∷◌, Option, Some, None, cond, ltb}
+use Rattle.std.proofs.Common.{◌≡◌, ℕ, Bool, true, false, List, [], ◌∷◌, Option, Some, None, cond}
+use Rattle.std.proofs.Common.{ltb}
 use Rattle.std.proofs.Common.{refl, sym, ap, ◌∙◌, ◌-◌}
 use Rattle.wap_input.specs.declared.key.Key.{Key}
 use Rattle.wap_input.specs.declared.key.Key.TheVariants as key
@@ -20,7 +21,8 @@ use Rattle.wap_world.specs.Screens.{at_place}
 use Rattle.wap_world.specs.Sites.{Call, failed}
 use Rattle.wap_world.specs.Starting.{ended_script}
 use Rattle.wap_world.specs.Tasks.{onward, act}
-use Rattle.wap_scripting.specs.Dialogs.{Reply, answers, ends_it, passes, reply_to, run_out, tick_waiting}
+use Rattle.wap_scripting.specs.Dialogs.{Reply, answers, ends_it, passes, reply_to, run_out}
+use Rattle.wap_scripting.specs.Dialogs.{tick_waiting}
 use Rattle.wap_scripting.specs.Dialogs.{meanwhile, after_reply, answered_by}
 use Rattle.wap_scripting.specs.Sites.{Pages, shelf_of, host_of, keyed_host, ran_of, units_site}
 use Rattle.wap_scripting.specs.Waiting.{Waits, inside, resumed_step}

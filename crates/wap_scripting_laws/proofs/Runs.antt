@@ -28,13 +28,15 @@ use Rattle.wap_world.specs.Starting.{script_line, in_world, or_show, rest, end_d
 use Rattle.wap_scripting.specs.Steps.{with_scene}
 use Rattle.wap_scripting.specs.Dialogs.{Reply, answers, ends_it, passes, reply_to, meanwhile}
 use Rattle.wap_scripting.specs.Dialogs.{after_reply, answered_by, by_keys}
-use Rattle.wap_scripting.specs.Sites.{Pages, shelf_of, externals_of, unit_under, host_of, keyed_host}
+use Rattle.wap_scripting.specs.Sites.{Pages, shelf_of, externals_of, unit_under, host_of}
+use Rattle.wap_scripting.specs.Sites.{keyed_host}
 use Rattle.wap_scripting.specs.Sites.{end_of, ran_of}
 use Rattle.wap_scripting.specs.Waiting.{inside}
 use Rattle.wap_scripting.specs.Halves.{half_by, half_of, once_of, GoesOnWithKeys}
 use Rattle.wap_world.proofs.Joining.{before, once_before, or_true, after_assoc}
 use Rattle.wap_world.proofs.Joining.{joined_nothing}
-use Rattle.wap_scripting_laws.proofs.Plain.{fronted, rekeyed, IsPlain, external_plain, library_plain}
+use Rattle.wap_scripting_laws.proofs.Plain.{fronted, rekeyed, IsPlain, external_plain}
+use Rattle.wap_scripting_laws.proofs.Plain.{library_plain}
 
 abbrev Never : Step → Type 0
 Never s = ⊥
@@ -74,7 +76,8 @@ module _ (pages : Pages) (keys : List Key) where
         working url) s t other;
     library = λ s t base referer number index arguments other.
         both_keys (λ u. (host_of pages).library u base referer number index arguments)
-        (library_plain (shelf_of pages) (place_now (shelf_of pages)) base referer number index arguments) s t other;
+        (library_plain (shelf_of pages) (place_now (shelf_of pages)) base referer number index
+        arguments) s t other;
     stays = never (host_of pages);
     stays' = never (host_of pages);
   }
@@ -131,7 +134,8 @@ module _ (pages : Pages) (p : Step) where
   library_front base referer number index arguments s =
       let gave = (host_of pages).library s base referer number index arguments in
       ap (λ (g : HostOut × Step). answered_in (by_keys (shelf_of pages)) g.0 g.1)
-      ((library_plain (shelf_of pages) (place_now (shelf_of pages)) base referer number index arguments).behind p s)
+      ((library_plain (shelf_of pages) (place_now (shelf_of pages)) base referer number index
+      arguments).behind p s)
       ∙ in_front (shelf_of pages) p gave.0 gave.1
 
   front_alike : AreAlike IsBehind Never Never (keyed_host pages) (keyed_host pages)

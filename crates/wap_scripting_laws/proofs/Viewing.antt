@@ -17,10 +17,13 @@ use Rattle.wap_world.specs.Steps.{Step, still, quiet}
 use Rattle.wap_scripting.specs.Browsing.{current_card, refreshed, wml_browser, dialogs}
 use Rattle.wap_scripting.specs.Hosting.{within, url_call, pure_call, library_call}
 use Rattle.wap_scripting.specs.Sites.{Pages, shelf_of, externals_of, unit_under, host_of}
-use Rattle.wap_scripting.specs.Views.{Counted, counted_once, counted_all, View, place_with, added, fresh}
-use Rattle.wap_scripting.specs.Views.{viewing, view_of, Shows, IsAtHand, NoStep, NoView, ViewsRunAlike}
+use Rattle.wap_scripting.specs.Views.{Counted, counted_once, counted_all, View, place_with, added}
+use Rattle.wap_scripting.specs.Views.{fresh}
+use Rattle.wap_scripting.specs.Views.{viewing, view_of, Shows, IsAtHand, NoStep, NoView}
+use Rattle.wap_scripting.specs.Views.{ViewsRunAlike}
 use Rattle.wap_world.proofs.Joining.{joined_nothing}
-use Rattle.wap_scripting_laws.proofs.Plain.{fronted, rekeyed, IsPlain, external_plain, library_plain}
+use Rattle.wap_scripting_laws.proofs.Plain.{fronted, rekeyed, IsPlain, external_plain}
+use Rattle.wap_scripting_laws.proofs.Plain.{library_plain}
 
 -- ---- the current card alone is asked of the pages
 
@@ -72,7 +75,8 @@ module _ (pages : Pages) (deck : Option Deck) (first : Option Counted) (entry : 
       ∙ plain.behind s (quiet s.keys (still s.world))
       ∙ ap (fronted s) (plain.unread s.keys (quiet [] (still s.world)))
 
-  row_shows : {A : Type 0} (f : Step → A × Step) → IsPlain f → (s : Step) (v : View) → Shows pages deck first entry s v
+  row_shows : {A : Type 0} (f : Step → A × Step) → IsPlain f → (s : Step) (v : View)
+      → Shows pages deck first entry s v
       → Both (Shows pages deck first entry) NoStep NoView (f s) (added v (f (fresh v)))
   row_shows f plain s v shows =
       let r = f (quiet [] (still s.world)) in
@@ -83,7 +87,8 @@ module _ (pages : Pages) (deck : Option Deck) (first : Option Counted) (entry : 
         ap (λ g. g.0) same ∙ sym (ap (λ g. g.0) v_is),
         record {
           is = ap (λ g. g.1) v_is
-              ∙ ap (λ (c : Option Counted). record (added (view_of pages deck first s) r).1 { counted = c })
+              ∙ ap (λ (c : Option Counted).
+              record (added (view_of pages deck first s) r).1 { counted = c })
               (sym (counted_then s.asked r.1.asked first))
               ∙ sym (ap (λ g. view_of pages deck first g.1) same);
           last = plain.last s ∙ shows.last;
@@ -100,7 +105,8 @@ module _ (pages : Pages) (deck : Option Deck) (first : Option Counted) (entry : 
         subst (λ (p : View). Both (Shows pages deck first entry) NoStep NoView (f s)
         (viewing.external p caller url name count working)) (sym shows.is)
         (row_shows f (external_plain (shelf_of pages) (externals_of pages) (unit_under pages) caller
-        name count working url) s (view_of pages deck first s) (record { is = refl; last = shows.last }));
+        name count working url) s (view_of pages deck first s)
+        (record { is = refl; last = shows.last }));
     library = λ s v base referer number index arguments shows.
         let shelf = shelf_of pages in
         let f : Step → HostOut × Step = λ u. library_call shelf held u base referer number index
@@ -111,7 +117,8 @@ module _ (pages : Pages) (deck : Option Deck) (first : Option Counted) (entry : 
         (here s shows.last)))
         (subst (λ (p : View). Both (Shows pages deck first entry) NoStep NoView (f s)
         (viewing.library p base referer number index arguments)) (sym shows.is)
-        (row_shows f (library_plain shelf held base referer number index arguments) s (view_of pages deck first s)
+        (row_shows f (library_plain shelf held base referer number index arguments) s
+        (view_of pages deck first s)
         (record { is = refl; last = shows.last })));
     stays = record {
       external = λ s caller url name count working no. absurd no;
@@ -125,9 +132,11 @@ module _ (pages : Pages) (deck : Option Deck) (first : Option Counted) (entry : 
 
   -- what the machine is proved against tells what the definition says: outcome and turns, world and
   -- lines, and the cache and the count after what was asked for
-  pub runs_alike : (limits : Limits) → RunAlike (Shows pages deck first entry) NoStep NoView limits (host_of pages) viewing
+  pub runs_alike : (limits : Limits)
+      → RunAlike (Shows pages deck first entry) NoStep NoView limits (host_of pages) viewing
   runs_alike limits =
-      sim_laws.agrees (Shows pages deck first entry) NoStep NoView limits (host_of pages) viewing views_alike
+      sim_laws.agrees (Shows pages deck first entry) NoStep NoView limits (host_of pages) viewing
+      views_alike
 
 -- over all pages
 pub views_run_alike : ViewsRunAlike

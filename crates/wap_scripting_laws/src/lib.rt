@@ -15,7 +15,7 @@ ghost use Rattle.wap_execution.specs.Running.{resumed};
 ghost use Rattle.wap_execution_laws.specs.Settings.{uncounted};
 ghost use Rattle.wap_world.specs.Shelves.{Shelf, Entrance, script_page};
 ghost use Rattle.wap_world.specs.Sites.{Call, failed};
-ghost use Rattle.wap_world.specs.Steps.{Step, still, quiet};
+ghost use Rattle.wap_world.specs.Steps.{Step, still, quiet, joined};
 ghost use Rattle.wap_world.specs.Access.{may_enter};
 ghost use Rattle.wap_world.specs.Urls.{target_of};
 ghost use Rattle.wap_world.specs.Requests.{plain_get, request_line};
@@ -28,11 +28,13 @@ ghost use Rattle.wap_world_laws.specs.Scripts.{GivesNoTurns, MakesNoKeys, Script
 ghost use Rattle.wap_world_laws.specs.Standing.{StandsOnCard};
 ghost use Rattle.wap_scripting.specs.Dialogs.{answers, ends_it, passes, reply_to, meanwhile};
 ghost use Rattle.wap_scripting.specs.Sites.{Pages, shelf_of, host_of, keyed_host, units_site};
-ghost use Rattle.wap_scripting.specs.Waiting.{Waits, State, inside};
+ghost use Rattle.wap_scripting.specs.Waiting.{Waits, State, inside, played_from};
 ghost use Rattle.wap_scripting.specs.Halves.{half_of, once_of, GoesOnWithKeys};
-ghost use Rattle.wap_scripting.specs.Feeding.{Fed, Means, turned, Turns, Feeds};
+ghost use Rattle.wap_scripting.specs.Feeding.{Fed, Means, turned, Turns, Feeds, AreFed};
+ghost use Rattle.wap_scripting.specs.Feeding.{last_fed, all_fed};
 ghost use Rattle.wap_scripting.specs.Views.{ViewsRunAlike};
-ghost use Rattle.wap_scripting.specs.Sources.{LanguageOf, AllPages, Agrees, site_of, compiled_pages};
+ghost use Rattle.wap_scripting.specs.Sources.{LanguageOf, AllPages, Agrees, site_of};
+ghost use Rattle.wap_scripting.specs.Sources.{compiled_pages};
 ghost use Rattle.wap_scripting_laws.specs.Denial.{is_entered, DifferWithin, DeniedMatterNot};
 
 /// What the programs of sources are, and what a browser makes of them.
@@ -48,6 +50,15 @@ pub trait Language {
 pub fn keys_are_fed_one_by_one()
     ensures { (call : List ℕ → Option Call) (pages : Pages) (state : State) (one : Key) (fed : Fed)
         → Turns call pages state one fed → Feeds call pages state one fed }
+{}
+
+/// So keys in two parts show what they show together: the first are fed one by one, and the others
+/// go on from the state after these.
+pub fn keys_play_in_parts()
+    ensures { (call : List ℕ → Option Call) (pages : Pages) (state : State) (keys : List Key)
+        (feds : List Fed) → AreFed call pages state keys feds → (others : List Key)
+        → played_from call pages state (keys ++ others)
+        ≡ joined (all_fed state feds) (played_from call pages (last_fed state feds) others) }
 {}
 
 /// Whatever scripts do, they give no turns back, make no keys, keep the history to its limit and

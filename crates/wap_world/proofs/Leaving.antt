@@ -36,7 +36,11 @@ use Rattle.wap_world.specs.Access.{entrance_of}
 use Rattle.wap_world.specs.Urls.{target_of, is_same_page}
 use Rattle.wap_world.specs.Requests.{Request, plain_get, request_of, test_of, test, ask, answer_to}
 use Rattle.wap_world.specs.Starting.{start_if}
-use Rattle.wap_world.specs.Tasks.{leave_and_set, with_url, with_turn, card_for, in_context, arrive, arrive_if, try_deck, answered, request, is_here, here_with, stay_or_ask, go, open_url, return, returned, ask_back, card_here, back_from, back_to, prev, url_now, base_now, task_by, task_once, go_on, onward, act_in, act, visit}
+use Rattle.wap_world.specs.Tasks.{leave_and_set, with_url, with_turn, card_for, in_context, arrive}
+use Rattle.wap_world.specs.Tasks.{arrive_if, try_deck, answered, request, is_here, here_with}
+use Rattle.wap_world.specs.Tasks.{stay_or_ask, go, open_url, return, returned, ask_back, card_here}
+use Rattle.wap_world.specs.Tasks.{back_from, back_to, prev, url_now, base_now, task_by, task_once}
+use Rattle.wap_world.specs.Tasks.{go_on, onward, act_in, act, visit}
 use Rattle.wap_world.specs.Keys.{ignored, act_or, type_text, after_choice, choose_option}
 use Rattle.wap_world.specs.Keys.{expire, pass_time, at_card, apply, renewed, react}
 use Rattle.wap_world.proofs.Joining.{before, once_before}

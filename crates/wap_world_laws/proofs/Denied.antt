@@ -41,7 +41,8 @@ pub denies_go : (site : Site) (keys : List Key) (one : Go) (world : World) (plac
     let spent = record world { turns = turns } in
     world.turns ≡ suc turns → place_now site.shelf world ≡ Some place
     → target_of caller one.href ≡ Ok url → is_here asked place ≡ false
-    → answer_to site.shelf asked ≡ deck_page deck → may_enter asked.url (entrance_of deck) caller ≡ false
+    → answer_to site.shelf asked ≡ deck_page deck
+    → may_enter asked.url (entrance_of deck) caller ≡ false
     → act site keys world (then_task (task.Go one)) ≡ refusal_step site keys caller asked spent
 unfolding act
 denies_go site keys one world place url deck turns some here target elsewhere found no_entry =
@@ -52,8 +53,10 @@ denies_go site keys one world place url deck turns some here target elsewhere fo
     λ u now. stay_or_ask site keys one.sets caller (request_of caller one u) spent now in
     let once : task_once site keys world (then_task (task.Go one))
     ≡ settled (refusal_step site keys caller asked spent) =
-    ap (λ n. with_turn site.shelf keys world n (λ w. go site keys (base_now site.shelf w None) one w)) some
-    ∙ ap (λ now. go site keys (option_map_or Some (option_map (λ (p : Place). p.url) now) None) one spent) here
+    ap (λ n.
+    with_turn site.shelf keys world n (λ w. go site keys (base_now site.shelf w None) one w)) some
+    ∙ ap (λ now. go site keys
+    (option_map_or Some (option_map (λ (p : Place). p.url) now) None) one spent) here
     ∙ ap (with_url site.shelf keys spent (λ u. with_request u (place_now site.shelf spent))) target
     ∙ ap (with_request url) here
     ∙ ap (λ (b : Bool). if b
