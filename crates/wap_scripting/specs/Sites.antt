@@ -37,12 +37,15 @@ no_unit = record {
 abbrev pub units : Scripts Unit
 units = record { entrance = entrance_in; external = external_in; empty = no_unit }
 
+-- what stands under each name
 abbrev pub shelf_of : Pages → Shelf
 shelf_of pages = shelf_by units pages
 
+-- the unit under a name
 abbrev pub unit_under : Pages → List ℕ → Unit
 unit_under pages = script_under units pages
 
+-- the external function of a page's name and its own
 abbrev pub externals_of : Pages → List ℕ → List ℕ → Option External
 externals_of pages = externals_by units pages
 

@@ -70,10 +70,12 @@ abbrev pub AllPages : Type 0 → Type 0
 AllPages P = PagesOf (Script P)
 
 module _ {P : Type 0} (language : LanguageOf P) where
+  -- who may call a script
   abbrev pub script_entrance : Script P → Option Entrance
   script_entrance (of_unit one) = entrance_in one
   script_entrance (of_source one) = language.entrance one
 
+  -- its external function of a name
   abbrev pub script_external : Script P → List ℕ → Option External
   script_external (of_unit one) name = external_in one name
   script_external (of_source one) name = language.external one name
