@@ -146,14 +146,13 @@ module _ {P : Type 0} (language : LanguageOf P) where
     pub names : (name : List ℕ) → external_in compiled name ≡ language.external one name
     pub functions : (string : ℕ) (call : Calls Step) → GiveNoTurns call → (base : Url)
         (referer : Option Url) (index : ℕ) (arguments : List Value) (turns : ℕ) (step : Step)
-        → unit_runs string call (record {
+        → language.runs string call one index arguments turns step
+        ≡ unit_runs string call (record {
           unit = compiled;
           base = base;
           referer = referer;
           index = index;
         }) arguments turns step
-        ≡ language.runs string
-        (λ callee args left s. forgotten (call callee args left s)) one index arguments turns step
 
   -- the unit in place of a script
   abbrev pub compiled_script : (P → Unit) → Script P → Unit

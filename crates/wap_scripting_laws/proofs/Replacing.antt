@@ -65,6 +65,15 @@ twice (fatal why) turns s = refl
 twice (waits dialog frames) turns s = refl
 twice stuck turns s = refl
 
+-- turns stay
+same_turns : {S : Type 0} (outcome : Outcome) (turns : ℕ) (s : S)
+    → (forgotten_by outcome turns s).turns ≡ turns
+same_turns (value v) turns s = refl
+same_turns (exit v) turns s = refl
+same_turns (fatal why) turns s = refl
+same_turns (waits dialog frames) turns s = refl
+same_turns stuck turns s = refl
+
 -- nothing follows a function that nobody called
 alone_by : {S : Type 0} (set : Setting S) (outcome : Outcome) (turns : ℕ) (s : S)
     → forgotten (returned_by [] (resumed set []) outcome turns s)
@@ -394,6 +403,15 @@ module _ {P : Type 0} (language : LanguageOf P) (compiler : P → Unit)
         (enter_follows set Any (any_keeps set) more) (in_unit function) callee arguments turns
         s).turns_fall
 
+    mixed_fall : (callee : Called) (arguments : List Value) (turns : ℕ) (s : Step)
+        → (mixed_calls callee arguments turns s).turns ≤ turns
+    mixed_fall callee arguments turns s =
+        let end = unit_calls callee arguments turns s in
+        let same : (mixed_calls callee arguments turns s).turns ≡ end.turns =
+        ap (λ (e : Ended Step). e.turns) (sym (calls_same callee arguments turns s))
+        ∙ same_turns end.outcome end.turns end.state in
+        omega (arith, same, calls_fall callee arguments turns s)
+
   -- a function of a script, by what those that are called come to
   script_same : (limits : Limits) (more : ℕ) → AlikeAt limits more → (one_script : Script P)
       (base : Url) (referer : Option Url) (index : ℕ) (arguments : List Value) (turns : ℕ) (s : Step)
@@ -425,13 +443,13 @@ module _ {P : Type 0} (language : LanguageOf P) (compiler : P → Unit)
         referer = referer;
         index = index;
       } in
-      ap forgotten (enter_is limits more (in_unit function) (code_at (in_unit function)) arguments
-      turns s)
-      ∙ (agrees p).functions limits.string (unit_calls limits more alike function)
-      (calls_fall limits more alike function) base referer index arguments turns s
-      ∙ ap (λ (calls : Calls Step). language.runs limits.string calls p index arguments turns s)
-      (fun_ext (λ callee. fun_ext (λ args. fun_ext (λ t. fun_ext (λ u.
-      calls_same limits more alike function callee args t u)))))
+      let code = code_at (in_unit function) in
+      ap forgotten (enter_is limits more (in_unit function) code arguments turns s)
+      ∙ code_same limits (unit_calls limits more alike function)
+      (mixed_calls limits more alike function) (calls_plain limits more alike function)
+      (in_unit function) code arguments turns s
+      ∙ sym ((agrees p).functions limits.string (mixed_calls limits more alike function)
+      (mixed_fall limits more alike function) base referer index arguments turns s)
 
   alike_at : (limits : Limits) (more : ℕ) → AlikeAt limits more
   unfolding enter meant
