@@ -22,13 +22,18 @@ use Rattle.wap_program.specs.declared.statement.Stmt.TheOpen.{Stmt-F}
 use Rattle.wap_program.specs.declared.statement.Stmt.TheFolds.{fold-roll-Stmt}
 use Rattle.wap_execution.specs.declared.fatal.Fatal.TheVariants.{Budget, TooLong}
 use Rattle.wap_execution.specs.Effects.{local, jumps_at}
+use Rattle.wap_execution.specs.Effects.{library, external}
 use Rattle.wap_execution.specs.Outcomes.{value, fatal}
 use Rattle.wap_execution.specs.Running.{ended}
+use Rattle.wap_program.specs.declared.program.Span.{Span}
+use Rattle.wap_meaning.specs.Functions.{result_of, run_body}
 use Rattle.wap_meaning.specs.Parts.{Does, gave, over, ◌>>=◌, give, kept, load, store, calling}
+use Rattle.wap_meaning.specs.Parts.{done}
 use Rattle.wap_meaning.specs.Names.{Names}
 use Rattle.wap_meaning.specs.Expressions.{Around, value_of, joined, assigned, stepped}
 use Rattle.wap_meaning.specs.Expressions.{step_of, each_of, eval_by, eval}
 use Rattle.wap_meaning.specs.Statements.{Ending, goes_on}
+use Rattle.wap_meaning.specs.Statements.{breaks, continues, returns, and_then}
 use Rattle.wap_meaning.specs.Statements.{in_order, dropped, loop, run_by_part, run}
 
 -- ---- what the sources are run in
@@ -36,6 +41,10 @@ use Rattle.wap_meaning.specs.Statements.{in_order, dropped, loop, run_by_part, r
 -- a name that stands anywhere
 named : List ℕ → Id
 named name = record { name = name; span = record { from = 0; to = 0 } }
+
+-- where nothing stands
+nowhere : Span
+nowhere = record { from = 0; to = 0 }
 
 -- two variables a and b, a function f, and a unit u
 names : Names
@@ -364,3 +373,104 @@ two_turns = ap (λ (does : Whole). does (Int (pos 0) ∷ []) 5 0) low_runs
 -- with one turn the second is missing, after the body
 no_turn : run around while_low (Int (pos 0) ∷ []) 1 0 ≡ over (ended (fatal Budget) 0 0)
 no_turn = ap (λ (does : Whole). does (Int (pos 0) ∷ []) 1 0) low_runs
+
+-- `for (;;) break;` takes no turn
+for_break : Stmt
+for_break =
+    roll-Stmt (Stmt-F.For (roll-Stmt Stmt-F.Empty) None None (roll-Stmt (Stmt-F.Break nowhere)))
+
+for_means : Runs for_break (and_then (give goes_on) (loop (give (Boolean true)) (give breaks)
+    (give tt)))
+unfolding run for_break
+for_means =
+    fold-roll-Stmt Whole (run_by_part around)
+    (Stmt-F.For (roll-Stmt Stmt-F.Empty) None None (roll-Stmt (Stmt-F.Break nowhere)))
+    ∙ ap (λ (x : Whole). and_then x (loop (give (Boolean true))
+    (run around (roll-Stmt (Stmt-F.Break nowhere))) (give tt)))
+    (fold-roll-Stmt Whole (run_by_part around) Stmt-F.Empty)
+    ∙ ap (λ (x : Whole). and_then (give goes_on) (loop (give (Boolean true)) x (give tt)))
+    (fold-roll-Stmt Whole (run_by_part around) (Stmt-F.Break nowhere))
+
+left_at_once : run around for_break [] 5 0 ≡ gave goes_on [] 5 0
+left_at_once = ap (λ (does : Whole). does [] 5 0) for_means
+
+-- `while (true) continue;` takes all turns
+while_true : Stmt
+while_true =
+    roll-Stmt (Stmt-F.While (lit (literal.Bool true)) (roll-Stmt (Stmt-F.Continue nowhere)))
+
+while_means : Runs while_true (loop (kept 10 (Boolean true)) (give continues) (give tt))
+unfolding run while_true
+while_means =
+    fold-roll-Stmt Whole (run_by_part around)
+    (Stmt-F.While (lit (literal.Bool true)) (roll-Stmt (Stmt-F.Continue nowhere)))
+    ∙ ap (λ (x : Part). loop x (run around (roll-Stmt (Stmt-F.Continue nowhere))) (give tt))
+    (lit_means (literal.Bool true))
+    ∙ ap (λ (x : Whole). loop (kept 10 (Boolean true)) x (give tt))
+    (fold-roll-Stmt Whole (run_by_part around) (Stmt-F.Continue nowhere))
+
+all_taken : run around while_true [] 2 0 ≡ over (ended (fatal Budget) 0 0)
+all_taken = ap (λ (does : Whole). does [] 2 0) while_means
+
+-- ---- functions
+
+-- `return a;`
+return_a : Stmt
+return_a = roll-Stmt (Stmt-F.Return (Some a))
+
+return_means : Runs return_a (load 0 >>= λ v. give (returns v))
+unfolding run return_a
+return_means =
+    fold-roll-Stmt Whole (run_by_part around) (Stmt-F.Return (Some a))
+    ∙ ap (λ (x : Part). x >>= λ v. give (returns v)) a_means
+
+-- a function gives what it returns
+returned : run_body around (return_a ∷ []) (Int (pos 3) ∷ []) 5 0
+    ≡ ended (value (Int (pos 3))) 5 0
+returned =
+    ap (λ (does : Whole). done (in_order (does ∷ []) (Int (pos 3) ∷ []) 5 0)
+    (λ ending variables turns state. ended (value (result_of ending)) turns state)) return_means
+
+-- `return;` gives ""
+return_empty : Stmt
+return_empty = roll-Stmt (Stmt-F.Return None)
+
+emptily : run_body around (return_empty ∷ []) [] 5 0 ≡ ended (value (Str [])) 5 0
+unfolding run return_empty
+emptily =
+    ap (λ (does : Whole). done (in_order (does ∷ []) [] 5 0)
+    (λ ending variables turns state. ended (value (result_of ending)) turns state))
+    (fold-roll-Stmt Whole (run_by_part around) (Stmt-F.Return None))
+
+-- and so does a function that ends without a return
+without_return : run_body around [] (Int (pos 3) ∷ []) 5 0 ≡ ended (value (Str [])) 5 0
+without_return = refl
+
+-- ---- calls
+
+-- `u#f(1)` calls f of the unit of u's URL
+other_unit : Means
+    (roll-Expr (Expr-F.External (named (codes "u")) (named (codes "f")) (int 1 ∷ [])))
+    (each_of (kept 10 (Int (pos 1)) ∷ []) >>= λ vs.
+    calling around.call (external (codes "u.wmlsc") (codes "f")) vs)
+unfolding eval around names named int
+other_unit =
+    fold-roll-Expr Part (eval_by around)
+    (Expr-F.External (named (codes "u")) (named (codes "f")) (int 1 ∷ []))
+    ∙ ap (λ (x : Part). each_of (x ∷ []) >>= λ vs.
+    calling around.call (external (codes "u.wmlsc") (codes "f")) vs)
+    (lit_means (literal.Int (pos 1)))
+
+-- `Lang.max(1, 2)` calls function 2 of library 0
+of_library : Means (roll-Expr (Expr-F.Library (named (codes "Lang")) (named (codes "max"))
+    (int 1 ∷ int 2 ∷ [])))
+    (each_of (kept 10 (Int (pos 1)) ∷ kept 10 (Int (pos 2)) ∷ []) >>= λ vs.
+    calling around.call (library 0 2) vs)
+unfolding eval around named int
+of_library =
+    fold-roll-Expr Part (eval_by around)
+    (Expr-F.Library (named (codes "Lang")) (named (codes "max")) (int 1 ∷ int 2 ∷ []))
+    ∙ ap (λ (x : Part). each_of (x ∷ eval around (int 2) ∷ []) >>= λ vs.
+    calling around.call (library 0 2) vs) (lit_means (literal.Int (pos 1)))
+    ∙ ap (λ (y : Part). each_of (kept 10 (Int (pos 1)) ∷ y ∷ []) >>= λ vs.
+    calling around.call (library 0 2) vs) (lit_means (literal.Int (pos 2)))
