@@ -90,7 +90,7 @@ ask keys request world = record {
   is_open = false;
 }
 
--- what these pages answer
+-- what stands on the shelf under its name
 abbrev pub answer_to : Shelf → Request → Shelved
 answer_to shelf request = shelf (name_for request.url)
 

@@ -1,5 +1,6 @@
--- Scripts that a go or an open starts, and what follows their end (WAP-193, sections 9 and 12; the
--- pending navigation WAP-194, "WMLBrowser Library"). The words of refusals are this project's own.
+-- Scripts that a go or an open starts, and what follows their end (WAP-193, sections 8.3, 8.5 and
+-- 12; the pending navigation WAP-194, "WMLBrowser Library"). The words of refusals are this
+-- project's own.
 use Rattle.std.specs.Prelude.{ℕ, Bool, true, false, ◌==◌, nat_lt, if◌then◌else◌, List, [], ◌∷◌}
 use Rattle.std.specs.Prelude.{◌++◌, length, encode_utf8_all, Option, Some, None, codes}
 use Rattle.std.specs.Option.{option_and_then}
@@ -72,7 +73,8 @@ rest shelf keys Expired world =
     let late = record world { timer = Off } in
     or_show shelf keys (event_task shelf event.Timer late) late
 
--- the navigation that the script asked for, joined to its own URL where there is no card
+-- what the script asked for is next, from its own URL where there is no card, and a timer that ran
+-- out is off; where it asked for nothing, as above
 abbrev pub end_done : Shelf → Url → Option Task → Step → Once
 end_done shelf base None step =
     after_step step (rest shelf step.keys step.world.timer step.world)

@@ -1,9 +1,10 @@
 -- Navigation (WAP-191, sections 9.2, 9.3, 9.5, 9.10, 10.2 and 12.5): go, open, prev and refresh.
--- One of them is settled, or leads to the task of an event, which is the next. Turns are this
--- project's own. The steps of a go:
+-- One of them is settled, or leads to a task that is next: that of an event, or what a script asked
+-- for. Turns are this project's own. The steps of a go:
 --    1. A turn is taken, if one is left.
 --    2. Its href, setvars and postfields are filled: a task is, when it is taken.
---    3. The href is a reference to the current deck's URL, and has to come to a page's.
+--    3. The href is a reference to the current deck's URL (without a card, to that of the script
+--       that asked), and has to come to a page's.
 --    4. Postfields are the body of a post, and go after the query of a get.
 --    5. With get the current deck isn't asked for again, unless it is to be fetched anew: on with
 -- step 8.
