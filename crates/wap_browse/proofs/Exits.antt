@@ -19,6 +19,8 @@ use Rattle.wap_keys.proofs.ReaderLaws.{begun as nothing_read, given_of}
 use Rattle.wap_keys.proofs.WholeLaws.{known_of, few_of, some_rest, none_left}
 use Rattle.wap_keys.proofs.FaultLaws.{ended_counts}
 use Rattle.wap_site.specs.Pages.{Pages}
+use Rattle.wap_world.specs.Sites.{Site}
+use Rattle.wap_world.specs.Decks.{decks_site}
 use Rattle.wap_site.specs.Asking.{Stays, Fails}
 use Rattle.wap_site.proofs.Asking.{Stays-same, Stays-then}
 use Rattle.wap_world.specs.Lines.{shown_line, lines_bytes}
@@ -55,7 +57,7 @@ comes_by : (begun : Begun) (old new : Outside) (status : Status) (taken : List �
     → EndsSo status bytes taken rest given)
     → ((pages : Pages) (bytes : List ℕ) → old.pages.contents ≡ Some pages
     → AreFirst given (keys_of bytes).keys
-    → Written status pages begun bytes given old new)
+    → Written status (decks_site pages) begun bytes given old new)
     → IfSome old.source.left (λ bytes. Comes begun bytes old new status)
 comes_by begun old new status taken given has ends written = if_some old.source.left
     (λ bytes. Comes begun bytes old new status)
@@ -74,7 +76,7 @@ comes_by begun old new status taken given has ends written = if_some old.source.
       prompt = has.prompt;
       ends = ends bytes rest known left;
       written = if_some old.pages.contents
-          (λ pages. Written status pages begun bytes given old new)
+          (λ pages. Written status (decks_site pages) begun bytes given old new)
           (λ pages is. written pages bytes is of_all);
     })
 
@@ -105,12 +107,12 @@ ends_so old new way.TooManyKeys bytes taken rest given known left read = (
 ends_so old new way.ReadFault bytes taken rest given known left read = read.ends.1
 
 -- however the keys came to their end, all that was given was played
-shows_so : (ending : Ending) (pages : Pages) (begun : Begun) (given : List Key) (old new : Outside)
-    → IsPlayed pages begun given old new → ShowsTo (ended ending) pages begun given old new
-shows_so way.End pages begun given old new so = so
-shows_so (way.BadKey line fault) pages begun given old new so = so
-shows_so way.TooManyKeys pages begun given old new so = so
-shows_so way.ReadFault pages begun given old new so = so
+shows_so : (ending : Ending) (site : Site) (begun : Begun) (given : List Key) (old new : Outside)
+    → IsPlayed site begun given old new → ShowsTo (ended ending) site begun given old new
+shows_so way.End site begun given old new so = so
+shows_so (way.BadKey line fault) site begun given old new so = so
+shows_so way.TooManyKeys site begun given old new so = so
+shows_so way.ReadFault site begun given old new so = so
 
 -- and the store didn't fail
 store_so : (ending : Ending) (before after : ℕ) → after ≡ before
@@ -170,8 +172,8 @@ ended_browses begun old now reader after state key new source ending goes so ans
                 old.sink.written new.sink.written
                 (opened_first begun.url given (keys_of bytes).keys of_all)
                 (prefix_whole old.sink.written new.sink.written
-                (transcript pages begun given) stands.wrote);
-            shows = shows_so ending pages begun given old last
+                (transcript (decks_site pages) begun given) stands.wrote);
+            shows = shows_so ending (decks_site pages) begun given old last
                 (record { wrote = stands.wrote; asked = stands.asks.fetches });
           });
       store = store_so ending old.pages.faults new.pages.faults browsed.steady;
@@ -215,7 +217,7 @@ reader_runs_out begun old now reader state key new source goes so gives steady =
                 old.sink.written new.sink.written
                 (opened_first begun.url given (keys_of bytes).keys of_all)
                 (prefix_whole old.sink.written new.sink.written
-                (transcript pages begun given) stands.wrote);
+                (transcript (decks_site pages) begun given) stands.wrote);
             shows = memory_stops pages begun (Open begun.url ∷ given) given old last
                 (first_all (Open begun.url ∷ given)) (omega arith) (omega arith) stands.wrote;
           });
@@ -237,7 +239,7 @@ stopped_by : (begun : Begun) (old now : Outside) (reader : Reading) (state : Sta
     (new : Moment) (status : Status) → (goes : Goes begun old now reader state key)
     → ((pages : Pages) (bytes : List ℕ) → Stands pages begun goes.pressed old now state
     → AreFirst goes.given (keys_of bytes).keys → old.pages.contents ≡ Some pages
-    → Written status pages begun bytes goes.given old (played_to now new))
+    → Written status (decks_site pages) begun bytes goes.given old (played_to now new))
     → ((bytes rest : List ℕ) → EndsSo status bytes goes.taken rest goes.given)
     → StoreMoves status old.pages.faults new.pages.faults
     → ReadMoves status old.source.faults now.source.faults
@@ -271,14 +273,15 @@ prefix_unwritten : (pages : Pages) (begun : Begun) (pressed given all : List Key
     → IsNext begun pressed given key → AreFirst given all
     → Stands pages begun pressed old now state
     → sink ≡ now.sink
-    → AppendsPrefix old.sink.written sink.written (transcript pages begun all)
+    → AppendsPrefix old.sink.written sink.written (transcript (decks_site pages) begun all)
 prefix_unwritten pages begun pressed given all key old now state sink next first stands unwritten =
     subst (λ (s : SinkSeen).
-    AppendsPrefix old.sink.written s.written (transcript pages begun all)) (sym unwritten)
+    AppendsPrefix old.sink.written s.written (transcript (decks_site pages) begun all))
+    (sym unwritten)
     (prefix_of pages begun pressed all old.sink.written now.sink.written
     (pressed_first begun pressed given all key next first)
     (prefix_whole old.sink.written now.sink.written
-    (lines_bytes (shown_by (played pages pressed (world_of begun)))) stands.wrote))
+    (lines_bytes (shown_by (played (decks_site pages) pressed (world_of begun)))) stands.wrote))
 
 -- a sink that stays has failed as often as before
 sink_steady : (before now after : SinkSeen) → now.faults ≡ before.faults → after ≡ now
@@ -311,8 +314,8 @@ stop_browses begun old now reader state key new WriteFault goes so =
     (λ pages bytes stands first is.
     let leads = step_known pages begun goes.pressed old now state key
     (λ p step. LeadsPart step (moment_of now state) new) is goes.browsed.stays stands so.leads in
-    let step = played pages goes.pressed (world_of begun) in
-    let both = played pages (goes.pressed ++ key ∷ []) (world_of begun) in
+    let step = played (decks_site pages) goes.pressed (world_of begun) in
+    let both = played (decks_site pages) (goes.pressed ++ key ∷ []) (world_of begun) in
     record {
       prefix = prefix_of pages begun (goes.pressed ++ key ∷ []) (keys_of bytes).keys
           old.sink.written new.sink.written
@@ -353,7 +356,8 @@ stop_browses begun old now reader state key new TooManyKeys goes so = absurd so
 
 -- the lines of no key are none
 stands_nowhere : (pages : Pages) (begun : Begun) (written : Option (List ℕ))
-    → Appends written written (lines_bytes (shown_by (played pages [] (world_of begun))))
+    → Appends written written
+    (lines_bytes (shown_by (played (decks_site pages) [] (world_of begun))))
 stands_nowhere pages begun written =
     subst (λ (lines : List (List ℕ)). Appends written written (lines_bytes (map shown_line lines)))
     (sym (none_lines pages (world_of begun))) (Appends-nil written)
@@ -369,7 +373,7 @@ nothing_browses begun old =
             prefix = prefix_of pages begun [] (keys_of bytes).keys old.sink.written
                 old.sink.written (Open begun.url ∷ (keys_of bytes).keys, refl)
                 (prefix_whole old.sink.written old.sink.written
-                (lines_bytes (shown_by (played pages [] (world_of begun))))
+                (lines_bytes (shown_by (played (decks_site pages) [] (world_of begun))))
                 (stands_nowhere pages begun old.sink.written));
             shows = memory_stops pages begun [] [] old old (Open begun.url ∷ [], refl)
                 (omega arith) (omega arith) (stands_nowhere pages begun old.sink.written);

@@ -7,6 +7,7 @@ use Rattle.wap_input.specs.declared.key.Key.{Key}
 use Rattle.wap_input.specs.declared.key.Key.TheVariants.{Open}
 use Rattle.wap_keys.specs.Read.{AreFirst}
 use Rattle.wap_site.specs.Pages.{Pages}
+use Rattle.wap_world.specs.Decks.{decks_site}
 use Rattle.wap_world.specs.Lines.{lines_bytes}
 use Rattle.wap_world.specs.Sessions.{Begun, played, shown_by, world_of, transcript, first_steps}
 use Rattle.wap_browse.proofs.Stepping.{bytes_in_parts}
@@ -38,9 +39,10 @@ one_longer pressed key = omega (arith, length-append pressed (key ∷ []))
 -- the steps of so many first keys are those of these
 pub steps_of : (pages : Pages) (begun : Begun) (pressed all : List Key) (count : ℕ)
     → count ≡ length pressed → AreFirst pressed (Open begun.url ∷ all)
-    → first_steps pages begun all count ≡ played pages pressed (world_of begun)
+    → first_steps (decks_site pages) begun all count
+    ≡ played (decks_site pages) pressed (world_of begun)
 steps_of pages begun pressed all count many (others, split) =
-    ap (λ (keys : List Key). played pages keys (world_of begun))
+    ap (λ (keys : List Key). played (decks_site pages) keys (world_of begun))
     (ap (take count) split ∙ take_at pressed others count (sym many))
 
 -- ---- bytes
@@ -63,13 +65,15 @@ prefix_whole before after bytes wrote = (bytes, [], sym (append-nil bytes), wrot
 -- a prefix of the bytes of first keys is one of the transcript over all
 pub prefix_of : (pages : Pages) (begun : Begun) (pressed all : List Key)
     (before after : Option (List ℕ)) → AreFirst pressed (Open begun.url ∷ all)
-    → AppendsPrefix before after (lines_bytes (shown_by (played pages pressed (world_of begun))))
-    → AppendsPrefix before after (transcript pages begun all)
+    → AppendsPrefix before after
+    (lines_bytes (shown_by (played (decks_site pages) pressed (world_of begun))))
+    → AppendsPrefix before after (transcript (decks_site pages) begun all)
 prefix_of pages begun pressed all before after (others, split) prefix =
     let world = world_of begun in
-    let step = played pages pressed world in
+    let step = played (decks_site pages) pressed world in
     prefix_more before after (lines_bytes (shown_by step))
-    (lines_bytes (shown_by (played pages others step.world))) (transcript pages begun all)
-    (ap (λ (keys : List Key). lines_bytes (shown_by (played pages keys world))) split
+    (lines_bytes (shown_by (played (decks_site pages) others step.world)))
+    (transcript (decks_site pages) begun all)
+    (ap (λ (keys : List Key). lines_bytes (shown_by (played (decks_site pages) keys world))) split
     ∙ bytes_in_parts pages pressed others world)
     prefix

@@ -2,6 +2,7 @@
 use Rattle.std.proofs.Common.{◌≡◌, ℕ, false, List, [], ◌∷◌, ◌++◌, map}
 use Rattle.std.proofs.Common.{Some, refl, sym, ap, subst, ◌∙◌}
 use Rattle.std.specs.Prelude.{IfSome}
+use Rattle.std.specs.Option.{option_map}
 use Rattle.wap_devices.specs.Transfer.{Appends}
 use Rattle.wap_devices.specs.Sources.{SourceSeen}
 use Rattle.wap_devices.proofs.Transfers.{Appends-then, Appends-nil}
@@ -13,6 +14,8 @@ use Rattle.wap_site.specs.Pages.{Pages}
 use Rattle.wap_site.specs.Misses.{Asked}
 use Rattle.wap_site.specs.Asking.{Stays, Asks}
 use Rattle.wap_site.proofs.Asking.{Asks-nil, Asks-then, Stays-same, Stays-then}
+use Rattle.wap_world.specs.Sites.{Site}
+use Rattle.wap_world.specs.Decks.{shelf_of, decks_site}
 use Rattle.wap_world.specs.World.{World}
 use Rattle.wap_world.specs.Lines.{shown_line, lines_bytes}
 use Rattle.wap_world.specs.Steps.{Step}
@@ -45,11 +48,11 @@ read_to now source = record now { source = source }
 -- where the pages are known: the session and the outside stand where these keys lead
 pub record Stands (pages : Pages) (begun : Begun) (pressed : List Key) (old now : Outside)
     (state : State) : Type 0 where
-  pub world : state.browser.world ≡ (played pages pressed (world_of begun)).world
-  pub over : IsOver pages state.browser
-  pub asks : Asks (played pages pressed (world_of begun)).asked old.pages now.pages
+  pub world : state.browser.world ≡ (played (decks_site pages) pressed (world_of begun)).world
+  pub over : IsOver (shelf_of pages) state.browser
+  pub asks : Asks (played (decks_site pages) pressed (world_of begun)).asked old.pages now.pages
   pub wrote : Appends old.sink.written now.sink.written
-      (lines_bytes (shown_by (played pages pressed (world_of begun))))
+      (lines_bytes (shown_by (played (decks_site pages) pressed (world_of begun))))
 
 -- so far nothing failed, and the session stands where these keys lead
 pub record Browsed (begun : Begun) (pressed : List Key) (old now : Outside) (state : State) : Type 0
@@ -113,28 +116,31 @@ goes_first begun old reader state is read = record {
 
 -- a fact of a key's step, where the session stands
 pub step_known : (pages : Pages) (begun : Begun) (pressed : List Key) (old now : Outside)
-    (state : State) (key : Key) (Fact : Pages → Step → Type 0)
+    (state : State) (key : Key) (Fact : Site → Step → Type 0)
     → old.pages.contents ≡ Some pages → Stays old.pages now.pages
     → Stands pages begun pressed old now state
     → IfKnown key (moment_of now state) Fact
-    → Fact pages (react pages key [] (played pages pressed (world_of begun)).world)
+    → Fact (decks_site pages)
+    (react (decks_site pages) key [] (played (decks_site pages) pressed (world_of begun)).world)
 step_known pages begun pressed old now state key Fact known stays stands fact =
-    subst (λ (world : World). Fact pages (react pages key [] world)) stands.world
-    (some_fact now.pages.contents
-    (λ p. IsOver p state.browser → Fact p (react p key [] state.browser.world)) pages
-    (stays.contents ∙ known) fact stands.over)
+    subst (λ (world : World). Fact (decks_site pages) (react (decks_site pages) key [] world))
+    stands.world
+    (some_fact (option_map decks_site now.pages.contents)
+    (λ site. IsOver site.shelf state.browser → Fact site (react site key [] state.browser.world))
+    (decks_site pages) (ap (option_map decks_site) (stays.contents ∙ known)) fact stands.over)
 
 -- one key further
 stands_more : (pages : Pages) (begun : Begun) (pressed : List Key) (old now : Outside)
     (state : State) (key : Key) (new : Moment)
     → Stands pages begun pressed old now state
-    → Leads pages (react pages key [] (played pages pressed (world_of begun)).world)
+    → Leads (shelf_of pages)
+    (react (decks_site pages) key [] (played (decks_site pages) pressed (world_of begun)).world)
     (moment_of now state) new
     → Stands pages begun (pressed ++ key ∷ []) old (played_to now new) new.state
 stands_more pages begun pressed old now state key new stands leads =
     let world = world_of begun in
-    let step = played pages pressed world in
-    let one = react pages key [] step.world in
+    let step = played (decks_site pages) pressed world in
+    let one = react (decks_site pages) key [] step.world in
     record {
       world = leads.world ∙ sym (more_world pages pressed key world);
       over = leads.over;
@@ -161,7 +167,8 @@ browsed_more begun pressed old now state key new browsed goes = record {
       (λ p. Stands p begun pressed old now state) pages known browsed.stands in
       stands_more pages begun pressed old now state key new stands
       (step_known pages begun pressed old now state key
-      (λ p step. Leads p step (moment_of now state) new) known browsed.stays stands goes.leads));
+      (λ site step. Leads site.shelf step (moment_of now state) new) known browsed.stays stands
+      goes.leads));
   ready = goes.ready;
   stays = Stays-then old.pages now.pages new.pages browsed.stays goes.stays;
   steady = goes.steady ∙ browsed.steady;

@@ -9,6 +9,7 @@ use Rattle.wap_input.specs.declared.key.Key.{Key}
 use Rattle.wap_input.specs.declared.key.Key.TheVariants.{Open}
 use Rattle.wap_keys.specs.Read.{AreFirst}
 use Rattle.wap_site.specs.Pages.{Pages}
+use Rattle.wap_world.specs.Decks.{decks_site}
 use Rattle.wap_site.specs.Misses.{Asked, misses}
 use Rattle.wap_site.specs.Asking.{raised_by, Fails}
 use Rattle.wap_site.proofs.Asking.{Asks-then}
@@ -56,7 +57,8 @@ pressed_first begun pressed given all key next first =
 -- the steps of all that were given but the last
 steps_pressed : (pages : Pages) (begun : Begun) (pressed given : List Key) (key : Key)
     → IsNext begun pressed given key
-    → first_steps pages begun given (length given) ≡ played pages pressed (world_of begun)
+    → first_steps (decks_site pages) begun given (length given)
+    ≡ played (decks_site pages) pressed (world_of begun)
 steps_pressed pages begun pressed given key next =
     steps_of pages begun pressed given (length given) (as_long begun pressed given key next)
     (pressed_first begun pressed given given key next (first_all given))
@@ -64,8 +66,8 @@ steps_pressed pages begun pressed given key next =
 -- and with the last
 steps_both : (pages : Pages) (begun : Begun) (pressed given : List Key) (key : Key)
     → IsNext begun pressed given key
-    → first_steps pages begun given (length given + 1)
-    ≡ played pages (pressed ++ key ∷ []) (world_of begun)
+    → first_steps (decks_site pages) begun given (length given + 1)
+    ≡ played (decks_site pages) (pressed ++ key ∷ []) (world_of begun)
 steps_both pages begun pressed given key next =
     steps_of pages begun (pressed ++ key ∷ []) given (length given + 1)
     (omega (arith, as_long begun pressed given key next, one_longer pressed key))
@@ -82,15 +84,16 @@ RoseBetween old new first both = IfSome old.pages.cache (λ cache. RoseWithin
 pub store_stops : (pages : Pages) (begun : Begun) (pressed given : List Key) (key : Key)
     (old now : Outside) (state : State) (new : Moment)
     → IsNext begun pressed given key → Stands pages begun pressed old now state
-    → Fails (react pages key [] (played pages pressed (world_of begun)).world).asked
+    → Fails (react (decks_site pages) key []
+    (played (decks_site pages) pressed (world_of begun)).world).asked
     now.pages new.pages
     → new.sink ≡ now.sink
-    → StopsAtStore pages begun given old (played_to now new)
+    → StopsAtStore (decks_site pages) begun given old (played_to now new)
 store_stops pages begun pressed given key old now state new next stands fails unwritten =
     let world = world_of begun in
-    let step = played pages pressed world in
-    let both = played pages (pressed ++ key ∷ []) world in
-    let one = react pages key [] step.world in
+    let step = played (decks_site pages) pressed world in
+    let both = played (decks_site pages) (pressed ++ key ∷ []) world in
+    let one = react (decks_site pages) key [] step.world in
     let first = steps_pressed pages begun pressed given key next in
     let second = steps_both pages begun pressed given key next in
     record {
@@ -100,7 +103,7 @@ store_stops pages begun pressed given key old now state new next stands fails un
           Appends old.sink.written sink.written (lines_bytes (shown_by step)))
           (sym unwritten) stands.wrote);
       asked = subst (λ (s : Step). RoseBetween old (played_to now new) s
-          (first_steps pages begun given (length given + 1))) (sym first)
+          (first_steps (decks_site pages) begun given (length given + 1))) (sym first)
           (subst (λ (s : Step). RoseBetween old (played_to now new) step s) (sym second)
           (fails_after step.asked one.asked both.asked old.pages now.pages new.pages
           (more_asked pages pressed key world) stands.asks fails));
@@ -138,36 +141,38 @@ part_prefix before after first both so = (
 pub sink_part : (pages : Pages) (begun : Begun) (pressed : List Key) (key : Key)
     (old now : Outside) (state : State) (new : Moment)
     → Stands pages begun pressed old now state
-    → LeadsPart (react pages key [] (played pages pressed (world_of begun)).world)
+    → LeadsPart
+    (react (decks_site pages) key [] (played (decks_site pages) pressed (world_of begun)).world)
     (moment_of now state) new
     → WritesPart old.sink.written new.sink.written
-    (lines_bytes (shown_by (played pages pressed (world_of begun))))
-    (lines_bytes (shown_by (played pages (pressed ++ key ∷ []) (world_of begun))))
+    (lines_bytes (shown_by (played (decks_site pages) pressed (world_of begun))))
+    (lines_bytes (shown_by (played (decks_site pages) (pressed ++ key ∷ []) (world_of begun))))
 sink_part pages begun pressed key old now state new stands leads =
     let world = world_of begun in
-    let step = played pages pressed world in
+    let step = played (decks_site pages) pressed world in
     part_after old.sink.written now.sink.written new.sink.written (lines_bytes (shown_by step))
-    (lines_bytes (shown_by (react pages key [] step.world)))
-    (lines_bytes (shown_by (played pages (pressed ++ key ∷ []) world)))
+    (lines_bytes (shown_by (react (decks_site pages) key [] step.world)))
+    (lines_bytes (shown_by (played (decks_site pages) (pressed ++ key ∷ []) world)))
     (more_bytes pages pressed key world) stands.wrote leads.wrote
 
 -- and the store was asked for all its pages
 pub sink_stops : (pages : Pages) (begun : Begun) (pressed given : List Key) (key : Key)
     (old now : Outside) (state : State) (new : Moment)
     → IsNext begun pressed given key → Stands pages begun pressed old now state
-    → LeadsPart (react pages key [] (played pages pressed (world_of begun)).world)
+    → LeadsPart
+    (react (decks_site pages) key [] (played (decks_site pages) pressed (world_of begun)).world)
     (moment_of now state) new
-    → StopsAtSink pages begun given old (played_to now new)
+    → StopsAtSink (decks_site pages) begun given old (played_to now new)
 sink_stops pages begun pressed given key old now state new next stands leads =
     let world = world_of begun in
-    let step = played pages pressed world in
-    let one = react pages key [] step.world in
+    let step = played (decks_site pages) pressed world in
+    let one = react (decks_site pages) key [] step.world in
     let first = steps_pressed pages begun pressed given key next in
     let second = steps_both pages begun pressed given key next in
     record {
       wrote = subst (λ (s : Step).
           WritesPart old.sink.written new.sink.written (lines_bytes (shown_by s))
-          (lines_bytes (shown_by (first_steps pages begun given (length given + 1)))))
+          (lines_bytes (shown_by (first_steps (decks_site pages) begun given (length given + 1)))))
           (sym first)
           (subst (λ (s : Step). WritesPart old.sink.written new.sink.written
           (lines_bytes (shown_by step)) (lines_bytes (shown_by s))) (sym second)
@@ -187,8 +192,8 @@ pub memory_stops : (pages : Pages) (begun : Begun) (pressed given : List Key)
     (old new : Outside) → AreFirst pressed (Open begun.url ∷ given)
     → length given ≤ length pressed → length pressed ≤ length given + 1
     → Appends old.sink.written new.sink.written
-    (lines_bytes (shown_by (played pages pressed (world_of begun))))
-    → StopsForMemory pages begun given old new
+    (lines_bytes (shown_by (played (decks_site pages) pressed (world_of begun))))
+    → StopsForMemory (decks_site pages) begun given old new
 memory_stops pages begun pressed given old new are some few wrote = record {
   count = length pressed;
   least = some;
@@ -202,12 +207,12 @@ memory_stops pages begun pressed given old new are some few wrote = record {
 pub key_runs_out : (pages : Pages) (begun : Begun) (pressed given : List Key) (key : Key)
     (old now : Outside) (state : State) (new : Moment)
     → IsNext begun pressed given key → Stands pages begun pressed old now state
-    → new.sink ≡ now.sink → StopsForMemory pages begun given old (played_to now new)
+    → new.sink ≡ now.sink → StopsForMemory (decks_site pages) begun given old (played_to now new)
 key_runs_out pages begun pressed given key old now state new next stands unwritten =
     memory_stops pages begun pressed given old (played_to now new)
     (pressed_first begun pressed given given key next (first_all given))
     (omega (arith, as_long begun pressed given key next))
     (omega (arith, as_long begun pressed given key next))
     (subst (λ (sink : SinkSeen). Appends old.sink.written sink.written
-    (lines_bytes (shown_by (played pages pressed (world_of begun))))) (sym unwritten)
+    (lines_bytes (shown_by (played (decks_site pages) pressed (world_of begun))))) (sym unwritten)
     stands.wrote)

@@ -5,7 +5,8 @@ use Rattle.wap_input.specs.declared.key.Key.{Key}
 use Rattle.wap_keys.specs.declared.ending.Ending.{Ending}
 use Rattle.wap_keys.specs.declared.ending.Ending.TheVariants as way
 use Rattle.wap_keys.specs.Lines.{Keys, keys_of}
-use Rattle.wap_site.specs.Pages.{Pages}
+use Rattle.wap_world.specs.Sites.{Site}
+use Rattle.wap_world.specs.Decks.{decks_site}
 use Rattle.wap_world.specs.Sessions.{Begun}
 use Rattle.wap_status.specs.declared.status.Status.{Status}
 use Rattle.wap_status.specs.declared.status.Status.TheVariants.{Done, Usage, Refused, StoreFault}
@@ -93,25 +94,25 @@ complete_by TooManyKeys old new bytes taken rest given store read write ends one
 -- ---- sentences
 
 -- where the keys came to an end the session was played to its end
-played_by : (ending : Ending) (pages : Pages) (begun : Begun) (given : List Key)
-    (old new : Outside) → ShowsTo (ended ending) pages begun given old new
-    → IsPlayed pages begun given old new
-played_by way.End pages begun given old new so = so
-played_by (way.BadKey line fault) pages begun given old new so = so
-played_by way.TooManyKeys pages begun given old new so = so
-played_by way.ReadFault pages begun given old new so = so
+played_by : (ending : Ending) (site : Site) (begun : Begun) (given : List Key)
+    (old new : Outside) → ShowsTo (ended ending) site begun given old new
+    → IsPlayed site begun given old new
+played_by way.End site begun given old new so = so
+played_by (way.BadKey line fault) site begun given old new so = so
+played_by way.TooManyKeys site begun given old new so = so
+played_by way.ReadFault site begun given old new so = so
 
 -- what was written
-shows_by : (pages : Pages) (begun : Begun) (bytes : List ℕ) (given : List Key)
-    (old new : Outside) (status : Status) → Written status pages begun bytes given old new
-    → Shows pages begun bytes given old new status
-shows_by pages begun bytes given old new status written =
-    let at : (other : Status) → status ≡ other → ShowsTo other pages begun given old new =
-    λ other is. subst (λ (s : Status). ShowsTo s pages begun given old new) is
+shows_by : (site : Site) (begun : Begun) (bytes : List ℕ) (given : List Key)
+    (old new : Outside) (status : Status) → Written status site begun bytes given old new
+    → Shows site begun bytes given old new status
+shows_by site begun bytes given old new status written =
+    let at : (other : Status) → status ≡ other → ShowsTo other site begun given old new =
+    λ other is. subst (λ (s : Status). ShowsTo s site begun given old new) is
     written.shows in
     record {
       prefix = written.prefix;
-      played = λ ending is. played_by ending pages begun given old new (at (ended ending) is);
+      played = λ ending is. played_by ending site begun given old new (at (ended ending) is);
       store_fault = λ is. at StoreFault is;
       write_fault = λ is. at WriteFault is;
       no_memory = λ is. at NoMemory is;
@@ -141,10 +142,11 @@ reads_by begun bytes old new status so comes =
       complete = complete_by status old new bytes comes.taken comes.rest comes.given
           so.store so.read so.write comes.ends;
       shows = if_some old.pages.contents
-          (λ pages. Shows pages begun bytes comes.given old new status)
-          (λ pages is. shows_by pages begun bytes comes.given old new status
+          (λ pages. Shows (decks_site pages) begun bytes comes.given old new status)
+          (λ pages is. shows_by (decks_site pages) begun bytes comes.given old new status
           (some_fact old.pages.contents
-          (λ p. Written status p begun bytes comes.given old new) pages is comes.written));
+          (λ p. Written status (decks_site p) begun bytes comes.given old new) pages is
+          comes.written));
     }
 
 -- all of it

@@ -11,7 +11,8 @@ use Rattle.wap_keys.specs.declared.ending.Ending.TheVariants as ending
 use Rattle.wap_keys.specs.Lines.{keys_of, keys_at}
 use Rattle.wap_keys.specs.Read.{AreFirst, keys_among, rose, IsPrompt, TakesAtMost, AtMostOnce}
 use Rattle.wap_pages.specs.declared.fault.PageFault.{PageFault}
-use Rattle.wap_site.specs.Pages.{Pages}
+use Rattle.wap_world.specs.Sites.{Site}
+use Rattle.wap_world.specs.Decks.{decks_site}
 use Rattle.wap_site.specs.Asking.{Stays}
 use Rattle.wap_world.specs.Sessions.{Begun, transcript}
 use Rattle.wap_status.specs.declared.status.Status.{Status}
@@ -24,18 +25,18 @@ use Rattle.wap_browse.specs.Handling.{IsPlayed}
 use Rattle.wap_browse.specs.Stopping.{StopsAtStore, StopsAtSink, StopsForMemory}
 use Rattle.wap_browse.specs.Endings.{ended}
 
--- what was written over these pages, where of these bytes of keys these keys were given
-pub record Shows (pages : Pages) (begun : Begun) (bytes : List ℕ) (given : List Key)
+-- what was written over this site, where of these bytes of keys these keys were given
+pub record Shows (site : Site) (begun : Begun) (bytes : List ℕ) (given : List Key)
     (old new : Outside) (status : Status) : Type 0 where
   -- with any status no more than a prefix of the transcript over all keys
   pub prefix : AppendsPrefix old.sink.written new.sink.written
-      (transcript pages begun (keys_of bytes).keys)
+      (transcript site begun (keys_of bytes).keys)
   -- the transcript over the keys that were given, where the keys came to an end
-  pub played : (ending : Ending) → status ≡ ended ending → IsPlayed pages begun given old new
+  pub played : (ending : Ending) → status ≡ ended ending → IsPlayed site begun given old new
   -- the lines of the first of these, whole keys only, but where the sink failed
-  pub store_fault : status ≡ StoreFault → StopsAtStore pages begun given old new
-  pub write_fault : status ≡ WriteFault → StopsAtSink pages begun given old new
-  pub no_memory : status ≡ NoMemory → StopsForMemory pages begun given old new
+  pub store_fault : status ≡ StoreFault → StopsAtStore site begun given old new
+  pub write_fault : status ≡ WriteFault → StopsAtSink site begun given old new
+  pub no_memory : status ≡ NoMemory → StopsForMemory site begun given old new
 
 -- what a source with these bytes gave, and how it ended by them
 pub record Reads (begun : Begun) (bytes : List ℕ) (old new : Outside) (status : Status) : Type 0
@@ -68,7 +69,7 @@ pub record Reads (begun : Begun) (bytes : List ℕ) (old new : Outside) (status 
         → IsOrWants (ended (keys_of bytes).ending) status
     -- what was written, where the pages are known
     pub shows : IfSome old.pages.contents
-        (λ pages. Shows pages begun bytes given old new status)
+        (λ pages. Shows (decks_site pages) begun bytes given old new status)
 
 -- a session that is begun so, from the outside before to the outside after, and its status
 pub record Browses (begun : Begun) (old new : Outside) (status : Status) : Type 0 where

@@ -3,7 +3,7 @@
 use Rattle.std.specs.Prelude.{◌≡◌, ℕ, ◌+◌, ◌<◌, ◌≤◌, List, ◌++◌, length, Option, IfSome}
 use Rattle.wap_devices.specs.Transfer.{Appends}
 use Rattle.wap_input.specs.declared.key.Key.{Key}
-use Rattle.wap_site.specs.Pages.{Pages}
+use Rattle.wap_world.specs.Sites.{Site}
 use Rattle.wap_site.specs.Asking.{raised_by}
 use Rattle.wap_world.specs.Sessions.{Begun}
 use Rattle.wap_browse.specs.Outside.{Outside}
@@ -24,34 +24,34 @@ pub record WritesPart (before after : Option (List ℕ)) (first others : List �
   pub wrote : Appends before after (first ++ part)
 
 -- the store failed at the last of the keys that were given
-pub record StopsAtStore (pages : Pages) (begun : Begun) (given : List Key) (old new : Outside)
+pub record StopsAtStore (site : Site) (begun : Begun) (given : List Key) (old new : Outside)
     : Type 0 where
   -- nothing of it was written
   pub wrote : Appends old.sink.written new.sink.written
-      (first_lines pages begun given (length given))
+      (first_lines site begun given (length given))
   -- the store was asked for a page of it
   pub asked : IfSome old.pages.cache (λ cache. RoseWithin
-      (first_misses pages begun given cache (length given))
-      (first_misses pages begun given cache (length given + 1))
+      (first_misses site begun given cache (length given))
+      (first_misses site begun given cache (length given + 1))
       old.pages.fetches new.pages.fetches)
 
 -- the sink failed at the lines of the last
-pub record StopsAtSink (pages : Pages) (begun : Begun) (given : List Key) (old new : Outside)
+pub record StopsAtSink (site : Site) (begun : Begun) (given : List Key) (old new : Outside)
     : Type 0 where
   -- a prefix of them was written
   pub wrote : WritesPart old.sink.written new.sink.written
-      (first_lines pages begun given (length given))
-      (first_lines pages begun given (length given + 1))
+      (first_lines site begun given (length given))
+      (first_lines site begun given (length given + 1))
   -- the store was asked for all its pages
   pub asked : IfSome old.pages.cache (λ cache. new.pages.fetches
-      ≡ raised_by (first_misses pages begun given cache (length given + 1)) old.pages.fetches)
+      ≡ raised_by (first_misses site begun given cache (length given + 1)) old.pages.fetches)
 
 -- memory ran out at the last, or as one more was read
-pub record StopsForMemory (pages : Pages) (begun : Begun) (given : List Key) (old new : Outside)
+pub record StopsForMemory (site : Site) (begun : Begun) (given : List Key) (old new : Outside)
     : Type 0 where
   -- so many were handled whole
   pub count : ℕ
   pub least : length given ≤ count
   pub most : count ≤ length given + 1
   -- nothing of the next was written
-  pub wrote : Appends old.sink.written new.sink.written (first_lines pages begun given count)
+  pub wrote : Appends old.sink.written new.sink.written (first_lines site begun given count)

@@ -5,8 +5,9 @@ use Rattle.wap_devices.specs.Stores.{StoreSeen}
 use Rattle.wap_devices.specs.Sources.{SourceSeen}
 use Rattle.wap_devices.specs.Sinks.{SinkSeen}
 use Rattle.wap_input.specs.declared.key.Key.{Key}
-use Rattle.wap_site.specs.Pages.{Pages}
 use Rattle.wap_site.specs.Misses.{Cache}
+use Rattle.wap_world.specs.Sites.{Site}
+use Rattle.wap_world.specs.Decks.{decks_site}
 use Rattle.wap_world.specs.Sessions.{Begun}
 use Rattle.wap_status.specs.declared.status.Status.{Status}
 use Rattle.wap_pages.specs.Caches.{CachedPages, cache_of, seen_over}
@@ -23,36 +24,36 @@ with_cache cache new = record new { pages = record new.pages { cache = cache } }
 
 module _ (begun : Begun) (old new : Outside) (status : Status) (cache : Option Cache) where
   -- a session that was played to its end
-  played : (pages : Pages) (given : List Key) → IsPlayed pages begun given old new
-      → IsPlayed pages begun given old (with_cache cache new)
-  played pages given so = record { wrote = so.wrote; asked = so.asked }
+  played : (site : Site) (given : List Key) → IsPlayed site begun given old new
+      → IsPlayed site begun given old (with_cache cache new)
+  played site given so = record { wrote = so.wrote; asked = so.asked }
 
   -- one that the store stopped
-  at_store : (pages : Pages) (given : List Key) → StopsAtStore pages begun given old new
-      → StopsAtStore pages begun given old (with_cache cache new)
-  at_store pages given so = record { wrote = so.wrote; asked = so.asked }
+  at_store : (site : Site) (given : List Key) → StopsAtStore site begun given old new
+      → StopsAtStore site begun given old (with_cache cache new)
+  at_store site given so = record { wrote = so.wrote; asked = so.asked }
 
   -- one that the sink stopped
-  at_sink : (pages : Pages) (given : List Key) → StopsAtSink pages begun given old new
-      → StopsAtSink pages begun given old (with_cache cache new)
-  at_sink pages given so = record { wrote = so.wrote; asked = so.asked }
+  at_sink : (site : Site) (given : List Key) → StopsAtSink site begun given old new
+      → StopsAtSink site begun given old (with_cache cache new)
+  at_sink site given so = record { wrote = so.wrote; asked = so.asked }
 
   -- one that memory stopped
-  for_memory : (pages : Pages) (given : List Key) → StopsForMemory pages begun given old new
-      → StopsForMemory pages begun given old (with_cache cache new)
-  for_memory pages given so =
+  for_memory : (site : Site) (given : List Key) → StopsForMemory site begun given old new
+      → StopsForMemory site begun given old (with_cache cache new)
+  for_memory site given so =
       record { count = so.count; least = so.least; most = so.most; wrote = so.wrote }
 
   -- what was written
-  shows : (pages : Pages) (bytes : List ℕ) (given : List Key)
-      → Shows pages begun bytes given old new status
-      → Shows pages begun bytes given old (with_cache cache new) status
-  shows pages bytes given so = record {
+  shows : (site : Site) (bytes : List ℕ) (given : List Key)
+      → Shows site begun bytes given old new status
+      → Shows site begun bytes given old (with_cache cache new) status
+  shows site bytes given so = record {
     prefix = so.prefix;
-    played = λ ending is. played pages given (so.played ending is);
-    store_fault = λ is. at_store pages given (so.store_fault is);
-    write_fault = λ is. at_sink pages given (so.write_fault is);
-    no_memory = λ is. for_memory pages given (so.no_memory is);
+    played = λ ending is. played site given (so.played ending is);
+    store_fault = λ is. at_store site given (so.store_fault is);
+    write_fault = λ is. at_sink site given (so.write_fault is);
+    no_memory = λ is. for_memory site given (so.no_memory is);
   }
 
   -- what was read
@@ -72,10 +73,10 @@ module _ (begun : Begun) (old new : Outside) (status : Status) (cache : Option C
     read_fault = so.read_fault;
     complete = so.complete;
     shows = if_some old.pages.contents
-        (λ pages. Shows pages begun bytes so.given old (with_cache cache new) status)
-        (λ pages known. shows pages bytes so.given
+        (λ pages. Shows (decks_site pages) begun bytes so.given old (with_cache cache new) status)
+        (λ pages known. shows (decks_site pages) bytes so.given
         (some_fact old.pages.contents
-        (λ p. Shows p begun bytes so.given old new status) pages known so.shows));
+        (λ p. Shows (decks_site p) begun bytes so.given old new status) pages known so.shows));
   }
 
   -- but that its capacity is as before

@@ -6,6 +6,7 @@ use Rattle.std.proofs.lemmas.List.{append-nil, map-append, take-append-drop, tak
 use Rattle.wap_base.specs.Count.{Rose}
 use Rattle.wap_input.specs.declared.key.Key.{Key}
 use Rattle.wap_site.specs.Pages.{Pages}
+use Rattle.wap_world.specs.Decks.{decks_site}
 use Rattle.wap_site.specs.Misses.{Asked}
 use Rattle.wap_site.specs.Asking.{Seen, Asks, Fails}
 use Rattle.wap_site.proofs.Asking.{Asks-nil, Asks-then, Asks-fails}
@@ -15,16 +16,16 @@ use Rattle.wap_world.specs.Lines.{shown_line}
 use Rattle.wap_world.specs.Steps.{Step, followed}
 use Rattle.wap_world.specs.Keys.{react}
 use Rattle.wap_world.specs.Sessions.{played, shown_by}
-use Rattle.wap_world.proofs.Laws.{plays_in_parts}
+use Rattle.wap_world.proofs.Laws.{one_first, plays_in_parts}
 use Rattle.wap_context.specs.Browsers.{Browser, IfOver}
 use Rattle.wap_session.specs.declared.fault.SessionFault.{SessionFault}
 use Rattle.wap_session.specs.declared.fault.SessionFault.TheVariants.{NoMemory}
 use Rattle.wap_session.specs.Feeding.{State, Leads, Plays}
-use Rattle.wap_session.proofs.Turning.{Fed, one_first}
+use Rattle.wap_session.proofs.Turning.{Fed}
 
 abbrev pub Played : List Key → Seen → Seen → State → State → Result (List (List ℕ)) SessionFault
     → Type 0
-Played keys before after old new result = Plays (λ told world. played told keys world) before after
+Played keys before after old new result = Plays (λ site world. played site keys world) before after
     old new result
 
 -- ---- steps
@@ -37,14 +38,16 @@ record Both (all first second : Step) : Type 0 where
 
 -- some keys, and then one
 both : (pages : Pages) (done : List Key) (one : Key) (world : World)
-    → Both (played pages (done ++ one ∷ []) world) (played pages done world)
-    (react pages one [] (played pages done world).world)
+    → let site = decks_site pages in
+    Both (played site (done ++ one ∷ []) world) (played site done world)
+    (react site one [] (played site done world).world)
 unfolding played
 both pages done one world =
-    let first = played pages done world in
-    let second = react pages one [] first.world in
-    let all : played pages (done ++ one ∷ []) world
-    ≡ followed first (λ left w. followed second (λ left v. played pages [] v)) =
+    let site = decks_site pages in
+    let first = played site done world in
+    let second = react site one [] first.world in
+    let all : played site (done ++ one ∷ []) world
+    ≡ followed first (λ left w. followed second (λ left v. played site [] v)) =
     plays_in_parts pages done (one ∷ []) world
     ∙ ap (λ (step : Step). followed first (λ left w. step))
     (one_first pages one [] first.world) in
@@ -58,25 +61,27 @@ both pages done one world =
 
 -- some keys, one, and more
 all_asked : (pages : Pages) (done rest : List Key) (one : Key) (world : World)
-    → let first = played pages done world in
-    let second = react pages one [] first.world in
-    (played pages (done ++ one ∷ rest) world).asked
-    ≡ first.asked ++ (second.asked ++ (played pages rest second.world).asked)
+    → let site = decks_site pages in
+    let first = played site done world in
+    let second = react site one [] first.world in
+    (played site (done ++ one ∷ rest) world).asked
+    ≡ first.asked ++ (second.asked ++ (played site rest second.world).asked)
 all_asked pages done rest one world =
-    let first = played pages done world in
+    let site = decks_site pages in
+    let first = played site done world in
     ap (λ (step : Step). step.asked) (plays_in_parts pages done (one ∷ rest) world)
     ∙ ap (λ (step : Step). first.asked ++ step.asked) (one_first pages one rest first.world)
 
 -- ---- none
 
 nothing : (browser : Browser) (contents : Option Pages)
-    → IfOver contents browser (λ pages. Leads pages (played pages [] browser.world) browser [])
+    → IfOver contents browser (λ site. Leads site.shelf (played site [] browser.world) browser [])
 unfolding played
 nothing browser None = tt
 nothing browser (Some pages) = λ is. record { leads_on = refl; tells = refl; over = is }
 
 nothing_asked : (seen : Seen) (browser : Browser) (contents : Option Pages)
-    → IfOver contents browser (λ pages. Asks (played pages [] browser.world).asked seen seen)
+    → IfOver contents browser (λ site. Asks (played site [] browser.world).asked seen seen)
 unfolding played
 nothing_asked seen browser None = tt
 nothing_asked seen browser (Some pages) = λ is. Asks-nil seen
@@ -102,20 +107,22 @@ module _ (done : List Key) (one : Key) (before mid after : Seen) (old now new : 
     (lines : List (List ℕ)) where
   -- what the keys before came to
   abbrev Came : Option Pages → Type 0
-  Came contents = IfOver contents old (λ pages. Leads pages (played pages done old.world) now lines)
+  Came contents =
+      IfOver contents old (λ site. Leads site.shelf (played site done old.world) now lines)
 
   leads_more : (more : List (List ℕ)) (contents : Option Pages) → Came contents
-      → IfOver contents now (λ pages. Leads pages (react pages one [] now.world) new more)
+      → IfOver contents now (λ site. Leads site.shelf (react site one [] now.world) new more)
       → IfOver contents old
-      (λ pages. Leads pages (played pages (done ++ one ∷ []) old.world) new (lines ++ more))
+      (λ site. Leads site.shelf (played site (done ++ one ∷ []) old.world) new (lines ++ more))
   leads_more more None so next = tt
   leads_more more (Some pages) so next = λ is.
+      let site = decks_site pages in
       let came = so is in
       let leads = next came.over in
-      let first = played pages done old.world in
-      let second = react pages one [] first.world in
+      let first = played site done old.world in
+      let second = react site one [] first.world in
       let plus = both pages done one old.world in
-      let same : react pages one [] now.world ≡ second = ap (react pages one []) came.leads_on in
+      let same : react site one [] now.world ≡ second = ap (react site one []) came.leads_on in
       record {
         leads_on = leads.leads_on ∙ ap (λ (step : Step). step.world) same ∙ sym plus.world;
         tells = ap (λ (front : List (List ℕ)). front ++ more) came.tells
@@ -127,35 +134,37 @@ module _ (done : List Key) (one : Key) (before mid after : Seen) (old now new : 
       }
 
   asks_more : (contents : Option Pages) → Came contents
-      → IfOver contents old (λ pages. Asks (played pages done old.world).asked before mid)
-      → IfOver contents now (λ pages. Asks (react pages one [] now.world).asked mid after)
+      → IfOver contents old (λ site. Asks (played site done old.world).asked before mid)
+      → IfOver contents now (λ site. Asks (react site one [] now.world).asked mid after)
       → IfOver contents old
-      (λ pages. Asks (played pages (done ++ one ∷ []) old.world).asked before after)
+      (λ site. Asks (played site (done ++ one ∷ []) old.world).asked before after)
   asks_more None so asks next = tt
   asks_more (Some pages) so asks next = λ is.
+      let site = decks_site pages in
       let came = so is in
-      let first = played pages done old.world in
-      let second = react pages one [] first.world in
+      let first = played site done old.world in
+      let second = react site one [] first.world in
       let last : Asks second.asked mid after =
-      subst (λ (world : World). Asks (react pages one [] world).asked mid after) came.leads_on
+      subst (λ (world : World). Asks (react site one [] world).asked mid after) came.leads_on
       (next came.over) in
       subst (λ (asked : List Asked). Asks asked before after)
       (sym (both pages done one old.world).asked)
       (Asks-then first.asked second.asked before mid after (asks is) last)
 
   fails_then : (rest : List Key) (contents : Option Pages) → Came contents
-      → IfOver contents old (λ pages. Asks (played pages done old.world).asked before mid)
-      → IfOver contents now (λ pages. Fails (react pages one [] now.world).asked mid after)
+      → IfOver contents old (λ site. Asks (played site done old.world).asked before mid)
+      → IfOver contents now (λ site. Fails (react site one [] now.world).asked mid after)
       → IfOver contents old
-      (λ pages. Fails (played pages (done ++ one ∷ rest) old.world).asked before after)
+      (λ site. Fails (played site (done ++ one ∷ rest) old.world).asked before after)
   fails_then rest None so asks next = tt
   fails_then rest (Some pages) so asks next = λ is.
+      let site = decks_site pages in
       let came = so is in
-      let first = played pages done old.world in
-      let second = react pages one [] first.world in
-      let others = (played pages rest second.world).asked in
+      let first = played site done old.world in
+      let second = react site one [] first.world in
+      let others = (played site rest second.world).asked in
       let last : Fails second.asked mid after =
-      subst (λ (world : World). Fails (react pages one [] world).asked mid after) came.leads_on
+      subst (λ (world : World). Fails (react site one [] world).asked mid after) came.leads_on
       (next came.over) in
       subst (λ (asked : List Asked). Fails asked before after)
       (sym (all_asked pages done rest one old.world))
@@ -172,12 +181,12 @@ plays_more done one before mid after old now new lines more so next =
       leads = leads_more done one before mid after old.browser now.browser new.browser lines more
           before.contents so.leads
           (subst (λ (contents : Option Pages). IfOver contents now.browser
-          (λ pages. Leads pages (react pages one [] now.browser.world) new.browser more)) same
+          (λ site. Leads site.shelf (react site one [] now.browser.world) new.browser more)) same
           next.leads);
       asks = asks_more done one before mid after old.browser now.browser new.browser lines
           before.contents so.leads so.asks
           (subst (λ (contents : Option Pages). IfOver contents now.browser
-          (λ pages. Asks (react pages one [] now.browser.world).asked mid after)) same
+          (λ site. Asks (react site one [] now.browser.world).asked mid after)) same
           next.asks);
       steady = next.steady ∙ so.steady;
       failed = λ is. absurd cc;
@@ -205,7 +214,7 @@ plays_failing done rest one before mid after old now new lines fault so next =
       missed = λ is. fails_then done one before mid after old.browser now.browser new.browser lines
           rest before.contents so.leads so.asks
           (subst (λ (contents : Option Pages). IfOver contents now.browser
-          (λ pages. Fails (react pages one [] now.browser.world).asked mid after)) same
+          (λ site. Fails (react site one [] now.browser.world).asked mid after)) same
           (next.missed is));
       ended = λ over. let is = (so.ended over).0 in absurd cc;
       goes_on = λ going. next.goes_on so.ready;

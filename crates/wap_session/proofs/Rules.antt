@@ -6,6 +6,8 @@ use Rattle.std.proofs.lemmas.Result.{err_from_is_err_and}
 use Rattle.wap_base.specs.declared.fault.RunErr.{RunErr}
 use Rattle.wap_base.specs.declared.fault.RunErr.TheVariants as run
 use Rattle.wap_site.specs.Pages.{Pages}
+use Rattle.wap_world.specs.Sites.{Site}
+use Rattle.wap_world.specs.Decks.{decks_site}
 use Rattle.wap_site.specs.Misses.{Asked}
 use Rattle.wap_site.specs.Asking.{Seen, Stays, Asks, Fails}
 use Rattle.wap_world.specs.World.{World}
@@ -22,56 +24,58 @@ pub record After (change : List (List ℕ) → List (List ℕ)) (one other : Ste
   pub asked : other.asked ≡ one.asked
 
 -- a rule from one browser, and another from a browser before
-abbrev pub LeadsTo : (List (List ℕ) → List (List ℕ)) → (one other : Pages → World → Step)
+abbrev pub LeadsTo : (List (List ℕ) → List (List ℕ)) → (one other : Site → World → Step)
     → (mid old : Browser) → Type 0
-LeadsTo change one other mid old = (pages : Pages) → IsOver pages old
-    → IsOver pages mid × After change (one pages mid.world) (other pages old.world)
+LeadsTo change one other mid old = (site : Site) → IsOver site.shelf old
+    → IsOver site.shelf mid × After change (one site mid.world) (other site old.world)
 
-over_by : (contents : Option Pages) (mid old : Browser) (P Q : Pages → Type 0)
-    → ((pages : Pages) → IsOver pages old → IsOver pages mid × (P pages → Q pages))
+over_by : (contents : Option Pages) (mid old : Browser) (P Q : Site → Type 0)
+    → ((site : Site) → IsOver site.shelf old → IsOver site.shelf mid × (P site → Q site))
     → IfOver contents mid P → IfOver contents old Q
 over_by None mid old P Q by so = tt
-over_by (Some pages) mid old P Q by so = λ is. (by pages is).1 (so (by pages is).0)
+over_by (Some pages) mid old P Q by so =
+    let site = decks_site pages in
+    λ is. (by site is).1 (so (by site is).0)
 
-module _ (change : List (List ℕ) → List (List ℕ)) (one other : Pages → World → Step)
+module _ (change : List (List ℕ) → List (List ℕ)) (one other : Site → World → Step)
     (before after : Seen) (mid old new : Browser) (leads : LeadsTo change one other mid old) where
   follows_by : (lines : List (List ℕ)) → (contents : Option Pages)
-      → IfOver contents mid (λ pages. Follows pages (one pages mid.world) new lines)
-      → IfOver contents old (λ pages. Follows pages (other pages old.world) new (change lines))
+      → IfOver contents mid (λ site. Follows site.shelf (one site mid.world) new lines)
+      → IfOver contents old (λ site. Follows site.shelf (other site old.world) new (change lines))
   follows_by lines contents so =
-      over_by contents mid old (λ pages. Follows pages (one pages mid.world) new lines)
-      (λ pages. Follows pages (other pages old.world) new (change lines))
-      (λ pages is. (
-        (leads pages is).0,
+      over_by contents mid old (λ site. Follows site.shelf (one site mid.world) new lines)
+      (λ site. Follows site.shelf (other site old.world) new (change lines))
+      (λ site is. (
+        (leads site is).0,
         λ follows. record {
-          leads = follows.leads ∙ sym (leads pages is).1.world;
-          tells = ap change follows.tells ∙ sym (leads pages is).1.lines;
+          leads = follows.leads ∙ sym (leads site is).1.world;
+          tells = ap change follows.tells ∙ sym (leads site is).1.lines;
           over = follows.over;
         },
       )) so
 
   asks_by : (contents : Option Pages)
-      → IfOver contents mid (λ pages. Asks (one pages mid.world).asked before after)
-      → IfOver contents old (λ pages. Asks (other pages old.world).asked before after)
+      → IfOver contents mid (λ site. Asks (one site mid.world).asked before after)
+      → IfOver contents old (λ site. Asks (other site old.world).asked before after)
   asks_by contents so =
-      over_by contents mid old (λ pages. Asks (one pages mid.world).asked before after)
-      (λ pages. Asks (other pages old.world).asked before after)
-      (λ pages is. (
-        (leads pages is).0,
+      over_by contents mid old (λ site. Asks (one site mid.world).asked before after)
+      (λ site. Asks (other site old.world).asked before after)
+      (λ site is. (
+        (leads site is).0,
         subst (λ (asked : List Asked). Asks asked before after)
-            (sym (leads pages is).1.asked),
+            (sym (leads site is).1.asked),
       )) so
 
   fails_by : (contents : Option Pages)
-      → IfOver contents mid (λ pages. Fails (one pages mid.world).asked before after)
-      → IfOver contents old (λ pages. Fails (other pages old.world).asked before after)
+      → IfOver contents mid (λ site. Fails (one site mid.world).asked before after)
+      → IfOver contents old (λ site. Fails (other site old.world).asked before after)
   fails_by contents so =
-      over_by contents mid old (λ pages. Fails (one pages mid.world).asked before after)
-      (λ pages. Fails (other pages old.world).asked before after)
-      (λ pages is. (
-        (leads pages is).0,
+      over_by contents mid old (λ site. Fails (one site mid.world).asked before after)
+      (λ site. Fails (other site old.world).asked before after)
+      (λ site is. (
+        (leads site is).0,
         subst (λ (asked : List Asked). Fails asked before after)
-            (sym (leads pages is).1.asked),
+            (sym (leads site is).1.asked),
       )) so
 
   pub Acts-ok : (lines shown : List (List ℕ)) → shown ≡ change lines
@@ -100,7 +104,7 @@ module _ (change : List (List ℕ) → List (List ℕ)) (one other : Pages → W
 
 -- ---- memory ran out
 
-pub Acts-wants : (rule : Pages → World → Step) (before after : Seen) (old new : Browser)
+pub Acts-wants : (rule : Site → World → Step) (before after : Seen) (old new : Browser)
     (result : Result (List (List ℕ)) RunErr)
     → Stays before after → IsErrAnd result (λ (fault : RunErr). fault ≡ run.NoMemory)
     → Acts rule before after old new result
@@ -118,17 +122,17 @@ Acts-wants rule before after old new result stays wants =
 
 -- ---- turns
 
-budget_follows : (rule : Pages → World → Step) (budget : ℕ) (old new : Browser)
+budget_follows : (rule : Site → World → Step) (budget : ℕ) (old new : Browser)
     (lines : List (List ℕ))
-    → ((pages : Pages) → (rule pages old.world).world.budget ≡ budget)
+    → ((pages : Pages) → (rule (decks_site pages) old.world).world.budget ≡ budget)
     → (contents : Option Pages)
-    → IfOver contents old (λ pages. Follows pages (rule pages old.world) new lines)
+    → IfOver contents old (λ site. Follows site.shelf (rule site old.world) new lines)
     → IfOver contents old
-    (λ pages. Follows pages (rule pages old.world) (with_budget budget new) lines)
+    (λ site. Follows site.shelf (rule site old.world) (with_budget budget new) lines)
 budget_follows rule budget old new lines same None so = tt
 budget_follows rule budget old new lines same (Some pages) so = λ is.
     let follows = so is in
-    let world = (rule pages old.world).world in
+    let world = (rule (decks_site pages) old.world).world in
     record {
       leads = ap (λ (one : World). record one { budget = budget }) follows.leads
           ∙ ap (λ (count : ℕ). record world { budget = count }) (sym (same pages));
@@ -137,9 +141,9 @@ budget_follows rule budget old new lines same (Some pages) so = λ is.
     }
 
 -- a rule that keeps the turns that each key has
-pub Acts-budget : (rule : Pages → World → Step) (budget : ℕ) (before after : Seen)
+pub Acts-budget : (rule : Site → World → Step) (budget : ℕ) (before after : Seen)
     (old new : Browser)
-    → ((pages : Pages) → (rule pages old.world).world.budget ≡ budget)
+    → ((pages : Pages) → (rule (decks_site pages) old.world).world.budget ≡ budget)
     → (result : Result (List (List ℕ)) RunErr)
     → Acts rule before after old new result
     → Acts rule before after old (with_budget budget new) result

@@ -9,7 +9,8 @@ use Rattle.wap_cardrules.specs.declared.answers.Entered.TheVariants as entered
 use Rattle.wap_cardrules.specs.declared.answers.Chosen.TheVariants as chosen
 use Rattle.wap_cardrules.specs.declared.task.Task.{Task}
 use Rattle.wap_cardrules.specs.Entering.{TextEntered, enter_text, OptionChosen, none_chosen, choose}
-use Rattle.wap_site.specs.Pages.{Pages}
+use Rattle.wap_world.specs.Shelves.{Shelf}
+use Rattle.wap_world.specs.Sites.{Site}
 use Rattle.wap_world.specs.World.{World, Place, place_now}
 use Rattle.wap_world.specs.Steps.{Scene, Step}
 use Rattle.wap_world.specs.Setting.{fault_lines}
@@ -28,42 +29,42 @@ typed_at world n text place =
     option_map_or (λ (one : Place). enter_text world.vars one.card n text) place
     (record { vars = world.vars; answer = entered.NoInput })
 
-typed_by : (pages : Pages) (world : World) (n : ℕ) (text : List ℕ) (place : Option Place)
-    → option_map_or (λ (one : Place). type_text pages n text one world) place (ignored world)
-    ≡ after_text pages (record world { vars = (typed_at world n text place).vars })
+typed_by : (shelf : Shelf) (world : World) (n : ℕ) (text : List ℕ) (place : Option Place)
+    → option_map_or (λ (one : Place). type_text shelf n text one world) place (ignored world)
+    ≡ after_text shelf (record world { vars = (typed_at world n text place).vars })
     (typed_at world n text place).answer
-typed_by pages world n text None = refl
-typed_by pages world n text (Some place) = refl
+typed_by shelf world n text None = refl
+typed_by shelf world n text (Some place) = refl
 
-typed_now : (pages : Pages) (browser : Browser) (n : ℕ) (text : List ℕ) → IsOver pages browser
-    → typed n text pages browser.world
-    ≡ after_text pages (with_vars (typed_in browser n text).vars browser).world
+typed_now : (shelf : Shelf) (browser : Browser) (n : ℕ) (text : List ℕ) → IsOver shelf browser
+    → typed n text shelf browser.world
+    ≡ after_text shelf (with_vars (typed_in browser n text).vars browser).world
     (typed_in browser n text).answer
-typed_now pages browser n text is =
-    typed_by pages browser.world n text (place_now pages browser.world)
-    ∙ ap (λ (place : Option Place). after_text pages
+typed_now shelf browser n text is =
+    typed_by shelf browser.world n text (place_now shelf browser.world)
+    ∙ ap (λ (place : Option Place). after_text shelf
     (record browser.world { vars = (typed_at browser.world n text place).vars })
-    (typed_at browser.world n text place).answer) (held_now pages browser is)
+    (typed_at browser.world n text place).answer) (held_now shelf browser is)
 
 -- what is shown after the answer is what the text shows
 pub enters : (old mid new : Browser) (n : ℕ) (text : List ℕ) (answer : Entered)
     (lines : List (List ℕ))
     → mid ≡ with_vars (typed_in old n text).vars old → answer ≡ (typed_in old n text).answer
-    → Shows mid new lines (λ pages world. after_text pages world answer)
+    → Shows mid new lines (λ shelf world. after_text shelf world answer)
     → Shows old new lines (typed n text)
 enters old mid new n text answer lines set is shows =
     let first = with_vars (typed_in old n text).vars old in
-    let so : Shows first new lines (λ pages world. after_text pages world answer) =
+    let so : Shows first new lines (λ shelf world. after_text shelf world answer) =
     subst (λ (browser : Browser). Shows browser new lines
-    (λ pages world. after_text pages world answer)) set shows in
-    let same : (pages : Pages) → IsOver pages old
-    → after_text pages first.world answer ≡ typed n text pages old.world =
-    λ pages over. ap (after_text pages first.world) is ∙ sym (typed_now pages old n text over) in
+    (λ shelf world. after_text shelf world answer)) set shows in
+    let same : (shelf : Shelf) → IsOver shelf old
+    → after_text shelf first.world answer ≡ typed n text shelf old.world =
+    λ shelf over. ap (after_text shelf first.world) is ∙ sym (typed_now shelf old n text over) in
     record {
-      world = λ pages over. so.world pages over
-          ∙ ap (λ (scene : Scene). scene.world) (same pages over);
-      tells = λ pages over. so.tells pages over
-          ∙ ap (λ (scene : Scene). scene.lines) (same pages over);
+      world = λ shelf over. so.world shelf over
+          ∙ ap (λ (scene : Scene). scene.world) (same shelf over);
+      tells = λ shelf over. so.tells shelf over
+          ∙ ap (λ (scene : Scene). scene.lines) (same shelf over);
       over = so.over;
     }
 
@@ -73,39 +74,39 @@ abbrev chosen_at : World → (n m : ℕ) → Option Place → OptionChosen
 chosen_at world n m place =
     option_map_or (λ (one : Place). choose world.vars one.card n m) place (none_chosen world.vars)
 
-chosen_by : (pages : Pages) (world : World) (n m : ℕ) (place : Option Place)
-    → at_card [] world (λ (one : Place). choose_option pages [] n m one world) place
-    ≡ after_choice pages [] (record world { vars = (chosen_at world n m place).vars })
+chosen_by : (site : Site) (world : World) (n m : ℕ) (place : Option Place)
+    → at_card [] world (λ (one : Place). choose_option site [] n m one world) place
+    ≡ after_choice site [] (record world { vars = (chosen_at world n m place).vars })
     (chosen_at world n m place).answer
-chosen_by pages world n m None = refl
-chosen_by pages world n m (Some place) = refl
+chosen_by site world n m None = refl
+chosen_by site world n m (Some place) = refl
 
-chosen_now : (pages : Pages) (browser : Browser) (n m : ℕ) → IsOver pages browser
-    → apply pages [] browser.world (key.Choose n m)
-    ≡ after_choice pages [] (with_vars (chosen_in browser n m).vars browser).world
+chosen_now : (site : Site) (browser : Browser) (n m : ℕ) → IsOver site.shelf browser
+    → apply site [] browser.world (key.Choose n m)
+    ≡ after_choice site [] (with_vars (chosen_in browser n m).vars browser).world
     (chosen_in browser n m).answer
-chosen_now pages browser n m is =
-    chosen_by pages browser.world n m (place_now pages browser.world)
-    ∙ ap (λ (place : Option Place). after_choice pages []
+chosen_now site browser n m is =
+    chosen_by site browser.world n m (place_now site.shelf browser.world)
+    ∙ ap (λ (place : Option Place). after_choice site []
     (record browser.world { vars = (chosen_at browser.world n m place).vars })
-    (chosen_at browser.world n m place).answer) (held_now pages browser is)
+    (chosen_at browser.world n m place).answer) (held_now site.shelf browser is)
 
 -- the lines of refused sets, and then the task of onpick or show
 pub chosen_leads : (old mid : Browser) (n m : ℕ) (faults : List VarFault) (task : Option Task)
     → mid ≡ with_vars (chosen_in old n m).vars old
     → chosen.Set faults task ≡ (chosen_in old n m).answer
     → LeadsTo (λ lines. flat_map fault_lines faults ++ lines)
-    (λ told world. act_or (show told world) told [] world task)
-    (λ told world. apply told [] world (key.Choose n m)) mid old
-chosen_leads old mid n m faults task set is pages over =
+    (λ site world. act_or (show site.shelf world) site [] world task)
+    (λ site world. apply site [] world (key.Choose n m)) mid old
+chosen_leads old mid n m faults task set is site over =
     let first = with_vars (chosen_in old n m).vars old in
-    let same : apply pages [] old.world (key.Choose n m)
-    ≡ after_choice pages [] mid.world (chosen.Set faults task) =
-    chosen_now pages old n m over
-    ∙ ap (after_choice pages [] first.world) (sym is)
-    ∙ ap (λ (browser : Browser). after_choice pages [] browser.world (chosen.Set faults task))
+    let same : apply site [] old.world (key.Choose n m)
+    ≡ after_choice site [] mid.world (chosen.Set faults task) =
+    chosen_now site old n m over
+    ∙ ap (after_choice site [] first.world) (sym is)
+    ∙ ap (λ (browser : Browser). after_choice site [] browser.world (chosen.Set faults task))
     (sym set) in (
-      subst (λ (browser : Browser). IsOver pages browser) (sym set) over,
+      subst (λ (browser : Browser). IsOver site.shelf browser) (sym set) over,
       record {
         world = ap (λ (step : Step). step.world) same;
         lines = ap (λ (step : Step). step.lines) same;

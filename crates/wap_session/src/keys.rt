@@ -33,7 +33,7 @@ pub(crate) fn press<P: Pages>(
     key: &Key,
     pages: &mut P,
 ) -> Result<Rows<Text>, RunErr>
-    ensures { Acts (λ told world. apply told [] world key.now)
+    ensures { Acts (λ site world. apply site [] world key.now)
         (P.seen pages.old) (P.seen pages.new) context.old context.new result }
 {
     match key {
@@ -59,7 +59,7 @@ fn act_or_ignore<P: Pages>(
     task: Option<Task>,
     pages: &mut P,
 ) -> Result<Rows<Text>, RunErr>
-    ensures { Acts (λ told world. act_or (ignored world) told [] world task)
+    ensures { Acts (λ site world. act_or (ignored world) site [] world task)
         (P.seen pages.old) (P.seen pages.new) context.old context.new result }
 {
     match task {
@@ -75,7 +75,7 @@ fn act_or_show<P: Pages>(
     task: Option<Task>,
     pages: &mut P,
 ) -> Result<Rows<Text>, RunErr>
-    ensures { Acts (λ told world. act_or (show told world) told [] world task)
+    ensures { Acts (λ site world. act_or (show site.shelf world) site [] world task)
         (P.seen pages.old) (P.seen pages.new) context.old context.new result }
 {
     match task {
@@ -103,7 +103,7 @@ fn run_do<P: Pages>(
     name: &Text,
     pages: &mut P,
 ) -> Result<Rows<Text>, RunErr>
-    ensures { Acts (λ told world. apply told [] world (the_keys.Do name.now))
+    ensures { Acts (λ site world. apply site [] world (the_keys.Do name.now))
         (P.seen pages.old) (P.seen pages.new) context.old context.new result }
 {
     if context.has_card() {
@@ -119,7 +119,7 @@ fn run_do_here<P: Pages>(
     name: &Text,
     pages: &mut P,
 ) -> Result<Rows<Text>, RunErr>
-    ensures { Acts (λ told world. apply told [] world (the_keys.Do name.now))
+    ensures { Acts (λ site world. apply site [] world (the_keys.Do name.now))
         (P.seen pages.old) (P.seen pages.new) context.old context.new result }
 {
     let task = task_of_do(context, alloc, name)?;
@@ -144,7 +144,7 @@ fn follow_link<P: Pages>(
     number: u16,
     pages: &mut P,
 ) -> Result<Rows<Text>, RunErr>
-    ensures { Acts (λ told world. apply told [] world (the_keys.Pick number))
+    ensures { Acts (λ site world. apply site [] world (the_keys.Pick number))
         (P.seen pages.old) (P.seen pages.new) context.old context.new result }
 {
     let task = task_of_link(context, alloc, number)?;
@@ -157,7 +157,7 @@ fn go_back<P: Pages>(
     alloc: Global,
     pages: &mut P,
 ) -> Result<Rows<Text>, RunErr>
-    ensures { Acts (λ told world. apply told [] world the_keys.Back)
+    ensures { Acts (λ site world. apply site [] world the_keys.Back)
         (P.seen pages.old) (P.seen pages.new) context.old context.new result }
 {
     if context.has_card() {
@@ -169,7 +169,7 @@ fn go_back<P: Pages>(
 /// A refusal, and then the screen of the current card alone.
 fn then_screen(context: &Context, alloc: Global, refusal: Refusal) -> Result<Rows<Text>, NoMemory>
     ensures { IfOk result (λ lines. Shows context.now context.now lines
-        (λ told world. behind (refusal_line refusal ∷ []) (show_screen told world))) }
+        (λ shelf world. behind (refusal_line refusal ∷ []) (show_screen shelf world))) }
 {
     let mut lines = refusal_lines(alloc, refusal)?;
     add_lines(&mut lines, context.screen(alloc)?)?;
@@ -179,7 +179,7 @@ fn then_screen(context: &Context, alloc: Global, refusal: Refusal) -> Result<Row
 /// A refusal, and then the current card.
 fn refuse(context: &mut Context, alloc: Global, refusal: Refusal) -> Result<Rows<Text>, NoMemory>
     ensures { IfOk result (λ lines. Shows context.old context.new lines
-        (λ told world. refuse told refusal world)) }
+        (λ shelf world. refuse shelf refusal world)) }
 {
     let mut lines = refusal_lines(alloc, refusal)?;
     add_lines(&mut lines, context.show(alloc)?)?;
@@ -211,7 +211,7 @@ fn choose_option<P: Pages>(
     option: u16,
     pages: &mut P,
 ) -> Result<Rows<Text>, RunErr>
-    ensures { Acts (λ told world. apply told [] world (the_keys.Choose field option))
+    ensures { Acts (λ site world. apply site [] world (the_keys.Choose field option))
         (P.seen pages.old) (P.seen pages.new) context.old context.new result }
 {
     match context.choose(alloc, field, option)? {

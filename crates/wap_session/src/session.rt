@@ -82,7 +82,7 @@ impl Session {
         key: &Key,
         pages: &mut P,
     ) -> Result<Rows<Text>, SessionFault>
-        ensures plays { Plays (λ told world. react told key.now [] world)
+        ensures plays { Plays (λ site world. react site key.now [] world)
             (P.seen pages.old) (P.seen pages.new) self.old self.new result }
         ensures shown { IfOk result
             (ShowsOn key.now (P.seen pages.old).contents self.old self.new) }
@@ -125,7 +125,7 @@ impl Session {
         keys: &[Key],
         pages: &mut P,
     ) -> Result<Rows<Text>, SessionFault>
-        ensures { Plays (λ told world. played told keys.now world)
+        ensures { Plays (λ site world. played site keys.now world)
             (P.seen pages.old) (P.seen pages.new) self.old self.new result }
     {
         if self.is_over {

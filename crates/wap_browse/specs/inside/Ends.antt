@@ -8,7 +8,8 @@ use Rattle.wap_keys.specs.declared.fault.KeyFault.TheVariants as key
 use Rattle.wap_keys.specs.declared.ending.Ending.TheVariants as ending
 use Rattle.wap_keys.specs.Lines.{keys_of, keys_at}
 use Rattle.wap_keys.specs.Read.{AreFirst, keys_among, rose, IsPrompt, TakesAtMost, AtMostOnce}
-use Rattle.wap_site.specs.Pages.{Pages}
+use Rattle.wap_world.specs.Sites.{Site}
+use Rattle.wap_world.specs.Decks.{decks_site}
 use Rattle.wap_site.specs.Asking.{Stays}
 use Rattle.wap_world.specs.Sessions.{Begun, transcript}
 use Rattle.wap_status.specs.declared.status.Status.{Status}
@@ -37,23 +38,23 @@ EndsSo TooManyKeys bytes taken rest given =
     × (keys_of bytes ≡ record { keys = given; ending = ending.TooManyKeys })
 
 -- so much was written
-abbrev pub ShowsTo : Status → Pages → Begun → List Key → Outside → Outside → Type 0
-ShowsTo Done pages begun given old new = IsPlayed pages begun given old new
-ShowsTo Usage pages begun given old new = ⊥
-ShowsTo (Refused fault) pages begun given old new = ⊥
-ShowsTo StoreFault pages begun given old new = StopsAtStore pages begun given old new
-ShowsTo KeyReadFault pages begun given old new = IsPlayed pages begun given old new
-ShowsTo WriteFault pages begun given old new = StopsAtSink pages begun given old new
-ShowsTo NoMemory pages begun given old new = StopsForMemory pages begun given old new
-ShowsTo (BadKey line fault) pages begun given old new = IsPlayed pages begun given old new
-ShowsTo TooManyKeys pages begun given old new = IsPlayed pages begun given old new
+abbrev pub ShowsTo : Status → Site → Begun → List Key → Outside → Outside → Type 0
+ShowsTo Done site begun given old new = IsPlayed site begun given old new
+ShowsTo Usage site begun given old new = ⊥
+ShowsTo (Refused fault) site begun given old new = ⊥
+ShowsTo StoreFault site begun given old new = StopsAtStore site begun given old new
+ShowsTo KeyReadFault site begun given old new = IsPlayed site begun given old new
+ShowsTo WriteFault site begun given old new = StopsAtSink site begun given old new
+ShowsTo NoMemory site begun given old new = StopsForMemory site begun given old new
+ShowsTo (BadKey line fault) site begun given old new = IsPlayed site begun given old new
+ShowsTo TooManyKeys site begun given old new = IsPlayed site begun given old new
 
--- what was written over these pages
-pub record Written (status : Status) (pages : Pages) (begun : Begun) (bytes : List ℕ)
+-- what was written over this site
+pub record Written (status : Status) (site : Site) (begun : Begun) (bytes : List ℕ)
     (given : List Key) (old new : Outside) : Type 0 where
   pub prefix : AppendsPrefix old.sink.written new.sink.written
-      (transcript pages begun (keys_of bytes).keys)
-  pub shows : ShowsTo status pages begun given old new
+      (transcript site begun (keys_of bytes).keys)
+  pub shows : ShowsTo status site begun given old new
 
 -- what a source with these bytes gave
 pub record Comes (begun : Begun) (bytes : List ℕ) (old new : Outside) (status : Status) : Type 0
@@ -67,7 +68,7 @@ pub record Comes (begun : Begun) (bytes : List ℕ) (old new : Outside) (status 
     pub prompt : IsPrompt taken given
     pub ends : EndsSo status bytes taken rest given
     pub written : IfSome old.pages.contents
-        (λ pages. Written status pages begun bytes given old new)
+        (λ pages. Written status (decks_site pages) begun bytes given old new)
 
 -- out of memory is no fault of a line
 abbrev pub IsOfLine : Status → Type 0

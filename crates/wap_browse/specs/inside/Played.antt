@@ -4,8 +4,9 @@ use Rattle.wap_base.specs.Count.{Rose}
 use Rattle.wap_devices.specs.Sinks.{SinkSeen}
 use Rattle.wap_devices.specs.Transfer.{Appends, AppendsPrefix}
 use Rattle.wap_input.specs.declared.key.Key.{Key}
-use Rattle.wap_site.specs.Pages.{Pages}
 use Rattle.wap_site.specs.Asking.{Seen, Stays, Asks, Fails}
+use Rattle.wap_world.specs.Shelves.{Shelf}
+use Rattle.wap_world.specs.Sites.{Site}
 use Rattle.wap_world.specs.Lines.{lines_bytes}
 use Rattle.wap_world.specs.Steps.{Step}
 use Rattle.wap_world.specs.Keys.{react}
@@ -24,14 +25,14 @@ pub record Moment : Type 0 where
   pub sink : SinkSeen
 
 -- a fact of a key's step, where the pages are known and have the deck
-abbrev pub IfKnown : Key → Moment → (Pages → Step → Type 0) → Type 0
+abbrev pub IfKnown : Key → Moment → (Site → Step → Type 0) → Type 0
 IfKnown key old Fact = IfOver old.pages.contents old.state.browser
-    (λ pages. Fact pages (react pages key [] old.state.browser.world))
+    (λ site. Fact site (react site key [] old.state.browser.world))
 
 -- a step that was played, and its lines written
-pub record Leads (pages : Pages) (step : Step) (old new : Moment) : Type 0 where
+pub record Leads (shelf : Shelf) (step : Step) (old new : Moment) : Type 0 where
   pub world : new.state.browser.world ≡ step.world
-  pub over : IsOver pages new.state.browser
+  pub over : IsOver shelf new.state.browser
   pub asks : Asks step.asked old.pages new.pages
   pub wrote : Appends old.sink.written new.sink.written (lines_bytes (shown_by step))
 
@@ -44,7 +45,7 @@ pub record LeadsPart (step : Step) (old new : Moment) : Type 0 where
 
 -- the key was played, and its lines were written
 pub record GoesOn (key : Key) (old new : Moment) : Type 0 where
-  pub leads : IfKnown key old (λ pages step. Leads pages step old new)
+  pub leads : IfKnown key old (λ site step. Leads site.shelf step old new)
   pub ready : new.state.is_over ≡ false
   pub stays : Stays old.pages new.pages
   pub steady : new.pages.faults ≡ old.pages.faults
@@ -53,13 +54,13 @@ pub record GoesOn (key : Key) (old new : Moment) : Type 0 where
 -- the store failed, and nothing was written
 pub record FailsAtStore (key : Key) (old new : Moment) : Type 0 where
   pub rose : Rose old.pages.faults new.pages.faults
-  pub missed : IfKnown key old (λ pages step. Fails step.asked old.pages new.pages)
+  pub missed : IfKnown key old (λ site step. Fails step.asked old.pages new.pages)
   pub unwritten : new.sink ≡ old.sink
   pub stays : Stays old.pages new.pages
 
 -- the sink failed
 pub record FailsAtSink (key : Key) (old new : Moment) : Type 0 where
-  pub leads : IfKnown key old (λ pages step. LeadsPart step old new)
+  pub leads : IfKnown key old (λ site step. LeadsPart step old new)
   pub rose : Rose old.sink.faults new.sink.faults
   pub counts : old.sink.faults ≤ new.sink.faults
   pub stays : Stays old.pages new.pages

@@ -3,7 +3,7 @@ use Rattle.std.specs.Prelude.{ℕ, []}
 use Rattle.wap_base.specs.declared.fault.RunErr.{RunErr}
 use Rattle.wap_base.specs.declared.fault.RunErr.TheVariants as run
 use Rattle.wap_input.specs.declared.key.Key.{Key}
-use Rattle.wap_site.specs.Pages.{Pages}
+use Rattle.wap_world.specs.Sites.{Site}
 use Rattle.wap_world.specs.World.{World}
 use Rattle.wap_world.specs.Steps.{Step}
 use Rattle.wap_world.specs.Keys.{react}
@@ -17,8 +17,8 @@ abbrev pub as_shown : Step → Step
 as_shown step = record step { lines = shown_by step }
 
 -- what a key comes to and shows
-abbrev pub turn_of : Key → Pages → World → Step
-turn_of one pages world = as_shown (react pages one [] world)
+abbrev pub turn_of : Key → Site → World → Step
+turn_of one site world = as_shown (react site one [] world)
 
 -- a browser whose keys have so many turns
 abbrev pub with_budget : ℕ → Browser → Browser

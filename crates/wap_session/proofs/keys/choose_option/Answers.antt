@@ -25,8 +25,8 @@ returns-in_err-act_or_show-in-Set g c =
     let p = err_from_is_err_and c.from_residual-in_err-act_or_show-in-Set.result
     c.from_residual-in_err-act_or_show-in-Set.ensures.1 in
     rw (p.1, p.2) (Acts-err (λ lines. flat_map fault_lines c.in-Set.faults ++ lines)
-    (λ told world. act_or (show told world) told [] world c.in-Set.task)
-    (λ told world. apply told [] world (key.Choose c.args.field c.args.option))
+    (λ site world. act_or (show site.shelf world) site [] world c.in-Set.task)
+    (λ site world. apply site [] world (key.Choose c.args.field c.args.option))
     (g.P.Pages.seen c.args.pages.now) (g.P.Pages.seen c.act_or_show.new.pages)
     c.choose.new.self c.args.context.now c.act_or_show.new.context leads
     c.in_err-act_or_show-in-Set.field-0.0 c.in_err-act_or_show-in-Set.ensures)
@@ -38,8 +38,8 @@ returns-in_ok-add_lines-in-Set g c =
     c.in_ok-choose.ensures.vars (sym c.in-Set.is ∙ c.in_ok-choose.ensures.answer) in
     let more = c.in_ok-act_or_show-in-Set.field-0 in
     Acts-ok (λ lines. flat_map fault_lines c.in-Set.faults ++ lines)
-    (λ told world. act_or (show told world) told [] world c.in-Set.task)
-    (λ told world. apply told [] world (key.Choose c.args.field c.args.option))
+    (λ site world. act_or (show site.shelf world) site [] world c.in-Set.task)
+    (λ site world. apply site [] world (key.Choose c.args.field c.args.option))
     (g.P.Pages.seen c.args.pages.now) (g.P.Pages.seen c.act_or_show.new.pages)
     c.choose.new.self c.args.context.now c.act_or_show.new.context leads
     more c.add_lines.new.lines
