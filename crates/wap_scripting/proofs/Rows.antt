@@ -20,8 +20,8 @@ use Rattle.wap_world.specs.Sites.{Site}
 use Rattle.wap_world.specs.Tasks.{request, act, visit}
 use Rattle.wap_world.specs.Keys.{react}
 use Rattle.wap_world.specs.Sessions.{played}
-use Rattle.wap_scripting.specs.Pages.{script}
-use Rattle.wap_scripting.specs.Sites.{units_site}
+use Rattle.wap_scripting.specs.ScriptPages.{script}
+use Rattle.wap_scripting.specs.UnitSites.{units_site}
 
 -- a unit with one function `f`, without arguments and variables
 one_function : List Constant → List Pragma → List ℕ → Unit

@@ -25,8 +25,8 @@ use Rattle.wap_world.specs.Sites.{Site}
 use Rattle.wap_world.specs.Tasks.{request, act, visit}
 use Rattle.wap_world.specs.Keys.{react}
 use Rattle.wap_world.specs.Sessions.{played}
-use Rattle.wap_scripting.specs.Pages.{script}
-use Rattle.wap_scripting.specs.Sites.{units_site}
+use Rattle.wap_scripting.specs.ScriptPages.{script}
+use Rattle.wap_scripting.specs.UnitSites.{units_site}
 
 -- a function without arguments and variables
 code : List ℕ → Code

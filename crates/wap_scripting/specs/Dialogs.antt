@@ -20,7 +20,7 @@ use Rattle.wap_world.specs.Steps.{Scene, Step, still}
 use Rattle.wap_world.specs.Timers.{store_time}
 use Rattle.wap_world.specs.Screens.{here}
 use Rattle.wap_world.specs.Keys.{ignored}
-use Rattle.wap_scripting.specs.Steps.{with_scene}
+use Rattle.wap_scripting.specs.Additions.{with_scene}
 
 -- the line of a dialog
 abbrev pub dialog_line : Dialog → List ℕ
@@ -91,7 +91,7 @@ tick_waiting shelf n (Running time) world =
 tick_waiting shelf n Off world = ignored world
 tick_waiting shelf n Expired world = ignored world
 
--- what a key does that leaves the dialog
+-- what a key does that is no answer; the dialog stays open
 abbrev pub meanwhile : Shelf → Key → World → Scene
 meanwhile shelf (key.Open url) world = ignored world
 meanwhile shelf (key.Do name) world = ignored world

@@ -1,12 +1,12 @@
--- What a key does without further keys, and what it leaves to these: all that a browser knows which
--- is fed one key after the other. This project's own.
+-- What one key does in a session that is fed key by key: what is done without further keys, and the
+-- dialog that these have to answer. This project's own.
 use Rattle.std.specs.Prelude.{◌≡◌, ⊤, ℕ, List, [], ◌∷◌, Option, Some, None}
 use Rattle.wap_input.specs.declared.key.Key.{Key}
 use Rattle.wap_world.specs.World.{World}
 use Rattle.wap_world.specs.Steps.{Step, still, quiet, joined}
 use Rattle.wap_world.specs.Sites.{Call}
 use Rattle.wap_world.specs.Keys.{react}
-use Rattle.wap_scripting.specs.Sites.{Pages, units_site}
+use Rattle.wap_scripting.specs.UnitSites.{Pages, units_site}
 use Rattle.wap_scripting.specs.Waiting.{Waits, State, left_over, resumed_step, played_from}
 
 -- what was done, and what waits

@@ -13,7 +13,7 @@ use Rattle.wap_world.specs.Shelves.{Shelf}
 use Rattle.wap_world.specs.World.{World}
 use Rattle.wap_world.specs.Steps.{Scene, Step, Once, still, quiet, settled, after_step}
 use Rattle.wap_world.specs.Starting.{in_world, ended_script}
-use Rattle.wap_scripting.specs.Sites.{Pages, shelf_of, host_of, keyed_host, ran_of}
+use Rattle.wap_scripting.specs.UnitSites.{Pages, shelf_of, host_of, keyed_host, ran_of}
 use Rattle.wap_scripting.specs.Waiting.{Waits, resumed_once}
 
 -- a navigation before any key is read: all of it, or what was done until a dialog, which waits

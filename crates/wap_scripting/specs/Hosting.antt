@@ -27,13 +27,15 @@ use Rattle.wap_execution.specs.Outcomes.{HostingOf}
 use Rattle.wap_world.specs.Urls.{target_of}
 use Rattle.wap_world.specs.Requests.{plain_get, test_of}
 use Rattle.wap_world.specs.Sites.{External}
-use Rattle.wap_scripting.specs.Steps.{with_test, with_world, asking_for}
+use Rattle.wap_world.specs.Starting.{in_world}
+use Rattle.wap_scripting.specs.Additions.{with_test, with_request}
 use Rattle.wap_scripting.specs.Browsing.{on_text, wml_browser, dialogs}
 use Rattle.wap_scripting.specs.Loading.{load_string, get_base, get_referer}
 
 -- ---- external calls
 
--- a function that is called with so many arguments, where so many functions are at work
+-- a function that may be entered: refused where there is none, where it takes another number of
+-- arguments, and where as many functions as may be are at work, in this order
 abbrev pub callable : {U : Type 0} → U → Url → ℕ → ℕ → ℕ → Option External → Found U
 callable code url count depth working None = Not fatal.NoFunction
 callable code url count depth working (Some one) =
@@ -67,7 +69,7 @@ module _ {U : Type 0} (shelf : Shelf) (externals : List ℕ → List ℕ → Opt
   -- the page is asked for, where the target can be one
   abbrev pub found_at : Url → List ℕ → ℕ → ℕ → Step → Result Url Refusal → Found U × Step
   found_at caller function count working step (Ok url) =
-      found_under caller url function count working (asking_for (plain_get url) step)
+      found_under caller url function count working (with_request (plain_get url) step)
       (shelf (name_for url))
   found_at caller function count working step (Err why) = (Not fatal.NoUnit, step)
 
@@ -90,7 +92,7 @@ abbrev pub pure_call : ℕ → ℕ → List Value → Step → HostOut × Step
 pure_call library function arguments step =
     let world = step.world in (
       pure_out (outcome world.limits.string library function arguments world.generator),
-      with_world (record world {
+      in_world (record world {
         generator = generator_after library function arguments world.generator;
       }) step,
     )
@@ -107,7 +109,7 @@ kept string (out.Exit v) = out.Exit v
 kept string (out.Fatal why) = out.Fatal why
 kept string (out.Asks dialog) = out.Asks dialog
 
--- in the state after the call
+-- what a call gives, by the limit of Strings
 abbrev pub within : HostOut × Step → HostOut × Step
 within gave = (kept gave.1.world.limits.string gave.0, gave.1)
 

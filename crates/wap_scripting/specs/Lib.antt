@@ -1,11 +1,11 @@
 pub mod Units
-pub mod Steps
+pub mod Additions
 pub mod Dialogs
 pub mod Browsing
 pub mod Loading
 pub mod Hosting
-pub mod Pages
-pub mod Sites
+pub mod ScriptPages
+pub mod UnitSites
 pub mod Waiting
 pub mod Halves
 pub mod Feeding

@@ -18,7 +18,7 @@ use Rattle.wap_world.specs.Shelves.{no_page}
 use Rattle.wap_world.specs.Steps.{Step}
 use Rattle.wap_world.specs.Urls.{page_url}
 use Rattle.wap_world.specs.Requests.{plain_get}
-use Rattle.wap_scripting.specs.Steps.{asking_for}
+use Rattle.wap_scripting.specs.Additions.{with_request}
 use Rattle.wap_scripting.specs.Browsing.{gives}
 
 -- the page is no text
@@ -42,7 +42,7 @@ abbrev pub loaded : Shelf → Url → Step → HostOut × Step
 loaded shelf url step =
     let name = name_for url in
     gives (if ends_with nat_eq name (codes ".txt") then text_in (shelf name) else not_acceptable)
-    (asking_for (plain_get url) step)
+    (with_request (plain_get url) step)
 
 -- the URL is one of a page, or there is no value
 abbrev pub load_at : Shelf → Result Url Refusal → Step → HostOut × Step

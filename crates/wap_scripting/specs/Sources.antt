@@ -1,54 +1,24 @@
 -- The site of decks, units and sources, where units and sources call each other. A source means
 -- what its program means, and has no frames that wait. Programs are any type here, with what one of
 -- their functions comes to by what its calls come to (WAP-193, sections 6 and 10).
-use Rattle.std.specs.Prelude.{◌≡◌, ◌≤◌, ℕ, zero, suc, ◌-◌, ◌==◌, if◌then◌else◌, List, map, length}
-use Rattle.std.specs.Prelude.{Option, Some, None}
+use Rattle.std.specs.Prelude.{◌≡◌, ℕ, zero, suc, ◌-◌, List, map, Option}
 use Rattle.wap_base.specs.declared.limits.TheConstants.{MOST_DEPTH}
 use Rattle.wap_url.specs.declared.url.Url.{Url}
 use Rattle.wap_value.specs.declared.value.Value.{Value}
 use Rattle.wap_code.specs.declared.unit.Unit.{Unit}
-use Rattle.wap_code.specs.declared.unit.Code.{Code}
 use Rattle.wap_execution.specs.declared.fatal.Fatal.TheVariants.{Depth}
-use Rattle.wap_execution.specs.Frames.{FunctionOf, Function, code_at, begun}
-use Rattle.wap_execution.specs.Effects.{Called}
-use Rattle.wap_execution.specs.Outcomes.{fatal, stuck, Ended, SettingOf}
-use Rattle.wap_execution.specs.Running.{ended, EnterOf, Calls, Ways, called, goes}
-use Rattle.wap_execution_laws.specs.Forgetting.{forgotten}
+use Rattle.wap_execution.specs.Frames.{FunctionOf}
+use Rattle.wap_execution.specs.Outcomes.{fatal, Ended, SettingOf}
+use Rattle.wap_execution.specs.Running.{ended, EnterOf, Calls, called}
+use Rattle.wap_meaning.specs.Functions.{unit_runs}
+use Rattle.wap_meaning.specs.Keeping.{GiveNoTurns}
 use Rattle.wap_world.specs.Shelves.{Entrance}
 use Rattle.wap_world.specs.Steps.{Step}
 use Rattle.wap_world.specs.Sites.{External, Call, Ran, Site}
 use Rattle.wap_scripting.specs.Units.{entrance_in, external_in}
-use Rattle.wap_scripting.specs.Pages.{PageOf, deck, script, words, refused, PagesOf, Scripts}
-use Rattle.wap_scripting.specs.Pages.{shelf_by, script_under, externals_by, keyed_by}
-use Rattle.wap_scripting.specs.Sites.{Pages, no_unit, ran_of}
-
--- ---- one function of a unit, by what its calls come to
-
--- where nothing is counted, a frame's run depends on the limit of Strings and on what its calls
--- come to
-abbrev pub plain_ways : {S : Type 0} → ℕ → Calls S → Ways S
-plain_ways string call = record { string = string; tick = λ state. state; call = call }
-
--- a function that is there is entered with as many arguments as it takes, and with others it is
--- stuck
-abbrev pub code_runs : {S : Type 0} → ℕ → Calls S → Function → Option Code → List Value → ℕ → S
-    → Ended S
-code_runs string call function None arguments turns state = ended stuck turns state
-code_runs string call function (Some code) arguments turns state =
-    if length arguments == code.args
-    then goes (plain_ways string call) (begun function code arguments) turns state
-    else ended stuck turns state
-
--- what a function of a unit comes to; which frames wait is forgotten, since sources have none
-abbrev pub unit_runs : {S : Type 0} → ℕ → Calls S → Function → List Value → ℕ → S → Ended S
-unit_runs string call function arguments turns state =
-    forgotten (code_runs string call function (code_at function) arguments turns state)
-
--- no call gives turns back
-abbrev pub GiveNoTurns : {S : Type 0} → Calls S → Type 0
-GiveNoTurns {S} call =
-    (callee : Called) (arguments : List Value) (turns : ℕ) (state : S)
-    → (call callee arguments turns state).turns ≤ turns
+use Rattle.wap_scripting.specs.ScriptPages.{PageOf, deck, script, words, refused, PagesOf, Scripts}
+use Rattle.wap_scripting.specs.ScriptPages.{shelf_by, script_under, externals_by, keyed_by}
+use Rattle.wap_scripting.specs.UnitSites.{Pages, no_unit, ran_of}
 
 -- ---- programs
 

@@ -13,7 +13,7 @@ use Rattle.wap_world.specs.declared.history.Entry.{Entry}
 use Rattle.wap_world.specs.World.{World, Place, place_in, place_of, last_entry}
 use Rattle.wap_world.specs.Steps.{Step, still, quiet}
 use Rattle.wap_scripting.specs.Hosting.{hosting}
-use Rattle.wap_scripting.specs.Sites.{Pages, shelf_of, externals_of, unit_under, host_of}
+use Rattle.wap_scripting.specs.UnitSites.{Pages, shelf_of, externals_of, unit_under, host_of}
 
 -- what a cache holds, and how often the store below it was asked
 pub record Counted : Type 0 where
@@ -60,19 +60,19 @@ added view gave = (
 abbrev pub fresh : View → Step
 fresh view = quiet [] (still view.world)
 
--- what a browser does for scripts, seen so: what a step would gain, the view gains
+-- what a browser does for scripts over the pages that it sees, with the deck at hand
+abbrev pub host_at : View → Hosting Step
+host_at view =
+    hosting (shelf_of view.pages) (place_with view.deck) (externals_of view.pages)
+    (unit_under view.pages)
+
+-- the same, seen so: what a step would gain, the view gains
 abbrev pub viewing : Hosting View
 viewing = record {
   external = λ view caller url name count working.
-      let shelf = shelf_of view.pages in
-      let host = hosting shelf (place_with view.deck) (externals_of view.pages)
-      (unit_under view.pages) in
-      added view (host.external (fresh view) caller url name count working);
+      added view ((host_at view).external (fresh view) caller url name count working);
   library = λ view base referer number index arguments.
-      let shelf = shelf_of view.pages in
-      let host = hosting shelf (place_with view.deck) (externals_of view.pages)
-      (unit_under view.pages) in
-      added view (host.library (fresh view) base referer number index arguments);
+      added view ((host_at view).library (fresh view) base referer number index arguments);
 }
 
 -- ---- the view of a step
@@ -100,7 +100,7 @@ IsAtHand pages deck entry =
     option_and_then (place_of (shelf_of pages)) entry
     ≡ option_and_then (λ e. option_and_then (place_in e) deck) entry
 
--- no step, and no view, is one that a call never takes back
+-- neither of them is ever lost, in the sense of `RunAlike`
 abbrev pub NoStep : Step → Type 0
 NoStep step = ⊥
 

@@ -15,12 +15,13 @@ use Rattle.wap_world.specs.Starting.{ended_script}
 use Rattle.wap_world.specs.Tasks.{onward, act}
 use Rattle.wap_world.specs.Sessions.{played}
 use Rattle.wap_scripting.specs.Dialogs.{answered_by}
-use Rattle.wap_scripting.specs.Sites.{Pages, shelf_of, keyed_host, ran_of, units_site}
+use Rattle.wap_scripting.specs.UnitSites.{Pages, shelf_of, keyed_host, ran_of, units_site}
 
 -- a dialog, the frames that go on with its answer within these limits, and the URL of the script
 -- that was started
 pub record Waits : Type 0 where
   pub dialog : Dialog
+  -- those of the world, which no script changes
   pub limits : Limits
   pub frames : List Frame
   pub base : Url

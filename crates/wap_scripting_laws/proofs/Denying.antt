@@ -1,7 +1,8 @@
 -- Two sites whose scripts differ only under names that are always denied.
 use Rattle.std.proofs.Math.Path.{fun_ext}
 use Rattle.std.specs.Prelude.{◌&&◌, ◌||◌}
-use Rattle.std.specs.Option.{option_map_or}
+use Rattle.std.specs.Prelude.{unwrap_or}
+use Rattle.std.proofs.lemmas.List.{append-nil}
 use Rattle.std.proofs.Common.{◌⊎◌, inl, inr, ◌++◌}
 use Rattle.std.proofs.Common.{◌≡◌, ℕ, zero, suc, Bool, true, false, List, [], ◌∷◌, cond, eqb, ltb}
 use Rattle.std.proofs.Common.{Option, Some, None, refl, sym, ap, ◌∙◌, subst, length, ◌-◌}
@@ -60,12 +61,12 @@ use Rattle.wap_world.specs.Tasks.{here_with, stay_or_ask, go, open_url, base_now
 use Rattle.wap_world.specs.Tasks.{task_once, go_on, onward, act_in, act, visit}
 use Rattle.wap_world.specs.Keys.{ignored, act_or, after_choice, choose_option, expire, pass_time}
 use Rattle.wap_world.specs.Keys.{at_card, renewed, apply, react}
-use Rattle.wap_scripting.specs.Steps.{with_scene, asking_for}
+use Rattle.wap_scripting.specs.Additions.{with_scene, with_request}
 use Rattle.wap_scripting.specs.Hosting.{callable, callable_if, found_under, found_at, external_call}
 use Rattle.wap_scripting.specs.Hosting.{library_call, hosting}
 use Rattle.wap_scripting.specs.Units.{external_in}
-use Rattle.wap_scripting.specs.Pages.{script_in}
-use Rattle.wap_scripting.specs.Sites.{no_unit, end_of, ran_of}
+use Rattle.wap_scripting.specs.ScriptPages.{script_in}
+use Rattle.wap_scripting.specs.UnitSites.{no_unit, end_of, ran_of}
 use Rattle.wap_scripting_laws.specs.Denial.{is_entered, DifferWithin, DeniedMatterNot}
 use Rattle.wap_world.proofs.Joining.{joined_nothing}
 use Rattle.wap_world.specs.Access.{may_enter}
@@ -74,8 +75,8 @@ use Rattle.wap_world.specs.Requests.{ask, test}
 use Rattle.wap_execution_laws.specs.Keyed.{keyed}
 use Rattle.wap_scripting.specs.Dialogs.{Reply, answers, ends_it, passes, reply_to, meanwhile}
 use Rattle.wap_scripting.specs.Dialogs.{after_reply, answered_by, by_keys}
-use Rattle.wap_scripting.specs.Sites.{Pages, shelf_of, externals_of, unit_under}
-use Rattle.wap_scripting.specs.Sites.{started_at, units_site}
+use Rattle.wap_scripting.specs.UnitSites.{Pages, shelf_of, externals_of, unit_under}
+use Rattle.wap_scripting.specs.UnitSites.{started_at, units_site}
 use Rattle.wap_scripting_laws.proofs.Plain.{IsPlain, external_plain, library_plain}
 
 module _ (among : List ℕ → Bool) where
@@ -124,6 +125,7 @@ module _ (among : List ℕ → Bool) where
   reply_tests shelf ends_it one keys s later same = refl
   reply_tests shelf passes one keys s later same =
       same (with_scene (meanwhile shelf one s.world) (record s { keys = keys }))
+      ∙ append-nil s.tests
 
   answered_tests : (shelf : Shelf) (dialog : Dialog) (keys : List Key) (s : Step)
       → (answered_by shelf dialog keys s).1.tests ≡ s.tests
@@ -233,7 +235,7 @@ module _ (among : List ℕ → Bool) where
         → Alike (found_at shelf externals code caller function count working s r)
         (found_at shelf externals' code' caller function count working s r)
     at_alike caller function count working s (Ok url) =
-        under_alike caller url function count working (asking_for (plain_get url) s)
+        under_alike caller url function count working (with_request (plain_get url) s)
         (shelf (name_for url))
     at_alike caller function count working s (Err why) = inl (refl, refl)
 
@@ -608,7 +610,7 @@ module _ (among : List ℕ → Bool) where
 
       codes_are : (name : List ℕ) → among name ≡ false → unit_under one name ≡ unit_under other name
       codes_are name outside =
-          ap (λ page. option_map_or (λ (u : CodeUnit). u) (script_in page) no_unit)
+          ap (λ page. unwrap_or (script_in page) no_unit)
           (differ.pages name outside)
 
       names_are : (name function : List ℕ) → among name ≡ false

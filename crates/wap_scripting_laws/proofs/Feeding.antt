@@ -18,7 +18,7 @@ use Rattle.wap_world.specs.Starting.{ended_script}
 use Rattle.wap_world.specs.Tasks.{go_on, onward, act}
 use Rattle.wap_world.specs.Sessions.{played_in, played}
 use Rattle.wap_scripting.specs.Dialogs.{answered_by}
-use Rattle.wap_scripting.specs.Sites.{Pages, shelf_of, keyed_host, ran_of, units_site}
+use Rattle.wap_scripting.specs.UnitSites.{Pages, shelf_of, keyed_host, ran_of, units_site}
 use Rattle.wap_scripting.specs.Waiting.{Waits, State, inside, resumed_once, resumed_step, left_over}
 use Rattle.wap_scripting.specs.Waiting.{played_from}
 use Rattle.wap_scripting.specs.Feeding.{Fed, Means, turned, Turns, Feeds, AreFed, after_fed}

@@ -33,12 +33,12 @@ use Rattle.wap_world.specs.Sites.{Call}
 use Rattle.wap_world.proofs.Entries.{last_none}
 use Rattle.wap_world_laws.specs.Scripts.{GivesNoTurns, MakesNoKeys, ScriptsKeep}
 use Rattle.wap_world_laws.specs.Standing.{StandsOnCard}
-use Rattle.wap_scripting.specs.Steps.{with_scene}
+use Rattle.wap_scripting.specs.Additions.{with_scene}
 use Rattle.wap_scripting.specs.Dialogs.{Reply, answers, ends_it, passes, reply_to, meanwhile}
 use Rattle.wap_scripting.specs.Dialogs.{run_out, tick_waiting, after_reply, answered_by, by_keys}
-use Rattle.wap_scripting.specs.Sites.{Pages, shelf_of, externals_of, unit_under, host_of}
-use Rattle.wap_scripting.specs.Sites.{keyed_host}
-use Rattle.wap_scripting.specs.Sites.{started_at, units_site}
+use Rattle.wap_scripting.specs.UnitSites.{Pages, shelf_of, externals_of, unit_under, host_of}
+use Rattle.wap_scripting.specs.UnitSites.{keyed_host}
+use Rattle.wap_scripting.specs.UnitSites.{started_at, units_site}
 use Rattle.wap_scripting_laws.proofs.Plain.{IsPlain, external_plain, library_plain}
 
 -- ---- keys

@@ -1,7 +1,7 @@
 -- What the host does for a script hangs neither on the keys that are left nor on what stands before
 -- the step, and it takes no turn.
-use Rattle.std.proofs.Common.{◌≡◌, ℕ, zero, suc, Bool, true, false, List, [], ◌∷◌, ◌++◌, cond, eqb}
-use Rattle.std.proofs.Common.{Option, Some, None, refl, ap, ◌∙◌, append_assoc, nat_eq}
+use Rattle.std.proofs.Common.{◌≡◌, ℕ, Bool, true, false, List, [], ◌∷◌, cond, eqb}
+use Rattle.std.proofs.Common.{Option, Some, None, refl, ap, ◌∙◌, nat_eq, slice_get}
 use Rattle.std.specs.Prelude.{Result, Ok, Err}
 use Rattle.std.specs.List.{starts_with, ends_with}
 use Rattle.std.specs.Prelude.{codes}
@@ -22,7 +22,7 @@ use Rattle.wap_cardrules.specs.declared.task.Task.{Task}
 use Rattle.wap_execution.specs.declared.library.HostOut.{HostOut}
 use Rattle.wap_execution.specs.declared.library.HostOut.TheVariants as out
 use Rattle.wap_execution.specs.declared.dialog.Dialog.{Dialog}
-use Rattle.wap_execution.specs.declared.dialog.Dialog.TheVariants.{Prompt, Confirm, Alert}
+use Rattle.wap_execution.specs.declared.dialog.Dialog.TheVariants as dialog
 use Rattle.std.specs.Option.{option_to_list}
 use Rattle.wap_library.specs.Outcome.{outcome, generator_after}
 use Rattle.wap_world.specs.World.{last_entry}
@@ -37,21 +37,24 @@ use Rattle.wap_world.specs.declared.refusal.Refusal.{Refusal}
 use Rattle.wap_world.specs.Shelves.{Shelf, Shelved, deck_page, script_page, text_page, refused_page}
 use Rattle.wap_world.specs.Shelves.{no_page}
 use Rattle.wap_world.specs.World.{World, Place}
-use Rattle.wap_world.specs.Steps.{Step, joined}
+use Rattle.wap_world.specs.Steps.{Step, still, behind, quiet, joined}
 use Rattle.wap_world.specs.History.{KeepsToLimit}
 use Rattle.std.proofs.Common.{arith, length, ◌≤◌}
 use Rattle.wap_world.specs.Urls.{target_of, page_url}
-use Rattle.wap_world.specs.Requests.{Request, request_line, plain_get, test_of}
+use Rattle.wap_world.specs.Requests.{Request, ask, test, plain_get, test_of}
 use Rattle.wap_world.specs.Sites.{External}
-use Rattle.wap_scripting.specs.Steps.{asking_for}
-use Rattle.wap_scripting.specs.Browsing.{gives, on_text, get_var, set_by, pends, pending_go}
-use Rattle.wap_scripting.specs.Browsing.{current_card, card_reference, refreshed, wml_browser, asks}
-use Rattle.wap_scripting.specs.Browsing.{dialogs}
+use Rattle.wap_scripting.specs.Additions.{with_lines, with_request}
+use Rattle.wap_scripting.specs.Browsing.{gives, on_text, variable_in, set_by, pends, pending_go}
+use Rattle.wap_scripting.specs.Browsing.{current_card, card_reference, refreshed, BrowserFunction}
+use Rattle.wap_scripting.specs.Browsing.{GetVar, SetVar, Go, Prev, NewContext, GetCurrentCard}
+use Rattle.wap_scripting.specs.Browsing.{Refresh, browser_functions, row_of_browser, wml_browser}
+use Rattle.wap_scripting.specs.Browsing.{asks, DialogFunction, Prompt, Confirm, Alert}
+use Rattle.wap_scripting.specs.Browsing.{dialog_functions, row_of_dialogs, dialogs}
 use Rattle.wap_scripting.specs.Loading.{text_in, not_acceptable, loaded, load_at, load_from}
 use Rattle.wap_scripting.specs.Loading.{load_string, get_base, get_referer}
 use Rattle.wap_scripting.specs.Hosting.{found_under, found_at, external_call, pure_call, within}
 use Rattle.wap_scripting.specs.Hosting.{load_call, url_call, library_call}
-use Rattle.wap_world.proofs.Joining.{before}
+use Rattle.wap_world.proofs.Joining.{before, joined_assoc, or_false}
 
 -- the same answer, with a step before it
 abbrev pub fronted : {A : Type 0} → Step → A × Step → A × Step
@@ -120,13 +123,13 @@ module _ {A : Type 0} where
   }
 
   -- an answer, and lines
-  with_lines : (a : World → A) (l : World → List (List ℕ))
-      → IsPlain (λ s. (a s.world, record s { lines = s.lines ++ l s.world }))
-  with_lines a l = record {
+  lines_more : (a : World → A) (l : World → List (List ℕ))
+      → IsPlain (λ s. (a s.world, with_lines (l s.world) s))
+  lines_more a l = record {
     unread = λ keys s. refl;
-    behind = λ p s i.
-        (a s.world, record (joined p s) { lines = append_assoc p.lines s.lines (l s.world) i });
-    shut = λ s. refl;
+    behind = λ p s. ap (λ (t : Step). (a s.world, t))
+        (joined_assoc p s (quiet s.keys (behind (l s.world) (still s.world))));
+    shut = λ s. or_false s.is_open;
     keys = λ s. refl;
     turns = λ s. refl;
     timer = λ s. refl;
@@ -156,21 +159,18 @@ module _ {A : Type 0} where
 
 -- a page that is asked for, and then a plain row
 asked_then : {A : Type 0} (request : Request) (f : Step → A × Step) → IsPlain f
-    → IsPlain (λ s. f (asking_for request s))
+    → IsPlain (λ s. f (with_request request s))
 asked_then request f plain = record {
-  unread = λ keys s. plain.unread keys (asking_for request s);
+  unread = λ keys s. plain.unread keys (with_request request s);
   behind = λ p s.
-      ap f (λ i. record (joined p s) {
-        lines = append_assoc p.lines s.lines (request_line request ∷ []) i;
-        asked = append_assoc p.asked s.asked ((name_for request.url, request.fresh) ∷ []) i;
-      })
-      ∙ plain.behind p (asking_for request s);
-  shut = λ s. plain.shut (asking_for request s);
-  keys = λ s. plain.keys (asking_for request s);
-  turns = λ s. plain.turns (asking_for request s);
-  timer = λ s. plain.timer (asking_for request s);
-  last = λ s. plain.last (asking_for request s);
-  bound = λ s. plain.bound (asking_for request s);
+      ap f (joined_assoc p s (ask s.keys request s.world))
+      ∙ plain.behind p (with_request request s);
+  shut = λ s. plain.shut (with_request request s) ∙ or_false s.is_open;
+  keys = λ s. plain.keys (with_request request s);
+  turns = λ s. plain.turns (with_request request s);
+  timer = λ s. plain.timer (with_request request s);
+  last = λ s. plain.last (with_request request s);
+  bound = λ s. plain.bound (with_request request s);
 }
 
 -- ---- external calls
@@ -182,14 +182,12 @@ module _ {U : Type 0} (shelf : Shelf) (externals : List ℕ → List ℕ → Opt
   under_plain url (deck_page deck) = just (λ w. _)
   under_plain url (script_page entrance) = record {
     unread = λ keys s. refl;
-    behind = λ p s i. (
+    behind = λ p s. ap (λ (t : Step). (
       (found_under shelf externals code caller url function count working s
           (script_page entrance)).0,
-      record (joined p s) {
-        tests = append_assoc p.tests s.tests (test_of url (Some caller) entrance ∷ []) i;
-      },
-    );
-    shut = λ s. refl;
+      t,
+    )) (joined_assoc p s (test s.keys (test_of url (Some caller) entrance) s.world));
+    shut = λ s. or_false s.is_open;
     keys = λ s. refl;
     turns = λ s. refl;
     timer = λ s. refl;
@@ -259,7 +257,7 @@ refresh_plain now = by_case now (λ o s. refreshed s o) by
   where
     by : (o : Option Place) → IsPlain (λ s. refreshed s o)
     by None = just (λ w. _)
-    by (Some place) = with_lines (λ w. out.Value (Str [])) (λ w. screen w.vars place)
+    by (Some place) = lines_more (λ w. out.Value (Str [])) (λ w. screen w.vars place)
 
 -- the last entry is left
 last_of : (o : Option Entry) → last_or None (option_to_list o) ≡ o
@@ -279,20 +277,22 @@ pends_plain one =
       bound = λ w b. record { some = b.some; few = b.few };
     })
 
-wml_plain : (now : World → Option Place) (base : Url) (function : ℕ) (arguments : List Value)
-    → IsPlain (λ s. wml_browser now base function arguments s)
-wml_plain now base zero arguments =
-    text_plain (text_of (argument arguments 0)) (λ name s. get_var name s) (λ name. just (λ w. _))
-wml_plain now base (suc zero) arguments =
+-- a row of WMLBrowser
+browser_row_plain : (now : World → Option Place) (base : Url) (arguments : List Value)
+    (f : BrowserFunction) → IsPlain (λ s. row_of_browser now base arguments s f)
+browser_row_plain now base arguments GetVar =
+    text_plain (text_of (argument arguments 0)) (λ name s. gives (variable_in s.world name) s)
+    (λ name. just (λ w. _))
+browser_row_plain now base arguments SetVar =
     text_plain (text_of (argument arguments 0))
     (λ name s. on_text (argument arguments 1) s (λ text. set_by (set_in s.world.vars name text) s))
     (λ name. text_plain (text_of (argument arguments 1))
     (λ text s. set_by (set_in s.world.vars name text) s) (λ text. set_plain name text))
-wml_plain now base (suc (suc zero)) arguments =
+browser_row_plain now base arguments Go =
     text_plain (text_of (argument arguments 0)) (λ href s. pends (pending_go href) s)
     (λ href. pends_plain (pending_go href))
-wml_plain now base (suc (suc (suc zero))) arguments = pends_plain _
-wml_plain now base (suc (suc (suc (suc zero)))) arguments =
+browser_row_plain now base arguments Prev = pends_plain _
+browser_row_plain now base arguments NewContext =
     by_world (λ w. _) (λ w. record w { vars = []; history = option_to_list (last_entry w) })
     (record {
       turns = λ w. refl;
@@ -300,34 +300,55 @@ wml_plain now base (suc (suc (suc (suc zero)))) arguments =
       last = λ w. last_of (last_entry w);
       bound = λ w b. record { some = b.some; few = one_entry (last_entry w) b.some };
     })
-wml_plain now base (suc (suc (suc (suc (suc zero))))) arguments = card_plain base now
-wml_plain now base (suc (suc (suc (suc (suc (suc n)))))) arguments = refresh_plain now
+browser_row_plain now base arguments GetCurrentCard = card_plain base now
+browser_row_plain now base arguments Refresh = refresh_plain now
 
-asks_plain : (dialog : Dialog) → IsPlain (λ s. asks dialog s)
-asks_plain dialog = with_lines (λ w. out.Asks dialog) (λ w. dialog_line dialog ∷ [])
+-- a function of a number, which may be none
+row_plain : {F : Type 0} (row : F → Step → HostOut × Step) (o : Option F)
+    → ((f : F) → IsPlain (row f))
+    → IsPlain (λ s. option_map_or (λ f. row f s) o (gives Invalid s))
+row_plain row None rows = just (λ w. _)
+row_plain row (Some f) rows = rows f
 
-dialogs_plain : (function : ℕ) (arguments : List Value)
-    → IsPlain (λ s. dialogs function arguments s)
-dialogs_plain zero arguments =
+wml_plain : (now : World → Option Place) (base : Url) (number : ℕ) (arguments : List Value)
+    → IsPlain (λ s. wml_browser now base number arguments s)
+wml_plain now base number arguments =
+    row_plain (λ f s. row_of_browser now base arguments s f) (slice_get browser_functions number)
+    (browser_row_plain now base arguments)
+
+asks_plain : (one : Dialog) → IsPlain (λ s. asks one s)
+asks_plain one = lines_more (λ w. out.Asks one) (λ w. dialog_line one ∷ [])
+
+-- a row of Dialogs
+dialogs_row_plain : (arguments : List Value) (f : DialogFunction)
+    → IsPlain (λ s. row_of_dialogs arguments s f)
+dialogs_row_plain arguments Prompt =
     text_plain (text_of (argument arguments 0))
-    (λ message s. on_text (argument arguments 1) s (λ first. asks (Prompt message first) s))
+    (λ message s. on_text (argument arguments 1) s (λ first. asks (dialog.Prompt message first) s))
     (λ message. text_plain (text_of (argument arguments 1))
-    (λ first s. asks (Prompt message first) s)
-    (λ first. asks_plain (Prompt message first)))
-dialogs_plain (suc zero) arguments =
+    (λ first s. asks (dialog.Prompt message first) s)
+    (λ first. asks_plain (dialog.Prompt message first)))
+dialogs_row_plain arguments Confirm =
     text_plain (text_of (argument arguments 0))
     (λ message s. on_text (argument arguments 1) s (λ ok. on_text (argument arguments 2) s (λ cancel.
-    asks (Confirm message (label_or ok (codes "OK")) (label_or cancel (codes "Cancel"))) s)))
+    asks
+    (dialog.Confirm message (label_or ok (codes "OK")) (label_or cancel (codes "Cancel"))) s)))
     (λ message. text_plain (text_of (argument arguments 1))
     (λ ok s. on_text (argument arguments 2) s (λ cancel.
-    asks (Confirm message (label_or ok (codes "OK")) (label_or cancel (codes "Cancel"))) s))
+    asks
+    (dialog.Confirm message (label_or ok (codes "OK")) (label_or cancel (codes "Cancel"))) s))
     (λ ok. text_plain (text_of (argument arguments 2))
     (λ cancel s.
-    asks (Confirm message (label_or ok (codes "OK")) (label_or cancel (codes "Cancel"))) s)
+    asks (dialog.Confirm message (label_or ok (codes "OK")) (label_or cancel (codes "Cancel"))) s)
     (λ cancel. asks_plain _)))
-dialogs_plain (suc (suc n)) arguments =
-    text_plain (text_of (argument arguments 0)) (λ message s. asks (Alert message) s)
-    (λ message. asks_plain (Alert message))
+dialogs_row_plain arguments Alert =
+    text_plain (text_of (argument arguments 0)) (λ message s. asks (dialog.Alert message) s)
+    (λ message. asks_plain (dialog.Alert message))
+
+dialogs_plain : (number : ℕ) (arguments : List Value) → IsPlain (λ s. dialogs number arguments s)
+dialogs_plain number arguments =
+    row_plain (λ f s. row_of_dialogs arguments s f) (slice_get dialog_functions number)
+    (dialogs_row_plain arguments)
 
 pure_plain : (library function : ℕ) (arguments : List Value)
     → IsPlain (λ s. pure_call library function arguments s)

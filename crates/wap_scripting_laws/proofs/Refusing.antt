@@ -1,18 +1,20 @@
 -- A call of a script that may not be called.
 use Rattle.std.proofs.Common.{◌≡◌, ℕ, Bool, false, List, [], ◌∷◌, ◌++◌, Option, Some, ap, ◌∙◌}
-use Rattle.std.specs.Prelude.{Ok}
+use Rattle.std.proofs.lemmas.List.{append-nil}
+use Rattle.std.specs.Prelude.{◌||◌, Ok}
 use Rattle.wap_url.specs.declared.url.Url.{Url}
 use Rattle.wap_url.specs.Printing.{name_for, without_fragment}
 use Rattle.wap_execution.specs.declared.fatal.Fatal.TheVariants.{Denied}
 use Rattle.wap_execution.specs.declared.found.Found.TheVariants.{Not}
 use Rattle.wap_world.specs.Shelves.{Entrance, script_page}
-use Rattle.wap_world.specs.Steps.{Step}
+use Rattle.wap_world.specs.Steps.{AccessTest, Step}
 use Rattle.wap_world.specs.Access.{may_enter}
 use Rattle.wap_world.specs.Urls.{target_of}
 use Rattle.wap_world.specs.Requests.{plain_get, request_line}
-use Rattle.wap_scripting.specs.Steps.{with_test, asking_for}
+use Rattle.wap_scripting.specs.Additions.{with_test, with_request}
 use Rattle.wap_scripting.specs.Hosting.{callable, callable_if, found_under, found_at}
-use Rattle.wap_scripting.specs.Sites.{Pages, shelf_of, externals_of, unit_under, keyed_host}
+use Rattle.wap_world.proofs.Joining.{or_false}
+use Rattle.wap_scripting.specs.UnitSites.{Pages, shelf_of, externals_of, unit_under, keyed_host}
 
 -- the request's line, name and test are added, and no function is found
 pub refuses_call : (pages : Pages) (step : Step) (caller url : Url) (target function : List ℕ)
@@ -31,7 +33,8 @@ pub refuses_call : (pages : Pages) (step : Step) (caller url : Url) (target func
     )
 refuses_call pages step caller url target function count working entrance to_page is_script denied =
     let shelf = shelf_of pages in
-    let asked = asking_for (plain_get url) step in
+    let asked = with_request (plain_get url) step in
+    let one : AccessTest = record { page = name_for url; caller = Some caller; allowed = false } in
     ap (found_at shelf (externals_of pages) (unit_under pages) caller function count working step)
     to_page
     ∙ ap (found_under shelf (externals_of pages) (unit_under pages) caller url function count
@@ -41,3 +44,12 @@ refuses_call pages step caller url target function count working entrance to_pag
           asked.world.limits.depth working (externals_of pages (name_for url) function)),
       with_test (record { page = name_for url; caller = Some caller; allowed = b }) asked,
     )) denied
+    ∙ (λ i. (
+      Not Denied,
+      record step {
+        lines = append-nil (step.lines ++ request_line (plain_get url) ∷ []) i;
+        asked = append-nil (step.asked ++ (name_for url, false) ∷ []) i;
+        tests = append-nil step.tests i ++ one ∷ [];
+        is_open = (or_false (step.is_open || false) ∙ or_false step.is_open) i;
+      },
+    ))

@@ -5,7 +5,8 @@ use Rattle.std.proofs.Common.{inr}
 use Rattle.std.proofs.Math.Path.{fun_ext}
 use Rattle.std.proofs.lemmas.Bool.Decides.{eqb_tells}
 use Rattle.std.specs.Prelude.{Result, Ok, Err}
-use Rattle.std.specs.Option.{option_map, option_map_or, option_and_then}
+use Rattle.std.specs.Prelude.{unwrap_or}
+use Rattle.std.specs.Option.{option_map, option_and_then}
 use Rattle.wap_base.specs.declared.limits.Limits.{Limits}
 use Rattle.wap_base.specs.declared.limits.TheConstants.{MOST_DEPTH}
 use Rattle.wap_base.specs.Texts.{is_same_text}
@@ -41,15 +42,16 @@ use Rattle.wap_world.specs.Requests.{plain_get, test_of}
 use Rattle.wap_world.specs.Urls.{target_of}
 use Rattle.wap_world.specs.Sites.{External, Call}
 use Rattle.wap_scripting.specs.Units.{external_in}
-use Rattle.wap_scripting.specs.Steps.{with_test, asking_for}
+use Rattle.wap_scripting.specs.Additions.{with_test, with_request}
 use Rattle.wap_scripting.specs.Dialogs.{by_keys}
 use Rattle.wap_scripting.specs.Hosting.{callable, callable_if, found_under, found_at, external_call}
 use Rattle.wap_scripting.specs.Hosting.{library_call}
-use Rattle.wap_scripting.specs.Pages.{PageOf, deck, script, words, refused, page_under, script_in}
-use Rattle.wap_scripting.specs.Pages.{shelved, shelf_by, script_under, externals_by, keyed_by}
-use Rattle.wap_scripting.specs.Sites.{Pages, units, shelf_of, no_unit, unit_under, externals_of}
-use Rattle.wap_scripting.specs.Sites.{keyed_host, ran_of, started_at, run_unit, units_site}
-use Rattle.wap_scripting.specs.Sources.{plain_ways, code_runs, LanguageOf, Script, of_unit}
+use Rattle.wap_scripting.specs.ScriptPages.{PageOf, deck, script, words, refused, page_under, script_in}
+use Rattle.wap_scripting.specs.ScriptPages.{shelved, shelf_by, script_under, externals_by, keyed_by}
+use Rattle.wap_scripting.specs.UnitSites.{Pages, units, shelf_of, no_unit, unit_under, externals_of}
+use Rattle.wap_scripting.specs.UnitSites.{keyed_host, ran_of, started_at, run_unit, units_site}
+use Rattle.wap_meaning.specs.Functions.{plain_ways, code_runs, unit_runs}
+use Rattle.wap_scripting.specs.Sources.{LanguageOf, Script, of_unit}
 use Rattle.wap_scripting.specs.Sources.{of_source, AllPages, both, script_external, meant}
 use Rattle.wap_scripting.specs.Sources.{run_script, site_of, Agrees, compiled_script, compiled_page}
 use Rattle.wap_scripting.specs.Sources.{compiled_pages}
@@ -141,9 +143,8 @@ module _ {P : Type 0} (language : LanguageOf P) (compiler : P → Unit)
   shelf_same name = ap (shelved units) (same_under pages name) ∙ shelved_same (page_under name pages)
 
   unit_same_in : (page : Option (PageOf (Script P)))
-      → option_map_or (λ one. one)
-      (script_in (option_map (compiled_page language compiler) page)) no_unit
-      ≡ code_of (option_map_or (λ one. one) (script_in page) (of_unit no_unit))
+      → unwrap_or (script_in (option_map (compiled_page language compiler) page)) no_unit
+      ≡ code_of (unwrap_or (script_in page) (of_unit no_unit))
   unit_same_in None = refl
   unit_same_in (Some (deck one)) = refl
   unit_same_in (Some (script one)) = refl
@@ -153,7 +154,7 @@ module _ {P : Type 0} (language : LanguageOf P) (compiler : P → Unit)
   unit_same : (name : List ℕ)
       → unit_under others name ≡ code_of (script_under (both language) pages name)
   unit_same name =
-      ap (λ page. option_map_or (λ (one : Unit). one) (script_in page) no_unit) (same_under pages name)
+      ap (λ page. unwrap_or (script_in page) no_unit) (same_under pages name)
       ∙ unit_same_in (page_under name pages)
 
   externals_same_in : (page : Option (PageOf (Script P))) (function : List ℕ)
@@ -243,7 +244,7 @@ module _ {P : Type 0} (language : LanguageOf P) (compiler : P → Unit)
       ≡ (let found = found_at shelf names scripts caller function count working s r in
       (as_unit found.0, found.1))
   at_same caller function count working s (Ok url) =
-      under_same caller url function count working (asking_for (plain_get url) s)
+      under_same caller url function count working (with_request (plain_get url) s)
       (shelf (name_for url))
   at_same caller function count working s (Err why) = refl
 
@@ -423,7 +424,7 @@ module _ {P : Type 0} (language : LanguageOf P) (compiler : P → Unit)
       } in
       forgotten (enter (uncounted limits one) (suc more) (in_unit function) arguments turns s)
       ≡ meant language (mixed limits) (suc more) function arguments turns s
-  unfolding enter meant
+  unfolding enter meant unit_runs
   script_same limits more alike (of_unit u) base referer index arguments turns s =
       let function : FunctionOf (Script P) = record {
         unit = of_unit u;

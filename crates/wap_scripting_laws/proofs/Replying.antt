@@ -24,7 +24,7 @@ use Rattle.wap_world.specs.Tasks.{onward, act}
 use Rattle.wap_scripting.specs.Dialogs.{Reply, answers, ends_it, passes, reply_to, run_out}
 use Rattle.wap_scripting.specs.Dialogs.{tick_waiting}
 use Rattle.wap_scripting.specs.Dialogs.{meanwhile, after_reply, answered_by}
-use Rattle.wap_scripting.specs.Sites.{Pages, shelf_of, host_of, keyed_host, ran_of, units_site}
+use Rattle.wap_scripting.specs.UnitSites.{Pages, shelf_of, host_of, keyed_host, ran_of, units_site}
 use Rattle.wap_scripting.specs.Waiting.{Waits, inside, resumed_step}
 use Rattle.wap_scripting.specs.Feeding.{Means, turned}
 use Rattle.wap_world.proofs.Joining.{once_before, joined_nothing}

@@ -25,16 +25,16 @@ use Rattle.wap_world.specs.World.{World, place_now}
 use Rattle.wap_world.specs.Steps.{Scene, Step, Once, joined, after_step, still, quiet, settled}
 use Rattle.wap_world.specs.Sites.{End, done, failed, unanswered}
 use Rattle.wap_world.specs.Starting.{script_line, in_world, or_show, rest, end_done, ended_script}
-use Rattle.wap_scripting.specs.Steps.{with_scene}
+use Rattle.wap_scripting.specs.Additions.{with_scene}
 use Rattle.wap_scripting.specs.Dialogs.{Reply, answers, ends_it, passes, reply_to, meanwhile}
 use Rattle.wap_scripting.specs.Dialogs.{after_reply, answered_by, by_keys}
-use Rattle.wap_scripting.specs.Sites.{Pages, shelf_of, externals_of, unit_under, host_of}
-use Rattle.wap_scripting.specs.Sites.{keyed_host}
-use Rattle.wap_scripting.specs.Sites.{end_of, ran_of}
+use Rattle.wap_scripting.specs.UnitSites.{Pages, shelf_of, externals_of, unit_under, host_of}
+use Rattle.wap_scripting.specs.UnitSites.{keyed_host}
+use Rattle.wap_scripting.specs.UnitSites.{end_of, ran_of}
 use Rattle.wap_scripting.specs.Waiting.{inside}
 use Rattle.wap_scripting.specs.Halves.{half_by, half_of, once_of, GoesOnWithKeys}
 use Rattle.wap_world.proofs.Joining.{before, once_before, or_true, after_assoc}
-use Rattle.wap_world.proofs.Joining.{joined_nothing}
+use Rattle.wap_world.proofs.Joining.{joined_assoc, joined_nothing}
 use Rattle.wap_scripting_laws.proofs.Plain.{fronted, rekeyed, IsPlain, external_plain}
 use Rattle.wap_scripting_laws.proofs.Plain.{library_plain}
 
@@ -86,10 +86,7 @@ module _ (pages : Pages) (keys : List Key) where
 
 scene_front : (p : Step) (scene : Scene) (s : Step)
     → with_scene scene (joined p s) ≡ joined p (with_scene scene s)
-scene_front p scene s = λ i. record (joined p s) {
-  world = scene.world;
-  lines = append_assoc p.lines s.lines scene.lines i;
-}
+scene_front p scene s = joined_assoc p s (quiet s.keys scene)
 
 reply_front : (shelf : Shelf) (p : Step) (reply : Reply) (key : Key) (keys : List Key) (s : Step)
     (later : Step → HostOut × Step) → ((t : Step) → later (joined p t) ≡ fronted p (later t))

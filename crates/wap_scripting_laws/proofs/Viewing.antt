@@ -1,10 +1,11 @@
 -- The code's host and the definition's come to the same, where the deck at hand is the current one.
-use Rattle.std.proofs.Common.{◌≡◌, inl, ℕ, zero, suc, List, [], ◌∷◌, ◌++◌, cond, eqb}
-use Rattle.std.proofs.Common.{Option, refl, sym, ap, ◌∙◌, subst}
-use Rattle.std.specs.Option.{option_map, option_and_then}
+use Rattle.std.proofs.Common.{◌≡◌, inl, ℕ, List, [], ◌∷◌, ◌++◌, cond, eqb, slice_get}
+use Rattle.std.proofs.Common.{Option, Some, None, refl, sym, ap, ◌∙◌, subst}
+use Rattle.std.specs.Option.{option_map, option_map_or, option_and_then}
 use Rattle.wap_base.specs.declared.limits.Limits.{Limits}
 use Rattle.wap_url.specs.declared.url.Url.{Url}
 use Rattle.wap_value.specs.declared.value.Value.{Value}
+use Rattle.wap_value.specs.declared.value.Value.TheVariants.{Invalid}
 use Rattle.wap_markup.specs.declared.deck.Deck.{Deck}
 use Rattle.wap_execution.specs.declared.library.HostOut.{HostOut}
 use Rattle.wap_execution_laws.specs.Simulation.{Both, AreAlike, RunAlike}
@@ -14,9 +15,11 @@ use Rattle.wap_world.specs.declared.history.Entry.{Entry}
 use Rattle.wap_world.specs.Shelves.{Shelf}
 use Rattle.wap_world.specs.World.{World, Place, place_in, place_of, place_now, last_entry}
 use Rattle.wap_world.specs.Steps.{Step, still, quiet}
-use Rattle.wap_scripting.specs.Browsing.{current_card, refreshed, wml_browser, dialogs}
+use Rattle.wap_scripting.specs.Browsing.{gives, current_card, refreshed, BrowserFunction, GetVar}
+use Rattle.wap_scripting.specs.Browsing.{SetVar, Go, Prev, NewContext, GetCurrentCard, Refresh}
+use Rattle.wap_scripting.specs.Browsing.{browser_functions, row_of_browser, wml_browser, dialogs}
 use Rattle.wap_scripting.specs.Hosting.{within, url_call, pure_call, library_call}
-use Rattle.wap_scripting.specs.Sites.{Pages, shelf_of, externals_of, unit_under, host_of}
+use Rattle.wap_scripting.specs.UnitSites.{Pages, shelf_of, externals_of, unit_under, host_of}
 use Rattle.wap_scripting.specs.Views.{Counted, counted_once, counted_all, View, place_with, added}
 use Rattle.wap_scripting.specs.Views.{fresh}
 use Rattle.wap_scripting.specs.Views.{viewing, view_of, Shows, IsAtHand, NoStep, NoView}
@@ -27,18 +30,27 @@ use Rattle.wap_scripting_laws.proofs.Plain.{library_plain}
 
 -- ---- the current card alone is asked of the pages
 
-wml_now : (one other : World → Option Place) (base : Url) (function : ℕ) (arguments : List Value)
+browser_row_now : (one other : World → Option Place) (base : Url) (arguments : List Value)
+    (s : Step) → one s.world ≡ other s.world → (f : BrowserFunction)
+    → row_of_browser one base arguments s f ≡ row_of_browser other base arguments s f
+browser_row_now one other base arguments s same GetVar = refl
+browser_row_now one other base arguments s same SetVar = refl
+browser_row_now one other base arguments s same Go = refl
+browser_row_now one other base arguments s same Prev = refl
+browser_row_now one other base arguments s same NewContext = refl
+browser_row_now one other base arguments s same GetCurrentCard = ap (current_card base s) same
+browser_row_now one other base arguments s same Refresh = ap (refreshed s) same
+
+wml_now : (one other : World → Option Place) (base : Url) (number : ℕ) (arguments : List Value)
     (s : Step) → one s.world ≡ other s.world
-    → wml_browser one base function arguments s ≡ wml_browser other base function arguments s
-wml_now one other base zero arguments s same = refl
-wml_now one other base (suc zero) arguments s same = refl
-wml_now one other base (suc (suc zero)) arguments s same = refl
-wml_now one other base (suc (suc (suc zero))) arguments s same = refl
-wml_now one other base (suc (suc (suc (suc zero)))) arguments s same = refl
-wml_now one other base (suc (suc (suc (suc (suc zero))))) arguments s same =
-    ap (current_card base s) same
-wml_now one other base (suc (suc (suc (suc (suc (suc n)))))) arguments s same =
-    ap (refreshed s) same
+    → wml_browser one base number arguments s ≡ wml_browser other base number arguments s
+wml_now one other base number arguments s same = by (slice_get browser_functions number)
+  where
+    by : (o : Option BrowserFunction)
+        → option_map_or (row_of_browser one base arguments s) o (gives Invalid s)
+        ≡ option_map_or (row_of_browser other base arguments s) o (gives Invalid s)
+    by None = refl
+    by (Some f) = browser_row_now one other base arguments s same f
 
 library_now : (shelf : Shelf) (one other : World → Option Place) (s : Step) (base : Url)
     (referer : Option Url) (library function : ℕ) (arguments : List Value)

@@ -27,7 +27,7 @@ ghost use Rattle.wap_world.specs.Sessions.{played};
 ghost use Rattle.wap_world_laws.specs.Scripts.{GivesNoTurns, MakesNoKeys, ScriptsKeep};
 ghost use Rattle.wap_world_laws.specs.Standing.{StandsOnCard};
 ghost use Rattle.wap_scripting.specs.Dialogs.{answers, ends_it, passes, reply_to, meanwhile};
-ghost use Rattle.wap_scripting.specs.Sites.{Pages, shelf_of, host_of, keyed_host, units_site};
+ghost use Rattle.wap_scripting.specs.UnitSites.{Pages, shelf_of, host_of, keyed_host, units_site};
 ghost use Rattle.wap_scripting.specs.Waiting.{Waits, State, inside, played_from};
 ghost use Rattle.wap_scripting.specs.Halves.{half_of, once_of, GoesOnWithKeys};
 ghost use Rattle.wap_scripting.specs.Feeding.{Fed, Means, turned, Turns, Feeds, AreFed};

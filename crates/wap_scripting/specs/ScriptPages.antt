@@ -1,7 +1,6 @@
 -- Judged pages among which scripts are, of any kind: units, or units and sources. The pages of
 -- wap_site have no scripts. This project's own.
-use Rattle.std.specs.Prelude.{ℕ, List, Option, Some, None, option_and_then}
-use Rattle.std.specs.Option.{option_map_or}
+use Rattle.std.specs.Prelude.{ℕ, List, Option, Some, None, unwrap_or, option_and_then}
 use Rattle.std.specs.Map.{lookup}
 use Rattle.wap_base.specs.Texts.{is_same_text}
 use Rattle.wap_markup.specs.declared.deck.Deck.{Deck}
@@ -64,8 +63,7 @@ module _ {U : Type 0} (scripts : Scripts U) where
 
   -- the script under a name
   abbrev pub script_under : PagesOf U → List ℕ → U
-  script_under pages name =
-      option_map_or (λ one. one) (script_in (page_under name pages)) scripts.empty
+  script_under pages name = unwrap_or (script_in (page_under name pages)) scripts.empty
 
   -- the external function of a page's name and its own
   abbrev pub externals_by : PagesOf U → List ℕ → List ℕ → Option External

@@ -13,8 +13,8 @@ use Rattle.wap_world.specs.Shelves.{Shelf}
 use Rattle.wap_world.specs.Steps.{Step}
 use Rattle.wap_world.specs.Sites.{External, Call, End, done, failed, unanswered, Ran, Site}
 use Rattle.wap_scripting.specs.Units.{entrance_in, external_in}
-use Rattle.wap_scripting.specs.Pages.{PagesOf, Scripts, shelf_by, script_under, externals_by}
-use Rattle.wap_scripting.specs.Pages.{host_by, keyed_by}
+use Rattle.wap_scripting.specs.ScriptPages.{PagesOf, Scripts, shelf_by, script_under, externals_by}
+use Rattle.wap_scripting.specs.ScriptPages.{host_by, keyed_by}
 
 -- ---- pages with units
 
