@@ -33,6 +33,7 @@ use Rattle.wap_world.specs.Starting.{in_world}
 use Rattle.wap_world.proofs.Walk.{end_moves, leads_moves}
 
 module _ (call : List ℕ → Option Call) (pages : Pages) where
+  -- the site of the pages
   abbrev site : Site
   site = units_site call pages
 
@@ -78,16 +79,19 @@ module _ (call : List ℕ → Option Call) (pages : Pages) where
 
   -- ---- keys, one after the other
 
+  -- an answer that goes on makes no keys
   gone_few : (limits : Limits) (frames : List Frame) (gave : HostOut) (turns : ℕ) (s : Step)
       → let end = gone_on (uncounted limits (keyed_host pages)) (λ e. e) frames gave turns s in
       length end.state.keys ≤ length s.keys
   gone_few limits frames (out.Value v) turns s =
-      (resumed_follows (uncounted limits (keyed_host pages)) Fewer (host_keeps pages limits) frames v
+      (resumed_follows (uncounted limits (keyed_host pages)) Fewer
+      (host_keeps pages limits) frames v
       turns s).kin
   gone_few limits frames (out.Exit v) turns s = omega arith
   gone_few limits frames (out.Fatal why) turns s = omega arith
   gone_few limits frames (out.Asks dialog) turns s = omega arith
 
+  -- nor does what is left to keys
   left_few : (o : Option Waits) (keys : List Key) (w : World)
       → length (left_over call pages o keys w).keys ≤ length keys
   unfolding resumed_step units_site
@@ -112,6 +116,7 @@ module _ (call : List ℕ → Option Call) (pages : Pages) where
   played_is n keys w enough =
       plays_enough site (units_few call pages) n (length keys) keys w enough (omega arith)
 
+  -- a key by what waits before it
   feeds_by : (o : Option Waits) (w : World) (key : Key) (one : Fed)
       → Means call pages one (turned call pages o w key)
       → Feeds call pages (record { world = w; waiting = o }) key one
@@ -154,10 +159,12 @@ module _ (call : List ℕ → Option Call) (pages : Pages) where
     pub world : (played_from call pages state []).world ≡ state.world
     pub open_is : (played_from call pages state []).is_open ≡ is_some state.waiting
 
+  -- by whether a dialog waits
   nothing_at : (o : Option Waits) (w : World) → ShowsNothing (record { world = w; waiting = o })
   unfolding played resumed_step
   nothing_at None w = record { lines = refl; asked = refl; world = refl; open_is = refl }
   nothing_at (Some one) w = record { lines = refl; asked = refl; world = refl; open_is = refl }
 
+  -- in any state
   pub nothing : (state : State) → ShowsNothing state
   nothing state = nothing_at state.waiting state.world

@@ -47,6 +47,7 @@ use Rattle.wap_scripting_laws.proofs.Plain.{IsPlain, external_plain, library_pla
 abbrev pub Fewer : Step → Step → Type 0
 Fewer s t = length t.keys ≤ length s.keys
 
+-- a reply leaves no more keys
 reply_few : (shelf : Shelf) (reply : Reply) (one : Key) (keys : List Key) (s : Step)
     (later : Step → HostOut × Step)
     → ((t : Step) → length (later t).1.keys ≤ length keys)
@@ -65,6 +66,7 @@ answered_few shelf dialog (one ∷ keys) s =
     reply_few shelf (reply_to dialog one) one keys s (answered_by shelf dialog keys)
     (λ t. answered_few shelf dialog keys t) in omega (arith, fewer)
 
+-- nor does an answer
 in_few : (shelf : Shelf) (gave : HostOut) (s : Step)
     → length (answered_in (by_keys shelf) gave s).1.keys ≤ length s.keys
 in_few shelf (out.Value v) s = omega arith
@@ -72,6 +74,7 @@ in_few shelf (out.Exit v) s = omega arith
 in_few shelf (out.Fatal why) s = omega arith
 in_few shelf (out.Asks dialog) s = answered_few shelf dialog s.keys s
 
+-- the same keys are no more
 same_few : (s t : Step) → t.keys ≡ s.keys → Fewer s t
 same_few s t same = omega (arith, ap (λ (keys : List Key). length keys) same)
 
@@ -100,6 +103,7 @@ host_keeps pages limits = record {
 -- how a run of the site of units follows from a relation that each call keeps
 module _ (call : List ℕ → Option Call) (pages : Pages) (Kin : Step → Step → Type 0)
     (keeps : (limits : Limits) → Keeps (uncounted limits (keyed_host pages)) Kin) where
+  -- what holds of each call holds of the run
   runs_follow : (name : List ℕ) (base : Url) (referer : Option Url) (index : ℕ)
       (arguments : List Value) (turns : ℕ) (step : Step)
       → let function : Function = record {
@@ -149,10 +153,12 @@ pub record ChangesKeep (Fact : World → Type 0) : Type 1 where
       → Fact (f s).1.world
 
 module _ (Fact : World → Type 0) (changes : ChangesKeep Fact) where
+  -- the timer's variable is set
   stores_keep : (name : Option (List ℕ)) (w : World) → Fact w → Fact (store_under name 0 w).world
   stores_keep None w fact = fact
   stores_keep (Some name) w fact = changes.sets w _ fact
 
+  -- the timer runs out
   run_out_keeps : (w : World) (time : ℕ) (place : Option Place) → w.timer ≡ Running time → Fact w
       → Fact (at_place run_out place w).world
   run_out_keeps w time None is fact = fact
@@ -160,6 +166,7 @@ module _ (Fact : World → Type 0) (changes : ChangesKeep Fact) where
       stores_keep (option_and_then timer_variable (timer_in place.card))
       (record w { timer = Expired }) (changes.expires w time is fact)
 
+  -- time passes in a dialog
   ticks_keep : (shelf : Shelf) (n : ℕ) (t : Timer) (w : World) → w.timer ≡ t → Fact w
       → Fact (tick_waiting shelf n t w).world
   ticks_keep shelf n NotStarted w is fact = fact
@@ -172,6 +179,7 @@ module _ (Fact : World → Type 0) (changes : ChangesKeep Fact) where
   ticks_keep shelf n Off w is fact = fact
   ticks_keep shelf n Expired w is fact = fact
 
+  -- a key that is no answer
   meanwhile_keeps : (shelf : Shelf) (one : Key) (w : World) → Fact w
       → Fact (meanwhile shelf one w).world
   meanwhile_keeps shelf (key.Open url) w fact = fact
@@ -191,6 +199,7 @@ module _ (Fact : World → Type 0) (changes : ChangesKeep Fact) where
   abbrev Keep : Step → Step → Type 0
   Keep s t = Fact s.world → Fact t.world
 
+  -- a reply
   reply_keeps : (shelf : Shelf) (reply : Reply) (one : Key) (keys : List Key) (s : Step)
       (later : Step → HostOut × Step) → ((t : Step) → Keep t (later t).1)
       → Keep s (after_reply shelf reply one keys s later).1
@@ -200,6 +209,7 @@ module _ (Fact : World → Type 0) (changes : ChangesKeep Fact) where
       laters (with_scene (meanwhile shelf one s.world) (record s { keys = keys }))
       (meanwhile_keeps shelf one s.world fact)
 
+  -- keys in a dialog
   answers_keep : (shelf : Shelf) (dialog : Dialog) (keys : List Key) (s : Step)
       → Keep s (answered_by shelf dialog keys s).1
   answers_keep shelf dialog [] s fact = fact
@@ -207,6 +217,7 @@ module _ (Fact : World → Type 0) (changes : ChangesKeep Fact) where
       reply_keeps shelf (reply_to dialog one) one keys s (answered_by shelf dialog keys)
       (answers_keep shelf dialog keys) fact
 
+  -- a dialog that is answered
   in_keeps : (shelf : Shelf) (gave : HostOut) (s : Step)
       → Keep s (answered_in (by_keys shelf) gave s).1
   in_keeps shelf (out.Value v) s fact = fact
@@ -214,6 +225,7 @@ module _ (Fact : World → Type 0) (changes : ChangesKeep Fact) where
   in_keeps shelf (out.Fatal why) s fact = fact
   in_keeps shelf (out.Asks dialog) s fact = answers_keep shelf dialog s.keys s fact
 
+  -- each call keeps the fact
   calls_keep : (pages : Pages) (limits : Limits) → Keeps (uncounted limits (keyed_host pages)) Keep
   calls_keep pages limits = record {
     same = λ s fact. fact;
@@ -242,6 +254,7 @@ module _ (Fact : World → Type 0) (changes : ChangesKeep Fact) where
 
 -- ---- the history
 
+-- changes keep the history to its limit
 pub limit_changes : ChangesKeep KeepsToLimit
 limit_changes = record {
   turns = λ w turns b. record { some = b.some; few = b.few };
@@ -253,9 +266,11 @@ limit_changes = record {
 
 -- ---- the card
 
+-- a timer that runs was started
 runs_not : (w : World) (time : ℕ) → w.timer ≡ Running time → w.timer ≡ NotStarted → ⊥
 runs_not w time is none = absurd (cc)
 
+-- a row leaves the card on which a world stands
 row_stands : {A : Type 0} (shelf : Shelf) (f : Step → A × Step) → IsPlain f → (s : Step)
     → StandsOnCard shelf s.world → StandsOnCard shelf (f s).1.world
 row_stands shelf f plain s stands =
@@ -266,6 +281,7 @@ row_stands shelf f plain s stands =
           ∙ stands.timer (last_none s.world.history (sym last ∙ ap (last_or None) none));
     }
 
+-- changes leave the card on which a world stands
 pub card_changes : (shelf : Shelf) → ChangesKeep (StandsOnCard shelf)
 card_changes shelf = record {
   turns = λ w turns s. record { card = s.card; timer = s.timer };

@@ -4,6 +4,4 @@ pub mod Runs
 pub mod Viewing
 pub mod Feeding
 pub mod Replying
-pub mod Replacing
-pub mod Denying
 pub mod Refusing

@@ -177,6 +177,7 @@ asked_then request f plain = record {
 
 module _ {U : Type 0} (shelf : Shelf) (externals : List ℕ → List ℕ → Option External)
     (code : List ℕ → U) (caller : Url) (function : List ℕ) (count working : ℕ) where
+  -- a call by the page that answers
   under_plain : (url : Url) (page : Shelved)
       → IsPlain (λ s. found_under shelf externals code caller url function count working s page)
   under_plain url (deck_page deck) = just (λ w. _)
@@ -198,6 +199,7 @@ module _ {U : Type 0} (shelf : Shelf) (externals : List ℕ → List ℕ → Opt
   under_plain url refused_page = just (λ w. _)
   under_plain url no_page = just (λ w. _)
 
+  -- a call by its target
   at_plain : (target : Result Url Refusal)
       → IsPlain (λ s. found_at shelf externals code caller function count working s target)
   at_plain (Ok url) =
@@ -206,6 +208,7 @@ module _ {U : Type 0} (shelf : Shelf) (externals : List ℕ → List ℕ → Opt
       (shelf (name_for url))) (under_plain url (shelf (name_for url)))
   at_plain (Err why) = just (λ w. _)
 
+  -- a call of another script
   pub external_plain : (target : List ℕ)
       → IsPlain (λ s. external_call shelf externals code s caller target function count working)
   external_plain target = at_plain (target_of (Some caller) target)
@@ -232,6 +235,7 @@ within_plain f plain = record {
   bound = plain.bound;
 }
 
+-- a variable is set, or not
 set_plain : (name text : List ℕ) → IsPlain (λ s. set_by (set_in s.world.vars name text) s)
 set_plain name text = by_case (λ w. set_in w.vars name text) set_by by
   where
@@ -244,6 +248,7 @@ set_plain name text = by_case (λ w. set_in w.vars name text) set_by by
     by (Err fault.Full) = just (λ w. _)
     by (Err fault.NoMemory) = just (λ w. _)
 
+-- a reference to the current card
 card_plain : (base : Url) (now : World → Option Place)
     → IsPlain (λ s. current_card base s (now s.world))
 card_plain base now = by_case now (λ o s. current_card base s o) by
@@ -252,6 +257,7 @@ card_plain base now = by_case now (λ o s. current_card base s o) by
     by None = just (λ w. _)
     by (Some place) = just (λ w. out.Value (Str (card_reference base w place)))
 
+-- the screen is shown
 refresh_plain : (now : World → Option Place) → IsPlain (λ s. refreshed s (now s.world))
 refresh_plain now = by_case now (λ o s. refreshed s o) by
   where
@@ -264,10 +270,12 @@ last_of : (o : Option Entry) → last_or None (option_to_list o) ≡ o
 last_of None = refl
 last_of (Some entry) = refl
 
+-- one entry is within the limit
 one_entry : {limit : ℕ} (o : Option Entry) → 1 ≤ limit → length (option_to_list o) ≤ limit
 one_entry None some = omega arith
 one_entry (Some entry) some = omega (arith, some)
 
+-- something is asked for
 pends_plain : (one : Option Task) → IsPlain (λ s. pends one s)
 pends_plain one =
     by_world (λ w. _) (λ w. record w { pending = one }) (record {
@@ -310,12 +318,14 @@ row_plain : {F : Type 0} (row : F → Step → HostOut × Step) (o : Option F)
 row_plain row None rows = just (λ w. _)
 row_plain row (Some f) rows = rows f
 
+-- WMLBrowser
 wml_plain : (now : World → Option Place) (base : Url) (number : ℕ) (arguments : List Value)
     → IsPlain (λ s. wml_browser now base number arguments s)
 wml_plain now base number arguments =
     row_plain (λ f s. row_of_browser now base arguments s f) (slice_get browser_functions number)
     (browser_row_plain now base arguments)
 
+-- a dialog
 asks_plain : (one : Dialog) → IsPlain (λ s. asks one s)
 asks_plain one = lines_more (λ w. out.Asks one) (λ w. dialog_line one ∷ [])
 
@@ -330,7 +340,8 @@ dialogs_row_plain arguments Prompt =
     (λ first. asks_plain (dialog.Prompt message first)))
 dialogs_row_plain arguments Confirm =
     text_plain (text_of (argument arguments 0))
-    (λ message s. on_text (argument arguments 1) s (λ ok. on_text (argument arguments 2) s (λ cancel.
+    (λ message s. on_text (argument arguments 1) s
+    (λ ok. on_text (argument arguments 2) s (λ cancel.
     asks
     (dialog.Confirm message (label_or ok (codes "OK")) (label_or cancel (codes "Cancel"))) s)))
     (λ message. text_plain (text_of (argument arguments 1))
@@ -345,11 +356,13 @@ dialogs_row_plain arguments Alert =
     text_plain (text_of (argument arguments 0)) (λ message s. asks (dialog.Alert message) s)
     (λ message. asks_plain (dialog.Alert message))
 
+-- Dialogs
 dialogs_plain : (number : ℕ) (arguments : List Value) → IsPlain (λ s. dialogs number arguments s)
 dialogs_plain number arguments =
     row_plain (λ f s. row_of_dialogs arguments s f) (slice_get dialog_functions number)
     (dialogs_row_plain arguments)
 
+-- a function that needs no browser
 pure_plain : (library function : ℕ) (arguments : List Value)
     → IsPlain (λ s. pure_call library function arguments s)
 pure_plain library function arguments =
@@ -362,12 +375,14 @@ pure_plain library function arguments =
       bound = λ w b. record { some = b.some; few = b.few };
     })
 
+-- a text is loaded
 loaded_plain : (shelf : Shelf) (url : Url) → IsPlain (λ s. loaded shelf url s)
 loaded_plain shelf url =
     let name = name_for url in
     let v = cond (ends_with nat_eq name (codes ".txt")) (text_in (shelf name)) not_acceptable in
     asked_then (plain_get url) (λ s. gives v s) (just (λ w. out.Value v))
 
+-- a URL that can be read, or not
 load_plain : (shelf : Shelf) (r : Result Url UrlFault) → IsPlain (λ s. load_from shelf r s)
 load_plain shelf (Err why) = just (λ w. _)
 load_plain shelf (Ok url) = by (page_url url)
@@ -376,6 +391,7 @@ load_plain shelf (Ok url) = by (page_url url)
     by (Ok u) = loaded_plain shelf u
     by (Err why) = just (λ w. _)
 
+-- loadString
 load_call_plain : (shelf : Shelf) (arguments : List Value)
     → IsPlain (λ s. load_call shelf arguments s)
 load_call_plain shelf arguments =
@@ -385,6 +401,7 @@ load_call_plain shelf arguments =
     (λ type. by_bool (starts_with nat_eq type (codes "text/")) (λ s. load_from shelf (url_at url) s)
     (λ s. gives Invalid s) (load_plain shelf (url_at url)) (just (λ w. _))))
 
+-- the library URL
 url_plain : (shelf : Shelf) (base : Url) (referer : Option Url) (function : ℕ)
     (arguments : List Value)
     → IsPlain (λ s. url_call shelf base referer function arguments s)
@@ -400,6 +417,7 @@ url_plain shelf base referer function arguments =
     (λ s. pure_call 3 function arguments s) (load_call_plain shelf arguments)
     (pure_plain 3 function arguments)))
 
+-- any library
 pub library_plain : (shelf : Shelf) (now : World → Option Place) (base : Url)
     (referer : Option Url) (library function : ℕ) (arguments : List Value)
     → IsPlain (λ s. library_call shelf now s base referer library function arguments)

@@ -35,6 +35,7 @@ use Rattle.wap_world.proofs.Joining.{onward_after}
 
 -- ---- meanwhile no turn is taken
 
+-- a timer that runs out takes no turn
 out_turns : (place : Option Place) (w : World) → (at_place run_out place w).world.turns ≡ w.turns
 out_turns None w = refl
 out_turns (Some place) w = stored _ (record w { timer = Expired })
@@ -43,6 +44,7 @@ out_turns (Some place) w = stored _ (record w { timer = Expired })
     stored None v = refl
     stored (Some name) v = refl
 
+-- nor does time that passes
 tick_turns : (shelf : Shelf) (n : ℕ) (timer : Timer) (w : World)
     → (tick_waiting shelf n timer w).world.turns ≡ w.turns
 tick_turns shelf n NotStarted w = refl
@@ -56,6 +58,7 @@ tick_turns shelf n (Running time) w =
 tick_turns shelf n Off w = refl
 tick_turns shelf n Expired w = refl
 
+-- nor does any key that is no answer
 meanwhile_turns : (shelf : Shelf) (one : Key) (w : World)
     → (meanwhile shelf one w).world.turns ≡ w.turns
 meanwhile_turns shelf (key.Open url) w = refl
@@ -72,12 +75,15 @@ meanwhile_turns shelf key.Stop w = refl
 meanwhile_turns shelf key.Vars w = refl
 
 module _ (call : List ℕ → Option Call) (pages : Pages) (one : Waits) (w : World) where
+  -- the shelf of the pages
   abbrev shelf : Shelf
   shelf = shelf_of pages
 
+  -- the end of the script
   abbrev ended : Ended Step → Once
   ended end = ended_script shelf one.base (ran_of end)
 
+  -- the frames go on with an answer
   abbrev go : HostOut × Step → Ended Step
   go got =
       gone_on (uncounted one.limits (keyed_host pages)) (λ e. e) one.frames got.0 w.turns got.1
@@ -88,12 +94,14 @@ module _ (call : List ℕ → Option Call) (pages : Pages) (one : Waits) (w : Wo
       onward (act (units_site call pages)) (ended (go (after_reply shelf reply key keys
       (quiet (key ∷ keys) (still (inside w))) (answered_by shelf one.dialog keys))))
 
+  -- a key in a dialog, by its reply
   turned_is : (one_key : Key) (keys : List Key)
       → turned call pages (Some one) w one_key keys
       ≡ replied (reply_to one.dialog one_key) one_key keys
   unfolding resumed_step
   turned_is one_key keys = refl
 
+  -- by the reply that it is
   by_reply : (one_key : Key) (reply : Reply) → reply_to one.dialog one_key ≡ reply
       → (keys : List Key)
       → turned call pages (Some one) w one_key keys ≡ replied reply one_key keys
@@ -115,7 +123,8 @@ module _ (call : List ℕ → Option Call) (pages : Pages) (one : Waits) (w : Wo
   -- the script is stopped
   pub stop_means : (one_key : Key) → reply_to one.dialog one_key ≡ ends_it → (keys : List Key)
       → turned call pages (Some one) w one_key keys
-      ≡ onward (act (units_site call pages)) (once_before keys (ended_script shelf one.base (record {
+      ≡ onward (act (units_site call pages))
+      (once_before keys (ended_script shelf one.base (record {
         end = failed Stopped;
         turns = w.turns;
         step = quiet [] (still (inside w));

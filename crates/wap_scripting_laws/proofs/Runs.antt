@@ -38,9 +38,11 @@ use Rattle.wap_world.proofs.Joining.{joined_assoc, joined_nothing}
 use Rattle.wap_scripting_laws.proofs.Plain.{fronted, rekeyed, IsPlain, external_plain}
 use Rattle.wap_scripting_laws.proofs.Plain.{library_plain}
 
+-- no step is lost
 abbrev Never : Step → Type 0
 Never s = ⊥
 
+-- so what is lost stays so
 never : (host : Hosting Step) → Stays host Never
 never host = record {
   external = λ s caller url name count working no. absurd no;
@@ -55,6 +57,7 @@ module _ (pages : Pages) (keys : List Key) where
     pub turns : s.world.turns ≡ 0
     pub closed : s.is_open ≡ false
 
+  -- a plain row before both keys
   both_keys : {A : Type 0} (f : Step → A × Step) → IsPlain f → (s t : Step) → OtherKeys s t
       → Both OtherKeys Never Never (f s) (f t)
   both_keys f plain s t other =
@@ -68,6 +71,7 @@ module _ (pages : Pages) (keys : List Key) where
         },
       )
 
+  -- the host doesn't read keys
   keys_alike : AreAlike OtherKeys Never Never (host_of pages) (host_of pages)
   keys_alike = record {
     external = λ s t caller url name count working other.
@@ -84,10 +88,12 @@ module _ (pages : Pages) (keys : List Key) where
 
 -- ---- what stands before
 
+-- a scene behind a step
 scene_front : (p : Step) (scene : Scene) (s : Step)
     → with_scene scene (joined p s) ≡ joined p (with_scene scene s)
 scene_front p scene s = joined_assoc p s (quiet s.keys scene)
 
+-- a reply behind a step
 reply_front : (shelf : Shelf) (p : Step) (reply : Reply) (key : Key) (keys : List Key) (s : Step)
     (later : Step → HostOut × Step) → ((t : Step) → later (joined p t) ≡ fronted p (later t))
     → after_reply shelf reply key keys (joined p s) later
@@ -98,6 +104,7 @@ reply_front shelf p passes key keys s later same =
     ap later (scene_front p (meanwhile shelf key s.world) (before keys s))
     ∙ same (with_scene (meanwhile shelf key s.world) (before keys s))
 
+-- keys in a dialog behind a step
 pub answered_front : (shelf : Shelf) (p : Step) (dialog : Dialog) (keys : List Key) (s : Step)
     → answered_by shelf dialog keys (joined p s) ≡ fronted p (answered_by shelf dialog keys s)
 answered_front shelf p dialog [] s = refl
@@ -105,6 +112,7 @@ answered_front shelf p dialog (key ∷ keys) s =
     reply_front shelf p (reply_to dialog key) key keys s (answered_by shelf dialog keys)
     (λ t. answered_front shelf p dialog keys t)
 
+-- an answer behind a step
 in_front : (shelf : Shelf) (p : Step) (gave : HostOut) (s : Step)
     → answered_in (by_keys shelf) gave (joined p s)
     ≡ fronted p (answered_in (by_keys shelf) gave s)
@@ -117,13 +125,16 @@ module _ (pages : Pages) (p : Step) where
   pub record IsBehind (s t : Step) : Type 0 where
     pub is : t ≡ joined p s
 
+  -- the same answer behind a step
   given : {A : Type 0} (a b : A × Step) → b ≡ fronted p a → Both IsBehind Never Never a b
   given a b is = inl (sym (ap (λ g. g.0) is), record { is = ap (λ g. g.1) is })
 
+  -- a call of a library, whose dialogs are answered
   abbrev asked : Step → Url → Option Url → ℕ → ℕ → List Value → HostOut × Step
   asked s base referer number index arguments =
       (keyed_host pages).library s base referer number index arguments
 
+  -- it doesn't see what stands before
   library_front : (base : Url) (referer : Option Url) (number index : ℕ) (arguments : List Value)
       (s : Step)
       → asked (joined p s) base referer number index arguments
@@ -135,6 +146,7 @@ module _ (pages : Pages) (p : Step) where
       arguments).behind p s)
       ∙ in_front (shelf_of pages) p gave.0 gave.1
 
+  -- nor does any call
   front_alike : AreAlike IsBehind Never Never (keyed_host pages) (keyed_host pages)
   front_alike = record {
     external = λ s t caller url name count working r.
@@ -154,11 +166,13 @@ module _ (pages : Pages) (p : Step) where
 
 -- ---- how scripts end: other keys
 
+-- a task that is next, before other keys
 keys_or_show : (shelf : Shelf) (some other : List Key) (task : Option Task) (w : World)
     → or_show shelf other task w ≡ once_before other (or_show shelf some task w)
 keys_or_show shelf some other None w = refl
 keys_or_show shelf some other (Some task) w = refl
 
+-- the end without a navigation, before other keys
 keys_rest : (shelf : Shelf) (some other : List Key) (timer : Timer) (w : World)
     → rest shelf other timer w ≡ once_before other (rest shelf some timer w)
 keys_rest shelf some other NotStarted w = refl
@@ -166,6 +180,7 @@ keys_rest shelf some other (Running time) w = refl
 keys_rest shelf some other Off w = refl
 keys_rest shelf some other Expired w = keys_or_show shelf some other _ _
 
+-- the end of a script that is done, before other keys
 keys_done : (shelf : Shelf) (base : Url) (pending : Option Task) (other : List Key) (step : Step)
     → end_done shelf base pending (before other step)
     ≡ once_before other (end_done shelf base pending step)
@@ -173,13 +188,16 @@ keys_done shelf base None other step =
     ap (after_step step) (keys_rest shelf step.keys other step.world.timer step.world)
 keys_done shelf base (Some task) other step = refl
 
+-- of one that gave a value
 pub keys_value : (shelf : Shelf) (base : Url) (turns : ℕ) (other : List Key) (step : Step)
     → ended_script shelf base (record { end = done; turns = turns; step = before other step })
-    ≡ once_before other (ended_script shelf base (record { end = done; turns = turns; step = step }))
+    ≡ once_before other (ended_script shelf base
+    (record { end = done; turns = turns; step = step }))
 keys_value shelf base turns other step =
     keys_done shelf base step.world.pending other
     (in_world (record step.world { turns = turns }) step)
 
+-- of one that failed
 pub keys_fatal : (shelf : Shelf) (base : Url) (why : Fatal) (turns : ℕ) (other : List Key)
     (step : Step)
     → ended_script shelf base (record { end = failed why; turns = turns; step = before other step })
@@ -192,6 +210,7 @@ keys_fatal shelf base why turns other step =
 
 -- ---- what stands before
 
+-- the end of a script that is done, behind a step
 front_done : (p : Step) (shelf : Shelf) (base : Url) (pending : Option Task) (step : Step)
     → end_done shelf base pending (joined p step)
     ≡ after_step p (end_done shelf base pending step)
@@ -199,6 +218,7 @@ front_done p shelf base None step =
     after_assoc p step (rest shelf step.keys step.world.timer step.world)
 front_done p shelf base (Some task) step = refl
 
+-- any end behind a step
 pub front_ended : (p : Step) (shelf : Shelf) (base : Url) (end : End) (turns : ℕ) (step : Step)
     → ended_script shelf base (record { end = end; turns = turns; step = joined p step })
     ≡ after_step p
@@ -220,12 +240,15 @@ front_ended p shelf base unanswered turns step =
     })) (sym (or_true p.is_open))
 
 module _ (pages : Pages) (base : Url) (limits : Limits) where
+  -- the shelf of the pages
   abbrev shelf : Shelf
   shelf = shelf_of pages
 
+  -- the second end is the first behind a step
   abbrev Alike : Step → Ended Step → Ended Step → Type 0
   Alike p end end' = ComeToSame (IsBehind pages p) Never Never end end'
 
+  -- frames that go on behind a step
   pub gone_alike : (p : Step) (frames : List Frame) (gave : HostOut) (turns : ℕ) (s : Step)
       → Alike p
       (gone_on (uncounted limits (keyed_host pages)) (λ end. end) frames gave turns s)
@@ -240,6 +263,7 @@ module _ (pages : Pages) (base : Url) (limits : Limits) where
   gone_alike p frames (out.Asks dialog) turns s =
       inl (record { outcome = refl; turns = refl; state = record { is = refl } })
 
+  -- what they come to
   pub ran_front : (p : Step) (end end' : Ended Step) → Alike p end end'
       → ended_script shelf base (ran_of end')
       ≡ after_step p (ended_script shelf base (ran_of end))
@@ -256,6 +280,7 @@ module _ (pages : Pages) (base : Url) (limits : Limits) where
       kin.state.is
       ∙ front_ended p shelf base (end_of end.outcome) end.turns end.state
 
+  -- a dialog that waits goes on with keys
   waiting_goes_on : (dialog : Dialog) (frames : List Frame) (turns : ℕ) (step : Step)
       (keys : List Key) → step.world.turns ≡ 0
       → let got = by_keys shelf (before keys step) dialog in
@@ -272,7 +297,8 @@ module _ (pages : Pages) (base : Url) (limits : Limits) where
       ∙ ap (λ (v : World). joined p (quiet keys (still v))) same_world in
       let go_with : HostOut × Step → Once = λ got.
       ended_script shelf base
-      (ran_of (gone_on (uncounted limits (keyed_host pages)) (λ end. end) frames got.0 turns got.1)) in
+      (ran_of (gone_on (uncounted limits (keyed_host pages)) (λ end. end) frames got.0 turns got.1))
+      in
       let got = answered_by shelf dialog keys s in
       ap (λ (t : Step). go_with (answered_by shelf dialog keys t)) same
       ∙ ap go_with (answered_front shelf p dialog keys s)
@@ -281,11 +307,13 @@ module _ (pages : Pages) (base : Url) (limits : Limits) where
       (gone_on (uncounted limits (keyed_host pages)) (λ end. end) frames got.0 turns
       (joined p got.1)) (gone_alike p frames got.0 turns got.1)
 
+  -- the end of a script by the keyed host
   abbrev unrolls : Ended Step → Once
   unrolls end =
       ended_script shelf base
       (ran_of (unrolled (uncounted limits (keyed_host pages)) (by_keys shelf) end))
 
+  -- by the outcome without keys
   goes_on_by : (outcome : Outcome) (turns : ℕ) (step : Step) (keys : List Key)
       → step.world.turns ≡ 0
       → unrolls (ended outcome turns (before keys step))
@@ -308,6 +336,7 @@ module _ (pages : Pages) (base : Url) (limits : Limits) where
       ∙ ap (λ (s : Step). unrolls (ended end.outcome end.turns s)) kin.state.is
       ∙ goes_on_by end.outcome end.turns end.state keys kin.state.turns
 
+  -- what a run without keys comes to with them
   abbrev with : Ended Step → Once
   with end = ended_script shelf base (ran_of end)
 
@@ -327,9 +356,11 @@ module _ (pages : Pages) (base : Url) (limits : Limits) where
       (keys_alike pages keys)).finishing frames turns (quiet [] scene) (quiet keys scene)
       (record { is = refl; turns = none; closed = refl }))
 
+  -- the same of an answer
   pub resumes : (frames : List Frame) (v : Value) (turns : ℕ) (world : World) (keys : List Key)
       → world.turns ≡ 0
-      → with (resumed (uncounted limits (keyed_host pages)) frames v turns (quiet keys (still world)))
+      → with (resumed (uncounted limits (keyed_host pages)) frames v turns
+      (quiet keys (still world)))
       ≡ once_of pages (half_of limits shelf base
       (resumed (uncounted limits (host_of pages)) frames v turns (quiet [] (still world)))) keys
   resumes frames v turns world keys none =

@@ -30,6 +30,7 @@ use Rattle.wap_scripting_laws.proofs.Plain.{library_plain}
 
 -- ---- the current card alone is asked of the pages
 
+-- a row of WMLBrowser
 browser_row_now : (one other : World → Option Place) (base : Url) (arguments : List Value)
     (s : Step) → one s.world ≡ other s.world → (f : BrowserFunction)
     → row_of_browser one base arguments s f ≡ row_of_browser other base arguments s f
@@ -41,6 +42,7 @@ browser_row_now one other base arguments s same NewContext = refl
 browser_row_now one other base arguments s same GetCurrentCard = ap (current_card base s) same
 browser_row_now one other base arguments s same Refresh = ap (refreshed s) same
 
+-- WMLBrowser
 wml_now : (one other : World → Option Place) (base : Url) (number : ℕ) (arguments : List Value)
     (s : Step) → one s.world ≡ other s.world
     → wml_browser one base number arguments s ≡ wml_browser other base number arguments s
@@ -52,6 +54,7 @@ wml_now one other base number arguments s same = by (slice_get browser_functions
     by None = refl
     by (Some f) = browser_row_now one other base arguments s same f
 
+-- any library
 library_now : (shelf : Shelf) (one other : World → Option Place) (s : Step) (base : Url)
     (referer : Option Url) (library function : ℕ) (arguments : List Value)
     → one s.world ≡ other s.world
@@ -66,6 +69,7 @@ library_now shelf one other s base referer library function arguments same =
 
 -- ---- counts
 
+-- pages one after the other
 counted_then : (some more : List Asked) (first : Option Counted)
     → counted_all (some ++ more) first ≡ counted_all more (counted_all some first)
 counted_then [] more first = refl
@@ -73,6 +77,7 @@ counted_then (one ∷ some) more first = counted_then some more (option_map (cou
 
 module _ (pages : Pages) (deck : Option Deck) (first : Option Counted) (entry : Option Entry)
     (over : IsAtHand pages deck entry) where
+  -- the deck at hand has the current card
   here : (s : Step) → last_entry s.world ≡ entry
       → place_now (shelf_of pages) s.world ≡ place_with deck s.world
   here s last =
@@ -87,6 +92,7 @@ module _ (pages : Pages) (deck : Option Deck) (first : Option Counted) (entry : 
       ∙ plain.behind s (quiet s.keys (still s.world))
       ∙ ap (fronted s) (plain.unread s.keys (quiet [] (still s.world)))
 
+  -- a plain row shows the same
   row_shows : {A : Type 0} (f : Step → A × Step) → IsPlain f → (s : Step) (v : View)
       → Shows pages deck first entry s v
       → Both (Shows pages deck first entry) NoStep NoView (f s) (added v (f (fresh v)))
@@ -107,9 +113,11 @@ module _ (pages : Pages) (deck : Option Deck) (first : Option Counted) (entry : 
         },
       )
 
+  -- the current card of the deck at hand
   abbrev held : World → Option Place
   held = place_with deck
 
+  -- both hosts show the same
   views_alike : AreAlike (Shows pages deck first entry) NoStep NoView (host_of pages) viewing
   views_alike = record {
     external = λ s v caller url name count working shows.

@@ -2,12 +2,11 @@
 //! when they are called.
 #![tactic(auto)]
 
-ghost use Rattle.std.specs.Prelude.{◌≡◌, ◌++◌, ◌∷◌, [], ℕ, Bool, false, List, Option, Some, Ok};
+ghost use Rattle.std.specs.Prelude.{◌≡◌, ◌++◌, ◌∷◌, [], ℕ, false, List, Option, Some, Ok};
 ghost use Rattle.wap_base.specs.declared.limits.Limits.{Limits as TheLimits};
 ghost use Rattle.wap_url.specs.declared.url.Url.{Url};
 ghost use Rattle.wap_url.specs.Printing.{name_for};
 ghost use Rattle.wap_value.specs.declared.value.Value.{Value as TheValue};
-ghost use Rattle.wap_code.specs.declared.unit.Unit.{Unit as TheUnit};
 ghost use Rattle.wap_input.specs.declared.key.Key.{Key};
 ghost use Rattle.wap_execution.specs.declared.fatal.Fatal.TheVariants.{Denied, Stopped};
 ghost use Rattle.wap_execution.specs.declared.found.Found.TheVariants.{Not};
@@ -23,7 +22,6 @@ ghost use Rattle.wap_world.specs.Starting.{ended_script};
 ghost use Rattle.wap_world.specs.Tasks.{onward, act};
 ghost use Rattle.wap_world.specs.World.{World};
 ghost use Rattle.wap_world.specs.History.{KeepsToLimit};
-ghost use Rattle.wap_world.specs.Sessions.{played};
 ghost use Rattle.wap_world_laws.specs.Scripts.{GivesNoTurns, MakesNoKeys, ScriptsKeep};
 ghost use Rattle.wap_world_laws.specs.Standing.{StandsOnCard};
 ghost use Rattle.wap_scripting.specs.Dialogs.{answers, ends_it, passes, reply_to, meanwhile};
@@ -33,16 +31,6 @@ ghost use Rattle.wap_scripting.specs.Halves.{half_of, once_of, GoesOnWithKeys};
 ghost use Rattle.wap_scripting.specs.Feeding.{Fed, Means, turned, Turns, Feeds, AreFed};
 ghost use Rattle.wap_scripting.specs.Feeding.{last_fed, all_fed};
 ghost use Rattle.wap_scripting.specs.Views.{ViewsRunAlike};
-ghost use Rattle.wap_scripting.specs.Sources.{LanguageOf, AllPages, Agrees, site_of};
-ghost use Rattle.wap_scripting.specs.Sources.{compiled_pages};
-ghost use Rattle.wap_scripting_laws.specs.Denial.{is_entered, DifferWithin, DeniedMatterNot};
-
-/// What the programs of sources are, and what a browser makes of them.
-pub trait Language {
-    ghost Program: { Type 0 };
-
-    ghost language: { LanguageOf Program };
-}
 
 /// Where a key did so much without further keys and left the rest to these, the lines of the key,
 /// and then what any further keys show from the state that it leaves, are what the key and these
@@ -132,29 +120,4 @@ pub fn denied_calls_run_nothing()
                 ++ record { page = name_for url; caller = Some caller; allowed = false } ∷ [];
           },
         ) }
-{}
-
-/// Sources that are replaced by units that agree with them leave the site as it is, and so all that
-/// is said of it.
-pub fn sources_may_be_compiled<L: Language>()
-    ensures { (compiler : L.Program → TheUnit)
-        (agrees : (one : L.Program) → Agrees L.language one (compiler one))
-        (call : List ℕ → Option Call) (pages : AllPages L.Program)
-        → site_of L.language call pages
-        ≡ units_site call (compiled_pages L.language compiler pages) }
-{}
-
-/// Scripts that were only ever denied may be any others that let the same in, units or sources.
-pub fn denied_scripts_do_not_matter<L: Language>()
-    ensures units { DeniedMatterNot }
-    ensures sources { (compiler : L.Program → TheUnit)
-        (agrees : (one : L.Program) → Agrees L.language one (compiler one))
-        (call : List ℕ → Option Call) (among : List ℕ → Bool) (one other : AllPages L.Program)
-        → DifferWithin among (compiled_pages L.language compiler one)
-        (compiled_pages L.language compiler other)
-        → (keys : List Key) (world : World)
-        → let here = site_of L.language call one in
-        let there = site_of L.language call other in
-        is_entered among (played here keys world).tests ≡ false
-        → played here keys world ≡ played there keys world }
 {}

@@ -67,7 +67,7 @@ use Rattle.wap_scripting.specs.Hosting.{library_call, hosting}
 use Rattle.wap_scripting.specs.Units.{external_in}
 use Rattle.wap_scripting.specs.ScriptPages.{script_in}
 use Rattle.wap_scripting.specs.UnitSites.{no_unit, end_of, ran_of}
-use Rattle.wap_scripting_laws.specs.Denial.{is_entered, DifferWithin, DeniedMatterNot}
+use Rattle.wap_exchange_laws.specs.Denial.{is_entered, DifferWithin, DeniedMatterNot}
 use Rattle.wap_world.proofs.Joining.{joined_nothing}
 use Rattle.wap_world.specs.Access.{may_enter}
 use Rattle.wap_scripting_laws.proofs.Plain.{fronted}
@@ -80,35 +80,43 @@ use Rattle.wap_scripting.specs.UnitSites.{started_at, units_site}
 use Rattle.wap_scripting_laws.proofs.Plain.{IsPlain, external_plain, library_plain}
 
 module _ (among : List ℕ → Bool) where
+  -- one of these names was entered by a test
   abbrev Entered : List AccessTest → Type 0
   Entered tests = is_entered among tests ≡ true
 
+  -- the first of two is so
   or_first : (a b : Bool) → a ≡ true → (a || b) ≡ true
   or_first true b is = refl
   or_first false b is = absurd (cc)
 
+  -- the second of two is so
   or_second : (a b : Bool) → b ≡ true → (a || b) ≡ true
   or_second true b is = refl
   or_second false b is = is
 
+  -- the first of two, or what follows from the second
   or_by : (a b c : Bool) → (a || b) ≡ true → (b ≡ true → c ≡ true) → (a || c) ≡ true
   or_by true b c is on = refl
   or_by false b c is on = on is
 
+  -- tests that come first
   first : (one other : List AccessTest) → Entered one → Entered (one ++ other)
   first [] other is = absurd (cc)
   first (t ∷ one) other is =
       or_by (among t.page && t.allowed) (is_entered among one) (is_entered among (one ++ other)) is
       (λ later. first one other later)
 
+  -- tests that come later
   second : (one other : List AccessTest) → Entered other → Entered (one ++ other)
   second [] other is = is
   second (t ∷ one) other is =
       or_second (among t.page && t.allowed) (is_entered among (one ++ other)) (second one other is)
 
+  -- a step that entered one of these names
   abbrev Lost : Step → Type 0
   Lost step = Entered step.tests
 
+  -- a test that lets one of these names in
   entered_by : (name : List ℕ) (allowed : Bool) (rest_of : List AccessTest) (caller : Option Url)
       → allowed ≡ true → among name ≡ true
       → Entered (record { page = name; caller = caller; allowed = allowed } ∷ rest_of)
@@ -118,6 +126,7 @@ module _ (among : List ℕ → Bool) where
 
   -- ---- in scripts
 
+  -- a reply adds no test
   reply_tests : (shelf : Shelf) (reply : Reply) (one : Key) (keys : List Key) (s : Step)
       (later : Step → HostOut × Step) → ((t : Step) → (later t).1.tests ≡ t.tests)
       → (after_reply shelf reply one keys s later).1.tests ≡ s.tests
@@ -127,6 +136,7 @@ module _ (among : List ℕ → Bool) where
       same (with_scene (meanwhile shelf one s.world) (record s { keys = keys }))
       ∙ append-nil s.tests
 
+  -- keys in a dialog add no test
   answered_tests : (shelf : Shelf) (dialog : Dialog) (keys : List Key) (s : Step)
       → (answered_by shelf dialog keys s).1.tests ≡ s.tests
   answered_tests shelf dialog [] s = refl
@@ -134,6 +144,7 @@ module _ (among : List ℕ → Bool) where
       reply_tests shelf (reply_to dialog one) one keys s (answered_by shelf dialog keys)
       (λ t. answered_tests shelf dialog keys t)
 
+  -- nor does an answer
   in_tests : (shelf : Shelf) (gave : HostOut) (s : Step)
       → (answered_in (by_keys shelf) gave s).1.tests ≡ s.tests
   in_tests shelf (out.Value v) s = refl
@@ -154,17 +165,21 @@ module _ (among : List ℕ → Bool) where
       (codes_same : (name : List ℕ) → among name ≡ false → code name ≡ code' name)
       (names_same : (name function : List ℕ) → among name ≡ false
       → externals name function ≡ externals' name function) where
+    -- the host of a shelf whose dialogs are answered by the keys that are left, with these scripts
     abbrev host_with : (List ℕ → List ℕ → Option External) → (List ℕ → CodeUnit) → Hosting Step
     host_with names units =
         let host = hosting shelf (place_now shelf) names units in
         keyed (by_keys shelf) (record { external = host.external; library = host.library })
 
+    -- with the one scripts
     abbrev one_host : Hosting Step
     one_host = host_with externals code
 
+    -- with the other
     abbrev other_host : Hosting Step
     other_host = host_with externals' code'
 
+    -- what entered one of these names stays so
     stays : (names : List ℕ → List ℕ → Option External) (units : List ℕ → CodeUnit)
         → Stays (host_with names units) Lost
     stays names units = record {
@@ -179,9 +194,11 @@ module _ (among : List ℕ → Bool) where
           (library_plain shelf (place_now shelf) base referer number index arguments) s lost);
     }
 
+    -- the same answers and steps, or both lost
     abbrev Alike : {A : Type 0} → A × Step → A × Step → Type 0
     Alike one other = Both (λ (s t : Step). s ≡ t) Lost Lost one other
 
+    -- a call of a script: denied, of another name, or lost
     script_alike : (caller url : Url) (function : List ℕ) (count working : ℕ) (s : Step)
         (entrance : Option Entrance) (allowed within : Bool)
         → may_enter url entrance (Some caller) ≡ allowed → among (name_for url) ≡ within
@@ -218,6 +235,7 @@ module _ (among : List ℕ → Bool) where
         about in
         inr (second s.tests (test_is ∷ []) entered_it, second s.tests (test_is ∷ []) entered_it)
 
+    -- a call by the page that answers
     under_alike : (caller url : Url) (function : List ℕ) (count working : ℕ) (s : Step)
         (page : Shelved)
         → Alike (found_under shelf externals code caller url function count working s page)
@@ -230,6 +248,7 @@ module _ (among : List ℕ → Bool) where
     under_alike caller url function count working s refused_page = inl (refl, refl)
     under_alike caller url function count working s no_page = inl (refl, refl)
 
+    -- a call by its target
     at_alike : (caller : Url) (function : List ℕ) (count working : ℕ) (s : Step)
         (r : Result Url Refusal)
         → Alike (found_at shelf externals code caller function count working s r)
@@ -239,6 +258,7 @@ module _ (among : List ℕ → Bool) where
         (shelf (name_for url))
     at_alike caller function count working s (Err why) = inl (refl, refl)
 
+    -- both hosts do the same, until one of these names is entered
     hosts_alike : AreAlike (λ (s t : Step). s ≡ t) Lost Lost one_host other_host
     hosts_alike = record {
       external = λ s t caller url name count working is.
@@ -254,64 +274,81 @@ module _ (among : List ℕ → Bool) where
 
   -- ---- steps that are the same, or both lost
 
-  abbrev E : Step → Step → Type 0
-  E a b = (a ≡ b) ⊎ (Lost a × Lost b)
+  -- the same steps, or both lost
+  abbrev StepAlike : Step → Step → Type 0
+  StepAlike a b = (a ≡ b) ⊎ (Lost a × Lost b)
 
-  abbrev EO : Once → Once → Type 0
-  EO a b = (a ≡ b) ⊎ (Lost a.step × Lost b.step)
+  -- the same navigations, or both lost
+  abbrev OnceAlike : Once → Once → Type 0
+  OnceAlike a b = (a ≡ b) ⊎ (Lost a.step × Lost b.step)
 
-  joined_E : (step a b : Step) → E a b → E (joined step a) (joined step b)
-  joined_E step a b (inl is) = inl (ap (joined step) is)
-  joined_E step a b (inr lost) =
+  -- a step before both
+  joined_alike : (step a b : Step) → StepAlike a b → StepAlike (joined step a) (joined step b)
+  joined_alike step a b (inl is) = inl (ap (joined step) is)
+  joined_alike step a b (inr lost) =
       inr (second step.tests a.tests lost.0, second step.tests b.tests lost.1)
 
-  after_E : (step : Step) (a b : Once) → EO a b → EO (after_step step a) (after_step step b)
-  after_E step a b (inl is) = inl (ap (after_step step) is)
-  after_E step a b (inr lost) =
+  -- a step before both navigations
+  after_alike : (step : Step) (a b : Once) → OnceAlike a b
+      → OnceAlike (after_step step a) (after_step step b)
+  after_alike step a b (inl is) = inl (ap (after_step step) is)
+  after_alike step a b (inr lost) =
       inr (second step.tests a.step.tests lost.0, second step.tests b.step.tests lost.1)
 
+  -- how a task is acted on
   abbrev Act : Type 0
   Act = List Key → World → Next → Step
 
-  abbrev ActsE : Act → Act → Type 0
-  ActsE f g = (keys : List Key) (w : World) (next : Next) → E (f keys w next) (g keys w next)
+  -- two ways that come to the same
+  abbrev ActsAlike : Act → Act → Type 0
+  ActsAlike f g =
+      (keys : List Key) (w : World) (next : Next) → StepAlike (f keys w next) (g keys w next)
 
-  leads_E : (f g : Act) → ActsE f g → (step : Step) (o : Option Next)
-      → E (go_on f step o) (go_on g step o)
-  leads_E f g same step None = inl refl
-  leads_E f g same step (Some next) =
-      joined_E step (f step.keys step.world next) (g step.keys step.world next)
+  -- what a navigation leads to
+  leads_alike : (f g : Act) → ActsAlike f g → (step : Step) (o : Option Next)
+      → StepAlike (go_on f step o) (go_on g step o)
+  leads_alike f g same step None = inl refl
+  leads_alike f g same step (Some next) =
+      joined_alike step (f step.keys step.world next) (g step.keys step.world next)
       (same step.keys step.world next)
 
+  -- a lost step stays lost in what it leads to
   leads_lost : (f : Act) (step : Step) (o : Option Next) → Lost step → Lost (go_on f step o)
   leads_lost f step None lost = lost
   leads_lost f step (Some next) lost =
       first step.tests (f step.keys step.world next).tests lost
 
-  onward_E : (f g : Act) → ActsE f g → (a b : Once) → EO a b → E (onward f a) (onward g b)
-  onward_E f g same a b (inl is) =
-      subst (λ (c : Once). E (onward f a) (onward g c)) is (leads_E f g same a.step a.next)
-  onward_E f g same a b (inr lost) =
+  -- a navigation and all that it leads to
+  onward_alike : (f g : Act) → ActsAlike f g → (a b : Once) → OnceAlike a b
+      → StepAlike (onward f a) (onward g b)
+  onward_alike f g same a b (inl is) =
+      subst (λ (c : Once). StepAlike (onward f a) (onward g c)) is
+      (leads_alike f g same a.step a.next)
+  onward_alike f g same a b (inr lost) =
       inr (leads_lost f a.step a.next lost.0, leads_lost g b.step b.next lost.1)
 
-  followed_E : (f g : List Key → World → Step)
-      → ((keys : List Key) (w : World) → E (f keys w) (g keys w)) → (a b : Step) → E a b
-      → E (followed a f) (followed b g)
-  followed_E f g same a b (inl is) =
-      subst (λ (c : Step). E (followed a f) (followed c g)) is
-      (joined_E a (f a.keys a.world) (g a.keys a.world) (same a.keys a.world))
-  followed_E f g same a b (inr lost) =
+  -- a step and what follows it
+  followed_alike : (f g : List Key → World → Step)
+      → ((keys : List Key) (w : World) → StepAlike (f keys w) (g keys w)) → (a b : Step)
+      → StepAlike a b
+      → StepAlike (followed a f) (followed b g)
+  followed_alike f g same a b (inl is) =
+      subst (λ (c : Step). StepAlike (followed a f) (followed c g)) is
+      (joined_alike a (f a.keys a.world) (g a.keys a.world) (same a.keys a.world))
+  followed_alike f g same a b (inr lost) =
       inr
       (first a.tests (f a.keys a.world).tests lost.0, first b.tests (g b.keys b.world).tests lost.1)
 
   -- ---- the end of a script
 
+  -- a lost step stays lost at the end of a script that is done
   done_lost : (shelf : Shelf) (base : Url) (pending : Option Task) (step : Step) → Lost step
       → Lost (end_done shelf base pending step).step
   done_lost shelf base None step lost =
       first step.tests (rest shelf step.keys step.world.timer step.world).step.tests lost
   done_lost shelf base (Some one) step lost = lost
 
+  -- and at any end of a script
   ended_lost : (shelf : Shelf) (base : Url) (end : End) (turns : ℕ) (step : Step) → Lost step
       → Lost (ended_script shelf base (record { end = end; turns = turns; step = step })).step
   ended_lost shelf base done turns step lost =
@@ -324,8 +361,9 @@ module _ (among : List ℕ → Bool) where
       })).step.tests lost
   ended_lost shelf base unanswered turns step lost = lost
 
-  abbrev RanE : Ran → Ran → Type 0
-  RanE a b = (a ≡ b) ⊎ (Lost a.step × Lost b.step)
+  -- the same ends of scripts, or both lost
+  abbrev RanAlike : Ran → Ran → Type 0
+  RanAlike a b = (a ≡ b) ⊎ (Lost a.step × Lost b.step)
 
   -- ---- rules
 
@@ -336,270 +374,312 @@ module _ (among : List ℕ → Bool) where
       → externals name function ≡ externals' name function)
       (runs : (name : List ℕ) (base : Url) (referer : Option Url) (index : ℕ)
       (arguments : List Value) (turns : ℕ) (s : Step) → among name ≡ false
-      → RanE (run name base referer index arguments turns s)
+      → RanAlike (run name base referer index arguments turns s)
       (run' name base referer index arguments turns s)) where
-    abbrev s1 : Site
-    s1 = record { shelf = shelf; external = externals; run = run; call = call }
+    -- a site over the shelf, with the one scripts
+    abbrev site : Site
+    site = record { shelf = shelf; external = externals; run = run; call = call }
 
-    abbrev s2 : Site
-    s2 = record { shelf = shelf; external = externals'; run = run'; call = call }
+    -- and with the other
+    abbrev site' : Site
+    site' = record { shelf = shelf; external = externals'; run = run'; call = call }
 
-    ended_E : (base : Url) (a b : Ran) → RanE a b
-        → EO (ended_script shelf base a) (ended_script shelf base b)
-    ended_E base a b (inl is) = inl (ap (ended_script shelf base) is)
-    ended_E base a b (inr lost) = inr (
+    -- the end of a script
+    ended_alike : (base : Url) (a b : Ran) → RanAlike a b
+        → OnceAlike (ended_script shelf base a) (ended_script shelf base b)
+    ended_alike base a b (inl is) = inl (ap (ended_script shelf base) is)
+    ended_alike base a b (inr lost) = inr (
       ended_lost shelf base a.end a.turns a.step lost.0,
       ended_lost shelf base b.end b.turns b.step lost.1,
     )
 
-    started_E : (keys : List Key) (sets : Pairs) (caller : Option Url) (url : Url) (w : World)
+    -- a script that is started, under another name
+    started_alike : (keys : List Key) (sets : Pairs) (caller : Option Url) (url : Url) (w : World)
         (index : ℕ) (arguments : List Value) → among (name_for url) ≡ false
-        → EO (started s1 keys sets caller url w index arguments)
-        (started s2 keys sets caller url w index arguments)
-    started_E keys sets caller url w index arguments outside =
+        → OnceAlike (started site keys sets caller url w index arguments)
+        (started site' keys sets caller url w index arguments)
+    started_alike keys sets caller url w index arguments outside =
         let set = set_variables sets w in
         let base = without_fragment url in
         let s = quiet keys (record set { world = prepared set.world }) in
-        ended_E base (run (name_for url) base caller index arguments set.world.turns s)
+        ended_alike base (run (name_for url) base caller index arguments set.world.turns s)
         (run' (name_for url) base caller index arguments set.world.turns s)
         (runs (name_for url) base caller index arguments set.world.turns s outside)
 
-    external_E : (keys : List Key) (sets : Pairs) (caller : Option Url) (url : Url) (w : World)
+    -- a call of an external function, under another name
+    external_alike : (keys : List Key) (sets : Pairs) (caller : Option Url) (url : Url) (w : World)
         (arguments : List Value) (o : Option External) → among (name_for url) ≡ false
-        → EO (start_external s1 keys sets caller url w arguments o)
-        (start_external s2 keys sets caller url w arguments o)
-    external_E keys sets caller url w arguments None outside = inl refl
-    external_E keys sets caller url w arguments (Some one) outside =
-        elim (eqb one.arguments (length arguments)) as (λ (b : Bool). EO (cond b
+        → OnceAlike (start_external site keys sets caller url w arguments o)
+        (start_external site' keys sets caller url w arguments o)
+    external_alike keys sets caller url w arguments None outside = inl refl
+    external_alike keys sets caller url w arguments (Some one) outside =
+        elim (eqb one.arguments (length arguments)) as (λ (b : Bool). OnceAlike (cond b
         (cond (list_any (is_too_long w.limits.string) arguments)
         (not_started shelf keys fatal.TooLong w)
-        (started s1 keys sets caller url w one.index arguments))
+        (started site keys sets caller url w one.index arguments))
         (not_started shelf keys fatal.Arguments w)) (cond b
         (cond (list_any (is_too_long w.limits.string) arguments)
         (not_started shelf keys fatal.TooLong w)
-        (started s2 keys sets caller url w one.index arguments))
+        (started site' keys sets caller url w one.index arguments))
         (not_started shelf keys fatal.Arguments w))) [
           | true ↦
-              elim (list_any (is_too_long w.limits.string) arguments) as (λ (b : Bool). EO
+              elim (list_any (is_too_long w.limits.string) arguments) as (λ (b : Bool). OnceAlike
               (cond b (not_started shelf keys fatal.TooLong w)
-              (started s1 keys sets caller url w one.index arguments))
+              (started site keys sets caller url w one.index arguments))
               (cond b (not_started shelf keys fatal.TooLong w)
-              (started s2 keys sets caller url w one.index arguments))) [
+              (started site' keys sets caller url w one.index arguments))) [
                 | true ↦ inl refl
-                | false ↦ started_E keys sets caller url w one.index arguments outside
+                | false ↦ started_alike keys sets caller url w one.index arguments outside
               ]
           | false ↦ inl refl
         ]
 
-    call_E : (keys : List Key) (sets : Pairs) (caller : Option Url) (url : Url) (w : World)
+    -- a call by a fragment, under another name
+    call_alike : (keys : List Key) (sets : Pairs) (caller : Option Url) (url : Url) (w : World)
         (o : Option Call) → among (name_for url) ≡ false
-        → EO (start_call s1 keys sets caller url w o) (start_call s2 keys sets caller url w o)
-    call_E keys sets caller url w None outside = inl refl
-    call_E keys sets caller url w (Some one) outside =
+        → OnceAlike (start_call site keys sets caller url w o)
+        (start_call site' keys sets caller url w o)
+    call_alike keys sets caller url w None outside = inl refl
+    call_alike keys sets caller url w (Some one) outside =
         let name = name_for url in
-        subst (λ (o : Option External). EO (start_external s1 keys sets caller url w one.arguments
-        (externals name one.function)) (start_external s2 keys sets caller url w one.arguments o))
+        subst (λ (o : Option External). OnceAlike
+        (start_external site keys sets caller url w one.arguments
+        (externals name one.function))
+        (start_external site' keys sets caller url w one.arguments o))
         (names_same name one.function outside)
-        (external_E keys sets caller url w one.arguments (externals name one.function) outside)
+        (external_alike keys sets caller url w one.arguments (externals name one.function) outside)
 
-    start_E : (keys : List Key) (sets : Pairs) (caller : Option Url) (url : Url)
+    -- a start: denied, of another name, or lost
+    start_alike : (keys : List Key) (sets : Pairs) (caller : Option Url) (url : Url)
         (entrance : Option Entrance) (w : World) (allowed within : Bool)
         → may_enter url entrance caller ≡ allowed → among (name_for url) ≡ within
         → let one = test_of url caller entrance in
-        EO (after_step (test keys one w) (start_if s1 keys sets caller url w one.allowed))
-        (after_step (test keys one w) (start_if s2 keys sets caller url w one.allowed))
-    start_E keys sets caller url entrance w false within is about =
+        OnceAlike (after_step (test keys one w) (start_if site keys sets caller url w one.allowed))
+        (after_step (test keys one w) (start_if site' keys sets caller url w one.allowed))
+    start_alike keys sets caller url entrance w false within is about =
         let one = test_of url caller entrance in
-        inl (ap (λ (b : Bool). after_step (test keys one w) (start_if s1 keys sets caller url w b)) is
-        ∙ sym (ap (λ (b : Bool). after_step (test keys one w) (start_if s2 keys sets caller url w b))
+        inl (ap (λ (b : Bool). after_step (test keys one w)
+        (start_if site keys sets caller url w b)) is
+        ∙ sym (ap (λ (b : Bool). after_step (test keys one w)
+        (start_if site' keys sets caller url w b))
         is))
-    start_E keys sets caller url entrance w true false is about =
+    start_alike keys sets caller url entrance w true false is about =
         let one = test_of url caller entrance in
         let wanted = option_and_then call url.fragment in
-        subst (λ (b : Bool). EO
-        (after_step (test keys one w) (start_if s1 keys sets caller url w b))
-        (after_step (test keys one w) (start_if s2 keys sets caller url w b))) (sym is)
-        (after_E (test keys one w) (start_call s1 keys sets caller url w wanted)
-        (start_call s2 keys sets caller url w wanted) (call_E keys sets caller url w wanted about))
-    start_E keys sets caller url entrance w true true is about =
+        subst (λ (b : Bool). OnceAlike
+        (after_step (test keys one w) (start_if site keys sets caller url w b))
+        (after_step (test keys one w) (start_if site' keys sets caller url w b))) (sym is)
+        (after_alike (test keys one w) (start_call site keys sets caller url w wanted)
+        (start_call site' keys sets caller url w wanted)
+        (call_alike keys sets caller url w wanted about))
+    start_alike keys sets caller url entrance w true true is about =
         let one = test_of url caller entrance in
         let entered_it : Entered (one ∷ []) =
         entered_by (name_for url) (may_enter url entrance caller) [] caller is about in
         inr (
-          first (one ∷ []) (start_if s1 keys sets caller url w one.allowed).step.tests entered_it,
-          first (one ∷ []) (start_if s2 keys sets caller url w one.allowed).step.tests entered_it,
+          first (one ∷ []) (start_if site keys sets caller url w one.allowed).step.tests entered_it,
+          first (one ∷ []) (start_if site' keys sets caller url w one.allowed).step.tests
+              entered_it,
         )
 
-    answered_E : (keys : List Key) (sets : Pairs) (caller : Option Url) (url : Url) (w : World)
+    -- a request by the page that answers
+    answered_alike : (keys : List Key) (sets : Pairs) (caller : Option Url) (url : Url) (w : World)
         (page : Shelved)
-        → EO (answered s1 keys sets caller url w page) (answered s2 keys sets caller url w page)
-    answered_E keys sets caller url w (deck_page deck) = inl refl
-    answered_E keys sets caller url w (script_page entrance) =
-        start_E keys sets caller url entrance w (may_enter url entrance caller)
+        → OnceAlike (answered site keys sets caller url w page)
+        (answered site' keys sets caller url w page)
+    answered_alike keys sets caller url w (deck_page deck) = inl refl
+    answered_alike keys sets caller url w (script_page entrance) =
+        start_alike keys sets caller url entrance w (may_enter url entrance caller)
         (among (name_for url)) refl refl
-    answered_E keys sets caller url w (text_page text) = inl refl
-    answered_E keys sets caller url w refused_page = inl refl
-    answered_E keys sets caller url w no_page = inl refl
+    answered_alike keys sets caller url w (text_page text) = inl refl
+    answered_alike keys sets caller url w refused_page = inl refl
+    answered_alike keys sets caller url w no_page = inl refl
 
-    request_E : (keys : List Key) (sets : Pairs) (caller : Option Url) (one : Request) (w : World)
-        → EO (request s1 keys sets caller one w) (request s2 keys sets caller one w)
-    request_E keys sets caller one w =
+    -- a request
+    request_alike : (keys : List Key) (sets : Pairs) (caller : Option Url) (one : Request)
+        (w : World)
+        → OnceAlike (request site keys sets caller one w) (request site' keys sets caller one w)
+    request_alike keys sets caller one w =
         let page = answer_to shelf one in
-        after_E (ask keys one w) (answered s1 keys sets caller one.url w page)
-        (answered s2 keys sets caller one.url w page) (answered_E keys sets caller one.url w page)
+        after_alike (ask keys one w) (answered site keys sets caller one.url w page)
+        (answered site' keys sets caller one.url w page)
+        (answered_alike keys sets caller one.url w page)
 
-    stay_E : (keys : List Key) (sets : Pairs) (caller : Option Url) (one : Request) (w : World)
+    -- a go, which may stay in its deck
+    stay_alike : (keys : List Key) (sets : Pairs) (caller : Option Url) (one : Request) (w : World)
         (o : Option Place)
-        → EO (stay_or_ask s1 keys sets caller one w o) (stay_or_ask s2 keys sets caller one w o)
-    stay_E keys sets caller one w None = request_E keys sets caller one w
-    stay_E keys sets caller one w (Some place) =
+        → OnceAlike (stay_or_ask site keys sets caller one w o)
+        (stay_or_ask site' keys sets caller one w o)
+    stay_alike keys sets caller one w None = request_alike keys sets caller one w
+    stay_alike keys sets caller one w (Some place) =
         let stay = arrive shelf keys sets (here_with place one.url) w place.deck in
         elim (is_here one place) as (λ (b : Bool).
-        EO (cond b stay (request s1 keys sets caller one w))
-        (cond b stay (request s2 keys sets caller one w))) [
+        OnceAlike (cond b stay (request site keys sets caller one w))
+        (cond b stay (request site' keys sets caller one w))) [
           | true ↦ inl refl
-          | false ↦ request_E keys sets caller one w
+          | false ↦ request_alike keys sets caller one w
         ]
 
-    url_E : (keys : List Key) (w : World) (f g : Url → Once) (r : Result Url Refusal)
-        → ((url : Url) → EO (f url) (g url))
-        → EO (with_url shelf keys w f r) (with_url shelf keys w g r)
-    url_E keys w f g (Ok url) same = same url
-    url_E keys w f g (Err why) same = inl refl
+    -- by a target that can be one of a page, or not
+    url_alike : (keys : List Key) (w : World) (f g : Url → Once) (r : Result Url Refusal)
+        → ((url : Url) → OnceAlike (f url) (g url))
+        → OnceAlike (with_url shelf keys w f r) (with_url shelf keys w g r)
+    url_alike keys w f g (Ok url) same = same url
+    url_alike keys w f g (Err why) same = inl refl
 
-    turn_E : (keys : List Key) (w : World) (turns : ℕ) (f g : World → Once)
-        → ((v : World) → EO (f v) (g v))
-        → EO (with_turn shelf keys w turns f) (with_turn shelf keys w turns g)
-    turn_E keys w zero f g same = inl refl
-    turn_E keys w (suc turns) f g same = same (record w { turns = turns })
+    -- where a turn is left, or not
+    turn_alike : (keys : List Key) (w : World) (turns : ℕ) (f g : World → Once)
+        → ((v : World) → OnceAlike (f v) (g v))
+        → OnceAlike (with_turn shelf keys w turns f) (with_turn shelf keys w turns g)
+    turn_alike keys w zero f g same = inl refl
+    turn_alike keys w (suc turns) f g same = same (record w { turns = turns })
 
-    by_E : (keys : List Key) (w : World) (from : Option Url) (one : Task)
-        → EO (task_by s1 keys w from one) (task_by s2 keys w from one)
-    by_E keys w from (task.Go one) =
-        turn_E keys w w.turns (λ v. go s1 keys (base_now shelf v from) one v)
-        (λ v. go s2 keys (base_now shelf v from) one v)
+    -- one task
+    by_alike : (keys : List Key) (w : World) (from : Option Url) (one : Task)
+        → OnceAlike (task_by site keys w from one) (task_by site' keys w from one)
+    by_alike keys w from (task.Go one) =
+        turn_alike keys w w.turns (λ v. go site keys (base_now shelf v from) one v)
+        (λ v. go site' keys (base_now shelf v from) one v)
         (λ v.
         let base = base_now shelf v from in
-        url_E keys v (λ url. stay_or_ask s1 keys one.sets base (request_of base one url) v
-        (place_now shelf v)) (λ url. stay_or_ask s2 keys one.sets base (request_of base one url) v
+        url_alike keys v (λ url. stay_or_ask site keys one.sets base (request_of base one url) v
+        (place_now shelf v)) (λ url. stay_or_ask site' keys one.sets base
+        (request_of base one url) v
         (place_now shelf v)) (target_of base one.href)
-        (λ url. stay_E keys one.sets base (request_of base one url) v (place_now shelf v)))
-    by_E keys w from (task.Prev sets) = inl refl
-    by_E keys w from (task.Refresh sets) = inl refl
+        (λ url. stay_alike keys one.sets base (request_of base one url) v (place_now shelf v)))
+    by_alike keys w from (task.Prev sets) = inl refl
+    by_alike keys w from (task.Refresh sets) = inl refl
 
-    step_E : (a b : Once) → EO a b → E a.step b.step
-    step_E a b (inl is) = inl (ap (λ (o : Once). o.step) is)
-    step_E a b (inr lost) = inr lost
+    -- the step of a navigation
+    step_alike : (a b : Once) → OnceAlike a b → StepAlike a.step b.step
+    step_alike a b (inl is) = inl (ap (λ (o : Once). o.step) is)
+    step_alike a b (inr lost) = inr lost
 
-    act_in_E : (turns : ℕ) → ActsE (act_in turns s1) (act_in turns s2)
-    act_in_E zero keys w next =
-        step_E (task_once s1 keys w next) (task_once s2 keys w next)
-        (by_E keys w next.from next.task)
-    act_in_E (suc turns) keys w next =
-        onward_E (act_in turns s1) (act_in turns s2) (act_in_E turns)
-        (task_once s1 keys w next) (task_once s2 keys w next) (by_E keys w next.from next.task)
+    -- a task and all that it leads to, within so many turns
+    act_in_alike : (turns : ℕ) → ActsAlike (act_in turns site) (act_in turns site')
+    act_in_alike zero keys w next =
+        step_alike (task_once site keys w next) (task_once site' keys w next)
+        (by_alike keys w next.from next.task)
+    act_in_alike (suc turns) keys w next =
+        onward_alike (act_in turns site) (act_in turns site') (act_in_alike turns)
+        (task_once site keys w next) (task_once site' keys w next)
+        (by_alike keys w next.from next.task)
 
-    act_E : ActsE (act s1) (act s2)
+    -- within the turns of the world
+    act_alike : ActsAlike (act site) (act site')
     unfolding act
-    act_E keys w next = act_in_E w.turns keys w next
+    act_alike keys w next = act_in_alike w.turns keys w next
 
-    or_E : (otherwise : Scene) (keys : List Key) (w : World) (o : Option Task)
-        → E (act_or otherwise s1 keys w o) (act_or otherwise s2 keys w o)
-    or_E otherwise keys w None = inl refl
-    or_E otherwise keys w (Some one) = act_E keys w (then_task one)
+    -- a task that is there, or not
+    or_alike : (otherwise : Scene) (keys : List Key) (w : World) (o : Option Task)
+        → StepAlike (act_or otherwise site keys w o) (act_or otherwise site' keys w o)
+    or_alike otherwise keys w None = inl refl
+    or_alike otherwise keys w (Some one) = act_alike keys w (then_task one)
 
-    choice_E : (keys : List Key) (w : World) (answer : Chosen)
-        → E (after_choice s1 keys w answer) (after_choice s2 keys w answer)
-    choice_E keys w chosen.NoOption = inl refl
-    choice_E keys w (chosen.Set refused one) =
-        joined_E (quiet keys (record { world = w; lines = flat_map fault_lines refused }))
-        (act_or (show shelf w) s1 keys w one) (act_or (show shelf w) s2 keys w one)
-        (or_E (show shelf w) keys w one)
+    -- what an option does that was chosen
+    choice_alike : (keys : List Key) (w : World) (answer : Chosen)
+        → StepAlike (after_choice site keys w answer) (after_choice site' keys w answer)
+    choice_alike keys w chosen.NoOption = inl refl
+    choice_alike keys w (chosen.Set refused one) =
+        joined_alike (quiet keys (record { world = w; lines = flat_map fault_lines refused }))
+        (act_or (show shelf w) site keys w one) (act_or (show shelf w) site' keys w one)
+        (or_alike (show shelf w) keys w one)
 
-    expire_E : (keys : List Key) (place : Place) (w : World)
-        → E (expire s1 keys place w) (expire s2 keys place w)
-    expire_E keys place w =
+    -- a timer that has run out
+    expire_alike : (keys : List Key) (place : Place) (w : World)
+        → StepAlike (expire site keys place w) (expire site' keys place w)
+    expire_alike keys place w =
         let late = end_timer place.card w in
         let one = event_task shelf event.Timer late.world in
-        joined_E (quiet keys late) (act_or (still late.world) s1 keys late.world one)
-        (act_or (still late.world) s2 keys late.world one)
-        (or_E (still late.world) keys late.world one)
+        joined_alike (quiet keys late) (act_or (still late.world) site keys late.world one)
+        (act_or (still late.world) site' keys late.world one)
+        (or_alike (still late.world) keys late.world one)
 
-    time_E : (keys : List Key) (n : ℕ) (timer : Timer) (place : Place) (w : World)
-        → E (pass_time s1 keys n timer place w) (pass_time s2 keys n timer place w)
-    time_E keys n NotStarted place w = inl refl
-    time_E keys n (Running time) place w =
+    -- time that passes
+    time_alike : (keys : List Key) (n : ℕ) (timer : Timer) (place : Place) (w : World)
+        → StepAlike (pass_time site keys n timer place w) (pass_time site' keys n timer place w)
+    time_alike keys n NotStarted place w = inl refl
+    time_alike keys n (Running time) place w =
         let soon = quiet keys (still (record w { timer = Running (time - n) })) in
         elim (ltb n time) as (λ (b : Bool).
-        E (cond b soon (expire s1 keys place w)) (cond b soon (expire s2 keys place w))) [
+        StepAlike (cond b soon (expire site keys place w))
+        (cond b soon (expire site' keys place w))) [
           | true ↦ inl refl
-          | false ↦ expire_E keys place w
+          | false ↦ expire_alike keys place w
         ]
-    time_E keys n Off place w = inl refl
-    time_E keys n Expired place w = inl refl
+    time_alike keys n Off place w = inl refl
+    time_alike keys n Expired place w = inl refl
 
-    card_E : (keys : List Key) (w : World) (f g : Place → Step) → ((p : Place) → E (f p) (g p))
-        → (o : Option Place) → E (at_card keys w f o) (at_card keys w g o)
-    card_E keys w f g same None = inl refl
-    card_E keys w f g same (Some place) = same place
+    -- where there is a card, or not
+    card_alike : (keys : List Key) (w : World) (f g : Place → Step)
+        → ((p : Place) → StepAlike (f p) (g p))
+        → (o : Option Place) → StepAlike (at_card keys w f o) (at_card keys w g o)
+    card_alike keys w f g same None = inl refl
+    card_alike keys w f g same (Some place) = same place
 
-    apply_E : (keys : List Key) (w : World) (one : Key)
-        → E (apply s1 keys w one) (apply s2 keys w one)
+    -- a key with its turns
+    apply_alike : (keys : List Key) (w : World) (one : Key)
+        → StepAlike (apply site keys w one) (apply site' keys w one)
     unfolding visit
-    apply_E keys w (key.Open url) =
-        onward_E (act s1) (act s2) act_E (with_turn shelf keys w w.turns (open_url s1 keys url))
-        (with_turn shelf keys w w.turns (open_url s2 keys url))
-        (turn_E keys w w.turns (open_url s1 keys url) (open_url s2 keys url)
-        (λ v. url_E keys v (λ u. request s1 keys [] None (plain_get u) v)
-        (λ u. request s2 keys [] None (plain_get u) v) (target_of (url_now shelf v) url)
-        (λ u. request_E keys [] None (plain_get u) v)))
-    apply_E keys w (key.Do name) =
-        card_E keys w
-        (λ place. act_or (ignored w) s1 keys w (do_task w.vars place.deck place.card name))
-        (λ place. act_or (ignored w) s2 keys w (do_task w.vars place.deck place.card name))
-        (λ place. or_E (ignored w) keys w (do_task w.vars place.deck place.card name))
+    apply_alike keys w (key.Open url) =
+        onward_alike (act site) (act site') act_alike
+        (with_turn shelf keys w w.turns (open_url site keys url))
+        (with_turn shelf keys w w.turns (open_url site' keys url))
+        (turn_alike keys w w.turns (open_url site keys url) (open_url site' keys url)
+        (λ v. url_alike keys v (λ u. request site keys [] None (plain_get u) v)
+        (λ u. request site' keys [] None (plain_get u) v) (target_of (url_now shelf v) url)
+        (λ u. request_alike keys [] None (plain_get u) v)))
+    apply_alike keys w (key.Do name) =
+        card_alike keys w
+        (λ place. act_or (ignored w) site keys w (do_task w.vars place.deck place.card name))
+        (λ place. act_or (ignored w) site' keys w (do_task w.vars place.deck place.card name))
+        (λ place. or_alike (ignored w) keys w (do_task w.vars place.deck place.card name))
         (place_now shelf w)
-    apply_E keys w (key.Pick n) =
-        card_E keys w (λ place. act_or (ignored w) s1 keys w (link_task w.vars place.card n))
-        (λ place. act_or (ignored w) s2 keys w (link_task w.vars place.card n))
-        (λ place. or_E (ignored w) keys w (link_task w.vars place.card n)) (place_now shelf w)
-    apply_E keys w (key.Enter n text) = inl refl
-    apply_E keys w (key.Choose n m) =
-        card_E keys w (λ place. choose_option s1 keys n m place w)
-        (λ place. choose_option s2 keys n m place w)
+    apply_alike keys w (key.Pick n) =
+        card_alike keys w (λ place. act_or (ignored w) site keys w (link_task w.vars place.card n))
+        (λ place. act_or (ignored w) site' keys w (link_task w.vars place.card n))
+        (λ place. or_alike (ignored w) keys w (link_task w.vars place.card n)) (place_now shelf w)
+    apply_alike keys w (key.Enter n text) = inl refl
+    apply_alike keys w (key.Choose n m) =
+        card_alike keys w (λ place. choose_option site keys n m place w)
+        (λ place. choose_option site' keys n m place w)
         (λ place.
         let made = choose w.vars place.card n m in
-        choice_E keys (record w { vars = made.vars }) made.answer) (place_now shelf w)
-    apply_E keys w key.Back =
-        card_E keys w (λ place. act s1 keys w (then_task (task.Prev [])))
-        (λ place. act s2 keys w (then_task (task.Prev [])))
-        (λ place. act_E keys w (then_task (task.Prev []))) (place_now shelf w)
-    apply_E keys w (key.Tick n) =
-        card_E keys w (λ place. pass_time s1 keys n w.timer place w)
-        (λ place. pass_time s2 keys n w.timer place w)
-        (λ place. time_E keys n w.timer place w) (place_now shelf w)
-    apply_E keys w key.Ok = inl refl
-    apply_E keys w key.Cancel = inl refl
-    apply_E keys w (key.Answer text) = inl refl
-    apply_E keys w key.Stop = inl refl
-    apply_E keys w key.Vars = inl refl
+        choice_alike keys (record w { vars = made.vars }) made.answer) (place_now shelf w)
+    apply_alike keys w key.Back =
+        card_alike keys w (λ place. act site keys w (then_task (task.Prev [])))
+        (λ place. act site' keys w (then_task (task.Prev [])))
+        (λ place. act_alike keys w (then_task (task.Prev []))) (place_now shelf w)
+    apply_alike keys w (key.Tick n) =
+        card_alike keys w (λ place. pass_time site keys n w.timer place w)
+        (λ place. pass_time site' keys n w.timer place w)
+        (λ place. time_alike keys n w.timer place w) (place_now shelf w)
+    apply_alike keys w key.Ok = inl refl
+    apply_alike keys w key.Cancel = inl refl
+    apply_alike keys w (key.Answer text) = inl refl
+    apply_alike keys w key.Stop = inl refl
+    apply_alike keys w key.Vars = inl refl
 
-    react_E : (one : Key) (keys : List Key) (w : World)
-        → E (react s1 one keys w) (react s2 one keys w)
+    -- a key
+    react_alike : (one : Key) (keys : List Key) (w : World)
+        → StepAlike (react site one keys w) (react site' one keys w)
     unfolding react
-    react_E one keys w = apply_E keys (renewed w) one
+    react_alike one keys w = apply_alike keys (renewed w) one
 
-    played_in_E : (count : ℕ) (keys : List Key) (w : World)
-        → E (played_in count s1 keys w) (played_in count s2 keys w)
-    played_in_E count [] w = inl refl
-    played_in_E zero (one ∷ keys) w = inl refl
-    played_in_E (suc count) (one ∷ keys) w =
-        followed_E (played_in count s1) (played_in count s2) (played_in_E count)
-        (react s1 one keys w) (react s2 one keys w) (react_E one keys w)
+    -- keys, by their number
+    played_in_alike : (count : ℕ) (keys : List Key) (w : World)
+        → StepAlike (played_in count site keys w) (played_in count site' keys w)
+    played_in_alike count [] w = inl refl
+    played_in_alike zero (one ∷ keys) w = inl refl
+    played_in_alike (suc count) (one ∷ keys) w =
+        followed_alike (played_in count site) (played_in count site') (played_in_alike count)
+        (react site one keys w) (react site' one keys w) (react_alike one keys w)
 
-    played_E : (keys : List Key) (w : World) → E (played s1 keys w) (played s2 keys w)
+    -- keys
+    played_alike : (keys : List Key) (w : World)
+        → StepAlike (played site keys w) (played site' keys w)
     unfolding played
-    played_E keys w = played_in_E (length keys) keys w
+    played_alike keys w = played_in_alike (length keys) keys w
 
   -- ---- pages
 
@@ -608,17 +688,20 @@ module _ (among : List ℕ → Bool) where
       shelf_is : shelf_of one ≡ shelf_of other
       shelf_is = fun_ext differ.shelf
 
+      -- other names have the same units
       codes_are : (name : List ℕ) → among name ≡ false → unit_under one name ≡ unit_under other name
       codes_are name outside =
           ap (λ page. unwrap_or (script_in page) no_unit)
           (differ.pages name outside)
 
+      -- and the same external functions
       names_are : (name function : List ℕ) → among name ≡ false
           → externals_of one name function ≡ externals_of other name function
       names_are name function outside =
           ap (λ page. option_and_then (λ (u : CodeUnit). external_in u function) (script_in page))
           (differ.pages name outside)
 
+      -- the host of the pages, by this shelf
       abbrev host_in : Shelf → Pages → Hosting Step
       host_in shelf pages =
           host_with shelf (externals_of one) (externals_of other) (unit_under one)
@@ -636,21 +719,23 @@ module _ (among : List ℕ → Bool) where
           ran_of (finished (uncounted step.world.limits (host_in shelf pages))
           (started_at function arguments (code_at function)) turns step)
 
-      ran_E : (a b : Ended Step) → ComeToSame (λ (s t : Step). s ≡ t) Lost Lost a b
-          → RanE (ran_of a) (ran_of b)
-      ran_E a b (inl kin) =
+      -- ends of runs that come to the same
+      ran_alike : (a b : Ended Step) → ComeToSame (λ (s t : Step). s ≡ t) Lost Lost a b
+          → RanAlike (ran_of a) (ran_of b)
+      ran_alike a b (inl kin) =
           inl (λ i. record {
             end = end_of (kin.outcome i);
             turns = kin.turns i;
             step = kin.state i;
           })
-      ran_E a b (inr lost) = inr lost
+      ran_alike a b (inr lost) = inr lost
 
-      runs_E : (name : List ℕ) (base : Url) (referer : Option Url) (index : ℕ)
+      -- runs of scripts under other names
+      runs_alike : (name : List ℕ) (base : Url) (referer : Option Url) (index : ℕ)
           (arguments : List Value) (turns : ℕ) (s : Step) → among name ≡ false
-          → RanE (run_over (shelf_of one) one name base referer index arguments turns s)
+          → RanAlike (run_over (shelf_of one) one name base referer index arguments turns s)
           (run_over (shelf_of one) other name base referer index arguments turns s)
-      runs_E name base referer index arguments turns s outside =
+      runs_alike name base referer index arguments turns s outside =
           let limits = s.world.limits in
           let started_in : CodeUnit → List Frame = λ u.
           let function : Function = record {
@@ -662,17 +747,19 @@ module _ (among : List ℕ → Bool) where
           started_at function arguments (code_at function) in
           let host = host_in (shelf_of one) one in
           let host' = host_in (shelf_of one) other in
-          subst (λ (u : CodeUnit). RanE
+          subst (λ (u : CodeUnit). RanAlike
           (run_over (shelf_of one) one name base referer index arguments turns s)
           (ran_of (finished (uncounted limits host') (started_in u) turns s)))
           (codes_are name outside)
-          (ran_E (finished (uncounted limits host) (started_in (unit_under one name)) turns s)
+          (ran_alike (finished (uncounted limits host) (started_in (unit_under one name)) turns s)
           (finished (uncounted limits host') (started_in (unit_under one name)) turns s)
           ((sim_laws.agrees (λ (a b : Step). a ≡ b) Lost Lost limits host host'
           (hosts_alike (shelf_of one) (externals_of one) (externals_of other) (unit_under one)
-          (unit_under other) codes_are names_are)).finishing (started_in (unit_under one name)) turns
+          (unit_under other) codes_are names_are)).finishing
+          (started_in (unit_under one name)) turns
           s s refl))
 
+      -- the other pages' site, by this shelf
       abbrev site_over : Shelf → Site
       site_over shelf = record {
         shelf = shelf;
@@ -681,10 +768,12 @@ module _ (among : List ℕ → Bool) where
         call = call;
       }
 
-      unless_lost : (a b : Step) → is_entered among a.tests ≡ false → E a b → a ≡ b
+      -- what isn't lost is the same
+      unless_lost : (a b : Step) → is_entered among a.tests ≡ false → StepAlike a b → a ≡ b
       unless_lost a b none (inl is) = is
       unless_lost a b none (inr lost) = absurd (let l = lost.0 in cc)
 
+      -- sessions of both sites
       same_play : (keys : List Key) (w : World)
           → is_entered among (played (units_site call one) keys w).tests ≡ false
           → played (units_site call one) keys w ≡ played (units_site call other) keys w
@@ -692,9 +781,10 @@ module _ (among : List ℕ → Bool) where
       same_play keys w none =
           unless_lost (played (units_site call one) keys w)
           (played (site_over (shelf_of one)) keys w) none
-          (played_E (shelf_of one) call (externals_of one) (externals_of other)
-          (run_over (shelf_of one) one) (run_over (shelf_of one) other) names_are runs_E keys w)
+          (played_alike (shelf_of one) call (externals_of one) (externals_of other)
+          (run_over (shelf_of one) one) (run_over (shelf_of one) other) names_are runs_alike keys w)
           ∙ ap (λ (f : Shelf). played (site_over f) keys w) shelf_is
 
+-- over all pages
 pub denied : DeniedMatterNot
 denied call among one other differ keys w none = same_play among call one other differ keys w none

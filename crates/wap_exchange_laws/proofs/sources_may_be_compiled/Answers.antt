@@ -1,5 +1,5 @@
-use Rattle.wap_scripting_laws.proofs.Replacing.{replaces}
-use Rattle.wap_scripting_laws.proofs.sources_may_be_compiled.Goals as goal
+use Rattle.wap_exchange_laws.proofs.Replacing.{replaces}
+use Rattle.wap_exchange_laws.proofs.sources_may_be_compiled.Goals as goal
 
 pub returns : goal.returns
 returns g c = λ compiler agrees call pages.

@@ -46,7 +46,8 @@ use Rattle.wap_scripting.specs.Additions.{with_test, with_request}
 use Rattle.wap_scripting.specs.Dialogs.{by_keys}
 use Rattle.wap_scripting.specs.Hosting.{callable, callable_if, found_under, found_at, external_call}
 use Rattle.wap_scripting.specs.Hosting.{library_call}
-use Rattle.wap_scripting.specs.ScriptPages.{PageOf, deck, script, words, refused, page_under, script_in}
+use Rattle.wap_scripting.specs.ScriptPages.{PageOf, deck, script, words, refused, page_under}
+use Rattle.wap_scripting.specs.ScriptPages.{script_in}
 use Rattle.wap_scripting.specs.ScriptPages.{shelved, shelf_by, script_under, externals_by, keyed_by}
 use Rattle.wap_scripting.specs.UnitSites.{Pages, units, shelf_of, no_unit, unit_under, externals_of}
 use Rattle.wap_scripting.specs.UnitSites.{keyed_host, ran_of, started_at, run_unit, units_site}
@@ -110,11 +111,13 @@ module _ {P : Type 0} (language : LanguageOf P) (compiler : P → Unit)
   abbrev others : Pages
   others = compiled_pages language compiler pages
 
+  -- the unit that stands in place of a script
   abbrev code_of : Script P → Unit
   code_of = compiled_script language compiler
 
   -- ---- names
 
+  -- under each name is the page with a unit in place of its script
   same_under : (all : AllPages P) (name : List ℕ)
       → page_under name (compiled_pages language compiler all)
       ≡ option_map (compiled_page language compiler) (page_under name all)
@@ -129,6 +132,7 @@ module _ {P : Type 0} (language : LanguageOf P) (compiler : P → Unit)
         | false ↦ same_under all name
       ]
 
+  -- the rules see the same of it
   shelved_same : (page : Option (PageOf (Script P)))
       → shelved units (option_map (compiled_page language compiler) page)
       ≡ shelved (both language) page
@@ -139,9 +143,12 @@ module _ {P : Type 0} (language : LanguageOf P) (compiler : P → Unit)
   shelved_same (Some (words text)) = refl
   shelved_same (Some refused) = refl
 
+  -- both shelves are the same
   shelf_same : (name : List ℕ) → shelf_of others name ≡ shelf_by (both language) pages name
-  shelf_same name = ap (shelved units) (same_under pages name) ∙ shelved_same (page_under name pages)
+  shelf_same name =
+      ap (shelved units) (same_under pages name) ∙ shelved_same (page_under name pages)
 
+  -- a page's unit is that in place of its script
   unit_same_in : (page : Option (PageOf (Script P)))
       → unwrap_or (script_in (option_map (compiled_page language compiler) page)) no_unit
       ≡ code_of (unwrap_or (script_in page) (of_unit no_unit))
@@ -151,12 +158,14 @@ module _ {P : Type 0} (language : LanguageOf P) (compiler : P → Unit)
   unit_same_in (Some (words text)) = refl
   unit_same_in (Some refused) = refl
 
+  -- and so is a name's
   unit_same : (name : List ℕ)
       → unit_under others name ≡ code_of (script_under (both language) pages name)
   unit_same name =
       ap (λ page. unwrap_or (script_in page) no_unit) (same_under pages name)
       ∙ unit_same_in (page_under name pages)
 
+  -- a page has the same external functions
   externals_same_in : (page : Option (PageOf (Script P))) (function : List ℕ)
       → option_and_then (λ one. external_in one function)
       (script_in (option_map (compiled_page language compiler) page))
@@ -168,6 +177,7 @@ module _ {P : Type 0} (language : LanguageOf P) (compiler : P → Unit)
   externals_same_in (Some (words text)) function = refl
   externals_same_in (Some refused) function = refl
 
+  -- and so has a name
   externals_same : (name function : List ℕ)
       → externals_of others name function ≡ externals_by (both language) pages name function
   externals_same name function =
@@ -177,19 +187,24 @@ module _ {P : Type 0} (language : LanguageOf P) (compiler : P → Unit)
 
   -- ---- the same host, but for what stands for a script
 
+  -- what a call finds, with units in place of scripts
   abbrev as_unit : Found (Script P) → Found Unit
   as_unit (Callee one base index) = Callee (code_of one) base index
   as_unit (Not why) = Not why
 
+  -- the shelf of the pages
   abbrev shelf : Shelf
   shelf = shelf_by (both language) pages
 
+  -- their external functions
   abbrev names : List ℕ → List ℕ → Option External
   names = externals_by (both language) pages
 
+  -- their scripts
   abbrev scripts : List ℕ → Script P
   scripts = script_under (both language) pages
 
+  -- the same functions may be entered
   callable_same : (name : List ℕ) (base : Url) (count depth working : ℕ) (o : Option External)
       → callable (code_of (scripts name)) base count depth working o
       ≡ as_unit (callable (scripts name) base count depth working o)
@@ -212,15 +227,19 @@ module _ {P : Type 0} (language : LanguageOf P) (compiler : P → Unit)
         | false ↦ refl
       ]
 
+  -- the same, after the access pragmas
   if_same : (b : Bool) (one : Found Unit) (two : Found (Script P)) → one ≡ as_unit two
       → callable_if b one ≡ as_unit (callable_if b two)
   if_same true one two same = same
   if_same false one two same = refl
 
+  -- the unit in place of a name's script
   abbrev in_place : List ℕ → Unit
   in_place name = code_of (scripts name)
 
-  under_same : (caller url : Url) (function : List ℕ) (count working : ℕ) (s : Step) (page : Shelved)
+  -- a call by the page that answers
+  under_same : (caller url : Url) (function : List ℕ) (count working : ℕ) (s : Step)
+      (page : Shelved)
       → found_under shelf names in_place caller url function count working s page
       ≡ (let found = found_under shelf names scripts caller url function count working s page in
       (as_unit found.0, found.1))
@@ -239,7 +258,9 @@ module _ {P : Type 0} (language : LanguageOf P) (compiler : P → Unit)
   under_same caller url function count working s refused_page = refl
   under_same caller url function count working s no_page = refl
 
-  at_same : (caller : Url) (function : List ℕ) (count working : ℕ) (s : Step) (r : Result Url Refusal)
+  -- a call by its target
+  at_same : (caller : Url) (function : List ℕ) (count working : ℕ) (s : Step)
+      (r : Result Url Refusal)
       → found_at shelf names in_place caller function count working s r
       ≡ (let found = found_at shelf names scripts caller function count working s r in
       (as_unit found.0, found.1))
@@ -248,12 +269,15 @@ module _ {P : Type 0} (language : LanguageOf P) (compiler : P → Unit)
       (shelf (name_for url))
   at_same caller function count working s (Err why) = refl
 
+  -- the host among units
   abbrev one : Hosting Step
   one = keyed_host others
 
+  -- the host among units and sources
   abbrev all : HostingOf (Script P) Step
   all = keyed_by (both language) pages
 
+  -- calls of other scripts
   external_same : (s : Step) (caller : Url) (url name : List ℕ) (count working : ℕ)
       → one.external s caller url name count working
       ≡ (let found = all.external s caller url name count working in (as_unit found.0, found.1))
@@ -266,11 +290,13 @@ module _ {P : Type 0} (language : LanguageOf P) (compiler : P → Unit)
       (fun_ext unit_same)
       ∙ at_same caller name count working s (target_of (Some caller) url)
 
+  -- a library by a shelf, whose dialogs are answered
   abbrev library_with : Shelf → Step → Url → Option Url → ℕ → ℕ → List Value → HostOut × Step
   library_with f s base referer number index arguments =
       let gave = library_call f (place_now f) s base referer number index arguments in
       answered_in (by_keys f) gave.0 gave.1
 
+  -- calls of libraries
   library_is : (s : Step) (base : Url) (referer : Option Url) (number index : ℕ)
       (arguments : List Value)
       → one.library s base referer number index arguments
@@ -301,9 +327,11 @@ module _ {P : Type 0} (language : LanguageOf P) (compiler : P → Unit)
       ≡ meant language (mixed limits) more function arguments turns s
 
   module _ (limits : Limits) (more : ℕ) (alike : AlikeAt limits more) (working : ℕ) where
+    -- runs among units
     abbrev set : Setting Step
     set = uncounted limits one
 
+    -- a function that was found, entered in both
     found_same : (base : Url) (arguments : List Value) (found : Found (Script P)) (turns : ℕ)
         (s : Step)
         → forgotten (entered (enter set more) base arguments (as_unit found) turns s)
@@ -313,9 +341,11 @@ module _ {P : Type 0} (language : LanguageOf P) (compiler : P → Unit)
         arguments turns s
     found_same base arguments (Not why) turns s = refl
 
+    -- what any call comes to
     call_same : (function : FunctionOf (Script P)) (callee : Called) (arguments : List Value)
         (turns : ℕ) (s : Step)
-        → forgotten (called set working (enter set more) (in_unit function) callee arguments turns s)
+        → forgotten (called set working (enter set more) (in_unit function) callee arguments turns
+        s)
         ≡ called (mixed limits) working (meant language (mixed limits) more) function callee
         arguments turns s
     call_same function (local n) arguments turns s =
@@ -349,7 +379,8 @@ module _ {P : Type 0} (language : LanguageOf P) (compiler : P → Unit)
   code_same limits call call' same function None arguments turns s = refl
   code_same limits call call' same function (Some code) arguments turns s =
       elim (eqb (length arguments) code.args) as (λ (b : Bool).
-      forgotten (cond b (goes (plain_ways limits.string call) (begun function code arguments) turns s)
+      forgotten (cond b (goes (plain_ways limits.string call)
+      (begun function code arguments) turns s)
       (ended stuck turns s))
       ≡ forgotten (cond b
       (goes (plain_ways limits.string call') (begun function code arguments) turns s)
@@ -363,7 +394,8 @@ module _ {P : Type 0} (language : LanguageOf P) (compiler : P → Unit)
   -- a run of a unit, by what its calls come to
   enter_is : (limits : Limits) (more : ℕ) (function : Function) (code : Option Code)
       (arguments : List Value) (turns : ℕ) (s : Step)
-      → began (uncounted limits one) (MOST_DEPTH - more) (enter (uncounted limits one) more) function
+      → began (uncounted limits one) (MOST_DEPTH - more)
+      (enter (uncounted limits one) more) function
       code arguments turns s
       ≡ code_runs limits.string (called (uncounted limits one) (MOST_DEPTH - more)
       (enter (uncounted limits one) more) function) function code arguments turns s
@@ -383,6 +415,7 @@ module _ {P : Type 0} (language : LanguageOf P) (compiler : P → Unit)
     mixed_calls =
         called (mixed limits) (MOST_DEPTH - more) (meant language (mixed limits) more) function
 
+    -- calls among units, without the frames that wait, are those among both
     calls_same : (callee : Called) (arguments : List Value) (turns : ℕ) (s : Step)
         → forgotten (unit_calls callee arguments turns s) ≡ mixed_calls callee arguments turns s
     calls_same = call_same limits more alike (MOST_DEPTH - more) function
@@ -396,6 +429,7 @@ module _ {P : Type 0} (language : LanguageOf P) (compiler : P → Unit)
         sym (twice end.outcome end.turns end.state)
         ∙ ap forgotten (calls_same callee arguments turns s)
 
+    -- calls among units give no turns back
     calls_fall : (callee : Called) (arguments : List Value) (turns : ℕ) (s : Step)
         → (unit_calls callee arguments turns s).turns ≤ turns
     calls_fall callee arguments turns s =
@@ -404,6 +438,7 @@ module _ {P : Type 0} (language : LanguageOf P) (compiler : P → Unit)
         (enter_follows set Any (any_keeps set) more) (in_unit function) callee arguments turns
         s).turns_fall
 
+    -- nor do calls among both
     mixed_fall : (callee : Called) (arguments : List Value) (turns : ℕ) (s : Step)
         → (mixed_calls callee arguments turns s).turns ≤ turns
     mixed_fall callee arguments turns s =
@@ -415,7 +450,8 @@ module _ {P : Type 0} (language : LanguageOf P) (compiler : P → Unit)
 
   -- a function of a script, by what those that are called come to
   script_same : (limits : Limits) (more : ℕ) → AlikeAt limits more → (one_script : Script P)
-      (base : Url) (referer : Option Url) (index : ℕ) (arguments : List Value) (turns : ℕ) (s : Step)
+      (base : Url) (referer : Option Url) (index : ℕ) (arguments : List Value) (turns : ℕ)
+      (s : Step)
       → let function : FunctionOf (Script P) = record {
         unit = one_script;
         base = base;
@@ -452,6 +488,7 @@ module _ {P : Type 0} (language : LanguageOf P) (compiler : P → Unit)
       ∙ sym ((agrees p).functions limits.string (mixed_calls limits more alike function)
       (mixed_fall limits more alike function) base referer index arguments turns s)
 
+  -- by how many functions may be entered
   alike_at : (limits : Limits) (more : ℕ) → AlikeAt limits more
   unfolding enter meant
   alike_at limits zero function arguments turns s = refl
@@ -461,6 +498,7 @@ module _ {P : Type 0} (language : LanguageOf P) (compiler : P → Unit)
 
   -- ---- the site
 
+  -- a function that isn't there
   none_first : (limits : Limits) (function : Function) → code_at function ≡ None
       → (arguments : List Value) (turns : ℕ) (s : Step)
       → forgotten (finished (uncounted limits one) (started_at function arguments None) turns s)
@@ -470,6 +508,7 @@ module _ {P : Type 0} (language : LanguageOf P) (compiler : P → Unit)
       ap (λ (c : Option Code). forgotten (began (uncounted limits one) (MOST_DEPTH - 254)
       (enter (uncounted limits one) 254) function c arguments turns s)) (sym found)
 
+  -- a function with as many arguments as it takes
   many_first : (limits : Limits) (function : Function) (code : Code)
       → code_at function ≡ Some code → (arguments : List Value) (turns : ℕ) (s : Step)
       → eqb (length arguments) code.args ≡ true → length arguments ≡ code.args
@@ -484,6 +523,7 @@ module _ {P : Type 0} (language : LanguageOf P) (compiler : P → Unit)
       (omega arith) found many))
       ∙ alone_by (uncounted limits one) end.outcome end.turns end.state
 
+  -- a function with another number of arguments
   other_first : (limits : Limits) (function : Function) (code : Code)
       → code_at function ≡ Some code → (arguments : List Value) (turns : ℕ) (s : Step)
       → eqb (length arguments) code.args ≡ false
@@ -501,7 +541,8 @@ module _ {P : Type 0} (language : LanguageOf P) (compiler : P → Unit)
       (begun function code arguments) turns s) (ended stuck turns s))) is)
 
   -- a function at its beginning
-  first_same : (limits : Limits) (function : Function) (code : Option Code) → code_at function ≡ code
+  first_same : (limits : Limits) (function : Function) (code : Option Code)
+      → code_at function ≡ code
       → (arguments : List Value) (turns : ℕ) (s : Step)
       → forgotten (finished (uncounted limits one) (started_at function arguments code) turns s)
       ≡ forgotten (enter (uncounted limits one) MOST_DEPTH function arguments turns s)
@@ -513,7 +554,9 @@ module _ {P : Type 0} (language : LanguageOf P) (compiler : P → Unit)
   first_same limits function None found arguments turns s =
       none_first limits function found arguments turns s
 
-  run_same : (name : List ℕ) (base : Url) (referer : Option Url) (index : ℕ) (arguments : List Value)
+  -- what a script comes to that is started
+  run_same : (name : List ℕ) (base : Url) (referer : Option Url) (index : ℕ)
+      (arguments : List Value)
       (turns : ℕ) (step : Step)
       → run_unit others name base referer index arguments turns step
       ≡ run_script language pages name base referer index arguments turns step
@@ -537,7 +580,9 @@ module _ {P : Type 0} (language : LanguageOf P) (compiler : P → Unit)
       (record { unit = scripts name; base = base; referer = referer; index = index })
       arguments turns step)
 
-  pub replaces : (call : List ℕ → Option Call) → site_of language call pages ≡ units_site call others
+  -- both sites are the same
+  pub replaces : (call : List ℕ → Option Call)
+      → site_of language call pages ≡ units_site call others
   unfolding units_site site_of
   replaces call = λ i. record {
     shelf = fun_ext (λ name. sym (shelf_same name)) i;
