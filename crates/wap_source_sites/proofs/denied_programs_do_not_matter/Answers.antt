@@ -1,0 +1,8 @@
+use Rattle.wap_exchange_laws.proofs.Sources.{denied_sources}
+use Rattle.wap_source_sites.specs.Programs.{programs, unit_of}
+use Rattle.wap_source_sites.proofs.Agreed.{unit_agrees}
+use Rattle.wap_source_sites.proofs.denied_programs_do_not_matter.Goals as goal
+
+pub returns : goal.returns
+returns c = λ outsides.
+    denied_sources (programs outsides) (unit_of outsides) (unit_agrees outsides)
