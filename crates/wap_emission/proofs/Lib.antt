@@ -1,4 +1,9 @@
-mod Extending
+mod Branching
 mod Chaining
+mod Effects
+mod Extending
+mod Looping
 mod Numbered
 mod Parts
+mod StatementParts
+mod WritingParts

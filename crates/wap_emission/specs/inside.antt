@@ -1,4 +1,5 @@
 pub mod Adding
 pub mod Contents
 pub mod Exits
+pub mod Loops
 pub mod Operands

@@ -7,6 +7,9 @@ mod expressions;
 mod forms;
 mod numbering;
 mod operators;
+mod statements;
+mod writing;
 
 pub use content::Content;
 pub use numbering::Numbering;
+pub use statements::forms_of;
