@@ -1,0 +1,4 @@
+pub mod LiteralReading
+pub mod ArgumentReading
+pub mod CallReading
+pub mod Tokens
