@@ -1,0 +1,5 @@
+pub mod Tables
+pub mod Fields
+pub mod Indications
+pub mod Reading
+pub mod inside

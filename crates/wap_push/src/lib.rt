@@ -1,0 +1,20 @@
+//! Service indications (WAP-167): the short notices that sites push to a handset, read from
+//! documents.
+#![tactic(auto)]
+
+mod codes;
+mod content;
+mod created;
+mod fault;
+mod fields;
+mod indication;
+mod names;
+mod reading;
+mod tables;
+mod values;
+
+pub use fault::PushFault;
+pub use indication::{Action, Indication};
+pub use names::{PushField, PushTag};
+pub use reading::indication_of;
+pub use tables::{PUSH_ACTIONS, PUSH_STARTS, PUSH_TAGS, PUSH_VALUES};

@@ -1,0 +1,21 @@
+//! The names of an indication's elements and attributes (WAP-167, section 8.3).
+
+/// An element's name.
+#[derive(Clone, Copy, Debug, PartialEq, Eq)]
+pub enum PushTag {
+    Si,
+    Indication,
+    Info,
+    Item,
+}
+
+/// An attribute's name.
+#[derive(Clone, Copy, Debug, PartialEq, Eq)]
+pub enum PushField {
+    Action,
+    Created,
+    Href,
+    SiExpires,
+    SiId,
+    Class,
+}
