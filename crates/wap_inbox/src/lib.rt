@@ -1,0 +1,6 @@
+//! The inbox: the indications that were pushed and count, in order of identifiers.
+#![tactic(auto)]
+
+mod inbox;
+
+pub use inbox::Inbox;
