@@ -1,0 +1,7 @@
+pub mod Sequences
+pub mod Items
+pub mod Images
+pub mod Refusal
+pub mod Rules
+pub mod Spelling
+pub mod inside
