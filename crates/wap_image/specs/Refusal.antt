@@ -173,8 +173,8 @@ RefusesItems =
     RefusesInTurn RefusesTimer IsTimer (λ timer.
     RefusesInTurn RefusesVariables AreVariables (λ vars. RefusesEntries limits timer))))))))
 
--- the first thing in the bytes that no image can have there, and its place: an item, or what follows
--- a whole image
+-- the first thing in the bytes that no image can have there, and its place: an item, or what
+-- follows a whole image
 pub data IsRefused (bytes : List ℕ) (found : ImageFault) : Type 0 where
   inside : RefusesItems (length bytes) bytes found → IsRefused bytes found
   beyond : (saved : Saved) (prefix rest : List ℕ) → bytes ≡ prefix ++ rest → IsImage prefix saved

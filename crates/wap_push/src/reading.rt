@@ -59,7 +59,8 @@ fn dated(alloc: Global, body: &Element, created: u64) -> Result<Indication, Push
 /// The indication that a document is. What is passed over: literal names, codes of other pages and
 /// those of no meaning, extensions, opaque data but for the time, `info`, `si-expires` and `class`.
 pub fn indication_of(alloc: Global, document: &Document) -> Result<Indication, PushFault>
-    ensures exact { Meets PushFault.NoMemory (λ pushed. pushed) result (indication_of document.now) }
+    ensures exact { Meets PushFault.NoMemory (λ pushed. pushed) result
+        (indication_of document.now) }
     ensures indication { IfOk result (λ pushed. IsIndication document.now pushed) }
     ensures fault { IfErr result (λ fault. fault ≢ PushFault.NoMemory
         → IsRefused document.now fault) }

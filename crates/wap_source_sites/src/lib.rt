@@ -12,8 +12,8 @@ ghost use Rattle.wap_scripting.specs.Sources.{AllPages, site_of, compiled_pages}
 ghost use Rattle.wap_exchange_laws.specs.Denial.{is_entered, DifferWithin};
 ghost use Rattle.wap_source_sites.specs.Programs.{Outsides, Compiled, programs, unit_of};
 
-/// Programs that are replaced by the units that they are compiled to leave the site as it is, and so
-/// every session over it.
+/// Programs that are replaced by the units that they are compiled to leave the site as it is, and
+/// so every session over it.
 pub fn programs_may_be_compiled()
     ensures { (outsides : Outsides) (call : List ℕ → Option Call)
         (pages : AllPages (Compiled outsides))

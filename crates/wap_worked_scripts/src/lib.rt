@@ -1,3 +1,3 @@
-//! Examples of scripts in a browser's world, computed from the definitions in `wap_scripting`. There
-//! is no code here.
+//! Examples of scripts in a browser's world, computed from the definitions in `wap_scripting`.
+//! There is no code here.
 #![tactic(auto)]
