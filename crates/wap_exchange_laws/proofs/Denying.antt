@@ -659,6 +659,9 @@ module _ (among : List ℕ → Bool) where
     apply_alike keys w (key.Answer text) = inl refl
     apply_alike keys w key.Stop = inl refl
     apply_alike keys w key.Vars = inl refl
+    apply_alike keys w (key.Push bytes) = inl refl
+    apply_alike keys w key.Inbox = inl refl
+    apply_alike keys w (key.Follow n) = inl refl
 
     -- a key
     react_alike : (one : Key) (keys : List Key) (w : World)

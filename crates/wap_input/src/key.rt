@@ -1,5 +1,5 @@
 //! Keys.
-use wap_base::Text;
+use wap_base::{Bytes, Text};
 
 /// What a user does.
 #[derive(Debug, Drop, PartialEq, Eq)]
@@ -28,4 +28,10 @@ pub enum Key {
     Stop,
     /// Shows the variables.
     Vars,
+    /// Hands in a service indication, as the bytes that were pushed.
+    Push(Bytes),
+    /// Shows the inbox of service indications.
+    Inbox,
+    /// Opens the URL of the entry of a number in the inbox.
+    Follow(u16),
 }

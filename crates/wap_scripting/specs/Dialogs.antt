@@ -52,6 +52,9 @@ reply_to_prompt first key.Cancel = answers (Str first)
 reply_to_prompt first (key.Answer text) = answers (Str text)
 reply_to_prompt first key.Stop = ends_it
 reply_to_prompt first key.Vars = passes
+reply_to_prompt first (key.Push bytes) = passes
+reply_to_prompt first key.Inbox = passes
+reply_to_prompt first (key.Follow n) = passes
 
 -- a confirm or an alert, by what `ok` and `cancel` give
 abbrev pub reply_to_buttons : Value → Value → Key → Reply
@@ -67,6 +70,9 @@ reply_to_buttons first second key.Cancel = answers second
 reply_to_buttons first second (key.Answer text) = passes
 reply_to_buttons first second key.Stop = ends_it
 reply_to_buttons first second key.Vars = passes
+reply_to_buttons first second (key.Push bytes) = passes
+reply_to_buttons first second key.Inbox = passes
+reply_to_buttons first second (key.Follow n) = passes
 
 -- a key in a dialog; a confirm gives whether its first button was taken, and an alert ""
 abbrev pub reply_to : Dialog → Key → Reply
@@ -106,6 +112,9 @@ meanwhile shelf (key.Answer text) world = ignored world
 meanwhile shelf key.Stop world = ignored world
 meanwhile shelf key.Vars world =
     record { world = world; lines = map variable_line world.vars }
+meanwhile shelf (key.Push bytes) world = ignored world
+meanwhile shelf key.Inbox world = ignored world
+meanwhile shelf (key.Follow n) world = ignored world
 
 -- ---- answers
 

@@ -1,5 +1,4 @@
--- Judged pages among which scripts are, of any kind: units, or units and sources. The pages of
--- wap_site have no scripts. This project's own.
+-- Pages among which scripts are, of any kind: units, or units and sources. This project's own.
 use Rattle.std.specs.Prelude.{ℕ, List, Option, Some, None, unwrap_or, option_and_then}
 use Rattle.std.specs.Map.{lookup}
 use Rattle.wap_base.specs.Texts.{is_same_text}

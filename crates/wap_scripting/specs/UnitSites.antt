@@ -1,6 +1,7 @@
 -- The site of decks and units: a script comes to what its instructions mean (WAP-193, section 10),
 -- and keys that are left answer its dialogs.
-use Rattle.std.specs.Prelude.{ℕ, ◌==◌, if◌then◌else◌, List, [], ◌∷◌, length, Option, Some, None}
+use Rattle.std.specs.Prelude.{ℕ, ◌==◌, if◌then◌else◌, List, [], ◌∷◌, length, map}
+use Rattle.std.specs.Prelude.{Option, Some, None}
 use Rattle.wap_url.specs.declared.url.Url.{Url}
 use Rattle.wap_value.specs.declared.value.Value.{Value}
 use Rattle.wap_code.specs.declared.unit.Unit.{Unit}
@@ -9,11 +10,15 @@ use Rattle.wap_execution.specs.Frames.{Function, Frame, code_at, begun}
 use Rattle.wap_execution.specs.Outcomes.{Outcome, value, exit, fatal, waits, stuck, Ended, Hosting}
 use Rattle.wap_execution.specs.Running.{finished}
 use Rattle.wap_execution_laws.specs.Settings.{uncounted}
+use Rattle.wap_site.specs.Pages.{Pages as JudgedPages}
+use Rattle.wap_site.specs.declared.page.Page.{Page}
+use Rattle.wap_site.specs.declared.page.Page.TheVariants as page
 use Rattle.wap_world.specs.Shelves.{Shelf}
 use Rattle.wap_world.specs.Steps.{Step}
 use Rattle.wap_world.specs.Sites.{External, Call, End, done, failed, unanswered, Ran, Site}
 use Rattle.wap_scripting.specs.Units.{entrance_in, external_in}
-use Rattle.wap_scripting.specs.ScriptPages.{PagesOf, Scripts, shelf_by, script_under, externals_by}
+use Rattle.wap_scripting.specs.ScriptPages.{PageOf, deck, script, words, refused, PagesOf}
+use Rattle.wap_scripting.specs.ScriptPages.{Scripts, shelf_by, script_under, externals_by}
 use Rattle.wap_scripting.specs.ScriptPages.{host_by, keyed_by}
 
 -- ---- pages with units
@@ -89,6 +94,23 @@ run_unit pages name base referer index arguments turns step =
     } in
     ran_of (finished (uncounted step.world.limits (keyed_host pages))
     (started_at function arguments (code_at function)) turns step)
+
+-- ---- judged pages
+
+-- a judged page
+abbrev pub unit_page : Page → PageOf Unit
+unit_page (page.Deck one) = deck one
+unit_page (page.Script one) = script one
+unit_page (page.Words text) = words text
+unit_page page.Refused = refused
+-- no site has such a page under a name
+unit_page page.Missing = refused
+
+-- the pages of a site, as they are judged
+abbrev pub unit_pages : JudgedPages → Pages
+unit_pages judged = map (λ one. (one.0, unit_page one.1)) judged
+
+-- ---- the site
 
 -- the site of these pages; `call` reads what a fragment calls
 unfoldable pub units_site : (List ℕ → Option Call) → Pages → Site

@@ -194,6 +194,9 @@ module _ (Fact : World → Type 0) (changes : ChangesKeep Fact) where
   meanwhile_keeps shelf (key.Answer text) w fact = fact
   meanwhile_keeps shelf key.Stop w fact = fact
   meanwhile_keeps shelf key.Vars w fact = fact
+  meanwhile_keeps shelf (key.Push bytes) w fact = fact
+  meanwhile_keeps shelf key.Inbox w fact = fact
+  meanwhile_keeps shelf (key.Follow n) w fact = fact
 
   -- where it is so of one step, it is so of the other
   abbrev Keep : Step → Step → Type 0

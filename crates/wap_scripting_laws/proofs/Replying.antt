@@ -73,6 +73,9 @@ meanwhile_turns shelf key.Cancel w = refl
 meanwhile_turns shelf (key.Answer text) w = refl
 meanwhile_turns shelf key.Stop w = refl
 meanwhile_turns shelf key.Vars w = refl
+meanwhile_turns shelf (key.Push bytes) w = refl
+meanwhile_turns shelf key.Inbox w = refl
+meanwhile_turns shelf (key.Follow n) w = refl
 
 module _ (call : List ℕ → Option Call) (pages : Pages) (one : Waits) (w : World) where
   -- the shelf of the pages

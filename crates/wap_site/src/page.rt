@@ -4,15 +4,18 @@ ghost use Rattle.std.specs.Prelude.{◌≡◌, IfOk};
 use crate::Shared;
 use wap_base::{NoMemory, Text};
 use wap_good::GoodDeck;
+use wap_verify::Verified;
 
-/// What a page is to a browser. A contract sees the deck or the text.
+/// What a page is to a browser. A contract sees the deck, the unit or the text.
 #[derive(Drop)]
 pub enum Page {
     /// A good deck.
     Deck(Shared<GoodDeck>),
+    /// A script, as a unit that may be run.
+    Script(Shared<Verified>),
     /// A text, which scripts may load.
     Words(Shared<Text>),
-    /// A page that is neither.
+    /// A page that is none of these.
     Refused,
     /// There is no page of the name.
     Missing,
@@ -25,6 +28,7 @@ impl Page {
     {
         match self {
             Page::Deck(deck) => Ok(Page::Deck(deck.share()?)),
+            Page::Script(script) => Ok(Page::Script(script.share()?)),
             Page::Words(text) => Ok(Page::Words(text.share()?)),
             Page::Refused => Ok(Page::Refused),
             Page::Missing => Ok(Page::Missing),

@@ -317,6 +317,9 @@ module _ (site : Site) (leaves : LeavesKeys site) where
   apply_leaves keys w (key.Answer text) = refl
   apply_leaves keys w key.Stop = refl
   apply_leaves keys w key.Vars = refl
+  apply_leaves keys w (key.Push bytes) = refl
+  apply_leaves keys w key.Inbox = refl
+  apply_leaves keys w (key.Follow n) = refl
 
   -- a key sees none of the keys after it, and leaves them
   pub react_leaves : (one : Key) (keys : List Key) (w : World)

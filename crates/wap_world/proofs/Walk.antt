@@ -613,6 +613,9 @@ module _ (K : Keeping) (site : Site) (kept : Kept K site.shelf) (runs : KeepsSit
   apply_moves keys w (key.Answer text) = kept.none keys w
   apply_moves keys w key.Stop = kept.none keys w
   apply_moves keys w key.Vars = kept.none keys w
+  apply_moves keys w (key.Push bytes) = kept.none keys w
+  apply_moves keys w key.Inbox = kept.none keys w
+  apply_moves keys w (key.Follow n) = kept.none keys w
 
   pub react_moves : (one : Key) (keys : List Key) (w : World)
       → Steps keys (renewed w) (react site one keys w)

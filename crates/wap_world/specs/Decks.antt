@@ -1,5 +1,5 @@
--- Judged pages among which no script is: the shelf that they make, and its site. This project's
--- own.
+-- Judged pages over which no script is run, so that a script is a page that is refused: the shelf
+-- that they make, and its site. This project's own.
 use Rattle.std.specs.Prelude.{None}
 use Rattle.wap_site.specs.Pages.{Pages, page_of}
 use Rattle.wap_site.specs.declared.page.Page.{Page}
@@ -10,6 +10,7 @@ use Rattle.wap_world.specs.Sites.{done, Site}
 -- a judged page, as it stands on a shelf
 abbrev pub shelved : Page → Shelved
 shelved (page.Deck deck) = deck_page deck
+shelved (page.Script unit) = refused_page
 shelved (page.Words text) = text_page text
 shelved page.Refused = refused_page
 shelved page.Missing = no_page

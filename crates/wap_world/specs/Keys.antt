@@ -97,7 +97,8 @@ on_card site keys world rule = at_card keys world rule (place_now site.shelf wor
 abbrev pub renewed : World → World
 renewed world = record world { turns = world.budget }
 
--- what each key does; those of dialogs fit nothing outside one
+-- what each key does; those of dialogs fit nothing outside one, and those of an inbox nothing
+-- without one
 abbrev pub apply : Site → List Key → World → Key → Step
 apply site keys world (key.Open url) = visit site keys world url
 apply site keys world (key.Do name) = on_card site keys world
@@ -119,6 +120,9 @@ apply site keys world (key.Answer text) = quiet keys (ignored world)
 apply site keys world key.Stop = quiet keys (ignored world)
 apply site keys world key.Vars =
     quiet keys (record { world = world; lines = map variable_line world.vars })
+apply site keys world (key.Push bytes) = quiet keys (ignored world)
+apply site keys world key.Inbox = quiet keys (ignored world)
+apply site keys world (key.Follow n) = quiet keys (ignored world)
 
 -- a key, before keys that are left
 unfoldable pub react : Site → Key → List Key → World → Step

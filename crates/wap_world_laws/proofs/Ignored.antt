@@ -35,6 +35,18 @@ unfolding react
 ignores_dialog_keys site keys world =
     record { ok = refl; cancel = refl; answer = λ text. refl; stop = refl }
 
+-- an inbox's keys fit nothing without an inbox
+pub record IgnoresInboxKeys (site : Site) (keys : List Key) (world : World) : Type 0 where
+  pub push : (bytes : List ℕ) → IsIgnored site (key.Push bytes) keys world
+  pub inbox : IsIgnored site key.Inbox keys world
+  pub follow : (n : ℕ) → IsIgnored site (key.Follow n) keys world
+
+pub ignores_inbox_keys : (site : Site) (keys : List Key) (world : World)
+    → IgnoresInboxKeys site keys world
+unfolding react
+ignores_inbox_keys site keys world =
+    record { push = λ bytes. refl; inbox = refl; follow = λ n. refl }
+
 -- a do, a link, a field, an option fit nothing where there is no such
 pub ignores_do : (site : Site) (keys : List Key) (world : World) (place : Place) (name : List ℕ)
     → place_now site.shelf (renewed world) ≡ Some place
@@ -130,3 +142,6 @@ ignores_without_card site key.Cancel keys world is none = refl
 ignores_without_card site (key.Answer text) keys world is none = refl
 ignores_without_card site key.Stop keys world is none = refl
 ignores_without_card site key.Vars keys world is none = absurd (false≢true is)
+ignores_without_card site (key.Push bytes) keys world is none = absurd (false≢true is)
+ignores_without_card site key.Inbox keys world is none = absurd (false≢true is)
+ignores_without_card site (key.Follow n) keys world is none = absurd (false≢true is)

@@ -18,7 +18,8 @@ use Rattle.wap_world.specs.Keys.{react, renewed, ignored}
 abbrev pub IsIgnored : Site → Key → List Key → World → Type 0
 IsIgnored site one keys world = react site one keys world ≡ quiet keys (ignored (renewed world))
 
--- whether a key is for a card: all but one that opens a URL and one that shows the variables
+-- whether a key is for a card: all but one that opens a URL, one that shows the variables, and
+-- those of an inbox
 abbrev pub is_for_card : Key → Bool
 is_for_card (key.Open url) = false
 is_for_card (key.Do name) = true
@@ -32,6 +33,9 @@ is_for_card key.Cancel = true
 is_for_card (key.Answer text) = true
 is_for_card key.Stop = true
 is_for_card key.Vars = false
+is_for_card (key.Push bytes) = false
+is_for_card key.Inbox = false
+is_for_card (key.Follow n) = false
 
 -- the option of a number, in the select of another
 abbrev pub option_with : Node → ℕ → ℕ → Option Node

@@ -13,7 +13,7 @@ ghost use Rattle.wap_world_laws.specs.Ignored.{IsIgnored, is_for_card, option_wi
 
 /// A key that fits nothing shows its line alone, and changes nothing but that it has its turns: a
 /// do, a link, an input or an option that the current card doesn't have, time where no timer runs,
-/// a dialog's keys, and any key for a card where there is none.
+/// a dialog's keys, an inbox's, and any key for a card where there is none.
 pub fn keys_that_fit_nothing_are_ignored()
     ensures of_do { (site : Site) (keys : List Key) (world : World) (place : Place)
         (name : List ℕ) → place_now site.shelf (renewed world) ≡ Some place
@@ -35,6 +35,9 @@ pub fn keys_that_fit_nothing_are_ignored()
     ensures of_dialog { (site : Site) (keys : List Key) (world : World) (text : List ℕ)
         → IsIgnored site key.Ok keys world × IsIgnored site key.Cancel keys world
         × IsIgnored site (key.Answer text) keys world × IsIgnored site key.Stop keys world }
+    ensures of_inbox { (site : Site) (keys : List Key) (world : World) (bytes : List ℕ) (n : ℕ)
+        → IsIgnored site (key.Push bytes) keys world × IsIgnored site key.Inbox keys world
+        × IsIgnored site (key.Follow n) keys world }
     ensures without_card { (site : Site) (one : Key) (keys : List Key) (world : World)
         → is_for_card one ≡ true → place_now site.shelf (renewed world) ≡ None
         → IsIgnored site one keys world }

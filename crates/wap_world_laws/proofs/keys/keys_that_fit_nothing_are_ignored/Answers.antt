@@ -1,5 +1,6 @@
 use Rattle.wap_world_laws.proofs.Ignored.{ignores_do, ignores_pick, ignores_type, ignores_option}
-use Rattle.wap_world_laws.proofs.Ignored.{ignores_tick, ignores_dialog_keys, ignores_without_card}
+use Rattle.wap_world_laws.proofs.Ignored.{ignores_tick, ignores_dialog_keys, ignores_inbox_keys}
+use Rattle.wap_world_laws.proofs.Ignored.{ignores_without_card}
 use Rattle.wap_world_laws.proofs.keys.keys_that_fit_nothing_are_ignored.Goals as goal
 
 pub returns-clause-of_do : goal.returns-clause-of_do
@@ -21,6 +22,11 @@ pub returns-clause-of_dialog : goal.returns-clause-of_dialog
 returns-clause-of_dialog c = λ site keys world text.
     let dialog = ignores_dialog_keys site keys world in
     (dialog.ok, dialog.cancel, dialog.answer text, dialog.stop)
+
+pub returns-clause-of_inbox : goal.returns-clause-of_inbox
+returns-clause-of_inbox c = λ site keys world bytes n.
+    let inbox = ignores_inbox_keys site keys world in
+    (inbox.push bytes, inbox.inbox, inbox.follow n)
 
 pub returns-clause-without_card : goal.returns-clause-without_card
 returns-clause-without_card c = ignores_without_card
