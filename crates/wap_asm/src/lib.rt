@@ -20,3 +20,4 @@ pub use instruction::{next_instr, read_row, row_of};
 pub use laws::{placeable_is_tested, sizes_are_least, table_is_exact, table_is_listed};
 pub use library::{args_of, lib_args, lib_named};
 pub use placer::place;
+pub use sizes::wide_bytes;

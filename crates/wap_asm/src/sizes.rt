@@ -20,7 +20,7 @@ fn wide_size(form: Form) -> usize
 
 /// How many bytes the forms have in the longest spellings of their operations.
 #[tactic(auto, unfolding(crate::specs::Placing::wide))]
-pub(crate) fn wide_bytes(forms: &[Form]) -> u64
+pub fn wide_bytes(forms: &[Form]) -> u64
     ensures { result ≡ wide forms.now }
 {
     let mut bytes = 0u64;
