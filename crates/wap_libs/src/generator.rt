@@ -1,5 +1,6 @@
 //! The generator of random numbers.
-ghost use Rattle.std.specs.Prelude.{◌≡◌};
+ghost use Rattle.std.specs.Prelude.{◌≡◌, ◌<◌};
+ghost use Rattle.std.specs.Fn.{iterate};
 
 use rand_core::SeedableRng;
 use rand_core::utils::NextWord;
@@ -28,13 +29,42 @@ impl Model for Gen {
 }
 
 impl Gen {
-    ghost use Rattle.wap_library.specs.Generator.{started_from, next_word, after_word};
+    ghost use Rattle.wap_library.specs.Generator.{started_from, next_word, after_word, most_drawn};
 
     /// The generator of a session with this seed, from which it starts.
     pub fn new(seed: u32) -> Gen
         ensures { result ≡ started_from seed seed }
     {
         Gen::start_from(seed, seed)
+    }
+
+    /// The generator of a session with this seed, after so many words since it last started, from
+    /// `start`. The time grows with the logarithm of the number of words.
+    pub fn at(seed: u32, start: u32, drawn: u64) -> Gen
+        requires { drawn < most_drawn }
+        ensures { result ≡ iterate after_word drawn (started_from seed start) }
+    {
+        let mut placed = Gen::start_from(seed, start);
+        placed.words.advance(drawn);
+        placed.drawn = drawn;
+        placed
+    }
+
+    /// The session's seed.
+    pub fn seed(&self) -> u32
+        ensures { result ≡ self.now.seed }
+    {
+        self.seed
+    }
+
+    /// Where the generator is: the seed from which it started last, and how many words were drawn
+    /// since. This number stays where it is once it has come to the greatest `u64`.
+    pub fn place(&self) -> (u32, u64)
+        ensures place { result ≡ (self.now.start, self.now.drawn) }
+        ensures named { self.now.drawn < most_drawn → self.now
+            ≡ iterate after_word self.now.drawn (started_from self.now.seed self.now.start) }
+    {
+        (self.start, self.drawn)
     }
 
     /// Starts anew, from the session's seed.
