@@ -26,10 +26,13 @@ use Rattle.wap_keys.specs.declared.fault.KeyFault.TheVariants.{NoMemory}
 use Rattle.wap_keys.specs.declared.word.Word.{Word}
 use Rattle.wap_keys.specs.declared.word.Word.TheVariants as word
 use Rattle.wap_keys.specs.Decimal.{decimal_of}
-use Rattle.wap_keys.specs.Forms.{Form, nothing, text, text_or_none, number, form_of, name_of}
-use Rattle.wap_keys.specs.Forms.{words, word_named, is_space, prefix_of, rest_of, number_of}
-use Rattle.wap_keys.specs.Forms.{number_in, nothing_at, key_by, key_of_word, key_at}
-use Rattle.wap_keys.specs.Spelling.{spaced, HasNoSpace, Spells, Misspells, IsTextLine}
+use Rattle.wap_keys.specs.Hexadecimal.{bytes_of}
+use Rattle.wap_keys.specs.Forms.{Form, nothing, text, text_or_none, number, hexadecimal}
+use Rattle.wap_keys.specs.Forms.{form_of, name_of, words, word_named, is_space, prefix_of}
+use Rattle.wap_keys.specs.Forms.{rest_of, or_bad, value_in, argument_at, nothing_at}
+use Rattle.wap_keys.specs.Forms.{key_by, key_of_word, key_at}
+use Rattle.wap_keys.specs.Spelling.{spaced, HasNoSpace, SpellsArgument, MisspellsArgument}
+use Rattle.wap_keys.specs.Spelling.{Spells, Misspells, IsTextLine}
 use Rattle.wap_keys.specs.Spelling.{IsKeyLine, IsUnknown, MisspellsLine, IsNoKeyLine}
 use Rattle.wap_keys.proofs.KeyLaws.{long_key, bad_text, good_text}
 
@@ -117,20 +120,11 @@ abbrev Said : Form → Option (List ℕ) → Result Key KeyFault → Type 0
 Said form rest (Ok key) = Spells form rest key
 Said form rest (Err fault) = Misspells form rest fault
 
-abbrev with_rest : Option (List ℕ) → ℕ → Result (ℕ × Option (List ℕ)) KeyFault
-with_rest rest n = Ok (n, rest)
+abbrev with_rest : {A : Type 0} → Option (List ℕ) → A → Result (A × Option (List ℕ)) KeyFault
+with_rest rest value = Ok (value, rest)
 
-abbrev goes_on : (ℕ → Form) → ℕ × Option (List ℕ) → Result Key KeyFault
+abbrev goes_on : {A : Type 0} → (A → Form) → A × Option (List ℕ) → Result Key KeyFault
 goes_on form got = key_by (form got.0) got.1
-
-more_said : (greatest : ℕ) (form : ℕ → Form) (digits : List ℕ) (others rest : Option (List ℕ))
-    (n : ℕ) (read : Result Key KeyFault) → rest ≡ Some (spaced digits others) → HasNoSpace digits
-    → decimal_of greatest digits ≡ Some n → Said (form n) others read
-    → Said (number greatest form) rest read
-more_said greatest form digits others rest n (Ok key) is none decimal said =
-    (digits, others, n, is, none, decimal, said)
-more_said greatest form digits others rest n (Err fault) is none decimal said =
-    inr (inr (digits, others, n, is, none, decimal, said))
 
 some_prefix : (c : ℕ) (cs : List ℕ) → c ∷ cs ≡ [] → ⊥
 some_prefix c cs e = cc
@@ -139,34 +133,65 @@ split_is : (bytes prefix : List ℕ) → prefix_of bytes ≡ prefix
     → bytes ≡ spaced prefix (rest_of bytes)
 split_is bytes prefix is = parts bytes ∙ ap (λ (l : List ℕ). spaced l (rest_of bytes)) is
 
-decimal_said : (greatest : ℕ) (form : ℕ → Form) (bytes : List ℕ) (c : ℕ) (cs : List ℕ)
-    (n : Option ℕ) → prefix_of bytes ≡ c ∷ cs → decimal_of greatest (c ∷ cs) ≡ n
-    → ((n : ℕ) → Said (form n) (rest_of bytes) (key_by (form n) (rest_of bytes)))
-    → Said (number greatest form) (Some bytes)
-    ((number_of n >>= with_rest (rest_of bytes)) >>= goes_on form)
-decimal_said greatest form bytes c cs None prefix decimal said =
-    inr (inl (
-      c ∷ cs,
-      rest_of bytes,
-      ap Some (split_is bytes (c ∷ cs) prefix),
-      subst HasNoSpace prefix (prefix_none bytes),
-      some_prefix c cs,
-      decimal,
-      refl,
-    ))
-decimal_said greatest form bytes c cs (Some n) prefix decimal said =
-    more_said greatest form (c ∷ cs) (rest_of bytes) (Some bytes) n
-    (key_by (form n) (rest_of bytes)) (ap Some (split_is bytes (c ∷ cs) prefix))
-    (subst HasNoSpace prefix (prefix_none bytes)) decimal (said n)
+-- of an argument, by how it is read, and of what follows it
+module _ {A : Type 0} (read : List ℕ → Option A) (form : A → Form) where
+  -- they spell the key, or misspell it
+  abbrev SaidBy : Option (List ℕ) → Result Key KeyFault → Type 0
+  SaidBy rest (Ok key) =
+      (value : A) × (others : Option (List ℕ)) × SpellsArgument read rest value others
+      × Spells (form value) others key
+  SaidBy rest (Err fault) =
+      MisspellsArgument read rest fault
+      ⊎ ((value : A) × (others : Option (List ℕ)) × SpellsArgument read rest value others
+      × Misspells (form value) others fault)
 
-prefix_said : (greatest : ℕ) (form : ℕ → Form) (bytes prefix : List ℕ) → prefix_of bytes ≡ prefix
-    → ((n : ℕ) → Said (form n) (rest_of bytes) (key_by (form n) (rest_of bytes)))
-    → Said (number greatest form) (Some bytes)
-    ((number_in greatest prefix >>= with_rest (rest_of bytes)) >>= goes_on form)
-prefix_said greatest form bytes [] prefix said =
-    inl (inr (rest_of bytes, ap Some (split_is bytes [] prefix)), refl)
-prefix_said greatest form bytes (c ∷ cs) prefix said =
-    decimal_said greatest form bytes c cs (decimal_of greatest (c ∷ cs)) prefix refl said
+  more_said : (rest others : Option (List ℕ)) (value : A) (said : Result Key KeyFault)
+      → SpellsArgument read rest value others → Said (form value) others said → SaidBy rest said
+  more_said rest others value (Ok key) spells said = (value, others, spells, said)
+  more_said rest others value (Err fault) spells said = inr (value, others, spells, said)
+
+  value_said : (bytes : List ℕ) (c : ℕ) (cs : List ℕ) (value : Option A)
+      → prefix_of bytes ≡ c ∷ cs → read (c ∷ cs) ≡ value
+      → ((value : A) → Said (form value) (rest_of bytes) (key_by (form value) (rest_of bytes)))
+      → SaidBy (Some bytes) ((or_bad value >>= with_rest (rest_of bytes)) >>= goes_on form)
+  value_said bytes c cs None prefix none said =
+      inl (inr (
+        c ∷ cs,
+        rest_of bytes,
+        ap Some (split_is bytes (c ∷ cs) prefix),
+        subst HasNoSpace prefix (prefix_none bytes),
+        some_prefix c cs,
+        none,
+        refl,
+      ))
+  value_said bytes c cs (Some value) prefix some said =
+      more_said (Some bytes) (rest_of bytes) value (key_by (form value) (rest_of bytes)) (
+        c ∷ cs,
+        ap Some (split_is bytes (c ∷ cs) prefix),
+        subst HasNoSpace prefix (prefix_none bytes),
+        some,
+      )
+      (said value)
+
+  prefix_said : (bytes prefix : List ℕ) → prefix_of bytes ≡ prefix
+      → ((value : A) → Said (form value) (rest_of bytes) (key_by (form value) (rest_of bytes)))
+      → SaidBy (Some bytes)
+      ((value_in read prefix >>= with_rest (rest_of bytes)) >>= goes_on form)
+  prefix_said bytes [] prefix said =
+      inl (inl (inr (rest_of bytes, ap Some (split_is bytes [] prefix)), refl))
+  prefix_said bytes (c ∷ cs) prefix said =
+      value_said bytes c cs (read (c ∷ cs)) prefix refl said
+
+number_said : (greatest : ℕ) (form : ℕ → Form) (rest : Option (List ℕ))
+    (said : Result Key KeyFault)
+    → SaidBy (decimal_of greatest) form rest said → Said (number greatest form) rest said
+number_said greatest form rest (Ok key) is = is
+number_said greatest form rest (Err fault) is = is
+
+bytes_said : (form : List ℕ → Form) (rest : Option (List ℕ)) (said : Result Key KeyFault)
+    → SaidBy bytes_of form rest said → Said (hexadecimal form) rest said
+bytes_said form rest (Ok key) is = is
+bytes_said form rest (Err fault) is = is
 
 form_said : (form : Form) (rest : Option (List ℕ)) → Said form rest (key_by form rest)
 form_said (nothing key) None = (refl, refl)
@@ -176,41 +201,72 @@ form_said (text make) (Some []) = (inr refl, refl)
 form_said (text make) (Some (c ∷ cs)) = (c, cs, refl, refl)
 form_said (text_or_none make) None = inl (refl, refl)
 form_said (text_or_none make) (Some t) = inr (t, refl, refl)
-form_said (number greatest form) None = inl (inl refl, refl)
+form_said (number greatest form) None = inl (inl (inl refl, refl))
 form_said (number greatest form) (Some bytes) =
-    prefix_said greatest form bytes (prefix_of bytes) refl (λ n. form_said (form n) (rest_of bytes))
+    number_said greatest form (Some bytes) (key_by (number greatest form) (Some bytes))
+    (prefix_said (decimal_of greatest) form bytes (prefix_of bytes) refl
+    (λ n. form_said (form n) (rest_of bytes)))
+form_said (hexadecimal form) None = inl (inl (inl refl, refl))
+form_said (hexadecimal form) (Some bytes) =
+    bytes_said form (Some bytes) (key_by (hexadecimal form) (Some bytes))
+    (prefix_said bytes_of form bytes (prefix_of bytes) refl
+    (λ written. form_said (form written) (rest_of bytes)))
 
 -- ---- and the other way
 
-then_reads : (form : ℕ → Form) (others : Option (List ℕ)) (read : Result ℕ KeyFault)
-    → ((read >>= with_rest others) >>= goes_on form) ≡ (read >>= λ n. key_by (form n) others)
-then_reads form others (Ok n) = refl
-then_reads form others (Err fault) = refl
+module _ {A : Type 0} (read : List ℕ → Option A) (form : A → Form) where
+  then_reads : (others : Option (List ℕ)) (value : Result A KeyFault)
+      → ((value >>= with_rest others) >>= goes_on form)
+      ≡ (value >>= λ value. key_by (form value) others)
+  then_reads others (Ok value) = refl
+  then_reads others (Err fault) = refl
 
-number_reads : (greatest : ℕ) (form : ℕ → Form) (argument : List ℕ) (others : Option (List ℕ))
-    → HasNoSpace argument
-    → key_by (number greatest form) (Some (spaced argument others))
-    ≡ (number_in greatest argument >>= λ n. key_by (form n) others)
-number_reads greatest form argument others none =
-    ap (λ (l : List ℕ). (number_in greatest l >>= with_rest (rest_of (spaced argument others)))
-    >>= goes_on form) (prefix_spaced argument others none)
-    ∙ ap
-    (λ (rest : Option (List ℕ)). (number_in greatest argument >>= with_rest rest) >>= goes_on form)
-    (rest_spaced argument others none)
-    ∙ then_reads form others (number_in greatest argument)
+  -- what an argument and the others make
+  abbrev read_by : Option (List ℕ) → Result Key KeyFault
+  read_by rest = argument_at read rest >>= goes_on form
 
-no_digits : (greatest n : ℕ) → decimal_of greatest [] ≡ Some n → ⊥
-no_digits greatest n e = cc
+  argument_reads : (argument : List ℕ) (others : Option (List ℕ)) → HasNoSpace argument
+      → read_by (Some (spaced argument others))
+      ≡ (value_in read argument >>= λ value. key_by (form value) others)
+  argument_reads argument others none =
+      ap (λ (l : List ℕ). (value_in read l >>= with_rest (rest_of (spaced argument others)))
+      >>= goes_on form) (prefix_spaced argument others none)
+      ∙ ap
+      (λ (rest : Option (List ℕ)). (value_in read argument >>= with_rest rest) >>= goes_on form)
+      (rest_spaced argument others none)
+      ∙ then_reads others (value_in read argument)
 
-number_is : (greatest : ℕ) (digits : List ℕ) (n : ℕ) → decimal_of greatest digits ≡ Some n
-    → number_in greatest digits ≡ Ok n
-number_is greatest [] n decimal = absurd (no_digits greatest n decimal)
-number_is greatest (c ∷ cs) n decimal = ap number_of decimal
+  bad_is : (argument : List ℕ) → argument ≢ [] → read argument ≡ None
+      → value_in read argument ≡ Err BadNumber
+  bad_is [] some none = absurd (some refl)
+  bad_is (c ∷ cs) some none = ap or_bad none
 
-bad_is : (greatest : ℕ) (argument : List ℕ) → argument ≢ [] → decimal_of greatest argument ≡ None
-    → number_in greatest argument ≡ Err BadNumber
-bad_is greatest [] some decimal = absurd (some refl)
-bad_is greatest (c ∷ cs) some decimal = ap number_of decimal
+  argument_misspelt : (rest : Option (List ℕ)) (fault : KeyFault)
+      → MisspellsArgument read rest fault → read_by rest ≡ Err fault
+  argument_misspelt rest fault (inl (inl none, is)) = ap read_by none ∙ ap Err (sym is)
+  argument_misspelt rest fault (inl (inr (others, some), is)) =
+      ap read_by some ∙ argument_reads [] others refl ∙ ap Err (sym is)
+  argument_misspelt rest fault (inr (argument, others, some, none, filled, bad, is)) =
+      ap read_by some ∙ argument_reads argument others none
+      ∙ ap (λ (value : Result A KeyFault). value >>= λ value. key_by (form value) others)
+      (bad_is argument filled bad)
+      ∙ ap Err (sym is)
+
+  module _ (empty : read [] ≡ None) where
+    value_is : (argument : List ℕ) (value : A) → read argument ≡ Some value
+        → value_in read argument ≡ Ok value
+    value_is [] value some = absurd (none_some (sym empty ∙ some))
+      where
+        none_some : None ≡ Some value → ⊥
+        none_some e = cc
+    value_is (c ∷ cs) value some = ap or_bad some
+
+    argument_spelt : (rest others : Option (List ℕ)) (value : A)
+        → SpellsArgument read rest value others → read_by rest ≡ key_by (form value) others
+    argument_spelt rest others value (argument, some, none, is) =
+        ap read_by some ∙ argument_reads argument others none
+        ∙ ap (λ (value : Result A KeyFault). value >>= λ value. key_by (form value) others)
+        (value_is argument value is)
 
 form_spelt : (form : Form) (rest : Option (List ℕ)) (said : Key) → Spells form rest said
     → key_by form rest ≡ Ok said
@@ -220,11 +276,12 @@ form_spelt (text_or_none make) rest said (inl (none, is)) =
     ap (key_by (text_or_none make)) none ∙ ap Ok (sym is)
 form_spelt (text_or_none make) rest said (inr (t, some, is)) =
     ap (key_by (text_or_none make)) some ∙ ap Ok (sym is)
-form_spelt (number greatest form) rest said (digits, others, n, some, none, decimal, spells) =
-    ap (key_by (number greatest form)) some ∙ number_reads greatest form digits others none
-    ∙ ap (λ (read : Result ℕ KeyFault). read >>= λ n. key_by (form n) others)
-    (number_is greatest digits n decimal)
-    ∙ form_spelt (form n) others said spells
+form_spelt (number greatest form) rest said (n, others, spells, is) =
+    argument_spelt (decimal_of greatest) form refl rest others n spells
+    ∙ form_spelt (form n) others said is
+form_spelt (hexadecimal form) rest said (written, others, spells, is) =
+    argument_spelt bytes_of form refl rest others written spells
+    ∙ form_spelt (form written) others said is
 
 form_misspelt : (form : Form) (rest : Option (List ℕ)) (fault : KeyFault)
     → Misspells form rest fault → key_by form rest ≡ Err fault
@@ -232,23 +289,16 @@ form_misspelt (nothing key) rest fault (t, some, is) = ap (nothing_at key) some 
 form_misspelt (text make) rest fault (inl none, is) = ap (key_by (text make)) none ∙ ap Err (sym is)
 form_misspelt (text make) rest fault (inr none, is) = ap (key_by (text make)) none ∙ ap Err (sym is)
 form_misspelt (text_or_none make) rest fault no_way = absurd no_way
-form_misspelt (number greatest form) rest fault (inl (inl none, is)) =
-    ap (key_by (number greatest form)) none ∙ ap Err (sym is)
-form_misspelt (number greatest form) rest fault (inl (inr (others, some), is)) =
-    ap (key_by (number greatest form)) some ∙ number_reads greatest form [] others refl
-    ∙ ap Err (sym is)
-form_misspelt (number greatest form) rest fault
-    (inr (inl (argument, others, some, none, filled, decimal, is))) =
-    ap (key_by (number greatest form)) some ∙ number_reads greatest form argument others none
-    ∙ ap (λ (read : Result ℕ KeyFault). read >>= λ n. key_by (form n) others)
-    (bad_is greatest argument filled decimal)
-    ∙ ap Err (sym is)
-form_misspelt (number greatest form) rest fault
-    (inr (inr (digits, others, n, some, none, decimal, misspells))) =
-    ap (key_by (number greatest form)) some ∙ number_reads greatest form digits others none
-    ∙ ap (λ (read : Result ℕ KeyFault). read >>= λ n. key_by (form n) others)
-    (number_is greatest digits n decimal)
-    ∙ form_misspelt (form n) others fault misspells
+form_misspelt (number greatest form) rest fault (inl bad) =
+    argument_misspelt (decimal_of greatest) form rest fault bad
+form_misspelt (number greatest form) rest fault (inr (n, others, spells, is)) =
+    argument_spelt (decimal_of greatest) form refl rest others n spells
+    ∙ form_misspelt (form n) others fault is
+form_misspelt (hexadecimal form) rest fault (inl bad) =
+    argument_misspelt bytes_of form rest fault bad
+form_misspelt (hexadecimal form) rest fault (inr (written, others, spells, is)) =
+    argument_spelt bytes_of form refl rest others written spells
+    ∙ form_misspelt (form written) others fault is
 
 -- ---- words
 
@@ -265,6 +315,9 @@ named word.Cancel = refl
 named word.Answer = refl
 named word.Stop = refl
 named word.Vars = refl
+named word.Push = refl
+named word.Inbox = refl
+named word.Follow = refl
 
 unspaced : (w : Word) → HasNoSpace (name_of w)
 unspaced word.Open = refl
@@ -279,6 +332,9 @@ unspaced word.Cancel = refl
 unspaced word.Answer = refl
 unspaced word.Stop = refl
 unspaced word.Vars = refl
+unspaced word.Push = refl
+unspaced word.Inbox = refl
+unspaced word.Follow = refl
 
 same_word : (v w : Word) → Some v ≡ Some w → v ≡ w
 same_word v w e = cc
@@ -351,17 +407,23 @@ Judged line (Err fault) = IsNoKeyLine line fault
 abbrev IsOfArgument : KeyFault → Type 0
 IsOfArgument fault = (fault ≡ Missing) ⊎ ((fault ≡ BadNumber) ⊎ (fault ≡ Surplus))
 
+of_one : {A : Type 0} (read : List ℕ → Option A) (rest : Option (List ℕ)) (fault : KeyFault)
+    → MisspellsArgument read rest fault → IsOfArgument fault
+of_one read rest fault (inl (none, is)) = inl is
+of_one read rest fault (inr (argument, others, some, none, filled, bad, is)) = inr (inl is)
+
 of_argument : (form : Form) (rest : Option (List ℕ)) (fault : KeyFault) → Misspells form rest fault
     → IsOfArgument fault
 of_argument (nothing key) rest fault (t, some, is) = inr (inr is)
 of_argument (text make) rest fault (none, is) = inl is
 of_argument (text_or_none make) rest fault no_way = absurd no_way
-of_argument (number greatest form) rest fault (inl (none, is)) = inl is
-of_argument (number greatest form) rest fault
-    (inr (inl (argument, others, some, none, filled, decimal, is))) = inr (inl is)
-of_argument (number greatest form) rest fault
-    (inr (inr (digits, others, n, some, none, decimal, misspells))) =
+of_argument (number greatest form) rest fault (inl bad) =
+    of_one (decimal_of greatest) rest fault bad
+of_argument (number greatest form) rest fault (inr (n, others, spells, misspells)) =
     of_argument (form n) others fault misspells
+of_argument (hexadecimal form) rest fault (inl bad) = of_one bytes_of rest fault bad
+of_argument (hexadecimal form) rest fault (inr (written, others, spells, misspells)) =
+    of_argument (form written) others fault misspells
 
 no_line : (line : List ℕ) (fault : KeyFault) → IsTextLine line → MisspellsLine line fault
     → IsOfArgument fault → IsNoKeyLine line fault

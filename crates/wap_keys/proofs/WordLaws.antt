@@ -55,6 +55,9 @@ low_name word.Cancel = refl
 low_name word.Answer = refl
 low_name word.Stop = refl
 low_name word.Vars = refl
+low_name word.Push = refl
+low_name word.Inbox = refl
+low_name word.Follow = refl
 
 name_text : (w : Word) → IsUtf8 (name_of w)
 name_text w =

@@ -1,5 +1,5 @@
 -- Key lines: the forms, each a word and its arguments, and what one line says. This project's own.
-use Rattle.std.specs.Prelude.{◌≡◌, ℕ, ◌==◌, nat_lt, if◌then◌else◌, Bool, List, [], ◌∷◌}
+use Rattle.std.specs.Prelude.{◌≡◌, ℕ, ◌==◌, nat_lt, if◌then◌else◌, Bool, List, [], ◌∷◌, ◌++◌}
 use Rattle.std.specs.Prelude.{length, Option, Some, None, Result, Ok, Err, codes, find}
 use Rattle.std.specs.Borrow.{Bor}
 use Rattle.std.specs.Option.{option_map}
@@ -17,6 +17,7 @@ use Rattle.wap_keys.specs.declared.fault.KeyFault.TheVariants.{Missing, BadNumbe
 use Rattle.wap_keys.specs.declared.word.Word.{Word}
 use Rattle.wap_keys.specs.declared.word.Word.TheVariants as word
 use Rattle.wap_keys.specs.Decimal.{decimal_of}
+use Rattle.wap_keys.specs.Hexadecimal.{bytes_of}
 
 -- ---- words and what follows them
 
@@ -42,6 +43,7 @@ pub data Form : Type 0 where
   text : (List ℕ → Key) → Form
   text_or_none : (List ℕ → Key) → Form
   number : ℕ → (ℕ → Form) → Form
+  hexadecimal : (List ℕ → Form) → Form
 
 -- the greatest number of 16 bits
 abbrev pub greatest_u16 : ℕ
@@ -65,6 +67,9 @@ form_of word.Cancel = nothing key.Cancel
 form_of word.Answer = text_or_none key.Answer
 form_of word.Stop = nothing key.Stop
 form_of word.Vars = nothing key.Vars
+form_of word.Push = hexadecimal (λ pushed. nothing (key.Push pushed))
+form_of word.Inbox = nothing key.Inbox
+form_of word.Follow = number greatest_u16 (λ n. nothing (key.Follow n))
 
 -- the name of a form's word
 abbrev pub name_of : Word → List ℕ
@@ -80,16 +85,32 @@ name_of word.Cancel = codes "cancel"
 name_of word.Answer = codes "answer"
 name_of word.Stop = codes "stop"
 name_of word.Vars = codes "vars"
+name_of word.Push = codes "push"
+name_of word.Inbox = codes "inbox"
+name_of word.Follow = codes "follow"
+
+-- the words that arguments follow
+abbrev pub words_with_arguments : List Word
+words_with_arguments =
+    word.Open ∷ word.Do ∷ word.Pick ∷ word.Type ∷ word.Choose ∷ word.Tick ∷ word.Answer
+    ∷ word.Push ∷ word.Follow ∷ []
+
+-- the words that stand alone
+abbrev pub words_alone : List Word
+words_alone =
+    word.Back ∷ word.Ok ∷ word.Cancel ∷ word.Stop ∷ word.Vars ∷ word.Inbox ∷ []
 
 -- all words
 abbrev pub words : List Word
-words =
-    word.Open ∷ word.Do ∷ word.Pick ∷ word.Type ∷ word.Choose ∷ word.Back ∷ word.Tick ∷ word.Ok
-    ∷ word.Cancel ∷ word.Answer ∷ word.Stop ∷ word.Vars ∷ []
+words = words_with_arguments ++ words_alone
+
+-- the word of a name among some, if there is one
+abbrev pub word_among : List Word → List ℕ → Option Word
+word_among words name = find (λ word. is_same_text name (name_of word)) words
 
 -- the word of a name, if there is one
 abbrev pub word_named : List ℕ → Option Word
-word_named name = find (λ word. is_same_text name (name_of word)) words
+word_named = word_among words
 
 -- ---- arguments
 
@@ -109,21 +130,30 @@ abbrev pub nothing_at : Key → Option (List ℕ) → Result Key KeyFault
 nothing_at key None = Ok key
 nothing_at key (Some bytes) = Err Surplus
 
--- the number that digits write, if they write one
-abbrev pub number_of : Option ℕ → Result ℕ KeyFault
-number_of None = Err BadNumber
-number_of (Some n) = Ok n
+-- the value that is written, if one is
+abbrev pub or_bad : {A : Type 0} → Option A → Result A KeyFault
+or_bad None = Err BadNumber
+or_bad (Some value) = Ok value
+
+-- the value of an argument, which has to be there, by how it is read
+abbrev pub value_in : {A : Type 0} → (List ℕ → Option A) → List ℕ → Result A KeyFault
+value_in read [] = Err Missing
+value_in read (c ∷ cs) = or_bad (read (c ∷ cs))
+
+-- an argument's value, and what follows the argument
+abbrev pub argument_at : {A : Type 0} → (List ℕ → Option A) → Option (List ℕ)
+    → Result (A × Option (List ℕ)) KeyFault
+argument_at read None = Err Missing
+argument_at read (Some bytes) =
+    value_in read (prefix_of bytes) >>= λ value. Ok (value, rest_of bytes)
 
 -- the number that an argument is
 abbrev pub number_in : ℕ → List ℕ → Result ℕ KeyFault
-number_in greatest [] = Err Missing
-number_in greatest (c ∷ cs) = number_of (decimal_of greatest (c ∷ cs))
+number_in greatest = value_in (decimal_of greatest)
 
 -- a number, and what follows it
 abbrev pub number_at : ℕ → Option (List ℕ) → Result (ℕ × Option (List ℕ)) KeyFault
-number_at greatest None = Err Missing
-number_at greatest (Some bytes) =
-    number_in greatest (prefix_of bytes) >>= λ n. Ok (n, rest_of bytes)
+number_at greatest = argument_at (decimal_of greatest)
 
 -- a call read this number, and has what follows it
 abbrev pub ReadsNumber : Result (ℕ × Option (Bor (List ℕ))) KeyFault
@@ -137,6 +167,7 @@ key_by (nothing key) rest = nothing_at key rest
 key_by (text make) rest = text_at rest >>= λ t. Ok (make t)
 key_by (text_or_none make) rest = Ok (make (text_or_none_at rest))
 key_by (number greatest form) rest = number_at greatest rest >>= λ read. key_by (form read.0) read.1
+key_by (hexadecimal form) rest = argument_at bytes_of rest >>= λ read. key_by (form read.0) read.1
 
 -- ---- lines
 

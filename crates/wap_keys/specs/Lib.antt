@@ -1,4 +1,5 @@
 pub mod Decimal
+pub mod Hexadecimal
 pub mod Forms
 pub mod Spelling
 pub mod Lines

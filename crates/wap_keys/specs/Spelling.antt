@@ -12,8 +12,9 @@ use Rattle.wap_keys.specs.declared.fault.KeyFault.TheVariants.{Missing, BadNumbe
 use Rattle.wap_keys.specs.declared.fault.KeyFault.TheVariants.{NoMemory}
 use Rattle.wap_keys.specs.declared.word.Word.{Word}
 use Rattle.wap_keys.specs.Decimal.{decimal_of}
+use Rattle.wap_keys.specs.Hexadecimal.{bytes_of}
 use Rattle.wap_keys.specs.Forms.{Form, nothing, text, text_or_none}
-use Rattle.wap_keys.specs.Forms.{number, form_of, name_of, is_space}
+use Rattle.wap_keys.specs.Forms.{number, hexadecimal, form_of, name_of, is_space}
 
 -- a word or an argument that has no space, and one space before what follows it, if something does
 abbrev pub spaced : List ℕ → Option (List ℕ) → List ℕ
@@ -26,6 +27,22 @@ HasNoSpace bytes = list_all (λ c. not (is_space c)) bytes ≡ true
 
 -- ---- arguments
 
+-- an argument stands first, which writes the value by how it is read, and then the others
+abbrev pub SpellsArgument : {A : Type 0} → (List ℕ → Option A) → Option (List ℕ) → A
+    → Option (List ℕ) → Type 0
+SpellsArgument read rest value others =
+    (argument : List ℕ) × (rest ≡ Some (spaced argument others)) × HasNoSpace argument
+    × (read argument ≡ Some value)
+
+-- or none stands there, or one that writes no value
+abbrev pub MisspellsArgument : {A : Type 0} → (List ℕ → Option A) → Option (List ℕ) → KeyFault
+    → Type 0
+MisspellsArgument read rest fault =
+    (((rest ≡ None) ⊎ ((others : Option (List ℕ)) × (rest ≡ Some (spaced [] others))))
+    × (fault ≡ Missing))
+    ⊎ ((argument : List ℕ) × (others : Option (List ℕ)) × (rest ≡ Some (spaced argument others))
+    × HasNoSpace argument × (argument ≢ []) × (read argument ≡ None) × (fault ≡ BadNumber))
+
 -- what follows a form's word spells the key
 abbrev pub Spells : Form → Option (List ℕ) → Key → Type 0
 Spells (nothing key) rest said = (rest ≡ None) × (said ≡ key)
@@ -34,8 +51,11 @@ Spells (text make) rest said =
 Spells (text_or_none make) rest said =
     ((rest ≡ None) × (said ≡ make [])) ⊎ ((t : List ℕ) × (rest ≡ Some t) × (said ≡ make (chars t)))
 Spells (number greatest form) rest said =
-    (digits : List ℕ) × (others : Option (List ℕ)) × (n : ℕ) × (rest ≡ Some (spaced digits others))
-    × HasNoSpace digits × (decimal_of greatest digits ≡ Some n) × Spells (form n) others said
+    (n : ℕ) × (others : Option (List ℕ)) × SpellsArgument (decimal_of greatest) rest n others
+    × Spells (form n) others said
+Spells (hexadecimal form) rest said =
+    (written : List ℕ) × (others : Option (List ℕ)) × SpellsArgument bytes_of rest written others
+    × Spells (form written) others said
 
 -- or it doesn't, for a fault: arguments are looked at from the left
 abbrev pub Misspells : Form → Option (List ℕ) → KeyFault → Type 0
@@ -43,14 +63,13 @@ Misspells (nothing key) rest fault = (t : List ℕ) × (rest ≡ Some t) × (fau
 Misspells (text make) rest fault = ((rest ≡ None) ⊎ (rest ≡ Some [])) × (fault ≡ Missing)
 Misspells (text_or_none make) rest fault = ⊥
 Misspells (number greatest form) rest fault =
-    (((rest ≡ None) ⊎ ((others : Option (List ℕ)) × (rest ≡ Some (spaced [] others))))
-    × (fault ≡ Missing))
-    ⊎ (((argument : List ℕ) × (others : Option (List ℕ)) × (rest ≡ Some (spaced argument others))
-    × HasNoSpace argument × (argument ≢ []) × (decimal_of greatest argument ≡ None)
-    × (fault ≡ BadNumber))
-    ⊎ ((digits : List ℕ) × (others : Option (List ℕ)) × (n : ℕ)
-    × (rest ≡ Some (spaced digits others)) × HasNoSpace digits
-    × (decimal_of greatest digits ≡ Some n) × Misspells (form n) others fault))
+    MisspellsArgument (decimal_of greatest) rest fault
+    ⊎ ((n : ℕ) × (others : Option (List ℕ)) × SpellsArgument (decimal_of greatest) rest n others
+    × Misspells (form n) others fault)
+Misspells (hexadecimal form) rest fault =
+    MisspellsArgument bytes_of rest fault
+    ⊎ ((written : List ℕ) × (others : Option (List ℕ))
+    × SpellsArgument bytes_of rest written others × Misspells (form written) others fault)
 
 -- ---- lines
 

@@ -17,7 +17,7 @@ pub enum KeyFault {
     UnknownWord,
     #[error("an argument is missing")]
     Missing,
-    #[error("an argument isn't a number of one to ten digits in its range")]
+    #[error("an argument isn't a number in its range or, for bytes, pairs of hexadecimal digits")]
     BadNumber,
     #[error("something follows the last argument")]
     Surplus,

@@ -9,7 +9,8 @@ ghost use Rattle.wap_keys.specs.declared.fault.KeyFault.{KeyFault};
 ghost use Rattle.wap_keys.specs.declared.fault.KeyFault.TheVariants.{NoMemory};
 ghost use Rattle.wap_keys.specs.declared.word.Word.TheVariants as word;
 ghost use Rattle.wap_keys.specs.Forms.{prefix_of, rest_of, form_of, text_at};
-ghost use Rattle.wap_keys.specs.Forms.{text_or_none_at, nothing_at, number_in, number_at};
+ghost use Rattle.wap_keys.specs.Hexadecimal.{bytes_of};
+ghost use Rattle.wap_keys.specs.Forms.{text_or_none_at, nothing_at, value_in, number_in, number_at};
 ghost use Rattle.wap_keys.specs.Forms.{ReadsNumber, greatest_u16, key_by, key_at};
 ghost use Rattle.wap_keys.specs.Spelling.{spaced, HasNoSpace, IsKeyLine, IsNoKeyLine};
 ghost use Rattle.wap_keys.specs.inside.Wording.{IsRestText, key_of_rest, unknown_fault};
@@ -17,9 +18,10 @@ ghost use Rattle.wap_keys.specs.inside.Wording.{IsRestText, key_of_rest, unknown
 use crate::decimal::decimal_of;
 use crate::word::Word;
 use crate::{Key, KeyFault, LINE_LIMIT};
+use hex::FromHexError;
 use std::alloc::Global;
 use std::str;
-use wap_base::{NoMemory as OutOfMemory, Text};
+use wap_base::{Bytes, NoMemory as OutOfMemory, Text};
 
 /// What stands before the first space, and what stands after it.
 fn split(text: &str) -> (&str, Option<&str>)
@@ -115,6 +117,9 @@ fn read_form(alloc: Global, word: Word, rest: Option<&str>) -> Result<Key, KeyFa
         Word::Answer => Ok(Key::Answer(read_text_or_none(alloc, rest)?)),
         Word::Stop => read_nothing(Key::Stop, rest),
         Word::Vars => read_nothing(Key::Vars, rest),
+        Word::Push => read_push(alloc, rest),
+        Word::Inbox => read_nothing(Key::Inbox, rest),
+        Word::Follow => read_follow(rest),
     }
 }
 
@@ -146,6 +151,42 @@ fn read_tick(rest: Option<&str>) -> Result<Key, KeyFault>
 {
     let (count, rest) = read_number(rest, u32::MAX)?;
     read_nothing(Key::Tick(count), rest)
+}
+
+/// The bytes that an argument is.
+fn read_bytes(alloc: Global, argument: &str) -> Result<Bytes, KeyFault>
+    ensures { Meets NoMemory (λ bytes. bytes) result (value_in bytes_of argument.now) }
+{
+    if argument.is_empty() {
+        return Err(KeyFault::Missing);
+    }
+    match hex::decode(alloc, argument.as_bytes()) {
+        Ok(bytes) => Ok(Bytes::from_vec(bytes)),
+        Err(FromHexError::OutOfMemory) => Err(KeyFault::NoMemory),
+        Err(
+            FromHexError::InvalidHexCharacter { .. }
+            | FromHexError::OddLength
+            | FromHexError::InvalidStringLength,
+        ) => Err(KeyFault::BadNumber),
+    }
+}
+
+fn read_push(alloc: Global, rest: Option<&str>) -> Result<Key, KeyFault>
+    ensures { Meets NoMemory (λ key. key) result (key_by (form_of word.Push)
+        (option_map (λ rest. rest.now) rest.entry)) }
+{
+    let Some(text) = rest else {
+        return Err(KeyFault::Missing);
+    };
+    let (argument, rest) = split(text);
+    read_nothing(Key::Push(read_bytes(alloc, argument)?), rest)
+}
+
+fn read_follow(rest: Option<&str>) -> Result<Key, KeyFault>
+    ensures { result ≡ key_by (form_of word.Follow) (option_map (λ rest. rest.now) rest.entry) }
+{
+    let (number, rest) = read_u16(rest)?;
+    read_nothing(Key::Follow(number), rest)
 }
 
 /// Where the first space stands.

@@ -1,7 +1,7 @@
 //! The words that key lines begin with.
 ghost use Rattle.std.specs.Prelude.{◌≡◌};
 ghost use Rattle.wap_base.specs.Texts.{is_same_text};
-ghost use Rattle.wap_keys.specs.Forms.{word_named};
+ghost use Rattle.wap_keys.specs.Forms.{words_with_arguments, words_alone, word_among, word_named};
 
 /// The word of a form.
 #[derive(Clone, Copy)]
@@ -18,6 +18,9 @@ pub(crate) enum Word {
     Answer,
     Stop,
     Vars,
+    Push,
+    Inbox,
+    Follow,
 }
 
 /// Whether a name is that of a word.
@@ -31,6 +34,16 @@ impl Word {
     /// The word of a name.
     pub(crate) fn of(name: &[u8]) -> Option<Word>
         ensures { result ≡ word_named name.now }
+    {
+        match Word::with_arguments(name) {
+            Some(word) => Some(word),
+            None => Word::alone(name),
+        }
+    }
+
+    /// The word of a name, if arguments follow it.
+    fn with_arguments(name: &[u8]) -> Option<Word>
+        ensures { result ≡ word_among words_with_arguments name.now }
     {
         if is_word(name, "open") {
             return Some(Word::Open);
@@ -47,11 +60,27 @@ impl Word {
         if is_word(name, "choose") {
             return Some(Word::Choose);
         }
-        if is_word(name, "back") {
-            return Some(Word::Back);
-        }
         if is_word(name, "tick") {
             return Some(Word::Tick);
+        }
+        if is_word(name, "answer") {
+            return Some(Word::Answer);
+        }
+        if is_word(name, "push") {
+            return Some(Word::Push);
+        }
+        if is_word(name, "follow") {
+            return Some(Word::Follow);
+        }
+        None
+    }
+
+    /// The word of a name, if it stands alone.
+    fn alone(name: &[u8]) -> Option<Word>
+        ensures { result ≡ word_among words_alone name.now }
+    {
+        if is_word(name, "back") {
+            return Some(Word::Back);
         }
         if is_word(name, "ok") {
             return Some(Word::Ok);
@@ -59,14 +88,14 @@ impl Word {
         if is_word(name, "cancel") {
             return Some(Word::Cancel);
         }
-        if is_word(name, "answer") {
-            return Some(Word::Answer);
-        }
         if is_word(name, "stop") {
             return Some(Word::Stop);
         }
         if is_word(name, "vars") {
             return Some(Word::Vars);
+        }
+        if is_word(name, "inbox") {
+            return Some(Word::Inbox);
         }
         None
     }
