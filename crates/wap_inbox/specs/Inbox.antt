@@ -1,9 +1,9 @@
 -- The inbox: of the indications that were pushed, those that count (this project's own; that a
 -- later one stands for an earlier one of the same identifier is WAP-167's, section 5.2).
-use Rattle.std.specs.Prelude.{◌≡◌, ℕ, zero, suc, Bool, true, false, nat_le}
-use Rattle.std.specs.Prelude.{if◌then◌else◌, map, List, [], ◌∷◌, find, slice_get}
+use Rattle.std.specs.Prelude.{◌≡◌, ℕ, zero, suc, ◌≤◌, ◌<◌, Bool, true, false, nat_le}
+use Rattle.std.specs.Prelude.{if◌then◌else◌, map, List, [], ◌∷◌, ◌++◌, find, slice_get}
 use Rattle.std.specs.Prelude.{Option, Some, None}
-use Rattle.std.specs.List.{filter}
+use Rattle.std.specs.List.{filter, AllByRecursion}
 use Rattle.std.specs.List.Sorted.{IsStrictlySortedBy}
 use Rattle.wap_base.specs.Texts.{is_same_text, text_cmp}
 use Rattle.wap_push.specs.declared.indication.Action.{Action}
@@ -31,6 +31,18 @@ latest (first ∷ pushes) = Some (later first (latest pushes))
 -- last that was pushed
 abbrev pub winner_of : List Indication → List ℕ → Option Indication
 winner_of pushes id = latest (filter (is_of id) pushes)
+
+-- the same in words of a list: of the pushes of this identifier none before it was made later, and
+-- each after it was made earlier
+pub record IsWinner (pushes : List Indication) (id : List ℕ) (winner : Indication) : Type 0 where
+  pub before : List Indication
+  pub after : List Indication
+  pub spelled : pushes ≡ before ++ winner ∷ after
+  pub own : is_of id winner ≡ true
+  pub not_later : AllByRecursion (λ (push : Indication).
+      is_of id push ≡ true → push.created ≤ winner.created) before
+  pub earlier : AllByRecursion (λ (push : Indication).
+      is_of id push ≡ true → push.created < winner.created) after
 
 -- these are the winners of the identifiers of all pushes, in ascending order of identifiers
 pub record HaveWinners (pushes winners : List Indication) : Type 0 where

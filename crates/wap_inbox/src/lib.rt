@@ -2,5 +2,6 @@
 #![tactic(auto)]
 
 mod inbox;
+pub mod laws;
 
 pub use inbox::Inbox;

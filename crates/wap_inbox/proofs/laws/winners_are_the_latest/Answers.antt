@@ -1,0 +1,8 @@
+use Rattle.wap_inbox.proofs.Winner.{winner_found, none_found}
+use Rattle.wap_inbox.proofs.laws.winners_are_the_latest.Goals as goal
+
+pub returns-clause-found : goal.returns-clause-found
+returns-clause-found c = winner_found
+
+pub returns-clause-none : goal.returns-clause-none
+returns-clause-none c = none_found

@@ -1,0 +1,21 @@
+//! What follows from the definitions that the contracts cite. None of these functions does
+//! anything.
+ghost use Rattle.std.specs.Prelude.{◌≡◌, ℕ, List, Some, None, true};
+ghost use Rattle.std.specs.List.{AllByRecursion};
+ghost use Rattle.wap_push.specs.declared.indication.Indication.{Indication};
+ghost use Rattle.wap_inbox.specs.Inbox.{is_of, winner_of, HaveWinners, IsWinner};
+
+/// The winners of a list of pushes are one list, so its inbox is one too.
+pub fn winners_are_one()
+    ensures { (pushes winners others : List Indication) → HaveWinners pushes winners
+        → HaveWinners pushes others → winners ≡ others }
+{}
+
+/// The winner that is calculated is the one that the relation says; where there is none, nothing of
+/// the identifier was pushed.
+pub fn winners_are_the_latest()
+    ensures found { (pushes : List Indication) (id : List ℕ) (winner : Indication)
+        → winner_of pushes id ≡ Some winner → IsWinner pushes id winner }
+    ensures none { (pushes : List Indication) (id : List ℕ) → winner_of pushes id ≡ None
+        → AllByRecursion (λ (push : Indication). is_of id push ≡ true → ⊥) pushes }
+{}
