@@ -1,0 +1,3 @@
+pub mod Reacting
+pub mod Winning
+pub mod Alerts

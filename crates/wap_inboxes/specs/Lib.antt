@@ -1,0 +1,4 @@
+pub mod Winners
+pub mod Notices
+pub mod Inboxes
+pub mod Sessions
