@@ -1,9 +1,9 @@
 -- What is shown when an indication comes is what an inbox says of it.
-use Rattle.std.proofs.Common.{◌≡◌, ℕ, ◌≤◌, ◌<◌, Bool, true, false, cond, List, [], ◌∷◌, ◌++◌}
+use Rattle.std.proofs.Common.{◌≡◌, ◌≤◌, ◌<◌, Bool, true, false, cond, List, [], ◌∷◌, ◌++◌}
 use Rattle.std.proofs.Common.{Option, Some, None, refl, ap, sym, subst, ◌∙◌, nat_le, ◌&&◌, ◌||◌}
 use Rattle.std.proofs.Common.{arith}
 use Rattle.std.specs.Prelude.{not, ◌↔◌}
-use Rattle.std.proofs.lemmas.Bool.{and_parts, leb-true, leb-false, le-leb, lt-leb}
+use Rattle.std.proofs.lemmas.Bool.{and_parts, leb-true, leb-false, le-leb}
 use Rattle.std.specs.Cmp.Lexicographic.{bytes_decides}
 use Rattle.wap_push.specs.declared.indication.Indication.{Indication}
 use Rattle.wap_inbox.specs.Inbox.{is_of, alerts, later, winner_of, IsAlert}

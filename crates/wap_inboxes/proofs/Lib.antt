@@ -1,3 +1,4 @@
 pub mod Reacting
 pub mod Winning
 pub mod Alerts
+pub mod Playing

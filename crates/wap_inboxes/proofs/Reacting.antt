@@ -1,6 +1,6 @@
 -- What keys come to with an inbox, key by key.
 use Rattle.std.proofs.Common.{◌≡◌, ◌++◌, ◌∷◌, [], ℕ, zero, suc, List, Some, None, Ok, Err, false}
-use Rattle.std.proofs.Common.{refl, ap, sym, ◌∙◌}
+use Rattle.std.proofs.Common.{refl, ap}
 use Rattle.std.specs.Prelude.{Result, Option}
 use Rattle.wap_input.specs.declared.key.Key.{Key}
 use Rattle.wap_input.specs.declared.key.Key.TheVariants as key
@@ -8,10 +8,10 @@ use Rattle.wap_push.specs.declared.indication.Indication.{Indication}
 use Rattle.wap_push.specs.declared.fault.PushFault.{PushFault}
 use Rattle.wap_world.specs.Sites.{Site}
 use Rattle.wap_world.specs.World.{World}
-use Rattle.wap_world.specs.Steps.{still, quiet}
+use Rattle.wap_world.specs.Steps.{quiet}
 use Rattle.wap_world.specs.Keys.{ignored, renewed, react}
 use Rattle.wap_inboxes.specs.Notices.{no_push_line, notice_lines}
-use Rattle.wap_inboxes.specs.Inboxes.{Handset, Stepped, taking_none, telling, take_push}
+use Rattle.wap_inboxes.specs.Inboxes.{Handset, taking_none, telling, take_push}
 use Rattle.wap_inboxes.specs.Inboxes.{url_at, follow, is_of_inbox, react_with}
 
 module _ (read : List ℕ → Result Indication PushFault) (site : Site) where

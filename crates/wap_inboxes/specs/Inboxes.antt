@@ -1,6 +1,6 @@
 -- A browser with an inbox: what each key comes to outside a dialog, if what is pushed is taken
 -- (WAP-167, section 6). That the keys are these is this project's own.
-use Rattle.std.specs.Prelude.{◌≡◌, ℕ, List, [], ◌∷◌, ◌++◌, Bool, true, false, Option, Some, None}
+use Rattle.std.specs.Prelude.{ℕ, List, [], ◌∷◌, ◌++◌, Bool, true, false, Option, Some, None}
 use Rattle.std.specs.Prelude.{Result, Ok, Err}
 use Rattle.std.specs.Option.{option_and_then}
 use Rattle.wap_input.specs.declared.key.Key.{Key}
@@ -10,7 +10,7 @@ use Rattle.wap_push.specs.declared.fault.PushFault.{PushFault}
 use Rattle.wap_inbox.specs.Inbox.{entry_at}
 use Rattle.wap_world.specs.Sites.{Site}
 use Rattle.wap_world.specs.World.{World}
-use Rattle.wap_world.specs.Steps.{Step, still, quiet}
+use Rattle.wap_world.specs.Steps.{Step, quiet}
 use Rattle.wap_world.specs.Tasks.{visit}
 use Rattle.wap_world.specs.Keys.{ignored, renewed, react}
 use Rattle.wap_inboxes.specs.Winners.{entries_of}

@@ -3,20 +3,25 @@
 #![tactic(auto)]
 
 ghost use Rattle.std.specs.Prelude.{◌≡◌, ◌++◌, ◌∷◌, [], ℕ, List, Some, None, Ok, Err, false};
+ghost use Rattle.std.specs.List.{AllByRecursion};
 ghost use Rattle.std.specs.Prelude.{Result, ◌↔◌, ◌&&◌, true};
 ghost use Rattle.wap_input.specs.declared.key.Key.{Key};
 ghost use Rattle.wap_input.specs.declared.key.Key.TheVariants as key;
 ghost use Rattle.wap_push.specs.declared.indication.Indication.{Indication};
 ghost use Rattle.wap_push.specs.declared.fault.PushFault.{PushFault};
+ghost use Rattle.wap_site.specs.Pages.{Pages};
+ghost use Rattle.wap_world.specs.Decks.{decks_site};
 ghost use Rattle.wap_world.specs.Sites.{Site};
 ghost use Rattle.wap_world.specs.World.{World};
 ghost use Rattle.wap_world.specs.Steps.{still, quiet};
 ghost use Rattle.wap_world.specs.Keys.{ignored, renewed, react};
+ghost use Rattle.wap_world.specs.Sessions.{played};
 ghost use Rattle.wap_inbox.specs.Inbox.{HaveWinners, alerts, IsAlert};
 ghost use Rattle.wap_inboxes.specs.Winners.{winners_of};
 ghost use Rattle.wap_inboxes.specs.Notices.{is_latest, no_push_line, notice_lines};
 ghost use Rattle.wap_inboxes.specs.Inboxes.{Handset, taking_none, telling, url_at, is_of_inbox};
 ghost use Rattle.wap_inboxes.specs.Inboxes.{react_with};
+ghost use Rattle.wap_inboxes.specs.Sessions.{played_with};
 
 /// The winners that are calculated are the winners of all pushes, and no other list is.
 pub fn winners_are_calculated()
@@ -38,6 +43,14 @@ pub fn other_keys_are_as_before()
         (keys : List Key) (handset : Handset) → is_of_inbox one ≡ false
         → react_with read site one keys handset
         ≡ taking_none handset (react site one keys handset.world) }
+{}
+
+/// So over decks keys of which none is one of an inbox come to what they come to without one.
+pub fn keys_are_played_as_before()
+    ensures { (read : List ℕ → Result Indication PushFault) (pages : Pages) (keys : List Key)
+        (handset : Handset) → AllByRecursion (λ (one : Key). is_of_inbox one ≡ false) keys
+        → played_with read (decks_site pages) keys handset
+        ≡ taking_none handset (played (decks_site pages) keys handset.world) }
 {}
 
 /// A push changes nothing but the pushes that were taken: an indication is taken, and shown if it
