@@ -1,0 +1,5 @@
+mod Onward
+mod Splitting
+mod Settling
+pub mod Deciding
+pub mod Alike

@@ -1,0 +1,12 @@
+use Rattle.wap_runnable.proofs.Alike.{alike}
+use Rattle.wap_runnable.proofs.Deciding.{passes, fails}
+use Rattle.wap_runnable.proofs.units_may_be_run_or_have_a_fault.Goals as goal
+
+pub returns-clause-passes : goal.returns-clause-passes
+returns-clause-passes c = passes
+
+pub returns-clause-fails : goal.returns-clause-fails
+returns-clause-fails c = fails
+
+pub returns-clause-alike : goal.returns-clause-alike
+returns-clause-alike c = alike
