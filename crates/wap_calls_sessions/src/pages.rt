@@ -30,6 +30,9 @@ static CALLS: [(&str, SessionCall); 4] = [
 
 /// The page of a name with these bytes.
 fn page_of(alloc: Global, name: &Text, bytes: &[u8]) -> Result<Page, CaseFault> {
+    if bytes.len() > i32::MAX as usize {
+        return Err(CaseFault::Argument);
+    }
     match judge(alloc, name, bytes) {
         Ok(page) => Ok(page),
         Err(PageErr::Refused(_)) => Ok(Page::Refused),

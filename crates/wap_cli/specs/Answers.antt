@@ -15,7 +15,7 @@ use Rattle.wap_pages.specs.declared.fault.PageFault.{PageFault}
 use Rattle.wap_pages.specs.declared.fault.PageFault.TheVariants.{Missing}
 use Rattle.wap_inspect.specs.Units.{IsVerifyLine, IsListing}
 use Rattle.wap_inspect.specs.Documents.{IsCanonical, IsCheckLine}
-use Rattle.wap_inspect.specs.Refusals.{RefusesUnit, RefusesVerify, RefusesDocument, RefusesCheck}
+use Rattle.wap_pages.specs.Refusals.{RefusesUnit, RefusesVerify, RefusesDocument, RefusesCheck}
 use Rattle.wap_status.specs.declared.status.Status.{Status}
 use Rattle.wap_status.specs.declared.status.Status.TheVariants.{Done, Usage, Refused, StoreFault}
 use Rattle.wap_status.specs.declared.status.Status.TheVariants.{KeyReadFault, WriteFault, NoMemory}

@@ -1,3 +1,2 @@
-pub mod Refusals
 pub mod Units
 pub mod Documents

@@ -1,13 +1,12 @@
 //! Commands on a document.
-ghost use Rattle.std.specs.Prelude.{◌≡◌, ℕ, List, length, IfOk, Ok, Err};
+ghost use Rattle.std.specs.Prelude.{◌≡◌, ℕ, List, IfOk, Ok, Err};
 ghost use Rattle.wap_base.specs.Outcome.{Meets};
 ghost use Rattle.wap_markup.specs.declared.document.Document.{Document};
 ghost use Rattle.wap_markup.specs.Documents.{IsDocument};
 ghost use Rattle.wap_markup.specs.Decks.{deck_of};
 ghost use Rattle.wap_markup.specs.Good.{IsGood};
-ghost use Rattle.wap_markup.specs.Cards.{cards_of};
 ghost use Rattle.wap_inspect.specs.Documents.{IsCanonical, deck_line, IsDeckOf, IsCheckLine};
-ghost use Rattle.wap_inspect.specs.Refusals.{RefusesDocument, IsDeckRefused, RefusesCheck};
+ghost use Rattle.wap_pages.specs.Refusals.{RefusesDocument, IsDeckRefused, RefusesCheck};
 ghost use Rattle.wap_pages.specs.declared.fault.PageErr.TheVariants as error;
 ghost use Rattle.wap_pages.specs.declared.fault.PageFault.{PageFault};
 
@@ -17,20 +16,8 @@ use wap_base::{Bytes, NoMemory};
 use wap_deck::deck_of;
 use wap_deckcheck::{card_count, judge_deck};
 use wap_markup::{Deck, Document};
-use wap_pages::PageErr;
+use wap_pages::{PageErr, document_in};
 use wap_spelling::{documents_are_spellable, encode};
-use wap_wbxml::decode;
-
-/// The document that a page is.
-fn document_in(alloc: Global, bytes: &[u8]) -> Result<Document, PageErr>
-    ensures found { IfOk result (λ document. IsDocument bytes.now document) }
-    ensures only { (document : Document) → IsDocument bytes.now document
-        → Meets error.NoMemory (λ document. document) result (Ok document) }
-    ensures refused { (fault : PageFault) → result ≡ Err (error.Refused fault)
-        → RefusesDocument bytes.now fault }
-{
-    Ok(decode(alloc, bytes)?)
-}
 
 /// The one spelling of a page that is a document.
 pub fn canonical(alloc: Global, bytes: &[u8]) -> Result<Bytes, PageErr>

@@ -5,5 +5,5 @@ mod documents;
 mod units;
 
 pub use documents::{canonical, check_line};
-pub use units::{unit_in, verify_line};
-pub use wap_pages::{PageErr, PageFault};
+pub use units::verify_line;
+pub use wap_pages::{PageErr, PageFault, unit_in};

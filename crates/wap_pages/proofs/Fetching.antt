@@ -9,7 +9,7 @@ use Rattle.wap_site.specs.declared.page.Page.TheVariants as page
 use Rattle.wap_pages.specs.declared.fault.PageFault.{PageFault}
 use Rattle.wap_pages.specs.Judged.{page_of_bytes, page_where, Refuses}
 use Rattle.wap_pages.specs.inside.Keeping.{HaveDistinctNames, IsRight}
-use Rattle.wap_pages.proofs.Judgements.{page_of-judged, refused_page}
+use Rattle.wap_pages.proofs.Judgements.{page_of-judged, refused_is}
 
 was_found : (bytes : List ℕ) (found : Option (List ℕ)) → fetched.Found bytes ≡ answer_of found
     → found ≡ Some bytes
@@ -41,7 +41,7 @@ pub refused_right : (contents : Option Contents) (name bytes : List ℕ) (why : 
     → Refuses name bytes why → IsRight contents name page.Refused
 refused_right contents name bytes why found distinct refused =
     found_right contents name bytes page.Refused found distinct
-    (sym ((refused_page name bytes).1 (why, refused)))
+    (sym (refused_is name bytes why refused))
 
 pub missing_right : (contents : Option Contents) (name : List ℕ)
     → IfSome contents (λ pages. fetched.Missing ≡ answer_for name pages)

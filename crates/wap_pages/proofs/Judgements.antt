@@ -1,6 +1,6 @@
--- What judgements of bytes are, by the relations of bytes, documents and decks.
-use Rattle.std.proofs.Common.{◌≡◌, ◌≢◌, ◌↔◌, ℕ, Bool, true, false, List, [], ◌∷◌, Option, Some}
-use Rattle.std.proofs.Common.{None, Result, Ok, Err, refl, sym, ap, subst, ◌∙◌}
+-- What bytes are judged, by the relations of bytes, documents, decks and units.
+use Rattle.std.proofs.Common.{◌≡◌, ◌≢◌, ◌↔◌, ℕ, Bool, true, false, cond, List, [], ◌∷◌, Option, Some}
+use Rattle.std.proofs.Common.{None, Result, Ok, Err, refl, sym, ap, subst, ◌∙◌, ◌⊎◌, inl, inr}
 use Rattle.std.specs.Prelude.{All, IfOk}
 use Rattle.std.specs.Cmp.Lexicographic.{bytes_decides}
 use Rattle.std.specs.Map.{keys_of}
@@ -10,23 +10,33 @@ use Rattle.wap_base.specs.Contents.{Contents, names_of, page_named}
 use Rattle.wap_base.specs.Charsets.{text_in}
 use Rattle.wap_base.specs.Outcome.{Meets}
 use Rattle.wap_base.specs.declared.charset.Charset.TheVariants.{Utf8}
-use Rattle.wap_base.proofs.Choices.{err_same}
+use Rattle.wap_base.proofs.Choices.{ok_same, err_same, some_same}
 use Rattle.wap_markup.specs.declared.document.Document.{Document}
 use Rattle.wap_markup.specs.declared.deck.Deck.{Deck}
 use Rattle.wap_markup.specs.Documents.{IsDocument}
 use Rattle.wap_markup.specs.Decks.{deck_of}
 use Rattle.wap_markup.specs.Good.{IsGood}
-use Rattle.wap_wbxml.specs.Refusal.{IsRefused}
 use Rattle.wap_wbxml.specs.reading.Whole.{document_at}
 use Rattle.wap_wbxml.specs.declared.fault.DocFault.{DocFault}
-use Rattle.wap_wbxml.specs.declared.fault.DocFault.TheVariants as document_fault
-use Rattle.wap_wbxml.proofs.DocumentLaws.{document_takes, document_again}
-use Rattle.wap_wbxml.proofs.DocumentLaws.{document_stops, document_fails}
+use Rattle.wap_wbxml.specs.Refusal.{IsRefused}
+use Rattle.wap_wbxml.proofs.DocumentLaws as documents
 use Rattle.wap_deck.proofs.Normality.{deck_is_normal}
 use Rattle.wap_deckcheck.specs.Faults.{faults, first_fault}
 use Rattle.wap_deckcheck.specs.declared.fault.DeckFault.{DeckFault}
+use Rattle.wap_deckcheck.specs.declared.fault.DeckFault.TheVariants as deck_fault
 use Rattle.wap_deckcheck.proofs.GoodDecks.{good_without_faults}
 use Rattle.wap_deckcheck.proofs.Completeness.{no_faults_where_good}
+use Rattle.wap_code.specs.declared.unit.Unit.{Unit}
+use Rattle.wap_unit.specs.Units.{IsUnit}
+use Rattle.wap_unit.specs.declared.fault.UnitFault.{UnitFault}
+use Rattle.wap_unit.specs.inside.Reading.{unit_at}
+use Rattle.wap_unit.proofs.UnitLaws.{unit_takes, unit_again, unit_stops, unit_fails}
+use Rattle.wap_verify.specs.declared.fault.VerifyFault.{VerifyFault}
+use Rattle.wap_verify.specs.Sound.{IsVerified}
+use Rattle.wap_verify.specs.Faults.{IsFault}
+use Rattle.wap_runnable.specs.Runnable.{may_run, AreAlike}
+use Rattle.wap_runnable.proofs.Deciding.{passes, fails}
+use Rattle.wap_runnable.proofs.Alike.{alike}
 use Rattle.wap_site.specs.Pages.{page_of, IsThere, AreSitePages}
 use Rattle.wap_site.specs.declared.page.Page.{Page}
 use Rattle.wap_site.specs.declared.page.Page.TheVariants as page
@@ -36,12 +46,38 @@ use Rattle.wap_pages.specs.declared.fault.PageErr.{PageErr}
 use Rattle.wap_pages.specs.declared.fault.PageErr.TheVariants as error
 use Rattle.wap_pages.specs.declared.fault.PageFault.{PageFault}
 use Rattle.wap_pages.specs.declared.fault.PageFault.TheVariants as fault
-use Rattle.wap_pages.specs.Faults.{document_error}
-use Rattle.wap_pages.proofs.Errors.{document_cases}
-use Rattle.wap_pages.specs.Judged.{kind_of, deck_or_fault, judged_document, judged_text}
-use Rattle.wap_pages.specs.Judged.{judgement, page_or_refused, page_of_bytes, judged}
-use Rattle.wap_pages.specs.Judged.{page_where, IsDeckPage, IsTextPage, Refuses}
-use Rattle.wap_pages.specs.inside.Judging.{Judges, Judged}
+use Rattle.wap_pages.specs.Refusals.{RefusesCheck, RefusesVerify, IsDeckRefused}
+use Rattle.wap_pages.specs.Judged.{kind_of, page_of_deck, page_of_document, page_of_unit}
+use Rattle.wap_pages.specs.Judged.{page_of_text, page_as, page_of_bytes, judged, page_where}
+use Rattle.wap_pages.specs.Judged.{AreBytes, IsDeckPage, IsUnitPage, IsTextPage, RefusesText}
+use Rattle.wap_pages.specs.Judged.{RefusesSource, RefusesAs, Refuses, may_differ}
+use Rattle.wap_pages.specs.inside.Judging.{IsDeckIn, IsUnitIn, IsTextIn, IsPageAs}
+use Rattle.wap_pages.specs.inside.Judging.{Judges, JudgesDeck}
+use Rattle.wap_pages.specs.Faults.{deck_error}
+use Rattle.wap_pages.proofs.Errors.{deck_cases}
+use Rattle.wap_pages.proofs.Refusing.{by_deck}
+
+-- ---- documents
+
+-- what is read is a document
+document_takes : (bytes : List ℕ) (document : Document) → document_at bytes ≡ Ok document
+    → IsDocument bytes document
+document_takes = documents.document_takes
+
+-- and a document is read
+document_again : (bytes : List ℕ) (document : Document) → IsDocument bytes document
+    → document_at bytes ≡ Ok document
+document_again = documents.document_again
+
+-- what isn't read is refused
+document_stops : (bytes : List ℕ) (why : DocFault) → document_at bytes ≡ Err why
+    → IsRefused bytes why
+document_stops = documents.document_stops
+
+-- and what is refused isn't read
+document_fails : (bytes : List ℕ) (why : DocFault) → IsRefused bytes why
+    → document_at bytes ≡ Err why
+document_fails = documents.document_fails
 
 -- ---- decks
 
@@ -49,282 +85,436 @@ none_first : (some : List DeckFault) → first_fault some ≡ None → some ≡ 
 none_first [] is = refl
 none_first (first ∷ others) is = absurd cc
 
-pub good_deck : (deck : Deck) → first_fault (faults deck) ≡ None → IsGood deck
+good_deck : (deck : Deck) → first_fault (faults deck) ≡ None → IsGood deck
 good_deck deck none = good_without_faults deck (none_first (faults deck) none)
 
-pub faultless : (document : Document) → IsGood (deck_of document)
+faultless : (document : Document) → IsGood (deck_of document)
     → first_fault (faults (deck_of document)) ≡ None
 faultless document good =
     ap first_fault (no_faults_where_good (deck_of document) (deck_is_normal document) good)
 
--- ---- each judgement, by its relation
+-- ---- bytes are a page, or refused
 
-by_fault : (bytes : List ℕ) (document : Document) → IsDocument bytes document
-    → (found : Option DeckFault) → first_fault (faults (deck_of document)) ≡ found
-    → Judged bytes kind.Deck (deck_or_fault (deck_of document) found)
-by_fault bytes document spells None is =
-    Judged.good document spells (good_deck (deck_of document) is)
-by_fault bytes document spells (Some why) is = Judged.bad document why spells is
+-- the page that they are judged is the page that they are, or they are refused
+abbrev Known : Kind → List ℕ → Page → Type 0
+Known k bytes one =
+    IsPageAs k bytes one
+    ⊎ ((one ≡ page.Refused) × ((why : PageFault) × RefusesAs k bytes why))
 
-by_document : (bytes : List ℕ) (read : Result Document DocFault) → document_at bytes ≡ read
-    → Judged bytes kind.Deck (judged_document read)
-by_document bytes (Ok document) is =
-    by_fault bytes document (document_takes bytes document is)
+deck_known : (bytes : List ℕ) (document : Document) → IsDocument bytes document
+    → (first : Option DeckFault) → first_fault (faults (deck_of document)) ≡ first
+    → Known kind.Deck bytes (page_of_deck (deck_of document) first)
+deck_known bytes document spells None is = inl (record {
+  document = document;
+  spells = spells;
+  deck = record { is = refl; good = good_deck (deck_of document) is };
+})
+deck_known bytes document spells (Some why) is =
+    inr (refl, (fault.Deck why, RefusesCheck.deck document why spells is))
+
+document_known : (bytes : List ℕ) (read : Result Document DocFault) → document_at bytes ≡ read
+    → Known kind.Deck bytes (page_of_document read)
+document_known bytes (Ok document) is =
+    deck_known bytes document (document_takes bytes document is)
     (first_fault (faults (deck_of document))) refl
-by_document bytes (Err why) is = Judged.no_document why (document_stops bytes why is)
+document_known bytes (Err why) is =
+    inr (refl, (fault.Document why, RefusesCheck.document why (document_stops bytes why is)))
 
-by_text : (bytes : List ℕ) (read : Option (List ℕ)) → text_in Utf8 bytes ≡ read
-    → Judged bytes kind.Words (judged_text read)
-by_text bytes (Some text) is = Judged.text text is
-by_text bytes None is = Judged.no_text is
+text_known : (bytes : List ℕ) (read : Option (List ℕ)) → text_in Utf8 bytes ≡ read
+    → Known kind.Words bytes (page_of_text read)
+text_known bytes (Some text) is = inl (record { text = text; spells = is; is = refl })
+text_known bytes None is = inr (refl, (fault.NotText, RefusesText.not_text is))
 
-pub judgement_is : (k : Kind) (bytes : List ℕ) → Judged bytes k (judgement k bytes)
-unfolding judgement
-judgement_is kind.Deck bytes = by_document bytes (document_at bytes) refl
-judgement_is kind.Words bytes = by_text bytes (text_in Utf8 bytes) refl
-judgement_is kind.Script bytes = Judged.script
+run_known : (bytes : List ℕ) (unit : Unit) → IsUnit bytes unit → (may : Bool)
+    → may_run unit ≡ may
+    → Known kind.Unit bytes (cond may (page.Script unit) page.Refused)
+run_known bytes unit spells true is =
+    inl (record { unit = unit; spells = spells; verified = (passes unit).0 is; is = refl })
+run_known bytes unit spells false is =
+    let found = (fails unit).0 is in
+    inr (refl, (fault.Verify found.0, RefusesVerify.verify unit found.0 spells found.1))
 
--- ---- and each relation, by its judgement
+unit_known : (bytes : List ℕ) → AreBytes bytes → (read : Result Unit UnitFault)
+    → unit_at bytes ≡ read → Known kind.Unit bytes (page_of_unit read)
+unit_known bytes are (Ok unit) is =
+    run_known bytes unit (unit_takes bytes unit are is) (may_run unit) refl
+unit_known bytes are (Err why) is =
+    inr (refl, (fault.Unit why, RefusesVerify.unit why (unit_stops bytes why is)))
 
-pub judged-good : (bytes : List ℕ) (document : Document) → IsDocument bytes document
-    → IsGood (deck_of document) → judgement kind.Deck bytes ≡ Ok (page.Deck (deck_of document))
-unfolding judgement
-judged-good bytes document spells good =
-    ap judged_document (document_again bytes document spells)
-    ∙ ap (deck_or_fault (deck_of document)) (faultless document good)
+known : (k : Kind) (bytes : List ℕ) → AreBytes bytes → Known k bytes (page_as k bytes)
+unfolding page_as
+known kind.Deck bytes are = document_known bytes (document_at bytes) refl
+known kind.Words bytes are = text_known bytes (text_in Utf8 bytes) refl
+known kind.Unit bytes are = unit_known bytes are (unit_at bytes) refl
+known kind.Source bytes are = inr (refl, (fault.Unbuilt, RefusesSource.unbuilt))
 
-pub judged-bad : (bytes : List ℕ) (document : Document) (why : DeckFault)
-    → IsDocument bytes document → first_fault (faults (deck_of document)) ≡ Some why
-    → judgement kind.Deck bytes ≡ Err (fault.Deck why)
-unfolding judgement
-judged-bad bytes document why spells is =
-    ap judged_document (document_again bytes document spells)
-    ∙ ap (deck_or_fault (deck_of document)) is
+-- ---- and what they are, they are judged
 
-pub judged-no_document : (bytes : List ℕ) (why : DocFault) → IsRefused bytes why
-    → judgement kind.Deck bytes ≡ Err (fault.Document why)
-unfolding judgement
-judged-no_document bytes why is = ap judged_document (document_fails bytes why is)
+pub page_is : (k : Kind) (bytes : List ℕ) (one : Page) → IsPageAs k bytes one
+    → page_as k bytes ≡ one
+unfolding page_as
+page_is kind.Deck bytes one is =
+    ap page_of_document (document_again bytes is.document is.spells)
+    ∙ ap (page_of_deck (deck_of is.document)) (faultless is.document is.deck.good) ∙ sym is.deck.is
+page_is kind.Words bytes one is = ap page_of_text is.spells ∙ sym is.is
+page_is kind.Unit bytes one is =
+    ap page_of_unit (unit_again bytes is.unit is.spells)
+    ∙ ap (λ (b : Bool). cond b (page.Script is.unit) page.Refused) ((passes is.unit).1 is.verified)
+    ∙ sym is.is
+page_is kind.Source bytes one is = absurd is
 
-pub judged-text : (bytes : List ℕ) (read : Option (List ℕ)) → text_in Utf8 bytes ≡ read
-    → judgement kind.Words bytes ≡ judged_text read
-unfolding judgement
-judged-text bytes read is = ap judged_text is
+refused_as : (k : Kind) (bytes : List ℕ) (why : PageFault) → RefusesAs k bytes why
+    → page_as k bytes ≡ page.Refused
+unfolding page_as
+refused_as kind.Deck bytes _ (RefusesCheck.document why refused) =
+    ap page_of_document (document_fails bytes why refused)
+refused_as kind.Deck bytes _ (RefusesCheck.deck document why spells first) =
+    ap page_of_document (document_again bytes document spells)
+    ∙ ap (page_of_deck (deck_of document)) first
+refused_as kind.Words bytes _ (RefusesText.not_text none) = ap page_of_text none
+refused_as kind.Unit bytes _ (RefusesVerify.unit why refused) =
+    ap page_of_unit (unit_fails bytes why refused)
+refused_as kind.Unit bytes _ (RefusesVerify.verify unit why spells found) =
+    ap page_of_unit (unit_again bytes unit spells)
+    ∙ ap (λ (b : Bool). cond b (page.Script unit) page.Refused) ((fails unit).1 (why, found))
+refused_as kind.Source bytes why is = refl
 
-pub judged-script : (bytes : List ℕ) → judgement kind.Script bytes ≡ Err fault.Unbuilt
-unfolding judgement
-judged-script bytes = refl
+-- a page that bytes are is none that is refused
+accepted_as : (k : Kind) (bytes : List ℕ) (one : Page) → IsPageAs k bytes one
+    → one ≢ page.Refused
+accepted_as kind.Deck bytes one is = λ so. cc (sym is.deck.is ∙ so)
+accepted_as kind.Words bytes one is = λ so. cc (sym is.is ∙ so)
+accepted_as kind.Unit bytes one is = λ so. cc (sym is.is ∙ so)
+accepted_as kind.Source bytes one is = absurd is
+
+-- ---- two faults
+
+-- two faults of a page are the same, or both are such that any may be named
+abbrev pub MayBoth : PageFault → PageFault → Type 0
+MayBoth one other = (one ≡ other) ⊎ ((may_differ one ≡ true) × (may_differ other ≡ true))
+
+of_verify : (one other : VerifyFault) → AreAlike one other
+    → MayBoth (fault.Verify one) (fault.Verify other)
+of_verify one other (inl same) = inl (ap (λ (why : VerifyFault). fault.Verify why) same)
+of_verify one other (inr both) = inr both
+
+module _ (bytes : List ℕ) where
+  deck_faults : (one other : PageFault) → RefusesCheck bytes one → RefusesCheck bytes other
+      → one ≡ other
+  deck_faults _ _ (RefusesCheck.document why refused) (RefusesCheck.document why' refused') =
+      ap (λ (f : DocFault). fault.Document f)
+      (err_same {A = Document} why why'
+      (sym (document_fails bytes why refused) ∙ document_fails bytes why' refused'))
+  deck_faults _ _ (RefusesCheck.document why refused) (RefusesCheck.deck document why' spells first) =
+      absurd (cc (sym (document_fails bytes why refused) ∙ document_again bytes document spells))
+  deck_faults _ _ (RefusesCheck.deck document why spells first) (RefusesCheck.document why' refused) =
+      absurd (cc (sym (document_fails bytes why' refused) ∙ document_again bytes document spells))
+  deck_faults _ _ (RefusesCheck.deck document why spells first)
+      (RefusesCheck.deck document' why' spells' first') =
+      let same =
+      ok_same {E = DocFault} document document'
+      (sym (document_again bytes document spells) ∙ document_again bytes document' spells') in
+      ap (λ (f : DeckFault). fault.Deck f) (some_same why why'
+      (sym first ∙ ap (λ (d : Document). first_fault (faults (deck_of d))) same ∙ first'))
+
+  unit_faults : (one other : PageFault) → RefusesVerify bytes one → RefusesVerify bytes other
+      → MayBoth one other
+  unit_faults _ _ (RefusesVerify.unit why refused) (RefusesVerify.unit why' refused') =
+      inl (ap (λ (f : UnitFault). fault.Unit f)
+      (err_same {A = Unit} why why'
+      (sym (unit_fails bytes why refused) ∙ unit_fails bytes why' refused')))
+  unit_faults _ _ (RefusesVerify.unit why refused) (RefusesVerify.verify unit why' spells found) =
+      absurd (cc (sym (unit_fails bytes why refused) ∙ unit_again bytes unit spells))
+  unit_faults _ _ (RefusesVerify.verify unit why spells found) (RefusesVerify.unit why' refused) =
+      absurd (cc (sym (unit_fails bytes why' refused) ∙ unit_again bytes unit spells))
+  unit_faults _ _ (RefusesVerify.verify unit why spells found)
+      (RefusesVerify.verify unit' why' spells' found') =
+      let same =
+      ok_same {E = UnitFault} unit' unit
+      (sym (unit_again bytes unit' spells') ∙ unit_again bytes unit spells) in
+      of_verify why why' (alike unit why why' found (subst (λ (u : Unit). IsFault u why') same found'))
+
+  text_faults : (one other : PageFault) → RefusesText bytes one → RefusesText bytes other
+      → one ≡ other
+  text_faults _ _ (RefusesText.not_text none) (RefusesText.not_text none') = refl
+
+  source_faults : (one other : PageFault) → RefusesSource bytes one → RefusesSource bytes other
+      → one ≡ other
+  source_faults _ _ RefusesSource.unbuilt RefusesSource.unbuilt = refl
+
+  faults_as : (k : Kind) (one other : PageFault) → RefusesAs k bytes one → RefusesAs k bytes other
+      → MayBoth one other
+  faults_as kind.Deck one other first second = inl (deck_faults one other first second)
+  faults_as kind.Words one other first second = inl (text_faults one other first second)
+  faults_as kind.Unit one other first second = unit_faults one other first second
+  faults_as kind.Source one other first second = inl (source_faults one other first second)
 
 -- ---- pages
 
+-- a unit that was read, or none, is no deck and no text
+script_or_refused : (read : Result Unit UnitFault) (P : Page → Type 0)
+    → ((unit : Unit) → P (page.Script unit)) → P page.Refused → P (page_of_unit read)
+script_or_refused (Err why) P script none = none
+script_or_refused (Ok unit) P script none =
+    by_test (may_run unit)
+  where
+    by_test : (b : Bool) → P (cond b (page.Script unit) page.Refused)
+    by_test true = script unit
+    by_test false = none
+
+-- a text that was read, or none, is no deck and no script
+words_or_refused : (read : Option (List ℕ)) (P : Page → Type 0)
+    → ((text : List ℕ) → P (page.Words text)) → P page.Refused → P (page_of_text read)
+words_or_refused (Some text) P words none = words text
+words_or_refused None P words none = none
+
+-- a deck that was read, or none, is no text and no script
+deck_or_refused : (read : Result Document DocFault) (P : Page → Type 0)
+    → ((deck : Deck) → P (page.Deck deck)) → P page.Refused → P (page_of_document read)
+deck_or_refused (Err why) P deck none = none
+deck_or_refused (Ok document) P deck none = by_first (first_fault (faults (deck_of document)))
+  where
+    by_first : (first : Option DeckFault) → P (page_of_deck (deck_of document) first)
+    by_first None = deck (deck_of document)
+    by_first (Some why) = none
+
 module _ (name bytes : List ℕ) where
-  same_kind : (k : Kind) (r : Result Page PageFault) → kind_of name ≡ k → judgement k bytes ≡ r
-      → page_of_bytes name bytes ≡ page_or_refused r
-  same_kind k r is so =
-      ap (λ (k : Kind). page_or_refused (judgement k bytes)) is ∙ ap page_or_refused so
+  -- what the page is by its kind
+  by_kind : (k : Kind) → kind_of name ≡ k → page_of_bytes name bytes ≡ page_as k bytes
+  by_kind k is = ap (λ (k : Kind). page_as k bytes) is
 
   pub deck_page : (deck : Deck) → IsDeckPage name bytes deck
       → page_of_bytes name bytes ≡ page.Deck deck
   deck_page deck is =
-      same_kind kind.Deck (Ok (page.Deck (deck_of is.document))) is.kind
-      (judged-good bytes is.document is.spells (subst IsGood (sym is.means) is.good))
-      ∙ ap page.Deck is.means
+      by_kind kind.Deck is.kind ∙ page_is kind.Deck bytes (page.Deck deck) (record {
+        document = is.document;
+        spells = is.spells;
+        deck = record {
+          is = ap (λ (d : Deck). page.Deck d) (sym is.means);
+          good = subst IsGood (sym is.means) is.good;
+        };
+      })
+
+  pub script_page : (unit : Unit) → IsUnitPage name bytes unit
+      → page_of_bytes name bytes ≡ page.Script unit
+  script_page unit is =
+      by_kind kind.Unit is.kind ∙ page_is kind.Unit bytes (page.Script unit)
+      (record { unit = unit; spells = is.spells; verified = is.verified; is = refl })
 
   pub text_page : (text : List ℕ) → IsTextPage name bytes text
       → page_of_bytes name bytes ≡ page.Words text
   text_page text is =
-      same_kind kind.Words (Ok (page.Words text)) is.kind (judged-text bytes (Some text) is.spells)
+      by_kind kind.Words is.kind ∙ page_is kind.Words bytes (page.Words text)
+      (record { text = text; spells = is.spells; is = refl })
 
-  from_deck : (k : Kind) (r : Result Page PageFault) → Judged bytes k r → kind_of name ≡ k
-      → (deck : Deck) → page_or_refused r ≡ page.Deck deck → IsDeckPage name bytes deck
-  from_deck _ _ (Judged.good document spells good) is deck so =
+  -- a deck that the bytes are
+  deck_in : kind_of name ≡ kind.Deck → (one : Page) → IsDeckIn bytes one → (deck : Deck)
+      → one ≡ page.Deck deck → IsDeckPage name bytes deck
+  deck_in is one of deck so =
+      let same = inner (sym of.deck.is ∙ so) in
       record {
         kind = is;
-        document = document;
-        spells = spells;
+        document = of.document;
+        spells = of.spells;
         means = same;
-        good = subst IsGood same good;
+        good = subst IsGood same of.deck.good;
       }
     where
-      same : deck_of document ≡ deck
-      same = cc
-  from_deck _ _ (Judged.bad document why spells first) is deck so = absurd cc
-  from_deck _ _ (Judged.no_document why refused) is deck so = absurd cc
-  from_deck _ _ (Judged.text text spells) is deck so = absurd cc
-  from_deck _ _ (Judged.no_text none) is deck so = absurd cc
-  from_deck _ _ Judged.script is deck so = absurd cc
+      inner : page.Deck (deck_of of.document) ≡ page.Deck deck → deck_of of.document ≡ deck
+      inner e = cc
+
+  deck_as : (k : Kind) → kind_of name ≡ k → (deck : Deck) → page_as k bytes ≡ page.Deck deck
+      → IsDeckPage name bytes deck
+  unfolding page_as
+  deck_as kind.Deck is deck so =
+      elim (document_known bytes (document_at bytes) refl) [
+        | inl of ↦ deck_in is (page_of_document (document_at bytes)) of deck so
+        | inr none ↦ absurd (cc (sym none.0 ∙ so))
+      ]
+  deck_as kind.Words is deck so =
+      absurd (words_or_refused (text_in Utf8 bytes) (λ (one : Page). one ≡ page.Deck deck → ⊥)
+      (λ text e. cc e) (λ e. cc e) so)
+  deck_as kind.Unit is deck so =
+      absurd (script_or_refused (unit_at bytes) (λ (one : Page). one ≡ page.Deck deck → ⊥)
+      (λ unit e. cc e) (λ e. cc e) so)
+  deck_as kind.Source is deck so = absurd (cc so)
 
   pub page_deck : (deck : Deck) → page_of_bytes name bytes ≡ page.Deck deck
       → IsDeckPage name bytes deck
-  page_deck =
-      from_deck (kind_of name) (judgement (kind_of name) bytes)
-      (judgement_is (kind_of name) bytes) refl
+  page_deck = deck_as (kind_of name) refl
 
-  from_text : (k : Kind) (r : Result Page PageFault) → Judged bytes k r → kind_of name ≡ k
-      → (text : List ℕ) → page_or_refused r ≡ page.Words text → IsTextPage name bytes text
-  from_text _ _ (Judged.good document spells good) is text so = absurd cc
-  from_text _ _ (Judged.bad document why spells first) is text so = absurd cc
-  from_text _ _ (Judged.no_document why refused) is text so = absurd cc
-  from_text _ _ (Judged.text other spells) is text so =
-      record { kind = is; spells = spells ∙ ap (λ (t : List ℕ). Some t) same }
+  -- a text that the bytes are
+  text_of : kind_of name ≡ kind.Words → (one : Page) → IsTextIn bytes one → (text : List ℕ)
+      → one ≡ page.Words text → IsTextPage name bytes text
+  text_of is one of text so =
+      record { kind = is; spells = of.spells ∙ ap (λ (t : List ℕ). Some t) (inner (sym of.is ∙ so)) }
     where
-      same : other ≡ text
-      same = cc
-  from_text _ _ (Judged.no_text none) is text so = absurd cc
-  from_text _ _ Judged.script is text so = absurd cc
+      inner : page.Words of.text ≡ page.Words text → of.text ≡ text
+      inner e = cc
+
+  text_as : (k : Kind) → kind_of name ≡ k → (text : List ℕ) → page_as k bytes ≡ page.Words text
+      → IsTextPage name bytes text
+  unfolding page_as
+  text_as kind.Deck is text so =
+      absurd (deck_or_refused (document_at bytes) (λ (one : Page). one ≡ page.Words text → ⊥)
+      (λ deck e. cc e) (λ e. cc e) so)
+  text_as kind.Words is text so =
+      elim (text_known bytes (text_in Utf8 bytes) refl) [
+        | inl of ↦ text_of is (page_of_text (text_in Utf8 bytes)) of text so
+        | inr none ↦ absurd (cc (sym none.0 ∙ so))
+      ]
+  text_as kind.Unit is text so =
+      absurd (script_or_refused (unit_at bytes) (λ (one : Page). one ≡ page.Words text → ⊥)
+      (λ unit e. cc e) (λ e. cc e) so)
+  text_as kind.Source is text so = absurd (cc so)
 
   pub page_text_is : (text : List ℕ) → page_of_bytes name bytes ≡ page.Words text
       → IsTextPage name bytes text
-  page_text_is =
-      from_text (kind_of name) (judgement (kind_of name) bytes)
-      (judgement_is (kind_of name) bytes) refl
+  page_text_is = text_as (kind_of name) refl
+
+  -- a unit that the bytes are
+  unit_of : kind_of name ≡ kind.Unit → (one : Page) → IsUnitIn bytes one → (unit : Unit)
+      → one ≡ page.Script unit → IsUnitPage name bytes unit
+  unit_of is one of unit so =
+      let same = inner (sym of.is ∙ so) in
+      record {
+        kind = is;
+        spells = subst (IsUnit bytes) same of.spells;
+        verified = subst IsVerified same of.verified;
+      }
+    where
+      inner : page.Script of.unit ≡ page.Script unit → of.unit ≡ unit
+      inner e = cc
+
+  unit_as : AreBytes bytes → (k : Kind) → kind_of name ≡ k → (unit : Unit)
+      → page_as k bytes ≡ page.Script unit → IsUnitPage name bytes unit
+  unfolding page_as
+  unit_as are kind.Deck is unit so =
+      absurd (deck_or_refused (document_at bytes) (λ (one : Page). one ≡ page.Script unit → ⊥)
+      (λ deck e. cc e) (λ e. cc e) so)
+  unit_as are kind.Words is unit so =
+      absurd (words_or_refused (text_in Utf8 bytes) (λ (one : Page). one ≡ page.Script unit → ⊥)
+      (λ text e. cc e) (λ e. cc e) so)
+  unit_as are kind.Unit is unit so =
+      elim (unit_known bytes are (unit_at bytes) refl) [
+        | inl of ↦ unit_of is (page_of_unit (unit_at bytes)) of unit so
+        | inr none ↦ absurd (cc (sym none.0 ∙ so))
+      ]
+  unit_as are kind.Source is unit so = absurd (cc so)
+
+  pub page_script : AreBytes bytes → (unit : Unit) → page_of_bytes name bytes ≡ page.Script unit
+      → IsUnitPage name bytes unit
+  page_script are = unit_as are (kind_of name) refl
 
   -- ---- refusals
 
-  refused_for : (why : PageFault) → Refuses name bytes why
-      → judgement (kind_of name) bytes ≡ Err why
-  refused_for _ (Refuses.document why is refused) =
-      ap (λ (k : Kind). judgement k bytes) is ∙ judged-no_document bytes why refused
-  refused_for _ (Refuses.deck document why is spells first) =
-      ap (λ (k : Kind). judgement k bytes) is ∙ judged-bad bytes document why spells first
-  refused_for _ (Refuses.not_text is none) =
-      ap (λ (k : Kind). judgement k bytes) is ∙ judged-text bytes None none
-  refused_for _ (Refuses.unbuilt is) = ap (λ (k : Kind). judgement k bytes) is ∙ judged-script bytes
+  pub refused_is : (why : PageFault) → Refuses name bytes why
+      → page_of_bytes name bytes ≡ page.Refused
+  refused_is = refused_as (kind_of name) bytes
 
-  fault_from : (k : Kind) (r : Result Page PageFault) → Judged bytes k r → kind_of name ≡ k
-      → (why : PageFault) → r ≡ Err why → Refuses name bytes why
-  fault_from _ _ (Judged.good document spells good) is why so = absurd cc
-  fault_from _ _ (Judged.bad document of_deck spells first) is why so =
-      subst (Refuses name bytes) same (Refuses.deck document of_deck is spells first)
-    where
-      same : fault.Deck of_deck ≡ why
-      same = cc
-  fault_from _ _ (Judged.no_document of_bytes refused) is why so =
-      subst (Refuses name bytes) same (Refuses.document of_bytes is refused)
-    where
-      same : fault.Document of_bytes ≡ why
-      same = cc
-  fault_from _ _ (Judged.text text spells) is why so = absurd cc
-  fault_from _ _ (Judged.no_text none) is why so =
-      subst (Refuses name bytes) same (Refuses.not_text is none)
-    where
-      same : fault.NotText ≡ why
-      same = cc
-  fault_from _ _ Judged.script is why so = subst (Refuses name bytes) same (Refuses.unbuilt is)
-    where
-      same : fault.Unbuilt ≡ why
-      same = cc
+  some_fault : AreBytes bytes → page_of_bytes name bytes ≡ page.Refused
+      → (why : PageFault) × Refuses name bytes why
+  some_fault are so = elim (known (kind_of name) bytes are) [
+    | inl of ↦ absurd (accepted_as (kind_of name) bytes (page_of_bytes name bytes) of so)
+    | inr none ↦ none.1
+  ]
 
-  pub for_fault : (why : PageFault) → judgement (kind_of name) bytes ≡ Err why
-      → Refuses name bytes why
-  for_fault =
-      fault_from (kind_of name) (judgement (kind_of name) bytes)
-      (judgement_is (kind_of name) bytes) refl
-
-  never_so : (k : Kind) (r : Result Page PageFault) → Judged bytes k r → (one : Page) → r ≡ Ok one
-      → page_or_refused r ≡ page.Refused → ⊥
-  never_so _ _ (Judged.good document spells good) one is so = cc
-  never_so _ _ (Judged.bad document why spells first) one is so = cc
-  never_so _ _ (Judged.no_document why refused) one is so = cc
-  never_so _ _ (Judged.text text spells) one is so = cc
-  never_so _ _ (Judged.no_text none) one is so = cc
-  never_so _ _ Judged.script one is so = cc
-
-  some_fault : (r : Result Page PageFault) → judgement (kind_of name) bytes ≡ r
-      → page_of_bytes name bytes ≡ page.Refused → (why : PageFault) × Refuses name bytes why
-  some_fault (Ok one) is refused =
-      absurd (never_so (kind_of name) (judgement (kind_of name) bytes)
-      (judgement_is (kind_of name) bytes) one is refused)
-  some_fault (Err why) is refused = (why, for_fault why is)
-
-  pub refused_page : (page_of_bytes name bytes ≡ page.Refused)
+  pub refused_page : AreBytes bytes → (page_of_bytes name bytes ≡ page.Refused)
       ↔ ((why : PageFault) × Refuses name bytes why)
-  refused_page = (
-    some_fault (judgement (kind_of name) bytes) refl,
-    λ some. ap page_or_refused (refused_for some.0 some.1),
-  )
+  refused_page are = (some_fault are, λ some. refused_is some.0 some.1)
 
   pub one_fault : (why other : PageFault) → Refuses name bytes why
-      → Refuses name bytes other → why ≡ other
-  one_fault why other first second =
-      err_same why other (sym (refused_for why first) ∙ refused_for other second)
+      → Refuses name bytes other → MayBoth why other
+  one_fault = faults_as bytes (kind_of name)
 
-  no_other : (k : Kind) (r : Result Page PageFault) → Judged bytes k r → kind_of name ≡ k
-      → ((deck : Deck) → ¬ IsDeckPage name bytes deck)
-      → ((text : List ℕ) → ¬ IsTextPage name bytes text) → page_or_refused r ≡ page.Refused
-  no_other _ _ (Judged.good document spells good) is decks texts =
-      absurd (decks (deck_of document)
-      (record { kind = is; document = document; spells = spells; means = refl; good = good }))
-  no_other _ _ (Judged.bad document why spells first) is decks texts = refl
-  no_other _ _ (Judged.no_document why refused) is decks texts = refl
-  no_other _ _ (Judged.text text spells) is decks texts =
-      absurd (texts text (record { kind = is; spells = spells }))
-  no_other _ _ (Judged.no_text none) is decks texts = refl
-  no_other _ _ Judged.script is decks texts = refl
+  -- a page that is none of the others is refused
+  abbrev pub IsNone : Type 0
+  IsNone = ((deck : Deck) → ¬ IsDeckPage name bytes deck)
+      × ((unit : Unit) → ¬ IsUnitPage name bytes unit)
+      × ((text : List ℕ) → ¬ IsTextPage name bytes text)
 
-  pub neither_page : (page_of_bytes name bytes ≡ page.Refused)
-      ↔ (((deck : Deck) → ¬ IsDeckPage name bytes deck)
-      × ((text : List ℕ) → ¬ IsTextPage name bytes text))
-  neither_page = (
+  no_page : (k : Kind) → kind_of name ≡ k → (one : Page) → IsPageAs k bytes one → IsNone → ⊥
+  no_page kind.Deck is one of none =
+      none.0 (deck_of of.document) (deck_in is one of (deck_of of.document) of.deck.is)
+  no_page kind.Words is one of none = none.2 of.text (text_of is one of of.text of.is)
+  no_page kind.Unit is one of none = none.1 of.unit (unit_of is one of of.unit of.is)
+  no_page kind.Source is one of none = of
+
+  pub neither_page : AreBytes bytes → (page_of_bytes name bytes ≡ page.Refused) ↔ IsNone
+  neither_page are = (
     λ refused. (
       λ deck is. no_deck deck (sym refused ∙ deck_page deck is),
+      λ unit is. no_unit unit (sym refused ∙ script_page unit is),
       λ text is. no_text text (sym refused ∙ text_page text is),
     ),
-    λ neither. no_other (kind_of name) (judgement (kind_of name) bytes)
-        (judgement_is (kind_of name) bytes) refl neither.0 neither.1,
+    λ neither. elim (known (kind_of name) bytes are) [
+      | inl of ↦ absurd (no_page (kind_of name) refl (page_of_bytes name bytes) of neither)
+      | inr none ↦ none.0
+    ],
   )
     where
       no_deck : (deck : Deck) → page.Refused ≡ page.Deck deck → ⊥
       no_deck deck e = cc
 
+      no_unit : (unit : Unit) → page.Refused ≡ page.Script unit → ⊥
+      no_unit unit e = cc
+
       no_text : (text : List ℕ) → page.Refused ≡ page.Words text → ⊥
       no_text text e = cc
 
-  there : (k : Kind) (r : Result Page PageFault) → Judged bytes k r
-      → page_or_refused r ≢ page.Missing
-  there _ _ (Judged.good document spells good) = λ e. cc
-  there _ _ (Judged.bad document why spells first) = λ e. cc
-  there _ _ (Judged.no_document why refused) = λ e. cc
-  there _ _ (Judged.text text spells) = λ e. cc
-  there _ _ (Judged.no_text none) = λ e. cc
-  there _ _ Judged.script = λ e. cc
+  there : (k : Kind) → page_as k bytes ≢ page.Missing
+  unfolding page_as
+  there kind.Deck =
+      deck_or_refused (document_at bytes) (λ (one : Page). one ≢ page.Missing) (λ deck e. cc e)
+      (λ e. cc e)
+  there kind.Words =
+      words_or_refused (text_in Utf8 bytes) (λ (one : Page). one ≢ page.Missing) (λ text e. cc e)
+      (λ e. cc e)
+  there kind.Unit =
+      script_or_refused (unit_at bytes) (λ (one : Page). one ≢ page.Missing) (λ unit e. cc e)
+      (λ e. cc e)
+  there kind.Source = λ e. cc e
 
   pub page_there : page_of_bytes name bytes ≢ page.Missing
-  page_there =
-      there (kind_of name) (judgement (kind_of name) bytes) (judgement_is (kind_of name) bytes)
+  page_there = there (kind_of name)
 
   -- ---- what a call answers
 
-  pub page_judged : (one : Page) → Judges (Ok one) (judgement (kind_of name) bytes)
-      → one ≡ page_of_bytes name bytes
-  page_judged one is = sym (ap page_or_refused is)
+  pub answer_page : (answer : Result Page PageErr) → Judges (kind_of name) bytes answer
+      → IfOk answer (λ (one : Page). one ≡ page_of_bytes name bytes)
+  answer_page (Ok one) is = sym (page_is (kind_of name) bytes one is)
+  answer_page (Err why) is = tt
 
-  pub accepted_judged : (one : Page) → Judges (Ok one) (judgement (kind_of name) bytes)
+  accepted_judged : (one : Page) → IsPageAs (kind_of name) bytes one
       → (why : PageFault) → ¬ Refuses name bytes why
-  accepted_judged one is why refused = both (sym is ∙ refused_for why refused)
-    where
-      both : ◌≡◌ {A = Result Page PageFault} (Ok one) (Err why) → ⊥
-      both e = cc
+  accepted_judged one is why refused =
+      accepted_as (kind_of name) bytes one is
+      (sym (page_is (kind_of name) bytes one is) ∙ refused_is why refused)
 
-  pub refused_judged : (answer : Result Page PageErr)
-      → Judges answer (judgement (kind_of name) bytes)
+  pub answer_accepted : (answer : Result Page PageErr) → Judges (kind_of name) bytes answer
+      → IfOk answer (λ (one : Page). (why : PageFault) → ¬ Refuses name bytes why)
+  answer_accepted (Ok one) is = accepted_judged one is
+  answer_accepted (Err why) is = tt
+
+  pub refused_judged : (answer : Result Page PageErr) → Judges (kind_of name) bytes answer
       → (why : PageFault) → answer ≡ Err (error.Refused why) → Refuses name bytes why
   refused_judged (Ok one) is why so = absurd cc
-  refused_judged (Err (error.Refused other)) is why so =
-      for_fault why (is ∙ ap (λ (f : PageFault). Err f) same)
+  refused_judged (Err (error.Refused other)) is why so = subst (Refuses name bytes) same is
     where
       same : other ≡ why
       same = cc
   refused_judged (Err error.NoMemory) is why so = absurd cc
 
-  pub only_judged : (answer : Result Page PageErr) → Judges answer (judgement (kind_of name) bytes)
-      → (why : PageFault) → Refuses name bytes why
+  pub only_judged : (answer : Result Page PageErr) → Judges (kind_of name) bytes answer
+      → (why : PageFault) → Refuses name bytes why → may_differ why ≡ false
       → Meets error.NoMemory (λ (one : Page). one) answer (Err (error.Refused why))
-  only_judged (Ok one) is why refused = absurd (accepted_judged one is why refused)
-  only_judged (Err (error.Refused other)) is why refused =
-      λ some. ap (λ (f : PageFault). Err (error.Refused f))
-      (one_fault why other refused (for_fault other is))
-  only_judged (Err error.NoMemory) is why refused = λ some. absurd (some refl)
+  only_judged (Ok one) is why refused alone = absurd (accepted_judged one is why refused)
+  only_judged (Err (error.Refused other)) is why refused alone =
+      λ some. elim (one_fault why other refused is) [
+        | inl same ↦ ap (λ (f : PageFault). Err (error.Refused f)) same
+        | inr both ↦ absurd (cc (sym both.0 ∙ alone))
+      ]
+  only_judged (Err error.NoMemory) is why refused alone = λ some. absurd (some refl)
 
 -- ---- the pages of a store
 
@@ -366,32 +556,33 @@ judged_pages_fit contents distinct = record {
 
 -- ---- calls, step by step
 
-pub answer_page : (name bytes : List ℕ) (answer : Result Page PageErr)
-    → Judges answer (judgement (kind_of name) bytes)
-    → IfOk answer (λ (one : Page). one ≡ page_of_bytes name bytes)
-answer_page name bytes (Ok one) is = page_judged name bytes one is
-answer_page name bytes (Err why) is = tt
+-- bytes that aren't read as a document are no deck
+pub document_unread : (bytes : List ℕ) (why : PageErr)
+    → ((found : PageFault) → why ≡ error.Refused found → RefusesAs kind.Deck bytes found)
+    → Judges kind.Deck bytes (Err why)
+document_unread bytes (error.Refused found) is = is found refl
+document_unread bytes error.NoMemory is = tt
 
-pub answer_accepted : (name bytes : List ℕ) (answer : Result Page PageErr)
-    → Judges answer (judgement (kind_of name) bytes)
-    → IfOk answer (λ (one : Page). (why : PageFault) → ¬ Refuses name bytes why)
-answer_accepted name bytes (Ok one) is = accepted_judged name bytes one is
-answer_accepted name bytes (Err why) is = tt
+-- what a document is judged, its bytes are
+pub document_read : (bytes : List ℕ) (document : Document) → IsDocument bytes document
+    → (answer : Result Page PageErr) → JudgesDeck document answer → Judges kind.Deck bytes answer
+document_read bytes document spells (Ok one) is =
+    record { document = document; spells = spells; deck = is }
+document_read bytes document spells (Err (error.Refused why)) is =
+    by_deck bytes document why spells is
+document_read bytes document spells (Err error.NoMemory) is = tt
 
-deck_judgement : (bytes : List ℕ) → judgement kind.Deck bytes ≡ judged_document (document_at bytes)
-unfolding judgement
-deck_judgement bytes = refl
+-- bytes that aren't read as a unit that may be run are no script
+pub unit_unread : (bytes : List ℕ) (why : PageErr)
+    → ((found : PageFault) → why ≡ error.Refused found → RefusesAs kind.Unit bytes found)
+    → Judges kind.Unit bytes (Err why)
+unit_unread bytes (error.Refused found) is = is found refl
+unit_unread bytes error.NoMemory is = tt
 
-pub document_read : (bytes : List ℕ) (document : Document) (answer : Result Page PageErr)
-    → document_at bytes ≡ Ok document → Judges answer (judged_document (Ok document))
-    → Judges answer (judgement kind.Deck bytes)
-document_read bytes document answer is so =
-    subst (Judges answer) (sym (deck_judgement bytes ∙ ap judged_document is)) so
-
-pub document_refused : (bytes : List ℕ) (why : DocFault)
-    → (why ≢ document_fault.NoMemory → document_at bytes ≡ Err why)
-    → Judges (Err (document_error why)) (judgement kind.Deck bytes)
-document_refused bytes why is =
-    document_cases (λ (e : PageErr). Judges (Err e) (judgement kind.Deck bytes)) why
-    (λ none. tt)
-    (λ some. deck_judgement bytes ∙ ap judged_document (is some))
+-- a document whose deck isn't good is refused for the first fault
+pub deck_refused_for : (document : Document) (why : DeckFault)
+    → (why ≢ deck_fault.NoMemory → first_fault (faults (deck_of document)) ≡ Some why)
+    → JudgesDeck document (Err (deck_error why))
+deck_refused_for document why is =
+    deck_cases (λ (e : PageErr). JudgesDeck document (Err e)) why (λ none. tt)
+    (λ some. IsDeckRefused.deck why (is some))

@@ -1,5 +1,6 @@
 pub mod Errors
-pub mod Ends
+mod Ends
+pub mod Refusing
 mod Judgements
 mod Keeping
 mod Seeing

@@ -1,9 +1,9 @@
 -- Pages as they are judged by their names and bytes. This project's own: the names' ends, and that
--- scripts are refused, until they are read. What documents, their decks and good decks are stands
--- in lower definitions.
-use Rattle.std.specs.Prelude.{◌≡◌, ℕ, Bool, ◌||◌, nat_eq, if◌then◌else◌, List, map}
-use Rattle.std.specs.Prelude.{Option, Some, None, Result, Ok, Err, codes}
-use Rattle.std.specs.List.{ends_with}
+-- sources of scripts are refused, until they are read. What documents, their decks and good decks
+-- are, what units are, and which of them may be run, stands in lower definitions.
+use Rattle.std.specs.Prelude.{◌≡◌, ℕ, ◌<◌, Bool, false, nat_eq, if◌then◌else◌, List, map, Option, Some, None}
+use Rattle.std.specs.Prelude.{Result, Ok, Err, codes}
+use Rattle.std.specs.List.{ends_with, AllByRecursion}
 use Rattle.wap_base.specs.Contents.{Contents}
 use Rattle.wap_base.specs.Charsets.{text_in}
 use Rattle.wap_base.specs.declared.charset.Charset.TheVariants.{Utf8}
@@ -12,11 +12,16 @@ use Rattle.wap_markup.specs.declared.deck.Deck.{Deck}
 use Rattle.wap_markup.specs.Documents.{IsDocument}
 use Rattle.wap_markup.specs.Decks.{deck_of}
 use Rattle.wap_markup.specs.Good.{IsGood}
-use Rattle.wap_wbxml.specs.Refusal.{IsRefused}
 use Rattle.wap_wbxml.specs.reading.Whole.{document_at}
 use Rattle.wap_wbxml.specs.declared.fault.DocFault.{DocFault}
 use Rattle.wap_deckcheck.specs.Faults.{faults, first_fault}
 use Rattle.wap_deckcheck.specs.declared.fault.DeckFault.{DeckFault}
+use Rattle.wap_code.specs.declared.unit.Unit.{Unit}
+use Rattle.wap_unit.specs.Units.{IsUnit}
+use Rattle.wap_unit.specs.declared.fault.UnitFault.{UnitFault}
+use Rattle.wap_unit.specs.inside.Reading.{unit_at}
+use Rattle.wap_verify.specs.Sound.{IsVerified}
+use Rattle.wap_runnable.specs.Runnable.{may_run, is_of_depths}
 use Rattle.wap_site.specs.Pages.{Pages}
 use Rattle.wap_site.specs.declared.page.Page.{Page}
 use Rattle.wap_site.specs.declared.page.Page.TheVariants as page
@@ -24,6 +29,7 @@ use Rattle.wap_pages.specs.declared.kind.Kind.{Kind}
 use Rattle.wap_pages.specs.declared.kind.Kind.TheVariants as kind
 use Rattle.wap_pages.specs.declared.fault.PageFault.{PageFault}
 use Rattle.wap_pages.specs.declared.fault.PageFault.TheVariants as fault
+use Rattle.wap_pages.specs.Refusals.{RefusesVerify, RefusesCheck}
 
 -- ---- what a page is read as
 
@@ -33,41 +39,43 @@ has_end end name = ends_with nat_eq name end
 -- a deck, where the name doesn't say otherwise
 abbrev pub kind_of : List ℕ → Kind
 kind_of name =
-    if has_end (codes ".wmls") name || has_end (codes ".wmlsc") name then kind.Script
+    if has_end (codes ".wmls") name then kind.Source
+    else if has_end (codes ".wmlsc") name then kind.Unit
     else if has_end (codes ".txt") name then kind.Words
     else kind.Deck
 
 -- ---- what the bytes are
 
 -- a good deck has no fault
-abbrev pub deck_or_fault : Deck → Option DeckFault → Result Page PageFault
-deck_or_fault deck None = Ok (page.Deck deck)
-deck_or_fault deck (Some why) = Err (fault.Deck why)
+abbrev pub page_of_deck : Deck → Option DeckFault → Page
+page_of_deck deck None = page.Deck deck
+page_of_deck deck (Some why) = page.Refused
 
-abbrev pub judged_document : Result Document DocFault → Result Page PageFault
-judged_document (Ok document) =
-    deck_or_fault (deck_of document) (first_fault (faults (deck_of document)))
-judged_document (Err why) = Err (fault.Document why)
+abbrev pub page_of_document : Result Document DocFault → Page
+page_of_document (Ok document) =
+    page_of_deck (deck_of document) (first_fault (faults (deck_of document)))
+page_of_document (Err why) = page.Refused
 
-abbrev pub judged_text : Option (List ℕ) → Result Page PageFault
-judged_text (Some text) = Ok (page.Words text)
-judged_text None = Err fault.NotText
+abbrev pub page_of_unit : Result Unit UnitFault → Page
+page_of_unit (Ok unit) = if may_run unit then page.Script unit else page.Refused
+page_of_unit (Err why) = page.Refused
 
--- the page, or the fault for which it is refused
-unfoldable pub judgement : Kind → List ℕ → Result Page PageFault
-judgement kind.Deck bytes = judged_document (document_at bytes)
-judgement kind.Words bytes = judged_text (text_in Utf8 bytes)
-judgement kind.Script bytes = Err fault.Unbuilt
+abbrev pub page_of_text : Option (List ℕ) → Page
+page_of_text (Some text) = page.Words text
+page_of_text None = page.Refused
+
+-- the page that bytes are, by what they are read as
+unfoldable pub page_as : Kind → List ℕ → Page
+page_as kind.Deck bytes = page_of_document (document_at bytes)
+page_as kind.Words bytes = page_of_text (text_in Utf8 bytes)
+page_as kind.Unit bytes = page_of_unit (unit_at bytes)
+page_as kind.Source bytes = page.Refused
 
 -- ---- pages
 
-abbrev pub page_or_refused : Result Page PageFault → Page
-page_or_refused (Ok page) = page
-page_or_refused (Err why) = page.Refused
-
 -- the page of a name with these bytes
 abbrev pub page_of_bytes : List ℕ → List ℕ → Page
-page_of_bytes name bytes = page_or_refused (judgement (kind_of name) bytes)
+page_of_bytes name bytes = page_as (kind_of name) bytes
 
 -- the pages of a store
 abbrev pub judged : Contents → Pages
@@ -78,7 +86,11 @@ abbrev pub page_where : List ℕ → Option (List ℕ) → Page
 page_where name (Some bytes) = page_of_bytes name bytes
 page_where name None = page.Missing
 
--- ---- the same by the relations of bytes, documents and decks, which laws tie to the above
+-- ---- the same by the relations of bytes, documents, decks and units, which laws tie to the above
+
+-- a byte is a number below 256
+abbrev pub AreBytes : List ℕ → Type 0
+AreBytes bytes = AllByRecursion (λ byte. byte < 256) bytes
 
 -- the bytes are a document that means this deck, and it is good
 pub record IsDeckPage (name bytes : List ℕ) (deck : Deck) : Type 0 where
@@ -88,19 +100,43 @@ pub record IsDeckPage (name bytes : List ℕ) (deck : Deck) : Type 0 where
   pub means : deck_of document ≡ deck
   pub good : IsGood deck
 
+-- the bytes are this unit, and it may be run
+pub record IsUnitPage (name bytes : List ℕ) (unit : Unit) : Type 0 where
+  pub kind : kind_of name ≡ kind.Unit
+  pub spells : IsUnit bytes unit
+  pub verified : IsVerified unit
+
 -- the bytes are this text
 pub record IsTextPage (name bytes text : List ℕ) : Type 0 where
   pub kind : kind_of name ≡ kind.Words
   pub spells : text_in Utf8 bytes ≡ Some text
 
--- the page is refused for this fault: the bytes are no document, or one whose deck has this fault
--- first; they are no text; or scripts aren't read yet
-pub data Refuses (name bytes : List ℕ) : PageFault → Type 0 where
-  document : (why : DocFault) → kind_of name ≡ kind.Deck → IsRefused bytes why
-      → Refuses name bytes (fault.Document why)
-  deck : (document : Document) (why : DeckFault) → kind_of name ≡ kind.Deck
-      → IsDocument bytes document
-      → first_fault (faults (deck_of document)) ≡ Some why → Refuses name bytes (fault.Deck why)
-  not_text : kind_of name ≡ kind.Words → text_in Utf8 bytes ≡ None
-      → Refuses name bytes fault.NotText
-  unbuilt : kind_of name ≡ kind.Script → Refuses name bytes fault.Unbuilt
+-- the bytes are no text
+pub data RefusesText (bytes : List ℕ) : PageFault → Type 0 where
+  not_text : text_in Utf8 bytes ≡ None → RefusesText bytes fault.NotText
+
+-- a source is refused, since sources aren't read yet
+pub data RefusesSource (bytes : List ℕ) : PageFault → Type 0 where
+  unbuilt : RefusesSource bytes fault.Unbuilt
+
+-- bytes that are read as a page of a kind are refused for a fault
+abbrev pub RefusesAs : Kind → List ℕ → PageFault → Type 0
+RefusesAs kind.Deck bytes = RefusesCheck bytes
+RefusesAs kind.Words bytes = RefusesText bytes
+RefusesAs kind.Unit bytes = RefusesVerify bytes
+RefusesAs kind.Source bytes = RefusesSource bytes
+
+-- the page of a name with these bytes is refused for a fault
+abbrev pub Refuses : List ℕ → List ℕ → PageFault → Type 0
+Refuses name bytes = RefusesAs (kind_of name) bytes
+
+-- beside this fault another may be named: of the places of a unit at which the numbers of values
+-- don't fit, any may be
+abbrev pub may_differ : PageFault → Bool
+may_differ fault.Missing = false
+may_differ (fault.Document why) = false
+may_differ (fault.Deck why) = false
+may_differ (fault.Unit why) = false
+may_differ (fault.Verify why) = is_of_depths why
+may_differ fault.NotText = false
+may_differ fault.Unbuilt = false

@@ -24,7 +24,7 @@ pub enum PageFault {
     Verify(VerifyFault),
     /// It is no text in UTF-8.
     NotText,
-    /// It is a script, and scripts aren't read yet.
+    /// It is a script's source, and sources aren't read yet.
     Unbuilt,
 }
 

@@ -1,73 +1,78 @@
 //! Judging a page by its name and bytes.
-ghost use Rattle.std.specs.Prelude.{◌≡◌, IfOk, Ok, Err};
+ghost use Rattle.std.specs.Prelude.{◌≡◌, ◌<◌, ◌^◌, false, length, IfOk, Err};
 ghost use Rattle.wap_base.specs.Outcome.{Meets};
-ghost use Rattle.wap_pages.specs.Judged.{kind_of, judged_document, judgement};
-ghost use Rattle.wap_pages.specs.Judged.{page_of_bytes, Refuses};
-ghost use Rattle.wap_pages.specs.inside.Judging.{Judges};
+ghost use Rattle.wap_pages.specs.Judged.{page_of_bytes, Refuses, may_differ};
+ghost use Rattle.wap_pages.specs.inside.Judging.{Judges, JudgesDeck};
 ghost use Rattle.wap_pages.specs.declared.fault.PageErr.TheVariants as error;
 
+use crate::reading::{document_in, verified_in};
 use crate::{Kind, PageErr, PageFault};
 use std::alloc::Global;
 use wap_base::{Charset, Text};
 use wap_deck::deck_of;
 use wap_deckcheck::check;
-use wap_good::GoodDeck;
 use wap_markup::Document;
 use wap_site::{Page, Shared};
-use wap_wbxml::decode;
 
 /// The page of a name with these bytes. It is never `Missing` or `Refused`: where a page is
-/// refused, the fault says why.
+/// refused, the fault says why. Where several faults may be named, it is one of them.
 pub fn judge(alloc: Global, name: &Text, bytes: &[u8]) -> Result<Page, PageErr>
+    requires { length bytes.now < 2 ^ 31 }
     ensures page { IfOk result (λ page. page ≡ page_of_bytes name.now bytes.now) }
     ensures accepted { IfOk result (λ page. (fault : PageFault)
         → ¬ Refuses name.now bytes.now fault) }
     ensures refused { (fault : PageFault) → result ≡ Err (error.Refused fault)
         → Refuses name.now bytes.now fault }
     ensures only { (fault : PageFault) → Refuses name.now bytes.now fault
+        → may_differ fault ≡ false
         → Meets error.NoMemory (λ page. page) result (Err (error.Refused fault)) }
 {
     judge_by_kind(alloc, Kind::of(name), bytes)
 }
 
 fn judge_by_kind(alloc: Global, kind: Kind, bytes: &[u8]) -> Result<Page, PageErr>
-    ensures { Judges result (judgement kind bytes.now) }
+    requires { length bytes.now < 2 ^ 31 }
+    ensures { Judges kind bytes.now result }
 {
     match kind {
         Kind::Deck => judge_deck(alloc, bytes),
         Kind::Words => judge_text(alloc, bytes),
-        Kind::Script => Err(PageErr::Refused(PageFault::Unbuilt)),
+        Kind::Unit => judge_unit(alloc, bytes),
+        Kind::Source => Err(PageErr::Refused(PageFault::Unbuilt)),
     }
 }
 
 /// The deck that bytes are.
 fn judge_deck(alloc: Global, bytes: &[u8]) -> Result<Page, PageErr>
-    ensures { Judges result (judgement Kind.Deck bytes.now) }
+    ensures { Judges Kind.Deck bytes.now result }
 {
-    let document = decode(alloc, bytes)?;
+    let document = document_in(alloc, bytes)?;
     judge_document(alloc, &document)
 }
 
 /// The deck that a document means, if it is good.
 fn judge_document(alloc: Global, document: &Document) -> Result<Page, PageErr>
-    ensures { Judges result (judged_document (Ok document.now)) }
+    ensures { JudgesDeck document.now result }
 {
     let deck = deck_of(alloc, document)?;
     match check(alloc, deck) {
-        Ok(good) => as_page(alloc, good),
+        Ok(good) => Ok(Page::Deck(Shared::new(alloc, good)?)),
         Err((_, fault)) => Err(PageErr::from(fault)),
     }
 }
 
-fn as_page(alloc: Global, deck: GoodDeck) -> Result<Page, PageErr>
-    ensures { Judges result (Ok (Page.Deck deck)) }
+/// The unit that bytes are, if it may be run.
+fn judge_unit(alloc: Global, bytes: &[u8]) -> Result<Page, PageErr>
+    requires { length bytes.now < 2 ^ 31 }
+    ensures { Judges Kind.Unit bytes.now result }
 {
-    Ok(Page::Deck(Shared::new(alloc, deck)?))
+    let verified = verified_in(alloc, bytes)?;
+    Ok(Page::Script(Shared::new(alloc, verified)?))
 }
 
 /// The text that bytes are.
 fn judge_text(alloc: Global, bytes: &[u8]) -> Result<Page, PageErr>
-    ensures { Judges result (judgement Kind.Words bytes.now) }
+    ensures { Judges Kind.Words bytes.now result }
 {
     match Charset::Utf8.text(alloc, bytes)? {
         Some(text) => Ok(Page::Words(Shared::new(alloc, text)?)),

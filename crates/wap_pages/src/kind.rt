@@ -11,8 +11,10 @@ pub enum Kind {
     Deck,
     /// A text in UTF-8.
     Words,
-    /// A script, as its source or as a compiled unit.
-    Script,
+    /// A compiled unit.
+    Unit,
+    /// A script's source.
+    Source,
 }
 
 impl Kind {
@@ -20,8 +22,10 @@ impl Kind {
     pub fn of(name: &Text) -> Kind
         ensures { result ≡ kind_of name.now }
     {
-        if ends_wmls(name) || ends_wmlsc(name) {
-            Kind::Script
+        if ends_wmls(name) {
+            Kind::Source
+        } else if ends_wmlsc(name) {
+            Kind::Unit
         } else if ends_txt(name) {
             Kind::Words
         } else {

@@ -7,11 +7,13 @@ mod judging;
 mod kind;
 mod law;
 mod printing;
+mod reading;
 mod threads;
 
 pub use cached::{Cached, LEAST_CAPACITY, MOST_CAPACITY};
 pub use fault::{PageErr, PageFault};
 pub use judging::judge;
 pub use kind::Kind;
-pub use law::{pages_are_judged, pages_have_one_fault};
+pub use law::{pages_are_judged, refused_pages_have_faults};
+pub use reading::{document_in, unit_in, verified_in};
 pub use threads::all_cross;

@@ -4,12 +4,14 @@ use std::marker::{Send, Sync};
 use wap_base::Text;
 use wap_good::GoodDeck;
 use wap_site::{Page, Shared};
+use wap_verify::Verified;
 
 fn crosses<T: Send + Sync>() {}
 
 /// Stands only where each type that is named here may be sent to threads and shared by them.
 pub fn all_cross() {
     crosses::<Shared<GoodDeck>>();
+    crosses::<Shared<Verified>>();
     crosses::<Shared<Text>>();
     crosses::<Page>();
     crosses::<Kind>();

@@ -1,6 +1,6 @@
 -- The report on the pages of a folder: the name of each with its kind and whether it is refused, in
 -- order, and how many there are. This project's own.
-use Rattle.std.specs.Prelude.{◌≡◌, ℕ, Bool, if◌then◌else◌, List, ◌++◌, Option, Some, None, is_none}
+use Rattle.std.specs.Prelude.{◌≡◌, ℕ, Bool, List, ◌++◌, Option, Some, None, is_none}
 use Rattle.std.specs.Prelude.{IfSome, All, length, filter, codes, decimal}
 use Rattle.std.specs.List.{flat_map}
 use Rattle.std.specs.List.Sorted.{IsPermutation}
@@ -10,7 +10,9 @@ use Rattle.wap_base.specs.Texts.{AreAscending}
 use Rattle.wap_dis.specs.Listing.{shown}
 use Rattle.wap_pages.specs.declared.fault.PageFault.{PageFault}
 use Rattle.wap_pages.specs.declared.fault.PageFault.TheVariants.{Missing}
-use Rattle.wap_pages.specs.Judged.{has_end, Refuses}
+use Rattle.wap_pages.specs.declared.kind.Kind.{Kind}
+use Rattle.wap_pages.specs.declared.kind.Kind.TheVariants as kind
+use Rattle.wap_pages.specs.Judged.{kind_of, Refuses}
 use Rattle.wap_pages.specs.Printing.{page_text}
 
 -- ---- what a page is judged
@@ -38,13 +40,16 @@ pub record AreEntries (contents : Option Contents) (entries : List Entry) : Type
 
 -- ---- how it is written
 
+-- what a page of a kind is called
+abbrev pub word_of : Kind → List ℕ
+word_of kind.Source = codes "source"
+word_of kind.Unit = codes "unit"
+word_of kind.Words = codes "text"
+word_of kind.Deck = codes "deck"
+
 -- what the page of a name is read as, which its end says
 abbrev pub kind_word : List ℕ → List ℕ
-kind_word name =
-    if has_end (codes ".wmls") name then codes "source"
-    else if has_end (codes ".wmlsc") name then codes "unit"
-    else if has_end (codes ".txt") name then codes "text"
-    else codes "deck"
+kind_word name = word_of (kind_of name)
 
 abbrev pub verdict_text : Option PageFault → List ℕ
 verdict_text None = codes "ok"

@@ -4,16 +4,13 @@ ghost use Rattle.std.specs.Map.{keys_of};
 ghost use Rattle.wap_prepare.specs.Fetching.{AsksFor};
 ghost use Rattle.wap_prepare.specs.inside.Jobs.{IsAnswered};
 
+use crate::job::Job;
 use std::alloc::Global;
 use wap_base::Text;
-use wap_devices::{Fetched, Store, StoreErr};
+use wap_devices::{Store, StoreErr};
 
 /// What the store answers for a name, beside the name.
-fn fetch_one<S: Store>(
-    alloc: Global,
-    store: &mut S,
-    name: &Text,
-) -> Result<(Text, Fetched), StoreErr>
+fn fetch_one<S: Store>(alloc: Global, store: &mut S, name: &Text) -> Result<Job, StoreErr>
     ensures name { IfOk result (λ job. job.0 ≡ name.now) }
     ensures answered { IfOk result (IsAnswered (S.seen store.old).contents) }
     ensures asks { AsksFor 1 (S.seen store.old) (S.seen store.new) result }
@@ -23,7 +20,7 @@ fn fetch_one<S: Store>(
         Err(_) => return Err(StoreErr::NoMemory),
     };
     match store.fetch(name) {
-        Ok(page) => Ok((copy, page)),
+        Ok(page) => Ok(Job::new(copy, page)),
         Err(fault) => Err(fault),
     }
 }
@@ -33,7 +30,7 @@ pub(crate) fn fetch_all<S: Store>(
     alloc: Global,
     store: &mut S,
     names: &[Text],
-) -> Result<Vec<(Text, Fetched)>, StoreErr>
+) -> Result<Vec<Job>, StoreErr>
     ensures names { IfOk result (λ jobs. keys_of jobs.items ≡ names.now) }
     ensures answered { IfOk result (λ jobs. All (IsAnswered (S.seen store.old).contents)
         jobs.items) }

@@ -1,8 +1,10 @@
 //! Judging pages side by side.
-ghost use Rattle.std.specs.Prelude.{◌≡◌, Some, Ok, map, IfOk};
+ghost use Rattle.std.specs.Prelude.{◌≡◌, ◌<◌, ◌^◌, Some, Ok, map, length, IfOk};
+ghost use Rattle.wap_devices.specs.Pages.{IsSmall};
 ghost use Rattle.wap_prepare.specs.Reports.{IsVerdict};
 ghost use Rattle.wap_prepare.specs.inside.Jobs.{page_of, IsRight};
 
+use crate::job::Job;
 use std::alloc::Global;
 use wap_base::{NoMemory, Text};
 use wap_devices::Fetched;
@@ -11,6 +13,7 @@ use wap_pages::{PageErr, PageFault, judge};
 
 /// The fault for which a page with these bytes is refused, or none.
 fn judge_bytes(alloc: Global, name: &Text, bytes: &[u8]) -> Result<Option<PageFault>, NoMemory>
+    requires { length bytes.now < 2 ^ 31 }
     ensures { IfOk result (IsVerdict name.now (Some bytes.now)) }
 {
     match judge(alloc, name, bytes) {
@@ -22,6 +25,7 @@ fn judge_bytes(alloc: Global, name: &Text, bytes: &[u8]) -> Result<Option<PageFa
 
 /// The fault for which what a store answered is refused, or none.
 fn judge_page(alloc: Global, name: &Text, page: &Fetched) -> Result<Option<PageFault>, NoMemory>
+    requires { IsSmall page.now }
     ensures { IfOk result (IsVerdict name.now (page_of page.now)) }
 {
     match page {
@@ -38,15 +42,15 @@ pub(crate) struct Judging {
 }
 
 impl Work for Judging {
-    type Job = (Text, Fetched);
+    type Job = Job;
 
     type Answer = Result<(Text, Option<PageFault>), NoMemory>;
 
     ghost right = { λ _ job answer. IfOk answer (IsRight job) };
 
-    fn work(&self, job: &(Text, Fetched)) -> Result<(Text, Option<PageFault>), NoMemory> {
-        let name = job.0.copy(self.alloc)?;
-        let verdict = judge_page(self.alloc, &job.0, &job.1)?;
+    fn work(&self, job: &Job) -> Result<(Text, Option<PageFault>), NoMemory> {
+        let name = job.name().copy(self.alloc)?;
+        let verdict = judge_page(self.alloc, job.name(), job.page())?;
         Ok((name, verdict))
     }
 }

@@ -3,6 +3,7 @@
 
 mod draft;
 mod fetching;
+mod job;
 mod judging;
 mod preparing;
 mod report;

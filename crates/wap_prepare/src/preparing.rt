@@ -9,13 +9,14 @@ ghost use Rattle.wap_prepare.specs.inside.Jobs.{IsRight};
 ghost use Rattle.wap_prepare.specs.inside.Ends.{ReportsTo};
 
 use crate::fetching::fetch_all;
+use crate::job::Job;
 use crate::judging::{Judging, all_answers};
 use crate::report::report_on;
 use std::alloc::Global;
 use std::marker::Sync;
 use std::thread::Threads;
 use wap_base::{NoMemory, Text};
-use wap_devices::{Failed, Fetched, Gate, Sink, Store, StoreErr, write_all};
+use wap_devices::{Failed, Gate, Sink, Store, StoreErr, write_all};
 use wap_folder::run_jobs;
 use wap_pages::PageFault;
 use wap_status::Status;
@@ -24,7 +25,7 @@ use wap_status::Status;
 fn judge_pages<R: Threads + Sync, G: Gate + Sync>(
     rt: &R,
     alloc: Global,
-    jobs: &[(Text, Fetched)],
+    jobs: &[Job],
     workers: u8,
     gate: &G,
 ) -> Result<Vec<(Text, Option<PageFault>)>, NoMemory>

@@ -1,8 +1,7 @@
 //! The text of the report.
-ghost use Rattle.std.specs.Prelude.{◌≡◌, ◌++◌, map, IfOk, OnOk, codes, decimal, ◌≤◌, if◌then◌else◌};
+ghost use Rattle.std.specs.Prelude.{◌≡◌, ◌++◌, map, IfOk, OnOk, decimal, ◌≤◌, if◌then◌else◌};
 ghost use Rattle.std.specs.List.{flat_map};
 ghost use Rattle.wap_dis.specs.Listing.{shown_byte};
-ghost use Rattle.wap_pages.specs.Judged.{has_end};
 ghost use Rattle.wap_pages.specs.Printing.{page_text};
 ghost use Rattle.wap_prepare.specs.Reports.{kind_word, verdict_text, entry_line};
 ghost use Rattle.wap_prepare.specs.Reports.{accepted, is_accepted, last_line, report};
@@ -11,39 +10,18 @@ use crate::draft::Draft;
 use itoa::Buffer;
 use std::alloc::Global;
 use wap_base::{NoMemory, Text};
-use wap_pages::PageFault;
+use wap_pages::{Kind, PageFault};
 
 /// What the page of a name is read as.
 fn kind_word(name: &Text) -> &'static [u8]
     ensures { result.now ≡ kind_word name.now }
 {
-    if ends_source(name) {
-        b"source"
-    } else if ends_unit(name) {
-        b"unit"
-    } else if ends_text(name) {
-        b"text"
-    } else {
-        b"deck"
+    match Kind::of(name) {
+        Kind::Source => b"source",
+        Kind::Unit => b"unit",
+        Kind::Words => b"text",
+        Kind::Deck => b"deck",
     }
-}
-
-fn ends_source(name: &Text) -> bool
-    ensures { result ≡ has_end (codes ".wmls") name.now }
-{
-    name.as_str().ends_with(".wmls")
-}
-
-fn ends_unit(name: &Text) -> bool
-    ensures { result ≡ has_end (codes ".wmlsc") name.now }
-{
-    name.as_str().ends_with(".wmlsc")
-}
-
-fn ends_text(name: &Text) -> bool
-    ensures { result ≡ has_end (codes ".txt") name.now }
-{
-    name.as_str().ends_with(".txt")
 }
 
 /// A control character is shown as a dot.

@@ -1,41 +1,62 @@
--- What a call that judges has to do with the judgement. This project's own.
-use Rattle.std.specs.Prelude.{◌≡◌, ℕ, List, Result, Ok, Err}
+-- What a call that judges answers. This project's own.
+use Rattle.std.specs.Prelude.{⊤, ◌≡◌, ℕ, List, Some, Result, Ok, Err}
+use Rattle.wap_base.specs.Charsets.{text_in}
+use Rattle.wap_base.specs.declared.charset.Charset.TheVariants.{Utf8}
 use Rattle.wap_markup.specs.declared.document.Document.{Document}
 use Rattle.wap_markup.specs.Documents.{IsDocument}
 use Rattle.wap_markup.specs.Decks.{deck_of}
 use Rattle.wap_markup.specs.Good.{IsGood}
-use Rattle.wap_base.specs.Charsets.{text_in}
-use Rattle.std.specs.Prelude.{Some, None}
-use Rattle.wap_base.specs.declared.charset.Charset.TheVariants.{Utf8}
-use Rattle.wap_wbxml.specs.Refusal.{IsRefused}
-use Rattle.wap_wbxml.specs.declared.fault.DocFault.{DocFault}
-use Rattle.wap_deckcheck.specs.Faults.{faults, first_fault}
-use Rattle.wap_deckcheck.specs.declared.fault.DeckFault.{DeckFault}
+use Rattle.wap_unit.specs.Units.{IsUnit}
+use Rattle.wap_verify.specs.Sound.{IsVerified}
+use Rattle.wap_code.specs.declared.unit.Unit.{Unit}
 use Rattle.wap_site.specs.declared.page.Page.{Page}
 use Rattle.wap_site.specs.declared.page.Page.TheVariants as page
 use Rattle.wap_pages.specs.declared.kind.Kind.{Kind}
 use Rattle.wap_pages.specs.declared.kind.Kind.TheVariants as kind
 use Rattle.wap_pages.specs.declared.fault.PageErr.{PageErr}
 use Rattle.wap_pages.specs.declared.fault.PageErr.TheVariants.{Refused, NoMemory}
-use Rattle.wap_pages.specs.declared.fault.PageFault.{PageFault}
-use Rattle.wap_pages.specs.declared.fault.PageFault.TheVariants as fault
+use Rattle.wap_pages.specs.Refusals.{IsDeckRefused}
+use Rattle.wap_pages.specs.Judged.{RefusesAs}
 
--- the answer is the judgement, unless memory runs out
-abbrev pub Judges : Result Page PageErr → Result Page PageFault → Type 0
-Judges (Ok page) judgement = judgement ≡ Ok page
-Judges (Err (Refused why)) judgement = judgement ≡ Err why
-Judges (Err NoMemory) judgement = Unit {0}
+-- the page is the deck of a document, and it is good
+pub record IsDeckOf (document : Document) (one : Page) : Type 0 where
+  pub is : one ≡ page.Deck (deck_of document)
+  pub good : IsGood (deck_of document)
 
--- the judgements of bytes, by relations
-pub data Judged (bytes : List ℕ) : Kind → Result Page PageFault → Type 0 where
-  good : (document : Document) → IsDocument bytes document → IsGood (deck_of document)
-      → Judged bytes kind.Deck (Ok (page.Deck (deck_of document)))
-  bad : (document : Document) (why : DeckFault) → IsDocument bytes document
-      → first_fault (faults (deck_of document)) ≡ Some why
-      → Judged bytes kind.Deck (Err (fault.Deck why))
-  no_document : (why : DocFault) → IsRefused bytes why
-      → Judged bytes kind.Deck (Err (fault.Document why))
-  text : (text : List ℕ) → text_in Utf8 bytes ≡ Some text
-      → Judged bytes kind.Words (Ok (page.Words text))
-  no_text : text_in Utf8 bytes ≡ None → Judged bytes kind.Words (Err fault.NotText)
-  script : Judged bytes kind.Script (Err fault.Unbuilt)
+-- so it is of the bytes
+pub record IsDeckIn (bytes : List ℕ) (one : Page) : Type 0 where
+  pub document : Document
+  pub spells : IsDocument bytes document
+  pub deck : IsDeckOf document one
+
+-- the page is the unit that the bytes are, and it may be run
+pub record IsUnitIn (bytes : List ℕ) (one : Page) : Type 0 where
+  pub unit : Unit
+  pub spells : IsUnit bytes unit
+  pub verified : IsVerified unit
+  pub is : one ≡ page.Script unit
+
+-- the page is the text that the bytes are
+pub record IsTextIn (bytes : List ℕ) (one : Page) : Type 0 where
+  pub text : List ℕ
+  pub spells : text_in Utf8 bytes ≡ Some text
+  pub is : one ≡ page.Words text
+
+-- bytes that are read as a page of a kind are this page
+abbrev pub IsPageAs : Kind → List ℕ → Page → Type 0
+IsPageAs kind.Deck bytes = IsDeckIn bytes
+IsPageAs kind.Words bytes = IsTextIn bytes
+IsPageAs kind.Unit bytes = IsUnitIn bytes
+IsPageAs kind.Source bytes = λ one. ⊥
+
+-- the answer on bytes that are read as a page of a kind is right, unless memory runs out
+abbrev pub Judges : Kind → List ℕ → Result Page PageErr → Type 0
+Judges kind bytes (Ok one) = IsPageAs kind bytes one
+Judges kind bytes (Err (Refused why)) = RefusesAs kind bytes why
+Judges kind bytes (Err NoMemory) = ⊤
+
+-- so is the answer on a document that is read as a deck
+abbrev pub JudgesDeck : Document → Result Page PageErr → Type 0
+JudgesDeck document (Ok one) = IsDeckOf document one
+JudgesDeck document (Err (Refused why)) = IsDeckRefused document why
+JudgesDeck document (Err NoMemory) = ⊤

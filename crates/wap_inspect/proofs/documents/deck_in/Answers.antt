@@ -1,7 +1,7 @@
 use Rattle.std.proofs.Common.{Err, sym, ap, ◌∙◌}
 use Rattle.std.proofs.lemmas.Result.{err_from_is_err_and}
 use Rattle.wap_pages.specs.declared.fault.PageErr.TheVariants as error
-use Rattle.wap_inspect.proofs.Errors.{by_document, by_deck, err_is}
+use Rattle.wap_pages.proofs.Refusing.{by_document, by_deck, err_is}
 use Rattle.wap_inspect.proofs.documents.deck_in.Goals as goal
 
 pub returns-in_err-document-clause-refused : goal.returns-in_err-document-clause-refused

@@ -3,7 +3,7 @@ use Rattle.std.proofs.lemmas.Result.{err_from_is_err_and}
 use Rattle.wap_markup.specs.declared.deck.Deck.{Deck}
 use Rattle.wap_deckcheck.specs.Faults.{faults, first_fault}
 use Rattle.wap_pages.specs.declared.fault.PageErr.TheVariants as error
-use Rattle.wap_inspect.proofs.Errors.{deck_refused, err_is}
+use Rattle.wap_pages.proofs.Refusing.{deck_refused, err_is}
 use Rattle.wap_inspect.proofs.documents.good_deck_of.Goals as goal
 
 pub returns-in_err-judge_deck-clause-refused : goal.returns-in_err-judge_deck-clause-refused

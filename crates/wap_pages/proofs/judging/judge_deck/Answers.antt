@@ -3,19 +3,20 @@ use Rattle.std.proofs.lemmas.Result.{err_from_is_err_and}
 use Rattle.wap_site.specs.declared.page.Page.{Page}
 use Rattle.wap_pages.specs.declared.fault.PageErr.{PageErr}
 use Rattle.wap_pages.specs.declared.kind.Kind.TheVariants as kind
-use Rattle.wap_pages.specs.Judged.{judgement}
 use Rattle.wap_pages.specs.inside.Judging.{Judges}
-use Rattle.wap_pages.proofs.Judgements.{document_read, document_refused}
+use Rattle.wap_pages.proofs.Refusing.{by_document}
+use Rattle.wap_pages.proofs.Judgements.{document_unread, document_read}
 use Rattle.wap_pages.proofs.judging.judge_deck.Goals as goal
 
 pub returns-in_err-document : goal.returns-in_err-document
 returns-in_err-document c =
     let left = err_from_is_err_and c.from_residual.result c.from_residual.ensures.1 in
-    subst (λ (r : Result Page PageErr). Judges r (judgement kind.Deck c.args.bytes.now))
+    subst (λ (r : Result Page PageErr). Judges kind.Deck c.args.bytes.now r)
     (sym (left.1 ∙ ap Err left.2))
-    (document_refused c.args.bytes.now c.in_err-document.field-0.0 c.in_err-document.ensures.exact)
+    (document_unread c.args.bytes.now c.in_err-document.field-0.0 (λ why is.
+    by_document c.args.bytes.now why (c.in_err-document.ensures.refused why (ap Err is))))
 
 pub returns : goal.returns
 returns c =
-    document_read c.args.bytes.now c.in_ok-document.document c.judge_document.result
-    c.in_ok-document.ensures.exact c.judge_document.ensures
+    document_read c.args.bytes.now c.in_ok-document.document c.in_ok-document.ensures.found
+    c.judge_document.result c.judge_document.ensures

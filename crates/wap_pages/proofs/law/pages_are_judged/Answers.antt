@@ -1,6 +1,6 @@
-use Rattle.wap_pages.proofs.Judgements.{deck_page, page_deck, text_page, page_text_is}
-use Rattle.wap_pages.proofs.Judgements.{neither_page, page_there, page_of-judged}
-use Rattle.wap_pages.proofs.Judgements.{judged_pages_fit}
+use Rattle.wap_pages.proofs.Judgements.{deck_page, page_deck, script_page, page_script}
+use Rattle.wap_pages.proofs.Judgements.{text_page, page_text_is, neither_page, page_there}
+use Rattle.wap_pages.proofs.Judgements.{page_of-judged, judged_pages_fit}
 use Rattle.wap_pages.proofs.law.pages_are_judged.Goals as goal
 
 pub returns-clause-pages : goal.returns-clause-pages
@@ -8,6 +8,10 @@ returns-clause-pages c = page_of-judged
 
 pub returns-clause-deck : goal.returns-clause-deck
 returns-clause-deck c = λ name bytes deck. (page_deck name bytes deck, deck_page name bytes deck)
+
+pub returns-clause-script : goal.returns-clause-script
+returns-clause-script c =
+    λ name bytes unit are. (page_script name bytes are unit, script_page name bytes unit)
 
 pub returns-clause-words : goal.returns-clause-words
 returns-clause-words c =

@@ -1,5 +1,5 @@
--- Why a page with these bytes is refused: as a unit, as one that may be run, as a document, as a
--- good deck. This project's own.
+-- Why bytes are refused: as a unit, as one that may be run, as a document, as a document whose deck
+-- is good. This project's own.
 use Rattle.std.specs.Prelude.{◌≡◌, ℕ, List, Some}
 use Rattle.wap_markup.specs.declared.document.Document.{Document}
 use Rattle.wap_markup.specs.Documents.{IsDocument}

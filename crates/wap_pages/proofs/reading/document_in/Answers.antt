@@ -1,8 +1,8 @@
 use Rattle.std.proofs.Common.{Err, sym, ap, ◌∙◌}
 use Rattle.std.proofs.lemmas.Result.{err_from_is_err_and}
 use Rattle.wap_pages.specs.declared.fault.PageErr.TheVariants as error
-use Rattle.wap_inspect.proofs.Errors.{document_refused, err_is}
-use Rattle.wap_inspect.proofs.documents.document_in.Goals as goal
+use Rattle.wap_pages.proofs.Refusing.{document_refused, err_is}
+use Rattle.wap_pages.proofs.reading.document_in.Goals as goal
 
 pub returns-in_err-decode-clause-refused : goal.returns-in_err-decode-clause-refused
 returns-in_err-decode-clause-refused c = λ why is.

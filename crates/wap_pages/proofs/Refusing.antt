@@ -1,12 +1,13 @@
--- What an error says of the fault that it was made of.
+-- What an error says of bytes that are read as a document or as a unit: why they are refused, and
+-- that they are none. Memory that ran out says nothing.
 use Rattle.std.proofs.Common.{◌≡◌, ◌≢◌, ℕ, List, Result, Ok, Err, refl, subst}
+use Rattle.std.specs.Prelude.{Some}
 use Rattle.wap_markup.specs.declared.document.Document.{Document}
 use Rattle.wap_markup.specs.Documents.{IsDocument}
+use Rattle.wap_markup.specs.Decks.{deck_of}
 use Rattle.wap_wbxml.specs.Refusal as documents
 use Rattle.wap_wbxml.specs.declared.fault.DocFault.{DocFault}
 use Rattle.wap_wbxml.specs.declared.fault.DocFault.TheVariants as document
-use Rattle.std.specs.Prelude.{Some}
-use Rattle.wap_markup.specs.Decks.{deck_of}
 use Rattle.wap_deckcheck.specs.Faults.{faults, first_fault}
 use Rattle.wap_deckcheck.specs.declared.fault.DeckFault.{DeckFault}
 use Rattle.wap_deckcheck.specs.declared.fault.DeckFault.TheVariants as deck
@@ -23,9 +24,9 @@ use Rattle.wap_pages.specs.declared.fault.PageErr.TheVariants.{Refused, NoMemory
 use Rattle.wap_pages.specs.declared.fault.PageFault.{PageFault}
 use Rattle.wap_pages.specs.declared.fault.PageFault.TheVariants as page
 use Rattle.wap_pages.specs.Faults.{document_error, deck_error, unit_error, verify_error}
+use Rattle.wap_pages.specs.Refusals.{RefusesUnit, RefusesVerify, RefusesDocument}
+use Rattle.wap_pages.specs.Refusals.{IsDeckRefused, RefusesCheck}
 use Rattle.wap_pages.proofs.Errors.{document_cases, deck_cases, unit_cases, verify_cases}
-use Rattle.wap_inspect.specs.Refusals.{RefusesUnit, RefusesVerify, RefusesDocument}
-use Rattle.wap_inspect.specs.Refusals.{IsDeckRefused, RefusesCheck}
 
 -- ---- the bytes are no unit
 
@@ -34,6 +35,7 @@ abbrev pub Only : {X : Type 0} → X → PageErr → Type 0
 Only {X} x error = error ≢ NoMemory → ◌≡◌ {A = Result X PageErr} (Ok x) (Err error)
 
 module _ (bytes : List ℕ) (fault : UnitFault) where
+  -- bytes that are a unit aren't refused
   pub unit_only : (one : Unit)
       → (fault ≢ unit.NoMemory → ◌≡◌ {A = Result Unit UnitFault} (Ok one) (Err fault))
       → Only one (unit_error fault)
@@ -43,6 +45,7 @@ module _ (bytes : List ℕ) (fault : UnitFault) where
       no_both : ◌≡◌ {A = Result Unit UnitFault} (Ok one) (Err fault) → ⊥
       no_both e = cc
 
+  -- bytes that are refused are no unit
   pub unit_refused : (why : PageFault) → (fault ≢ unit.NoMemory → units.IsRefused bytes fault)
       → unit_error fault ≡ Refused why → RefusesUnit bytes why
   unit_refused why is = unit_cases (λ error. error ≡ Refused why → RefusesUnit bytes why) fault
@@ -56,6 +59,7 @@ module _ (bytes : List ℕ) (fault : UnitFault) where
 -- ---- the bytes are no document
 
 module _ (bytes : List ℕ) (fault : DocFault) where
+  -- bytes that are refused are no document
   pub document_refused : (why : PageFault)
       → (fault ≢ document.NoMemory → documents.IsRefused bytes fault)
       → document_error fault ≡ Refused why → RefusesDocument bytes why
@@ -72,6 +76,7 @@ module _ (bytes : List ℕ) (fault : DocFault) where
 -- ---- the deck isn't good
 
 module _ (one : Document) (fault : DeckFault) where
+  -- a document that is refused has a deck with this fault first
   pub deck_refused : (why : PageFault)
       → (fault ≢ deck.NoMemory → first_fault (faults (deck_of one)) ≡ Some fault)
       → deck_error fault ≡ Refused why → IsDeckRefused one why
@@ -83,25 +88,30 @@ module _ (one : Document) (fault : DeckFault) where
       inner : (one : PageFault) → Refused one ≡ Refused why → one ≡ why
       inner one e = cc
 
+-- what refuses bytes as a document refuses them as a deck
 pub by_document : (bytes : List ℕ) (why : PageFault) → RefusesDocument bytes why
     → RefusesCheck bytes why
 by_document bytes why (RefusesDocument.document fault is) = RefusesCheck.document fault is
 
+-- and so does what refuses their document
 pub by_deck : (bytes : List ℕ) (one : Document) (why : PageFault) → IsDocument bytes one
     → IsDeckRefused one why → RefusesCheck bytes why
 by_deck bytes one why spells (IsDeckRefused.deck fault is) = RefusesCheck.deck one fault spells is
 
 -- ---- the unit may not be run
 
+-- what refuses bytes as a unit refuses them as one that may be run
 pub by_unit : (bytes : List ℕ) (why : PageFault) → RefusesUnit bytes why → RefusesVerify bytes why
 by_unit bytes why (RefusesUnit.unit fault is) = RefusesVerify.unit fault is
 
 module _ (bytes : List ℕ) (one : Unit) (spells : IsUnit bytes one) (fault : VerifyFault) where
+  -- a unit without a fault isn't refused
   pub verify_only : {X : Type 0} (x : X) → (fault ≢ verify.NoMemory → ⊥)
       → Only x (verify_error fault)
   verify_only x is =
       verify_cases (Only x) fault (λ none e. absurd (e refl)) (λ some e. absurd (is some))
 
+  -- a unit that is refused has this fault
   pub verify_refused : (why : PageFault) → (fault ≢ verify.NoMemory → IsFault one fault)
       → verify_error fault ≡ Refused why → RefusesVerify bytes why
   verify_refused why is =
@@ -116,8 +126,10 @@ module _ (bytes : List ℕ) (one : Unit) (spells : IsUnit bytes one) (fault : Ve
 
 -- ---- values and errors
 
+-- two results with a value have one value
 pub ok_is : {X E : Type 0} (x y : X) → ◌≡◌ {A = Result X E} (Ok x) (Ok y) → x ≡ y
 ok_is x y is = cc
 
+-- and two with a fault one fault
 pub err_is : {X E : Type 0} (e f : E) → ◌≡◌ {A = Result X E} (Err e) (Err f) → e ≡ f
 err_is e f is = cc

@@ -2,8 +2,8 @@ use Rattle.std.proofs.Common.{Ok, Err, sym, ap, ◌∙◌, subst}
 use Rattle.std.proofs.lemmas.Result.{err_from_is_err_and}
 use Rattle.wap_base.specs.Outcome.{Meets}
 use Rattle.wap_pages.specs.declared.fault.PageErr.TheVariants as error
-use Rattle.wap_inspect.proofs.Errors.{unit_only, unit_refused, ok_is, err_is}
-use Rattle.wap_inspect.proofs.units.unit_in.Goals as goal
+use Rattle.wap_pages.proofs.Refusing.{unit_only, unit_refused, ok_is, err_is}
+use Rattle.wap_pages.proofs.reading.unit_in.Goals as goal
 
 pub returns-in_err-decode-clause-only : goal.returns-in_err-decode-clause-only
 returns-in_err-decode-clause-only c = λ one is.

@@ -1,0 +1,16 @@
+use Rattle.std.proofs.Common.{Result, Err, sym, ap, ◌∙◌, subst}
+use Rattle.std.proofs.lemmas.Result.{err_from_is_err_and}
+use Rattle.wap_site.specs.declared.page.Page.{Page}
+use Rattle.wap_pages.specs.declared.fault.PageErr.{PageErr}
+use Rattle.wap_pages.specs.declared.kind.Kind.TheVariants as kind
+use Rattle.wap_pages.specs.inside.Judging.{Judges}
+use Rattle.wap_pages.proofs.Judgements.{unit_unread}
+use Rattle.wap_pages.proofs.judging.judge_unit.Goals as goal
+
+pub returns-in_err-verified : goal.returns-in_err-verified
+returns-in_err-verified c =
+    let left = err_from_is_err_and c.from_residual.result c.from_residual.ensures.1 in
+    subst (λ (r : Result Page PageErr). Judges kind.Unit c.args.bytes.now r)
+    (sym (left.1 ∙ ap Err left.2))
+    (unit_unread c.args.bytes.now c.in_err-verified.field-0.0 (λ why is.
+    c.in_err-verified.ensures.refused why (ap Err is)))

@@ -1,0 +1,56 @@
+//! What bytes are read as: documents, and units.
+ghost use Rattle.std.specs.Prelude.{◌≡◌, ◌<◌, ◌^◌, length, IfOk, Ok, Err};
+ghost use Rattle.wap_base.specs.Outcome.{Meets};
+ghost use Rattle.wap_markup.specs.declared.document.Document.{Document};
+ghost use Rattle.wap_markup.specs.Documents.{IsDocument};
+ghost use Rattle.wap_code.specs.declared.unit.Unit.{Unit};
+ghost use Rattle.wap_unit.specs.Units.{IsUnit};
+ghost use Rattle.wap_verify.specs.Sound.{IsVerified};
+ghost use Rattle.wap_pages.specs.Refusals.{RefusesDocument, RefusesUnit, RefusesVerify};
+ghost use Rattle.wap_pages.specs.declared.fault.PageErr.TheVariants as error;
+ghost use Rattle.wap_pages.specs.declared.fault.PageFault.{PageFault};
+
+use crate::PageErr;
+use std::alloc::Global;
+use wap_markup::Document;
+use wap_unit::Unit;
+use wap_verify::{Verified, verify};
+
+/// The document that the bytes are.
+pub fn document_in(alloc: Global, bytes: &[u8]) -> Result<Document, PageErr>
+    ensures found { IfOk result (λ document. IsDocument bytes.now document) }
+    ensures only { (document : Document) → IsDocument bytes.now document
+        → Meets error.NoMemory (λ document. document) result (Ok document) }
+    ensures refused { (fault : PageFault) → result ≡ Err (error.Refused fault)
+        → RefusesDocument bytes.now fault }
+{
+    Ok(wap_wbxml::decode(alloc, bytes)?)
+}
+
+/// The unit that the bytes are.
+pub fn unit_in(alloc: Global, bytes: &[u8]) -> Result<Unit, PageErr>
+    requires { length bytes.now < 2 ^ 32 }
+    ensures found { IfOk result (λ unit. IsUnit bytes.now unit) }
+    ensures only { (unit : Unit) → IsUnit bytes.now unit
+        → Meets error.NoMemory (λ unit. unit) result (Ok unit) }
+    ensures refused { (fault : PageFault) → result ≡ Err (error.Refused fault)
+        → RefusesUnit bytes.now fault }
+{
+    Ok(wap_unit::decode(alloc, bytes)?)
+}
+
+/// The unit that the bytes are, if it may be run.
+pub fn verified_in(alloc: Global, bytes: &[u8]) -> Result<Verified, PageErr>
+    requires { length bytes.now < 2 ^ 32 }
+    ensures found { IfOk result (λ verified. IsUnit bytes.now verified × IsVerified verified) }
+    ensures only { (unit : Unit) → IsUnit bytes.now unit → IsVerified unit
+        → Meets error.NoMemory (λ verified. verified) result (Ok unit) }
+    ensures refused { (fault : PageFault) → result ≡ Err (error.Refused fault)
+        → RefusesVerify bytes.now fault }
+{
+    let unit = unit_in(alloc, bytes)?;
+    match verify(alloc, unit) {
+        Ok(verified) => Ok(verified),
+        Err((_, fault)) => Err(PageErr::from(fault)),
+    }
+}
