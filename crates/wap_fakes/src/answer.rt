@@ -35,7 +35,7 @@ fn is_there(page: &Page) -> bool
     ensures { IsTrue result ↔ IsThere page.now }
 {
     match page {
-        Page::Deck(_) | Page::Words(_) | Page::Refused => true,
+        Page::Deck(_) | Page::Script(_) | Page::Words(_) | Page::Refused => true,
         Page::Missing => false,
     }
 }
