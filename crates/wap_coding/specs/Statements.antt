@@ -97,10 +97,10 @@ loop_code test body update =
     label ⨾ test over ⨾ within over body.size body ⨾ label ⨾ update ⨾
     jump_before op.JumpBw (1 + (test over).size + body.size + 1 + update.size) ⨾ label
 
--- the update of a `for`, or none
+-- the update of a `for`, which is an expression as a statement, or none
 abbrev pub update_code : Numbers → Option Expr → Coded
 update_code numbers None = empty
-update_code numbers (Some e) = dropped_code (expr_code numbers e)
+update_code numbers (Some e) = effect_code numbers (out-Expr e) (expr_code numbers e)
 
 -- ---- statements
 

@@ -167,7 +167,7 @@ module _ (unit : CodeUnit) (numbers : Numbers) (forms : List Form) where
   update_rests : (update : Option Expr) → IsMet (optional_needs update)
       → Rests (update_code numbers update)
   update_rests None met = rests_empty
-  update_rests (Some e) met = rests_dropped (expr_code numbers e) (expr_gives e met)
+  update_rests (Some e) met = effect_rests (out-Expr e) e (roll-out-Expr e) met
 
   -- a statement leaves them by its parts
   abbrev Layer : Stmt-F Stmt → Type 0

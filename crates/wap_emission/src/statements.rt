@@ -205,7 +205,7 @@ fn add_update(
 {
     match update {
         None => Ok(()),
-        Some(update) => add_dropped(alloc, numbering, forms, update),
+        Some(update) => add_effect(alloc, numbering, forms, update),
     }
 }
 

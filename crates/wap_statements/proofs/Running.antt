@@ -21,7 +21,7 @@ use Rattle.wap_meaning.specs.Statements.{run, test_of, update_of, loop}
 use Rattle.wap_coding.specs.Statements.{writes, changed_code, effect_code, stmt_code_by, stmt_code}
 use Rattle.wap_coding.specs.Statements.{declared_code, test_code, update_code, dropped_code}
 use Rattle.wap_coding.specs.Statements.{loop_code}
-use Rattle.wap_coding.specs.Coded.{with_operand, Coded, ◌⨾◌, empty, plain}
+use Rattle.wap_coding.specs.Coded.{Exits, with_operand, Coded, ◌⨾◌, empty, plain}
 use Rattle.wap_statements.proofs.Adding.{adding_piece, spares}
 use Rattle.wap_statements.proofs.Statements.{leaves, Runs, empty_runs, runs_both, AllRun, all_run}
 use Rattle.wap_statements.proofs.Statements.{dropped_runs, declared_runs, empty_agrees}
@@ -30,14 +30,14 @@ use Rattle.wap_statements.proofs.Statements.{choice_runs}
 use Rattle.wap_program.specs.declared.statement.Stmt.{Stmt, roll-Stmt, map-Stmt}
 use Rattle.wap_program.specs.declared.statement.Stmt.TheOpen.{Stmt-F}
 use Rattle.wap_program.specs.declared.statement.Stmt.TheFolds.{fold-roll-Stmt, ind-Stmt}
-use Rattle.wap_meaning.specs.Parts.{Does, give}
+use Rattle.wap_meaning.specs.Parts.{Came, gave, over, Does, from, give, done}
 use Rattle.wap_meaning.specs.Names.{variable_at}
 use Rattle.std.specs.Prelude.{if◌then◌else◌}
 use Rattle.wap_coding.specs.Constants.{Numbers}
 use Rattle.wap_coding.specs.Expressions.{expr_code}
 use Rattle.wap_meaning.proofs.Following.{keeps_both}
-use Rattle.wap_pieces.proofs.Pieces.{sized_both, Site, spot, onto, Piece, both}
-use Rattle.wap_pieces.proofs.Instructions.{as_is, pushed, nothing, pop_unit}
+use Rattle.wap_pieces.proofs.Pieces.{sized_both, Site, spot, onto, Piece}
+use Rattle.wap_pieces.proofs.Instructions.{as_is, nothing}
 use Rattle.wap_agreement.proofs.Agreeing.{Agrees}
 use Rattle.wap_meaning.proofs.Steps.{give_keeps}
 use Rattle.wap_agreement.proofs.Expressions.{around, Met, met_front, met_back, agrees}
@@ -189,6 +189,13 @@ module _ {S : Type 0} (site : Site S) (numbers : Numbers)
   condition_tests (Some e) met =
       one_test site (eval here e) (expr_code numbers e) (expr_agrees e met)
 
+  -- an expression that is a statement leaves nothing behind, and goes on
+  dropped_same : (exits : Exits) (next : ℕ) (operands : List Value) (came : Came Value S)
+      → done (from came (λ v. give goes_on)) (leaves site exits next operands)
+      ≡ done (from came (λ v. give (tt {0}))) (onto site nothing exits next operands)
+  dropped_same exits next operands (gave v vs left later) = refl
+  dropped_same exits next operands (over end) = refl
+
   -- the update of a `for`
   given_updates : (update : Option Expr) → IsMet (optional_needs update)
       → Updates site (update_of here update) (update_code numbers update)
@@ -202,12 +209,17 @@ module _ {S : Type 0} (site : Site S) (numbers : Numbers)
     };
   }
   given_updates (Some e) met =
-      let agree = expr_agrees e met in
+      let runs = effect_runs (out-Expr e) e (roll-out-Expr e) met in
+      let size = (effect_code numbers (out-Expr e) (expr_code numbers e)).size in
       record {
-        sized = sized_both (expr_code numbers e) (plain op.Pop) agree.sized (λ exits i. refl);
-        falls = keeps_both (eval here e) (λ v. give tt) agree.falls (λ v. give_keeps (tt {0}));
-        piece = both site (eval here e) (λ v. give tt) (expr_code numbers e) (plain op.Pop) as_is
-            pushed (onto site nothing) agree.sized agree.falls agree.piece (pop_unit site);
+        sized = runs.sized;
+        falls = keeps_both (eval here e) (λ v. give tt) (expr_agrees e met).falls
+            (λ v. give_keeps (tt {0}));
+        piece = record {
+          follows = λ exits i reach holds variables fits operands turns state.
+              runs.piece.follows exits i reach holds variables fits operands turns state
+              ∙ dropped_same exits (i + size) operands (eval here e variables turns state);
+        };
       }
 
   -- ---- statements

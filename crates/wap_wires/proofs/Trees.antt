@@ -412,7 +412,7 @@ module _ (unit : CodeUnit) (numbers : Numbers) (forms : List Form) where
   update_tied : (update : Option Expr) → Met (optional_needs update)
       → Tied (update_code numbers update)
   update_tied None met = wires_empty Ranged forms
-  update_tied (Some e) met = dropped_tied (expr_code numbers e) (expr_tied e met)
+  update_tied (Some e) met = effect_tied (out-Expr e) e (roll-out-Expr e) met
 
   -- it is so of a statement by its parts
   abbrev StmtLayer : Stmt-F Stmt → Type 0
