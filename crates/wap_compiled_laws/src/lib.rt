@@ -1,0 +1,49 @@
+//! Laws of the units that programs are compiled to, each the contract of a function that does
+//! nothing. Which units these are stands in `wap_compiled`.
+#![tactic(auto)]
+
+ghost use Rattle.std.specs.Prelude.{◌≤◌, ℕ, List, length};
+ghost use Rattle.std.specs.List.{All};
+ghost use Rattle.wap_program.specs.declared.program.Program.{Program as TheProgram};
+ghost use Rattle.wap_scope.specs.Scoped.{IsScoped};
+ghost use Rattle.wap_coding.specs.Compiled.{IsCompiled};
+ghost use Rattle.wap_verify.specs.Sound.{IsVerified};
+ghost use Rattle.wap_compiled.specs.Pool.{pool};
+ghost use Rattle.wap_compiled.specs.Units.{compiled};
+ghost use Rattle.wap_compiled.specs.Accepted.{IsSourceOf, IsAccepted, most_constants};
+ghost use Rattle.wap_compiled_laws.specs.Laws.{HasForms, HasCode, AgreeWithSources};
+
+/// What the states of a host are.
+pub trait HostStates {
+    ghost State: { Type 0 };
+}
+
+/// Where the constants of a program have room, the forms of its functions may be placed, and their
+/// wide size is told from them.
+pub fn forms_may_be_placed()
+    ensures { (source : List ℕ) (p : TheProgram) → IsSourceOf source p → IsScoped p
+        → length (pool p) ≤ most_constants → All (HasForms p) p.functions }
+{}
+
+/// Each function of an accepted program has the shortest code, and no more than its wide size.
+pub fn code_is_short()
+    ensures { (source : List ℕ) (p : TheProgram) → IsAccepted source p
+        → All (HasCode p) p.functions }
+{}
+
+/// The unit of an accepted program is one that the program is compiled to.
+pub fn accepted_programs_are_compiled()
+    ensures { (source : List ℕ) (p : TheProgram) → IsAccepted source p
+        → IsCompiled p (compiled p) }
+{}
+
+/// It means what its source means.
+pub fn compiled_programs_agree<H: HostStates>()
+    ensures { AgreeWithSources H.State }
+{}
+
+/// It may be run.
+pub fn compiled_programs_are_verified()
+    ensures { (source : List ℕ) (p : TheProgram) → IsAccepted source p
+        → IsVerified (compiled p) }
+{}
