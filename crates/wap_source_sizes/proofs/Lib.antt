@@ -1,0 +1,4 @@
+pub mod Strings
+pub mod Tokens
+pub mod Sizes
+pub mod Weights
