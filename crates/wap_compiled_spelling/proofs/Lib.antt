@@ -1,0 +1,5 @@
+pub mod Written
+pub mod Bytes
+pub mod Units
+pub mod Distinct
+pub mod Accepted
