@@ -1,0 +1,6 @@
+mod Numbered
+mod Parts
+mod Pooling
+mod Declared
+pub mod Once
+mod Needed

@@ -1,0 +1,4 @@
+pub mod Contents
+pub mod Pools
+pub mod Leaves
+pub mod Declaring
