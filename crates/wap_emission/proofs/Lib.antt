@@ -3,7 +3,6 @@ mod Chaining
 mod Effects
 mod Extending
 mod Looping
-mod Numbered
 mod Parts
 mod StatementParts
 mod WritingParts

@@ -1,5 +1,4 @@
 pub mod Adding
-pub mod Contents
 pub mod Exits
 pub mod Loops
 pub mod Operands

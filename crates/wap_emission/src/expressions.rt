@@ -11,12 +11,12 @@ ghost use Rattle.wap_emission.specs.inside.Adding.{Extends};
 ghost use Rattle.wap_emission.specs.inside.Operands.{before_code, after_code, Begins, Ends, Chains};
 
 use crate::forms::{add_label, add_op, add_plain, add_with, close, open};
-use crate::numbering::Numbering;
 use crate::operators::{Joint, binary_name, change_name, joint_of, truth_name};
 use std::alloc::Global;
 use wap_asm::{Form, lib_named};
 use wap_base::{NoMemory, Text};
 use wap_code::OpName;
+use wap_pool::Numbering;
 use wap_program::{Expr, Id, Literal};
 use wap_value::{BinOp, UnOp};
 

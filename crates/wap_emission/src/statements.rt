@@ -15,12 +15,12 @@ ghost use Rattle.wap_emission.specs.inside.Loops.{Tests, closed, change_of, name
 use crate::exits::{BREAK, CONTINUE, redirect};
 use crate::expressions::add_expression;
 use crate::forms::{add, add_label, add_plain, add_with, close, open};
-use crate::numbering::Numbering;
 use crate::writing::writes;
 use std::alloc::Global;
 use wap_asm::Form;
 use wap_base::NoMemory;
 use wap_code::OpName;
+use wap_pool::Numbering;
 use wap_program::{Expr, Function, Id, Stmt};
 use wap_value::BinOp;
 

@@ -3,7 +3,7 @@ ghost use Rattle.std.specs.Prelude.{◌≡◌};
 ghost use Rattle.std.specs.List.{list_any};
 ghost use Rattle.wap_coding.specs.Statements.{writes};
 
-use crate::numbering::Numbering;
+use wap_pool::Numbering;
 use wap_program::Expr;
 use wap_value::BinOp;
 

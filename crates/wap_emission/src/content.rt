@@ -1,9 +1,0 @@
-//! What constants hold.
-use wap_base::Text;
-
-/// What a constant holds: an integer or a text.
-#[derive(Debug, Drop, PartialEq, Eq, Hash)]
-pub enum Content {
-    Integer(i32),
-    Text(Text),
-}
