@@ -1,39 +1,28 @@
--- Programs of sources among the scripts of a browser, each with the unit that it is compiled to.
--- This project's own.
-use Rattle.std.specs.Prelude.{◌≡◌, ℕ, List, Option}
+-- Programs of sources among the scripts of a browser. This project's own.
+use Rattle.std.specs.Prelude.{ℕ, List}
 use Rattle.wap_code.specs.declared.unit.Unit.{Unit as CodeUnit}
 use Rattle.wap_program.specs.declared.program.Program.{Program}
 use Rattle.wap_meaning.specs.Functions.{program_runs}
-use Rattle.wap_coding.specs.Compiled.{IsCompiled}
-use Rattle.wap_world.specs.Shelves.{Entrance}
-use Rattle.wap_world.specs.Sites.{External}
-use Rattle.wap_scripting.specs.Units.{entrance_in, external_in}
+use Rattle.wap_compiled.specs.Units.{compiled}
+use Rattle.wap_compiled.specs.Accepted.{IsAccepted}
 use Rattle.wap_scripting.specs.Sources.{LanguageOf}
+use Rattle.wap_source_sites.specs.Entrances.{entrance, external}
 
--- who may call a program, and its external functions by their names
-pub record Outsides : Type 0 where
-  pub entrance : Program → Option Entrance
-  pub external : Program → List ℕ → Option External
+-- a source that is accepted, and its program
+pub record Accepted : Type 0 where
+  pub source : List ℕ
+  pub program : Program
+  pub is : IsAccepted source program
 
-module _ (outsides : Outsides) where
-  -- a program with a unit that it is compiled to, which lets the same in and has the same external
-  -- functions
-  pub record Compiled : Type 0 where
-    pub source : Program
-    pub unit : CodeUnit
-    pub is : IsCompiled source unit
-    pub entrances : entrance_in unit ≡ outsides.entrance source
-    pub names : (name : List ℕ) → external_in unit name ≡ outsides.external source name
+-- what these programs are to a browser: their functions come to what the sources mean
+abbrev pub programs : LanguageOf Accepted
+programs = record {
+  runs = λ string call one index arguments turns step.
+      program_runs string call one.program index arguments turns step;
+  entrance = λ one. entrance one.program;
+  external = λ one name. external one.program name;
+}
 
-  -- what these programs are to a browser: their functions come to what the sources mean
-  abbrev pub programs : LanguageOf Compiled
-  programs = record {
-    runs = λ string call one index arguments turns step.
-        program_runs string call one.source index arguments turns step;
-    entrance = λ one. outsides.entrance one.source;
-    external = λ one name. outsides.external one.source name;
-  }
-
-  -- the unit of a program
-  abbrev pub unit_of : Compiled → CodeUnit
-  unit_of one = one.unit
+-- the unit that a program is compiled to
+abbrev pub unit_of : Accepted → CodeUnit
+unit_of one = compiled one.program

@@ -4,5 +4,4 @@ use Rattle.wap_source_sites.proofs.Agreed.{unit_agrees}
 use Rattle.wap_source_sites.proofs.denied_programs_do_not_matter.Goals as goal
 
 pub returns : goal.returns
-returns c = λ outsides.
-    denied_sources (programs outsides) (unit_of outsides) (unit_agrees outsides)
+returns c = denied_sources programs unit_of unit_agrees

@@ -4,5 +4,4 @@ use Rattle.wap_source_sites.proofs.Agreed.{unit_agrees}
 use Rattle.wap_source_sites.proofs.programs_may_be_compiled.Goals as goal
 
 pub returns : goal.returns
-returns c = λ outsides call pages.
-    replaces (programs outsides) (unit_of outsides) (unit_agrees outsides) pages call
+returns c = λ call pages. replaces programs unit_of unit_agrees pages call
