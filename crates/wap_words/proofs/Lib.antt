@@ -5,4 +5,4 @@ mod Turns
 mod Simulation
 mod TextLaws
 mod Parsing
-pub mod Ranges
+mod Ranges

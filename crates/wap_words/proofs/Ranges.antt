@@ -1,22 +1,36 @@
--- How many pages a command that browses may keep.
-use Rattle.std.proofs.Common.{◌≡◌, ◌⊎◌, ℕ, ◌≤◌, Bool, true, false, List, [], ◌∷◌, map}
-use Rattle.std.proofs.Common.{Option, Some, None, inl, inr, refl, ap, subst, lit≤}
-use Rattle.std.specs.Prelude.{◌&&◌, nat_lt, nat_le, length, option_and_then, encode_utf8_all, codes}
+-- The numbers of a command that words are.
+use Rattle.std.proofs.Common.{◌≡◌, ◌⊎◌, ℕ, ◌≤◌, Bool, true, false, List}
+use Rattle.std.proofs.Common.{Option, Some, None, inl, inr, refl, sym, subst, lit≤}
+use Rattle.std.specs.Prelude.{◌&&◌, nat_lt, nat_le, length, option_and_then, codes}
+use Rattle.std.specs.Prelude.{IfSome}
 use Rattle.std.specs.List.{list_all}
 use Rattle.std.specs.Char.{is_ascii_digit}
 use Rattle.std.specs.Str.Parse.{digits_value}
 use Rattle.std.proofs.lemmas.Bool.{ltb-false, leb-true}
 use Rattle.wap_base.proofs.Choices.{chosen, some_same}
+use Rattle.wap_base.specs.Limits.{AreInRange}
+use Rattle.wap_base.specs.declared.limits.Limits.{Limits}
+use Rattle.wap_base.specs.declared.limits.TheConstants.{DEFAULT_STRING, LEAST_STRING, MOST_STRING}
+use Rattle.wap_base.specs.declared.limits.TheConstants.{DEFAULT_HISTORY, LEAST_HISTORY}
+use Rattle.wap_base.specs.declared.limits.TheConstants.{MOST_HISTORY, DEFAULT_DEPTH, LEAST_DEPTH}
+use Rattle.wap_base.specs.declared.limits.TheConstants.{MOST_DEPTH}
 use Rattle.wap_keys.specs.Decimal.{decimal_of}
-use Rattle.wap_words.specs.declared.words.Browse.{Browse as Browsing}
-use Rattle.wap_words.specs.declared.words.Command.TheVariants.{Browse}
+use Rattle.wap_words.specs.declared.numbers.TheConstants.{DEFAULT_SEED, LEAST_BUDGET}
+use Rattle.wap_words.specs.declared.numbers.TheConstants.{DEFAULT_BUDGET, LEAST_CACHE, MOST_CACHE}
+use Rattle.wap_words.specs.declared.numbers.TheConstants.{DEFAULT_CACHE, LEAST_WORKERS}
+use Rattle.wap_words.specs.declared.numbers.TheConstants.{MOST_WORKERS, DEFAULT_WORKERS}
+use Rattle.wap_words.specs.declared.words.Command.{Command}
 use Rattle.wap_words.specs.declared.words.PageCommand.{PageCommand}
 use Rattle.wap_words.specs.declared.word.Word.{Word}
 use Rattle.wap_words.specs.declared.word.Word.TheVariants as word
+use Rattle.wap_words.specs.Ranges.{HasRanges}
 use Rattle.wap_words.specs.Reading.{uses_of, text_of}
-use Rattle.wap_words.specs.Words.{at_least, number_of, browse_form, browse_by, browse_of, page_form}
-use Rattle.wap_words.specs.Words.{page_by, page_of, word_named, command_by, command}
+use Rattle.wap_words.specs.Words.{at_least, number_of, greatest_number, limits_by, browse_form}
+use Rattle.wap_words.specs.Words.{browse_with, browse_by, browse_of, page_form, page_by, page_of}
+use Rattle.wap_words.specs.Words.{prepare_form, prepare_by, prepare_of, make_by, make_of}
+use Rattle.wap_words.specs.Words.{command_by}
 
+-- what is there after a step was there before it
 bound_some : {A B : Type 0} (o : Option A) (next : A → Option B) (y : B)
     → option_and_then next o ≡ Some y → (x : A) × (next x ≡ Some y) × (o ≡ Some x)
 bound_some None next y e = absurd cc
@@ -26,6 +40,7 @@ both : (a b : Bool) → (a && b) ≡ true → b ≡ true
 both true b e = e
 both false b e = absurd cc
 
+-- a number that is read is at most the greatest
 decimal_range : (greatest : ℕ) (digits : List ℕ) (n : ℕ) → decimal_of greatest digits ≡ Some n
     → n ≤ greatest
 decimal_range greatest digits n e = by_tests (chosen _ _ _ _ e)
@@ -47,6 +62,7 @@ decimal_range greatest digits n e = by_tests (chosen _ _ _ _ e)
         && (list_all is_ascii_digit digits && nat_le value greatest)) so))))
     by_tests (inr (so, is)) = absurd cc
 
+-- one that is not below the least is the same number
 least_range : (least n m : ℕ) → at_least least n ≡ Some m → (n ≡ m) × (least ≤ m)
 least_range least n m e = by_test (chosen _ _ _ _ e)
   where
@@ -71,43 +87,95 @@ number_range least greatest default (Some digits) n low high e =
     let (same, some) = least_range least m n at in
     (some, subst (λ (k : ℕ). k ≤ greatest) same (decimal_range greatest digits m is))
 
-browse_same : (a b : Browsing) → Some (Browse a) ≡ Some (Browse b) → a ≡ b
-browse_same a b e = cc
-
 -- ---- commands
 
-abbrev IsCapacity : ℕ → Type 0
-IsCapacity cache = (1 ≤ cache) × (cache ≤ 256)
+-- limits that are read
+limits_range : (string history depth : Option (List ℕ)) (limits : Limits)
+    → limits_by string history depth ≡ Some limits → AreInRange limits
+limits_range string history depth limits e =
+    let (s, e1, is1) = bound_some (number_of LEAST_STRING MOST_STRING DEFAULT_STRING string) _ _ e in
+    let (h, e2, is2) =
+    bound_some (number_of LEAST_HISTORY MOST_HISTORY DEFAULT_HISTORY history) _ _ e1 in
+    let (d, e3, is3) = bound_some (number_of LEAST_DEPTH MOST_DEPTH DEFAULT_DEPTH depth) _ _ e2 in
+    subst AreInRange (some_same _ limits e3) (record {
+      string =
+          number_range LEAST_STRING MOST_STRING DEFAULT_STRING string s (lit≤ tt) (lit≤ tt) is1;
+      history =
+          number_range LEAST_HISTORY MOST_HISTORY DEFAULT_HISTORY history h (lit≤ tt) (lit≤ tt) is2;
+      depth = number_range LEAST_DEPTH MOST_DEPTH DEFAULT_DEPTH depth d (lit≤ tt) (lit≤ tt) is3;
+    })
 
-browse_range : (url seed budget cache : Option (List ℕ)) (one : Browsing)
-    → browse_by url seed budget cache ≡ Some (Browse one) → IsCapacity one.cache
-browse_range url seed budget cache one e =
+-- the command `browse`
+browse_range : (url seed budget cache string history depth : Option (List ℕ)) (said : Command)
+    → browse_by url seed budget cache (limits_by string history depth) ≡ Some said
+    → HasRanges said
+browse_range url seed budget cache string history depth said e =
     let (text, e1, is1) = bound_some url _ _ e in
-    let (start, e2, is2) = bound_some (number_of 0 4294967295 0 seed) _ _ e1 in
-    let (turns, e3, is3) = bound_some (number_of 1 4294967295 100000 budget) _ _ e2 in
-    let (kept, e4, is4) = bound_some (number_of 1 256 16 cache) _ _ e3 in
-    subst IsCapacity (ap (λ (b : Browsing). b.cache) (browse_same _ one e4))
-    (number_range 1 256 16 cache kept (lit≤ tt) (lit≤ tt) is4)
+    let (start, e2, is2) = bound_some (number_of 0 greatest_number DEFAULT_SEED seed) _ _ e1 in
+    let (turns, e3, is3) =
+    bound_some (number_of LEAST_BUDGET greatest_number DEFAULT_BUDGET budget) _ _ e2 in
+    let (kept, e4, is4) =
+    bound_some (number_of LEAST_CACHE MOST_CACHE DEFAULT_CACHE cache) _ _ e3 in
+    let (limits, e5, is5) = bound_some (limits_by string history depth) _ _ e4 in
+    let pages = number_range LEAST_CACHE MOST_CACHE DEFAULT_CACHE cache kept (lit≤ tt) (lit≤ tt)
+    is4 in
+    subst HasRanges (some_same (browse_with start turns kept limits text) said e5) (record {
+      some_turns = (number_range LEAST_BUDGET greatest_number DEFAULT_BUDGET budget turns
+          (lit≤ tt) (lit≤ tt) is3).0;
+      some_pages = pages.0;
+      few_pages = pages.1;
+      limits = limits_range string history depth limits is5;
+    })
 
-page_is_none : (on : PageCommand) (name : Option (List ℕ)) (one : Browsing)
-    → page_by on name ≡ Some (Browse one) → ⊥
-page_is_none on None one e = absurd cc
-page_is_none on (Some name) one e = absurd cc
+-- a command on one page, which has no number
+page_range : (on : PageCommand) (name : Option (List ℕ)) (said : Command)
+    → page_by on name ≡ Some said → HasRanges said
+page_range on None said e = absurd cc
+page_range on (Some name) said e = subst HasRanges (some_same _ said e) tt
 
-command_range : (said : Word) (words : List (List ℕ)) (one : Browsing)
-    → command_by said words ≡ Some (Browse one) → IsCapacity one.cache
-command_range word.Browse words one e =
-    let (uses, said, is) = bound_some (uses_of browse_form words) browse_of (Browse one) e in
+-- the command `prepare`
+prepare_range : (surplus workers : Option (List ℕ)) (said : Command)
+    → prepare_by surplus workers ≡ Some said → HasRanges said
+prepare_range (Some surplus) workers said e = absurd cc
+prepare_range None workers said e =
+    let (count, e1, is1) =
+    bound_some (number_of LEAST_WORKERS MOST_WORKERS DEFAULT_WORKERS workers) _ _ e in
+    let (some, few) = number_range LEAST_WORKERS MOST_WORKERS DEFAULT_WORKERS workers count
+    (lit≤ tt) (lit≤ tt) is1 in
+    subst HasRanges (some_same _ said e1) (record { some = some; few = few })
+
+-- the command `make`, whose number may be any
+make_range : (number : Option (List ℕ)) (said : Command) → make_by number ≡ Some said
+    → HasRanges said
+make_range number said e =
+    let (digits, e1, is1) = bound_some number _ _ e in
+    let (n, e2, is2) = bound_some (decimal_of greatest_number digits) _ _ e1 in
+    subst HasRanges (some_same _ said e2) tt
+
+-- any command
+range_by : (begun : Word) (words : List (List ℕ)) (said : Command)
+    → command_by begun words ≡ Some said → HasRanges said
+range_by word.Browse words said e =
+    let (uses, by, is) = bound_some (uses_of browse_form words) browse_of said e in
     browse_range (text_of (codes "url") uses) (text_of (codes "seed") uses)
-    (text_of (codes "budget") uses) (text_of (codes "cache") uses) one said
-command_range (word.Page on) words one e =
-    let (uses, said, is) = bound_some (uses_of page_form words) (page_of on) (Browse one) e in
-    absurd (page_is_none on (text_of (codes "name") uses) one said)
+    (text_of (codes "budget") uses) (text_of (codes "cache") uses) (text_of (codes "string") uses)
+    (text_of (codes "history") uses) (text_of (codes "depth") uses) said by
+range_by (word.Page on) words said e =
+    let (uses, by, is) = bound_some (uses_of page_form words) (page_of on) said e in
+    page_range on (text_of (codes "name") uses) said by
+range_by word.Prepare words said e =
+    let (uses, by, is) = bound_some (uses_of prepare_form words) prepare_of said e in
+    prepare_range (text_of (codes "surplus") uses) (text_of (codes "workers") uses) said by
+range_by word.Make words said e =
+    let (uses, by, is) = bound_some (uses_of page_form words) make_of said e in
+    make_range (text_of (codes "name") uses) said by
 
-pub cache_range : (words : List (List ℕ)) (one : Browsing) → command words ≡ Some (Browse one)
-    → (1 ≤ one.cache) × (one.cache ≤ 256)
-cache_range [] one e = absurd cc
-cache_range (name ∷ words) one e =
-    let (said, by, is) = bound_some (word_named (encode_utf8_all name))
-    (λ w. command_by w (map encode_utf8_all words)) (Browse one) e in
-    command_range said (map encode_utf8_all words) one by
+range_of : (begun : Word) (words : List (List ℕ)) (said : Option Command)
+    → command_by begun words ≡ said → IfSome said HasRanges
+range_of begun words None e = tt
+range_of begun words (Some said) e = range_by begun words said e
+
+-- a command or none, as it is read
+pub read_range : (begun : Word) (words : List (List ℕ)) (said : Option Command)
+    → said ≡ command_by begun words → IfSome said HasRanges
+read_range begun words said e = range_of begun words said (sym e)

@@ -5,7 +5,8 @@ use Rattle.std.specs.Borrow.{Bor}
 use Rattle.std.proofs.lemmas.List.{take_more, map-append}
 use Rattle.clap.specs.declared.parser.matches.ArgMatches.{ArgMatches}
 use Rattle.wap_words.specs.declared.words.PageCommand.{PageCommand}
-use Rattle.wap_words.specs.Words.{browse_by, browse_of, page_by, page_of}
+use Rattle.wap_words.specs.Words.{limits_by, browse_by, browse_of, page_by, page_of}
+use Rattle.wap_words.specs.Words.{prepare_by, prepare_of, make_by, make_of}
 use Rattle.std.specs.Prelude.{encode_utf8_all, option_map, find, slice_get, option_and_then}
 use Rattle.std.specs.Prelude.{Option, Bool, true, false, Some, map, cond}
 use Rattle.std.specs.Str.{IsUtf8, bytes_eq}
@@ -76,19 +77,37 @@ text_given : (m : ArgMatches) (uses : List Use) (name : Text) → HasUses m uses
     → text_in m name ≡ text_of name uses
 text_given m uses name has = ap (first_of name) has ∙ first_text name uses
 
+limits_given : (m : ArgMatches) (given : List Use) → HasUses m given
+    → limits_by (text_in m (codes "string")) (text_in m (codes "history"))
+    (text_in m (codes "depth"))
+    ≡ limits_by (text_of (codes "string") given) (text_of (codes "history") given)
+    (text_of (codes "depth") given)
+limits_given m given has =
+    ap (λ (string : Option Text). limits_by string (text_in m (codes "history"))
+    (text_in m (codes "depth"))) (text_given m given (codes "string") has)
+    ∙ ap (λ (history : Option Text). limits_by (text_of (codes "string") given) history
+    (text_in m (codes "depth"))) (text_given m given (codes "history") has)
+    ∙ ap (limits_by (text_of (codes "string") given) (text_of (codes "history") given))
+    (text_given m given (codes "depth") has)
+
 pub browse_given : (m : ArgMatches) (uses : Option (List Use)) → AreMatched (Some m) uses
     → browse_by (text_in m (codes "url")) (text_in m (codes "seed")) (text_in m (codes "budget"))
-    (text_in m (codes "cache"))
+    (text_in m (codes "cache")) (limits_by (text_in m (codes "string"))
+    (text_in m (codes "history")) (text_in m (codes "depth")))
     ≡ option_and_then browse_of uses
 browse_given m uses (given, is, has) =
+    let limits = limits_by (text_in m (codes "string")) (text_in m (codes "history"))
+    (text_in m (codes "depth")) in
     ap (λ (url : Option Text). browse_by url (text_in m (codes "seed")) (text_in m (codes "budget"))
-    (text_in m (codes "cache"))) (text_given m given (codes "url") has)
+    (text_in m (codes "cache")) limits) (text_given m given (codes "url") has)
     ∙ ap (λ (seed : Option Text). browse_by (text_of (codes "url") given) seed (text_in m
-    (codes "budget")) (text_in m (codes "cache"))) (text_given m given (codes "seed") has)
+    (codes "budget")) (text_in m (codes "cache")) limits) (text_given m given (codes "seed") has)
     ∙ ap (λ (budget : Option Text). browse_by (text_of (codes "url") given) (text_of (codes "seed")
-    given) budget (text_in m (codes "cache"))) (text_given m given (codes "budget") has)
+    given) budget (text_in m (codes "cache")) limits) (text_given m given (codes "budget") has)
+    ∙ ap (λ (cache : Option Text). browse_by (text_of (codes "url") given) (text_of (codes "seed")
+    given) (text_of (codes "budget") given) cache limits) (text_given m given (codes "cache") has)
     ∙ ap (browse_by (text_of (codes "url") given) (text_of (codes "seed") given)
-    (text_of (codes "budget") given)) (text_given m given (codes "cache") has)
+    (text_of (codes "budget") given) (text_of (codes "cache") given)) (limits_given m given has)
     ∙ sym (ap (option_and_then browse_of) is)
 
 pub page_given : (on : PageCommand) (m : ArgMatches) (uses : Option (List Use))
@@ -97,3 +116,17 @@ pub page_given : (on : PageCommand) (m : ArgMatches) (uses : Option (List Use))
 page_given on m uses (given, is, has) =
     ap (page_by on) (text_given m given (codes "name") has)
     ∙ sym (ap (option_and_then (page_of on)) is)
+
+pub prepare_given : (m : ArgMatches) (uses : Option (List Use)) → AreMatched (Some m) uses
+    → prepare_by (text_in m (codes "surplus")) (text_in m (codes "workers"))
+    ≡ option_and_then prepare_of uses
+prepare_given m uses (given, is, has) =
+    ap (λ (surplus : Option Text). prepare_by surplus (text_in m (codes "workers")))
+    (text_given m given (codes "surplus") has)
+    ∙ ap (prepare_by (text_of (codes "surplus") given)) (text_given m given (codes "workers") has)
+    ∙ sym (ap (option_and_then prepare_of) is)
+
+pub make_given : (m : ArgMatches) (uses : Option (List Use)) → AreMatched (Some m) uses
+    → make_by (text_in m (codes "name")) ≡ option_and_then make_of uses
+make_given m uses (given, is, has) =
+    ap make_by (text_given m given (codes "name") has) ∙ sym (ap (option_and_then make_of) is)

@@ -3,7 +3,16 @@ use Rattle.std.specs.Prelude.{ℕ, nat_lt, if◌then◌else◌, List, [], ◌∷
 use Rattle.std.specs.Prelude.{None, option_and_then, encode_utf8_all, codes}
 use Rattle.std.specs.Map.{lookup}
 use Rattle.std.specs.Str.{bytes_eq, chars}
+use Rattle.wap_base.specs.declared.limits.Limits.{Limits}
+use Rattle.wap_base.specs.declared.limits.TheConstants.{DEFAULT_STRING, LEAST_STRING, MOST_STRING}
+use Rattle.wap_base.specs.declared.limits.TheConstants.{DEFAULT_HISTORY, LEAST_HISTORY}
+use Rattle.wap_base.specs.declared.limits.TheConstants.{MOST_HISTORY, DEFAULT_DEPTH, LEAST_DEPTH}
+use Rattle.wap_base.specs.declared.limits.TheConstants.{MOST_DEPTH}
 use Rattle.wap_keys.specs.Decimal.{decimal_of}
+use Rattle.wap_words.specs.declared.numbers.TheConstants.{DEFAULT_SEED, LEAST_BUDGET}
+use Rattle.wap_words.specs.declared.numbers.TheConstants.{DEFAULT_BUDGET, LEAST_CACHE, MOST_CACHE}
+use Rattle.wap_words.specs.declared.numbers.TheConstants.{DEFAULT_CACHE, LEAST_WORKERS}
+use Rattle.wap_words.specs.declared.numbers.TheConstants.{MOST_WORKERS, DEFAULT_WORKERS}
 use Rattle.wap_words.specs.declared.words.Command.{Command}
 use Rattle.wap_words.specs.declared.words.Command.TheVariants as command_is
 use Rattle.wap_words.specs.declared.words.PageCommand.{PageCommand}
@@ -29,36 +38,57 @@ number_of least greatest default None = Some default
 number_of least greatest default (Some digits) =
     option_and_then (at_least least) (decimal_of greatest digits)
 
+-- the greatest number of 32 bits
+abbrev pub greatest_number : ℕ
+greatest_number = 4294967295
+
 -- ---- browse
 
--- the words of `browse`: a URL, and three options
+-- the words of `browse`: a URL, and six options
 abbrev pub browse_form : Form
 browse_form = record {
   positional = codes "url";
-  options = codes "seed" ∷ codes "budget" ∷ codes "cache" ∷ [];
+  options =
+      codes "seed" ∷ codes "budget" ∷ codes "cache" ∷ codes "string" ∷ codes "history"
+      ∷ codes "depth" ∷ [];
 }
 
--- the command of these values
-abbrev pub browse_with : ℕ → ℕ → ℕ → List ℕ → Command
-browse_with seed budget cache url =
-    command_is.Browse (record { url = chars url; seed = seed; budget = budget; cache = cache })
+-- the limits of a run, each in its range
+abbrev pub limits_by : Option (List ℕ) → Option (List ℕ) → Option (List ℕ) → Option Limits
+limits_by string history depth = do
+  string ← number_of LEAST_STRING MOST_STRING DEFAULT_STRING string
+  history ← number_of LEAST_HISTORY MOST_HISTORY DEFAULT_HISTORY history
+  depth ← number_of LEAST_DEPTH MOST_DEPTH DEFAULT_DEPTH depth
+  Some (record { string = string; history = history; depth = depth })
 
--- the URL, and the seed from 0 to 4294967295, the budget from 1 to 4294967295 and the cache from 1
--- to 256
+-- the command of these values
+abbrev pub browse_with : ℕ → ℕ → ℕ → Limits → List ℕ → Command
+browse_with seed budget cache limits url = command_is.Browse (record {
+  url = chars url;
+  seed = seed;
+  budget = budget;
+  cache = cache;
+  limits = limits;
+})
+
+-- the URL, the seed, the turns of a key, the pages that are kept, and the limits
 abbrev pub browse_by : Option (List ℕ) → Option (List ℕ) → Option (List ℕ) → Option (List ℕ)
-    → Option Command
-browse_by url seed budget cache = do
+    → Option Limits → Option Command
+browse_by url seed budget cache limits = do
   url ← url
-  seed ← number_of 0 4294967295 0 seed
-  budget ← number_of 1 4294967295 100000 budget
-  cache ← number_of 1 256 16 cache
-  Some (browse_with seed budget cache url)
+  seed ← number_of 0 greatest_number DEFAULT_SEED seed
+  budget ← number_of LEAST_BUDGET greatest_number DEFAULT_BUDGET budget
+  cache ← number_of LEAST_CACHE MOST_CACHE DEFAULT_CACHE cache
+  limits ← limits
+  Some (browse_with seed budget cache limits url)
 
 -- the command of what was given
 abbrev pub browse_of : List Use → Option Command
 browse_of uses =
     browse_by (text_of (codes "url") uses) (text_of (codes "seed") uses)
     (text_of (codes "budget") uses) (text_of (codes "cache") uses)
+    (limits_by (text_of (codes "string") uses) (text_of (codes "history") uses)
+    (text_of (codes "depth") uses))
 
 -- ---- commands on one page
 
@@ -76,6 +106,36 @@ page_by on name = do
 abbrev pub page_of : PageCommand → List Use → Option Command
 page_of on uses = page_by on (text_of (codes "name") uses)
 
+-- ---- prepare
+
+-- the words of `prepare`: an option, and a positional that may not be given
+abbrev pub prepare_form : Form
+prepare_form = record { positional = codes "surplus"; options = codes "workers" ∷ [] }
+
+-- how many workers share the pages
+abbrev pub prepare_by : Option (List ℕ) → Option (List ℕ) → Option Command
+prepare_by (Some surplus) workers = None
+prepare_by None workers = do
+  workers ← number_of LEAST_WORKERS MOST_WORKERS DEFAULT_WORKERS workers
+  Some (command_is.Prepare workers)
+
+-- the command of what was given
+abbrev pub prepare_of : List Use → Option Command
+prepare_of uses = prepare_by (text_of (codes "surplus") uses) (text_of (codes "workers") uses)
+
+-- ---- make, whose words are of the form of a command on one page
+
+-- the number of the folder
+abbrev pub make_by : Option (List ℕ) → Option Command
+make_by number = do
+  number ← number
+  number ← decimal_of greatest_number number
+  Some (command_is.Make number)
+
+-- the command of what was given
+abbrev pub make_of : List Use → Option Command
+make_of uses = make_by (text_of (codes "name") uses)
+
 -- ---- commands
 
 -- what a word says that begins a command
@@ -86,6 +146,8 @@ word_named name = lookup (bytes_eq name) (map (λ row. (row.0.now, row.1)) WORDS
 abbrev pub command_by : Word → List (List ℕ) → Option Command
 command_by word.Browse words = uses_of browse_form words >>= browse_of
 command_by (word.Page on) words = uses_of page_form words >>= page_of on
+command_by word.Prepare words = uses_of prepare_form words >>= prepare_of
+command_by word.Make words = uses_of page_form words >>= make_of
 
 -- the command that words are, with its values
 abbrev pub command : List (List ℕ) → Option Command

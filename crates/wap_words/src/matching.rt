@@ -1,15 +1,24 @@
 //! Reading words by the kit's parser of command lines.
-ghost use Rattle.std.specs.Prelude.{◌≡◌, IfOk, map, drop, option_map};
+ghost use Rattle.std.specs.Prelude.{◌≡◌, false, IfOk, map, drop, option_map, encode_utf8_all};
 ghost use Rattle.clap.specs.Simple.{app_of};
+ghost use Rattle.clap.specs.Walk.{rule_of};
 ghost use Rattle.wap_words.specs.Reading.{uses_of};
-ghost use Rattle.wap_words.specs.Words.{browse_form, page_form};
-ghost use Rattle.wap_words.specs.inside.Matching.{app_by, AreMatched, IsMatchedBy};
+ghost use Rattle.wap_words.specs.Words.{browse_form, page_form, prepare_form};
+ghost use Rattle.wap_words.specs.inside.Matching.{option_named, app_by, AreMatched, IsMatchedBy};
 ghost use Rattle.wap_words.specs.inside.Matching.{AreTexts, text_in};
 
 use clap::error::ErrorKind;
 use clap::{Arg, ArgMatches};
 use std::alloc::{AllocError, Global};
-use wap_base::NoMemory;
+use wap_base::{NoMemory, Text};
+
+/// The option of a name, which has a text.
+fn option<'a>(alloc: Global, name: &'a str) -> Arg<'a>
+    ensures rule { rule_of result ≡ option_named name.entry.now }
+    ensures own { result.global ≡ false }
+{
+    Arg::new(alloc, name).long(name)
+}
 
 /// The parser of what follows the word of `browse`.
 fn browse_parser<'a>(alloc: Global, word: &'a str) -> Result<clap::Command<'a>, AllocError>
@@ -18,9 +27,12 @@ fn browse_parser<'a>(alloc: Global, word: &'a str) -> Result<clap::Command<'a>, 
     clap::Command::new(alloc, word)
         .disable_help_flag(true)
         .arg(Arg::new(alloc, "url"))?
-        .arg(Arg::new(alloc, "seed").long("seed"))?
-        .arg(Arg::new(alloc, "budget").long("budget"))?
-        .arg(Arg::new(alloc, "cache").long("cache"))
+        .arg(option(alloc, "seed"))?
+        .arg(option(alloc, "budget"))?
+        .arg(option(alloc, "cache"))?
+        .arg(option(alloc, "string"))?
+        .arg(option(alloc, "history"))?
+        .arg(option(alloc, "depth"))
 }
 
 /// The parser of what follows the word of a command on one page.
@@ -30,6 +42,29 @@ fn page_parser<'a>(alloc: Global, word: &'a str) -> Result<clap::Command<'a>, Al
     clap::Command::new(alloc, word)
         .disable_help_flag(true)
         .arg(Arg::new(alloc, "name"))
+}
+
+/// The parser of what follows the word of `prepare`.
+fn prepare_parser<'a>(alloc: Global, word: &'a str) -> Result<clap::Command<'a>, AllocError>
+    ensures { IfOk result (λ parser. app_of parser ≡ app_by word.entry.now prepare_form) }
+{
+    clap::Command::new(alloc, word)
+        .disable_help_flag(true)
+        .arg(Arg::new(alloc, "surplus"))?
+        .arg(option(alloc, "workers"))
+}
+
+/// The words as they are parsed.
+pub(crate) fn texts_of<'a>(alloc: Global, words: &'a [Text]) -> Result<Vec<&'a str>, NoMemory>
+    ensures same { IfOk result (λ texts. map (λ text. text.now) texts.items
+        ≡ map encode_utf8_all words.entry.now) }
+    ensures texts { IfOk result (λ texts. AreTexts (map (λ text. text.now) texts.items)) }
+{
+    let mut texts = Vec::new(alloc);
+    for word in words {
+        texts.push(word.as_str())?;
+    }
+    Ok(texts)
 }
 
 /// What a parser makes of the words after the first, or none where they aren't of its form.
@@ -63,8 +98,21 @@ pub(crate) fn browse_matches<'a>(
     matches_by(browse_parser(alloc, word)?, words)
 }
 
-/// What the words after the first give for a command on one page, or none where they aren't of its
-/// form.
+/// What the words after the first give for `prepare`, or none where they aren't of its form.
+pub(crate) fn prepare_matches<'a>(
+    alloc: Global,
+    word: &'a str,
+    words: &'a [&'a str],
+) -> Result<Option<ArgMatches<'a>>, NoMemory>
+    requires { AreTexts (map (λ word. word.now) words.now) }
+    ensures { IfOk result (λ matches. AreMatched matches
+        (uses_of prepare_form (drop 1 (map (λ word. word.now) words.entry.now)))) }
+{
+    matches_by(prepare_parser(alloc, word)?, words)
+}
+
+/// What the words after the first give for a command on one page, or for `make`, or none where they
+/// aren't of its form.
 pub(crate) fn page_matches<'a>(
     alloc: Global,
     word: &'a str,

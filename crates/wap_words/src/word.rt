@@ -13,15 +13,19 @@ pub(crate) enum Word {
     Browse,
     /// One page is looked at.
     Page(PageCommand),
+    Prepare,
+    Make,
 }
 
 /// The word of each command.
-pub(crate) static WORDS: [(&str, Word); 5] = [
+pub(crate) static WORDS: [(&str, Word); 7] = [
     ("browse", Word::Browse),
     ("verify", Word::Page(PageCommand::Verify)),
     ("list", Word::Page(PageCommand::List)),
     ("check", Word::Page(PageCommand::Check)),
     ("canon", Word::Page(PageCommand::Canon)),
+    ("prepare", Word::Prepare),
+    ("make", Word::Make),
 ];
 
 /// The word beside a name.

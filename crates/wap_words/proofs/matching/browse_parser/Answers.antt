@@ -1,9 +1,8 @@
-use Rattle.std.proofs.Common.{◌≡◌, ◌∙◌, ap, ap₂, codes, rules, true}
+use Rattle.std.proofs.Common.{◌≡◌, ◌∙◌, ap, ap₂, true}
 use Rattle.std.proofs.lemmas.Result.{IfOk-weaker}
-use Rattle.clap.specs.Walk.{rule_of}
-use Rattle.clap.specs.Simple.{Shape, app_of, app_of_fields, new_app, new_rule, with_rule, on_top}
+use Rattle.clap.specs.Simple.{Shape, app_of, app_of_fields, new_app, with_rule, on_top}
 use Rattle.wap_words.specs.Words.{browse_form}
-use Rattle.wap_words.specs.inside.Matching.{option_named, app_by}
+use Rattle.wap_words.specs.inside.Matching.{app_by}
 use Rattle.wap_words.proofs.matching.browse_parser.Goals as goal
 
 pub returns : goal.returns
@@ -13,12 +12,17 @@ returns c =
     ≡ on_top (λ (s : Shape). record s { disable_help_flag = true }) (new_app word) =
     ap app_of_fields c.disable_help_flag.ensures
     ∙ ap (on_top (λ (s : Shape). record s { disable_help_flag = true })) c.new.ensures.app in
-    let url_is : rule_of c.new-2.result ≡ new_rule (codes "url") = search rules in
-    let seed_is : rule_of c.long.result ≡ option_named (codes "seed") = search rules in
-    let budget_is : rule_of c.long-2.result ≡ option_named (codes "budget") = search rules in
-    let cache_is : rule_of c.long-3.result ≡ option_named (codes "cache") = search rules in
-    let one = c.in_ok-arg.ensures.shape (search rules) ∙ ap₂ with_rule begun_is url_is in
-    let two = c.in_ok-arg-2.ensures.shape (search rules) ∙ ap₂ with_rule one seed_is in
-    let three = c.in_ok-arg-3.ensures.shape (search rules) ∙ ap₂ with_rule two budget_is in
-    IfOk-weaker c.arg-4.result _ (λ parser. app_of parser ≡ app_by word browse_form)
-    (λ parser added. added.shape (search rules) ∙ ap₂ with_rule three cache_is) c.arg-4.ensures
+    let one = c.in_ok-arg.ensures.shape c.new-2.ensures.optional.1
+    ∙ ap₂ with_rule begun_is c.new-2.ensures.rule in
+    let two = c.in_ok-arg-2.ensures.shape c.option.ensures.own
+    ∙ ap₂ with_rule one c.option.ensures.rule in
+    let three = c.in_ok-arg-3.ensures.shape c.option-2.ensures.own
+    ∙ ap₂ with_rule two c.option-2.ensures.rule in
+    let four = c.in_ok-arg-4.ensures.shape c.option-3.ensures.own
+    ∙ ap₂ with_rule three c.option-3.ensures.rule in
+    let five = c.in_ok-arg-5.ensures.shape c.option-4.ensures.own
+    ∙ ap₂ with_rule four c.option-4.ensures.rule in
+    let six = c.in_ok-arg-6.ensures.shape c.option-5.ensures.own
+    ∙ ap₂ with_rule five c.option-5.ensures.rule in
+    IfOk-weaker c.arg-7.result _ (λ parser. app_of parser ≡ app_by word browse_form)
+    (λ parser added. added.shape c.option-6.ensures.own ∙ ap₂ with_rule six c.option-6.ensures.rule) c.arg-7.ensures

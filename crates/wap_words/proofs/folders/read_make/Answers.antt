@@ -1,13 +1,12 @@
 use Rattle.std.proofs.Common.{◌≡◌, ℕ, List, map, drop, Option, ap, subst, ◌∙◌}
 use Rattle.std.specs.Prelude.{encode_utf8_all, option_and_then}
 use Rattle.std.specs.Borrow.{Bor}
-use Rattle.std.proofs.lemmas.Result.{IfOk-weaker}
 use Rattle.clap.specs.declared.parser.matches.ArgMatches.{ArgMatches}
 use Rattle.wap_words.specs.Reading.{uses_of}
-use Rattle.wap_words.specs.Words.{page_form, page_of}
+use Rattle.wap_words.specs.Words.{page_form, make_of}
 use Rattle.wap_words.specs.inside.Matching.{AreMatched}
-use Rattle.wap_words.proofs.TextLaws.{page_given}
-use Rattle.wap_words.proofs.words.read_page.Goals as goal
+use Rattle.wap_words.proofs.TextLaws.{make_given}
+use Rattle.wap_words.proofs.folders.read_make.Goals as goal
 
 pub returns-in-Some : goal.returns-in-Some
 returns-in-Some c =
@@ -19,10 +18,5 @@ returns-in-Some c =
     subst (λ (m : Option ArgMatches). AreMatched m
     (uses_of page_form (drop 1 (map (λ (word : Bor (List ℕ)). word.now) c.deref.result.now))))
     c.in-Some.is c.in_ok-matches.ensures in
-    IfOk-weaker c.page_in.result _ (λ said.
-    said ≡ option_and_then (page_of c.args.command)
-    (uses_of page_form (drop 1 (map encode_utf8_all c.args.words.now))))
-    (λ said is.
-    is ∙ page_given c.args.command c.in-Some.matches _ matched ∙ ap (λ (l : List (List ℕ)).
-    option_and_then (page_of c.args.command) (uses_of page_form (drop 1 l))) words)
-    c.page_in.ensures
+    c.make_in.ensures ∙ make_given c.in-Some.matches _ matched ∙ ap (λ (l : List (List ℕ)).
+    option_and_then make_of (uses_of page_form (drop 1 l))) words

@@ -2,7 +2,7 @@ use Rattle.std.proofs.Common.{◌≡◌, List, ℕ, map, take}
 use Rattle.std.specs.Prelude.{encode_utf8_all}
 use Rattle.std.specs.Borrow.{Bor}
 use Rattle.wap_words.specs.inside.Matching.{AreTexts}
-use Rattle.wap_words.proofs.words.texts_of.Given as goal
+use Rattle.wap_words.proofs.matching.texts_of.Given as goal
 
 abbrev pub invariant-loop-word : goal.invariant-loop-word
 invariant-loop-word l = record {

@@ -1,5 +1,5 @@
 use Rattle.wap_words.proofs.TextLaws.{same_next, texts_next}
-use Rattle.wap_words.proofs.words.texts_of.Goals as goal
+use Rattle.wap_words.proofs.matching.texts_of.Goals as goal
 
 pub loop-word-preserved : goal.loop-word-preserved
 loop-word-preserved c = record {

@@ -1,0 +1,17 @@
+use Rattle.std.proofs.Common.{drop, map}
+use Rattle.std.specs.Prelude.{encode_utf8_all}
+use Rattle.std.proofs.lemmas.Result.{IfOk-weaker}
+use Rattle.wap_words.specs.declared.word.Word.TheVariants as word
+use Rattle.wap_words.proofs.Ranges.{read_range}
+use Rattle.wap_words.proofs.words.read_words.Goals as goal
+
+pub returns-in-Some-Browse-clause-ranges : goal.returns-in-Some-Browse-clause-ranges
+returns-in-Some-Browse-clause-ranges c =
+    IfOk-weaker c.read_browse.result _ _
+    (read_range word.Browse (drop 1 (map encode_utf8_all c.args.words.now))) c.read_browse.ensures
+
+pub returns-in-Some-Prepare-clause-ranges : goal.returns-in-Some-Prepare-clause-ranges
+returns-in-Some-Prepare-clause-ranges c =
+    IfOk-weaker c.read_prepare.result _ _
+    (read_range word.Prepare (drop 1 (map encode_utf8_all c.args.words.now)))
+    c.read_prepare.ensures
