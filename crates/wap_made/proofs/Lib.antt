@@ -1,0 +1,4 @@
+pub mod Ending
+mod Counting
+mod Touring
+mod Words
