@@ -4,7 +4,7 @@ use Rattle.std.specs.Prelude.{IfSome}
 use Rattle.wap_base.specs.Contents.{Contents, page_named}
 use Rattle.wap_devices.specs.Sinks.{SinkSeen}
 use Rattle.wap_words.specs.declared.words.Command.{Command}
-use Rattle.wap_words.specs.declared.words.Command.TheVariants.{Browse, Page}
+use Rattle.wap_words.specs.declared.words.Command.TheVariants.{Browse, Page, Prepare, Make}
 use Rattle.wap_words.specs.declared.words.PageCommand.{PageCommand}
 use Rattle.wap_status.specs.declared.status.Status.{Status}
 use Rattle.wap_status.specs.declared.status.Status.TheVariants.{Done, Usage, Refused, StoreFault}
@@ -16,6 +16,8 @@ use Rattle.wap_devices.specs.declared.store.Fetched.{Fetched}
 use Rattle.wap_devices.specs.declared.store.StoreErr.TheVariants as store_error
 use Rattle.wap_browse.proofs.Exits.{nothing_browses}
 use Rattle.wap_browse.proofs.Summary.{browses_by}
+use Rattle.wap_prepare.proofs.Ending.{nothing_prepared}
+use Rattle.wap_made.proofs.Ending.{nothing_made}
 use Rattle.wap_cli.specs.Answers.{IsPageOf, IsOfPage, Answers, page_of}
 use Rattle.wap_cli.specs.Devices.{Devices, browsed}
 use Rattle.wap_cli.specs.Headline.{begun_by, IsAnswer, Serves, ServesUnread, Runs}
@@ -78,6 +80,10 @@ nothing_runs (Some (Browse one)) old =
     browses_by (begun_by one) (browsed one.cache old) (browsed one.cache old) NoMemory
     (nothing_browses (begun_by one) (browsed one.cache old))
 nothing_runs (Some (Page command name)) old = nothing_served command name old
+nothing_runs (Some (Prepare workers)) old =
+    record { prepares = nothing_prepared old.store old.sink; unread = refl }
+nothing_runs (Some (Make n)) old =
+    record { makes = nothing_made n old.sink; unasked = refl; unread = refl }
 
 -- ---- what the store answered
 

@@ -1,13 +1,12 @@
 -- What a run comes to, by its command. This project's own.
 use Rattle.std.specs.Prelude.{◌≡◌, ◌≢◌, ◌⊎◌, ℕ, ◌≤◌, List, Option, Some, None}
 use Rattle.wap_base.specs.Count.{raised, Rose}
-use Rattle.wap_base.specs.Limits.{default_limits}
 use Rattle.wap_devices.specs.Stores.{StoreSeen}
 use Rattle.wap_devices.specs.Sinks.{SinkSeen}
 use Rattle.wap_pages.specs.declared.fault.PageFault.{PageFault}
 use Rattle.wap_words.specs.declared.words.Browse.{Browse as Browsing}
 use Rattle.wap_words.specs.declared.words.Command.{Command}
-use Rattle.wap_words.specs.declared.words.Command.TheVariants.{Browse, Page}
+use Rattle.wap_words.specs.declared.words.Command.TheVariants.{Browse, Page, Prepare, Make}
 use Rattle.wap_words.specs.declared.words.PageCommand.{PageCommand}
 use Rattle.wap_world.specs.Sessions.{Begun}
 use Rattle.wap_status.specs.declared.status.Status.{Status}
@@ -17,11 +16,12 @@ use Rattle.wap_status.specs.Statuses.{IsOrWants}
 use Rattle.wap_browse.specs.Headline.{Browses}
 use Rattle.wap_cli.specs.Answers.{IsOfPage, IsPageOf, Answers}
 use Rattle.wap_cli.specs.Devices.{Devices, browsed}
+use Rattle.wap_cli.specs.Folders.{PreparesUnread, MakesAlone}
 
--- what a command browses; the limits can't be chosen yet
+-- what a command browses
 abbrev pub begun_by : Browsing → Begun
 begun_by one =
-    record { url = one.url; seed = one.seed; budget = one.budget; limits = default_limits }
+    record { url = one.url; seed = one.seed; budget = one.budget; limits = one.limits }
 
 -- a status of a command on one page where nothing failed
 abbrev pub IsAnswer : Status → Type 0
@@ -71,9 +71,11 @@ pub record Misused (old new : Devices) (status : Status) : Type 0 where
   pub untouched : new ≡ old
 
 -- a run of a command, or of words that are none, from the devices before to the devices after, and
--- its status
+-- its status; it is the same by however many workers a folder is prepared
 abbrev pub Runs : Option Command → Devices → Devices → Status → Type 0
 Runs (Some (Browse one)) old new status =
     Browses (begun_by one) (browsed one.cache old) (browsed one.cache new) status
 Runs (Some (Page command name)) old new status = ServesUnread command name old new status
+Runs (Some (Prepare workers)) old new status = PreparesUnread old new status
+Runs (Some (Make n)) old new status = MakesAlone n old new status
 Runs None old new status = Misused old new status

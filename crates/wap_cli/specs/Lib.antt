@@ -1,3 +1,4 @@
 pub mod Headline
 pub mod Devices
 pub mod Answers
+pub mod Folders

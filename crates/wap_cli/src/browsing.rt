@@ -7,7 +7,7 @@ ghost use Rattle.wap_cli.specs.Headline.{begun_by};
 
 use crate::Status;
 use std::alloc::Global;
-use wap_base::{Limits, NoMemory};
+use wap_base::NoMemory;
 use wap_browse::Beginning;
 use wap_devices::{Sink, Source, Store};
 use wap_pages::Cached;
@@ -44,7 +44,7 @@ pub(crate) fn browse<S: Store, I: Source, O: Sink>(
         url: begun.url,
         seed: begun.seed,
         budget: begun.budget,
-        limits: Limits::default(),
+        limits: begun.limits,
     };
     let status = wap_browse::browse(alloc, begun, &mut pages, keys, out);
     (status, pages.into_store())

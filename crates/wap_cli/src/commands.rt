@@ -9,18 +9,20 @@ use std::alloc::Global;
 use std::thread::Threads;
 use wap_base::{NoMemory, Text};
 use wap_devices::{Gate, Sink, Source, Store};
+use wap_made::make;
+use wap_prepare::prepare;
 use wap_words::{Command, read_words};
 
 /// Runs the command that the words are, over the pages of the store and the key lines of the
 /// source, and gives the store back.
 pub fn run<R: Threads + Sync, S: Store, I: Source, O: Sink, G: Gate + Sync>(
-    _rt: &R,
+    rt: &R,
     alloc: Global,
     words: &[Text],
     mut store: S,
     keys: &mut I,
     out: &mut O,
-    _gate: &G,
+    gate: &G,
 ) -> (Status, S)
     ensures { Runs (command words.now)
         (record { store = S.seen store; source = I.seen keys.old; sink = O.seen out.old })
@@ -32,6 +34,10 @@ pub fn run<R: Threads + Sync, S: Store, I: Source, O: Sink, G: Gate + Sync>(
         Ok(Some(Command::Page(command, name))) => {
             (answer(alloc, command, &name, &mut store, out), store)
         }
+        Ok(Some(Command::Prepare(workers))) => {
+            (prepare(rt, alloc, &mut store, workers, gate, out), store)
+        }
+        Ok(Some(Command::Make(n))) => (make(alloc, n, out), store),
         Ok(None) => (Status::Usage, store),
         Err(NoMemory) => (Status::NoMemory, store),
     }

@@ -1,5 +1,4 @@
 use Rattle.std.proofs.Common.{sym, subst}
-use Rattle.wap_base.specs.declared.limits.Limits.{Limits}
 use Rattle.wap_status.specs.declared.status.Status.TheVariants.{NoMemory}
 use Rattle.wap_browse.specs.Headline.{Browses}
 use Rattle.wap_browse.proofs.Exits.{nothing_browses}
@@ -29,17 +28,6 @@ returns g c =
     let source_after = g.I.Source.seen played.keys in
     let sink = g.O.Sink.seen c.args.out.now in
     let sink_after = g.O.Sink.seen played.out in
-    let so = subst (λ (limits : Limits).
-    Browses (record {
-      url = begun.url;
-      seed = begun.seed;
-      budget = begun.budget;
-      limits = limits;
-    })
-    (outside_over g.S.Store.seen c.in-Ok.pages source sink)
-    (outside_over g.S.Store.seen played.pages source_after sink_after)
-    status)
-    c.default.ensures.0 c.browse-status.ensures in
     browsed_over g.S.Store.seen (begun_by begun) c.in-Ok.pages played.pages c.args.store
     c.into_store.result begun.cache source source_after sink sink_after status
-    c.in-Ok.ensures.store c.in-Ok.ensures.kept c.in-Ok.ensures.capacity c.into_store.ensures so
+    c.in-Ok.ensures.store c.in-Ok.ensures.kept c.in-Ok.ensures.capacity c.into_store.ensures c.browse-status.ensures
