@@ -1,0 +1,7 @@
+//! Tests of whole runs that need threads.
+#![tactic(auto)]
+
+#[cfg(test)]
+mod meeting;
+#[cfg(test)]
+mod prepare;
