@@ -5,7 +5,7 @@ use Rattle.wap_browse.proofs.Exits.{nothing_browses}
 use Rattle.wap_browse.proofs.Summary.{browses_by}
 use Rattle.wap_cli.specs.Devices.{browsed}
 use Rattle.wap_cli.specs.Headline.{begun_by}
-use Rattle.wap_cli.proofs.Forgetting.{outside_over, devices_of, browsed_over}
+use Rattle.wap_cli.proofs.Forgetting.{devices_of, browsed_over}
 use Rattle.wap_cli.proofs.browsing.browse.Goals as goal
 
 pub returns-in-Err : goal.returns-in-Err
@@ -30,4 +30,5 @@ returns g c =
     let sink_after = g.O.Sink.seen played.out in
     browsed_over g.S.Store.seen (begun_by begun) c.in-Ok.pages played.pages c.args.store
     c.into_store.result begun.cache source source_after sink sink_after status
-    c.in-Ok.ensures.store c.in-Ok.ensures.kept c.in-Ok.ensures.capacity c.into_store.ensures c.browse-status.ensures
+    c.in-Ok.ensures.store c.in-Ok.ensures.kept c.in-Ok.ensures.capacity c.into_store.ensures
+    c.browse-status.ensures
