@@ -1,7 +1,9 @@
 -- The functions of a program: what they need is there, their code may be placed and has the wide
 -- size but for what is saved, and so the unit is one that the program is compiled to.
-use Rattle.std.proofs.Common.{◌≡◌, ℕ, zero, suc, inl, inr, ◌+◌, ◌≤◌, ◌<◌, true, false, List, [], ◌∷◌, ◌++◌}
-use Rattle.std.proofs.Common.{length, Option, Some, None, IsSomeAnd, IsTrue, map, refl, sym, ap, ◌∙◌}
+use Rattle.std.proofs.Common.{◌≡◌, ℕ, zero, suc, inl, inr, ◌+◌, ◌≤◌, ◌<◌, true, false, List, []}
+use Rattle.std.proofs.Common.{◌∷◌, ◌++◌}
+use Rattle.std.proofs.Common.{length, Option, Some, None, IsSomeAnd, IsTrue, map, refl, sym, ap}
+use Rattle.std.proofs.Common.{◌∙◌}
 use Rattle.std.proofs.Common.{subst, arith, slice_get, length-append, append_assoc}
 use Rattle.std.specs.List.{All, AllByRecursion, flat_map}
 use Rattle.std.specs.Option.{option_map, option_map_or}
@@ -43,10 +45,10 @@ use Rattle.wap_compiled.specs.Units.{forms_of, compiled_function, compiled}
 use Rattle.wap_compiled.specs.Wide.{function_wide}
 use Rattle.wap_compiled.specs.Accepted.{HasRoom}
 use Rattle.wap_compiled.specs.Savings.{saved}
-use Rattle.wap_compiled_laws.proofs.Each.{each_front, each_back}
-use Rattle.wap_compiled_laws.proofs.Costs.{Fits, has_room, cost, both_costs, Costs}
-use Rattle.wap_compiled_laws.proofs.Expressions.{Place, numbers, Given}
-use Rattle.wap_compiled_laws.proofs.Statements.{body_good}
+use Rattle.wap_code_costs.proofs.Each.{each_front, each_back}
+use Rattle.wap_code_costs.proofs.Costs.{Fits, has_room, cost, both_costs, Costs}
+use Rattle.wap_code_costs.proofs.Expressions.{Place, numbers, Given}
+use Rattle.wap_code_costs.proofs.Statements.{body_good}
 
 -- ---- how many functions and variables there are
 
@@ -144,7 +146,8 @@ each_in constants [] all = tt
 each_in constants (l ∷ needed) all = (all.0, each_in constants needed all.1)
 
 -- what holds of each item of lists in a row holds of those of one of them
-of_one : {X Y : Type 0} (P : Y → Type 0) (g : X → List Y) (earlier : List X) (x : X) (later : List X)
+of_one : {X Y : Type 0} (P : Y → Type 0) (g : X → List Y) (earlier : List X) (x : X)
+    (later : List X)
     → AllByRecursion P (flat_map g (earlier ++ x ∷ later)) → AllByRecursion P (g x)
 of_one P g [] x later all = each_front P (g x) (flat_map g later) all
 of_one P g (y ∷ earlier) x later all =
@@ -224,7 +227,8 @@ module _ (p : Program) (scoped : IsScoped p) (takes : AllTake p)
       × Costs false (function_code (numbers_in p (pool p) f) f) (function_wide f)
   unfolding place
   good =
-      let said_all = one_of (λ (f : Function). All (CanBeCoded p f) (said f)) (all_can_be p scoped) in
+      let said_all =
+      one_of (λ (f : Function). All (CanBeCoded p f) (said f)) (all_can_be p scoped) in
       body_good place f.body
       (each_back (CanBeCoded p f) (map Declares f.params)
       (flat_map (λ s. mentions s false) f.body)
@@ -276,7 +280,8 @@ module _ (p : Program) (scoped : IsScoped p) (takes : AllTake p)
       let tied = body_tied (compiled p) (numbers place) forms f.body good.0 in
       let less = slice_get_within forms k form here in
       let size = tied.sized None 0 in
-      tied.wires None 0 tt (holds_all [] forms) k (omega arith) (omega (arith, less, size)) form here
+      tied.wires None 0 tt (holds_all [] forms) k (omega arith)
+      (omega (arith, less, size)) form here
 
   pub placeable : ArePlaceable (forms_of p f)
   unfolding forms_of

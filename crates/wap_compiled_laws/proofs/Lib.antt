@@ -1,8 +1,3 @@
-pub mod Each
-pub mod Libraries
-pub mod Costs
-pub mod Expressions
-pub mod Statements
 pub mod Functions
 pub mod Pragmas
 pub mod Verified

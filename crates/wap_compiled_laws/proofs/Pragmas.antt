@@ -18,7 +18,7 @@ use Rattle.wap_coding_laws.proofs.Pooled.{text_at}
 use Rattle.wap_verify.specs.Sound.{indexes, stray_pragma}
 use Rattle.wap_compiled.specs.Pool.{use_literals}
 use Rattle.wap_compiled.specs.Units.{pragmas_of, text_place}
-use Rattle.wap_compiled_laws.proofs.Each.{each_front, each_back, each_both}
+use Rattle.wap_code_costs.proofs.Each.{each_front, each_back, each_both}
 use Rattle.wap_compiled_laws.proofs.Functions.{InPool}
 
 -- a constant with a text is a string
@@ -87,7 +87,8 @@ module _ (u : CodeUnit) (constants : List Literal) (has : HasPool u constants) w
       → find (λ index. not (is_string u index)) is ≡ None
   none_stray [] all = refl
   none_stray (index ∷ is) all =
-      ap (λ (b : Bool). cond (not b) (Some index) (find (λ index. not (is_string u index)) is)) all.0
+      ap (λ (b : Bool). cond (not b) (Some index) (find (λ index. not (is_string u index)) is))
+      all.0
       ∙ none_stray is all.1
 
   pub no_stray : (uses : List Use)

@@ -21,7 +21,8 @@ use Rattle.wap_asm.specs.Spellings.{operation_of, longest, spelling_of}
 use Rattle.wap_asm.specs.Spelling.{shortest}
 use Rattle.wap_asm.specs.Placing.{placed, settled, sizes_after, grown, wide, wide_size}
 use Rattle.wap_unit.specs.Spelling.{spelling, body_spelling}
-use Rattle.wap_scope.specs.Names.{Reference, references, references_by, Mention, mentions, mentions_by}
+use Rattle.wap_scope.specs.Names.{Reference, references, references_by, Mention, mentions}
+use Rattle.wap_scope.specs.Names.{mentions_by}
 use Rattle.wap_scope.specs.Names.{Refers, names_declared}
 use Rattle.wap_meaning.specs.Names.{locals, names_in}
 use Rattle.wap_code.specs.declared.unit.Unit.{Unit}
@@ -115,7 +116,8 @@ unit_by constants forms variables = record {
 unit : compiled program ≡ unit_by (seven ∷ []) two_forms []
 unfolding compiled compiled_function program one f encode_utf8
 unit =
-    ap (λ (constants : List Literal). unit_by constants (forms_of program one) (locals one)) constants
+    ap (λ (constants : List Literal). unit_by constants (forms_of program one) (locals one))
+    constants
     ∙ ap (λ (forms : List Form). unit_by (seven ∷ []) forms (locals one)) forms
     ∙ ap (λ (said : List Mention). unit_by (seven ∷ []) two_forms (names_declared (said ++ [])))
     says_nothing

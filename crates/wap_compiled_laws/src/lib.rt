@@ -18,8 +18,8 @@ pub trait HostStates {
     ghost State: { Type 0 };
 }
 
-/// Where the constants of a program have room, the forms of its functions may be placed, and their
-/// wide size is told from them.
+/// Where the constants of a program have room, the forms of its functions may be placed, and the
+/// wide size of a function is known by them.
 pub fn forms_may_be_placed()
     ensures { (source : List ℕ) (p : TheProgram) → IsSourceOf source p → IsScoped p
         → length (pool p) ≤ most_constants → All (HasForms p) p.functions }

@@ -36,7 +36,7 @@ use Rattle.wap_source_needs.proofs.Operators.{operators}
 use Rattle.wap_compiled.specs.Pool.{text_if, use_literals, function_literals, literals_needed, pool}
 use Rattle.wap_compiled.specs.Units.{pragmas_of, text_place, compiled}
 use Rattle.wap_compiled.specs.Accepted.{IsAccepted}
-use Rattle.wap_compiled_laws.proofs.Each.{each_front, each_back, each_both, each_then}
+use Rattle.wap_code_costs.proofs.Each.{each_front, each_back, each_both, each_then}
 use Rattle.wap_compiled_spelling.proofs.Written.{pragma_size}
 use Rattle.wap_source_sizes.proofs.Sizes.{text_size, CanBeSaid}
 use Rattle.wap_compiled_spelling.proofs.Units.{CanBeSpelled, has_spelling}

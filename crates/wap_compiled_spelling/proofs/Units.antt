@@ -38,8 +38,8 @@ use Rattle.wap_compiled.specs.Units.{pragmas_of, text_place, is_short, entry_of,
 use Rattle.wap_compiled.specs.Units.{compiled_function, compiled}
 use Rattle.wap_compiled.specs.Wide.{function_wide}
 use Rattle.wap_compiled.specs.Accepted.{HasRoom}
-use Rattle.wap_compiled_laws.proofs.Each.{each_front, each_back, each_both}
-use Rattle.wap_compiled_laws.proofs.Expressions.{place_within}
+use Rattle.wap_code_costs.proofs.Each.{each_front, each_back, each_both}
+use Rattle.wap_code_costs.proofs.Expressions.{place_within}
 use Rattle.wap_compiled_laws.proofs.Functions.{AllTake, Among, InPool, in_uses, few_functions}
 use Rattle.wap_compiled_laws.proofs.Functions.{few_variables, wide_exact, placeable, one_of}
 use Rattle.wap_compiled_spelling.proofs.Written.{bytes_both, Written, in_turn, row, number}

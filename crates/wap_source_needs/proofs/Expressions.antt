@@ -1,5 +1,6 @@
 -- What an expression needs is drawn from the tokens that spell it.
-use Rattle.std.proofs.Common.{◌≡◌, ℕ, zero, suc, true, false, List, [], ◌∷◌, ◌++◌, Option, Some, None}
+use Rattle.std.proofs.Common.{◌≡◌, ℕ, zero, suc, true, false, List, [], ◌∷◌, ◌++◌, Option, Some}
+use Rattle.std.proofs.Common.{None}
 use Rattle.std.proofs.Common.{refl, length}
 use Rattle.std.specs.List.{flat_map}
 use Rattle.wap_value.specs.declared.operator.BinOp.{BinOp}
@@ -93,7 +94,8 @@ module _ (src : List ℕ) where
         past src x (expr_needs e ++ flat_map expr_needs es) (sign Close closed) z
         (in_a_row src x (expr_needs e) y (flat_map expr_needs es) (sign Close closed ∷ z)
         (inner ASSIGNMENT x e y first)
-        (several src expr_needs (IsArgument Inner) draws_argument y es (sign Close closed ∷ z) rest))
+        (several src expr_needs (IsArgument Inner) draws_argument y es
+        (sign Close closed ∷ z) rest))
 
     draws_unary : Draws src expr_needs (IsUnary src Inner)
     draws_unary x' e' y (expressed.literal w span x l is) =

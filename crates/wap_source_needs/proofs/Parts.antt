@@ -60,33 +60,41 @@ unfolding expr_needs
 of_variable v =
     ap expr_needs (sym (rolls-Var v)) ∙ fold-roll-Expr (List Need) expr_needs_by (Expr-F.Var v)
 
-pub of_assignment : (v : Id) (o : Option BinOp) (e : Expr) → expr_needs (expr.Assign v o e) ≡ Variable v ∷ (assign_needs o ++ expr_needs e)
+pub of_assignment : (v : Id) (o : Option BinOp) (e : Expr) → expr_needs (expr.Assign v o e)
+    ≡ Variable v ∷ (assign_needs o ++ expr_needs e)
 unfolding expr_needs
 of_assignment v o e =
-    ap expr_needs (sym (rolls-Assign v o e)) ∙ fold-roll-Expr (List Need) expr_needs_by (Expr-F.Assign v o e)
+    ap expr_needs (sym (rolls-Assign v o e))
+    ∙ fold-roll-Expr (List Need) expr_needs_by (Expr-F.Assign v o e)
 
 pub of_step : (v : Id) (up before : Bool) → expr_needs (expr.Step v up before) ≡ Variable v ∷ []
 unfolding expr_needs
 of_step v up before =
-    ap expr_needs (sym (rolls-Step v up before)) ∙ fold-roll-Expr (List Need) expr_needs_by (Expr-F.Step v up before)
+    ap expr_needs (sym (rolls-Step v up before))
+    ∙ fold-roll-Expr (List Need) expr_needs_by (Expr-F.Step v up before)
 
 pub of_unary : (o : UnOp) (e : Expr) → expr_needs (expr.Unary o e) ≡ expr_needs e
 unfolding expr_needs
 of_unary o e =
-    ap expr_needs (sym (rolls-Unary o e)) ∙ fold-roll-Expr (List Need) expr_needs_by (Expr-F.Unary o e)
+    ap expr_needs (sym (rolls-Unary o e))
+    ∙ fold-roll-Expr (List Need) expr_needs_by (Expr-F.Unary o e)
 
-pub of_chain : (e : Expr) (pairs : List (BinOp × Expr)) → expr_needs (expr.Chain e pairs) ≡ expr_needs e ++ flat_map (λ pair. expr_needs pair.1) pairs
+pub of_chain : (e : Expr) (pairs : List (BinOp × Expr)) → expr_needs (expr.Chain e pairs)
+    ≡ expr_needs e ++ flat_map (λ pair. expr_needs pair.1) pairs
 unfolding expr_needs
 of_chain e pairs =
-    ap expr_needs (sym (rolls-Chain e pairs)) ∙ fold-roll-Expr (List Need) expr_needs_by (Expr-F.Chain e pairs)
+    ap expr_needs (sym (rolls-Chain e pairs))
+    ∙ fold-roll-Expr (List Need) expr_needs_by (Expr-F.Chain e pairs)
     ∙ ap (λ rest. expr_needs e ++ rest)
     (flat_mapped (λ (pair : BinOp × Expr). (pair.0, expr_needs pair.1))
     (λ (pair : BinOp × List Need). pair.1) pairs)
 
-pub of_choice : (c first second : Expr) → expr_needs (expr.Cond c first second) ≡ expr_needs c ++ (expr_needs first ++ expr_needs second)
+pub of_choice : (c first second : Expr) → expr_needs (expr.Cond c first second)
+    ≡ expr_needs c ++ (expr_needs first ++ expr_needs second)
 unfolding expr_needs
 of_choice c first second =
-    ap expr_needs (sym (rolls-Cond c first second)) ∙ fold-roll-Expr (List Need) expr_needs_by (Expr-F.Cond c first second)
+    ap expr_needs (sym (rolls-Cond c first second))
+    ∙ fold-roll-Expr (List Need) expr_needs_by (Expr-F.Cond c first second)
 
 counted : {X Y : Type 0} (f : X → Y) (xs : List X) → length (map f xs) ≡ length xs
 counted f [] = refl
@@ -99,22 +107,28 @@ called make es =
     ap (λ count. make count ∷ flat_map (λ e. e) (map expr_needs es)) (counted expr_needs es)
     ∙ ap (λ rest. make (length es) ∷ rest) (flat_mapped expr_needs (λ (e : List Need). e) es)
 
-pub of_local : (f : Id) (es : List Expr) → expr_needs (expr.Call f es) ≡ Local f (length es) ∷ flat_map expr_needs es
+pub of_local : (f : Id) (es : List Expr) → expr_needs (expr.Call f es)
+    ≡ Local f (length es) ∷ flat_map expr_needs es
 unfolding expr_needs
 of_local f es =
-    ap expr_needs (sym (rolls-Call f es)) ∙ fold-roll-Expr (List Need) expr_needs_by (Expr-F.Call f es)
+    ap expr_needs (sym (rolls-Call f es))
+    ∙ fold-roll-Expr (List Need) expr_needs_by (Expr-F.Call f es)
     ∙ called (Local f) es
 
-pub of_external : (unit f : Id) (es : List Expr) → expr_needs (expr.External unit f es) ≡ Other unit f ∷ flat_map expr_needs es
+pub of_external : (unit f : Id) (es : List Expr) → expr_needs (expr.External unit f es)
+    ≡ Other unit f ∷ flat_map expr_needs es
 unfolding expr_needs
 of_external unit f es =
-    ap expr_needs (sym (rolls-External unit f es)) ∙ fold-roll-Expr (List Need) expr_needs_by (Expr-F.External unit f es)
+    ap expr_needs (sym (rolls-External unit f es))
+    ∙ fold-roll-Expr (List Need) expr_needs_by (Expr-F.External unit f es)
     ∙ called (λ count. Other unit f) es
 
-pub of_library : (library f : Id) (es : List Expr) → expr_needs (expr.Library library f es) ≡ Library library f (length es) ∷ flat_map expr_needs es
+pub of_library : (library f : Id) (es : List Expr) → expr_needs (expr.Library library f es)
+    ≡ Library library f (length es) ∷ flat_map expr_needs es
 unfolding expr_needs
 of_library library f es =
-    ap expr_needs (sym (rolls-Library library f es)) ∙ fold-roll-Expr (List Need) expr_needs_by (Expr-F.Library library f es)
+    ap expr_needs (sym (rolls-Library library f es))
+    ∙ fold-roll-Expr (List Need) expr_needs_by (Expr-F.Library library f es)
     ∙ called (Library library f) es
 
 -- ---- statements
@@ -132,13 +146,16 @@ of_value e =
 pub of_block : (ss : List Stmt) → stmt_needs (stmt.Block ss) ≡ flat_map stmt_needs ss
 unfolding stmt_needs
 of_block ss =
-    ap stmt_needs (sym (rolls-Block ss)) ∙ fold-roll-Stmt (List Need) stmt_needs_by (Stmt-F.Block ss)
+    ap stmt_needs (sym (rolls-Block ss))
+    ∙ fold-roll-Stmt (List Need) stmt_needs_by (Stmt-F.Block ss)
     ∙ flat_mapped stmt_needs (λ (needs : List Need). needs) ss
 
-pub of_variables : (pairs : List (Id × Option Expr)) → stmt_needs (stmt.Vars pairs) ≡ flat_map declared_needs pairs
+pub of_variables : (pairs : List (Id × Option Expr)) → stmt_needs (stmt.Vars pairs)
+    ≡ flat_map declared_needs pairs
 unfolding stmt_needs
 of_variables pairs =
-    ap stmt_needs (sym (rolls-Vars pairs)) ∙ fold-roll-Stmt (List Need) stmt_needs_by (Stmt-F.Vars pairs)
+    ap stmt_needs (sym (rolls-Vars pairs))
+    ∙ fold-roll-Stmt (List Need) stmt_needs_by (Stmt-F.Vars pairs)
 
 pub of_if : (c : Expr) (s : Stmt) →
     stmt_needs (stmt.If c s None) ≡ expr_needs c ++ (stmt_needs s ++ [])
@@ -157,24 +174,31 @@ of_else c s other =
 pub of_while : (c : Expr) (s : Stmt) → stmt_needs (stmt.While c s) ≡ expr_needs c ++ stmt_needs s
 unfolding stmt_needs
 of_while c s =
-    ap stmt_needs (sym (rolls-While c s)) ∙ fold-roll-Stmt (List Need) stmt_needs_by (Stmt-F.While c s)
+    ap stmt_needs (sym (rolls-While c s))
+    ∙ fold-roll-Stmt (List Need) stmt_needs_by (Stmt-F.While c s)
 
-pub of_for : (first : Stmt) (c update : Option Expr) (s : Stmt) → stmt_needs (stmt.For first c update s) ≡ stmt_needs first ++ (optional_needs c ++ (optional_needs update ++ stmt_needs s))
+pub of_for : (first : Stmt) (c update : Option Expr) (s : Stmt)
+    → stmt_needs (stmt.For first c update s)
+    ≡ stmt_needs first ++ (optional_needs c ++ (optional_needs update ++ stmt_needs s))
 unfolding stmt_needs
 of_for first c update s =
-    ap stmt_needs (sym (rolls-For first c update s)) ∙ fold-roll-Stmt (List Need) stmt_needs_by (Stmt-F.For first c update s)
+    ap stmt_needs (sym (rolls-For first c update s))
+    ∙ fold-roll-Stmt (List Need) stmt_needs_by (Stmt-F.For first c update s)
 
 pub of_break : (word : Span) → stmt_needs (stmt.Break word) ≡ []
 unfolding stmt_needs
 of_break word =
-    ap stmt_needs (sym (rolls-Break word)) ∙ fold-roll-Stmt (List Need) stmt_needs_by (Stmt-F.Break word)
+    ap stmt_needs (sym (rolls-Break word))
+    ∙ fold-roll-Stmt (List Need) stmt_needs_by (Stmt-F.Break word)
 
 pub of_continue : (word : Span) → stmt_needs (stmt.Continue word) ≡ []
 unfolding stmt_needs
 of_continue word =
-    ap stmt_needs (sym (rolls-Continue word)) ∙ fold-roll-Stmt (List Need) stmt_needs_by (Stmt-F.Continue word)
+    ap stmt_needs (sym (rolls-Continue word))
+    ∙ fold-roll-Stmt (List Need) stmt_needs_by (Stmt-F.Continue word)
 
 pub of_return : (e : Option Expr) → stmt_needs (stmt.Return e) ≡ optional_needs e
 unfolding stmt_needs
 of_return e =
-    ap stmt_needs (sym (rolls-Return e)) ∙ fold-roll-Stmt (List Need) stmt_needs_by (Stmt-F.Return e)
+    ap stmt_needs (sym (rolls-Return e))
+    ∙ fold-roll-Stmt (List Need) stmt_needs_by (Stmt-F.Return e)

@@ -21,7 +21,8 @@ use Rattle.wap_coding.specs.Needs.{Need, Variable, expr_needs, optional_needs, d
 use Rattle.wap_coding.specs.Needs.{stmt_needs}
 use Rattle.wap_source_needs.specs.Drawn.{Drawn, no_more, skip, here}
 use Rattle.wap_source_needs.proofs.Drawing.{in_a_row, same, past, Draws, several, listed}
-use Rattle.wap_source_needs.proofs.Parts.{of_empty, of_value, of_block, of_variables, of_if, of_else}
+use Rattle.wap_source_needs.proofs.Parts.{of_empty, of_value, of_block, of_variables, of_if}
+use Rattle.wap_source_needs.proofs.Parts.{of_else}
 use Rattle.wap_source_needs.proofs.Parts.{of_while, of_for, of_break, of_continue, of_return}
 use Rattle.wap_source_needs.proofs.Expressions.{draws_expression}
 

@@ -1,5 +1,5 @@
-//! Laws of what the programs of sources need: it is drawn from their tokens. Each is the contract of
-//! a function that does nothing.
+//! Laws of what the programs of sources need: it is drawn from their tokens. Each is the contract
+//! of a function that does nothing.
 #![tactic(auto)]
 
 ghost use Rattle.std.specs.Prelude.{ℕ, List, []};
@@ -10,8 +10,8 @@ ghost use Rattle.wap_grammar.specs.Programs.{Spells};
 ghost use Rattle.wap_program.specs.declared.program.Program.{Program};
 ghost use Rattle.wap_source_needs.specs.Drawn.{function_needs, program_needs, HasOperator, Drawn};
 
-/// Each literal and each operator that a program needs stands among the tokens that spell it, and so
-/// do the names of functions of other units, all in the order in which they are needed.
+/// Each literal and each operator that a program needs stands among the tokens that spell it, and
+/// so do the names of functions of other units, all in the order in which they are needed.
 pub fn needs_are_drawn()
     ensures { (src : List ℕ) (tokens : List Token) (p : Program)
         → Spells src p (lexemes_of src tokens)

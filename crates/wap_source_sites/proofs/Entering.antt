@@ -139,7 +139,8 @@ module _ (p : Program) (name : List ℕ) (functions : List Code) where
               ≡ cond same (Some (record { index = index; arguments = length f.params }))
               (external_from (index + 1) fs name)
           chosen true here rest =
-              ap (option_map (λ (code : Code). record { index = index; arguments = code.args })) here
+              ap (option_map (λ (code : Code). record { index = index; arguments = code.args }))
+              here
           chosen false here rest = rest
       by f false same here rest = rest
 

@@ -32,12 +32,13 @@ use Rattle.wap_coding.specs.Statements.{declared_code, branch_code, if_code, exi
 use Rattle.wap_coding.specs.Statements.{loop_code, update_code, stmt_code_by, stmt_code}
 use Rattle.wap_compiled.specs.Wide.{expr_wide_by, expr_wide, effect_wide, effect_wide_if}
 use Rattle.wap_compiled.specs.Wide.{declared_wide, loop_wide, stmt_wide_by, stmt_wide}
-use Rattle.wap_compiled_laws.proofs.Each.{each_front, each_back, each_of}
-use Rattle.wap_compiled_laws.proofs.Costs.{Fits, cost, Allowed, Costs, costs_both, costs_same, costs_one}
-use Rattle.wap_compiled_laws.proofs.Costs.{costs_op, costs_empty, costs_label, costs_test}
-use Rattle.wap_compiled_laws.proofs.Costs.{costs_before, costs_anywhere, costs_within, byte_fits}
-use Rattle.wap_compiled_laws.proofs.Expressions.{Place, numbers, Known, Given, Good, met_both}
-use Rattle.wap_compiled_laws.proofs.Expressions.{store_costs, variable_fits, cond_costs, expr_good}
+use Rattle.wap_code_costs.proofs.Each.{each_front, each_back, each_of}
+use Rattle.wap_code_costs.proofs.Costs.{Fits, cost, Allowed, Costs, costs_both, costs_same}
+use Rattle.wap_code_costs.proofs.Costs.{costs_one}
+use Rattle.wap_code_costs.proofs.Costs.{costs_op, costs_empty, costs_label, costs_test}
+use Rattle.wap_code_costs.proofs.Costs.{costs_before, costs_anywhere, costs_within, byte_fits}
+use Rattle.wap_code_costs.proofs.Expressions.{Place, numbers, Known, Given, Good, met_both}
+use Rattle.wap_code_costs.proofs.Expressions.{store_costs, variable_fits, cond_costs, expr_good}
 
 module _ (here : Place) where
   -- what is said can be coded
@@ -226,7 +227,8 @@ module _ (here : Place) where
       let good = here_good inside e known given in (
         good.0,
         λ over.
-            costs_both inside (expr_code (numbers here) e) (jump_over op.TjumpFw over) (expr_wide e) 3
+            costs_both inside (expr_code (numbers here) e) (jump_over op.TjumpFw over)
+            (expr_wide e) 3
             good.1 (costs_test inside over),
       )
 
@@ -262,12 +264,7 @@ module _ (here : Place) where
       → Good here inside (optional_needs update) (update_code (numbers here) update)
       (effect_wide_if update)
   update_good inside None known given = (tt, costs_empty inside)
-  update_good inside (Some e) known given =
-      let good = part_good e known given in (
-        good.0,
-        costs_anywhere inside (dropped_code (expr_code (numbers here) e)) (expr_wide e + 1)
-            (dropped_costs (expr_code (numbers here) e) (expr_wide e) good.1),
-      )
+  update_good inside (Some e) known given = effect_good inside e known given
 
   -- `break` and `continue` in a loop
   exit_costs : (which : ℕ × ℕ → ℕ) → Costs true (one (λ exits at. exit_form exits which)) 3
@@ -387,7 +384,8 @@ module _ (here : Place) where
             (expr_wide c + stmt_wide s.0 + stmt_wide other.0 + 6)
             (expr_wide c + (stmt_wide s.0 + stmt_wide other.0 + 6)) (omega arith)
             (cond_costs here inside (expr_code (numbers here) c) (stmt_code (numbers here) s.0)
-            (stmt_code (numbers here) other.0) (expr_wide c) (stmt_wide s.0) (stmt_wide other.0) cs.1
+            (stmt_code (numbers here) other.0) (expr_wide c) (stmt_wide s.0)
+            (stmt_wide other.0) cs.1
             first.1 second.1),
       )
   layers (Stmt-F.While c s) inside known given =
@@ -399,7 +397,8 @@ module _ (here : Place) where
         costs_same inside (loop_code (test_code (numbers here) (Some c))
             (stmt_code (numbers here) s.0) empty) (expr_wide c + 3 + stmt_wide s.0 + 0 + 3)
             (stmt_wide s.0 + (expr_wide c + 6)) (omega arith)
-            (loop_costs inside (test_code (numbers here) (Some c)) (stmt_code (numbers here) s.0) empty
+            (loop_costs inside (test_code (numbers here) (Some c))
+            (stmt_code (numbers here) s.0) empty
             (expr_wide c + 3) (stmt_wide s.0) 0 test.1 body.1 (costs_empty inside)),
       )
   layers (Stmt-F.For first c update s) inside known given =
@@ -427,7 +426,8 @@ module _ (here : Place) where
             (costs_both inside (stmt_code (numbers here) first.0) loop (stmt_wide first.0)
             (test_wide c + stmt_wide s.0 + effect_wide_if update + 3) firsts.1
             (loop_costs inside (test_code (numbers here) c) (stmt_code (numbers here) s.0)
-            (update_code (numbers here) update) (test_wide c) (stmt_wide s.0) (effect_wide_if update)
+            (update_code (numbers here) update) (test_wide c) (stmt_wide s.0)
+            (effect_wide_if update)
             test.1 body.1 updates.1)),
       )
   layers (Stmt-F.Break word) true known given = (tt, exit_costs (λ labels. labels.0))

@@ -1,6 +1,7 @@
 -- An expression of a program whose names are known: the unit has what it needs, and its code costs
 -- what the wide size says. By induction on trees.
-use Rattle.std.proofs.Common.{◌≡◌, ℕ, ◌+◌, ◌≤◌, ◌<◌, suc, Bool, true, false, ◌||◌, cond, List, [], ◌∷◌, ◌++◌}
+use Rattle.std.proofs.Common.{◌≡◌, ℕ, ◌+◌, ◌≤◌, ◌<◌, suc, Bool, true, false, ◌||◌, cond, List, []}
+use Rattle.std.proofs.Common.{◌∷◌, ◌++◌}
 use Rattle.std.proofs.Common.{length}
 use Rattle.std.proofs.Common.{Option, Some, None, map, refl, sym, ap, ◌∙◌, subst, arith, slice_get}
 use Rattle.std.specs.List.{AllByRecursion, flat_map, sum, sum_by}
@@ -46,11 +47,11 @@ use Rattle.wap_coding.specs.Expressions.{change_name, step_code, cond_code, expr
 use Rattle.wap_coding_laws.proofs.Pooled.{IsPoolable, literal_at, text_at}
 use Rattle.wap_compiled.specs.Wide.{literal_wide, assign_wide, unary_wide, binary_wide}
 use Rattle.wap_compiled.specs.Wide.{expr_wide_by, expr_wide}
-use Rattle.wap_compiled_laws.proofs.Each.{each_front, each_back}
-use Rattle.wap_compiled_laws.proofs.Libraries.{row_of_names}
-use Rattle.wap_compiled_laws.proofs.Costs.{Costs, costs_both, costs_same, costs_op, costs_empty}
-use Rattle.wap_compiled_laws.proofs.Costs.{costs_label, costs_over, costs_test, byte_fits}
-use Rattle.wap_compiled_laws.proofs.Costs.{word_fits, library_fits, address_fits}
+use Rattle.wap_code_costs.proofs.Each.{each_front, each_back}
+use Rattle.wap_code_costs.proofs.Libraries.{row_of_names}
+use Rattle.wap_code_costs.proofs.Costs.{Costs, costs_both, costs_same, costs_op, costs_empty}
+use Rattle.wap_code_costs.proofs.Costs.{costs_label, costs_over, costs_test, byte_fits}
+use Rattle.wap_code_costs.proofs.Costs.{word_fits, library_fits, address_fits}
 
 -- what is in a list has a place within it
 pub place_within : (l : Literal) (pool : List Literal) → is_in l pool ≡ true
@@ -140,7 +141,8 @@ module _ (here : Place) where
       (tt, costs_op false (instr op.ConstTrue 0 0 0) 1 refl refl)
   literal_good (literal.Bool false) given =
       (tt, costs_op false (instr op.ConstFalse 0 0 0) 1 refl refl)
-  literal_good literal.Invalid given = (tt, costs_op false (instr op.ConstInvalid 0 0 0) 1 refl refl)
+  literal_good literal.Invalid given =
+      (tt, costs_op false (instr op.ConstInvalid 0 0 0) 1 refl refl)
 
   -- ---- operators
 
@@ -299,7 +301,8 @@ module _ (here : Place) where
       let less = by (slice_get here.program.functions (function_at numbers.names f)) refl is in (
         (here.arities (function_at numbers.names f) ∙ is, tt),
         costs_op false (instr op.Call (function_at numbers.names f) 0 0) 2
-            (byte_fits (function_at numbers.names f) (omega (arith, less, here.few_functions))) refl,
+            (byte_fits (function_at numbers.names f) (omega (arith, less, here.few_functions)))
+            refl,
       )
     where
       by : (o : Option Function)
@@ -333,7 +336,8 @@ module _ (here : Place) where
   -- a function of a library
   library_good : (l f : Id) (count : ℕ) → library_arity l.name f.name ≡ Some count
       → AreMet here.unit numbers (Library l f count ∷ [])
-      × Costs false (one (λ exits at. Op (instr op.CallLib (numbers_of l f).1 (numbers_of l f).0 0)))
+      × Costs false
+      (one (λ exits at. Op (instr op.CallLib (numbers_of l f).1 (numbers_of l f).0 0)))
       4
   unfolding wide_size operation_of longest
   library_good l f count is = by (lib_named l.name f.name) refl is
@@ -374,7 +378,8 @@ module _ (here : Place) where
   needed_in pairs = map (λ (pair : BinOp × Expr). (pair.0, expr_needs pair.1)) (operands pairs)
 
   abbrev coded_in : List (BinOp × Part) → List (BinOp × Coded)
-  coded_in pairs = map (λ (pair : BinOp × Expr). (pair.0, expr_code numbers pair.1)) (operands pairs)
+  coded_in pairs =
+      map (λ (pair : BinOp × Expr). (pair.0, expr_code numbers pair.1)) (operands pairs)
 
   abbrev sized_in : List (BinOp × Part) → List (BinOp × ℕ)
   sized_in pairs = map (λ (pair : BinOp × Expr). (pair.0, expr_wide pair.1)) (operands pairs)
@@ -474,7 +479,8 @@ module _ (here : Place) where
   layers (Expr-F.Assign v (Some o) e) known given =
       let good = e.1 known.1 given.1.1 in (
         (known.0, (given.1.0, good.0)),
-        assigned_costs (variable_at numbers.names v) (Some o) (expr_code numbers e.0) (expr_wide e.0)
+        assigned_costs (variable_at numbers.names v) (Some o) (expr_code numbers e.0)
+            (expr_wide e.0)
             (variable_fits v known.0) good.1,
       )
   layers (Expr-F.Step v up prefix) known given =
@@ -502,7 +508,8 @@ module _ (here : Place) where
       (each_back Given (expr_needs first.0) _ rest_given) in (
         met_both (expr_needs c.0) _ cs.0 (met_both (expr_needs first.0) _ firsts.0 seconds.0),
         cond_costs false (expr_code numbers c.0) (expr_code numbers first.0)
-            (expr_code numbers second.0) (expr_wide c.0) (expr_wide first.0) (expr_wide second.0) cs.1
+            (expr_code numbers second.0) (expr_wide c.0) (expr_wide first.0)
+            (expr_wide second.0) cs.1
             firsts.1 seconds.1,
       )
   layers (Expr-F.Call f es) known given =
@@ -511,7 +518,8 @@ module _ (here : Place) where
       (known.0 ∙ ap Some (counts (trees es))) in (
         (call.0.0, all.0),
         costs_both false (all_code (map (expr_code numbers) (trees es)))
-            (with_operand op.Call (function_at numbers.names f)) (sum (map expr_wide (trees es))) 2 all.1
+            (with_operand op.Call (function_at numbers.names f))
+            (sum (map expr_wide (trees es))) 2 all.1
             call.1,
       )
   layers (Expr-F.External u f es) known given =
@@ -520,8 +528,10 @@ module _ (here : Place) where
       (few es known.0.1) in (
         (call.0.0, all.0),
         costs_both false (all_code (map (expr_code numbers) (trees es)))
-            (one (λ exits at. Op (instr op.CallUrl (url_number numbers u) (text_number numbers f.name)
-            (length (map (expr_code numbers) (trees es)))))) (sum (map expr_wide (trees es))) 6 all.1
+            (one (λ exits at. Op
+            (instr op.CallUrl (url_number numbers u) (text_number numbers f.name)
+            (length (map (expr_code numbers) (trees es))))))
+            (sum (map expr_wide (trees es))) 6 all.1
             call.1,
       )
     where

@@ -1,0 +1,5 @@
+pub mod Each
+pub mod Libraries
+pub mod Costs
+pub mod Expressions
+pub mod Statements
