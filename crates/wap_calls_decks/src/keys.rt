@@ -61,6 +61,12 @@ fn give_key(call: &mut Call, key: &Key) {
         Key::Answer(text) => give_named(call, "Answer", text),
         Key::Stop => call.give_word("Stop"),
         Key::Vars => call.give_word("Vars"),
+        Key::Push(bytes) => {
+            call.give_word("Push");
+            call.give_bytes(bytes.as_slice());
+        }
+        Key::Inbox => call.give_word("Inbox"),
+        Key::Follow(number) => give_numbered(call, "Follow", u32::from(*number)),
     }
 }
 

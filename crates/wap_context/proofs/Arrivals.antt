@@ -181,6 +181,7 @@ pub answers_deck : (one : Page) (answer : Result Deck Refusal) → answer ≡ de
     → IfOk answer (λ deck. deck_in (shelved one) ≡ Some deck)
 answers_deck one (Err why) is = tt
 answers_deck (page.Deck other) (Ok deck) is = cc
+answers_deck (page.Script unit) (Ok deck) is = absurd (cc)
 answers_deck (page.Words text) (Ok deck) is = absurd (cc)
 answers_deck page.Refused (Ok deck) is = absurd (cc)
 answers_deck page.Missing (Ok deck) is = absurd (cc)

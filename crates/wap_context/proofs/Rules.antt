@@ -115,6 +115,8 @@ module _ (site : Site) (browser : Browser) (over : IsOver site.shelf browser) wh
       let one = test_of url caller (entrance_of deck) in
       ap (after_step (test [] one browser.world))
       (arrive_if_is site.shelf browser over sets url deck one.allowed (ap deck_in is))
+  answered_is sets caller url (page.Script unit) is =
+      refused_is site.shelf browser over refusals.Refused
   answered_is sets caller url (page.Words text) is =
       refused_is site.shelf browser over refusals.Refused
   answered_is sets caller url page.Refused is =
@@ -128,6 +130,8 @@ module _ (site : Site) (browser : Browser) (over : IsOver site.shelf browser) wh
       ≡ returned_at sets earlier (place_held browser) browser.world (deck_answer one)
   returned_is sets earlier (page.Deck deck) is =
       return_is site.shelf browser over sets earlier deck (ap deck_in is)
+  returned_is sets earlier (page.Script unit) is =
+      refused_is site.shelf browser over refusals.Refused
   returned_is sets earlier (page.Words text) is =
       refused_is site.shelf browser over refusals.Refused
   returned_is sets earlier page.Refused is =

@@ -17,7 +17,7 @@ fn deck_answer(page: Page) -> Result<Shared<GoodDeck>, Refusal>
 {
     match page {
         Page::Deck(deck) => Ok(deck),
-        Page::Words(_) | Page::Refused => Err(Refusal::Refused),
+        Page::Script(_) | Page::Words(_) | Page::Refused => Err(Refusal::Refused),
         Page::Missing => Err(Refusal::Missing),
     }
 }

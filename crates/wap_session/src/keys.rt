@@ -44,10 +44,13 @@ pub(crate) fn press<P: Pages>(
         Key::Choose(field, option) => choose_option(context, alloc, *field, *option, pages),
         Key::Back => go_back(context, alloc, pages),
         Key::Tick(time) => context.tick(alloc, pages, *time),
-        Key::Ok | Key::Cancel | Key::Answer(_) | Key::Stop => Ok(refusal_lines(
-            alloc,
-            Refusal::Ignored,
-        )?),
+        Key::Ok
+        | Key::Cancel
+        | Key::Answer(_)
+        | Key::Stop
+        | Key::Push(_)
+        | Key::Inbox
+        | Key::Follow(_) => Ok(refusal_lines(alloc, Refusal::Ignored)?),
         Key::Vars => Ok(variable_lines(alloc, context.vars())?),
     }
 }

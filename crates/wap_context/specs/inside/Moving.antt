@@ -61,6 +61,7 @@ HasDeck url deck shelf = deck_at shelf url ≡ Some deck
 -- the deck that a page is, or why none is entered
 abbrev pub deck_answer : Page → Result Deck Refusal
 deck_answer (page.Deck deck) = Ok deck
+deck_answer (page.Script unit) = Err refusals.Refused
 deck_answer (page.Words text) = Err refusals.Refused
 deck_answer page.Refused = Err refusals.Refused
 deck_answer page.Missing = Err refusals.Missing
