@@ -1,0 +1,7 @@
+mod Bounds
+mod Causes
+mod Firsts
+mod Limits
+mod Looping
+mod Making
+mod Whole

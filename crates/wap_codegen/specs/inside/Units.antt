@@ -1,0 +1,72 @@
+-- What the code of a unit is made from, and why there is none. This project's own.
+use Rattle.std.specs.Prelude.{◌≡◌, ℕ, ◌+◌, ◌<◌, ◌≤◌, List, length}
+use Rattle.std.specs.List.{All, filter_map}
+use Rattle.wap_asm.specs.declared.form.Form.{Form}
+use Rattle.wap_asm.specs.Placing.{wide}
+use Rattle.wap_program.specs.declared.program.Function.{Function}
+use Rattle.wap_program.specs.declared.program.Program.{Program}
+use Rattle.wap_scope.specs.Meanings.{function_names}
+use Rattle.wap_scope_laws.specs.Known.{variables}
+use Rattle.wap_meaning.specs.Names.{url_in}
+use Rattle.wap_coding.specs.Constants.{Numbers}
+use Rattle.wap_pool.specs.Names.{AreOnce}
+use Rattle.wap_compiled.specs.Pool.{pool}
+use Rattle.wap_compiled.specs.Wide.{function_wide}
+use Rattle.wap_compiled.specs.Savings.{saved}
+use Rattle.wap_compiled.specs.Accepted.{most_constants, most_code}
+use Rattle.wap_compiled_laws.specs.Laws.{HasForms}
+use Rattle.wap_codegen.specs.Faults.{IsFirstLong}
+use Rattle.wap_codegen.specs.declared.fault.CompileFault.{CompileFault}
+use Rattle.wap_codegen.specs.declared.fault.CompileFault.TheVariants.{TooManyConstants, CodeTooLong}
+use Rattle.wap_codegen.specs.declared.fault.CompileFault.TheVariants.{NoMemory}
+
+-- ---- numbers
+
+-- names and constants are numbered as in a program, but for the variables of its functions
+pub record AreNumbersOf (p : Program) (numbers : Numbers) : Type 0 where
+  pub functions : numbers.names.functions ≡ function_names p
+  pub urls : numbers.names.urls ≡ filter_map url_in p.uses
+  pub pool : numbers.pool ≡ pool p
+
+-- ---- functions
+
+-- code can be made for a function: its variables stand once, and there are no more than a byte counts
+pub record CanBeMade (p : Program) (f : Function) : Type 0 where
+  pub forms : HasForms p f
+  pub once : AreOnce (variables f)
+  pub few : length (variables f) ≤ 255
+
+-- the functions of a program, where its constants have room
+abbrev pub AllHaveForms : Program → Type 0
+AllHaveForms p = length (pool p) ≤ most_constants → All (HasForms p) p.functions
+
+-- ---- why there is no code
+
+-- why forms have no code: with what operations of their own save, their wide code is too long
+abbrev pub IsFormsCause : ℕ → List Form → CompileFault → Type 0
+IsFormsCause index forms (CodeTooLong function bytes) =
+    (function ≡ index) × (bytes ≡ wide forms + saved forms) × (most_code < bytes)
+IsFormsCause index forms NoMemory = Unit {0}
+IsFormsCause index forms _ = ⊥
+
+-- why a function has no code
+abbrev pub IsFunctionCause : ℕ → Function → CompileFault → Type 0
+IsFunctionCause index f (CodeTooLong function bytes) =
+    (function ≡ index) × (bytes ≡ function_wide f) × (most_code < bytes)
+IsFunctionCause index f NoMemory = Unit {0}
+IsFunctionCause index f _ = ⊥
+
+-- why functions have no code
+abbrev pub IsFunctionsCause : Program → CompileFault → Type 0
+IsFunctionsCause p (CodeTooLong function bytes) = IsFirstLong p.functions function bytes
+IsFunctionsCause p NoMemory = Unit {0}
+IsFunctionsCause p _ = ⊥
+
+-- why a program has no unit
+abbrev pub IsUnitCause : Program → CompileFault → Type 0
+IsUnitCause p (TooManyConstants count) =
+    (most_constants < count) × (count ≡ length (pool p))
+IsUnitCause p (CodeTooLong function bytes) =
+    (length (pool p) ≤ most_constants) × IsFirstLong p.functions function bytes
+IsUnitCause p NoMemory = Unit {0}
+IsUnitCause p _ = ⊥
