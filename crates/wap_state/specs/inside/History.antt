@@ -1,0 +1,12 @@
+-- Entries of the history in slots. It only carries proofs.
+use Rattle.std.specs.Prelude.{◌≡◌, List, [], ◌∷◌, map, Option, Some, None}
+use Rattle.wap_world.specs.declared.history.Entry.{Entry}
+
+abbrev pub entries_in : List (Option Entry) → List Entry
+entries_in [] = []
+entries_in (Some entry ∷ slots) = entry ∷ entries_in slots
+entries_in (None ∷ slots) = entries_in slots
+
+-- there is an entry in each
+abbrev pub AreFilled : List (Option Entry) → Type 0
+AreFilled slots = slots ≡ map Some (entries_in slots)

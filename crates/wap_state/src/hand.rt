@@ -1,0 +1,41 @@
+//! The card at hand: the current one, and its deck.
+ghost use Rattle.std.specs.Prelude.{◌≡◌};
+ghost use Rattle.wap_state.specs.Held.{held_in};
+
+use std::marker::Model;
+use wap_good::{GoodDeck, View};
+use wap_site::Shared;
+
+/// A card and its deck. A contract sees both.
+#[derive(Drop)]
+pub struct Current<'a> {
+    /// The deck that is shown.
+    pub deck: &'a GoodDeck,
+    /// The card of this deck that is shown.
+    pub card: View<'a>,
+}
+
+impl<'a> Model for Current<'a> {
+    ghost use Rattle.wap_state.specs.Held.{Held};
+    ghost use Rattle.wap_markup.specs.contracts.deck.Item as item;
+    ghost use Rattle.std.specs.Coded.{codes};
+
+    ghost Value = { Held };
+
+    ghost coded = { Prim.hlevel (codes, item.the_row.coded) };
+
+    ghost view = { λ here. record { deck = here.deck.now; card = here.card } };
+}
+
+/// The card of a number in the deck at hand.
+pub fn here<'a>(deck: &'a Option<Shared<GoodDeck>>, number: Option<usize>) -> Option<Current<'a>>
+    ensures { result ≡ held_in deck.now number }
+{
+    match (deck, number) {
+        (Some(deck), Some(number)) => match deck.card(number) {
+            Some(card) => Some(Current { deck, card }),
+            None => None,
+        },
+        (Some(_), None) | (None, _) => None,
+    }
+}

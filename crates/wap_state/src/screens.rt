@@ -1,0 +1,74 @@
+//! The screen of the current card (WAP-191, section 11.5).
+ghost use Rattle.std.specs.Prelude.{◌≡◌, OnOk};
+ghost use Rattle.wap_cardrules.specs.Setting.{defaults};
+ghost use Rattle.wap_world.specs.Setting.{with_set};
+ghost use Rattle.wap_state.specs.Held.{screen_held, show_held, restart_held};
+ghost use Rattle.wap_state.specs.Scenes.{Plays};
+
+use crate::hand::Current;
+use crate::state::State;
+use std::alloc::Global;
+use wap_base::{NoMemory, Rows, Text};
+use wap_fields::apply_defaults;
+use wap_good::View;
+use wap_screens::{add_fault_lines, add_screen};
+
+impl State {
+    /// Adds the screen of a card.
+    pub fn add_screen(
+        &self,
+        alloc: Global,
+        here: &Current<'_>,
+        lines: &mut Rows<Text>,
+    ) -> Result<(), NoMemory>
+        ensures { OnOk result (Plays (screen_held here.now self.now)
+            self.now self.now lines.old lines.new) }
+    {
+        add_screen(alloc, here.deck, &here.card, &self.vars, lines)
+    }
+
+    /// Gives the fields of a card their defaults, and adds a line for each set that was refused.
+    fn apply_defaults(
+        &mut self,
+        alloc: Global,
+        card: &View<'_>,
+        lines: &mut Rows<Text>,
+    ) -> Result<(), NoMemory>
+        ensures { OnOk result
+            (Plays (with_set self.old (defaults self.old.vars card.now))
+            self.old self.new lines.old lines.new) }
+    {
+        let refused = apply_defaults(alloc, card, &mut self.vars)?;
+        add_fault_lines(alloc, refused.as_slice(), lines)
+    }
+
+    /// Shows a card: its fields get their defaults, its timer starts unless it has since the card
+    /// was entered, and its screen is drawn.
+    pub fn show(
+        &mut self,
+        alloc: Global,
+        here: &Current<'_>,
+        lines: &mut Rows<Text>,
+    ) -> Result<(), NoMemory>
+        ensures { OnOk result (Plays (show_held here.now self.old)
+            self.old self.new lines.old lines.new) }
+    {
+        self.apply_defaults(alloc, &here.card, lines)?;
+        self.start(alloc, &here.card)?;
+        self.add_screen(alloc, here, lines)
+    }
+
+    /// Starts the timer of a card anew, and draws its screen.
+    pub fn restart(
+        &mut self,
+        alloc: Global,
+        here: &Current<'_>,
+        lines: &mut Rows<Text>,
+    ) -> Result<(), NoMemory>
+        ensures { OnOk result (Plays (restart_held here.now self.old)
+            self.old self.new lines.old lines.new) }
+    {
+        self.start_timer(alloc, &here.card)?;
+        self.add_screen(alloc, here, lines)
+    }
+}

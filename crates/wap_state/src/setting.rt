@@ -1,0 +1,44 @@
+//! Setting variables (WAP-191, sections 9.4 and 10.3.4).
+ghost use Rattle.std.specs.Prelude.{◌≡◌, IfOk, OnOk};
+ghost use Rattle.wap_cardrules.specs.Setting.{set_all};
+ghost use Rattle.wap_world.specs.Setting.{set_variables};
+ghost use Rattle.wap_state.specs.Scenes.{Plays};
+
+use crate::state::State;
+use std::alloc::Global;
+use wap_base::{NoMemory, Rows, Text};
+use wap_fields::set_one;
+use wap_screens::add_fault_lines;
+use wap_vars::{VarFault, Vars};
+
+/// Sets variables in order, and tells why others were refused.
+fn set_all(
+    alloc: Global,
+    pairs: Rows<(Text, Text)>,
+    vars: &mut Vars,
+) -> Result<Rows<VarFault>, NoMemory>
+    ensures vars { OnOk result (vars.new ≡ (set_all vars.old pairs).vars) }
+    ensures refused { IfOk result (λ refused. refused ≡ (set_all vars.old pairs).refused) }
+{
+    let mut refused = Rows::new(alloc);
+    for (name, text) in pairs.into_vec() {
+        set_one(vars, &name, text, &mut refused)?;
+    }
+    Ok(refused)
+}
+
+impl State {
+    /// Sets variables in order, and adds a line for each that was refused.
+    pub fn set_variables(
+        &mut self,
+        alloc: Global,
+        pairs: Rows<(Text, Text)>,
+        lines: &mut Rows<Text>,
+    ) -> Result<(), NoMemory>
+        ensures { OnOk result
+            (Plays (set_variables pairs self.old) self.old self.new lines.old lines.new) }
+    {
+        let refused = set_all(alloc, pairs, &mut self.vars)?;
+        add_fault_lines(alloc, refused.as_slice(), lines)
+    }
+}
