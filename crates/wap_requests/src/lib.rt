@@ -13,4 +13,4 @@ pub use access::{Entrance, entrance_of, may_enter};
 pub use laws::access_is_by_labels_and_segments;
 pub use lines::request_line;
 pub use requests::{Request, plain_get, request_of};
-pub use urls::{is_same_page, target};
+pub use urls::{is_same_page, page_text, page_url, target};

@@ -11,7 +11,7 @@ use wap_url::{Url, UrlFault, join, print};
 use wap_world::Refusal;
 
 /// The URL as text, without its fragment.
-pub(crate) fn page_text(alloc: Global, url: &Url) -> Result<Text, NoMemory>
+pub fn page_text(alloc: Global, url: &Url) -> Result<Text, NoMemory>
     ensures { IfOk result (λ text. text ≡ text_without_fragment url.now) }
 {
     let mut page = url.copy(alloc)?;
@@ -39,7 +39,7 @@ fn has_other_scheme(url: &Url) -> bool
 }
 
 /// A URL that is one of a page, by its scheme and with a host.
-fn page_url(url: Url) -> Result<Url, Refusal>
+pub fn page_url(url: Url) -> Result<Url, Refusal>
     ensures { result ≡ page_url url }
 {
     if has_other_scheme(&url) {
