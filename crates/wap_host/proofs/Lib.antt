@@ -1,0 +1,7 @@
+pub mod Words
+pub mod Shelves
+pub mod Serving
+pub mod Comings
+pub mod Externals
+pub mod Calls
+pub mod Loads

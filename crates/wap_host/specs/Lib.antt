@@ -1,0 +1,4 @@
+pub mod Stages
+pub mod Serving
+pub mod Finding
+pub mod inside

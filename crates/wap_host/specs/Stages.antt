@@ -1,0 +1,56 @@
+-- The stage on which a script plays: what it sees of a browser and may change, and the view that it
+-- makes with pages that are known. This project's own.
+use Rattle.std.specs.Prelude.{ℕ, List, Option, min}
+use Rattle.std.specs.Option.{option_map}
+use Rattle.wap_base.specs.Count.{greatest_count}
+use Rattle.wap_markup.specs.declared.deck.Deck.{Deck}
+use Rattle.wap_site.specs.Asking.{Seen}
+use Rattle.wap_world.specs.World.{World}
+use Rattle.wap_scripting.specs.UnitSites.{unit_pages}
+use Rattle.wap_scripting.specs.Views.{Counted, View}
+
+-- the world, the deck at hand and the lines so far
+pub record Sight : Type 0 where
+  pub world : World
+  pub deck : Option Deck
+  pub lines : List (List ℕ)
+
+-- the same, and the turns that are left, which are counted apart
+pub record Stage : Type 0 where
+  pub world : World
+  pub deck : Option Deck
+  pub lines : List (List ℕ)
+  pub turns : ℕ
+
+abbrev pub sight_of : Stage → Sight
+sight_of stage =
+    record { world = stage.world; deck = stage.deck; lines = stage.lines }
+
+-- ---- with pages
+
+-- what pages count, where their cache is known
+abbrev pub counted_in : Seen → Option Counted
+counted_in seen = option_map (λ cache. record { cache = cache; fetches = seen.fetches }) seen.cache
+
+-- the view, where the pages are known
+abbrev pub view_in : Sight → Seen → Option View
+view_in sight seen = option_map (λ judged. record {
+  world = sight.world;
+  deck = sight.deck;
+  lines = sight.lines;
+  pages = unit_pages judged;
+  counted = counted_in seen;
+}) seen.contents
+
+abbrev pub told : Stage → Seen → Option View
+told stage seen = view_in (sight_of stage) seen
+
+-- ---- fetches
+
+-- a count is none past the greatest
+abbrev pub count_of : ℕ → ℕ
+count_of count = min count greatest_count
+
+-- how often the store was asked, where a view says it
+abbrev pub fetched_in : View → Option ℕ
+fetched_in view = option_map (λ counted. count_of counted.fetches) view.counted
