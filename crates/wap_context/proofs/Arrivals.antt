@@ -17,8 +17,8 @@ use Rattle.wap_world.specs.declared.history.Entry.{Entry}
 use Rattle.wap_world.specs.declared.refusal.Refusal.{Refusal}
 use Rattle.wap_world.specs.declared.timer.Timer.TheVariants.{NotStarted}
 use Rattle.wap_world.specs.World.{World, Place, place_in, deck_in, deck_at, last_entry}
-use Rattle.wap_world.specs.Steps.{Scene, Once, quiet, settled, after_step}
-use Rattle.wap_world.specs.Decks.{shelved}
+use Rattle.wap_world.specs.Steps.{Scene, Once, Next, then_task, quiet, settled, after_step}
+use Rattle.wap_host.specs.Finding.{shelved_page}
 use Rattle.wap_world.specs.Requests.{test, test_of}
 use Rattle.wap_world.specs.Access.{entrance_of, may_enter}
 use Rattle.wap_world.specs.declared.refusal.Refusal.TheVariants as refusals
@@ -26,11 +26,21 @@ use Rattle.wap_world.specs.History.{pushed, entry_of, in_deck, back_at, all_but_
 use Rattle.wap_world.specs.Tasks.{card_for, is_new_context, in_context}
 use Rattle.wap_context.specs.Browsers.{Browser, IsOver, place_held}
 use Rattle.wap_context.specs.inside.Held.{not_started, show_at, leave_and_set_at, event_at}
-use Rattle.wap_context.specs.inside.Held.{entered_at, enter_at, arrive_at, arrive_if_at}
+use Rattle.wap_context.specs.inside.Held.{entered_at, begun_at, enter_at, arrive_at, arrive_if_at}
 use Rattle.wap_context.specs.inside.Held.{return_at, refused_at, with_deck_at}
-use Rattle.wap_context.specs.inside.Moving.{Line, PlaysAt, Moves, HasDeck, Answers, deck_answer}
+use Rattle.wap_state.specs.Scenes.{Line}
+use Rattle.wap_context.specs.inside.Moving.{PlaysAt, Moves, HasDeck, Answers, deck_answer, page_answer}
 use Rattle.wap_world.proofs.Entries.{last_pushed, earlier_url}
 use Rattle.wap_context.proofs.Plays.{history_kept, turns_kept, over_kept}
+
+-- the answer of a page that is entered is one of a page that is gone back to
+pub entered_deck : (one : Page) (answer : Result Deck Refusal) → page_answer one ≡ Ok answer
+    → answer ≡ deck_answer one
+entered_deck (page.Deck other) answer is = cc
+entered_deck (page.Script unit) answer is = absurd (cc)
+entered_deck (page.Words text) answer is = cc
+entered_deck page.Refused answer is = cc
+entered_deck page.Missing answer is = cc
 
 -- a scene that settles a navigation
 pub moves_settled : (rule : Option Place → World → Scene) (old new : Browser)
@@ -44,7 +54,7 @@ moves_settled rule old new before after one =
       world = one.plays.world;
       lines = one.plays.lines;
       leads = refl;
-      keys = refl;
+      closed = refl;
       asked = refl;
       turns = turns_kept scene old.world new.world before after one.plays;
       over =
@@ -52,75 +62,65 @@ moves_settled rule old new before after one =
           (history_kept scene old.world new.world before after one.plays) over;
     }
 
-abbrev Entered : Event → Browser → Browser → List Line → List Line → Option Task
+-- what an event begins at the place at hand, by its task
+abbrev Begun : Event → Browser → Browser → List Line → List Line → Option Next
     → Option Task → Type 0
-Entered event old new before after next task =
-    Moves (entered_at (place_held old) (not_started old).world task)
+Begun event old new before after next task =
+    Moves (entered_at (place_held old) old.world task)
     (λ shelf. IsOver shelf old) old new before after next
 
-pub enter_some : (event : Event) (old : Browser) (lines : List Line) (task : Task)
-    → Some task ≡ event_at event (place_held old) (not_started old).world
-    → Moves (enter_at event (place_held old) old.world) (λ shelf. IsOver shelf old) old
-    (not_started old) lines lines (Some task)
-enter_some event old lines task is =
-    subst (Entered event old (not_started old) lines lines (Some task)) is
+-- an event that has a task
+pub begin_some : (event : Event) (old : Browser) (lines : List Line) (found : Option Task)
+    (task : Task) → found ≡ event_at event (place_held old) old.world → found ≡ Some task
+    → Moves (begun_at event (place_held old) old.world) (λ shelf. IsOver shelf old) old old
+    lines lines (Some (then_task task))
+begin_some event old lines found task is there =
+    subst (Begun event old old lines lines (Some (then_task task))) (sym there ∙ is)
     (record {
       world = refl;
       lines = sym (append-nil lines);
       leads = refl;
-      keys = refl;
+      closed = refl;
       asked = refl;
       turns = refl;
       over = λ shelf over. over;
     })
 
-pub enter_none : (event : Event) (old new : Browser) (before after : List Line)
-    → None ≡ event_at event (place_held old) (not_started old).world
-    → PlaysAt show_at (not_started old) new before after
-    → Moves (enter_at event (place_held old) old.world)
+-- one that has none
+pub begin_none : (event : Event) (old new : Browser) (before after : List Line)
+    (found : Option Task) → found ≡ event_at event (place_held old) old.world → found ≡ None
+    → PlaysAt show_at old new before after
+    → Moves (begun_at event (place_held old) old.world)
     (λ shelf. IsOver shelf old) old new before after None
-enter_none event old new before after is shown =
-    let moves = moves_settled show_at (not_started old) new before after shown in
-    subst (Entered event old new before after None) is
-    (record {
-      world = moves.world;
-      lines = moves.lines;
-      leads = refl;
-      keys = refl;
-      asked = refl;
-      turns = moves.turns;
-      over = moves.over;
-    })
+begin_none event old new before after found is there shown =
+    subst (Begun event old new before after None) (sym there ∙ is)
+    (moves_settled show_at old new before after shown)
 
-abbrev EventIs : Event → Option Task → Browser → Type 0
-EventIs event task browser = task ≡ event_at event (place_held browser) browser.world
-
-pub enter_some_at : (event : Event) (old mid : Browser) (lines : List Line)
-    (found : Option Task) (task : Task)
-    → mid ≡ not_started old → EventIs event found mid → found ≡ Some task
-    → Moves (enter_at event (place_held old) old.world)
-    (λ shelf. IsOver shelf old) old mid lines lines (Some task)
-enter_some_at event old mid lines found task is here there =
-    subst (λ (b : Browser).
-    Moves (enter_at event (place_held old) old.world)
-    (λ shelf. IsOver shelf old) old b lines lines (Some task))
-    (sym is)
-    (enter_some event old lines task (sym there ∙ subst (EventIs event found) is here))
-
-pub enter_none_at : (event : Event) (old mid new : Browser) (before after : List Line)
-    (found : Option Task)
-    → mid ≡ not_started old → EventIs event found mid → found ≡ None
-    → PlaysAt show_at mid new before after
-    → Moves (enter_at event (place_held old) old.world)
-    (λ shelf. IsOver shelf old) old new before after None
-enter_none_at event old mid new before after found is here there shown =
-    enter_none event old new before after (sym there ∙ subst (EventIs event found) is here)
-    (subst (λ (b : Browser). PlaysAt show_at b new before after) is shown)
+-- the timer is not started before
+pub enters_by : (event : Event) (old mid new : Browser) (before after : List Line)
+    (next : Option Next) → mid ≡ not_started old
+    → Moves (begun_at event (place_held mid) mid.world) (λ shelf. IsOver shelf mid) mid new
+    before after next
+    → Moves (enter_at event (place_held old) old.world) (λ shelf. IsOver shelf old) old new
+    before after next
+enters_by event old mid new before after next is moves =
+    let one = subst (λ (b : Browser).
+    Moves (begun_at event (place_held b) b.world) (λ shelf. IsOver shelf b) b new before after next)
+    is moves in
+    record {
+      world = one.world;
+      lines = one.lines;
+      leads = one.leads;
+      closed = one.closed;
+      asked = one.asked;
+      turns = one.turns;
+      over = one.over;
+    }
 
 -- a card that is left, and another that is entered
 module _ (sets : Pairs) (event : Event) (old left mid new : Browser)
     (before shown after : List Line)
-    (next : Option Task) (entry : Entry) (deck : Deck)
+    (next : Option Next) (entry : Entry) (deck : Deck)
     (leaves : PlaysAt (leave_and_set_at sets) old left before shown)
     (there : place_held mid ≡ place_in entry deck)
     (enters : Moves (enter_at event (place_held mid) mid.world)
@@ -147,7 +147,7 @@ module _ (sets : Pairs) (event : Event) (old left mid new : Browser)
             (ap (λ (o : Once). o.step.lines) onces)
             ∙ append_assoc before scene.lines (entered (inside scene.world)).step.lines;
         leads = enters.leads ∙ ap (λ (o : Once). o.next) onces;
-        keys = sym (ap (λ (o : Once). o.step.keys) onces) ∙ enters.keys;
+        closed = sym (ap (λ (o : Once). o.step.is_open) onces) ∙ enters.closed;
         asked = sym (ap (λ (o : Once). o.step.asked) onces) ∙ enters.asked;
         turns =
             enters.turns ∙ turns ∙ turns_kept scene old.world left.world before shown leaves.plays;
@@ -178,7 +178,7 @@ over_pushed history entry mid deck shelf is held has =
 
 -- a deck that answers is what the page is to the rules
 pub answers_deck : (one : Page) (answer : Result Deck Refusal) → answer ≡ deck_answer one
-    → IfOk answer (λ deck. deck_in (shelved one) ≡ Some deck)
+    → IfOk answer (λ deck. deck_in (shelved_page one) ≡ Some deck)
 answers_deck one (Err why) is = tt
 answers_deck (page.Deck other) (Ok deck) is = cc
 answers_deck (page.Script unit) (Ok deck) is = absurd (cc)
@@ -192,7 +192,7 @@ context_turns true w = refl
 context_turns false w = refl
 
 pub arrives : (sets : Pairs) (url : Url) (deck : Deck) (old left mid new : Browser)
-    (before shown after : List Line) (next : Option Task)
+    (before shown after : List Line) (next : Option Next)
     → PlaysAt (leave_and_set_at sets) old left before shown
     → mid ≡ record {
       world =
@@ -222,7 +222,7 @@ arrives sets url deck old left mid new before shown after next leaves mid_is ent
     (λ shelf has. over_pushed kept entry mid deck shelf history held has)
 
 pub returns_to : (sets : Pairs) (earlier : Entry) (deck : Deck) (old left mid new : Browser)
-    (before shown after : List Line) (next : Option Task)
+    (before shown after : List Line) (next : Option Next)
     → PlaysAt (leave_and_set_at sets) old left before shown
     → mid ≡ record { world = back_at left.world (in_deck deck earlier); deck = Some deck }
     → Moves (enter_at Backward (place_held mid) mid.world)
@@ -246,21 +246,21 @@ returns_to sets earlier deck old left mid new before shown after next leaves mid
 -- ---- answers
 
 pub moves_where : (once : Once) (These Others : Shelf → Type 0) (old new : Browser)
-    (before after : List Line) (next : Option Task)
+    (before after : List Line) (next : Option Next)
     → ((shelf : Shelf) → Others shelf → These shelf) → Moves once These old new before after next
     → Moves once Others old new before after next
 moves_where once These Others old new before after next onto moves = record {
   world = moves.world;
   lines = moves.lines;
   leads = moves.leads;
-  keys = moves.keys;
+  closed = moves.closed;
   asked = moves.asked;
   turns = moves.turns;
   over = λ shelf so. moves.over shelf (onto shelf so);
 }
 
 module _ (rule : Deck → Once) (url : Url) (old new : Browser) (before after : List Line)
-    (next : Option Task)
+    (next : Option Next)
     (answer : Result Deck Refusal) where
   abbrev MovesBy : Result Deck Refusal → Type 0
   MovesBy one =
@@ -284,7 +284,7 @@ module _ (rule : Deck → Once) (url : Url) (old new : Browser) (before after : 
       (λ shelf so. so.0) moves)
 
 module _ (sets : Pairs) (caller : Option Url) (url : Url) (deck : Deck) (old new : Browser)
-    (before after : List Line) (next : Option Task) where
+    (before after : List Line) (next : Option Next) where
   abbrev Tries : Bool → Type 0
   Tries b =
       Moves (after_step (test [] (test_of url caller (entrance_of deck)) old.world)
@@ -299,7 +299,7 @@ module _ (sets : Pairs) (caller : Option Url) (url : Url) (deck : Deck) (old new
     world = moves.world;
     lines = moves.lines;
     leads = moves.leads;
-    keys = moves.keys;
+    closed = moves.closed;
     asked = moves.asked;
     turns = moves.turns;
     over = λ shelf so. moves.over shelf so.1;
@@ -313,7 +313,7 @@ module _ (sets : Pairs) (caller : Option Url) (url : Url) (deck : Deck) (old new
     world = moves.world;
     lines = moves.lines;
     leads = moves.leads;
-    keys = moves.keys;
+    closed = moves.closed;
     asked = moves.asked;
     turns = moves.turns;
     over = λ shelf so. moves.over shelf so.0;

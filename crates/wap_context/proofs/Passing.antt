@@ -1,113 +1,282 @@
--- Time that passes: quiet steps, and a timer that runs out.
-use Rattle.std.proofs.Common.{◌≡◌, ◌∙◌, ℕ, Bool, List, [], ◌++◌, Option, Some, None}
-use Rattle.std.proofs.Common.{refl, sym, ap, ap₂, subst, append_assoc}
-use Rattle.std.specs.Prelude.{Result}
+-- Time that passes: quiet steps, a timer that runs out, and time in a dialog.
+use Rattle.std.proofs.Common.{◌≡◌, ◌∙◌, ◌<◌, ◌≤◌, ◌-◌, ℕ, Bool, true, false, List, [], ◌∷◌, ◌++◌}
+use Rattle.std.proofs.Common.{Option, Some, None, Ok, Err, refl, sym, ap, ap₂, subst}
+use Rattle.std.proofs.Common.{append-nil, cond, ltb}
+use Rattle.std.specs.Prelude.{Result, IsErr, IsErrAnd}
+use Rattle.std.specs.Option.{option_map}
+use Rattle.std.proofs.lemmas.Bool.{lt-ltb, le-ltb, false≢true}
 use Rattle.wap_base.specs.declared.fault.RunErr.{RunErr}
+use Rattle.wap_base.specs.declared.fault.RunErr.TheVariants.{NoMemory}
+use Rattle.wap_input.specs.declared.key.Key.{Key}
 use Rattle.wap_cardrules.specs.declared.event.Event.TheVariants as event
 use Rattle.wap_cardrules.specs.declared.task.Task.{Task}
-use Rattle.wap_world.specs.Sites.{Site}
-use Rattle.wap_site.specs.Asking.{Seen, Asks, Fails}
-use Rattle.wap_world.specs.World.{World, Place}
-use Rattle.wap_world.specs.Steps.{Scene, Step, still}
+use Rattle.wap_site.specs.Asking.{Seen, Stays}
+use Rattle.wap_site.proofs.Asking.{Asks-nil, Stays-same}
+use Rattle.wap_world.specs.declared.timer.Timer.{Timer}
+use Rattle.wap_world.specs.declared.timer.Timer.TheVariants.{NotStarted, Running, Off, Expired}
+use Rattle.wap_world.specs.Shelves.{Shelf}
+use Rattle.wap_world.specs.World.{World, Place, place_now}
+use Rattle.wap_world.specs.Steps.{Scene, Step, Next, then_task, still, quiet, joined, followed}
 use Rattle.wap_world.specs.Screens.{at_place, here}
 use Rattle.wap_world.specs.Entering.{event_task}
-use Rattle.wap_world.specs.Keys.{act_or}
-use Rattle.wap_context.specs.Browsers.{Browser, IsOver, place_held}
+use Rattle.wap_world.specs.Tasks.{act}
+use Rattle.wap_world.specs.Keys.{ignored, act_or, expire, pass_time, at_card}
+use Rattle.wap_world.proofs.Joining.{joined_nothing}
+use Rattle.wap_world_laws.specs.Ignored.{is_running}
+use Rattle.wap_scripting.specs.Dialogs.{tick_waiting, run_out as expires}
+use Rattle.wap_scripting.specs.UnitSites.{Pages, shelf_of, units_site}
+use Rattle.wap_state.specs.Scenes.{Line}
+use Rattle.wap_context.specs.declared.waiting.Went.{Went}
+use Rattle.wap_context.specs.declared.waiting.Went.TheVariants.{Settled, Leads, Asks as AsksUser}
+use Rattle.wap_context.specs.declared.waiting.Step.{Step as Did}
+use Rattle.wap_context.specs.declared.waiting.Step.TheVariants.{Settled as Done}
+use Rattle.wap_context.specs.Browsers.{Browser, IsOver, place_held, Shows}
+use Rattle.wap_context.specs.Sites.{site_of}
+use Rattle.wap_context.specs.Missing.{Missed}
+use Rattle.wap_context.specs.Acting.{tick}
 use Rattle.wap_context.specs.inside.Held.{event_at}
-use Rattle.wap_context.specs.inside.Moving.{Line, PlaysAt, Pursues}
-use Rattle.wap_context.specs.inside.Ticking.{end_place, run_out}
+use Rattle.wap_context.specs.inside.Moving.{PlaysAt, next_in, waits_in, pursued, Pursues}
+use Rattle.wap_context.specs.inside.Ticking.{left_of, left_at, end_place, run_out, expire_place}
+use Rattle.wap_context.specs.inside.Ticking.{count_down_at}
 use Rattle.wap_context.proofs.Places.{held_now}
-use Rattle.wap_context.proofs.Plays.{on_ok, history_kept, over_kept}
-use Rattle.wap_context.proofs.Takings.{over_map}
-use Rattle.wap_context.proofs.Pursuing.{Pursued, left_of}
+use Rattle.wap_context.proofs.Plays.{history_kept, over_kept}
+use Rattle.wap_context.proofs.Takings.{over_all, over_map, if_ok_both}
+use Rattle.wap_context.proofs.Pursuing.{StepRule, Behind, Going, ends_settled, pursues_after}
 
-abbrev Rule : Type 0
-Rule = Site → World → Step
+-- ---- by other rules
 
--- ---- some lines, and then a step
+pub pursues_from : (rule other : StepRule) (seen after : Seen) (old new : Browser)
+    (before : List Line) (result : Result Did RunErr)
+    → ((pages : Pages) → IsOver (shelf_of pages) old → (keys : List Key)
+    → other pages keys old.world ≡ rule pages keys old.world)
+    → Pursues other seen after old new before result
+    → Pursues rule seen after old new before result
+pursues_from rule other seen after old new before result is so = record {
+  follows = if_ok_both result (λ did. over_map seen.contents old old (λ pages over. over)
+      (λ pages over ended. record {
+        step = ended.step;
+        world = ended.world;
+        lines = ended.lines;
+        closed = ended.closed;
+        over = ended.over;
+        asks = ended.asks;
+        on = λ keys. sym (is pages over keys) ∙ ended.on keys;
+      })) so.follows;
+  steady = so.steady;
+  missed = λ failed. over_map seen.contents old old (λ pages over. over)
+      (λ pages over missed. subst (λ (s : Step). Missed s.asked seen after) (is pages over [])
+      missed) (so.missed failed);
+  rose = so.rose;
+  stays = so.stays;
+}
 
-pub record Adds (extra : List Line) (next whole : Step) : Type 0 where
-  pub world : next.world ≡ whole.world
-  pub lines : extra ++ next.lines ≡ whole.lines
-  pub asked : next.asked ≡ whole.asked
+-- out of memory
+pub pursues_rejected : (rule : StepRule) (seen after : Seen) (old new : Browser)
+    (before : List Line) (result : Result Did RunErr) → Stays seen after
+    → IsErr result → IsErrAnd result (λ err. err ≡ NoMemory)
+    → Pursues rule seen after old new before result
+pursues_rejected rule seen after old new before (Ok did) stays is so = absurd (false≢true is)
+pursues_rejected rule seen after old new before (Err err) stays is so = record {
+  follows = tt;
+  steady = tt;
+  missed = λ failed. absurd (cc);
+  rose = λ failed. absurd (cc);
+  stays = stays;
+}
 
-pub pursues_after : (rule next : Rule) (seen after : Seen) (old mid new : Browser)
-    (before middle shown extra : List Line) (result : Result (Unit {0}) RunErr)
-    → middle ≡ before ++ extra
-    → ((site : Site) → IsOver site.shelf old → IsOver site.shelf mid)
-    → ((site : Site) → IsOver site.shelf old
-    → Adds extra (next site mid.world) (rule site old.world))
-    → Pursues next seen after mid new middle shown result
-    → Pursues rule seen after old new before shown result
-pursues_after rule next seen after old mid new before middle shown extra result is onto adds so =
-    record {
-      leads = on_ok result (over_map seen.contents old mid onto
-          (λ site over one. one ∙ (adds site over).world)) so.leads;
-      lines = on_ok result (over_map seen.contents old mid onto
-          (λ site over one. one ∙ ap (λ (l : List Line). l ++ (next site mid.world).lines) is
-          ∙ append_assoc before extra (next site mid.world).lines
-          ∙ ap (λ (l : List Line). before ++ l) (adds site over).lines)) so.lines;
-      over = on_ok result (over_map seen.contents old mid onto (λ site over one. one)) so.over;
-      asks = on_ok result (over_map seen.contents old mid onto
-          (λ site over one.
-          subst (λ (a : List (List ℕ × Bool)). Asks a seen after) (adds site over).asked one))
-          so.asks;
-      steady = so.steady;
-      failed = λ failed. over_map seen.contents old mid onto
-          (λ site over one.
-          subst (λ (a : List (List ℕ × Bool)). Fails a seen after) (adds site over).asked one)
-          (so.failed failed);
-      rose = so.rose;
-      stays = so.stays;
-    }
+-- ---- a scene, and then what is left to do
+
+-- a rule whose first part is a scene
+pub after_scene : (rule : StepRule) (seen : Seen) (old mid : Browser) (before middle : List Line)
+    (scene : Scene) (went : Went) → mid.world ≡ scene.world → middle ≡ before ++ scene.lines
+    → ((shelf : Shelf) → IsOver shelf old → IsOver shelf mid)
+    → ((pages : Pages) → IsOver (shelf_of pages) old → (keys : List Key)
+    → rule pages keys old.world ≡ joined (quiet [] scene) (pursued went pages keys scene.world))
+    → Going rule seen seen old mid before middle went
+after_scene rule seen old mid before middle scene went world lines onto is = record {
+  follows = over_all seen.contents old (λ pages over. record {
+    step = quiet [] scene;
+    world = world;
+    lines = lines;
+    closed = refl;
+    over = onto (shelf_of pages) over;
+    asks = Asks-nil seen;
+    on = is pages over;
+  });
+  steady = refl;
+  stays = Stays-same seen;
+}
+
+-- a rule that is a scene
+pub is_scene : (rule : StepRule) (seen : Seen) (old new : Browser) (before shown : List Line)
+    (scene : Scene) → new.world ≡ scene.world → shown ≡ before ++ scene.lines
+    → ((shelf : Shelf) → IsOver shelf old → IsOver shelf new)
+    → ((pages : Pages) → IsOver (shelf_of pages) old → (keys : List Key)
+    → rule pages keys old.world ≡ quiet keys scene)
+    → Pursues rule seen seen old new before (Ok (Done shown))
+is_scene rule seen old new before shown scene world lines onto is =
+    ends_settled rule seen seen old new before shown Settled refl
+    (after_scene rule seen old new before shown scene Settled world lines onto
+    (λ pages over keys. is pages over keys ∙ sym (joined_nothing (quiet [] scene) keys)))
+
+-- ---- the timer of a card
+
+-- what remains of it tells what time that passes comes to
+abbrev tick_by : (n : ℕ) (pages : Pages) (keys : List Key) (w : World) → Option Place → Step
+tick_by n pages keys w place =
+    at_card keys w (λ p. pass_time (site_of pages) keys n w.timer p w) place
+
+tick_is : (n : ℕ) (pages : Pages) (keys : List Key) (old : Browser) → IsOver (shelf_of pages) old
+    → tick n pages keys old.world ≡ tick_by n pages keys old.world (place_held old)
+unfolding units_site
+tick_is n pages keys old over =
+    ap (tick_by n pages keys old.world) (held_now (shelf_of pages) old over)
+
+none_by : (n : ℕ) (pages : Pages) (keys : List Key) (w : World) (timer : Timer) (place : Place)
+    → left_of timer ≡ None
+    → pass_time (site_of pages) keys n timer place w ≡ quiet keys (ignored w)
+none_by n pages keys w NotStarted place is = refl
+none_by n pages keys w (Running time) place is = absurd (cc)
+none_by n pages keys w Off place is = refl
+none_by n pages keys w Expired place is = refl
+
+none_at : (n : ℕ) (pages : Pages) (keys : List Key) (w : World) (place : Option Place)
+    → left_at place w.timer ≡ None → tick_by n pages keys w place ≡ quiet keys (ignored w)
+none_at n pages keys w None is = refl
+none_at n pages keys w (Some place) is = none_by n pages keys w w.timer place is
+
+-- no timer runs
+pub tick_none : (n : ℕ) (pages : Pages) (keys : List Key) (old : Browser)
+    → IsOver (shelf_of pages) old → left_at (place_held old) old.world.timer ≡ None
+    → tick n pages keys old.world ≡ quiet keys (ignored old.world)
+tick_none n pages keys old over is =
+    tick_is n pages keys old over ∙ none_at n pages keys old.world (place_held old) is
+
+-- one runs, with so much left
+running_by : (timer : Timer) (left : ℕ) → left_of timer ≡ Some left → timer ≡ Running left
+running_by NotStarted left is = absurd (cc)
+running_by (Running time) left is =
+    let same : time ≡ left = cc in ap Running same
+running_by Off left is = absurd (cc)
+running_by Expired left is = absurd (cc)
+
+record RunsAt (place : Option Place) (timer : Timer) (left : ℕ) : Type 0 where
+  at : Place
+  place_is : place ≡ Some at
+  timer_is : timer ≡ Running left
+
+runs_at : (place : Option Place) (timer : Timer) (left : ℕ) → left_at place timer ≡ Some left
+    → RunsAt place timer left
+runs_at None timer left is = absurd (cc)
+runs_at (Some place) timer left is =
+    record { at = place; place_is = refl; timer_is = running_by timer left is }
+
+-- less passes than remains
+pub tick_less : (n left : ℕ) (pages : Pages) (keys : List Key) (old : Browser)
+    → IsOver (shelf_of pages) old → Some left ≡ left_at (place_held old) old.world.timer → n < left
+    → tick n pages keys old.world
+    ≡ quiet keys (still (record old.world { timer = Running (left - n) }))
+unfolding units_site
+tick_less n left pages keys old over is less =
+    let runs = runs_at (place_held old) old.world.timer left (sym is) in
+    let w = old.world in
+    tick_is n pages keys old over
+    ∙ ap (tick_by n pages keys w) runs.place_is
+    ∙ ap (λ (t : Timer). pass_time (site_of pages) keys n t runs.at w) runs.timer_is
+    ∙ ap (λ (b : Bool). cond b (quiet keys (still (record w { timer = Running (left - n) })))
+    (expire (site_of pages) keys runs.at w)) (lt-ltb n left less)
+
+-- all of it passes
+pub tick_out : (n left : ℕ) (pages : Pages) (keys : List Key) (old : Browser)
+    → IsOver (shelf_of pages) old → Some left ≡ left_at (place_held old) old.world.timer → left ≤ n
+    → run_out pages keys old.world ≡ tick n pages keys old.world
+unfolding units_site
+tick_out n left pages keys old over is past =
+    let runs = runs_at (place_held old) old.world.timer left (sym is) in
+    let w = old.world in
+    let after : Place → Step = λ p. expire (site_of pages) keys p w in
+    sym (tick_is n pages keys old over
+    ∙ ap (tick_by n pages keys w) runs.place_is
+    ∙ ap (λ (t : Timer). pass_time (site_of pages) keys n t runs.at w) runs.timer_is
+    ∙ ap (λ (b : Bool). cond b (quiet keys (still (record w { timer = Running (left - n) })))
+    (after runs.at)) (le-ltb n left past)
+    ∙ ap (λ (p : Option Place). followed (quiet keys (at_place end_place p w)) (λ others v.
+    act_or (still v) (site_of pages) others v (event_task (shelf_of pages) event.Timer v)))
+    (sym (held_now (shelf_of pages) old over ∙ runs.place_is)))
 
 -- ---- the timer has run out
 
-acted_is : (site : Site) (world : World) (task : Option Task)
-    → left_of site task world ≡ act_or (still world) site [] world task
-acted_is site world None = refl
-acted_is site world (Some task) = refl
+-- what a task of the current card leaves to do
+pursued_is : (went : Went) (task : Option Task) → next_in went ≡ option_map then_task task
+    → waits_in went ≡ None → (pages : Pages) (keys : List Key) (w : World)
+    → act_or (still w) (site_of pages) keys w task ≡ pursued went pages keys w
+pursued_is Settled None leads none pages keys w = refl
+pursued_is Settled (Some task) leads none pages keys w = absurd (cc)
+pursued_is (Leads task from) None leads none pages keys w = absurd (cc)
+pursued_is (Leads task from) (Some other) leads none pages keys w =
+    let same : record { task = task; from = from } ≡ then_task other = cc in
+    ap (act (site_of pages) keys w) (sym same)
+pursued_is (AsksUser dialog paused) task leads none pages keys w = absurd (cc)
 
-abbrev after_end : Site → World → Step
-after_end site w = act_or (still w) site [] w (event_task site.shelf event.Timer w)
-
-module _ (old mid : Browser) (before middle : List Line) (task : Option Task)
+module _ (old mid : Browser) (before middle : List Line) (task : Option Task) (went : Went)
     (ended : PlaysAt (at_place end_place) old mid before middle)
-    (is : task ≡ event_at event.Timer (place_held mid) mid.world) where
+    (is : task ≡ event_at event.Timer (place_held mid) mid.world)
+    (leads : next_in went ≡ option_map then_task task) (none : waits_in went ≡ None) where
   abbrev scene : Scene
   scene = at_place end_place (place_held old) old.world
 
-  over_ended : (site : Site) → IsOver site.shelf old → IsOver site.shelf mid
-  over_ended site over = over_kept site.shelf old mid ended.deck
+  over_ended : (shelf : Shelf) → IsOver shelf old → IsOver shelf mid
+  over_ended shelf over = over_kept shelf old mid ended.deck
       (history_kept scene old.world mid.world before middle ended.plays) over
 
-  run_adds : (site : Site) → IsOver site.shelf old
-      → Adds scene.lines (left_of site task mid.world) (run_out site old.world)
-  run_adds site over =
-      let same : scene ≡ here site.shelf end_place old.world =
-      ap (λ (p : Option Place). at_place end_place p old.world)
-      (sym (held_now site.shelf old over)) in
-      let found : task ≡ event_task site.shelf event.Timer mid.world =
-      is ∙ ap (λ (p : Option Place). event_at event.Timer p mid.world)
-      (sym (held_now site.shelf mid (over_ended site over))) in
-      let next : left_of site task mid.world
-      ≡ after_end site (here site.shelf end_place old.world).world =
-      ap (λ (t : Option Task). left_of site t mid.world) found
-      ∙ acted_is site mid.world (event_task site.shelf event.Timer mid.world)
-      ∙ ap (after_end site) (ended.plays.world ∙ ap (λ (s : Scene). s.world) same) in
-      record {
-        world = ap (λ (s : Step). s.world) next;
-        lines =
-            ap₂ (λ (l m : List Line). l ++ m) (ap (λ (s : Scene). s.lines) same)
-            (ap (λ (s : Step). s.lines) next);
-        asked = ap (λ (s : Step). s.asked) next;
-      }
+  out_is : (pages : Pages) → IsOver (shelf_of pages) old → (keys : List Key)
+      → run_out pages keys old.world
+      ≡ joined (quiet [] scene) (pursued went pages keys scene.world)
+  out_is pages over keys =
+      let shelf = shelf_of pages in
+      let found : event_task shelf event.Timer scene.world ≡ task =
+      ap (event_task shelf event.Timer) (sym ended.plays.world)
+      ∙ ap (λ (p : Option Place). event_at event.Timer p mid.world)
+      (held_now shelf mid (over_ended shelf over)) ∙ sym is in
+      ap (λ (p : Option Place).
+      let one = at_place end_place p old.world in
+      joined (quiet keys one) (act_or (still one.world) (site_of pages) keys one.world
+      (event_task shelf event.Timer one.world))) (held_now shelf old over)
+      ∙ ap (λ (t : Option Task). joined (quiet [] scene)
+      (act_or (still scene.world) (site_of pages) keys scene.world t)) found
+      ∙ ap (joined (quiet [] scene)) (pursued_is went task leads none pages keys scene.world)
 
-  pub runs_out : (seen after : Seen) (new : Browser) (shown : List Line)
-      (result : Result (Unit {0}) RunErr)
-      → Pursues (Pursued task) seen after mid new middle shown result
-      → Pursues run_out seen after old new before shown result
-  runs_out seen after new shown result so =
-      pursues_after run_out
-      (Pursued task) seen after old mid new before middle shown scene.lines result
-      ended.plays.lines over_ended run_adds so
+  pub runs_out : (seen after : Seen) (new : Browser) (result : Result Did RunErr)
+      → Pursues (pursued went) seen after mid new middle result
+      → Pursues run_out seen after old new before result
+  runs_out seen after new result so =
+      pursues_after run_out seen seen after old mid new before middle went result
+      (after_scene run_out seen old mid before middle scene went ended.plays.world ended.plays.lines
+      over_ended out_is) so
+
+-- ---- in a dialog
+
+count_is : (n left : ℕ) (old : Browser) → old.world.timer ≡ Running left
+    → (shelf : Shelf) → IsOver shelf old
+    → count_down_at n left (place_held old) old.world
+    ≡ tick_waiting shelf n old.world.timer old.world
+count_is n left old runs shelf over =
+    ap (λ (p : Option Place). count_down_at n left p old.world) (sym (held_now shelf old over))
+    ∙ ap (λ (t : Timer). tick_waiting shelf n t old.world) (sym runs)
+
+pub counts_down : (n left : ℕ) (old new : Browser) (before lines : List Line)
+    → old.world.timer ≡ Running left → before ≡ []
+    → PlaysAt (count_down_at n left) old new before lines
+    → Shows old new lines (λ shelf world. tick_waiting shelf n world.timer world)
+counts_down n left old new before lines runs none plays =
+    let same : (shelf : Shelf) → IsOver shelf old
+    → count_down_at n left (place_held old) old.world
+    ≡ tick_waiting shelf n old.world.timer old.world = count_is n left old runs in
+    record {
+      world = λ shelf over. plays.plays.world ∙ ap (λ (s : Scene). s.world) (same shelf over);
+      tells = λ shelf over. plays.plays.lines
+          ∙ ap₂ (λ (l : List Line) (s : Scene). l ++ s.lines) none (same shelf over);
+      over = λ shelf over. over_kept shelf old new plays.deck
+          (history_kept (count_down_at n left (place_held old) old.world) old.world new.world before
+          lines plays.plays) over;
+    }

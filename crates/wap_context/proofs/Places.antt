@@ -1,10 +1,7 @@
--- The last entry of a history, and the place that a browser has at hand.
-use Rattle.std.proofs.Common.{◌≡◌, ◌∙◌, ◌-◌, ◌≤◌, List, [], ◌∷◌, length, take}
-use Rattle.std.proofs.Common.{length-take, Option, Some, None, refl, sym, ap, arith}
-use Rattle.std.specs.List.{last_or, slice_get}
+-- The place that a browser has at hand.
+use Rattle.std.proofs.Common.{◌≡◌, ◌∙◌, Option, Some, None, refl, sym, ap}
+use Rattle.std.specs.List.{slice_get}
 use Rattle.std.specs.Option.{option_map, option_and_then}
-use Rattle.std.proofs.lemmas.Option.{slice_get-get_or}
-use Rattle.std.proofs.lemmas.List.{get_or-take}
 use Rattle.wap_markup.specs.declared.deck.Deck.{Deck}
 use Rattle.wap_markup.specs.declared.deck.Node.{Node}
 use Rattle.wap_markup.specs.Cards.{cards_of}
@@ -12,36 +9,8 @@ use Rattle.wap_world.specs.Shelves.{Shelf}
 use Rattle.wap_world.specs.declared.history.Entry.{Entry}
 use Rattle.wap_world.specs.World.{Place, place_in, place_of, place_now, deck_at, last_entry}
 use Rattle.wap_context.specs.Browsers.{Browser, IsOver, place_held}
-use Rattle.wap_context.specs.inside.Held.{Held, held_in, held}
-
--- ---- the last of a list
-
-last_behind : {X : Type 0} (o : Option X) (x : X) (xs : List X)
-    → last_or o (x ∷ xs) ≡ slice_get (x ∷ xs) (length xs)
-last_behind o x [] = refl
-last_behind o x (y ∷ ys) = last_behind (Some x) y ys
-
--- it is the one at the length less one
-pub last_at : {X : Type 0} (xs : List X) → last_or None xs ≡ slice_get xs (length xs - 1)
-last_at [] = refl
-last_at (x ∷ xs) =
-    let before : length xs ≡ length (x ∷ xs) - 1 = omega arith in
-    last_behind None x xs ∙ ap (slice_get (x ∷ xs)) before
-
--- the one before it is at the length less two
-pub earlier_at : {X : Type 0} (xs : List X) → 2 ≤ length xs
-    → last_or None (take (length xs - 1) xs) ≡ slice_get xs (length xs - 2)
-earlier_at [] some = absurd (omega arith)
-earlier_at (x ∷ []) some = absurd (omega arith)
-earlier_at (x ∷ y ∷ ys) some =
-    let xs = x ∷ y ∷ ys in
-    let front = take (length xs - 1) xs in
-    let count : length front ≡ length xs - 1 = omega (arith, length-take (length xs - 1) xs) in
-    let at : length front - 1 ≡ length xs - 2 = omega arith in
-    last_at front ∙ ap (slice_get front) at
-    ∙ slice_get-get_or front (length xs - 2) x (omega arith)
-    ∙ ap Some (get_or-take (length xs - 1) xs (length xs - 2) x (omega arith))
-    ∙ sym (slice_get-get_or xs (length xs - 2) x (omega arith))
+use Rattle.wap_state.specs.Held.{Held, held_in}
+use Rattle.wap_context.specs.inside.Held.{held}
 
 -- ---- the place at hand is where the browser is
 

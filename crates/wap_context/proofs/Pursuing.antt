@@ -1,400 +1,532 @@
--- Tasks that lead to others, turn by turn.
-use Rattle.std.proofs.Common.{◌≡◌, ◌∙◌, ℕ, zero, suc, ◌+◌, ◌<◌, Bool, List, [], ◌++◌}
-use Rattle.std.proofs.Common.{Option, Some, None, Ok, Err, refl, sym, ap, ap₂, subst}
-use Rattle.std.proofs.Common.{append_assoc, append-nil, arith}
-use Rattle.std.specs.Prelude.{Result, IfSome}
-use Rattle.std.specs.Option.{option_map}
+-- All that a navigation leads to, with any keys after it.
+use Rattle.std.proofs.Common.{◌≡◌, ◌∙◌, ◌<◌, ◌≤◌, ℕ, ◌+◌, Bool, true, false, List, [], ◌∷◌, ◌++◌}
+use Rattle.std.proofs.Common.{Option, Some, None, Ok, Err, refl, sym, ap, ap₂, subst, append_assoc}
+use Rattle.std.proofs.Common.{append-nil, arith}
+use Rattle.std.specs.Prelude.{Result, IfSome, IfOk, OnOk, is_some, ◌||◌}
 use Rattle.wap_base.specs.declared.fault.RunErr.{RunErr}
 use Rattle.wap_base.specs.declared.fault.RunErr.TheVariants.{Store}
 use Rattle.wap_base.specs.Count.{Rose}
+use Rattle.wap_url.specs.declared.url.Url.{Url}
 use Rattle.wap_input.specs.declared.key.Key.{Key}
+use Rattle.wap_execution.specs.declared.dialog.Dialog.{Dialog}
 use Rattle.wap_cardrules.specs.declared.task.Task.{Task}
-use Rattle.wap_site.specs.Pages.{Pages}
-use Rattle.wap_site.specs.Asking.{Seen, Stays, Asks, Fails}
-use Rattle.wap_site.proofs.Asking.{Asks-nil, Asks-then, Asks-fails}
-use Rattle.wap_site.proofs.Asking.{Fails-more, Stays-same, Stays-then}
+use Rattle.wap_site.specs.Asking.{Seen, Stays, Asks}
+use Rattle.wap_site.specs.Misses.{Asked as Question}
+use Rattle.wap_site.proofs.Asking.{Asks-nil, Asks-then, Stays-same, Stays-then}
 use Rattle.wap_world.specs.World.{World}
-use Rattle.wap_world.specs.Sites.{Site}
-use Rattle.wap_world.specs.Decks.{decks_site}
-use Rattle.wap_world.specs.Steps.{Step, Once, Next, then_task, followed}
-use Rattle.wap_world.specs.Tasks.{task_once, go_on, act_in, act}
-use Rattle.wap_context.specs.Browsers.{Browser, IsOver, IfOver}
-use Rattle.wap_context.specs.Acting.{Acts}
-use Rattle.wap_context.specs.inside.Moving.{Line, Leads, Onces, Spends, pursued, Pursues}
-use Rattle.wap_context.proofs.Takings.{over_all, over_map}
+use Rattle.wap_world.specs.Steps.{Step, Once, Next, still, quiet, joined}
+use Rattle.wap_world.specs.Tasks.{go_on, onward, act, task_once}
+use Rattle.wap_world.proofs.Joining.{before, once_before, joined_assoc, joined_nothing}
+use Rattle.wap_world_laws.proofs.Following.{act_goes_on}
+use Rattle.wap_scripting.specs.UnitSites.{Pages, shelf_of}
+use Rattle.wap_scripting.specs.Waiting.{Waits, left_over, resumed_step}
+use Rattle.wap_scripting.specs.Halves.{once_by}
+use Rattle.wap_scripting.specs.Feeding.{Fed, meaning}
+use Rattle.wap_scripting_laws.proofs.Feeding.{waits_means}
+use Rattle.wap_scripting_laws.proofs.Keeping.{units_fall}
+use Rattle.wap_state.specs.Scenes.{Line}
+use Rattle.wap_context.specs.declared.waiting.Went.{Went}
+use Rattle.wap_context.specs.declared.waiting.Went.TheVariants.{Settled, Leads, Asks as AsksUser}
+use Rattle.wap_context.specs.declared.waiting.Step.{Step as Did}
+use Rattle.wap_context.specs.declared.waiting.Step.TheVariants.{Settled as Done, Asks as Waiting}
+use Rattle.wap_context.specs.Browsers.{Browser, IsOver}
+use Rattle.wap_context.specs.Pausing.{Paused, waits_of}
+use Rattle.wap_context.specs.Missing.{Missed}
+use Rattle.wap_context.specs.Sites.{fragment_call, site_of, IfOver}
+use Rattle.wap_context.specs.Acting.{lines_in, waiting_in, fed_of, Follows, Acts}
+use Rattle.wap_context.specs.inside.Moving.{next_in, waits_in, Goes, Takes, Spends, Onces, pursued}
+use Rattle.wap_context.specs.inside.Moving.{Ends, Pursues}
+use Rattle.wap_context.proofs.Missing.{Asks-missed, Missed-more}
+use Rattle.wap_context.proofs.Takings.{Rule, over_all, over_map, both_told, if_ok_both, on_ok_both}
 
--- ---- the law of a task: one step, and then the next task
+-- a rule for a whole call
+abbrev pub StepRule : Type 0
+StepRule = Pages → List Key → World → Step
 
-pub record Same (a b : Step) : Type 0 where
-  pub world : a.world ≡ b.world
-  pub lines : a.lines ≡ b.lines
-  pub asked : a.asked ≡ b.asked
+-- ---- one navigation, and what it leads on to
 
--- what one navigation leads on to
-abbrev led_on : Site → Once → Step
-led_on site once = followed once.step (λ keys world. pursued site once.next world)
+module _ (pages : Pages) where
+  -- a task and all that it leads to: its navigation, and what that leads to
+  act_is : (keys : List Key) (world : World) (next : Next)
+      → act (site_of pages) keys world next
+      ≡ onward (act (site_of pages)) (task_once (site_of pages) keys world next)
+  act_is keys world next =
+      act_goes_on (site_of pages) (units_fall fragment_call pages) keys world next
 
-led_by : (site : Site) (turns : ℕ) (step : Step) (next : Option Next) → step.keys ≡ []
-    → IfSome next (λ one. step.world.turns ≡ turns)
-    → Same (go_on (act_in turns site) step next)
-    (followed step (λ keys world. pursued site next world))
-unfolding act
-led_by site turns step None keys fewer =
-    record {
-      world = refl;
-      lines = sym (append-nil step.lines);
-      asked = sym (append-nil step.asked);
-    }
-led_by site turns step (Some one) keys fewer =
-    let is : act_in turns site step.keys step.world one
-    ≡ act_in step.world.turns site [] step.world one =
-    ap₂ (λ (t : ℕ) (k : List Key). act_in t site k step.world one) (sym fewer) keys in
-    record {
-      world = ap (λ (s : Step). s.world) is;
-      lines = ap (λ (s : Step). step.lines ++ s.lines) is;
-      asked = ap (λ (s : Step). step.asked ++ s.asked) is;
-    }
+  -- what is left to do after a navigation, by what it left
+  onward_by : (did : Once) (went : Went) → next_in went ≡ did.next → (keys : List Key)
+      → onward (act (site_of pages)) (once_by pages did (waits_in went) keys)
+      ≡ joined did.step (pursued went pages keys did.step.world)
+  onward_by did Settled leads keys =
+      ap (go_on (act (site_of pages)) (before keys did.step)) (sym leads)
+      ∙ sym (joined_nothing did.step keys)
+  onward_by did (Leads task from) leads keys =
+      ap (go_on (act (site_of pages)) (before keys did.step)) (sym leads)
+  onward_by did (AsksUser dialog paused) leads keys =
+      waits_means fragment_call pages did (waits_of dialog paused) keys
 
-zero_by : (site : Site) (world : World) (step : Step) (next : Option Next) → world.turns ≡ zero
-    → IfSome next (λ one. step.world.turns + 1 ≡ world.turns)
-    → Same step (followed step (λ keys world. pursued site next world))
-zero_by site world step None none spent =
-    record {
-      world = refl;
-      lines = sym (append-nil step.lines);
-      asked = sym (append-nil step.asked);
-    }
-zero_by site world step (Some one) none spent = absurd (omega (arith, none, spent))
+-- what a navigation and what follows ask for begins with what the navigation asks for
+asked_by : (f : List Key → World → Next → Step) (step : Step) (next : Option Next)
+    → (rest : List Question) × ((go_on f step next).asked ≡ step.asked ++ rest)
+asked_by f step None = ([], sym (append-nil step.asked))
+asked_by f step (Some next) = (_, refl)
 
-fewer_by : (world : World) (turns : ℕ) (step : Step) (next : Option Next) → world.turns ≡ suc turns
-    → IfSome next (λ one. step.world.turns + 1 ≡ world.turns)
-    → IfSome next (λ one. step.world.turns ≡ turns)
-fewer_by world turns step None is spent = tt
-fewer_by world turns step (Some one) is spent = omega (arith, is, spent)
+-- the same of what is left of a dialog without keys: nothing
+record NothingLeft (pages : Pages) (waiting : Option Waits) (world : World) : Type 0 where
+  world_is : (left_over fragment_call pages waiting [] world).world ≡ world
+  lines : (left_over fragment_call pages waiting [] world).lines ≡ []
+  asked : (left_over fragment_call pages waiting [] world).asked ≡ []
+  tests : (left_over fragment_call pages waiting [] world).tests ≡ []
+  asks_user : (left_over fragment_call pages waiting [] world).is_open ≡ is_some waiting
 
-act_by : (site : Site) (world : World) (one : Next) (turns : ℕ) → world.turns ≡ turns
-    → (task_once site [] world one).step.keys ≡ []
-    → IfSome (task_once site [] world one).next
-    (λ next. (task_once site [] world one).step.world.turns + 1 ≡ world.turns)
-    → Same (act_in turns site [] world one) (led_on site (task_once site [] world one))
-act_by site world one zero is keys spent =
-    zero_by site world (task_once site [] world one).step
-    (task_once site [] world one).next is spent
-act_by site world one (suc turns) is keys spent =
-    let once = task_once site [] world one in
-    led_by site turns once.step once.next keys (fewer_by world turns once.step once.next is spent)
+nothing_left : (pages : Pages) (waiting : Option Waits) (world : World)
+    → NothingLeft pages waiting world
+unfolding resumed_step
+nothing_left pages None world =
+    record { world_is = refl; lines = refl; asked = refl; tests = refl; asks_user = refl }
+nothing_left pages (Some one) world =
+    record { world_is = refl; lines = refl; asked = refl; tests = refl; asks_user = refl }
 
-act_leads : (site : Site) (world : World) (one : Next)
-    → (task_once site [] world one).step.keys ≡ []
-    → IfSome (task_once site [] world one).next
-    (λ next. (task_once site [] world one).step.world.turns + 1 ≡ world.turns)
-    → Same (act site [] world one) (led_on site (task_once site [] world one))
-unfolding act
-act_leads site world one keys spent = act_by site world one world.turns refl keys spent
+-- ---- a loop over navigations
 
--- it asks first for what its first navigation asks for
-pub asked_by : (next : List Key → World → Next → Step) (step : Step) (one : Option Next)
-    → (rest : List (List ℕ × Bool)) × ((go_on next step one).asked ≡ step.asked ++ rest)
-asked_by next step None = ([], sym (append-nil step.asked))
-asked_by next step (Some one) = (_, refl)
+-- so far this was done, and the rest is left to do
+pub record Behind (pages : Pages) (rule : List Key → Step) (seen now : Seen) (browser : Browser)
+    (before shown : List Line) (went : Went) : Type 0 where
+  pub step : Step
+  pub world : browser.world ≡ step.world
+  pub lines : shown ≡ before ++ step.lines
+  pub closed : step.is_open ≡ false
+  pub over : IsOver (shelf_of pages) browser
+  pub asks : Asks step.asked seen now
+  pub on : (keys : List Key) → rule keys ≡ joined step (pursued went pages keys step.world)
 
-asked_in : (site : Site) (world : World) (one : Next) (turns : ℕ)
-    → (rest : List (List ℕ × Bool))
-    × ((act_in turns site [] world one).asked ≡ (task_once site [] world one).step.asked ++ rest)
-asked_in site world one zero = ([], sym (append-nil (task_once site [] world one).step.asked))
-asked_in site world one (suc turns) =
-    asked_by (act_in turns site) (task_once site [] world one).step
-    (task_once site [] world one).next
-
-act_asks : (site : Site) (world : World) (one : Next)
-    → (rest : List (List ℕ × Bool))
-    × ((act site [] world one).asked ≡ (task_once site [] world one).step.asked ++ rest)
-unfolding act
-act_asks site world one = asked_in site world one world.turns
-
--- ---- a loop over tasks: what is left to do leads to the same
-
--- what a task leads to, if there is one
-abbrev pub left_of : Site → Option Task → World → Step
-left_of site next world = pursued site (option_map then_task next) world
-
-pub record Behind (site : Site) (step : Step) (seen now : Seen) (browser : Browser)
-    (before shown : List Line)
-    (next : Option Task) : Type 0 where
-  pub over : IsOver site.shelf browser
-  pub world : (left_of site next browser.world).world ≡ step.world
-  pub lines : shown ++ (left_of site next browser.world).lines ≡ before ++ step.lines
-  pub so_far : List (List ℕ × Bool)
-  pub asks : Asks so_far seen now
-  pub asked : so_far ++ (left_of site next browser.world).asked ≡ step.asked
-
-pub record Goes (first : Option Task) (seen now : Seen) (old browser : Browser)
-    (before shown : List Line)
-    (next : Option Task) : Type 0 where
+pub record Going (rule : StepRule) (seen now : Seen) (old browser : Browser)
+    (before shown : List Line) (went : Went) : Type 0 where
   pub follows : IfOver seen.contents old
-      (λ site. Behind site (left_of site first old.world) seen now browser before shown next)
+      (λ pages. Behind pages (λ keys. rule pages keys old.world) seen now browser before shown went)
   pub steady : now.faults ≡ seen.faults
   pub stays : Stays seen now
 
-pub begins : (first : Option Task) (seen : Seen) (old : Browser) (before : List Line)
-    → Goes first seen seen old old before before first
-begins first seen old before = record {
-  follows = over_all seen.contents old (λ site over.
-      record {
-        over = over;
-        world = refl;
-        lines = refl;
-        so_far = [];
-        asks = Asks-nil seen;
-        asked = refl;
-      });
+-- nothing was done yet
+pub begins : (first : Went) (seen : Seen) (old : Browser) (before shown : List Line)
+    → shown ≡ before → Going (pursued first) seen seen old old before shown first
+begins first seen old before shown same = record {
+  follows = over_all seen.contents old (λ pages over. record {
+    step = quiet [] (still old.world);
+    world = refl;
+    lines = same ∙ sym (append-nil before);
+    closed = refl;
+    over = over;
+    asks = Asks-nil seen;
+    on = λ keys. refl;
+  });
   steady = refl;
   stays = Stays-same seen;
 }
 
-spends_next : (old new : Browser) (found : Option Task) → Spends old new found
-    → IfSome (option_map then_task found) (λ one. new.world.turns + 1 ≡ old.world.turns)
-spends_next old new None spends = tt
-spends_next old new (Some task) spends = spends
+-- a rule whose navigation left this: all that it leads to is what was done, and what is left to do
+goes_behind : (pages : Pages) (rule : List Key → Once) (seen now : Seen) (new : Browser)
+    (before shown : List Line) (went : Went)
+    → Goes pages rule seen now new before shown went
+    → Behind pages (λ keys. onward (act (site_of pages)) (rule keys)) seen now new before shown went
+goes_behind pages rule seen now new before shown went goes = record {
+  step = goes.did.step;
+  world = goes.world;
+  lines = goes.lines;
+  closed = goes.closed;
+  over = goes.over;
+  asks = goes.asks;
+  on = λ keys. ap (onward (act (site_of pages))) (goes.on keys)
+      ∙ onward_by pages goes.did went goes.leads keys;
+}
 
-spent_by : (old new : Browser) (world : World) (once : Once) (found : Option Task)
-    → new.world ≡ once.step.world → option_map then_task found ≡ once.next
-    → Spends old new found → IfSome once.next (λ one. once.step.world.turns + 1 ≡ old.world.turns)
-spent_by old new world once found is leads spends =
-    subst (λ (w : World). IfSome once.next (λ one. w.turns + 1 ≡ old.world.turns)) is
-    (subst (λ (n : Option Next). IfSome n (λ one. new.world.turns + 1 ≡ old.world.turns))
-    leads (spends_next old new found spends))
+-- what was done so far, and then more
+behind_then : (pages : Pages) (rule : List Key → Step) (seen now after : Seen) (b new : Browser)
+    (before shown more : List Line) (went next : Went)
+    → Behind pages rule seen now b before shown went
+    → Behind pages (λ keys. pursued went pages keys b.world) now after new shown more next
+    → Behind pages rule seen after new before more next
+behind_then pages rule seen now after b new before shown more went next first second = record {
+  step = joined first.step second.step;
+  world = second.world;
+  lines = second.lines ∙ ap (λ (l : List Line). l ++ second.step.lines) first.lines
+      ∙ append_assoc before first.step.lines second.step.lines;
+  closed = ap₂ (λ (one two : Bool). one || two) first.closed second.closed;
+  over = second.over;
+  asks = Asks-then first.step.asked second.step.asked seen now after first.asks second.asks;
+  on = λ keys. first.on keys
+      ∙ ap (λ (w : World). joined first.step (pursued went pages keys w)) (sym first.world)
+      ∙ ap (joined first.step) (second.on keys)
+      ∙ sym (joined_assoc first.step second.step
+      (pursued next pages keys second.step.world));
+}
 
-behind_next : (site : Site) (step : Step) (seen now after : Seen) (b new : Browser)
-    (before shown more : List Line) (one : Task) (next : Option Task)
-    → Behind site step seen now b before shown (Some one)
-    → Leads site.shelf (task_once site [] b.world (then_task one)) new shown more next
-    → Spends b new next
-    → Asks (task_once site [] b.world (then_task one)).step.asked now after
-    → Behind site step seen after new before more next
-behind_next site step seen now after b new before shown more one next so_far leads spends asks =
-    let once = task_once site [] b.world (then_task one) in
-    let law =
-    act_leads site b.world (then_task one) leads.keys
-    (spent_by b new b.world once next leads.world leads.leads spends) in
-    let left : left_of site next new.world ≡ pursued site once.next once.step.world =
-    ap₂ (λ (n : Option Next) (w : World). pursued site n w) leads.leads leads.world in
-    let rest = pursued site once.next once.step.world in
+-- a task is taken alone
+abbrev pub Tasks : Task → Option Url → Rule
+Tasks one from pages keys world =
+    task_once (site_of pages) keys world (record { task = one; from = from })
+
+task_behind : (pages : Pages) (seen now : Seen) (old new : Browser) (before shown : List Line)
+    (task : Task) (from : Option Url) (went : Went)
+    → Goes pages (λ keys. Tasks task from pages keys old.world) seen now new before shown went
+    → Behind pages (λ keys. pursued (Leads task from) pages keys old.world) seen now new before shown
+    went
+task_behind pages seen now old new before shown task from went goes =
+    let one = goes_behind pages (λ keys. Tasks task from pages keys old.world) seen now new before
+    shown went goes in
     record {
-      over = leads.over;
-      world = ap (λ (s : Step). s.world) left ∙ sym law.world ∙ so_far.world;
-      lines = ap₂ (λ (l : List Line) (s : Step). l ++ s.lines) leads.lines left
-          ∙ append_assoc shown once.step.lines rest.lines
-          ∙ ap (λ (l : List Line). shown ++ l) (sym law.lines) ∙ so_far.lines;
-      so_far = so_far.so_far ++ once.step.asked;
-      asks = Asks-then so_far.so_far once.step.asked seen now after so_far.asks asks;
-      asked = ap (λ (s : Step). (so_far.so_far ++ once.step.asked) ++ s.asked) left
-          ∙ append_assoc so_far.so_far once.step.asked rest.asked
-          ∙ ap (λ (l : List (List ℕ × Bool)). so_far.so_far ++ l) (sym law.asked) ∙ so_far.asked;
+      step = one.step;
+      world = one.world;
+      lines = one.lines;
+      closed = one.closed;
+      over = one.over;
+      asks = one.asks;
+      on = λ keys. act_is pages keys old.world (record { task = task; from = from }) ∙ one.on keys;
     }
 
--- facts of known pages, where both are of the same ones
-pub both_told : (contents here : Option Pages) (old b : Browser) {P Q G : Site → Type 0}
-    → here ≡ contents
-    → ((site : Site) → P site → IsOver site.shelf b)
-    → ((site : Site) → P site → Q site → G site)
-    → IfOver contents old P → IfOver here b Q → IfOver contents old G
-both_told None here old b is onto f one two = tt
-both_told (Some pages) here old b {P} {Q} {G} is onto f one two =
-    let site = decks_site pages in
-    λ over.
-    f site (one over) (subst (λ (o : Option Pages). IfOver o b Q) is two (onto site (one over)))
-
-pub goes_on : (first : Option Task) (seen now after : Seen) (old b new : Browser)
-    (before shown more : List Line) (one : Task) (next : Option Task)
-    → Goes first seen now old b before shown (Some one)
-    → Onces (λ site world. task_once site [] world (then_task one)) now after b new shown more
-    (Ok next)
-    → Goes first seen after old new before more next
-goes_on first seen now after old b new before shown more one next so_far once =
-    let step : Site → Step = λ site. left_of site first old.world in
-    let same = so_far.stays.contents in
-    let asked : IfOver seen.contents old (λ site.
-    Behind site (step site) seen now b before shown (Some one)
-    × Asks (task_once site [] b.world (then_task one)).step.asked now after) =
-    both_told seen.contents now.contents old
-    b {P = λ site. Behind site (step site) seen now b before shown (Some one)}
-    {Q = λ site. Asks (task_once site [] b.world (then_task one)).step.asked now after} same
-    (λ site behind. behind.over) (λ site behind asks. (behind, asks)) so_far.follows once.asks in
+pub goes_on : (rule : StepRule) (seen now after : Seen) (old b new : Browser)
+    (before shown more : List Line) (went : Went) (task : Task) (from : Option Url) (next : Went)
+    → went ≡ Leads task from → Going rule seen now old b before shown went
+    → Takes (Tasks task from) now after b new shown more (Ok next)
+    → Going rule seen after old new before more next
+goes_on rule seen now after old b new before shown more went task from next is so_far takes =
+    let done = subst (Going rule seen now old b before shown) is so_far in
     record {
       follows = both_told seen.contents now.contents old b
-          {P = λ site. Behind site (step site) seen now b before shown (Some one)
-          × Asks (task_once site [] b.world (then_task one)).step.asked now after}
-          {Q = λ site.
-          Leads site.shelf (task_once site [] b.world (then_task one)) new shown more next} same
-          (λ site both. both.0.over)
-          (λ site both leads.
-          behind_next site (step site)
-          seen now after b new before shown more one next both.0 leads once.spends both.1)
-          asked once.follows;
-      steady = once.steady ∙ so_far.steady;
-      stays = Stays-then seen now after so_far.stays once.stays;
+          {P = λ pages. Behind pages (λ keys. rule pages keys old.world) seen now b before shown
+          (Leads task from)}
+          {Q = λ pages. Goes pages (λ keys. Tasks task from pages keys b.world) now after new shown
+          more next}
+          done.stays.contents (λ pages behind. behind.over)
+          (λ pages behind goes.
+          behind_then pages (λ keys. rule pages keys old.world) seen now after b new before shown
+          more (Leads task from) next behind
+          (task_behind pages now after b new shown more task from next goes))
+          done.follows takes.follows;
+      steady = takes.steady ∙ done.steady;
+      stays = Stays-then seen now after done.stays takes.stays;
     }
 
-abbrev pub Pursued : Option Task → Site → World → Step
-Pursued first site world = left_of site first world
+-- nothing is left to do but by further keys
+pub ends : (rule : StepRule) (seen now : Seen) (old b : Browser) (before shown : List Line)
+    (went : Went) (did : Did) → lines_in did ≡ shown
+    → ((pages : Pages) (keys : List Key) (world : World) → pursued went pages keys world
+    ≡ left_over fragment_call pages (waiting_in did) keys world)
+    → Going rule seen now old b before shown went
+    → Pursues rule seen now old b before (Ok did)
+ends rule seen now old b before shown went did shows left so_far = record {
+  follows = over_map seen.contents old old (λ pages over. over)
+      (λ pages over behind. record {
+        step = behind.step;
+        world = behind.world;
+        lines = shows ∙ behind.lines;
+        closed = behind.closed;
+        over = behind.over;
+        asks = behind.asks;
+        on = λ keys. behind.on keys ∙ ap (joined behind.step) (left pages keys behind.step.world);
+      }) so_far.follows;
+  steady = so_far.steady;
+  missed = λ failed. absurd (cc);
+  rose = λ failed. absurd (cc);
+  stays = so_far.stays;
+}
 
-pub ends : (first : Option Task) (seen now : Seen) (old b : Browser) (before shown : List Line)
-    (next : Option Task) → next ≡ None
-    → Goes first seen now old b before shown next
-    → Pursues (Pursued first) seen now old b before shown (Ok tt)
-ends first seen now old b before shown next is so_far =
-    let done = subst (Goes first seen now old b before shown) is so_far in
+pub ends_settled : (rule : StepRule) (seen now : Seen) (old b : Browser) (before shown : List Line)
+    (went : Went) → went ≡ Settled → Going rule seen now old b before shown went
+    → Pursues rule seen now old b before (Ok (Done shown))
+ends_settled rule seen now old b before shown went is so_far =
+    ends rule seen now old b before shown Settled (Done shown) refl (λ pages keys world. refl)
+    (subst (Going rule seen now old b before shown) is so_far)
+
+pub ends_asking : (rule : StepRule) (seen now : Seen) (old b : Browser) (before shown : List Line)
+    (went : Went) (dialog : Dialog) (paused : Paused) → went ≡ AsksUser dialog paused
+    → Going rule seen now old b before shown went
+    → Pursues rule seen now old b before (Ok (Waiting shown dialog paused))
+ends_asking rule seen now old b before shown went dialog paused is so_far =
+    ends rule seen now old b before shown (AsksUser dialog paused) (Waiting shown dialog paused) refl
+    (λ pages keys world. refl) (subst (Going rule seen now old b before shown) is so_far)
+
+went_err : (err : RunErr) → ◌≡◌ {A = Result Did RunErr} (Err err) (Err Store)
+    → ◌≡◌ {A = Result Went RunErr} (Err err) (Err Store)
+went_err err is = cc
+
+-- a task that fails is the next part of what is asked for
+fails_behind : (pages : Pages) (rule : List Key → Step) (seen now after : Seen) (b : Browser)
+    (before shown : List Line) (task : Task) (from : Option Url) → Stays now after
+    → Behind pages rule seen now b before shown (Leads task from)
+    → Missed (Tasks task from pages [] b.world).step.asked now after
+    → Missed (rule []).asked seen after
+fails_behind pages rule seen now after b before shown task from stays behind missed =
+    let next : Next = record { task = task; from = from } in
+    let once = Tasks task from pages [] b.world in
+    let rest = asked_by (act (site_of pages)) once.step once.next in
+    let whole : (rule []).asked ≡ behind.step.asked ++ (once.step.asked ++ rest.0) =
+    ap (λ (s : Step). s.asked) (behind.on [])
+    ∙ ap (λ (w : World). behind.step.asked ++ (act (site_of pages) [] w next).asked)
+    (sym behind.world)
+    ∙ ap (λ (s : Step). behind.step.asked ++ s.asked) (act_is pages [] b.world next)
+    ∙ ap (λ (a : List Question). behind.step.asked ++ a) rest.1 in
+    subst (λ (a : List Question). Missed a seen after) (sym whole)
+    (Asks-missed behind.step.asked (once.step.asked ++ rest.0) seen now after stays behind.asks
+    (Missed-more once.step.asked rest.0 now after missed))
+
+pub fails : (rule : StepRule) (seen now after : Seen) (old b new : Browser)
+    (before shown more : List Line) (went : Went) (task : Task) (from : Option Url) (err : RunErr)
+    → went ≡ Leads task from → Going rule seen now old b before shown went
+    → Takes (Tasks task from) now after b new shown more (Err err)
+    → Pursues rule seen after old new before (Err err)
+fails rule seen now after old b new before shown more went task from err is so_far takes =
+    let done = subst (Going rule seen now old b before shown) is so_far in
     record {
-      leads =
-          over_map seen.contents old old (λ site over. over)
-          (λ site over behind. behind.world) done.follows;
-      lines =
-          over_map seen.contents old old (λ site over. over)
-          (λ site over behind. sym (append-nil shown) ∙ behind.lines) done.follows;
-      over =
-          over_map seen.contents old old (λ site over. over)
-          (λ site over behind. behind.over) done.follows;
-      asks = over_map seen.contents old old (λ site over. over)
-          (λ site over behind. subst (λ (a : List (List ℕ × Bool)). Asks a seen now)
-          (sym (append-nil behind.so_far) ∙ behind.asked) behind.asks) done.follows;
-      steady = done.steady;
-      failed = λ failed. absurd (cc);
-      rose = λ failed. absurd (cc);
-      stays = done.stays;
-    }
-
-pub store_of : (err : RunErr) → ◌≡◌ {A = Result (Unit {0}) RunErr} (Err err) (Err Store)
-    → ◌≡◌ {A = Result (Option Task) RunErr} (Err err) (Err Store)
-store_of err is = cc
-
-fails_behind : (site : Site) (step : Step) (seen now after : Seen) (b : Browser)
-    (before shown : List Line) (one : Task)
-    → Behind site step seen now b before shown (Some one)
-    → Fails (task_once site [] b.world (then_task one)).step.asked now after
-    → Fails step.asked seen after
-fails_behind site step seen now after b before shown one behind fails =
-    let asked = (task_once site [] b.world (then_task one)).step.asked in
-    let rest = act_asks site b.world (then_task one) in
-    subst (λ (a : List (List ℕ × Bool)). Fails a seen after)
-    (append_assoc behind.so_far asked rest.0
-    ∙ ap (λ (a : List (List ℕ × Bool)). behind.so_far ++ a) (sym rest.1) ∙ behind.asked)
-    (Fails-more (behind.so_far ++ asked) rest.0 seen after
-    (Asks-fails behind.so_far asked seen now after behind.asks fails))
-
-pub fails : (first : Option Task) (seen now after : Seen) (old b new : Browser)
-    (before shown more : List Line) (one : Task) (next : Option Task) (err : RunErr)
-    → next ≡ Some one → Goes first seen now old b before shown next
-    → Onces (λ site world. task_once site [] world (then_task one)) now after b new shown more
-    (Err err)
-    → Pursues (Pursued first) seen after old new before more (Err err)
-fails first seen now after old b new before shown more one next err is so_far once =
-    let done = subst (Goes first seen now old b before shown) is so_far in
-    record {
-      leads = tt;
-      lines = tt;
-      over = tt;
-      asks = tt;
+      follows = tt;
       steady = tt;
-      failed = λ failed. both_told seen.contents now.contents old b
-          {P = λ site.
-          Behind site (left_of site first old.world) seen now b before shown (Some one)}
-          {Q = λ site. Fails (task_once site [] b.world (then_task one)).step.asked now after}
-          done.stays.contents (λ site behind. behind.over)
-          (λ site behind found.
-          fails_behind site
-          (left_of site first old.world) seen now after b before shown one behind found)
-          done.follows (once.failed (store_of err failed));
-      rose =
-          λ failed.
-          subst (λ (k : ℕ). Rose k after.faults) done.steady (once.rose (store_of err failed));
-      stays = Stays-then seen now after done.stays once.stays;
+      missed = λ failed. both_told seen.contents now.contents old b
+          {P = λ pages. Behind pages (λ keys. rule pages keys old.world) seen now b before shown
+          (Leads task from)}
+          {Q = λ pages. Missed (Tasks task from pages [] b.world).step.asked now after}
+          done.stays.contents (λ pages behind. behind.over)
+          (λ pages behind missed.
+          fails_behind pages (λ keys. rule pages keys old.world) seen now after b before shown task
+          from takes.stays behind missed)
+          done.follows (takes.missed (went_err err failed));
+      rose = λ failed. subst (λ (k : ℕ). Rose k after.faults) done.steady
+          (takes.rose (went_err err failed));
+      stays = Stays-then seen now after done.stays takes.stays;
     }
+
+pub fails_by : (rule : StepRule) (seen now after : Seen) (old b new : Browser)
+    (before shown more : List Line) (went : Went) (task : Task) (from : Option Url) (err : RunErr)
+    (result : Result Did RunErr) → result ≡ Err err
+    → went ≡ Leads task from → Going rule seen now old b before shown went
+    → Takes (Tasks task from) now after b new shown more (Err err)
+    → Pursues rule seen after old new before result
+fails_by rule seen now after old b new before shown more went task from err result same is so_far
+    takes =
+    subst (λ (r : Result Did RunErr). Pursues rule seen after old new before r) (sym same)
+    (fails rule seen now after old b new before shown more went task from err is so_far takes)
+
+-- ---- turns
 
 -- a task that leads on takes a turn
-abbrev pub turns_left : Browser → Option Task → ℕ
+abbrev pub turns_left : Browser → Option Next → ℕ
 turns_left b None = 0
-turns_left b (Some one) = b.world.turns + 1
+turns_left b (Some next) = b.world.turns + 1
 
-falls_by : (old new : Browser) (one : Task) (next : Option Task) → Spends old new next
-    → turns_left new next < turns_left old (Some one)
-falls_by old new one None spends = omega arith
-falls_by old new one (Some other) spends = omega (arith, spends)
+falls_by : (old new : Browser) (next : Option Next)
+    → IfSome next (λ one. new.world.turns + 1 ≤ old.world.turns)
+    → turns_left new next < old.world.turns + 1
+falls_by old new None spends = omega arith
+falls_by old new (Some next) spends = omega (arith, spends)
 
-pub falls : (old new : Browser) (one : Task) (found next : Option Task) → found ≡ Some one
-    → Spends old new next
-    → turns_left new next < turns_left old found
-falls old new one found next is spends =
-    subst (λ (o : Option Task). turns_left new next < turns_left old o) (sym is)
-    (falls_by old new one next spends)
+pub falls : (old new : Browser) (went : Went) (task : Task) (from : Option Url) (next : Went)
+    → went ≡ Leads task from → Spends old new next
+    → turns_left new (next_in next) < turns_left old (next_in went)
+falls old new went task from next is spends =
+    subst (λ (w : Went). turns_left new (next_in next) < turns_left old (next_in w)) (sym is)
+    (falls_by old new (next_in next) spends)
 
-pub goes_on_from : (first : Option Task) (seen now after : Seen) (old b new : Browser)
-    (before shown more : List Line) (one : Task) (found next : Option Task)
-    → found ≡ Some one → Goes first seen now old b before shown found
-    → Onces (λ site world. task_once site [] world (then_task one)) now after b new shown more
-    (Ok next)
-    → Goes first seen after old new before more next
-goes_on_from first seen now after old b new before shown more one found next is so_far once =
-    goes_on first seen now after old b new before shown more one next
-    (subst (Goes first seen now old b before shown) is so_far) once
+-- ---- a navigation, and all that it leads to
+
+-- the rule of both
+abbrev pub Onward : Rule → StepRule
+Onward rule pages keys world = onward (act (site_of pages)) (rule pages keys world)
+
+-- what is known after a navigation
+ends_after : (pages : Pages) (rule : List Key → Step) (seen now after : Seen) (mid new : Browser)
+    (before shown : List Line) (went : Went) (did : Did)
+    → Behind pages rule seen now mid before shown went
+    → Ends pages (λ keys. pursued went pages keys mid.world) now after new shown did
+    → Ends pages rule seen after new before did
+ends_after pages rule seen now after mid new before shown went did first second = record {
+  step = joined first.step second.step;
+  world = second.world;
+  lines = second.lines ∙ ap (λ (l : List Line). l ++ second.step.lines) first.lines
+      ∙ append_assoc before first.step.lines second.step.lines;
+  closed = ap₂ (λ (one two : Bool). one || two) first.closed second.closed;
+  over = second.over;
+  asks = Asks-then first.step.asked second.step.asked seen now after first.asks second.asks;
+  on = λ keys. first.on keys
+      ∙ ap (λ (w : World). joined first.step (pursued went pages keys w)) (sym first.world)
+      ∙ ap (joined first.step) (second.on keys)
+      ∙ sym (joined_assoc first.step second.step
+      (left_over fragment_call pages (waiting_in did) keys second.step.world));
+}
+
+then_ok : (rule : StepRule) (seen now after : Seen) (old mid new : Browser)
+    (before shown : List Line) (went : Went) (result : Result Did RunErr)
+    → Going rule seen now old mid before shown went
+    → IfOk result (λ did. IfOver now.contents mid
+    (λ pages. Ends pages (λ keys. pursued went pages keys mid.world) now after new shown did))
+    → IfOk result (λ did. IfOver seen.contents old
+    (λ pages. Ends pages (λ keys. rule pages keys old.world) seen after new before did))
+then_ok rule seen now after old mid new before shown went (Ok did) first second =
+    both_told seen.contents now.contents old mid
+    {P = λ pages. Behind pages (λ keys. rule pages keys old.world) seen now mid before shown went}
+    {Q = λ pages. Ends pages (λ keys. pursued went pages keys mid.world) now after new shown did}
+    first.stays.contents (λ pages behind. behind.over)
+    (λ pages behind ended. ends_after pages (λ keys. rule pages keys old.world) seen now after mid new
+    before shown went did behind ended)
+    first.follows second
+then_ok rule seen now after old mid new before shown went (Err err) first second = tt
+
+missed_after : (pages : Pages) (rule : List Key → Step) (seen now after : Seen) (mid : Browser)
+    (before shown : List Line) (went : Went) → Stays now after
+    → Behind pages rule seen now mid before shown went
+    → Missed (pursued went pages [] mid.world).asked now after → Missed (rule []).asked seen after
+missed_after pages rule seen now after mid before shown went stays first missed =
+    let whole : (rule []).asked ≡ first.step.asked ++ (pursued went pages [] mid.world).asked =
+    ap (λ (s : Step). s.asked) (first.on [])
+    ∙ ap (λ (w : World). first.step.asked ++ (pursued went pages [] w).asked) (sym first.world) in
+    subst (λ (a : List Question). Missed a seen after) (sym whole)
+    (Asks-missed first.step.asked (pursued went pages [] mid.world).asked seen now after stays
+    first.asks missed)
+
+-- what is left to do is done
+pub pursues_after : (rule : StepRule) (seen now after : Seen) (old mid new : Browser)
+    (before shown : List Line) (went : Went) (result : Result Did RunErr)
+    → Going rule seen now old mid before shown went
+    → Pursues (pursued went) now after mid new shown result
+    → Pursues rule seen after old new before result
+pursues_after rule seen now after old mid new before shown went result first second = record {
+  follows = then_ok rule seen now after old mid new before shown went result first second.follows;
+  steady = on_ok_both result (λ (same : after.faults ≡ now.faults). same ∙ first.steady)
+      second.steady;
+  missed = λ failed. both_told seen.contents now.contents old mid
+      {P = λ pages. Behind pages (λ keys. rule pages keys old.world) seen now mid before shown went}
+      {Q = λ pages. Missed (pursued went pages [] mid.world).asked now after}
+      first.stays.contents (λ pages behind. behind.over)
+      (λ pages behind missed. missed_after pages (λ keys. rule pages keys old.world) seen now after
+      mid before shown went second.stays behind missed)
+      first.follows (second.missed failed);
+  rose = λ failed. subst (λ (k : ℕ). Rose k after.faults) first.steady (second.rose failed);
+  stays = Stays-then seen now after first.stays second.stays;
+}
+
+-- a navigation was done
+pub taken : (rule : Rule) (seen now : Seen) (old mid : Browser) (before shown : List Line)
+    (went : Went) → Takes rule seen now old mid before shown (Ok went)
+    → Going (Onward rule) seen now old mid before shown went
+taken rule seen now old mid before shown went takes = record {
+  follows = over_map seen.contents old old (λ pages over. over)
+      (λ pages over goes. goes_behind pages (λ keys. rule pages keys old.world) seen now mid before
+      shown went goes) takes.follows;
+  steady = takes.steady;
+  stays = takes.stays;
+}
+
+-- it failed
+pub taken_err : (rule : Rule) (seen now : Seen) (old mid : Browser) (before shown : List Line)
+    (err : RunErr) → Takes rule seen now old mid before shown (Err err)
+    → Pursues (Onward rule) seen now old mid before (Err err)
+taken_err rule seen now old mid before shown err takes = record {
+  follows = tt;
+  steady = tt;
+  missed = λ failed. over_map seen.contents old old (λ pages over. over)
+      (λ pages over missed.
+      let once = rule pages [] old.world in
+      let rest = asked_by (act (site_of pages)) once.step once.next in
+      subst (λ (a : List Question). Missed a seen now) (sym rest.1)
+      (Missed-more once.step.asked rest.0 seen now missed)) (takes.missed (went_err err failed));
+  rose = λ failed. takes.rose (went_err err failed);
+  stays = takes.stays;
+}
 
 -- ---- a call's answer
 
-all_told : (contents : Option Pages) (old : Browser) {P Q R G : Site → Type 0}
-    → ((site : Site) → P site → Q site → R site → G site)
-    → IfOver contents old P → IfOver contents old Q → IfOver contents old R → IfOver contents old G
-all_told None old f one two three = tt
-all_told (Some pages) old f one two three =
-    λ over. f (decks_site pages) (one over) (two over) (three over)
+module _ (pages : Pages) (rule : List Key → World → Step) (seen after : Seen) (old new : Browser)
+    (did : Did) (so : Ends pages (λ keys. rule keys old.world) seen after new [] did) where
+  abbrev one : Step
+  one = rule [] old.world
 
-pub acts_ok : (rule : Site → World → Step) (seen after : Seen) (old new : Browser)
-    (before lines : List Line) → before ≡ []
-    → Pursues rule seen after old new before lines (Ok tt) → Acts rule seen after old new (Ok lines)
-acts_ok rule seen after old new before lines none so = record {
-  follows = all_told seen.contents old
-      (λ site leads told over. record {
-        leads = leads;
-        tells = told ∙ ap (λ (l : List Line). l ++ (rule site old.world).lines) none;
-        over = over;
-      })
-      so.leads so.lines so.over;
-  asks = so.asks;
-  steady = so.steady;
-  failed = λ failed. absurd (cc);
-  missed = λ failed. absurd (cc);
-  stays = so.stays;
-}
+  abbrev left : NothingLeft pages (waiting_in did) so.step.world
+  left = nothing_left pages (waiting_in did) so.step.world
 
-unit_of : (err : RunErr) → ◌≡◌ {A = Result (List Line) RunErr} (Err err) (Err Store)
-    → ◌≡◌ {A = Result (Unit {0}) RunErr} (Err err) (Err Store)
-unit_of err is = cc
+  asked_is : one.asked ≡ so.step.asked
+  asked_is = ap (λ (s : Step). s.asked) (so.on [])
+      ∙ ap (λ (a : List Question). so.step.asked ++ a) left.asked ∙ append-nil so.step.asked
 
-pub acts_err : (rule : Site → World → Step) (seen after : Seen) (old new : Browser)
-    (before lines : List Line) (err : RunErr)
-    → Pursues rule seen after old new before lines (Err err)
-    → Acts rule seen after old new (Err err)
-acts_err rule seen after old new before lines err so = record {
-  follows = tt;
-  asks = tt;
-  steady = tt;
-  failed = λ failed. so.rose (unit_of err failed);
-  missed = λ failed. so.failed (unit_of err failed);
-  stays = so.stays;
-}
+  lines_are : one.lines ≡ so.step.lines
+  lines_are = ap (λ (s : Step). s.lines) (so.on [])
+      ∙ ap (λ (l : List Line). so.step.lines ++ l) left.lines ∙ append-nil so.step.lines
 
--- the same where the fault is handed on
-pub acts_fault : (rule : Site → World → Step) (seen after : Seen) (old new : Browser)
-    (before lines : List Line) (err : RunErr) (result : Result (List Line) RunErr)
-    → result ≡ Err err → Pursues rule seen after old new before lines (Err err)
-    → Acts rule seen after old new result
-acts_fault rule seen after old new before lines err result is so =
-    subst (λ (r : Result (List Line) RunErr). Acts rule seen after old new r) (sym is)
-    (acts_err rule seen after old new before lines err so)
+  tests_are : one.tests ≡ so.step.tests
+  tests_are = ap (λ (s : Step). s.tests) (so.on [])
+      ∙ ap (λ t. so.step.tests ++ t) left.tests ∙ append-nil so.step.tests
 
-pub pursues_fault : (rule : Site → World → Step) (seen after : Seen) (old new : Browser)
-    (before lines : List Line) (err : RunErr) (result : Result (Unit {0}) RunErr)
-    → result ≡ Err err → Pursues rule seen after old new before lines (Err err)
-    → Pursues rule seen after old new before lines result
-pursues_fault rule seen after old new before lines err result is so =
-    subst (λ (r : Result (Unit {0}) RunErr). Pursues rule seen after old new before lines r)
-    (sym is) so
+  world_is : one.world ≡ so.step.world
+  world_is = ap (λ (s : Step). s.world) (so.on []) ∙ left.world_is
+
+  open_is : one.is_open ≡ is_some (waiting_in did)
+  open_is = ap (λ (s : Step). s.is_open) (so.on [])
+      ∙ ap (λ (b : Bool). b || (left_over fragment_call pages (waiting_in did) []
+      so.step.world).is_open) so.closed
+      ∙ left.asks_user
+
+  -- the step without keys is what was done
+  fed_is : (keys : List Key)
+      → meaning fragment_call pages (record { step = so.step; waiting = waiting_in did }) keys
+      ≡ meaning fragment_call pages (fed_of one did) keys
+  fed_is keys = λ i.
+      let w = sym world_is i in
+      let rest = left_over fragment_call pages (waiting_in did) keys w in record {
+        world = rest.world;
+        keys = rest.keys;
+        lines = sym lines_are i ++ rest.lines;
+        asked = sym asked_is i ++ rest.asked;
+        tests = sym tests_are i ++ rest.tests;
+        is_open = so.closed i || rest.is_open;
+      }
+
+  follows_so : Follows pages rule old new did
+  follows_so = record {
+    leads = so.world ∙ sym world_is;
+    tells = so.lines ∙ sym lines_are;
+    over = so.over;
+    asks_user = open_is;
+    on = λ keys. so.on keys ∙ fed_is keys;
+  }
+
+  asks_so : Asks one.asked seen after
+  asks_so = subst (λ (a : List Question). Asks a seen after) (sym asked_is) so.asks
+
+acts_follow : (rule : StepRule) (seen after : Seen) (old new : Browser)
+    (result : Result Did RunErr)
+    → IfOk result (λ did. IfOver seen.contents old
+    (λ pages. Ends pages (λ keys. rule pages keys old.world) seen after new [] did))
+    → IfOk result (λ did. IfOver seen.contents old
+    (λ pages. Follows pages (rule pages) old new did))
+acts_follow rule seen after old new (Ok did) so =
+    over_map seen.contents old old (λ pages over. over)
+    (λ pages over ended. follows_so pages (rule pages) seen after old new did ended) so
+acts_follow rule seen after old new (Err err) so = tt
+
+acts_ask : (rule : StepRule) (seen after : Seen) (old new : Browser) (result : Result Did RunErr)
+    → IfOk result (λ did. IfOver seen.contents old
+    (λ pages. Ends pages (λ keys. rule pages keys old.world) seen after new [] did))
+    → OnOk result (IfOver seen.contents old (λ pages. Asks (rule pages [] old.world).asked seen after))
+acts_ask rule seen after old new (Ok did) so =
+    over_map seen.contents old old (λ pages over. over)
+    (λ pages over ended. asks_so pages (rule pages) seen after old new did ended) so
+acts_ask rule seen after old new (Err err) so = tt
+
+pub acts : (rule : StepRule) (seen after : Seen) (old new : Browser) (before : List Line)
+    (result : Result Did RunErr) → before ≡ []
+    → Pursues rule seen after old new before result → Acts rule seen after old new result
+acts rule seen after old new before result none pursues =
+    let so = subst (λ (l : List Line). Pursues rule seen after old new l result) none pursues in
+    record {
+      follows = acts_follow rule seen after old new result so.follows;
+      asks = acts_ask rule seen after old new result so.follows;
+      steady = so.steady;
+      failed = so.rose;
+      missed = so.missed;
+      stays = so.stays;
+    }
+
+-- the same where a fault is handed on
+pub acts_fault : (rule : StepRule) (seen after : Seen) (old new : Browser) (before : List Line)
+    (err : RunErr) (result : Result Did RunErr) → result ≡ Err err → before ≡ []
+    → Pursues rule seen after old new before (Err err) → Acts rule seen after old new result
+acts_fault rule seen after old new before err result is none pursues =
+    acts rule seen after old new before result none
+    (subst (λ (r : Result Did RunErr). Pursues rule seen after old new before r) (sym is) pursues)

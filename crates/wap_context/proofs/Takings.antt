@@ -1,210 +1,356 @@
--- One navigation over pages: from what its parts come to.
-use Rattle.std.proofs.Common.{◌≡◌, ◌∙◌, ℕ, ◌+◌, Bool, List, [], ◌∷◌, ◌++◌, Option, Some}
-use Rattle.std.proofs.Common.{None, Ok, Err, refl, sym, ap, subst, append_assoc}
-use Rattle.std.specs.Prelude.{Result, IfSome, IfOk, OnOk, IsErr, IsErrAnd}
+-- One navigation over pages, with any keys after it: from what its parts come to.
+use Rattle.std.proofs.Common.{◌≡◌, ◌∙◌, ◌≤◌, ℕ, ◌+◌, Bool, false, List, [], ◌∷◌, ◌++◌, Option, Some}
+use Rattle.std.proofs.Common.{None, Ok, Err, refl, sym, ap, ap₂, subst, append_assoc, append-nil, arith}
+use Rattle.std.specs.Prelude.{Result, IfSome, IfOk, OnOk, IsErr, IsErrAnd, ◌||◌}
+use Rattle.std.specs.Option.{option_map}
 use Rattle.std.proofs.lemmas.Bool.{false≢true}
 use Rattle.wap_base.specs.declared.fault.RunErr.{RunErr}
-use Rattle.wap_base.specs.declared.fault.RunErr.TheVariants.{NoMemory}
+use Rattle.wap_base.specs.declared.fault.RunErr.TheVariants.{Store, NoMemory}
+use Rattle.wap_base.specs.Count.{Rose}
 use Rattle.wap_url.specs.Printing.{name_for}
-use Rattle.wap_markup.specs.declared.deck.Deck.{Deck}
+use Rattle.wap_input.specs.declared.key.Key.{Key}
 use Rattle.wap_cardrules.specs.declared.task.Task.{Task}
 use Rattle.wap_site.specs.declared.page.Page.{Page}
-use Rattle.wap_site.specs.Pages.{Pages, page_of}
+use Rattle.wap_site.specs.Pages.{Pages as JudgedPages, page_of, AreSitePages}
+use Rattle.wap_site.specs.Asking.{Seen, Stays, Asks}
+use Rattle.wap_site.specs.Misses.{Asked as Question}
+use Rattle.wap_site.proofs.Asking.{Asks-nil, Asks-then, Stays-same, Stays-then}
 use Rattle.wap_world.specs.Shelves.{Shelf}
-use Rattle.wap_world.specs.Sites.{Site}
-use Rattle.wap_world.specs.Decks.{shelf_of, decks_site}
-use Rattle.wap_site.specs.Asking.{Seen, Stays, Asks, Fails}
-use Rattle.wap_site.proofs.Asking.{Asks-nil, Stays-same}
-use Rattle.wap_world.specs.declared.refusal.Refusal.{Refusal}
 use Rattle.wap_world.specs.World.{World}
-use Rattle.wap_world.specs.Steps.{Once, after_step}
+use Rattle.wap_world.specs.Steps.{Step, Once, Next, then_task, joined, after_step}
 use Rattle.wap_world.specs.Requests.{Request, request_line, ask}
-use Rattle.wap_context.specs.Browsers.{Browser, IsOver, IfOver}
-use Rattle.wap_context.specs.inside.Moving.{Line, Moves, Answers, Asked, deck_answer}
-use Rattle.wap_context.specs.inside.Moving.{Leads, Takes, Spends, Onces}
-use Rattle.wap_context.proofs.Arrivals.{answers_deck}
+use Rattle.wap_world.proofs.Joining.{once_before, or_false}
+use Rattle.wap_scripting.specs.UnitSites.{Pages, shelf_of, unit_pages}
+use Rattle.wap_scripting.specs.Waiting.{Waits}
+use Rattle.wap_scripting.specs.Halves.{once_by}
+use Rattle.wap_scripting_laws.proofs.Feeding.{after_means}
+use Rattle.wap_state.specs.Scenes.{Line}
+use Rattle.wap_context.specs.declared.waiting.Went.{Went}
+use Rattle.wap_context.specs.Browsers.{Browser, IsOver}
+use Rattle.wap_context.specs.Sites.{fragment_call, IfOver}
+use Rattle.wap_context.specs.Missing.{Missed}
+use Rattle.wap_context.specs.inside.Moving.{Moves, Asked, next_in, waits_in, Goes, Takes, Spends}
+use Rattle.wap_context.specs.inside.Moving.{Onces}
+use Rattle.wap_context.proofs.Missing.{Asks-missed, Missed-more}
 
-abbrev Rule : Type 0
-Rule = Site → World → Once
+-- a rule for one navigation
+abbrev pub Rule : Type 0
+Rule = Pages → List Key → World → Once
 
 -- ---- what holds of all pages, and of known ones
 
-pub over_all : (contents : Option Pages) (browser : Browser) {Fact : Site → Type 0}
-    → ((site : Site) → IsOver site.shelf browser → Fact site) → IfOver contents browser Fact
+pub over_all : (contents : Option JudgedPages) (browser : Browser) {Fact : Pages → Type 0}
+    → ((pages : Pages) → IsOver (shelf_of pages) browser → Fact pages)
+    → IfOver contents browser Fact
 over_all None browser f = tt
-over_all (Some pages) browser f = f (decks_site pages)
+over_all (Some judged) browser f = f (unit_pages judged)
 
-pub over_map : (contents : Option Pages) (old mid : Browser) {Fact Goal : Site → Type 0}
-    → ((site : Site) → IsOver site.shelf old → IsOver site.shelf mid)
-    → ((site : Site) → IsOver site.shelf old → Fact site → Goal site)
+pub over_map : (contents : Option JudgedPages) (old mid : Browser) {Fact Goal : Pages → Type 0}
+    → ((pages : Pages) → IsOver (shelf_of pages) old → IsOver (shelf_of pages) mid)
+    → ((pages : Pages) → IsOver (shelf_of pages) old → Fact pages → Goal pages)
     → IfOver contents mid Fact → IfOver contents old Goal
 over_map None old mid onto f so = tt
-over_map (Some pages) old mid onto f so =
-    let site = decks_site pages in
-    λ over. f site over (so (onto site over))
+over_map (Some judged) old mid onto f so =
+    let pages = unit_pages judged in
+    λ over. f pages over (so (onto pages over))
 
-pub told_map : (contents : Option Pages) (old : Browser) (Goal : Site → Type 0)
-    {Told : Pages → Type 0}
-    → ((pages : Pages) → IsOver (shelf_of pages) old → Told pages → Goal (decks_site pages))
-    → IfSome contents Told → IfOver contents old Goal
-told_map None old Goal f so = tt
-told_map (Some pages) old Goal f so = λ over. f pages over so
+-- facts of known pages, where both are of the same ones
+pub both_told : (contents here : Option JudgedPages) (old b : Browser) {P Q G : Pages → Type 0}
+    → here ≡ contents
+    → ((pages : Pages) → P pages → IsOver (shelf_of pages) b)
+    → ((pages : Pages) → P pages → Q pages → G pages)
+    → IfOver contents old P → IfOver here b Q → IfOver contents old G
+both_told None here old b is onto f one two = tt
+both_told (Some judged) here old b {P} {Q} {G} is onto f one two =
+    let pages = unit_pages judged in
+    λ over.
+    f pages (one over)
+    (subst (λ (o : Option JudgedPages). IfOver o b Q) is two (onto pages (one over)))
 
-if_ok_both : {X E : Type 0} {P Q : X → Type 0} (result : Result X E) → ((x : X) → P x → Q x)
+-- the same of the same pages
+pub over_same : (contents here : Option JudgedPages) (old : Browser) (Fact : Pages → Type 0)
+    → here ≡ contents → IfOver contents old Fact → IfOver here old Fact
+over_same contents here old Fact is so =
+    subst (λ (c : Option JudgedPages). IfOver c old Fact) (sym is) so
+
+-- judged pages that are known
+pub told_map : (contents : Option JudgedPages) (old : Browser) (Goal : Pages → Type 0)
+    {One Other : JudgedPages → Type 0}
+    → ((judged : JudgedPages) → IsOver (shelf_of (unit_pages judged)) old → One judged
+    → Other judged → Goal (unit_pages judged))
+    → IfSome contents One → IfSome contents Other → IfOver contents old Goal
+told_map None old Goal f one other = tt
+told_map (Some judged) old Goal f one other = λ over. f judged over one other
+
+pub if_ok_both : {X E : Type 0} {P Q : X → Type 0} (result : Result X E) → ((x : X) → P x → Q x)
     → IfOk result P → IfOk result Q
 if_ok_both (Ok x) f so = f x so
 if_ok_both (Err e) f so = tt
 
-on_ok_both : {X E P Q : Type 0} (result : Result X E) → (P → Q) → OnOk result P → OnOk result Q
+pub on_ok_both : {X E P Q : Type 0} (result : Result X E) → (P → Q) → OnOk result P → OnOk result Q
 on_ok_both (Ok x) f so = f so
 on_ok_both (Err e) f so = tt
 
 -- ---- ends
 
+-- out of memory
 pub takes_err : (rule : Rule) (seen after : Seen) (old new : Browser)
     (before shown : List Line) (err : RunErr)
     → Stays seen after → err ≡ NoMemory → Takes rule seen after old new before shown (Err err)
 takes_err rule seen after old new before shown err stays is = record {
   follows = tt;
-  asks = tt;
   steady = tt;
-  failed = λ failed. absurd (cc);
+  missed = λ failed. absurd (cc);
   rose = λ failed. absurd (cc);
   stays = stays;
   turns = tt;
 }
 
+pub takes_rejected : (rule : Rule) (seen after : Seen) (old new : Browser)
+    (before shown : List Line) (result : Result Went RunErr) → Stays seen after
+    → IsErr result → IsErrAnd result (λ err. err ≡ NoMemory)
+    → Takes rule seen after old new before shown result
+takes_rejected rule seen after old new before shown (Ok next) stays is so = absurd (false≢true is)
+takes_rejected rule seen after old new before shown (Err err) stays is so =
+    takes_err rule seen after old new before shown err stays so
+
+-- a navigation that starts no script leaves the keys after it
+goes_moves : (pages : Pages) (rule : List Key → Once) (seen : Seen) (old new : Browser)
+    (before shown : List Line) (went : Went) (once : Once) (IsSuch : Shelf → Type 0)
+    → Moves once IsSuch old new before shown (next_in went) → waits_in went ≡ None
+    → IsSuch (shelf_of pages) → ((keys : List Key) → rule keys ≡ once_before keys once)
+    → Goes pages rule seen seen new before shown went
+goes_moves pages rule seen old new before shown went once IsSuch moves none such is = record {
+  did = once;
+  world = moves.world;
+  lines = moves.lines;
+  leads = moves.leads;
+  closed = moves.closed;
+  over = moves.over (shelf_of pages) such;
+  asks = subst (λ (asked : List Question). Asks asked seen seen) (sym moves.asked) (Asks-nil seen);
+  on = λ keys. is keys ∙ ap (λ (o : Option Waits). once_by pages once o keys) (sym none);
+}
+
+no_more : (old new : Browser) → new.world.turns ≡ old.world.turns → new.world.turns ≤ old.world.turns
+no_more old new same = omega (arith, same)
+
 pub takes_moves : (rule : Rule) (seen : Seen) (old new : Browser) (before shown : List Line)
-    (next : Option Task)
-    (once : Once) (IsSuch : Shelf → Type 0) → Moves once IsSuch old new before shown next
-    → ((site : Site) → IsOver site.shelf old → IsSuch site.shelf × (rule site old.world ≡ once))
-    → Takes rule seen seen old new before shown (Ok next)
-takes_moves rule seen old new before shown next once IsSuch moves is = record {
-  follows = over_all seen.contents old (λ site over.
-      let same = sym (is site over).1 in
-      record {
-        world = moves.world ∙ ap (λ (o : Once). o.step.world) same;
-        lines = moves.lines ∙ ap (λ (o : Once). before ++ o.step.lines) same;
-        leads = moves.leads ∙ ap (λ (o : Once). o.next) same;
-        keys = ap (λ (o : Once). o.step.keys) (is site over).1 ∙ moves.keys;
-        over = moves.over site.shelf (is site over).0;
-      });
-  asks = over_all seen.contents old (λ site over.
-      subst (λ asked. Asks asked seen seen)
-      (sym (ap (λ (o : Once). o.step.asked) (is site over).1 ∙ moves.asked)) (Asks-nil seen));
+    (went : Went) (once : Once) (IsSuch : Shelf → Type 0)
+    → Moves once IsSuch old new before shown (next_in went) → waits_in went ≡ None
+    → IfOver seen.contents old (λ pages. IsSuch (shelf_of pages)
+    × ((keys : List Key) → rule pages keys old.world ≡ once_before keys once))
+    → Takes rule seen seen old new before shown (Ok went)
+takes_moves rule seen old new before shown went once IsSuch moves none is = record {
+  follows = over_map seen.contents old old (λ pages over. over)
+      (λ pages over so. goes_moves pages (λ keys. rule pages keys old.world) seen old new before
+      shown went once IsSuch moves none so.0 so.1) is;
   steady = refl;
-  failed = λ failed. absurd (cc);
+  missed = λ failed. absurd (cc);
   rose = λ failed. absurd (cc);
   stays = Stays-same seen;
-  turns = moves.turns;
+  turns = no_more old new moves.turns;
 }
 
--- by another rule
-pub takes_from : (rule other : Rule) (seen after : Seen) (old new : Browser)
-    (before shown : List Line)
-    (result : Result (Option Task) RunErr)
-    → ((site : Site) → IsOver site.shelf old → other site old.world ≡ rule site old.world)
-    → Takes other seen after old new before shown result
+-- the same of a task of the current card, if there is one
+pub takes_task : (rule : Rule) (seen : Seen) (old new : Browser) (before shown : List Line)
+    (next : Option Task) (went : Went) (once : Once) (IsSuch : Shelf → Type 0)
+    → next_in went ≡ option_map then_task next → waits_in went ≡ None
+    → Moves once IsSuch old new before shown (option_map then_task next)
+    → IfOver seen.contents old (λ pages. IsSuch (shelf_of pages)
+    × ((keys : List Key) → rule pages keys old.world ≡ once_before keys once))
+    → Takes rule seen seen old new before shown (Ok went)
+takes_task rule seen old new before shown next went once IsSuch is none moves law =
+    takes_moves rule seen old new before shown went once IsSuch
+    (subst (λ (n : Option Next). Moves once IsSuch old new before shown n) (sym is) moves) none law
+
+-- ---- by other rules
+
+goes_from : (pages : Pages) (rule other : List Key → Once) (seen after : Seen) (new : Browser)
+    (before shown : List Line) (went : Went) → ((keys : List Key) → other keys ≡ rule keys)
+    → Goes pages other seen after new before shown went
+    → Goes pages rule seen after new before shown went
+goes_from pages rule other seen after new before shown went is so = record {
+  did = so.did;
+  world = so.world;
+  lines = so.lines;
+  leads = so.leads;
+  closed = so.closed;
+  over = so.over;
+  asks = so.asks;
+  on = λ keys. sym (is keys) ∙ so.on keys;
+}
+
+-- from another browser, by another rule
+pub takes_by : (rule other : Rule) (seen after : Seen) (old mid new : Browser)
+    (before shown : List Line) (result : Result Went RunErr)
+    → ((pages : Pages) → IsOver (shelf_of pages) old → IsOver (shelf_of pages) mid)
+    → ((pages : Pages) → IsOver (shelf_of pages) old → (keys : List Key)
+    → other pages keys mid.world ≡ rule pages keys old.world)
+    → mid.world.turns ≤ old.world.turns
+    → Takes other seen after mid new before shown result
     → Takes rule seen after old new before shown result
-takes_from rule other seen after old new before shown result is so = record {
+takes_by rule other seen after old mid new before shown result onto is fewer so = record {
   follows = if_ok_both result
-      (λ next. over_map seen.contents old old (λ site over. over) (λ site over leads.
-      subst (λ (o : Once). Leads site.shelf o new before shown next) (is site over) leads))
+      (λ went. over_map seen.contents old mid onto (λ pages over goes.
+      goes_from pages (λ keys. rule pages keys old.world) (λ keys. other pages keys mid.world) seen
+      after new before shown went (is pages over) goes))
       so.follows;
-  asks = on_ok_both result
-      (over_map seen.contents old old (λ site over. over) (λ site over asks.
-      subst (λ (o : Once). Asks o.step.asked seen after) (is site over) asks)) so.asks;
   steady = so.steady;
-  failed = λ failed. over_map seen.contents old old (λ site over. over) (λ site over fails.
-      subst (λ (o : Once). Fails o.step.asked seen after) (is site over) fails) (so.failed failed);
+  missed = λ failed. over_map seen.contents old mid onto (λ pages over missed.
+      subst (λ (o : Once). Missed o.step.asked seen after) (is pages over []) missed)
+      (so.missed failed);
   rose = so.rose;
   stays = so.stays;
-  turns = so.turns;
+  turns = on_ok_both result (λ (few : new.world.turns ≤ mid.world.turns). omega (arith, few, fewer))
+      so.turns;
 }
 
--- a turn was taken, and the rest goes by another rule
-spends_by : (old mid new : Browser) (next : Option Task) → mid.world.turns + 1 ≡ old.world.turns
-    → new.world.turns ≡ mid.world.turns → Spends old new next
-spends_by old mid new None spent same = tt
-spends_by old mid new (Some task) spent same = ap (λ (n : ℕ). n + 1) same ∙ spent
+-- from the same browser
+pub takes_from : (rule other : Rule) (seen after : Seen) (old new : Browser)
+    (before shown : List Line) (result : Result Went RunErr)
+    → ((pages : Pages) → IsOver (shelf_of pages) old → (keys : List Key)
+    → other pages keys old.world ≡ rule pages keys old.world)
+    → Takes other seen after old new before shown result
+    → Takes rule seen after old new before shown result
+takes_from rule other seen after old new before shown result is so =
+    takes_by rule other seen after old old new before shown result (λ pages over. over) is
+    (no_more old old refl) so
 
-spends_in : (old mid new : Browser) (result : Result (Option Task) RunErr)
+-- a turn was taken, and the rest goes by another rule
+spends_by : (old mid new : Browser) (next : Option Next) → mid.world.turns + 1 ≡ old.world.turns
+    → new.world.turns ≤ mid.world.turns
+    → IfSome next (λ one. new.world.turns + 1 ≤ old.world.turns)
+spends_by old mid new None spent few = tt
+spends_by old mid new (Some next) spent few = omega (arith, spent, few)
+
+spends_in : (old mid new : Browser) (result : Result Went RunErr)
     → mid.world.turns + 1 ≡ old.world.turns
-    → OnOk result (new.world.turns ≡ mid.world.turns) → IfOk result (Spends old new)
-spends_in old mid new (Ok next) spent same = spends_by old mid new next spent same
-spends_in old mid new (Err err) spent same = tt
+    → OnOk result (new.world.turns ≤ mid.world.turns) → IfOk result (Spends old new)
+spends_in old mid new (Ok went) spent few = spends_by old mid new (next_in went) spent few
+spends_in old mid new (Err err) spent few = tt
 
 pub onces_from : (rule other : Rule) (seen after : Seen) (old mid new : Browser)
-    (before shown : List Line)
-    (result : Result (Option Task) RunErr)
-    → ((site : Site) → IsOver site.shelf old → IsOver site.shelf mid)
-    → ((site : Site) → IsOver site.shelf old → other site mid.world ≡ rule site old.world)
+    (before shown : List Line) (result : Result Went RunErr)
+    → ((pages : Pages) → IsOver (shelf_of pages) old → IsOver (shelf_of pages) mid)
+    → ((pages : Pages) → IsOver (shelf_of pages) old → (keys : List Key)
+    → other pages keys mid.world ≡ rule pages keys old.world)
     → mid.world.turns + 1 ≡ old.world.turns
     → Takes other seen after mid new before shown result
     → Onces rule seen after old new before shown result
 onces_from rule other seen after old mid new before shown result onto is spent so = record {
-  follows = if_ok_both result
-      (λ next. over_map seen.contents old mid onto (λ site over leads.
-      subst (λ (o : Once). Leads site.shelf o new before shown next) (is site over) leads))
-      so.follows;
-  asks = on_ok_both result
-      (over_map seen.contents old mid onto (λ site over asks.
-      subst (λ (o : Once). Asks o.step.asked seen after) (is site over) asks)) so.asks;
-  steady = so.steady;
-  failed = λ failed. over_map seen.contents old mid onto (λ site over fails.
-      subst (λ (o : Once). Fails o.step.asked seen after) (is site over) fails) (so.failed failed);
-  rose = so.rose;
-  stays = so.stays;
+  takes = takes_by rule other seen after old mid new before shown result onto is
+      (omega (arith, spent)) so;
   spends = spends_in old mid new result spent so.turns;
 }
 
--- ---- a page that was asked for
+-- ---- a step, and then a navigation
 
-module _ (one : Request) where
-  abbrev first : List (List ℕ × Bool)
-  first = (name_for one.url, one.fresh) ∷ []
-
-  abbrev page_in : Pages → Page
-  page_in pages = page_of (name_for one.url) pages
-
-  pub takes_asked : (rule : Rule) (seen after : Seen) (old new : Browser)
-      (before mid shown : List Line) (next : Option Task)
-      (answer : Result Deck Refusal) (once : Once)
-      → Asked one seen after before mid (Ok answer)
-      → Moves once (Answers one.url answer old) old new mid shown next
-      → ((pages : Pages) → IsOver (shelf_of pages) old → answer ≡ deck_answer (page_in pages)
-      → rule (decks_site pages) old.world ≡ after_step (ask [] one old.world) once)
-      → Takes rule seen after old new before shown (Ok next)
-  takes_asked rule seen after old new before mid shown next answer once asked moves is = record {
-    follows = told_map seen.contents old
-        (λ site. Leads site.shelf (rule site old.world) new before shown next) (λ pages over told.
-        let same = is pages over told in
-        record {
-          world = moves.world ∙ sym (ap (λ (o : Once). o.step.world) same);
-          lines = moves.lines
-              ∙ ap (λ l. l ++ once.step.lines) asked.lines
-              ∙ append_assoc before (request_line one ∷ []) once.step.lines
-              ∙ sym (ap (λ (o : Once). before ++ o.step.lines) same);
-          leads = moves.leads ∙ sym (ap (λ (o : Once). o.next) same);
-          keys = ap (λ (o : Once). o.step.keys) same ∙ moves.keys;
-          over = moves.over (shelf_of pages) (over, answers_deck (page_in pages) answer told);
-        }) asked.answer;
-    asks = told_map seen.contents old
-        (λ site. Asks (rule site old.world).step.asked seen after) (λ pages over told.
-        subst (λ (l : List (List ℕ × Bool)). Asks l seen after)
-        (sym (ap (λ (o : Once). o.step.asked) (is pages over told)
-        ∙ ap (λ l. first ++ l) moves.asked)) asked.asks) asked.answer;
-    steady = asked.asks.steady;
-    failed = λ failed. absurd (cc);
-    rose = λ failed. absurd (cc);
-    stays = asked.stays;
-    turns = moves.turns;
+module _ (pages : Pages) (first : Step) (seen mid after : Seen) (new : Browser)
+    (before line shown : List Line) (lines : line ≡ before ++ first.lines)
+    (shut : first.is_open ≡ false) (asks : Asks first.asked seen mid) where
+  goes_after : (rule other : List Key → Once) (went : Went)
+      → ((keys : List Key) → rule keys ≡ after_step first (other keys))
+      → Goes pages other mid after new line shown went
+      → Goes pages rule seen after new before shown went
+  goes_after rule other went is so = record {
+    did = after_step first so.did;
+    world = so.world;
+    lines = so.lines ∙ ap (λ (l : List Line). l ++ so.did.step.lines) lines
+        ∙ append_assoc before first.lines so.did.step.lines;
+    leads = so.leads;
+    closed = ap₂ (λ (a b : Bool). a || b) shut so.closed;
+    over = so.over;
+    asks = Asks-then first.asked so.did.step.asked seen mid after asks so.asks;
+    on = λ keys. is keys ∙ ap (after_step first) (so.on keys)
+        ∙ sym (after_means fragment_call pages first so.did (waits_in went) keys);
   }
 
-pub takes_rejected : (rule : Rule) (seen : Seen) (old new : Browser) (before shown : List Line)
-    (result : Result (Option Task) RunErr)
-    → IsErr result → IsErrAnd result (λ err. err ≡ NoMemory)
-    → Takes rule seen seen old new before shown result
-takes_rejected rule seen old new before shown (Ok next) is so = absurd (false≢true is)
-takes_rejected rule seen old new before shown (Err err) is so =
-    takes_err rule seen seen old new before shown err (Stays-same seen) so
+-- what is known of pages, of which these were asked for before
+abbrev pub After : Rule → Rule → Step → Seen → Seen → Browser → Pages → Type 0
+After rule other first seen mid old pages =
+    Asks first.asked seen mid × ((keys : List Key)
+    → rule pages keys old.world ≡ after_step first (other pages keys old.world))
+
+after_ok : (rule other : Rule) (first : Step) (seen mid after : Seen) (old new : Browser)
+    (before line shown : List Line) → line ≡ before ++ first.lines → first.is_open ≡ false
+    → Stays seen mid → (result : Result Went RunErr)
+    → IfOver seen.contents old (After rule other first seen mid old)
+    → IfOk result (λ went. IfOver mid.contents old
+    (λ pages. Goes pages (λ keys. other pages keys old.world) mid after new line shown went))
+    → IfOk result (λ went. IfOver seen.contents old
+    (λ pages. Goes pages (λ keys. rule pages keys old.world) seen after new before shown went))
+after_ok rule other first seen mid after old new before line shown lines shut stays (Ok went) law so
+    =
+    both_told seen.contents mid.contents old old
+    {P = λ pages. IsOver (shelf_of pages) old × After rule other first seen mid old pages}
+    {Q = λ pages. Goes pages (λ keys. other pages keys old.world) mid after new line shown went}
+    stays.contents (λ pages both. both.0)
+    (λ pages both goes. goes_after pages first seen mid after new before line shown lines shut
+    both.1.0 (λ keys. rule pages keys old.world) (λ keys. other pages keys old.world) went both.1.1
+    goes)
+    (over_map seen.contents old old (λ pages over. over) (λ pages over one. (over, one)) law) so
+after_ok rule other first seen mid after old new before line shown lines shut stays (Err err) law so
+    = tt
+
+pub takes_after : (rule other : Rule) (first : Step) (seen mid after : Seen) (old new : Browser)
+    (before line shown : List Line) (result : Result Went RunErr)
+    → line ≡ before ++ first.lines → first.is_open ≡ false → Stays seen mid
+    → mid.faults ≡ seen.faults
+    → IfOver seen.contents old (After rule other first seen mid old)
+    → Takes other mid after old new line shown result
+    → Takes rule seen after old new before shown result
+takes_after rule other first seen mid after old new before line shown result lines shut stays steady
+    law so = record {
+      follows = after_ok rule other first seen mid after old new before line shown lines shut stays
+          result law so.follows;
+      steady = on_ok_both result (λ (same : after.faults ≡ mid.faults). same ∙ steady) so.steady;
+      missed = λ failed.
+          both_told seen.contents mid.contents old old
+          {P = λ pages. IsOver (shelf_of pages) old × After rule other first seen mid old pages}
+          {Q = λ pages. Missed (other pages [] old.world).step.asked mid after}
+          stays.contents (λ pages both. both.0)
+          (λ pages both missed.
+          subst (λ (o : Once). Missed o.step.asked seen after) (sym (both.1.1 []))
+          (Asks-missed first.asked (other pages [] old.world).step.asked seen mid after so.stays
+          both.1.0 missed))
+          (over_map seen.contents old old (λ pages over. over) (λ pages over one. (over, one)) law)
+          (so.missed failed);
+      rose = λ failed. subst (λ (k : ℕ). Rose k after.faults) steady (so.rose failed);
+      stays = Stays-then seen mid after stays so.stays;
+      turns = so.turns;
+    }
+
+-- ---- a page that was asked for
+
+-- what is known of judged pages that answer
+pub told_asked : (one : Request) (seen mid : Seen) (old : Browser) (before line : List Line)
+    (page : Page) (Fact : Pages → Type 0) → Asked one seen mid before line (Ok page)
+    → ((judged : JudgedPages) → AreSitePages judged → IsOver (shelf_of (unit_pages judged)) old
+    → page ≡ page_of (name_for one.url) judged → Fact (unit_pages judged))
+    → IfOver seen.contents old Fact
+told_asked one seen mid old before line page Fact asked f =
+    told_map seen.contents old Fact (λ judged over site answer. f judged site over answer)
+    asked.site asked.answer
+
+page_err : (err : RunErr) → ◌≡◌ {A = Result Went RunErr} (Err err) (Err Store)
+    → ◌≡◌ {A = Result Page RunErr} (Err err) (Err Store)
+page_err err is = cc
+
+-- the store failed at it
+pub takes_missed : (rule : Rule) (one : Request) (seen after : Seen) (old new : Browser)
+    (before shown : List Line) (err : RunErr)
+    → ((pages : Pages) → (rest : List Question)
+    × ((rule pages [] old.world).step.asked ≡ (name_for one.url, one.fresh) ∷ rest))
+    → Asked one seen after before shown (Err err)
+    → Takes rule seen after old new before shown (Err err)
+takes_missed rule one seen after old new before shown err asked so = record {
+  follows = tt;
+  steady = tt;
+  missed = λ failed. over_all seen.contents old (λ pages over.
+      let rest = asked pages in
+      subst (λ (a : List Question). Missed a seen after) (sym rest.1)
+      (Missed-more ((name_for one.url, one.fresh) ∷ []) rest.0 seen after (so.missed (page_err err failed))));
+  rose = λ failed. (so.missed (page_err err failed)).rose;
+  stays = so.stays;
+  turns = tt;
+}

@@ -1,15 +1,12 @@
 -- What is seen of a browser that stands on a card: its world, and the deck that it has at hand.
 -- This project's own.
-use Rattle.std.specs.Prelude.{◌≡◌, ℕ, List, Option, IfSome}
-use Rattle.std.specs.Option.{option_map, option_and_then, option_map_or}
+use Rattle.std.specs.Prelude.{◌≡◌, ℕ, List, Option}
+use Rattle.std.specs.Option.{option_and_then, option_map_or}
 use Rattle.wap_filling.specs.Variables.{Variables}
 use Rattle.wap_cardrules.specs.declared.answers.Entered.TheVariants as entered
 use Rattle.wap_cardrules.specs.Entering.{TextEntered, enter_text, OptionChosen, none_chosen, choose}
 use Rattle.wap_markup.specs.declared.deck.Deck.{Deck}
-use Rattle.wap_site.specs.Pages.{Pages}
 use Rattle.wap_world.specs.Shelves.{Shelf}
-use Rattle.wap_world.specs.Sites.{Site}
-use Rattle.wap_world.specs.Decks.{decks_site}
 use Rattle.wap_world.specs.World.{World, Place, place_in, deck_at, last_entry}
 use Rattle.wap_world.specs.Steps.{Scene}
 
@@ -28,11 +25,6 @@ place_held browser = option_and_then (λ entry. option_and_then (place_in entry)
 abbrev pub IsOver : Shelf → Browser → Type 0
 IsOver shelf browser =
     option_and_then (λ entry. deck_at shelf entry.url) (last_entry browser.world) ≡ browser.deck
-
--- a fact of the site of pages, where they are known and have the deck
-abbrev pub IfOver : Option Pages → Browser → (Site → Type 0) → Type 0
-IfOver contents browser Fact =
-    IfSome (option_map decks_site contents) (λ site. IsOver site.shelf browser → Fact site)
 
 -- a scene over any shelf that has the deck: where it leads, and its lines
 pub record Shows (old new : Browser) (lines : List (List ℕ)) (rule : Shelf → World → Scene) : Type 0

@@ -1,3 +1,6 @@
+pub mod Pausing
 pub mod Browsers
+pub mod Missing
+pub mod Sites
 pub mod Acting
 pub mod inside

@@ -1,4 +1,4 @@
 pub mod Held
 pub mod Moving
 pub mod Ticking
-pub mod History
+pub mod Starting

@@ -1,21 +1,26 @@
 //! The context of a browser.
-ghost use Rattle.std.specs.Prelude.{◌≡◌, [], None, is_some, IfOk, OnOk};
+ghost use Rattle.std.specs.Prelude.{◌≡◌, None, is_some, IfOk, OnOk};
 ghost use Rattle.std.specs.Option.{option_map, option_copied};
 ghost use Rattle.wap_world.specs.World.{first_world};
 ghost use Rattle.wap_world.specs.Steps.{then_task};
 ghost use Rattle.wap_world.specs.Screens.{show, show_screen};
 ghost use Rattle.wap_world.specs.Tasks.{act, visit};
+ghost use Rattle.wap_base.specs.Limits.{AreInRange};
 ghost use Rattle.wap_context.specs.Browsers.{place_held, Shows, with_vars, typed_in, chosen_in};
-ghost use Rattle.wap_context.specs.Acting.{Acts, tick};
+ghost use Rattle.wap_context.specs.Sites.{site_of};
+ghost use Rattle.wap_context.specs.Acting.{Acts, tick, answer, stop, Ticks};
 
-use crate::here::here;
-use crate::state::State;
+use crate::waiting::{Step, Ticked, Waiting, Went};
 use std::alloc::Global;
 use std::marker::Model;
 use wap_base::{Limits, NoMemory, Rows, RunErr, Text};
 use wap_cardrules::{Chosen, Entered, Task};
+use wap_execution::Fatal;
 use wap_good::{GoodDeck, View};
+use wap_machine::Outcome;
 use wap_site::{Pages, Shared};
+use wap_state::{State, here};
+use wap_value::Value;
 use wap_vars::Vars;
 use wap_world::Timer;
 
@@ -43,6 +48,7 @@ impl Model for Context {
 impl Context {
     /// A browser that did nothing yet. It has no turns until a key begins.
     pub fn new(alloc: Global, seed: u32, limits: Limits) -> Context
+        requires limits { AreInRange limits }
         ensures { result ≡ record { world = first_world seed 0 limits; deck = None } }
     {
         Context {
@@ -67,14 +73,13 @@ impl Context {
         alloc: Global,
         pages: &mut P,
         url: &Text,
-    ) -> Result<Rows<Text>, RunErr>
-        ensures { Acts (λ site world. visit site [] world url.now)
+    ) -> Result<Step, RunErr>
+        ensures { Acts (λ pages keys world. visit (site_of pages) keys world url.now)
             (P.seen pages.old) (P.seen pages.new) self.old self.new result }
     {
         let mut lines = Rows::new(alloc);
-        let next = self.visit_once(alloc, pages, url, &mut lines)?;
-        self.follow(alloc, pages, next, &mut lines)?;
-        Ok(lines)
+        let went = self.visit_once(alloc, pages, url, &mut lines)?;
+        self.follow(alloc, pages, went, lines)
     }
 
     /// Takes a task, and all that it leads to.
@@ -83,13 +88,12 @@ impl Context {
         alloc: Global,
         pages: &mut P,
         task: Task,
-    ) -> Result<Rows<Text>, RunErr>
-        ensures { Acts (λ site world. act site [] world (then_task task)) (P.seen pages.old)
-            (P.seen pages.new) self.old self.new result }
+    ) -> Result<Step, RunErr>
+        ensures { Acts (λ pages keys world. act (site_of pages) keys world (then_task task))
+            (P.seen pages.old) (P.seen pages.new) self.old self.new result }
     {
-        let mut lines = Rows::new(alloc);
-        self.follow(alloc, pages, Some(task), &mut lines)?;
-        Ok(lines)
+        let lines = Rows::new(alloc);
+        self.follow(alloc, pages, Went::Leads(task, None), lines)
     }
 
     /// Lets so many tenths of a second pass.
@@ -98,12 +102,58 @@ impl Context {
         alloc: Global,
         pages: &mut P,
         time: u32,
-    ) -> Result<Rows<Text>, RunErr>
+    ) -> Result<Step, RunErr>
         ensures { Acts (tick time) (P.seen pages.old) (P.seen pages.new) self.old self.new result }
     {
+        let lines = Rows::new(alloc);
+        self.pass_time(alloc, pages, time, lines)
+    }
+
+    /// Answers the dialog of a script that waits, which goes on, and on to all that it leads to.
+    pub fn answer<P: Pages>(
+        &mut self,
+        alloc: Global,
+        pages: &mut P,
+        waiting: Waiting,
+        v: Value,
+    ) -> Result<Step, RunErr>
+        ensures { Acts (answer waiting v)
+            (P.seen pages.old) (P.seen pages.new) self.old self.new result }
+    {
+        let Waiting { machine, base } = waiting;
+        let first = Rows::new(alloc);
         let mut lines = Rows::new(alloc);
-        self.pass_time(alloc, pages, time, &mut lines)?;
-        Ok(lines)
+        let went = self.go_on(alloc, pages, machine.answer(v), base, first, &mut lines)?;
+        self.follow(alloc, pages, went, lines)
+    }
+
+    /// Stops a script that waits, and goes on to all that follows its end.
+    pub fn stop<P: Pages>(
+        &mut self,
+        alloc: Global,
+        pages: &mut P,
+        waiting: Waiting,
+    ) -> Result<Step, RunErr>
+        ensures { Acts (stop waiting)
+            (P.seen pages.old) (P.seen pages.new) self.old self.new result }
+    {
+        let Waiting { machine: _, base } = waiting;
+        let mut lines = Rows::new(alloc);
+        let went = self.end_script(alloc, base, Outcome::Fatal(Fatal::Stopped), &mut lines)?;
+        self.follow(alloc, pages, went, lines)
+    }
+
+    /// Lets so many tenths of a second pass while a script waits: where its timer runs out, the task
+    /// of that event waits for the end of the script.
+    pub fn tick_waiting(&mut self, alloc: Global, time: u32) -> Result<Ticked, NoMemory>
+        ensures { IfOk result (Ticks time self.old self.new) }
+    {
+        let mut lines = Rows::new(alloc);
+        let Timer::Running(left) = self.state.timer else {
+            return Ok(Ticked::NotRunning);
+        };
+        self.count_down(alloc, time, left, &mut lines)?;
+        Ok(Ticked::Counted(lines))
     }
 
     /// Shows the current card, if there is one: its fields get their defaults, its timer starts,
@@ -157,6 +207,13 @@ impl Context {
             Some(here) => Some(here.card),
             None => None,
         }
+    }
+
+    /// How many turns each key has.
+    pub fn budget(&self) -> u32
+        ensures { result ≡ self.now.world.budget }
+    {
+        self.state.budget
     }
 
     /// The variables.

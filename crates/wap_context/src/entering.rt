@@ -2,10 +2,11 @@
 ghost use Rattle.std.specs.Prelude.{◌≡◌, Some, Ok, IfOk, OnOk};
 ghost use Rattle.std.specs.Option.{option_map};
 ghost use Rattle.wap_url.specs.Printing.{without_fragment};
+ghost use Rattle.wap_world.specs.Steps.{then_task};
 ghost use Rattle.wap_world.specs.Tasks.{card_for, is_new_context, in_context};
 ghost use Rattle.wap_world.specs.History.{pushed, entry_of, in_deck, back_at};
 ghost use Rattle.wap_context.specs.Browsers.{IsOver, place_held};
-ghost use Rattle.wap_context.specs.inside.Held.{not_started, event_at, enter_at, arrive_at};
+ghost use Rattle.wap_context.specs.inside.Held.{not_started, event_at, begun_at, enter_at, arrive_at};
 ghost use Rattle.wap_context.specs.inside.Held.{arrive_if_at, try_deck_at, return_at, refused_at};
 ghost use Rattle.wap_context.specs.inside.Held.{answered_at, returned_at};
 ghost use Rattle.wap_context.specs.inside.Moving.{Moves, HasDeck, Answers};
@@ -85,6 +86,26 @@ impl Context {
         self.state.timer = Timer::NotStarted;
     }
 
+    /// The task of an event of the current card is next; without one the card is shown.
+    pub(crate) fn begin_event(
+        &mut self,
+        alloc: Global,
+        event: Event,
+        lines: &mut Rows<Text>,
+    ) -> Result<Option<Task>, NoMemory>
+        ensures { IfOk result (λ next. Moves (begun_at event (place_held self.old) self.old.world)
+            (λ shelf. IsOver shelf self.old) self.old self.new lines.old lines.new
+            (option_map then_task next)) }
+    {
+        match self.event_task(alloc, event)? {
+            Some(task) => Ok(Some(task)),
+            None => {
+                self.add_show(alloc, lines)?;
+                Ok(None)
+            }
+        }
+    }
+
     /// Enters the current card: its timer is not started, and its event's task is next, or it is
     /// shown.
     fn enter(
@@ -94,16 +115,11 @@ impl Context {
         lines: &mut Rows<Text>,
     ) -> Result<Option<Task>, NoMemory>
         ensures { IfOk result (λ next. Moves (enter_at event (place_held self.old) self.old.world)
-            (λ shelf. IsOver shelf self.old) self.old self.new lines.old lines.new next) }
+            (λ shelf. IsOver shelf self.old) self.old self.new lines.old lines.new
+            (option_map then_task next)) }
     {
         self.reset_timer();
-        match self.event_task(alloc, event)? {
-            Some(task) => Ok(Some(task)),
-            None => {
-                self.add_show(alloc, lines)?;
-                Ok(None)
-            }
-        }
+        self.begin_event(alloc, event, lines)
     }
 
     /// Adds a refusal, which ends a navigation.
@@ -115,7 +131,8 @@ impl Context {
     ) -> Result<Option<Task>, NoMemory>
         ensures { IfOk result (λ next.
             Moves (refused_at refusal (place_held self.old) self.old.world)
-            (λ shelf. IsOver shelf self.old) self.old self.new lines.old lines.new next) }
+            (λ shelf. IsOver shelf self.old) self.old self.new lines.old lines.new
+            (option_map then_task next)) }
     {
         self.add_refusal(alloc, refusal, lines)?;
         Ok(None)
@@ -149,7 +166,8 @@ impl Context {
     ) -> Result<Option<Task>, NoMemory>
         ensures { IfOk result (λ next. Moves
             (arrive_at sets url (place_held self.old) self.old.world deck)
-            (HasDeck url deck) self.old self.new lines.old lines.new next) }
+            (HasDeck url deck) self.old self.new lines.old lines.new
+            (option_map then_task next)) }
     {
         self.leave_and_set(alloc, sets, lines)?;
         self.push_card(alloc, url, deck)?;
@@ -169,7 +187,8 @@ impl Context {
         ensures { IfOk result (λ next. Moves
             (try_deck_at sets caller.now url (place_held self.old) self.old.world deck)
             (λ shelf. IsOver shelf self.old × HasDeck url deck shelf)
-            self.old self.new lines.old lines.new next) }
+            self.old self.new lines.old lines.new
+            (option_map then_task next)) }
     {
         let entrance = entrance_of(alloc, &deck)?;
         let is_allowed = may_enter(alloc, &url, entrance, caller)?;
@@ -192,7 +211,8 @@ impl Context {
     ) -> Result<Option<Task>, NoMemory>
         ensures { IfOk result (λ next. Moves
             (answered_at sets caller.now url (place_held self.old) self.old.world answer)
-            (Answers url answer self.old) self.old self.new lines.old lines.new next) }
+            (Answers url answer self.old) self.old self.new lines.old lines.new
+            (option_map then_task next)) }
     {
         match answer {
             Ok(deck) => self.try_deck(alloc, sets, caller, url, deck, lines),
@@ -223,7 +243,8 @@ impl Context {
     ) -> Result<Option<Task>, NoMemory>
         ensures { IfOk result (λ next. Moves
             (return_at sets earlier (place_held self.old) self.old.world deck)
-            (HasDeck earlier.url deck) self.old self.new lines.old lines.new next) }
+            (HasDeck earlier.url deck) self.old self.new lines.old lines.new
+            (option_map then_task next)) }
     {
         self.leave_and_set(alloc, sets, lines)?;
         self.pop_card(earlier, deck)?;
@@ -241,7 +262,8 @@ impl Context {
     ) -> Result<Option<Task>, NoMemory>
         ensures { IfOk result (λ next. Moves
             (returned_at sets earlier (place_held self.old) self.old.world answer)
-            (Answers earlier.url answer self.old) self.old self.new lines.old lines.new next) }
+            (Answers earlier.url answer self.old) self.old self.new lines.old lines.new
+            (option_map then_task next)) }
     {
         match answer {
             Ok(deck) => self.return_to(alloc, sets, earlier, deck, lines),

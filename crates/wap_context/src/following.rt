@@ -1,31 +1,36 @@
-//! Tasks, and all that they lead to.
+//! Navigations, and all that they lead to.
 ghost use Rattle.std.specs.Prelude.{◌≡◌};
-ghost use Rattle.std.specs.Option.{option_map};
-ghost use Rattle.wap_world.specs.Steps.{then_task};
 ghost use Rattle.wap_context.specs.inside.Moving.{Pursues, pursued};
 
 use crate::context::Context;
+use crate::waiting::{Step, Went};
 use std::alloc::Global;
 use wap_base::{Rows, RunErr, Text};
-use wap_cardrules::Task;
 use wap_site::Pages;
 
 impl Context {
-    /// Takes a task, if there is one, and all that it leads to.
+    /// Takes what is left to do and all that it leads to, until nothing is, or a script asks its
+    /// user.
     pub(crate) fn follow<P: Pages>(
         &mut self,
         alloc: Global,
         pages: &mut P,
-        first: Option<Task>,
-        lines: &mut Rows<Text>,
-    ) -> Result<(), RunErr>
-        ensures { Pursues (λ site world. pursued site (option_map then_task first) world)
-            (P.seen pages.old) (P.seen pages.new) self.old self.new lines.old lines.new result }
+        first: Went,
+        lines: Rows<Text>,
+    ) -> Result<Step, RunErr>
+        ensures { Pursues (pursued first)
+            (P.seen pages.old) (P.seen pages.new) self.old self.new lines result }
     {
-        let mut next = first;
-        while let Some(task) = next {
-            next = self.task_once(alloc, pages, task, lines)?;
+        let mut shown = lines;
+        let mut went = first;
+        loop {
+            match went {
+                Went::Settled => return Ok(Step::Settled(shown)),
+                Went::Asks(dialog, waiting) => return Ok(Step::Asks(shown, dialog, waiting)),
+                Went::Leads(task, from) => {
+                    went = self.task_once(alloc, pages, task, from, &mut shown)?;
+                }
+            }
         }
-        Ok(())
     }
 }

@@ -1,22 +1,20 @@
 //! The context of a browser: the variables and the history that decks share, the timer of the
-//! current card, and what tasks do to these.
+//! current card, and what tasks and the scripts that they start do to these.
 #![tactic(auto)]
 
 mod asking;
 mod context;
 mod entering;
-mod fields;
 mod following;
-mod here;
-mod history;
 mod navigation;
+mod running;
 mod scenes;
-mod screens;
-mod setting;
-mod state;
+mod script_lines;
+mod starting;
 mod ticking;
-mod timers;
+mod waiting;
 
 pub use context::Context;
+pub use waiting::{Step, Ticked, Waiting};
 pub use wap_site::{Page, Pages};
 pub use wap_world::Timer;

@@ -1,16 +1,18 @@
 //! Go, open and prev (WAP-191, sections 9.2, 9.5 and 9.10).
-ghost use Rattle.std.specs.Prelude.{◌≡◌, [], None, true, false, IfSome, IfOk};
-ghost use Rattle.std.specs.Option.{option_map};
+ghost use Rattle.std.specs.Prelude.{◌≡◌, Some, true, false, IfOk};
+ghost use Rattle.std.specs.Option.{option_map, option_map_or};
 ghost use Rattle.wap_world.specs.World.{place_now};
-ghost use Rattle.wap_world.specs.Steps.{then_task};
-ghost use Rattle.wap_world.specs.Tasks.{url_now, is_here, with_turn, go, open_url, prev};
+ghost use Rattle.wap_world.specs.Tasks.{base_now, with_turn, go, open_url, prev};
 ghost use Rattle.wap_world.specs.Tasks.{stay_or_ask, request, ask_back, back_from, task_once};
-ghost use Rattle.wap_context.specs.Browsers.{IsOver, place_held};
+ghost use Rattle.wap_scripting.specs.UnitSites.{shelf_of};
+ghost use Rattle.wap_context.specs.Browsers.{place_held};
+ghost use Rattle.wap_context.specs.Sites.{site_of};
 ghost use Rattle.wap_context.specs.inside.Held.{page_under, page_here};
 ghost use Rattle.wap_context.specs.inside.Moving.{Takes, Onces, SpendsOne, HasNone};
 
-use crate::asking::{ask, ask_for};
+use crate::asking::{ask, ask_for, deck_answer, page_answer};
 use crate::context::Context;
+use crate::waiting::{Went, went_to};
 use std::alloc::Global;
 use wap_base::{NoMemory, Rows, RunErr, Text};
 use wap_cardrules::{Go, Task};
@@ -79,12 +81,18 @@ impl Context {
         caller: &Option<Url>,
         one: Request,
         lines: &mut Rows<Text>,
-    ) -> Result<Option<Task>, RunErr>
-        ensures { Takes (λ site world. request site [] sets caller.now one world)
+    ) -> Result<Went, RunErr>
+        ensures { Takes (λ pages keys world. request (site_of pages) keys sets caller.now one world)
             (P.seen pages.old) (P.seen pages.new) self.old self.new lines.old lines.new result }
     {
-        let answer = ask(alloc, pages, &one, lines)?;
-        Ok(self.take_answer(alloc, sets, caller, one.url, answer, lines)?)
+        let page = ask(alloc, pages, &one, lines)?;
+        match page_answer(page) {
+            Ok(answer) => {
+                let next = self.take_answer(alloc, sets, caller, one.url, answer, lines)?;
+                Ok(went_to(next))
+            }
+            Err(unit) => self.try_script(alloc, pages, sets, caller, one.url, unit, lines),
+        }
     }
 
     /// Enters the current deck anew, where it is asked for, else the deck that answers.
@@ -96,17 +104,28 @@ impl Context {
         caller: &Option<Url>,
         one: Request,
         lines: &mut Rows<Text>,
-    ) -> Result<Option<Task>, RunErr>
-        ensures { Takes
-            (λ site world. stay_or_ask site [] sets caller.now one world (place_now site.shelf world))
+    ) -> Result<Went, RunErr>
+        ensures { Takes (λ pages keys world. stay_or_ask (site_of pages) keys sets caller.now one world
+            (place_now (shelf_of pages) world))
             (P.seen pages.old) (P.seen pages.new) self.old self.new lines.old lines.new result }
     {
         match self.page_here(alloc, &one)? {
             Some((here, deck)) => {
                 let url = with_fragment_of(here, one.url);
-                Ok(self.arrive(alloc, sets, url, deck, lines)?)
+                Ok(went_to(self.arrive(alloc, sets, url, deck, lines)?))
             }
             None => self.request(alloc, pages, sets, caller, one, lines),
+        }
+    }
+
+    /// A copy of the current deck's URL; without a card, that of the script that asked.
+    fn base(&self, alloc: Global, from: Option<Url>) -> Result<Option<Url>, NoMemory>
+        ensures { IfOk result (λ url. url ≡ option_map_or Some
+            (option_map (λ place. place.url) (place_held self.now)) from) }
+    {
+        match self.url(alloc)? {
+            Some(url) => Ok(Some(url)),
+            None => Ok(from),
         }
     }
 
@@ -116,18 +135,20 @@ impl Context {
         alloc: Global,
         pages: &mut P,
         one: Go,
+        from: Option<Url>,
         lines: &mut Rows<Text>,
-    ) -> Result<Option<Task>, RunErr>
-        ensures { Takes (λ site world. go site [] (url_now site.shelf world) one world)
+    ) -> Result<Went, RunErr>
+        ensures { Takes (λ pages keys world.
+            go (site_of pages) keys (base_now (shelf_of pages) world from) one world)
             (P.seen pages.old) (P.seen pages.new) self.old self.new lines.old lines.new result }
     {
-        let base = self.url(alloc)?;
+        let base = self.base(alloc, from)?;
         match target(alloc, &base, &one.href)? {
             Ok(url) => {
                 let request = request_of(alloc, &base, &one, url)?;
                 self.stay_or_ask(alloc, pages, one.sets, &base, request, lines)
             }
-            Err(refusal) => Ok(self.refuse(alloc, refusal, lines)?),
+            Err(refusal) => Ok(went_to(self.refuse(alloc, refusal, lines)?)),
         }
     }
 
@@ -138,8 +159,8 @@ impl Context {
         pages: &mut P,
         url: &Text,
         lines: &mut Rows<Text>,
-    ) -> Result<Option<Task>, RunErr>
-        ensures { Takes (λ site world. open_url site [] url.now world)
+    ) -> Result<Went, RunErr>
+        ensures { Takes (λ pages keys world. open_url (site_of pages) keys url.now world)
             (P.seen pages.old) (P.seen pages.new) self.old self.new lines.old lines.new result }
     {
         let base = self.url(alloc)?;
@@ -148,7 +169,7 @@ impl Context {
                 let sets = Rows::new(alloc);
                 self.request(alloc, pages, sets, &None, plain_get(url), lines)
             }
-            Err(refusal) => Ok(self.refuse(alloc, refusal, lines)?),
+            Err(refusal) => Ok(went_to(self.refuse(alloc, refusal, lines)?)),
         }
     }
 
@@ -160,12 +181,12 @@ impl Context {
         sets: Rows<(Text, Text)>,
         earlier: Entry,
         lines: &mut Rows<Text>,
-    ) -> Result<Option<Task>, RunErr>
-        ensures { Takes (λ site world. ask_back site.shelf [] sets earlier world)
+    ) -> Result<Went, RunErr>
+        ensures { Takes (λ pages keys world. ask_back (shelf_of pages) keys sets earlier world)
             (P.seen pages.old) (P.seen pages.new) self.old self.new lines.old lines.new result }
     {
-        let answer = ask_for(alloc, pages, &earlier.url, lines)?;
-        Ok(self.return_with(alloc, sets, earlier, answer, lines)?)
+        let page = ask_for(alloc, pages, &earlier.url, lines)?;
+        Ok(went_to(self.return_with(alloc, sets, earlier, deck_answer(page), lines)?))
     }
 
     /// Goes back to an earlier card, whose deck may be the current one.
@@ -176,9 +197,9 @@ impl Context {
         sets: Rows<(Text, Text)>,
         earlier: Entry,
         lines: &mut Rows<Text>,
-    ) -> Result<Option<Task>, RunErr>
-        ensures { Takes
-            (λ site world. back_from site.shelf [] sets earlier world (place_now site.shelf world))
+    ) -> Result<Went, RunErr>
+        ensures { Takes (λ pages keys world. back_from (shelf_of pages) keys sets earlier world
+            (place_now (shelf_of pages) world))
             (P.seen pages.old) (P.seen pages.new) self.old self.new lines.old lines.new result }
     {
         match self.page_under(alloc, &earlier.url)? {
@@ -187,7 +208,7 @@ impl Context {
                     url: here,
                     card: earlier.card,
                 };
-                Ok(self.return_to(alloc, sets, card, deck, lines)?)
+                Ok(went_to(self.return_to(alloc, sets, card, deck, lines)?))
             }
             None => self.ask_back(alloc, pages, sets, earlier, lines),
         }
@@ -200,13 +221,13 @@ impl Context {
         pages: &mut P,
         sets: Rows<(Text, Text)>,
         lines: &mut Rows<Text>,
-    ) -> Result<Option<Task>, RunErr>
-        ensures { Takes (λ site world. prev site.shelf [] sets world)
+    ) -> Result<Went, RunErr>
+        ensures { Takes (λ pages keys world. prev (shelf_of pages) keys sets world)
             (P.seen pages.old) (P.seen pages.new) self.old self.new lines.old lines.new result }
     {
         match self.state.earlier(alloc)? {
             Some(earlier) => self.back_to(alloc, pages, sets, earlier, lines),
-            None => Ok(self.refuse(alloc, Refusal::First, lines)?),
+            None => Ok(went_to(self.refuse(alloc, Refusal::First, lines)?)),
         }
     }
 
@@ -229,15 +250,15 @@ impl Context {
         pages: &mut P,
         url: &Text,
         lines: &mut Rows<Text>,
-    ) -> Result<Option<Task>, RunErr>
-        ensures { Onces
-            (λ site world. with_turn site.shelf [] world world.turns (open_url site [] url.now))
+    ) -> Result<Went, RunErr>
+        ensures { Onces (λ pages keys world. with_turn (shelf_of pages) keys world world.turns
+            (open_url (site_of pages) keys url.now))
             (P.seen pages.old) (P.seen pages.new) self.old self.new lines.old lines.new result }
     {
         if self.take_turn() {
             self.open_url(alloc, pages, url, lines)
         } else {
-            Ok(self.refuse(alloc, Refusal::Budget, lines)?)
+            Ok(went_to(self.refuse(alloc, Refusal::Budget, lines)?))
         }
     }
 
@@ -247,29 +268,31 @@ impl Context {
         alloc: Global,
         pages: &mut P,
         task: Task,
+        from: Option<Url>,
         lines: &mut Rows<Text>,
-    ) -> Result<Option<Task>, RunErr>
-        ensures { Onces (λ site world. task_once site [] world (then_task task))
+    ) -> Result<Went, RunErr>
+        ensures { Onces (λ pages keys world.
+            task_once (site_of pages) keys world (record { task = task; from = from }))
             (P.seen pages.old) (P.seen pages.new) self.old self.new lines.old lines.new result }
     {
         match task {
             Task::Go(one) => {
                 if self.take_turn() {
-                    self.go(alloc, pages, one, lines)
+                    self.go(alloc, pages, one, from, lines)
                 } else {
-                    Ok(self.refuse(alloc, Refusal::Budget, lines)?)
+                    Ok(went_to(self.refuse(alloc, Refusal::Budget, lines)?))
                 }
             }
             Task::Prev(sets) => {
                 if self.take_turn() {
                     self.prev(alloc, pages, sets, lines)
                 } else {
-                    Ok(self.refuse(alloc, Refusal::Budget, lines)?)
+                    Ok(went_to(self.refuse(alloc, Refusal::Budget, lines)?))
                 }
             }
             Task::Refresh(sets) => {
                 self.refresh(alloc, sets, lines)?;
-                Ok(None)
+                Ok(Went::Settled)
             }
         }
     }

@@ -8,10 +8,10 @@ ghost use Rattle.wap_context.specs.inside.Moving.{PlaysAt};
 ghost use Rattle.wap_world.specs.Setting.{set_variables};
 
 use crate::context::Context;
-use crate::here::{Current, here};
 use std::alloc::Global;
 use wap_base::{NoMemory, Rows, Text};
 use wap_screens::add_refusal;
+use wap_state::{Current, here};
 use wap_world::Refusal;
 
 impl Context {
@@ -69,7 +69,7 @@ impl Context {
     }
 
     /// Sets variables.
-    fn set_variables(
+    pub(crate) fn set_variables(
         &mut self,
         alloc: Global,
         sets: Rows<(Text, Text)>,

@@ -1,18 +1,20 @@
-//! Time that passes on a card (WAP-191, section 11.7).
+//! Time that passes on a card (WAP-191, section 11.7), and in a dialog.
 ghost use Rattle.std.specs.Prelude.{◌≡◌, OnOk};
 ghost use Rattle.wap_world.specs.Screens.{at_place};
 ghost use Rattle.wap_context.specs.Acting.{tick};
 ghost use Rattle.wap_context.specs.Browsers.{place_held};
 ghost use Rattle.wap_context.specs.inside.Moving.{PlaysAt, Pursues};
-ghost use Rattle.wap_context.specs.inside.Ticking.{left_at, end_place, run_out};
+ghost use Rattle.wap_context.specs.inside.Ticking.{left_at, end_place, run_out, expire_place};
+ghost use Rattle.wap_context.specs.inside.Ticking.{count_down_at};
 
 use crate::context::Context;
-use crate::here::here;
+use crate::waiting::{Step, went_to};
 use std::alloc::Global;
 use wap_base::{NoMemory, Rows, RunErr, Text};
 use wap_cardrules::Event;
 use wap_screens::add_refusal;
 use wap_site::Pages;
+use wap_state::here;
 use wap_world::{Refusal, Timer};
 
 impl Context {
@@ -46,14 +48,15 @@ impl Context {
         &mut self,
         alloc: Global,
         pages: &mut P,
-        lines: &mut Rows<Text>,
-    ) -> Result<(), RunErr>
+        lines: Rows<Text>,
+    ) -> Result<Step, RunErr>
         ensures { Pursues run_out
-            (P.seen pages.old) (P.seen pages.new) self.old self.new lines.old lines.new result }
+            (P.seen pages.old) (P.seen pages.new) self.old self.new lines result }
     {
-        self.end_timer(alloc, lines)?;
+        let mut shown = lines;
+        self.end_timer(alloc, &mut shown)?;
         let task = self.event_task(alloc, Event::Timer)?;
-        self.follow(alloc, pages, task, lines)
+        self.follow(alloc, pages, went_to(task), shown)
     }
 
     /// Lets so many tenths of a second pass: less than remains of the timer, or all.
@@ -62,19 +65,51 @@ impl Context {
         alloc: Global,
         pages: &mut P,
         time: u32,
-        lines: &mut Rows<Text>,
-    ) -> Result<(), RunErr>
+        lines: Rows<Text>,
+    ) -> Result<Step, RunErr>
         ensures { Pursues (tick time)
-            (P.seen pages.old) (P.seen pages.new) self.old self.new lines.old lines.new result }
+            (P.seen pages.old) (P.seen pages.new) self.old self.new lines result }
     {
         let Some(left) = self.time_left() else {
-            add_refusal(alloc, Refusal::Ignored, lines)?;
-            return Ok(());
+            let mut shown = lines;
+            add_refusal(alloc, Refusal::Ignored, &mut shown)?;
+            return Ok(Step::Settled(shown));
         };
+        if time < left {
+            self.state.timer = Timer::Running(left - time);
+            return Ok(Step::Settled(lines));
+        }
+        self.run_out(alloc, pages, lines)
+    }
+
+    /// The timer of the current card, if there is one, has run out while a script waits: its task
+    /// waits for the end of the script.
+    fn expire(&mut self, alloc: Global, lines: &mut Rows<Text>) -> Result<(), NoMemory>
+        ensures { OnOk result
+            (PlaysAt (at_place expire_place) self.old self.new lines.old lines.new) }
+    {
+        let number = self.state.card_number();
+        match here(&self.deck, number) {
+            Some(here) => self.state.expire(alloc, &here.card, lines),
+            None => Ok(()),
+        }
+    }
+
+    /// Lets so many tenths of a second pass while a script waits, of what remains of the timer.
+    pub(crate) fn count_down(
+        &mut self,
+        alloc: Global,
+        time: u32,
+        left: u32,
+        lines: &mut Rows<Text>,
+    ) -> Result<(), NoMemory>
+        ensures { OnOk result
+            (PlaysAt (count_down_at time left) self.old self.new lines.old lines.new) }
+    {
         if time < left {
             self.state.timer = Timer::Running(left - time);
             return Ok(());
         }
-        self.run_out(alloc, pages, lines)
+        self.expire(alloc, lines)
     }
 }

@@ -1,18 +1,14 @@
 -- The rules over the place that a browser has at hand, in place of pages. Contracts inside the
 -- crate cite them; those of its public calls don't. This project's own.
-use Rattle.std.specs.Prelude.{ℕ, Bool, true, false, if◌then◌else◌, slice_get, List, []}
+use Rattle.std.specs.Prelude.{ℕ, Bool, true, false, if◌then◌else◌, []}
 use Rattle.std.specs.Prelude.{◌∷◌, Option, Some, None, Result, Ok, Err}
 use Rattle.std.specs.Option.{option_map, option_and_then}
-use Rattle.std.specs.Fmt.{decimal}
 use Rattle.wap_url.specs.declared.url.Url.{Url}
 use Rattle.wap_markup.specs.declared.deck.Deck.{Deck}
-use Rattle.wap_markup.specs.declared.deck.Node.{Node}
-use Rattle.wap_markup.specs.Cards.{cards_of}
 use Rattle.wap_cardrules.specs.declared.event.Event.{Event}
 use Rattle.wap_cardrules.specs.declared.event.Event.TheVariants.{Forward, Backward}
 use Rattle.wap_cardrules.specs.declared.task.Task.{Task}
 use Rattle.wap_cardrules.specs.Events.{binding}
-use Rattle.wap_cardrules.specs.Setting.{defaults}
 use Rattle.wap_cardrules.specs.Values.{Pairs}
 use Rattle.wap_world.specs.declared.history.Entry.{Entry}
 use Rattle.wap_world.specs.declared.refusal.Refusal.{Refusal}
@@ -23,45 +19,24 @@ use Rattle.wap_world.specs.Lines.{refusal_line}
 use Rattle.wap_world.specs.Steps.{Scene, Once, then_task, still, behind, and_then, quiet, settled}
 use Rattle.wap_world.specs.Steps.{after_step}
 use Rattle.wap_world.specs.Access.{entrance_of}
-use Rattle.wap_world.specs.Setting.{with_set, set_variables}
-use Rattle.wap_world.specs.Timers.{started, start_timer}
+use Rattle.wap_world.specs.Setting.{set_variables}
+use Rattle.wap_world.specs.Timers.{start_timer}
 use Rattle.wap_world.specs.History.{pushed, entry_of, in_deck, back_at}
 use Rattle.wap_world.specs.Screens.{at_place, show_place, screen_lines}
 use Rattle.wap_world.specs.Entering.{leave_place}
 use Rattle.wap_world.specs.Requests.{Request, test, test_of}
 use Rattle.wap_world.specs.Tasks.{card_for, in_context, is_here}
 use Rattle.wap_world.specs.Urls.{is_same_page}
-use Rattle.wap_screens.specs.Screens.{screen_of}
+use Rattle.wap_state.specs.Held.{Held, held_in}
 use Rattle.wap_context.specs.Browsers.{Browser}
 
 -- ---- the card at hand
-
-pub record Held : Type 0 where
-  pub deck : Deck
-  pub card : Node
-
-abbrev pub held_in : Option Deck → Option ℕ → Option Held
-held_in deck number = option_and_then (λ one. option_and_then (λ n.
-    option_map (λ card. record { deck = one; card = card }) (slice_get (cards_of one) n)) number)
-    deck
 
 abbrev pub card_number : Browser → Option ℕ
 card_number browser = option_map (λ entry. entry.card) (last_entry browser.world)
 
 abbrev pub held : Browser → Option Held
 held browser = held_in browser.deck (card_number browser)
-
--- ---- scenes of a card
-
-abbrev pub screen_held : Held → World → Scene
-screen_held held world = record { world = world; lines = screen_of world.vars held.deck held.card }
-
-abbrev pub show_held : Held → World → Scene
-show_held held world = and_then (with_set world (defaults world.vars held.card))
-    (λ w. screen_held held (started w.timer held.card w))
-
-abbrev pub restart_held : Held → World → Scene
-restart_held held world = screen_held held (start_timer held.card world)
 
 -- ---- scenes of a place
 
@@ -104,10 +79,11 @@ entered_at place world (Some task) = record {
   next = Some (then_task task);
 }
 
+abbrev pub begun_at : Event → Option Place → World → Once
+begun_at event place world = entered_at place world (event_at event place world)
+
 abbrev pub enter_at : Event → Option Place → World → Once
-enter_at event place world =
-    let inside = record world { timer = NotStarted } in
-    entered_at place inside (event_at event place inside)
+enter_at event place world = begun_at event place (record world { timer = NotStarted })
 
 abbrev pub arrive_at : Pairs → Url → Option Place → World → Deck → Once
 arrive_at sets url place world deck =
@@ -145,11 +121,6 @@ answered_at sets caller url place world answer =
 abbrev pub returned_at : Pairs → Entry → Option Place → World → Result Deck Refusal → Once
 returned_at sets earlier place world answer =
     with_deck_at place world (return_at sets earlier place world) answer
-
--- what a timer with a name sets
-abbrev pub store_pairs : Option (List ℕ) → ℕ → Pairs
-store_pairs None time = []
-store_pairs (Some name) time = (name, decimal time) ∷ []
 
 -- the URL and the deck of a place, where another URL is that of its page, and where a request asks
 -- for it

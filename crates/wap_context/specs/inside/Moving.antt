@@ -1,39 +1,41 @@
 -- What the parts of a navigation come to. Contracts inside the crate cite it; those of its public
 -- calls don't. This project's own.
-use Rattle.std.specs.Prelude.{◌≡◌, ℕ, ◌+◌, List, [], ◌∷◌, ◌++◌, Option, Some}
-use Rattle.std.specs.Prelude.{None, IfSome, IfOk, OnOk, Result, Ok, Err}
-use Rattle.std.specs.Option.{option_map}
+use Rattle.std.specs.Prelude.{◌≡◌, ◌≤◌, ℕ, ◌+◌, false, List, [], ◌++◌, ◌∷◌, Option, Some, None}
+use Rattle.std.specs.Prelude.{IfSome, IfOk, OnOk, Result, Ok, Err}
 use Rattle.wap_base.specs.declared.fault.RunErr.{RunErr}
 use Rattle.wap_base.specs.declared.fault.RunErr.TheVariants.{Store}
 use Rattle.wap_base.specs.Count.{Rose}
 use Rattle.wap_url.specs.declared.url.Url.{Url}
-use Rattle.wap_markup.specs.declared.deck.Deck.{Deck}
 use Rattle.wap_url.specs.Printing.{name_for}
-use Rattle.wap_cardrules.specs.declared.task.Task.{Task}
+use Rattle.wap_markup.specs.declared.deck.Deck.{Deck}
+use Rattle.wap_code.specs.declared.unit.Unit.{Unit}
+use Rattle.wap_input.specs.declared.key.Key.{Key}
 use Rattle.wap_site.specs.declared.page.Page.{Page}
 use Rattle.wap_site.specs.declared.page.Page.TheVariants as page
-use Rattle.wap_site.specs.Pages.{page_of}
-use Rattle.wap_site.specs.Asking.{Seen, Stays, Asks, Fails}
+use Rattle.wap_site.specs.Pages.{page_of, AreSitePages}
+use Rattle.wap_site.specs.Asking.{Seen, Stays, Asks}
 use Rattle.wap_world.specs.declared.refusal.Refusal.{Refusal}
 use Rattle.wap_world.specs.declared.refusal.Refusal.TheVariants as refusals
 use Rattle.wap_world.specs.Shelves.{Shelf}
-use Rattle.wap_world.specs.Sites.{Site}
 use Rattle.wap_world.specs.World.{World, Place, deck_at}
-use Rattle.wap_world.specs.Steps.{Scene, Step, Once, Next, then_task, still, quiet}
+use Rattle.wap_world.specs.Steps.{Scene, Step, Once, Next, still, quiet}
 use Rattle.wap_world.specs.Requests.{Request, request_line}
 use Rattle.wap_world.specs.Tasks.{act}
-use Rattle.wap_context.specs.Browsers.{Browser, IsOver, IfOver, place_held}
-
-abbrev pub Line : Type 0
-Line = List ℕ
+use Rattle.wap_scripting.specs.UnitSites.{Pages, shelf_of}
+use Rattle.wap_scripting.specs.Waiting.{Waits, resumed_step}
+use Rattle.wap_scripting.specs.Halves.{once_by}
+use Rattle.wap_scripting.specs.Feeding.{Fed, Means}
+use Rattle.wap_state.specs.Scenes.{Line, Plays}
+use Rattle.wap_context.specs.declared.waiting.Went.{Went}
+use Rattle.wap_context.specs.declared.waiting.Went.TheVariants.{Settled, Leads, Asks as AsksUser}
+use Rattle.wap_context.specs.declared.waiting.Step.{Step as Did}
+use Rattle.wap_context.specs.Browsers.{Browser, IsOver, place_held}
+use Rattle.wap_context.specs.Pausing.{waits_of}
+use Rattle.wap_context.specs.Missing.{Missed}
+use Rattle.wap_context.specs.Sites.{fragment_call, site_of, IfOver}
+use Rattle.wap_context.specs.Acting.{lines_in, waiting_in}
 
 -- ---- scenes
-
--- a world after a scene, and the lines so far; only variables and timer are others
-pub record Plays (scene : Scene) (old new : World) (before after : List Line) : Type 0 where
-  pub world : new ≡ scene.world
-  pub lines : after ≡ before ++ scene.lines
-  pub kept : new ≡ record old { vars = new.vars; timer = new.timer }
 
 -- a rule for the place at hand
 pub record PlaysAt (rule : Option Place → World → Scene) (old new : Browser)
@@ -41,15 +43,15 @@ pub record PlaysAt (rule : Option Place → World → Scene) (old new : Browser)
   pub plays : Plays (rule (place_held old) old.world) old.world new.world before after
   pub deck : new.deck ≡ old.deck
 
--- ---- navigations
+-- ---- navigations that start no script
 
 -- a navigation for which nothing more is asked, where such shelves are
 pub record Moves (once : Once) (IsSuch : Shelf → Type 0) (old new : Browser)
-    (before after : List Line) (next : Option Task) : Type 0 where
+    (before after : List Line) (next : Option Next) : Type 0 where
   pub world : new.world ≡ once.step.world
   pub lines : after ≡ before ++ once.step.lines
-  pub leads : option_map then_task next ≡ once.next
-  pub keys : once.step.keys ≡ []
+  pub leads : next ≡ once.next
+  pub closed : once.step.is_open ≡ false
   pub asked : once.step.asked ≡ []
   pub turns : new.world.turns ≡ old.world.turns
   pub over : (shelf : Shelf) → IsSuch shelf → IsOver shelf new
@@ -58,13 +60,21 @@ pub record Moves (once : Once) (IsSuch : Shelf → Type 0) (old new : Browser)
 abbrev pub HasDeck : Url → Deck → Shelf → Type 0
 HasDeck url deck shelf = deck_at shelf url ≡ Some deck
 
--- the deck that a page is, or why none is entered
+-- the deck that a page is, or why none is gone back to
 abbrev pub deck_answer : Page → Result Deck Refusal
 deck_answer (page.Deck deck) = Ok deck
 deck_answer (page.Script unit) = Err refusals.Refused
 deck_answer (page.Words text) = Err refusals.Refused
 deck_answer page.Refused = Err refusals.Refused
 deck_answer page.Missing = Err refusals.Missing
+
+-- the same of a page that is asked for, or the script that it is
+abbrev pub page_answer : Page → Result (Result Deck Refusal) Unit
+page_answer (page.Deck deck) = Ok (Ok deck)
+page_answer (page.Script unit) = Err unit
+page_answer (page.Words text) = Ok (Err refusals.Refused)
+page_answer page.Refused = Ok (Err refusals.Refused)
+page_answer page.Missing = Ok (Err refusals.Missing)
 
 -- the shelf is the browser's, and has the deck that answers
 abbrev pub Answers : Url → Result Deck Refusal → Browser → Shelf → Type 0
@@ -73,41 +83,57 @@ Answers url answer browser shelf =
 
 -- a page that was asked for: the answer, and the line
 pub record Asked (request : Request) (seen after : Seen) (before shown : List Line)
-    (result : Result (Result Deck Refusal) RunErr) : Type 0 where
-  pub answer :
-      IfOk result (λ answer. IfSome seen.contents (λ pages.
-      answer ≡ deck_answer (page_of (name_for request.url) pages)))
+    (result : Result Page RunErr) : Type 0 where
+  pub answer : IfOk result
+      (λ answer. IfSome seen.contents (λ pages. answer ≡ page_of (name_for request.url) pages))
+  pub site : OnOk result (IfSome seen.contents AreSitePages)
   pub lines : OnOk result (shown ≡ before ++ request_line request ∷ [])
   pub asks : OnOk result (Asks ((name_for request.url, request.fresh) ∷ []) seen after)
-  pub failed : result ≡ Err Store → Fails ((name_for request.url, request.fresh) ∷ []) seen after
+  pub missed : result ≡ Err Store → Missed ((name_for request.url, request.fresh) ∷ []) seen after
   pub stays : Stays seen after
 
--- a navigation over this shelf
-pub record Leads (shelf : Shelf) (once : Once) (new : Browser) (before after : List Line)
-    (next : Option Task) : Type 0 where
-  pub world : new.world ≡ once.step.world
-  pub lines : after ≡ before ++ once.step.lines
-  pub leads : option_map then_task next ≡ once.next
-  pub keys : once.step.keys ≡ []
-  pub over : IsOver shelf new
+-- ---- navigations with keys after them
+
+-- the task that is next
+abbrev pub next_in : Went → Option Next
+next_in Settled = None
+next_in (Leads task from) = Some (record { task = task; from = from })
+next_in (AsksUser dialog paused) = None
+
+-- the dialog that waits, with the script that asks
+abbrev pub waits_in : Went → Option Waits
+waits_in Settled = None
+waits_in (Leads task from) = None
+waits_in (AsksUser dialog paused) = Some (waits_of dialog paused)
+
+-- a rule for the keys after a navigation: what was done without them
+pub record Goes (pages : Pages) (rule : List Key → Once) (seen now : Seen) (new : Browser)
+    (before after : List Line) (went : Went) : Type 0 where
+  pub did : Once
+  pub world : new.world ≡ did.step.world
+  pub lines : after ≡ before ++ did.step.lines
+  pub leads : next_in went ≡ did.next
+  pub closed : did.step.is_open ≡ false
+  pub over : IsOver (shelf_of pages) new
+  pub asks : Asks did.step.asked seen now
+  -- with keys it is this, and what is left to them
+  pub on : (keys : List Key) → rule keys ≡ once_by pages did (waits_in went) keys
 
 -- a call that follows a rule for one navigation
-pub record Takes (rule : Site → World → Once) (seen after : Seen) (old new : Browser)
-    (before shown : List Line) (result : Result (Option Task) RunErr) : Type 0 where
-  pub follows : IfOk result (λ next. IfOver seen.contents old
-      (λ site. Leads site.shelf (rule site old.world) new before shown next))
-  pub asks : OnOk result (IfOver seen.contents old
-      (λ site. Asks (rule site old.world).step.asked seen after))
+pub record Takes (rule : Pages → List Key → World → Once) (seen after : Seen) (old new : Browser)
+    (before shown : List Line) (result : Result Went RunErr) : Type 0 where
+  pub follows : IfOk result (λ went. IfOver seen.contents old
+      (λ pages. Goes pages (λ keys. rule pages keys old.world) seen after new before shown went))
   pub steady : OnOk result (after.faults ≡ seen.faults)
-  pub failed : result ≡ Err Store → IfOver seen.contents old
-      (λ site. Fails (rule site old.world).step.asked seen after)
+  pub missed : result ≡ Err Store → IfOver seen.contents old
+      (λ pages. Missed (rule pages [] old.world).step.asked seen after)
   pub rose : result ≡ Err Store → Rose seen.faults after.faults
   pub stays : Stays seen after
-  pub turns : OnOk result (new.world.turns ≡ old.world.turns)
+  pub turns : OnOk result (new.world.turns ≤ old.world.turns)
 
 -- where it leads on, a turn was taken
-abbrev pub Spends : Browser → Browser → Option Task → Type 0
-Spends old new next = IfSome next (λ task. new.world.turns + 1 ≡ old.world.turns)
+abbrev pub Spends : Browser → Browser → Went → Type 0
+Spends old new went = IfSome (next_in went) (λ next. new.world.turns + 1 ≤ old.world.turns)
 
 -- one turn less, and no turn
 pub record SpendsOne (old new : Browser) : Type 0 where
@@ -119,37 +145,39 @@ pub record HasNone (old new : Browser) : Type 0 where
   pub none : old.world.turns ≡ 0
 
 -- the same of a task, which takes a turn
-pub record Onces (rule : Site → World → Once) (seen after : Seen) (old new : Browser)
-    (before shown : List Line) (result : Result (Option Task) RunErr) : Type 0 where
-  pub follows : IfOk result (λ next. IfOver seen.contents old
-      (λ site. Leads site.shelf (rule site old.world) new before shown next))
-  pub asks : OnOk result (IfOver seen.contents old
-      (λ site. Asks (rule site old.world).step.asked seen after))
-  pub steady : OnOk result (after.faults ≡ seen.faults)
-  pub failed : result ≡ Err Store → IfOver seen.contents old
-      (λ site. Fails (rule site old.world).step.asked seen after)
-  pub rose : result ≡ Err Store → Rose seen.faults after.faults
-  pub stays : Stays seen after
+pub record Onces (rule : Pages → List Key → World → Once) (seen after : Seen) (old new : Browser)
+    (before shown : List Line) (result : Result Went RunErr) : Type 0 where
+  pub takes : Takes rule seen after old new before shown result
   pub spends : IfOk result (Spends old new)
 
--- ---- all that a task leads to
+-- ---- all that a navigation leads to
 
 -- what is left to do
-abbrev pub pursued : Site → Option Next → World → Step
-pursued site None world = quiet [] (still world)
-pursued site (Some next) world = act site [] world next
+abbrev pub pursued : Went → Pages → List Key → World → Step
+pursued Settled pages keys world = quiet keys (still world)
+pursued (Leads task from) pages keys world =
+    act (site_of pages) keys world (record { task = task; from = from })
+pursued (AsksUser dialog paused) pages keys world =
+    resumed_step fragment_call pages (waits_of dialog paused) keys world
 
-pub record Pursues (rule : Site → World → Step) (seen after : Seen) (old new : Browser)
-    (before shown : List Line) (result : Result (Unit {0}) RunErr) : Type 0 where
-  pub leads :
-      OnOk result (IfOver seen.contents old (λ site. new.world ≡ (rule site old.world).world))
-  pub lines : OnOk result (IfOver seen.contents old
-      (λ site. shown ≡ before ++ (rule site old.world).lines))
-  pub over : OnOk result (IfOver seen.contents old (λ site. IsOver site.shelf new))
-  pub asks : OnOk result (IfOver seen.contents old
-      (λ site. Asks (rule site old.world).asked seen after))
+-- a rule for the keys after a call: what was done without them
+pub record Ends (pages : Pages) (rule : List Key → Step) (seen now : Seen) (new : Browser)
+    (before : List Line) (did : Did) : Type 0 where
+  pub step : Step
+  pub world : new.world ≡ step.world
+  pub lines : lines_in did ≡ before ++ step.lines
+  pub closed : step.is_open ≡ false
+  pub over : IsOver (shelf_of pages) new
+  pub asks : Asks step.asked seen now
+  pub on : Means fragment_call pages (record { step = step; waiting = waiting_in did }) rule
+
+-- a call that follows a rule to its end, with the lines that were there before
+pub record Pursues (rule : Pages → List Key → World → Step) (seen after : Seen) (old new : Browser)
+    (before : List Line) (result : Result Did RunErr) : Type 0 where
+  pub follows : IfOk result (λ did. IfOver seen.contents old
+      (λ pages. Ends pages (λ keys. rule pages keys old.world) seen after new before did))
   pub steady : OnOk result (after.faults ≡ seen.faults)
-  pub failed : result ≡ Err Store → IfOver seen.contents old
-      (λ site. Fails (rule site old.world).asked seen after)
+  pub missed : result ≡ Err Store → IfOver seen.contents old
+      (λ pages. Missed (rule pages [] old.world).asked seen after)
   pub rose : result ≡ Err Store → Rose seen.faults after.faults
   pub stays : Stays seen after

@@ -1,16 +1,19 @@
 -- The passing of time over the place that a browser has at hand. Contracts inside the crate cite
 -- it; those of its public calls don't. This project's own.
-use Rattle.std.specs.Prelude.{ℕ, [], Option, Some, None, is_some, if◌then◌else◌}
+use Rattle.std.specs.Prelude.{ℕ, ◌-◌, nat_lt, List, Option, Some, None, is_some, if◌then◌else◌}
+use Rattle.wap_input.specs.declared.key.Key.{Key}
 use Rattle.wap_cardrules.specs.declared.event.Event.TheVariants as event
 use Rattle.wap_world.specs.declared.timer.Timer.{Timer}
 use Rattle.wap_world.specs.declared.timer.Timer.TheVariants.{NotStarted, Running, Off, Expired}
-use Rattle.wap_world.specs.Sites.{Site}
 use Rattle.wap_world.specs.World.{World, Place}
 use Rattle.wap_world.specs.Steps.{Scene, Step, still, quiet, followed}
 use Rattle.wap_world.specs.Timers.{end_timer}
-use Rattle.wap_world.specs.Screens.{here}
+use Rattle.wap_world.specs.Screens.{at_place, here}
 use Rattle.wap_world.specs.Entering.{event_task}
 use Rattle.wap_world.specs.Keys.{act_or}
+use Rattle.wap_scripting.specs.Dialogs.{run_out as expires}
+use Rattle.wap_scripting.specs.UnitSites.{Pages, shelf_of}
+use Rattle.wap_context.specs.Sites.{site_of}
 
 -- what remains of a timer that runs, and of that of a card
 abbrev pub left_of : Timer → Option ℕ
@@ -26,6 +29,19 @@ left_at place timer = if is_some place then left_of timer else None
 abbrev pub end_place : Place → World → Scene
 end_place place world = end_timer place.card world
 
-abbrev pub run_out : Site → World → Step
-run_out site world = followed (quiet [] (here site.shelf end_place world))
-    (λ keys w. act_or (still w) site keys w (event_task site.shelf event.Timer w))
+abbrev pub run_out : Pages → List Key → World → Step
+run_out pages keys world = followed (quiet keys (here (shelf_of pages) end_place world))
+    (λ left w.
+    act_or (still w) (site_of pages) left w (event_task (shelf_of pages) event.Timer w))
+
+-- ---- in a dialog
+
+-- the timer has run out while a script waits
+abbrev pub expire_place : Place → World → Scene
+expire_place place world = expires place world
+
+-- some time passes, of what remains
+abbrev pub count_down_at : (time left : ℕ) → Option Place → World → Scene
+count_down_at time left place world =
+    if nat_lt time left then still (record world { timer = Running (left - time) })
+    else at_place expire_place place world

@@ -1,5 +1,5 @@
 use Rattle.std.proofs.Common.{◌∙◌, sym, ap, Some}
-use Rattle.wap_context.specs.inside.Held.{Held}
+use Rattle.wap_state.specs.Held.{Held}
 use Rattle.wap_context.proofs.Plays.{card_here}
 use Rattle.wap_context.proofs.context.Context.card.Goals as goal
 

@@ -2,8 +2,8 @@ use Rattle.std.proofs.Common.{refl, ap, subst}
 use Rattle.std.specs.Prelude.{OnOk}
 use Rattle.wap_markup.specs.declared.deck.Node.{Node}
 use Rattle.wap_world.specs.Timers.{end_timer}
-use Rattle.wap_context.specs.inside.Held.{Held}
-use Rattle.wap_context.specs.inside.Moving.{Plays}
+use Rattle.wap_state.specs.Held.{Held}
+use Rattle.wap_state.specs.Scenes.{Plays}
 use Rattle.wap_context.specs.inside.Ticking.{end_place}
 use Rattle.wap_context.proofs.Plays.{plays_here, plays_none}
 use Rattle.wap_context.proofs.context.Context.end_timer.Goals as goal

@@ -1,15 +1,13 @@
-use Rattle.wap_context.proofs.Arrivals.{enter_some_at, enter_none_at}
+use Rattle.std.specs.Option.{option_map}
+use Rattle.wap_world.specs.Steps.{then_task}
+use Rattle.wap_context.proofs.Plays.{if_ok}
+use Rattle.wap_context.proofs.Arrivals.{enters_by}
 use Rattle.wap_context.proofs.context.Context.enter.Goals as goal
 
-pub returns-in-Some : goal.returns-in-Some
-returns-in-Some c =
-    enter_some_at c.args.event c.args.self.now c.reset_timer.new.self c.args.lines.now
-    c.in_ok-task.field-0 c.in-Some.task
-    c.reset_timer.ensures c.in_ok-task.ensures c.in-Some.is
-
-pub returns-in_ok-add_show-in-None : goal.returns-in_ok-add_show-in-None
-returns-in_ok-add_show-in-None c =
-    enter_none_at c.args.event c.args.self.now c.reset_timer.new.self c.add_show.new.self
-    c.args.lines.now c.add_show.new.lines
-    c.in_ok-task.field-0 c.reset_timer.ensures c.in_ok-task.ensures c.in-None.is
-    c.in_ok-add_show-in-None.ensures
+pub returns : goal.returns
+returns c =
+    if_ok c.begin_event.result
+    (λ next.
+    enters_by c.args.event c.args.self.now c.reset_timer.new.self c.begin_event.new.self
+    c.args.lines.now c.begin_event.new.lines (option_map then_task next) c.reset_timer.ensures)
+    c.begin_event.ensures

@@ -1,10 +1,11 @@
-use Rattle.wap_context.proofs.Pursuing.{Goes, turns_left}
+use Rattle.wap_context.specs.inside.Moving.{next_in, pursued}
+use Rattle.wap_context.proofs.Pursuing.{Going, turns_left}
 use Rattle.wap_context.proofs.context.Context.follow.Given as goal
 
-abbrev pub invariant-loop-next : goal.invariant-loop-next
-invariant-loop-next g l =
-    Goes l.fn.first (g.P.Pages.seen l.fn.pages)
-    (g.P.Pages.seen l.pages) l.fn.self l.self l.fn.lines l.lines l.next
+abbrev pub invariant-loop-went : goal.invariant-loop-went
+invariant-loop-went g l =
+    Going (pursued l.fn.first) (g.P.Pages.seen l.fn.pages) (g.P.Pages.seen l.pages) l.fn.self l.self
+    l.fn.lines l.shown l.went
 
-abbrev pub decreases-loop-next : goal.decreases-loop-next
-decreases-loop-next g l = turns_left l.self l.next
+abbrev pub decreases-loop-went : goal.decreases-loop-went
+decreases-loop-went g l = turns_left l.self (next_in l.went)

@@ -1,3 +1,5 @@
+use Rattle.std.specs.Option.{option_map}
+use Rattle.wap_world.specs.Steps.{then_task}
 use Rattle.wap_context.specs.Browsers.{place_held}
 use Rattle.wap_context.specs.inside.Held.{return_at}
 use Rattle.wap_context.specs.inside.Moving.{HasDeck}
@@ -11,7 +13,8 @@ returns-in-Ok c =
     (λ next.
     moves_ok (return_at c.args.sets c.args.earlier
     (place_held c.args.self.now) c.args.self.now.world) c.args.earlier.url c.args.self.now
-    c.return_to.new.self c.args.lines.now c.return_to.new.lines next c.args.answer c.in-Ok.deck
+    c.return_to.new.self c.args.lines.now c.return_to.new.lines
+    (option_map then_task next) c.args.answer c.in-Ok.deck
     (HasDeck c.args.earlier.url c.in-Ok.deck) c.in-Ok.is (λ shelf over has. has))
     c.return_to.ensures
 
@@ -21,6 +24,6 @@ returns-in-Err c =
     (λ next.
     moves_no (return_at c.args.sets c.args.earlier
     (place_held c.args.self.now) c.args.self.now.world) c.args.earlier.url c.args.self.now
-    c.refuse.new.self c.args.lines.now c.refuse.new.lines next c.args.answer
+    c.refuse.new.self c.args.lines.now c.refuse.new.lines (option_map then_task next) c.args.answer
     c.in-Err.refusal c.in-Err.is)
     c.refuse.ensures

@@ -1,11 +1,24 @@
-use Rattle.wap_context.proofs.Passing.{runs_out}
+use Rattle.wap_site.proofs.Asking.{Stays-same}
+use Rattle.wap_context.specs.inside.Ticking.{run_out}
+use Rattle.wap_context.proofs.Passing.{runs_out, pursues_rejected}
 use Rattle.wap_context.proofs.context.Context.run_out.Goals as goal
 
 pub returns : goal.returns
 returns g c =
-    runs_out c.args.self.now c.end_timer.new.self c.args.lines.now c.end_timer.new.lines
-    c.in_ok-task.task
-    c.in_ok-end_timer.ensures c.in_ok-task.ensures
-    (g.P.Pages.seen c.args.pages.now)
-    (g.P.Pages.seen c.follow.new.pages) c.follow.new.self c.follow.new.lines
-    c.follow.result c.follow.ensures
+    runs_out c.args.self.now c.end_timer.new.self c.args.lines c.end_timer.new.lines
+    c.in_ok-task.task c.went_to.result c.in_ok-end_timer.ensures c.in_ok-task.ensures
+    c.went_to.ensures.next c.went_to.ensures.none (g.P.Pages.seen c.args.pages.now)
+    (g.P.Pages.seen c.follow.new.pages) c.follow.new.self c.follow.result c.follow.ensures
+
+pub returns-in_err-end_timer : goal.returns-in_err-end_timer
+returns-in_err-end_timer g c =
+    let seen = g.P.Pages.seen c.args.pages.now in
+    pursues_rejected run_out seen seen c.args.self.now c.end_timer.new.self c.args.lines
+    c.from_residual.result (Stays-same seen) c.from_residual.ensures.0 c.from_residual.ensures.1
+
+pub returns-in_err-task : goal.returns-in_err-task
+returns-in_err-task g c =
+    let seen = g.P.Pages.seen c.args.pages.now in
+    pursues_rejected run_out seen seen c.args.self.now c.end_timer.new.self c.args.lines
+    c.from_residual-in_err-task.result (Stays-same seen) c.from_residual-in_err-task.ensures.0
+    c.from_residual-in_err-task.ensures.1

@@ -1,7 +1,8 @@
 use Rattle.std.proofs.Common.{◌∙◌, ap}
 use Rattle.wap_world.specs.Requests.{Request}
+use Rattle.wap_site.proofs.Asking.{Stays-same}
 use Rattle.wap_context.proofs.Takings.{takes_rejected}
-use Rattle.wap_context.proofs.Navigations.{Stays_or_asks, stay_arrives, stay_asks}
+use Rattle.wap_context.proofs.Requesting.{StaysOrAsks, stay_arrives, stay_asks}
 use Rattle.wap_context.proofs.context.Context.stay_or_ask.Goals as goal
 
 pub returns-in_ok-arrive-in-Some : goal.returns-in_ok-arrive-in-Some
@@ -9,8 +10,9 @@ returns-in_ok-arrive-in-Some g c =
     stay_arrives (g.P.Pages.seen c.args.pages.now)
     c.args.self.now c.arrive.new.self c.args.lines.now
     c.args.sets c.args.caller.now c.args.one c.arrive.new.lines c.in_ok-arrive-in-Some.field-0
-    c.in_ok-here.field-0
+    c.went_to.result c.in_ok-here.field-0
     (c.in-Some.here, c.in-Some.deck) c.with_fragment_of-url.result
+    c.went_to.ensures.next c.went_to.ensures.none
     c.in_ok-here.ensures c.in-Some.is
     (c.with_fragment_of-url.ensures
     ∙ ap (λ (one : Request). record c.in-Some.here { fragment = one.url.fragment }) c.one.view_is)
@@ -18,11 +20,12 @@ returns-in_ok-arrive-in-Some g c =
 
 pub returns-in_err-arrive-in-Some : goal.returns-in_err-arrive-in-Some
 returns-in_err-arrive-in-Some g c =
-    takes_rejected (Stays_or_asks (g.P.Pages.seen c.args.pages.now)
+    takes_rejected (StaysOrAsks (g.P.Pages.seen c.args.pages.now)
     c.args.self.now c.arrive.new.self c.args.lines.now c.args.sets c.args.caller.now c.args.one)
-    (g.P.Pages.seen c.args.pages.now)
+    (g.P.Pages.seen c.args.pages.now) (g.P.Pages.seen c.args.pages.now)
     c.args.self.now c.arrive.new.self c.args.lines.now c.arrive.new.lines
-    c.from_residual-in_err-arrive-in-Some.result c.from_residual-in_err-arrive-in-Some.ensures.0
+    c.from_residual-in_err-arrive-in-Some.result (Stays-same (g.P.Pages.seen c.args.pages.now))
+    c.from_residual-in_err-arrive-in-Some.ensures.0
     c.from_residual-in_err-arrive-in-Some.ensures.1
 
 pub returns-in-None : goal.returns-in-None

@@ -1,3 +1,5 @@
+use Rattle.std.specs.Option.{option_map}
+use Rattle.wap_world.specs.Steps.{then_task}
 use Rattle.wap_context.specs.Browsers.{IsOver, place_held}
 use Rattle.wap_context.specs.inside.Held.{try_deck_at}
 use Rattle.wap_context.specs.inside.Moving.{HasDeck}
@@ -11,7 +13,8 @@ returns-in-Ok c =
     (λ next.
     moves_ok (try_deck_at c.args.sets c.args.caller.now c.args.url
     (place_held c.args.self.now) c.args.self.now.world) c.args.url c.args.self.now
-    c.try_deck.new.self c.args.lines.now c.try_deck.new.lines next c.args.answer c.in-Ok.deck
+    c.try_deck.new.self c.args.lines.now c.try_deck.new.lines
+    (option_map then_task next) c.args.answer c.in-Ok.deck
     (λ shelf. IsOver shelf c.args.self.now × HasDeck c.args.url c.in-Ok.deck shelf) c.in-Ok.is
     (λ shelf over has. (over, has)))
     c.try_deck.ensures
@@ -22,6 +25,6 @@ returns-in-Err c =
     (λ next.
     moves_no (try_deck_at c.args.sets c.args.caller.now c.args.url
     (place_held c.args.self.now) c.args.self.now.world) c.args.url c.args.self.now
-    c.refuse.new.self c.args.lines.now c.refuse.new.lines next c.args.answer
+    c.refuse.new.self c.args.lines.now c.refuse.new.lines (option_map then_task next) c.args.answer
     c.in-Err.refusal c.in-Err.is)
     c.refuse.ensures

@@ -1,34 +1,72 @@
-use Rattle.std.proofs.Common.{◌∙◌, ap, sym, []}
-use Rattle.wap_cardrules.specs.declared.task.Task.{Task}
-use Rattle.wap_world.specs.Steps.{then_task}
-use Rattle.wap_world.specs.Tasks.{task_once, go, prev, url_now}
-use Rattle.wap_context.proofs.Takings.{onces_from}
-use Rattle.wap_context.proofs.Navigations.{go_turn, prev_turn, over_turn}
+use Rattle.wap_site.proofs.Asking.{Stays-same}
+use Rattle.wap_world.specs.Tasks.{task_once}
+use Rattle.wap_context.specs.Sites.{site_of}
+use Rattle.wap_context.proofs.Requesting.{go_onces, prev_onces, go_budget, prev_budget}
+use Rattle.wap_context.proofs.Requesting.{refresh_onces, onces_rejected}
 use Rattle.wap_context.proofs.context.Context.task_once.Goals as goal
 
 pub returns-then-take_turn : goal.returns-then-take_turn
 returns-then-take_turn g c =
     let spent = c.take_turn.ensures.taken c.if-take_turn.true in
-    onces_from (λ site world. task_once site [] world (then_task c.args.task))
-    (λ site world. go site [] (url_now site.shelf world) c.in-Go.one world)
-    (g.P.Pages.seen c.args.pages.now)
-    (g.P.Pages.seen c.go.new.pages) c.args.self.now c.take_turn.new.self c.go.new.self
-    c.args.lines.now c.go.new.lines c.go.result
-    (λ site. over_turn site c.args.self.now c.take_turn.new.self spent.is)
-    (λ site over. go_turn site c.args.self.now c.take_turn.new.self c.in-Go.one spent.is spent.one
-    ∙ ap (λ (t : Task). task_once site [] c.args.self.now.world (then_task t)) (sym c.in-Go.is))
-    spent.one c.go.ensures
+    go_onces (g.P.Pages.seen c.args.pages.now) c.args.self.now c.go.new.self c.args.lines.now
+    c.take_turn.new.self (g.P.Pages.seen c.go.new.pages) c.go.new.lines c.go.result
+    c.args.task c.in-Go.one c.args.from c.in-Go.is spent c.go.ensures
 
 pub returns-then-take_turn-2 : goal.returns-then-take_turn-2
 returns-then-take_turn-2 g c =
     let spent = c.take_turn-in-Prev.ensures.taken c.if-take_turn-2.true in
-    onces_from (λ site world. task_once site [] world (then_task c.args.task))
-    (λ site world. prev site.shelf [] c.in-Prev.sets world)
-    (g.P.Pages.seen c.args.pages.now)
-    (g.P.Pages.seen c.prev.new.pages) c.args.self.now c.take_turn-in-Prev.new.self c.prev.new.self
-    c.args.lines.now c.prev.new.lines c.prev.result
-    (λ site. over_turn site c.args.self.now c.take_turn-in-Prev.new.self spent.is)
-    (λ site over.
-    prev_turn site c.args.self.now c.take_turn-in-Prev.new.self c.in-Prev.sets spent.is spent.one
-    ∙ ap (λ (t : Task). task_once site [] c.args.self.now.world (then_task t)) (sym c.in-Prev.is))
-    spent.one c.prev.ensures
+    prev_onces (g.P.Pages.seen c.args.pages.now) c.args.self.now c.prev.new.self c.args.lines.now
+    c.take_turn-in-Prev.new.self (g.P.Pages.seen c.prev.new.pages) c.prev.new.lines c.prev.result
+    c.args.task c.in-Prev.sets c.args.from c.in-Prev.is spent c.prev.ensures
+
+pub returns-in-Go : goal.returns-in-Go
+returns-in-Go g c =
+    go_budget (g.P.Pages.seen c.args.pages.now) c.args.self.now c.refuse.new.self
+    c.args.lines.now c.take_turn.new.self c.refuse.new.lines
+    c.in_ok-refuse-in-Go.field-0 c.went_to.result c.args.task c.in-Go.one c.args.from
+    c.in-Go.is c.went_to.ensures.next c.went_to.ensures.none
+    (c.take_turn.ensures.left c.if-take_turn.false) c.in_ok-refuse-in-Go.ensures
+
+pub returns-in_err-refuse-in-Go : goal.returns-in_err-refuse-in-Go
+returns-in_err-refuse-in-Go g c =
+    let seen = g.P.Pages.seen c.args.pages.now in
+    onces_rejected (λ pages keys world.
+    task_once (site_of pages) keys world (record { task = c.args.task; from = c.args.from }))
+    seen seen c.args.self.now c.refuse.new.self c.args.lines.now c.refuse.new.lines
+    c.from_residual.result (Stays-same seen) c.from_residual.ensures.0
+    c.from_residual.ensures.1
+
+pub returns-in-Prev : goal.returns-in-Prev
+returns-in-Prev g c =
+    prev_budget (g.P.Pages.seen c.args.pages.now) c.args.self.now c.refuse-else-take_turn-2.new.self
+    c.args.lines.now c.take_turn-in-Prev.new.self c.refuse-else-take_turn-2.new.lines
+    c.in_ok-refuse-in-Prev.field-0 c.went_to-else-take_turn-2.result c.args.task c.in-Prev.sets
+    c.args.from c.in-Prev.is c.went_to-else-take_turn-2.ensures.next
+    c.went_to-else-take_turn-2.ensures.none
+    (c.take_turn-in-Prev.ensures.left c.if-take_turn-2.false) c.in_ok-refuse-in-Prev.ensures
+
+pub returns-in_err-refuse-in-Prev : goal.returns-in_err-refuse-in-Prev
+returns-in_err-refuse-in-Prev g c =
+    let seen = g.P.Pages.seen c.args.pages.now in
+    onces_rejected (λ pages keys world.
+    task_once (site_of pages) keys world (record { task = c.args.task; from = c.args.from }))
+    seen seen c.args.self.now c.refuse-else-take_turn-2.new.self c.args.lines.now
+    c.refuse-else-take_turn-2.new.lines c.from_residual-in_err-refuse-in-Prev.result
+    (Stays-same seen) c.from_residual-in_err-refuse-in-Prev.ensures.0
+    c.from_residual-in_err-refuse-in-Prev.ensures.1
+
+pub returns : goal.returns
+returns g c =
+    refresh_onces (g.P.Pages.seen c.args.pages.now) c.args.self.now c.refresh.new.self
+    c.args.lines.now c.refresh.new.lines c.args.task c.in-Refresh.sets c.args.from c.in-Refresh.is
+    c.in_ok-refresh-in-Refresh.ensures
+
+pub returns-in_err-refresh-in-Refresh : goal.returns-in_err-refresh-in-Refresh
+returns-in_err-refresh-in-Refresh g c =
+    let seen = g.P.Pages.seen c.args.pages.now in
+    onces_rejected (λ pages keys world.
+    task_once (site_of pages) keys world (record { task = c.args.task; from = c.args.from }))
+    seen seen c.args.self.now c.refresh.new.self c.args.lines.now c.refresh.new.lines
+    c.from_residual-in_err-refresh-in-Refresh.result (Stays-same seen)
+    c.from_residual-in_err-refresh-in-Refresh.ensures.0
+    c.from_residual-in_err-refresh-in-Refresh.ensures.1

@@ -1,19 +1,17 @@
-use Rattle.std.proofs.Common.{[]}
-use Rattle.wap_world.specs.Tasks.{open_url, with_turn}
-use Rattle.wap_context.proofs.Takings.{onces_from}
-use Rattle.wap_context.proofs.Navigations.{open_turn, over_turn}
+use Rattle.wap_context.proofs.Requesting.{open_onces, open_budget}
 use Rattle.wap_context.proofs.context.Context.visit_once.Goals as goal
 
 pub returns-then-take_turn : goal.returns-then-take_turn
 returns-then-take_turn g c =
     let spent = c.take_turn.ensures.taken c.if-take_turn.true in
-    onces_from
-    (λ site world. with_turn site.shelf [] world world.turns (open_url site [] c.args.url.now))
-    (λ site world. open_url site [] c.args.url.now world)
-    (g.P.Pages.seen c.args.pages.now)
-    (g.P.Pages.seen c.open_url.new.pages) c.args.self.now c.take_turn.new.self c.open_url.new.self
-    c.args.lines.now c.open_url.new.lines c.open_url.result
-    (λ site. over_turn site c.args.self.now c.take_turn.new.self spent.is)
-    (λ site over.
-    open_turn site c.args.self.now c.take_turn.new.self c.args.url.now spent.is spent.one)
-    spent.one c.open_url.ensures
+    open_onces (g.P.Pages.seen c.args.pages.now) c.args.self.now c.open_url.new.self
+    c.args.lines.now c.take_turn.new.self (g.P.Pages.seen c.open_url.new.pages)
+    c.open_url.new.lines c.open_url.result c.args.url.now spent c.open_url.ensures
+
+pub returns-in_ok-refuse : goal.returns-in_ok-refuse
+returns-in_ok-refuse g c =
+    open_budget (g.P.Pages.seen c.args.pages.now) c.args.self.now c.refuse.new.self
+    c.args.lines.now c.take_turn.new.self c.refuse.new.lines
+    c.in_ok-refuse.field-0 c.went_to.result c.args.url.now
+    c.went_to.ensures.next c.went_to.ensures.none
+    (c.take_turn.ensures.left c.if-take_turn.false) c.in_ok-refuse.ensures

@@ -1,0 +1,362 @@
+-- Scripts that are started: what the decision and the start come to.
+use Rattle.std.proofs.Common.{◌≡◌, ◌∙◌, ◌≤◌, ℕ, Bool, true, false, List, [], ◌∷◌, ◌++◌, Option, Some}
+use Rattle.std.proofs.Common.{None, Ok, Err, refl, sym, ap, ap₂, subst, cond, eqb, arith, append-nil}
+use Rattle.std.specs.Prelude.{Result, length, slice_get, map}
+use Rattle.std.specs.Option.{option_map, option_and_then}
+use Rattle.std.specs.List.{list_any}
+use Rattle.std.proofs.lemmas.Bool.{eqb-true, eq-eqb}
+use Rattle.wap_base.specs.declared.fault.RunErr.{RunErr}
+use Rattle.wap_base.specs.declared.limits.Limits.{Limits}
+use Rattle.wap_url.specs.declared.url.Url.{Url}
+use Rattle.wap_url.specs.Printing.{without_fragment}
+use Rattle.wap_value.specs.declared.value.Value.{Value}
+use Rattle.wap_code.specs.declared.unit.Unit.{Unit}
+use Rattle.wap_code.specs.declared.unit.Code.{Code}
+use Rattle.wap_input.specs.declared.key.Key.{Key}
+use Rattle.wap_execution.specs.declared.fatal.Fatal.{Fatal}
+use Rattle.wap_execution.specs.declared.fatal.Fatal.TheVariants as fatal
+use Rattle.wap_execution.specs.Frames.{Function, Frame, code_at, begun}
+use Rattle.wap_execution.specs.Running.{finished, resumed}
+use Rattle.wap_execution_laws.specs.Settings.{uncounted}
+use Rattle.wap_frames.specs.Standing.{CanEnter}
+use Rattle.wap_machine.specs.Stacks.{Stack, stack, answered, IsEntered}
+use Rattle.wap_cardrules.specs.Values.{Pairs}
+use Rattle.wap_site.specs.Asking.{Seen, Asks}
+use Rattle.wap_site.proofs.Asking.{Asks-nil, Stays-same}
+use Rattle.wap_world.specs.Shelves.{Shelf}
+use Rattle.wap_world.specs.World.{World, Place, place_now}
+use Rattle.wap_world.specs.Steps.{Scene, Step, Once, Next, still, behind, quiet, settled, after_step}
+use Rattle.wap_world.specs.Setting.{set_variables}
+use Rattle.wap_world.specs.Sites.{failed as failed_by, External, Call}
+use Rattle.wap_world.specs.Access.{may_enter}
+use Rattle.wap_world.specs.Requests.{test, test_of}
+use Rattle.wap_world.specs.Starting.{script_line, is_too_long, not_started, prepared, ended_script}
+use Rattle.wap_world.specs.Screens.{show}
+use Rattle.wap_world.proofs.Joining.{once_before}
+use Rattle.wap_scripting.specs.Units.{entrance_in, index_named, external_in}
+use Rattle.wap_scripting.specs.UnitSites.{Pages, shelf_of, keyed_host, ran_of, started_at}
+use Rattle.wap_scripting.specs.Waiting.{inside}
+use Rattle.wap_state.specs.Scenes.{Line}
+use Rattle.wap_context.specs.declared.waiting.Went.{Went}
+use Rattle.wap_context.specs.declared.starting.Start.{Start}
+use Rattle.wap_context.specs.declared.starting.Start.TheVariants.{Not, Runs}
+use Rattle.wap_context.specs.Browsers.{Browser, IsOver, place_held}
+use Rattle.wap_context.specs.Sites.{fragment_call, IfOver}
+use Rattle.wap_context.specs.Pausing.{Paused}
+use Rattle.wap_context.specs.inside.Held.{show_at}
+use Rattle.wap_context.specs.inside.Moving.{PlaysAt, Moves, Takes, next_in, waits_in}
+use Rattle.wap_context.specs.inside.Starting.{if_long, start_found, start_called, start_of, begun_with}
+use Rattle.wap_context.specs.inside.Starting.{started_with, allowed_with, script_with, run_with}
+use Rattle.wap_context.specs.inside.Starting.{not_started_at, failed_at, end_at}
+use Rattle.wap_machine.specs.declared.machine.Outcome.TheVariants.{Fatal as Died}
+use Rattle.wap_context.proofs.Ending.{failed_is}
+use Rattle.wap_context.proofs.Places.{held_now}
+use Rattle.wap_context.proofs.Plays.{history_kept, over_kept, turns_kept, plays_behind}
+use Rattle.wap_context.proofs.Arrivals.{moves_settled}
+use Rattle.wap_context.proofs.Takings.{Rule, over_all, takes_moves, takes_by, takes_from, takes_after}
+
+-- ---- what is started can be entered
+
+starts_not : (why : Fatal) (index : ℕ) (arguments : List Value) → Not why ≡ Runs index arguments → ⊥
+starts_not why index arguments is = absurd (cc)
+
+-- the code of the function that a name finds
+code_found : (unit : Unit) (index : ℕ) (one : External) (found : Option Code)
+    → slice_get unit.functions index ≡ found
+    → option_map (λ (code : Code). record { index = index; arguments = code.args }) found ≡ Some one
+    → (code : Code) × ((slice_get unit.functions one.index ≡ Some code)
+    × (code.args ≡ one.arguments))
+code_found unit index one None at is = absurd (cc)
+code_found unit index one (Some code) at is =
+    let same : record { index = index; arguments = code.args } ≡ one = cc in (
+      code,
+      (
+        ap (λ (e : External). slice_get unit.functions e.index) (sym same) ∙ at,
+        ap (λ (e : External). e.arguments) same,
+      ),
+    )
+
+external_code : (unit : Unit) (one : External) (index : Option ℕ)
+    → option_and_then (λ (i : ℕ). option_map
+    (λ (code : Code). record { index = i; arguments = code.args }) (slice_get unit.functions i))
+    index ≡ Some one
+    → (code : Code) × ((slice_get unit.functions one.index ≡ Some code)
+    × (code.args ≡ one.arguments))
+external_code unit one None is = absurd (cc)
+external_code unit one (Some index) is =
+    code_found unit index one (slice_get unit.functions index) refl is
+
+long_starts : (given arguments : List Value) (one : External) (index : ℕ) (b : Bool)
+    → cond b (Not fatal.TooLong) (Runs one.index given) ≡ Runs index arguments
+    → (one.index ≡ index) × (given ≡ arguments)
+long_starts given arguments one index true is =
+    absurd (starts_not fatal.TooLong index arguments is)
+long_starts given arguments one index false is = (cc, cc)
+
+module _ (unit : Unit) (string : ℕ) (base : Url) (referer : Option Url) (index : ℕ)
+    (arguments : List Value) where
+  abbrev function : Function
+  function = record { unit = unit; base = base; referer = referer; index = index }
+
+  many_enters : (given : List Value) (name : List ℕ) (one : External) (b : Bool)
+      → external_in unit name ≡ Some one → eqb one.arguments (length given) ≡ b
+      → cond b (if_long given string one.index) (Not fatal.Arguments) ≡ Runs index arguments
+      → CanEnter function arguments
+  many_enters given name one false is many starts =
+      absurd (starts_not fatal.Arguments index arguments starts)
+  many_enters given name one true is many starts =
+      let same = long_starts given arguments one index (list_any (is_too_long string) given) starts in
+      let there = external_code unit one (index_named unit name) is in
+      record {
+        code = there.0;
+        found = ap (slice_get unit.functions) (sym same.0) ∙ there.1.0;
+        as_many = ap (λ (a : List Value). length a) (sym same.1)
+            ∙ sym (eqb-true one.arguments (length given) many) ∙ sym there.1.1;
+      }
+
+  found_enters : (given : List Value) (name : List ℕ) (external : Option External)
+      → external_in unit name ≡ external
+      → start_found given string external ≡ Runs index arguments → CanEnter function arguments
+  found_enters given name None is starts =
+      absurd (starts_not fatal.NoFunction index arguments starts)
+  found_enters given name (Some one) is starts =
+      many_enters given name one (eqb one.arguments (length given)) is refl starts
+
+  called_enters : (call : Option Call) → start_called unit string call ≡ Runs index arguments
+      → CanEnter function arguments
+  called_enters None starts = absurd (starts_not fatal.NoFunction index arguments starts)
+  called_enters (Some call) starts =
+      found_enters call.arguments call.function (external_in unit call.function) refl starts
+
+  pub start_enters : (url : Url) (found : Start) → found ≡ start_of unit string url
+      → found ≡ Runs index arguments → CanEnter function arguments
+  start_enters url found is starts =
+      called_enters (option_and_then fragment_call url.fragment) (sym is ∙ starts)
+
+-- ---- a script isn't started
+
+pub rejects : (why : Fatal) (old new : Browser) (before line after : List Line)
+    → line ≡ before ++ script_line why ∷ [] → PlaysAt show_at old new line after
+    → Moves (not_started_at why (place_held old) old.world) (λ shelf. IsOver shelf old) old new
+    before after None
+rejects why old new before line after added plays =
+    moves_settled (λ place world. behind (script_line why ∷ []) (show_at place world)) old new before
+    after (plays_behind (script_line why) show_at old new before line after added plays)
+
+-- over a shelf that has the deck at hand
+not_started_is : (shelf : Shelf) (old : Browser) → IsOver shelf old → (why : Fatal)
+    (keys : List Key)
+    → not_started shelf keys why old.world
+    ≡ once_before keys (not_started_at why (place_held old) old.world)
+not_started_is shelf old over why keys =
+    ap (λ (p : Option Place).
+    settled (quiet keys (behind (script_line why ∷ []) (show_at p old.world))))
+    (held_now shelf old over)
+
+module _ (seen : Seen) (old new : Browser) (before shown : List Line) (unit : Unit) (sets : Pairs)
+    (caller : Option Url) (url : Url) where
+  -- the rule for whatever is started
+  abbrev pub Starting : Rule
+  Starting pages keys world =
+      started_with unit sets caller url (start_of unit world.limits.string url) pages keys world
+
+  pub start_rejects : (why : Fatal) (found : Start) (string : ℕ) (went : Went)
+      → found ≡ start_of unit string url → string ≡ old.world.limits.string → found ≡ Not why
+      → Moves (not_started_at why (place_held old) old.world) (λ shelf. IsOver shelf old) old new
+      before shown (next_in went) → waits_in went ≡ None
+      → Takes Starting seen seen old new before shown (Ok went)
+  start_rejects why found string went is limit rejected moves none =
+      takes_moves Starting seen old new before shown went
+      (not_started_at why (place_held old) old.world) (λ shelf. IsOver shelf old) moves none
+      (over_all seen.contents old (λ pages over. (
+        over,
+        λ keys.
+            ap (λ (one : Start). started_with unit sets caller url one pages keys old.world)
+            (ap (λ (n : ℕ). start_of unit n url) (sym limit) ∙ sym is ∙ rejected)
+            ∙ not_started_is (shelf_of pages) old over why keys,
+      )))
+
+  pub start_begins : (after : Seen) (result : Result Went RunErr) (found : Start) (string : ℕ)
+      (index : ℕ) (arguments : List Value)
+      → found ≡ start_of unit string url → string ≡ old.world.limits.string
+      → found ≡ Runs index arguments
+      → Takes (begun_with unit sets caller url index arguments) seen after old new before shown
+      result → Takes Starting seen after old new before shown result
+  start_begins after result found string index arguments is limit runs takes =
+      takes_from Starting (begun_with unit sets caller url index arguments) seen after old new before
+      shown result
+      (λ pages over keys.
+      ap (λ (one : Start). started_with unit sets caller url one pages keys old.world)
+      (sym runs ∙ is ∙ ap (λ (n : ℕ). start_of unit n url) limit)) takes
+
+  -- ---- the access decision
+
+  -- the rule after the test
+  abbrev Allowed : Bool → Rule
+  Allowed b pages keys world = allowed_with unit sets caller url b pages keys world
+
+  tested : (after : Seen) (result : Result Went RunErr) (b : Bool)
+      → b ≡ may_enter url (entrance_in unit) caller
+      → Takes (Allowed b) seen after old new before shown result
+      → Takes (script_with unit sets caller url) seen after old new before shown result
+  tested after result b is takes =
+      let one = test_of url caller (entrance_in unit) in
+      takes_after (script_with unit sets caller url) (Allowed b) (test [] one old.world) seen seen
+      after old new before before shown result (sym (append-nil before)) refl (Stays-same seen) refl
+      (over_all seen.contents old (λ pages over. (
+        Asks-nil seen,
+        λ keys.
+            ap (λ (c : Bool). after_step (test keys one old.world)
+            (allowed_with unit sets caller url c pages keys old.world)) (sym is),
+      )))
+      takes
+
+  pub script_allowed : (after : Seen) (result : Result Went RunErr) (b : Bool)
+      → b ≡ may_enter url (entrance_in unit) caller → b ≡ true
+      → Takes Starting seen after old new before shown result
+      → Takes (script_with unit sets caller url) seen after old new before shown result
+  script_allowed after result b is allowed takes =
+      tested after result true (sym allowed ∙ is) takes
+
+  pub script_denied : (went : Went) (b : Bool)
+      → b ≡ may_enter url (entrance_in unit) caller → b ≡ false
+      → Moves (not_started_at fatal.Denied (place_held old) old.world) (λ shelf. IsOver shelf old) old
+      new before shown (next_in went) → waits_in went ≡ None
+      → Takes (script_with unit sets caller url) seen seen old new before shown (Ok went)
+  script_denied went b is denied moves none =
+      tested seen (Ok went) false (sym denied ∙ is)
+      (takes_moves (Allowed false) seen old new before shown went
+      (not_started_at fatal.Denied (place_held old) old.world) (λ shelf. IsOver shelf old) moves none
+      (over_all seen.contents old
+      (λ pages over. (over, λ keys. not_started_is (shelf_of pages) old over fatal.Denied keys))))
+
+-- ---- the start
+
+-- a function that takes so many arguments, at its beginning
+frames_is : (function : Function) (arguments : List Value) (code : Code)
+    → code_at function ≡ Some code → length arguments ≡ code.args
+    → begun function code arguments ∷ [] ≡ started_at function arguments (code_at function)
+frames_is function arguments code found many =
+    sym (ap (started_at function arguments) found
+    ∙ ap (λ (b : Bool). cond b (begun function code arguments ∷ []) [])
+    (eq-eqb (length arguments) code.args many))
+
+-- nothing is pending
+abbrev pub cleared : Browser → Browser
+cleared b = record b { world = record b.world { pending = None } }
+
+module _ (unit : Unit) (sets : Pairs) (caller : Option Url) (url : Url) (index : ℕ)
+    (arguments : List Value) (old left mid : Browser) (first : List Line) (machine : Stack)
+    (base : Url) (limits : Limits)
+    (plays : PlaysAt (λ place. set_variables sets) old left [] first) (mid_is : mid ≡ cleared left)
+    (base_is : base ≡ without_fragment url) (limits_are : limits ≡ mid.world.limits)
+    (entered : IsEntered limits
+    (record { unit = unit; base = base; referer = caller; index = index }) arguments [] machine)
+  where
+    abbrev set : Scene
+    set = set_variables sets old.world
+
+    world_is : mid.world ≡ record set.world { pending = None }
+    world_is = ap (λ (b : Browser). b.world) mid_is
+        ∙ ap (λ (w : World). record w { pending = None }) plays.plays.world
+
+    begin_is : (pages : Pages) (keys : List Key)
+        → run_with machine base first pages keys mid.world
+        ≡ begun_with unit sets caller url index arguments pages keys old.world
+    begin_is pages keys =
+        let function : Function =
+        record { unit = unit; base = base; referer = caller; index = index } in
+        let machine_is : machine
+        ≡ stack old.world.limits (started_at function arguments (code_at function)) =
+        entered.is
+        ∙ ap₂ stack (limits_are ∙ ap (λ (w : World). w.limits) world_is)
+        (frames_is function arguments entered.code entered.found entered.many) in
+        ap (λ (m : Stack). run_with m base first pages keys mid.world) machine_is
+        ∙ ap (λ (f : List Line). run_with
+        (stack old.world.limits (started_at function arguments (code_at function))) base f pages keys
+        mid.world) plays.plays.lines
+        ∙ ap (λ (w : World). run_with
+        (stack old.world.limits (started_at function arguments (code_at function))) base set.lines
+        pages keys w) world_is
+        ∙ ap (λ (b : Url).
+        let one : Function = record { unit = unit; base = b; referer = caller; index = index } in
+        run_with (stack old.world.limits (started_at one arguments (code_at one))) b set.lines
+        pages keys (record set.world { pending = None })) base_is
+
+    left_over : (shelf : Shelf) → IsOver shelf old → IsOver shelf mid
+    left_over shelf over = subst (IsOver shelf) (sym mid_is)
+        (over_kept shelf old left plays.deck
+        (history_kept set old.world left.world [] first plays.plays) over)
+
+    pub begin_takes : (seen after : Seen) (new : Browser) (before shown : List Line)
+        (result : Result Went RunErr)
+        → Takes (run_with machine base first) seen after mid new before shown result
+        → Takes (begun_with unit sets caller url index arguments) seen after old new before shown
+        result
+    begin_takes seen after new before shown result takes =
+        takes_by (begun_with unit sets caller url index arguments) (run_with machine base first) seen
+        after old mid new before shown result (λ pages over. left_over (shelf_of pages) over)
+        (λ pages over keys. begin_is pages keys)
+        (omega (
+          arith,
+          ap (λ (b : Browser). b.world.turns) mid_is,
+          turns_kept set old.world left.world [] first plays.plays,
+        )) takes
+
+-- ---- scripts that wait
+
+-- the machine with an answer is that of the definition
+answer_is : (limits : Limits) (pages : Pages) (frames : List Frame) (v : Value) (turns : ℕ)
+    (step : Step)
+    → ran_of (finished (uncounted limits (keyed_host pages)) (answered v frames) turns step)
+    ≡ ran_of (resumed (uncounted limits (keyed_host pages)) frames v turns step)
+unfolding finished resumed
+answer_is limits pages [] v turns step = refl
+answer_is limits pages (frame ∷ outer) v turns step = refl
+
+-- the rule for the navigation of an answer, and of a stop
+abbrev pub Answers : Paused → Value → Rule
+Answers paused v pages keys world = ended_script (shelf_of pages) paused.base
+    (ran_of (resumed (uncounted paused.limits (keyed_host pages)) paused.frames v world.turns
+    (quiet keys (still (inside world)))))
+
+pub answer_takes : (paused : Paused) (v : Value) (machine : Stack) (base : Url) (first : List Line)
+    (seen after : Seen) (old new : Browser) (before shown : List Line) (result : Result Went RunErr)
+    → machine ≡ stack paused.limits (answered v paused.frames) → base ≡ paused.base → first ≡ []
+    → Takes (run_with machine base first) seen after old new before shown result
+    → Takes (Answers paused v) seen after old new before shown result
+answer_takes paused v machine base first seen after old new before shown result is base_is none
+    takes =
+    takes_from (Answers paused v) (run_with machine base first) seen after old new before shown result
+    (λ pages over keys.
+    ap (λ (m : Stack). run_with m base first pages keys old.world) is
+    ∙ ap (λ (b : Url). run_with (stack paused.limits (answered v paused.frames)) b first pages keys
+    old.world) base_is
+    ∙ ap (λ (f : List Line). run_with (stack paused.limits (answered v paused.frames)) paused.base f
+    pages keys old.world) none
+    ∙ ap (ended_script (shelf_of pages) paused.base)
+    (answer_is paused.limits pages paused.frames v old.world.turns
+    (quiet keys (still (inside old.world))))) takes
+
+abbrev pub Stops : Url → Rule
+Stops base pages keys world = ended_script (shelf_of pages) base (record {
+  end = failed_by fatal.Stopped;
+  turns = world.turns;
+  step = quiet keys (still (inside world));
+})
+
+pub stop_takes : (seen : Seen) (old new : Browser) (before shown : List Line) (base at : Url)
+    (went : Went) → at ≡ base
+    → Moves (end_at at (Died fatal.Stopped) (place_held old) old.world) (λ shelf. IsOver shelf old)
+    old new before shown (next_in went) → waits_in went ≡ None
+    → Takes (Stops base) seen seen old new before shown (Ok went)
+stop_takes seen old new before shown base at went at_is moves none =
+    takes_moves (Stops base) seen old new before shown went
+    (failed_at fatal.Stopped (place_held old) old.world) (λ shelf. IsOver shelf old) moves none
+    (over_all seen.contents old (λ pages over. (
+      over,
+      λ keys.
+          failed_is (shelf_of pages) base (quiet keys (still old.world)) fatal.Stopped
+          ∙ ap (λ (p : Option Place). once_before keys (failed_at fatal.Stopped p old.world))
+          (held_now (shelf_of pages) old over),
+    )))

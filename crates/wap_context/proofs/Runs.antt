@@ -1,0 +1,510 @@
+-- A machine that runs over pages comes to what the definitions say.
+use Rattle.std.proofs.Common.{◌≡◌, ◌∙◌, ◌⊎◌, inl, inr, ◌≤◌, ◌<◌, ◌+◌, zero, suc, ℕ, Bool, false, List, []}
+use Rattle.std.proofs.Common.{◌∷◌, ◌++◌, Option, Some, None, Ok, Err, refl, sym, ap, ap₂, subst, arith}
+use Rattle.std.proofs.Common.{append_assoc, append-nil}
+use Rattle.std.proofs.lemmas.Bool.{cases_lt}
+use Rattle.std.specs.Prelude.{Result, IfSome, IfOk, OnOk, min, unwrap_or, if◌then◌else◌, ◌||◌}
+use Rattle.std.specs.Option.{option_map, option_and_then}
+use Rattle.wap_base.specs.declared.fault.RunErr.{RunErr}
+use Rattle.wap_base.specs.declared.fault.RunErr.TheVariants.{Store}
+use Rattle.wap_base.specs.declared.limits.Limits.{Limits}
+use Rattle.wap_base.specs.Count.{greatest_count, raised, Rose}
+use Rattle.wap_url.specs.declared.url.Url.{Url}
+use Rattle.wap_value.specs.declared.value.Value.{Value}
+use Rattle.wap_markup.specs.declared.deck.Deck.{Deck}
+use Rattle.wap_input.specs.declared.key.Key.{Key}
+use Rattle.wap_execution.specs.Outcomes.{Outcome as Meant, value, exit, fatal, waits, stuck, Ended}
+use Rattle.wap_execution.specs.Running.{finished}
+use Rattle.wap_execution_laws.specs.Settings.{uncounted}
+use Rattle.wap_execution_laws.specs.Simulation.{ComeToSame, IsKin}
+use Rattle.wap_execution_laws.proofs.RunLaws.{Keeps, finished_follows}
+use Rattle.wap_machine.specs.Hosts.{AtMost, Fetches}
+use Rattle.wap_machine.specs.Stacks.{Stack}
+use Rattle.wap_machine.specs.Runs.{run_of as machine_run, IsEnd, KeepsLimits}
+use Rattle.wap_machine.specs.declared.machine.Outcome.{Outcome}
+use Rattle.wap_site.specs.Pages.{Pages as JudgedPages}
+use Rattle.wap_site.specs.Misses.{Cache, Asked as Question, is_miss, after_asking, after_all, misses}
+use Rattle.wap_site.specs.Asking.{Seen, raised_by, RaisedWithin, Stays, Asks}
+use Rattle.wap_site.proofs.Counts.{raised_by-then}
+use Rattle.wap_world.specs.declared.history.Entry.{Entry}
+use Rattle.wap_world.specs.World.{World, Place, place_in, place_of, place_now, deck_at, last_entry}
+use Rattle.wap_world.specs.Steps.{Scene, Step, Once, Next, still, quiet, after_step}
+use Rattle.wap_cardrules.specs.declared.task.Task.{Task}
+use Rattle.wap_world.specs.Shelves.{Shelf}
+use Rattle.wap_world.specs.Starting.{in_world, end_done}
+use Rattle.wap_world.proofs.Joining.{once_before}
+use Rattle.wap_scripting.specs.UnitSites.{Pages, shelf_of, externals_of, unit_under, host_of, unit_pages}
+use Rattle.wap_scripting.specs.Views.{Counted, counted_once, counted_all, View, viewing, view_of, Shows}
+use Rattle.wap_scripting.specs.Views.{IsAtHand, NoStep, NoView}
+use Rattle.wap_scripting.specs.Waiting.{Waits, inside}
+use Rattle.wap_scripting.specs.Halves.{Half, half_by, half_of, once_by, once_of}
+use Rattle.wap_scripting_laws.proofs.Plain.{external_plain, library_plain}
+use Rattle.wap_scripting_laws.proofs.Runs.{starts}
+use Rattle.wap_scripting_laws.proofs.Viewing.{views_run_alike}
+use Rattle.wap_state.specs.Scenes.{Line}
+use Rattle.wap_host.specs.Stages.{Stage, told, counted_in, count_of, fetched_in}
+use Rattle.wap_context.specs.declared.waiting.Went.{Went}
+use Rattle.wap_context.specs.Browsers.{Browser, IsOver, place_held}
+use Rattle.wap_context.specs.Sites.{IfOver}
+use Rattle.wap_context.specs.Missing.{Missed}
+use Rattle.wap_context.proofs.Missing.{Missed-more}
+use Rattle.wap_context.specs.inside.Moving.{Moves, Goes, Takes, next_in, waits_in}
+use Rattle.wap_context.specs.inside.Starting.{run_of, run_with, CameTo, RunsTo, end_at, waits_by}
+use Rattle.wap_context.proofs.Places.{held_now}
+use Rattle.wap_context.proofs.Ending.{half_is}
+use Rattle.wap_context.proofs.Takings.{over_map, if_ok_both, on_ok_both}
+
+-- ---- a run leaves whether a dialog is open
+
+-- whether one is, is the same in both steps
+abbrev Shut : Step → Step → Type 0
+Shut s t = t.is_open ≡ s.is_open
+
+host_shut : (pages : Pages) (limits : Limits) → Keeps (uncounted limits (host_of pages)) Shut
+host_shut pages limits = record {
+  same = λ s. refl;
+  chained = λ s t u some more. more ∙ some;
+  ticks = λ function s. refl;
+  external = λ s caller url name count working.
+      (external_plain (shelf_of pages) (externals_of pages) (unit_under pages) caller name count
+      working url).shut s;
+  library = λ s base referer number index arguments.
+      (library_plain (shelf_of pages) (place_now (shelf_of pages)) base referer number index
+      arguments).shut s;
+}
+
+run_shut : (pages : Pages) (machine : Stack) (first : List Line) (world : World)
+    → (run_of machine first pages world).state.is_open ≡ false
+run_shut pages machine first world =
+    (finished_follows (uncounted machine.limits (host_of pages)) Shut
+    (host_shut pages machine.limits) machine.frames world.turns
+    (quiet [] (record { world = inside world; lines = first }))).kin
+
+-- ---- counts
+
+-- pages that are asked for, one after the other
+counted_is : (asked : List Question) (cache : Cache) (fetches : ℕ)
+    → counted_all asked (Some (record { cache = cache; fetches = fetches }))
+    ≡ Some (record {
+      cache = after_all asked cache;
+      fetches = raised_by (misses asked cache) fetches;
+    })
+counted_is [] cache fetches = refl
+counted_is (one ∷ others) cache fetches =
+    let some = if is_miss one cache then 1 else 0 in
+    let kept = after_asking one cache in
+    counted_is others kept (raised_by some fetches)
+    ∙ ap (λ (n : ℕ). Some (record { cache = after_all others kept; fetches = n }))
+    (sym (raised_by-then some (misses others kept) fetches))
+
+counted_none : (asked : List Question) → counted_all asked None ≡ None
+counted_none [] = refl
+counted_none (one ∷ others) = counted_none others
+
+abbrev counted_by : Option Cache → ℕ → Option Counted
+counted_by cache fetches =
+    option_map (λ (c : Cache). record { cache = c; fetches = fetches }) cache
+
+some_none : (c : Counted) → Some c ≡ None → ⊥
+some_none c same = absurd (cc)
+
+-- what is counted of pages tells that they were asked for
+cache_by : (asked : List Question) (x y : Option Cache) (k l : ℕ)
+    → counted_by y l ≡ counted_all asked (counted_by x k)
+    → (y ≡ option_map (after_all asked) x)
+    × IfSome x (λ cache. l ≡ raised_by (misses asked cache) k)
+cache_by asked None None k l is = (refl, tt)
+cache_by asked None (Some d) k l is =
+    absurd (some_none (record { cache = d; fetches = l }) (is ∙ counted_none asked))
+cache_by asked (Some c) None k l is = absurd (some_none (record {
+  cache = after_all asked c;
+  fetches = raised_by (misses asked c) k;
+}) (sym (is ∙ counted_is asked c k)))
+cache_by asked (Some c) (Some d) k l is =
+    let same = is ∙ counted_is asked c k in
+    let none : Counted = record { cache = c; fetches = k } in (
+      ap (λ (o : Option Counted). Some (unwrap_or o none).cache) same,
+      ap (λ (o : Option Counted). (unwrap_or o none).fetches) same,
+    )
+
+asks_by : (asked : List Question) (seen after : Seen) → after.faults ≡ seen.faults
+    → counted_in after ≡ counted_all asked (counted_in seen) → Asks asked seen after
+asks_by asked seen after steady is =
+    let both = cache_by asked seen.cache after.cache seen.fetches after.fetches is in
+    record { cache = both.0; fetches = both.1; steady = steady }
+
+-- ---- a store that failed
+
+-- a count by how often it was raised
+raised_is : (more count : ℕ) → count ≤ greatest_count
+    → raised_by more count ≡ min (count + more) greatest_count
+raised_is zero count low = omega (arith, low)
+raised_is (suc more) count low =
+    let so = raised_is more (raised count) (omega (arith, low)) in omega (arith, so, low)
+
+found_within : (most k before after : ℕ) → before < greatest_count → after ≡ raised_by k before
+    → raised (count_of before) ≤ count_of after
+    → count_of after ≤ count_of (raised_by most before)
+    → (most < k) ⊎ (k ≤ most) → RaisedWithin most before after
+found_within most k before after low is rose few (inr within) =
+    let at = raised_is k before (omega (arith, low)) in record {
+      more = k;
+      some = omega (arith, low, is, rose, at);
+      few = within;
+      count = is;
+    }
+found_within most k before after low is rose few (inl past) =
+    let at = raised_is k before (omega (arith, low)) in
+    let top = raised_is most before (omega (arith, low)) in record {
+      more = most;
+      some = omega (arith, low, is, rose, few, at, top, past);
+      few = omega arith;
+      count = omega (arith, low, is, few, at, top, past);
+    }
+
+missed_by : (asked : List Question) (cache : Option Cache) (end : View) (k l more : ℕ)
+    → end.counted ≡ counted_all asked (counted_by cache k) → l ≡ raised_by more k
+    → Fetches (option_map (λ (c : Counted). count_of c.fetches) (counted_by cache k)) (count_of l)
+    (fetched_in end)
+    → IfSome cache (λ one. k < greatest_count → RaisedWithin (misses asked one) k l)
+missed_by asked None end k l more is grew so = tt
+missed_by asked (Some cache) end k l more is grew so = λ low.
+    let most = misses asked cache in
+    found_within most more k l low grew so.0
+    (subst (λ (o : Option Counted).
+    AtMost (count_of l) (option_map (λ (c : Counted). count_of c.fetches) o))
+    (is ∙ counted_is asked cache k) so.1) (cases_lt most more)
+
+-- ---- over known pages
+
+module _ (machine : Stack) (first : List Line) (seen after : Seen) (old : Browser) where
+  -- what the run sees at first
+  abbrev begins : Stage
+  begins = record {
+    world = inside old.world;
+    deck = old.deck;
+    lines = first;
+    turns = old.world.turns;
+  }
+
+  module _ (pages : Pages) (over : IsOver (shelf_of pages) old) where
+    abbrev before : Step
+    before = quiet [] (record { world = inside old.world; lines = first })
+
+    abbrev view : View
+    view = view_of pages old.deck (counted_in seen) before
+
+    abbrev end : Ended Step
+    end = run_of machine first pages old.world
+
+    abbrev seen_end : Ended View
+    seen_end = machine_run machine viewing old.world.turns view
+
+    at_hand : IsAtHand pages old.deck (last_entry old.world)
+    at_hand = held_now (shelf_of pages) old over
+
+    is_kin : ComeToSame (Shows pages old.deck (counted_in seen) (last_entry old.world)) NoStep NoView
+        end seen_end
+        → IsKin (Shows pages old.deck (counted_in seen) (last_entry old.world)) end seen_end
+    is_kin (inl kin) = kin
+    is_kin (inr lost) = absurd (lost.0)
+
+    both_ends : IsKin (Shows pages old.deck (counted_in seen) (last_entry old.world)) end seen_end
+    both_ends = is_kin ((views_run_alike pages old.deck (counted_in seen) (last_entry old.world) at_hand
+        machine.limits).finishing machine.frames old.world.turns before view
+        (record { is = refl; last = refl }))
+
+    came_to : (new : Browser) (stage : Stage) (outcome : Outcome) (lines : List Line) (now : View)
+        → new ≡ record {
+          world = record stage.world { turns = stage.turns };
+          deck = stage.deck;
+        } → lines ≡ stage.lines → after.faults ≡ seen.faults
+        → now ≡ record {
+          world = stage.world;
+          deck = stage.deck;
+          lines = stage.lines;
+          pages = pages;
+          counted = counted_in after;
+        }
+        → IsEnd seen_end outcome stage.turns (Some now)
+        → CameTo pages end seen after new outcome lines
+    came_to new stage outcome lines now new_is lines_is steady now_is is =
+        let kin = both_ends in
+        let some : now ≡ view_of pages old.deck (counted_in seen) end.state =
+        ap (λ (o : Option View). unwrap_or o view) is.state_is ∙ kin.state.is in
+        let same = sym now_is ∙ some in
+        let world_is : new.world ≡ record end.state.world { turns = end.turns } =
+        ap (λ (b : Browser). b.world) new_is
+        ∙ ap₂ (λ (v : View) (n : ℕ). record v.world { turns = n }) same
+        (is.turns_are ∙ sym kin.turns) in
+        record {
+          outcome_is = is.outcome_is ∙ sym kin.outcome;
+          world = world_is;
+          lines_are = lines_is ∙ ap (λ (v : View). v.lines) same;
+          closed = run_shut pages machine first old.world;
+          asks = asks_by end.state.asked seen after steady (ap (λ (v : View). v.counted) same);
+          over =
+              ap (λ (w : World). option_and_then (λ (e : Entry). deck_at (shelf_of pages) e.url)
+              (last_entry w)) world_is
+              ∙ ap (option_and_then (λ (e : Entry). deck_at (shelf_of pages) e.url)) kin.state.last
+              ∙ over ∙ sym (ap (λ (b : Browser). b.deck) new_is ∙ ap (λ (v : View). v.deck) same);
+        }
+
+    missed_at : Stays seen after → Rose seen.faults after.faults
+        → Fetches (fetched_in view) (count_of after.fetches) (fetched_in seen_end.state)
+        → Missed end.state.asked seen after
+    missed_at stays rose so = record {
+      rose = rose;
+      fetches = missed_by end.state.asked seen.cache seen_end.state seen.fetches after.fetches
+          stays.fetches.0 (ap (λ (v : View). v.counted) both_ends.state.is) stays.fetches.1 so;
+    }
+
+  -- ---- whether the pages are known or not
+
+  came_by : (contents here : Option JudgedPages) → seen.contents ≡ contents → here ≡ seen.contents
+      → (new : Browser) (stage : Stage) (outcome : Outcome) (lines : List Line)
+      → new ≡ record { world = record stage.world { turns = stage.turns }; deck = stage.deck }
+      → lines ≡ stage.lines → after.faults ≡ seen.faults
+      → IfSome (option_map (λ judged. record {
+        world = inside old.world;
+        deck = old.deck;
+        lines = first;
+        pages = unit_pages judged;
+        counted = counted_in seen;
+      }) contents)
+      (λ before. IsEnd (machine_run machine viewing old.world.turns before) outcome stage.turns
+      (option_map (λ judged. record {
+        world = stage.world;
+        deck = stage.deck;
+        lines = stage.lines;
+        pages = unit_pages judged;
+        counted = counted_in after;
+      }) here))
+      → IfOver contents old (λ pages. CameTo pages (run_of machine first pages old.world) seen after
+      new outcome lines)
+  came_by None here is same new stage outcome lines new_is lines_is steady so = tt
+  came_by (Some judged) here is same new stage outcome lines new_is lines_is steady so = λ over.
+      let pages = unit_pages judged in
+      let now : View = record {
+        world = stage.world;
+        deck = stage.deck;
+        lines = stage.lines;
+        pages = pages;
+        counted = counted_in after;
+      } in
+      came_to pages over new stage outcome lines now new_is lines_is steady refl
+      (subst (λ (o : Option JudgedPages).
+      IsEnd (machine_run machine viewing old.world.turns (view pages over)) outcome stage.turns
+      (option_map (λ (j : JudgedPages). record {
+        world = stage.world;
+        deck = stage.deck;
+        lines = stage.lines;
+        pages = unit_pages j;
+        counted = counted_in after;
+      }) o)) (same ∙ is) so)
+
+  missed_told : (contents : Option JudgedPages) → Stays seen after → Rose seen.faults after.faults
+      → IfSome (option_map (λ judged. record {
+        world = inside old.world;
+        deck = old.deck;
+        lines = first;
+        pages = unit_pages judged;
+        counted = counted_in seen;
+      }) contents)
+      (λ before. Fetches (fetched_in before) (count_of after.fetches)
+      (fetched_in (machine_run machine viewing old.world.turns before).state))
+      → IfOver contents old
+      (λ pages. Missed (run_of machine first pages old.world).state.asked seen after)
+  missed_told None stays rose so = tt
+  missed_told (Some judged) stays rose so =
+      λ over. missed_at (unit_pages judged) over stays rose so
+
+  -- what is known of the machine that ran
+  pub runs_ok : (new : Browser) (stage : Stage) (outcome : Outcome) (lines : List Line)
+      (begun : Stage) → begun ≡ begins
+      → new ≡ record { world = record stage.world { turns = stage.turns }; deck = stage.deck }
+      → lines ≡ stage.lines → Stays seen after → after.faults ≡ seen.faults
+      → IfSome (told begun seen) (λ before.
+      IsEnd (machine_run machine viewing begun.turns before) outcome stage.turns (told stage after))
+      → KeepsLimits machine.limits outcome → stage.turns ≤ begun.turns
+      → RunsTo machine first seen after old new (Ok (outcome, lines))
+  runs_ok new stage outcome lines begun begun_is new_is lines_is stays steady so keeps fewer =
+      record {
+        came = came_by seen.contents after.contents refl stays.contents new stage outcome lines
+            new_is lines_is steady
+            (subst (λ (s : Stage). IfSome (told s seen) (λ before.
+            IsEnd (machine_run machine viewing s.turns before) outcome stage.turns
+            (told stage after))) begun_is so);
+        steady = steady;
+        missed = λ failed. absurd (cc);
+        rose = λ failed. absurd (cc);
+        stays = stays;
+        turns = omega (
+          arith,
+          fewer,
+          ap (λ (s : Stage). s.turns) begun_is,
+          ap (λ (b : Browser). b.world.turns) new_is,
+        );
+        limits = keeps;
+      }
+
+  store_of : (err : RunErr) → ◌≡◌ {A = Result (Outcome × List Line) RunErr} (Err err) (Err Store)
+      → err ≡ Store
+  store_of err is = cc
+
+  pub runs_err : (new : Browser) (err : RunErr) (begun : Stage) → begun ≡ begins
+      → Stays seen after → (err ≡ Store → Rose seen.faults after.faults)
+      → (err ≡ Store → IfSome (told begun seen) (λ before.
+      Fetches (fetched_in before) (count_of after.fetches)
+      (fetched_in (machine_run machine viewing begun.turns before).state)))
+      → RunsTo machine first seen after old new (Err err)
+  runs_err new err begun begun_is stays rose so = record {
+    came = tt;
+    steady = tt;
+    missed = λ failed.
+        let store = store_of err failed in
+        missed_told seen.contents stays (rose store)
+        (subst (λ (s : Stage). IfSome (told s seen) (λ before.
+        Fetches (fetched_in before) (count_of after.fetches)
+        (fetched_in (machine_run machine viewing s.turns before).state))) begun_is (so store));
+    rose = λ failed. rose (store_of err failed);
+    stays = stays;
+    turns = tt;
+    limits = tt;
+  }
+
+-- ---- what follows its end
+
+module _ (machine : Stack) (base : Url) (first : List Line) (seen after : Seen) (old mid new : Browser)
+    (before line shown : List Line) (outcome : Outcome) (more : List Line) (went : Went)
+    (added : line ≡ before ++ more)
+    (moves : Moves (end_at base outcome (place_held mid) mid.world) (λ shelf. IsOver shelf mid) mid
+    new line shown (next_in went))
+    (asks : waits_in went ≡ waits_by base outcome) (keeps : KeepsLimits machine.limits outcome)
+  where
+    goes_to_end : (pages : Pages)
+        → CameTo pages (run_of machine first pages old.world) seen after mid outcome more
+        → Goes pages (λ keys. run_with machine base first pages keys old.world) seen after new before
+        shown went
+    goes_to_end pages came =
+        let shelf = shelf_of pages in
+        let end = run_of machine first pages old.world in
+        let step = in_world (record end.state.world { turns = end.turns }) end.state in
+        let tail = end_at base outcome (place_held mid) mid.world in
+        let did = after_step step (once_before step.keys tail) in
+        let tail_is : end_at base outcome (place_now shelf step.world) step.world ≡ tail =
+        ap (λ (w : World). end_at base outcome (place_now shelf w) w) (sym came.world)
+        ∙ ap (λ (p : Option Place). end_at base outcome p mid.world) (held_now shelf mid came.over) in
+        let half : half_by machine.limits shelf base end.outcome end.turns end.state
+        ≡ record { once = did; waiting = waits_by base outcome } =
+        ap (λ (o : Meant). half_by machine.limits shelf base o end.turns end.state)
+        (sym came.outcome_is)
+        ∙ half_is machine.limits shelf base outcome end.turns end.state keeps
+        ∙ ap (λ (o : Once). record {
+          once = after_step step (once_before step.keys o);
+          waiting = waits_by base outcome;
+        }) tail_is in
+        record {
+          did = did;
+          world = moves.world;
+          lines = moves.lines
+              ∙ ap (λ (l : List Line). l ++ tail.step.lines)
+              (added ∙ ap (λ (l : List Line). before ++ l) came.lines_are)
+              ∙ append_assoc before end.state.lines tail.step.lines;
+          leads = moves.leads;
+          closed = ap₂ (λ (a b : Bool). a || b) came.closed moves.closed;
+          over = moves.over shelf came.over;
+          asks = subst (λ (a : List Question). Asks a seen after)
+              (sym (ap (λ (a : List Question). end.state.asked ++ a) moves.asked
+              ∙ append-nil end.state.asked)) came.asks;
+          on = λ keys.
+              starts pages base machine.limits machine.frames old.world.turns
+              (record { world = inside old.world; lines = first }) keys refl
+              ∙ ap (λ (h : Half). once_of pages h keys) half
+              ∙ ap (λ (o : Option Waits). once_by pages did o keys) (sym asks);
+        }
+
+-- out of memory after it
+pub ended_ok : (machine : Stack) (base : Url) (first : List Line) (seen after : Seen)
+    (old mid new : Browser) (before line shown : List Line) (outcome : Outcome) (more : List Line)
+    (went : Went) → line ≡ before ++ more
+    → Moves (end_at base outcome (place_held mid) mid.world) (λ shelf. IsOver shelf mid) mid new line
+    shown (next_in went) → waits_in went ≡ waits_by base outcome
+    → RunsTo machine first seen after old mid (Ok (outcome, more))
+    → Takes (run_with machine base first) seen after old new before shown (Ok went)
+ended_ok machine base first seen after old mid new before line shown outcome more went added moves
+    asks runs = record {
+      follows = over_map seen.contents old old (λ pages over. over)
+          (λ pages over came. goes_to_end machine base first seen after old mid new before line shown
+          outcome more went added moves asks runs.limits pages came)
+          runs.came;
+      steady = runs.steady;
+      missed = λ failed. absurd (cc);
+      rose = λ failed. absurd (cc);
+      stays = runs.stays;
+      turns = omega (arith, runs.turns, moves.turns);
+    }
+
+outcome_err : (err : RunErr) → ◌≡◌ {A = Result Went RunErr} (Err err) (Err Store)
+    → ◌≡◌ {A = Result (Outcome × List Line) RunErr} (Err err) (Err Store)
+outcome_err err is = cc
+
+-- what is asked for at the end of a script
+done_asks : (shelf : Shelf) (base : Url) (step : Step) (pending : Option Task)
+    → (rest : List Question)
+    × ((end_done shelf base pending step).step.asked ≡ step.asked ++ rest)
+done_asks shelf base step None = (_, refl)
+done_asks shelf base step (Some task) = ([], sym (append-nil step.asked))
+
+half_asks : (limits : Limits) (shelf : Shelf) (base : Url) (outcome : Meant) (turns : ℕ)
+    (state : Step) → (rest : List Question)
+    × ((half_by limits shelf base outcome turns state).once.step.asked ≡ state.asked ++ rest)
+half_asks limits shelf base (value v) turns state =
+    done_asks shelf base (in_world (record state.world { turns = turns }) state) state.world.pending
+half_asks limits shelf base (exit v) turns state =
+    done_asks shelf base (in_world (record state.world { turns = turns }) state) state.world.pending
+half_asks limits shelf base (fatal why) turns state = (_, refl)
+half_asks limits shelf base (waits dialog frames) turns state = ([], sym (append-nil state.asked))
+half_asks limits shelf base stuck turns state =
+    done_asks shelf base (in_world (record state.world { turns = turns }) state) state.world.pending
+
+-- with keys
+once_asks : (pages : Pages) (once : Once) (o : Option Waits) (keys : List Key)
+    → (rest : List Question) × ((once_by pages once o keys).step.asked ≡ once.step.asked ++ rest)
+once_asks pages once None keys = ([], sym (append-nil once.step.asked))
+once_asks pages once (Some one) keys = (_, refl)
+
+-- what the run asked for is what the definition's navigation asks for first
+run_asks : (machine : Stack) (base : Url) (first : List Line) (pages : Pages) (old : Browser)
+    → (rest : List Question) × ((run_with machine base first pages [] old.world).step.asked
+    ≡ (run_of machine first pages old.world).state.asked ++ rest)
+run_asks machine base first pages old =
+    let end = run_of machine first pages old.world in
+    let half = half_of machine.limits (shelf_of pages) base end in
+    let one = half_asks machine.limits (shelf_of pages) base end.outcome end.turns end.state in
+    let other = once_asks pages half.once half.waiting [] in (
+      one.0 ++ other.0,
+      ap (λ (o : Once). o.step.asked)
+          (starts pages base machine.limits machine.frames old.world.turns
+          (record { world = inside old.world; lines = first }) [] refl)
+          ∙ other.1 ∙ ap (λ (a : List Question). a ++ other.0) one.1
+          ∙ append_assoc end.state.asked one.0 other.0,
+    )
+
+pub ran_err : (machine : Stack) (base : Url) (first : List Line) (seen after : Seen)
+    (old new : Browser) (before shown : List Line) (err : RunErr)
+    → RunsTo machine first seen after old new (Err err)
+    → Takes (run_with machine base first) seen after old new before shown (Err err)
+ran_err machine base first seen after old new start shown err runs = record {
+  follows = tt;
+  steady = tt;
+  missed = λ failed. over_map seen.contents old old (λ pages over. over)
+      (λ pages over missed.
+      let rest = run_asks machine base first pages old in
+      subst (λ (a : List Question). Missed a seen after) (sym rest.1)
+      (Missed-more (run_of machine first pages old.world).state.asked rest.0 seen after missed))
+      (runs.missed (outcome_err err failed));
+  rose = λ failed. runs.rose (outcome_err err failed);
+  stays = runs.stays;
+  turns = tt;
+}

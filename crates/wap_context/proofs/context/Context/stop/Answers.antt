@@ -1,0 +1,29 @@
+use Rattle.std.proofs.Common.{ap, refl, []}
+use Rattle.wap_site.proofs.Asking.{Stays-same}
+use Rattle.wap_context.specs.Acting.{stop}
+use Rattle.wap_context.specs.Pausing.{Paused}
+use Rattle.wap_context.proofs.Beginning.{stop_takes}
+use Rattle.wap_context.proofs.Calling.{stop_ok}
+use Rattle.wap_context.proofs.Pursuing.{acts}
+use Rattle.wap_context.proofs.Passing.{pursues_rejected}
+use Rattle.wap_context.proofs.context.Context.stop.Goals as goal
+
+pub returns : goal.returns
+returns g c =
+    let seen = g.P.Pages.seen c.args.pages.now in
+    stop_ok c.args.waiting seen seen (g.P.Pages.seen c.follow.new.pages) c.args.self.now
+    c.end_script.new.self c.follow.new.self c.new-lines.result c.end_script.new.lines
+    c.in_ok-went.went c.follow.result c.new-lines.ensures
+    (stop_takes seen c.args.self.now c.end_script.new.self c.new-lines.result
+    c.end_script.new.lines c.args.waiting.base c.waiting.inside.base c.in_ok-went.went
+    (ap (λ (p : Paused). p.base) c.waiting.view_is) c.in_ok-went.ensures.moves
+    c.in_ok-went.ensures.asks)
+    c.follow.ensures
+
+pub returns-in_err-went : goal.returns-in_err-went
+returns-in_err-went g c =
+    let seen = g.P.Pages.seen c.args.pages.now in
+    acts (stop c.args.waiting) seen seen c.args.self.now c.end_script.new.self []
+    c.from_residual.result refl
+    (pursues_rejected (stop c.args.waiting) seen seen c.args.self.now c.end_script.new.self []
+    c.from_residual.result (Stays-same seen) c.from_residual.ensures.0 c.from_residual.ensures.1)

@@ -1,0 +1,23 @@
+-- The site of judged pages, whose scripts are units and are started by the calls in fragments of
+-- URLs (WAP-193, section 8.3). This project's own.
+use Rattle.std.specs.Prelude.{ℕ, List, Option, IfSome}
+use Rattle.std.specs.Option.{option_map}
+use Rattle.wap_invocation.specs.Reading.{call_of}
+use Rattle.wap_site.specs.Pages.{Pages as JudgedPages}
+use Rattle.wap_world.specs.Sites.{Call, Site}
+use Rattle.wap_scripting.specs.UnitSites.{Pages, shelf_of, unit_pages, units_site}
+use Rattle.wap_context.specs.Browsers.{Browser, IsOver}
+
+-- what a fragment calls
+abbrev pub fragment_call : List ℕ → Option Call
+fragment_call fragment = option_map
+    (λ one. record { function = one.function; arguments = one.arguments }) (call_of fragment)
+
+-- the site of these pages
+abbrev pub site_of : Pages → Site
+site_of pages = units_site fragment_call pages
+
+-- a fact of judged pages, where they are known and have the deck at hand
+abbrev pub IfOver : Option JudgedPages → Browser → (Pages → Type 0) → Type 0
+IfOver contents browser Fact =
+    IfSome (option_map unit_pages contents) (λ pages. IsOver (shelf_of pages) browser → Fact pages)

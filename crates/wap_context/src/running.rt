@@ -1,0 +1,171 @@
+//! Scripts that run, and what follows their end (WAP-193, section 12).
+ghost use Rattle.std.specs.Prelude.{◌≡◌, None, Some, IfOk, OnOk};
+ghost use Rattle.std.specs.Option.{option_map};
+ghost use Rattle.wap_base.specs.Limits.{AreInRange};
+ghost use Rattle.wap_world.specs.Steps.{then_task};
+ghost use Rattle.wap_world.specs.Timers.{settled_timer};
+ghost use Rattle.wap_context.specs.Browsers.{IsOver, place_held};
+ghost use Rattle.wap_context.specs.inside.Moving.{Moves, Takes, next_in, waits_in};
+ghost use Rattle.wap_context.specs.inside.Starting.{RunsTo, run_with, rest_at, done_at, failed_at};
+ghost use Rattle.wap_context.specs.inside.Starting.{is_expired, end_at, waits_by};
+
+use crate::context::Context;
+use crate::script_lines::{add_all, add_script_line};
+use crate::waiting::{Waiting, Went, went_to};
+use std::alloc::Global;
+use std::mem::replace;
+use wap_base::{Limits, NoMemory, Rows, RunErr, Text};
+use wap_cardrules::{Event, Task};
+use wap_execution::Fatal;
+use wap_host::Running;
+use wap_machine::{Machine, Outcome};
+use wap_site::Pages;
+use wap_state::State;
+use wap_url::Url;
+use wap_world::Timer;
+
+/// What a timer is before the navigation that a script asked for.
+fn settled_timer(timer: Timer) -> Timer
+    ensures { result ≡ settled_timer timer }
+{
+    match timer {
+        Timer::Expired => Timer::Off,
+        Timer::NotStarted | Timer::Running(_) | Timer::Off => timer,
+    }
+}
+
+/// Whether a timer ran out while a script waited.
+fn is_expired(timer: Timer) -> bool
+    ensures { result ≡ is_expired timer }
+{
+    match timer {
+        Timer::Expired => true,
+        Timer::NotStarted | Timer::Running(_) | Timer::Off => false,
+    }
+}
+
+impl Context {
+    /// The limits of the run.
+    pub(crate) fn limits(&self) -> Limits
+        ensures value { result ≡ self.now.world.limits }
+        ensures range { AreInRange result }
+    {
+        self.state.keep_limits();
+        self.state.limits
+    }
+
+    /// Lends a machine the browser until it ends or asks its user, with the lines of its run.
+    fn run<P: Pages>(
+        &mut self,
+        alloc: Global,
+        pages: &mut P,
+        machine: Machine,
+        first: Rows<Text>,
+    ) -> Result<(Outcome, Rows<Text>), RunErr>
+        ensures { RunsTo machine first (P.seen pages.old) (P.seen pages.new) self.old self.new
+            result }
+    {
+        let limits = self.limits();
+        let state = replace(&mut self.state, State::new(alloc, 0, limits));
+        let deck = replace(&mut self.deck, None);
+        let mut host = Running::new(alloc, state, deck, first);
+        let outcome = machine.run(&mut host, pages)?;
+        let (state, deck, lines) = host.into_parts();
+        self.state = state;
+        self.deck = deck;
+        Ok((outcome, lines))
+    }
+
+    /// No navigation is done: where the timer ran out meanwhile, its task is next, else the card is
+    /// shown.
+    fn rest(&mut self, alloc: Global, lines: &mut Rows<Text>) -> Result<Option<Task>, NoMemory>
+        ensures { IfOk result (λ next.
+            Moves (rest_at self.old.world.timer (place_held self.old) self.old.world)
+            (λ shelf. IsOver shelf self.old) self.old self.new lines.old lines.new
+            (option_map then_task next)) }
+    {
+        if is_expired(self.state.timer) {
+            self.state.timer = Timer::Off;
+            return self.begin_event(alloc, Event::Timer, lines);
+        }
+        self.add_show(alloc, lines)?;
+        Ok(None)
+    }
+
+    /// A script came to its end: what it asked for is next, else the card is shown.
+    fn end_done(
+        &mut self,
+        alloc: Global,
+        base: Url,
+        lines: &mut Rows<Text>,
+    ) -> Result<Went, NoMemory>
+        ensures moves { IfOk result (λ went.
+            Moves (done_at base self.old.world.pending (place_held self.old) self.old.world)
+            (λ shelf. IsOver shelf self.old) self.old self.new lines.old lines.new (next_in went)) }
+        ensures none { IfOk result (λ went. waits_in went ≡ None) }
+    {
+        match replace(&mut self.state.pending, None) {
+            Some(task) => {
+                self.state.timer = settled_timer(self.state.timer);
+                Ok(Went::Leads(task, Some(base)))
+            }
+            None => Ok(went_to(self.rest(alloc, lines)?)),
+        }
+    }
+
+    /// A script ended abnormally: its line is added, and what it asked for is dropped.
+    fn end_failed(
+        &mut self,
+        alloc: Global,
+        why: &Fatal,
+        lines: &mut Rows<Text>,
+    ) -> Result<Went, NoMemory>
+        ensures moves { IfOk result (λ went.
+            Moves (failed_at why.now (place_held self.old) self.old.world)
+            (λ shelf. IsOver shelf self.old) self.old self.new lines.old lines.new (next_in went)) }
+        ensures none { IfOk result (λ went. waits_in went ≡ None) }
+    {
+        self.state.pending = None;
+        add_script_line(alloc, why, lines)?;
+        Ok(went_to(self.rest(alloc, lines)?))
+    }
+
+    /// A script ended, or asks its user.
+    pub(crate) fn end_script(
+        &mut self,
+        alloc: Global,
+        base: Url,
+        outcome: Outcome,
+        lines: &mut Rows<Text>,
+    ) -> Result<Went, NoMemory>
+        ensures moves { IfOk result (λ went.
+            Moves (end_at base outcome (place_held self.old) self.old.world)
+            (λ shelf. IsOver shelf self.old) self.old self.new lines.old lines.new (next_in went)) }
+        ensures asks { IfOk result (λ went. waits_in went ≡ waits_by base outcome) }
+    {
+        match outcome {
+            Outcome::Done(_) => self.end_done(alloc, base, lines),
+            Outcome::Exited(_) => self.end_done(alloc, base, lines),
+            Outcome::Fatal(why) => self.end_failed(alloc, &why, lines),
+            Outcome::Asks(dialog, machine) => Ok(Went::Asks(dialog, Waiting { machine, base })),
+        }
+    }
+
+    /// Goes on with the frames of a script, which was started by a URL, with the lines of its run.
+    pub(crate) fn go_on<P: Pages>(
+        &mut self,
+        alloc: Global,
+        pages: &mut P,
+        machine: Machine,
+        base: Url,
+        first: Rows<Text>,
+        lines: &mut Rows<Text>,
+    ) -> Result<Went, RunErr>
+        ensures { Takes (run_with machine base first)
+            (P.seen pages.old) (P.seen pages.new) self.old self.new lines.old lines.new result }
+    {
+        let (outcome, more) = self.run(alloc, pages, machine, first)?;
+        add_all(more, lines)?;
+        Ok(self.end_script(alloc, base, outcome, lines)?)
+    }
+}

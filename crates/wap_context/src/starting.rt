@@ -1,0 +1,228 @@
+//! Starting a script (WAP-193, section 8.3).
+ghost use Rattle.std.specs.Prelude.{◌≡◌, IfOk, OnOk, ◌≤◌};
+ghost use Rattle.std.specs.Option.{option_and_then};
+ghost use Rattle.wap_url.specs.Printing.{without_fragment};
+ghost use Rattle.wap_world.specs.Starting.{is_too_long, not_started};
+ghost use Rattle.wap_frames.specs.Standing.{CanEnter};
+ghost use Rattle.wap_frames.specs.Seen.{function_in};
+ghost use Rattle.std.specs.List.{list_any};
+ghost use Rattle.wap_invocation.specs.Reading.{call_of};
+ghost use Rattle.wap_context.specs.Browsers.{IsOver, place_held};
+ghost use Rattle.wap_context.specs.inside.Starting.{start_of, start_found, CanStart, begun_with};
+ghost use Rattle.wap_context.specs.inside.Starting.{started_with, allowed_with, script_with};
+ghost use Rattle.wap_context.specs.inside.Starting.{not_started_at};
+ghost use Rattle.wap_context.specs.inside.Moving.{Moves, Takes, next_in, waits_in};
+ghost use Rattle.wap_scripting.specs.Units.{external_in};
+ghost use Rattle.wap_scripting.specs.UnitSites.{shelf_of};
+ghost use Rattle.std.specs.Prelude.{None};
+
+use crate::context::Context;
+use crate::script_lines::add_script_line;
+use crate::waiting::Went;
+use std::alloc::Global;
+use wap_base::{NoMemory, Rows, RunErr, Text};
+use wap_execution::Fatal;
+use wap_host::{entrance_in, external_in};
+use wap_invocation::{Invocation, read_call};
+use wap_machine::Machine;
+use wap_requests::may_enter;
+use wap_site::{Pages, Shared};
+use wap_url::Url;
+use wap_value::Value;
+use wap_verify::Verified;
+
+/// What a URL to a script starts.
+#[derive(Drop)]
+pub enum Start {
+    /// Nothing.
+    Not(Fatal),
+    /// The function of an index, with arguments.
+    Runs(u8, Rows<Value>),
+}
+
+/// Whether a value is a String longer than the limit.
+fn is_too_long(value: &Value, string: u32) -> bool
+    ensures { result ≡ is_too_long string value.now }
+{
+    match value {
+        Value::Str(text) => text.len() > string as usize,
+        Value::Int(_) | Value::Bool(_) | Value::Invalid => false,
+    }
+}
+
+/// Whether one of some values is.
+fn is_one_too_long(values: &[Value], string: u32) -> bool
+    ensures { result ≡ list_any (is_too_long string) values.now }
+{
+    values.iter().any(|value| is_too_long(value, string))
+}
+
+/// What the fragment of a URL calls.
+fn call_in(alloc: Global, url: &Url) -> Result<Option<Invocation>, NoMemory>
+    ensures { IfOk result (λ call. call ≡ option_and_then call_of url.now.fragment) }
+{
+    match &url.fragment {
+        Some(fragment) => read_call(alloc, fragment),
+        None => Ok(None),
+    }
+}
+
+/// What a call of a unit starts.
+fn start_with(unit: &Verified, call: Invocation, string: u32) -> Start
+    ensures { result ≡ start_found call.arguments string (external_in unit.now call.function) }
+{
+    let Invocation {
+        function,
+        arguments,
+    } = call;
+    match external_in(unit, &function) {
+        Some(one) => {
+            if one.arguments as usize != arguments.len() {
+                Start::Not(Fatal::Arguments)
+            } else if is_one_too_long(arguments.as_slice(), string) {
+                Start::Not(Fatal::TooLong)
+            } else {
+                Start::Runs(one.index, arguments)
+            }
+        }
+        None => Start::Not(Fatal::NoFunction),
+    }
+}
+
+/// What a URL to a script starts.
+fn start_of(alloc: Global, unit: &Verified, string: u32, url: &Url) -> Result<Start, NoMemory>
+    ensures { IfOk result (λ start. start ≡ start_of unit.now string url.now) }
+{
+    match call_in(alloc, url)? {
+        Some(call) => Ok(start_with(unit, call, string)),
+        None => Ok(Start::Not(Fatal::NoFunction)),
+    }
+}
+
+/// A copy of a URL, if there is one.
+fn copy_of(alloc: Global, url: &Option<Url>) -> Result<Option<Url>, NoMemory>
+    ensures { IfOk result (λ copy. copy ≡ url.now) }
+{
+    match url {
+        Some(url) => Ok(Some(url.copy(alloc)?)),
+        None => Ok(None),
+    }
+}
+
+/// A URL without its fragment.
+fn without_fragment(mut url: Url) -> Url
+    ensures { result ≡ without_fragment url }
+{
+    url.fragment = None;
+    url
+}
+
+impl Context {
+    /// A script isn't started: its line is added, and the current card is shown again.
+    fn reject(
+        &mut self,
+        alloc: Global,
+        why: &Fatal,
+        lines: &mut Rows<Text>,
+    ) -> Result<Went, NoMemory>
+        ensures moves { IfOk result (λ went.
+            Moves (not_started_at why.now (place_held self.old) self.old.world)
+            (λ shelf. IsOver shelf self.old) self.old self.new lines.old lines.new (next_in went)) }
+        ensures none { IfOk result (λ went. waits_in went ≡ None) }
+    {
+        add_script_line(alloc, why, lines)?;
+        self.add_show(alloc, lines)?;
+        Ok(Went::Settled)
+    }
+
+    /// No navigation is pending.
+    fn clear_pending(&mut self)
+        ensures { self.new ≡ record self.old {
+          world = record self.old.world { pending = None };
+        } }
+    {
+        self.state.pending = None;
+    }
+
+    /// Starts a function of a unit, with variables set just before.
+    fn begin_script<P: Pages>(
+        &mut self,
+        alloc: Global,
+        pages: &mut P,
+        sets: Rows<(Text, Text)>,
+        caller: &Option<Url>,
+        url: Url,
+        unit: Shared<Verified>,
+        index: u8,
+        arguments: Rows<Value>,
+        lines: &mut Rows<Text>,
+    ) -> Result<Went, RunErr>
+        requires { CanEnter (function_in unit (without_fragment url) caller.now index) arguments }
+        ensures { Takes (begun_with unit sets caller.now url index arguments)
+            (P.seen pages.old) (P.seen pages.new) self.old self.new lines.old lines.new result }
+    {
+        let mut first = Rows::new(alloc);
+        self.set_variables(alloc, sets, &mut first)?;
+        self.clear_pending();
+        let base = without_fragment(url);
+        let limits = self.limits();
+        let machine = Machine::start(
+            alloc,
+            unit,
+            base.copy(alloc)?,
+            copy_of(alloc, caller)?,
+            index,
+            arguments.into_vec(),
+            limits,
+        )?;
+        self.go_on(alloc, pages, machine, base, first, lines)
+    }
+
+    /// Starts what a URL to a script starts.
+    fn start<P: Pages>(
+        &mut self,
+        alloc: Global,
+        pages: &mut P,
+        sets: Rows<(Text, Text)>,
+        caller: &Option<Url>,
+        url: Url,
+        unit: Shared<Verified>,
+        lines: &mut Rows<Text>,
+    ) -> Result<Went, RunErr>
+        ensures { Takes (λ pages keys world. started_with unit sets caller.now url
+            (start_of unit world.limits.string url) pages keys world)
+            (P.seen pages.old) (P.seen pages.new) self.old self.new lines.old lines.new result }
+    {
+        let string = self.limits().string;
+        match start_of(alloc, &unit, string, &url)? {
+            Start::Not(why) => Ok(self.reject(alloc, &why, lines)?),
+            Start::Runs(index, arguments) => {
+                self.begin_script(
+                    alloc, pages, sets, caller, url, unit, index, arguments, lines,
+                )
+            }
+        }
+    }
+
+    /// Starts a script, if it may be called by the caller.
+    pub(crate) fn try_script<P: Pages>(
+        &mut self,
+        alloc: Global,
+        pages: &mut P,
+        sets: Rows<(Text, Text)>,
+        caller: &Option<Url>,
+        url: Url,
+        unit: Shared<Verified>,
+        lines: &mut Rows<Text>,
+    ) -> Result<Went, RunErr>
+        ensures { Takes (script_with unit sets caller.now url)
+            (P.seen pages.old) (P.seen pages.new) self.old self.new lines.old lines.new result }
+    {
+        let entrance = entrance_in(alloc, &unit)?;
+        if may_enter(alloc, &url, entrance, caller)? {
+            self.start(alloc, pages, sets, caller, url, unit, lines)
+        } else {
+            Ok(self.reject(alloc, &Fatal::Denied, lines)?)
+        }
+    }
+}
