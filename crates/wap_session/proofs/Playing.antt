@@ -1,99 +1,70 @@
 -- Keys that are played one after the other.
 use Rattle.std.proofs.Common.{◌≡◌, ℕ, ◌+◌, ◌<◌, length, get_or, take, drop, List, []}
-use Rattle.std.proofs.Common.{◌∷◌, ◌++◌, true, false, Option, Some, None, Result, Ok}
-use Rattle.std.proofs.Common.{Err, map, refl, sym, ap, subst, ◌∙◌}
+use Rattle.std.proofs.Common.{◌∷◌, ◌++◌, true, false, Option, Some, None, Ok}
+use Rattle.std.proofs.Common.{Err, refl, sym, ap, subst, ◌∙◌, append_assoc}
 use Rattle.std.proofs.lemmas.List.{append-nil, map-append, take-append-drop, take_more, drop_more}
 use Rattle.wap_base.specs.Count.{Rose}
 use Rattle.wap_input.specs.declared.key.Key.{Key}
-use Rattle.wap_site.specs.Pages.{Pages}
-use Rattle.wap_world.specs.Decks.{decks_site}
+use Rattle.wap_site.specs.Pages.{Pages as JudgedPages}
 use Rattle.wap_site.specs.Misses.{Asked}
-use Rattle.wap_site.specs.Asking.{Seen, Asks, Fails}
-use Rattle.wap_site.proofs.Asking.{Asks-nil, Asks-then, Asks-fails}
-use Rattle.wap_site.proofs.Asking.{Fails-more, Stays-same, Stays-then}
-use Rattle.wap_world.specs.World.{World}
+use Rattle.wap_site.specs.Asking.{Seen, Stays, Asks}
+use Rattle.wap_site.proofs.Asking.{Asks-nil, Asks-then, Stays-same, Stays-then}
 use Rattle.wap_world.specs.Lines.{shown_line}
-use Rattle.wap_world.specs.Steps.{Step, followed}
-use Rattle.wap_world.specs.Keys.{react}
-use Rattle.wap_world.specs.Sessions.{played, shown_by}
-use Rattle.wap_world.proofs.Laws.{one_first, plays_in_parts}
-use Rattle.wap_context.specs.Browsers.{Browser, IfOver}
+use Rattle.std.specs.Prelude.{is_some}
+use Rattle.wap_world.specs.Steps.{Step, joined, quiet, still}
+use Rattle.wap_world.specs.Sessions.{shown_by}
+use Rattle.wap_world.proofs.Joining.{joined_assoc}
+use Rattle.wap_scripting.specs.UnitSites.{Pages, unit_pages}
+use Rattle.wap_context.specs.Missing.{Missed}
+use Rattle.wap_context.specs.Sites.{IfOver}
+use Rattle.wap_context.proofs.Missing.{Asks-missed}
 use Rattle.wap_session.specs.declared.fault.SessionFault.{SessionFault}
 use Rattle.wap_session.specs.declared.fault.SessionFault.TheVariants.{NoMemory}
-use Rattle.wap_session.specs.Feeding.{State, Leads, Plays}
-use Rattle.wap_session.proofs.Turning.{Fed}
-
-abbrev pub Played : List Key → Seen → Seen → State → State → Result (List (List ℕ)) SessionFault
-    → Type 0
-Played keys before after old new result = Plays (λ site world. played site keys world) before after
-    old new result
-
--- ---- steps
-
--- a step, and then another
-record Both (all first second : Step) : Type 0 where
-  world : all.world ≡ second.world
-  lines : all.lines ≡ first.lines ++ second.lines
-  asked : all.asked ≡ first.asked ++ second.asked
-
--- some keys, and then one
-both : (pages : Pages) (done : List Key) (one : Key) (world : World)
-    → let site = decks_site pages in
-    Both (played site (done ++ one ∷ []) world) (played site done world)
-    (react site one [] (played site done world).world)
-unfolding played
-both pages done one world =
-    let site = decks_site pages in
-    let first = played site done world in
-    let second = react site one [] first.world in
-    let all : played site (done ++ one ∷ []) world
-    ≡ followed first (λ left w. followed second (λ left v. played site [] v)) =
-    plays_in_parts pages done (one ∷ []) world
-    ∙ ap (λ (step : Step). followed first (λ left w. step))
-    (one_first pages one [] first.world) in
-    record {
-      world = ap (λ (step : Step). step.world) all;
-      lines = ap (λ (step : Step). step.lines) all
-          ∙ ap (λ (last : List (List ℕ)). first.lines ++ last) (append-nil second.lines);
-      asked = ap (λ (step : Step). step.asked) all
-          ∙ ap (λ (last : List Asked). first.asked ++ last) (append-nil second.asked);
-    }
-
--- some keys, one, and more
-all_asked : (pages : Pages) (done rest : List Key) (one : Key) (world : World)
-    → let site = decks_site pages in
-    let first = played site done world in
-    let second = react site one [] first.world in
-    (played site (done ++ one ∷ rest) world).asked
-    ≡ first.asked ++ (second.asked ++ (played site rest second.world).asked)
-all_asked pages done rest one world =
-    let site = decks_site pages in
-    let first = played site done world in
-    ap (λ (step : Step). step.asked) (plays_in_parts pages done (one ∷ rest) world)
-    ∙ ap (λ (step : Step). first.asked ++ step.asked) (one_first pages one rest first.world)
+use Rattle.wap_session.specs.Feeding.{State, step_of, left_open, PlaysOn, Leads, Plays}
+use Rattle.wap_session.specs.Feeding.{MissedAt}
+use Rattle.wap_session.proofs.Alone.{none_played}
 
 -- ---- none
 
-nothing : (browser : Browser) (contents : Option Pages)
-    → IfOver contents browser (λ site. Leads site.shelf (played site [] browser.world) browser [])
-unfolding played
-nothing browser None = tt
-nothing browser (Some pages) = λ is. record { leads_on = refl; tells = refl; over = is }
+-- nothing is shown or asked for
+step_none : (pages : Pages) (state : State) → step_of pages [] state
+    ≡ record (quiet [] (still state.browser.world)) { is_open = is_some state.waiting }
+step_none pages state = none_played pages state.waiting state.browser.world
 
-nothing_asked : (seen : Seen) (browser : Browser) (contents : Option Pages)
-    → IfOver contents browser (λ site. Asks (played site [] browser.world).asked seen seen)
-unfolding played
-nothing_asked seen browser None = tt
-nothing_asked seen browser (Some pages) = λ is. Asks-nil seen
+-- and further keys go on from there
+pub on_none : (pages : Pages) (state : State) → PlaysOn [] pages state state
+on_none pages state others =
+    sym (ap (λ (s : Step). joined (left_open s) (step_of pages others state))
+    (step_none pages state))
+
+leads_none : (state : State) (contents : Option JudgedPages)
+    → IfOver contents state.browser (λ pages. Leads [] pages state state [])
+leads_none state None = tt
+leads_none state (Some judged) = λ is.
+    let pages = unit_pages judged in
+    let none = step_none pages state in
+    record {
+      world = sym (ap (λ (s : Step). s.world) none);
+      over = is;
+      asks_user = sym (ap (λ (s : Step). s.is_open) none);
+      tells = sym (ap (λ (s : Step). shown_by s) none);
+      on = on_none pages state;
+    }
+
+asks_none : (seen : Seen) (state : State) (contents : Option JudgedPages)
+    → IfOver contents state.browser (λ pages. Asks (step_of pages [] state).asked seen seen)
+asks_none seen state None = tt
+asks_none seen state (Some judged) = λ is.
+    subst (λ (asked : List Asked). Asks asked seen seen)
+    (sym (ap (λ (s : Step). s.asked) (step_none (unit_pages judged) state))) (Asks-nil seen)
 
 pub plays_none : (seen : Seen) (state : State) → state.is_over ≡ false
-    → Played [] seen seen state state (Ok [])
+    → Plays [] seen seen state state (Ok [])
 plays_none seen state going = record {
-  leads = nothing state.browser seen.contents;
-  asks = nothing_asked seen state.browser seen.contents;
+  leads = leads_none state seen.contents;
+  asks = asks_none seen state seen.contents;
   steady = refl;
   failed = λ is. absurd cc;
-  missed = λ is. absurd cc;
   ended = λ over. absurd cc;
   goes_on = λ so. tt;
   ready = going;
@@ -103,94 +74,101 @@ plays_none seen state going = record {
 
 -- ---- one more
 
-module _ (done : List Key) (one : Key) (before mid after : Seen) (old now new : Browser)
+-- further keys after some and one more
+pub on_more : (pages : Pages) (done : List Key) (one : Key) (old now new : State)
+    → PlaysOn done pages old now → PlaysOn (one ∷ []) pages now new
+    → PlaysOn (done ++ one ∷ []) pages old new
+on_more pages done one old now new came on others =
+    let first = step_of pages done old in
+    let second = step_of pages (one ∷ []) now in
+    ap (λ (keys : List Key). step_of pages keys old) (append_assoc done (one ∷ []) others)
+    ∙ came (one ∷ others)
+    ∙ ap (joined (left_open first)) (on others)
+    ∙ sym (joined_assoc (left_open first) (left_open second) (step_of pages others new))
+    ∙ sym (ap (λ (s : Step). joined (left_open s) (step_of pages others new)) (came (one ∷ [])))
+
+module _ (done : List Key) (one : Key) (before mid after : Seen) (old now new : State)
     (lines : List (List ℕ)) where
   -- what the keys before came to
-  abbrev Came : Option Pages → Type 0
-  Came contents =
-      IfOver contents old (λ site. Leads site.shelf (played site done old.world) now lines)
+  abbrev Came : Option JudgedPages → Type 0
+  Came contents = IfOver contents old.browser (λ pages. Leads done pages old now lines)
 
-  leads_more : (more : List (List ℕ)) (contents : Option Pages) → Came contents
-      → IfOver contents now (λ site. Leads site.shelf (react site one [] now.world) new more)
-      → IfOver contents old
-      (λ site. Leads site.shelf (played site (done ++ one ∷ []) old.world) new (lines ++ more))
+  -- where they lead with it
+  leads_more : (more : List (List ℕ)) (contents : Option JudgedPages) → Came contents
+      → IfOver contents now.browser (λ pages. Leads (one ∷ []) pages now new more)
+      → IfOver contents old.browser
+      (λ pages. Leads (done ++ one ∷ []) pages old new (lines ++ more))
   leads_more more None so next = tt
-  leads_more more (Some pages) so next = λ is.
-      let site = decks_site pages in
+  leads_more more (Some judged) so next = λ is.
+      let pages = unit_pages judged in
       let came = so is in
       let leads = next came.over in
-      let first = played site done old.world in
-      let second = react site one [] first.world in
-      let plus = both pages done one old.world in
-      let same : react site one [] now.world ≡ second = ap (react site one []) came.leads_on in
+      let first = step_of pages done old in
+      let second = step_of pages (one ∷ []) now in
+      let all = came.on (one ∷ []) in
       record {
-        leads_on = leads.leads_on ∙ ap (λ (step : Step). step.world) same ∙ sym plus.world;
-        tells = ap (λ (front : List (List ℕ)). front ++ more) came.tells
-            ∙ ap (λ (last : List (List ℕ)). shown_by first ++ last)
-            (leads.tells ∙ ap (λ (step : Step). shown_by step) same)
-            ∙ sym (map-append shown_line first.lines second.lines)
-            ∙ ap (map shown_line) (sym plus.lines);
+        world = leads.world ∙ sym (ap (λ (s : Step). s.world) all);
         over = leads.over;
+        asks_user = leads.asks_user ∙ sym (ap (λ (s : Step). s.is_open) all);
+        tells = ap (λ (front : List (List ℕ)). front ++ more) came.tells
+            ∙ ap (λ (last : List (List ℕ)). shown_by first ++ last) leads.tells
+            ∙ sym (map-append shown_line first.lines second.lines)
+            ∙ sym (ap (λ (s : Step). shown_by s) all);
+        on = on_more pages done one old now new came.on leads.on;
       }
 
-  asks_more : (contents : Option Pages) → Came contents
-      → IfOver contents old (λ site. Asks (played site done old.world).asked before mid)
-      → IfOver contents now (λ site. Asks (react site one [] now.world).asked mid after)
-      → IfOver contents old
-      (λ site. Asks (played site (done ++ one ∷ []) old.world).asked before after)
+  -- what was asked for with it
+  asks_more : (contents : Option JudgedPages) → Came contents
+      → IfOver contents old.browser (λ pages. Asks (step_of pages done old).asked before mid)
+      → IfOver contents now.browser (λ pages. Asks (step_of pages (one ∷ []) now).asked mid after)
+      → IfOver contents old.browser
+      (λ pages. Asks (step_of pages (done ++ one ∷ []) old).asked before after)
   asks_more None so asks next = tt
-  asks_more (Some pages) so asks next = λ is.
-      let site = decks_site pages in
+  asks_more (Some judged) so asks next = λ is.
+      let pages = unit_pages judged in
       let came = so is in
-      let first = played site done old.world in
-      let second = react site one [] first.world in
-      let last : Asks second.asked mid after =
-      subst (λ (world : World). Asks (react site one [] world).asked mid after) came.leads_on
-      (next came.over) in
       subst (λ (asked : List Asked). Asks asked before after)
-      (sym (both pages done one old.world).asked)
-      (Asks-then first.asked second.asked before mid after (asks is) last)
+      (sym (ap (λ (s : Step). s.asked) (came.on (one ∷ []))))
+      (Asks-then (step_of pages done old).asked (step_of pages (one ∷ []) now).asked before mid
+      after (asks is) (next came.over))
 
-  fails_then : (rest : List Key) (contents : Option Pages) → Came contents
-      → IfOver contents old (λ site. Asks (played site done old.world).asked before mid)
-      → IfOver contents now (λ site. Fails (react site one [] now.world).asked mid after)
-      → IfOver contents old
-      (λ site. Fails (played site (done ++ one ∷ rest) old.world).asked before after)
-  fails_then rest None so asks next = tt
-  fails_then rest (Some pages) so asks next = λ is.
-      let site = decks_site pages in
+  -- or until the store failed at it
+  pub missed_then : (rest : List Key) (contents : Option JudgedPages) → Stays mid after
+      → Came contents
+      → IfOver contents old.browser (λ pages. Asks (step_of pages done old).asked before mid)
+      → IfOver contents now.browser
+      (λ pages. Missed (step_of pages (one ∷ []) now).asked mid after)
+      → IfOver contents old.browser
+      (λ pages. MissedAt (done ++ one ∷ rest) pages old before after)
+  missed_then rest None stays so asks next = tt
+  missed_then rest (Some judged) stays so asks next = λ is.
+      let pages = unit_pages judged in
       let came = so is in
-      let first = played site done old.world in
-      let second = react site one [] first.world in
-      let others = (played site rest second.world).asked in
-      let last : Fails second.asked mid after =
-      subst (λ (world : World). Fails (react site one [] world).asked mid after) came.leads_on
-      (next came.over) in
-      subst (λ (asked : List Asked). Fails asked before after)
-      (sym (all_asked pages done rest one old.world))
-      (Asks-fails first.asked (second.asked ++ others) before mid after (asks is)
-      (Fails-more second.asked others mid after last))
+      record {
+        first = done ++ one ∷ [];
+        others = rest;
+        split = sym (append_assoc done (one ∷ []) rest);
+        missed = subst (λ (asked : List Asked). Missed asked before after)
+            (sym (ap (λ (s : Step). s.asked) (came.on (one ∷ []))))
+            (Asks-missed (step_of pages done old).asked (step_of pages (one ∷ []) now).asked
+            before mid after stays (asks is) (next came.over));
+      }
 
 pub plays_more : (done : List Key) (one : Key) (before mid after : Seen) (old now new : State)
     (lines more : List (List ℕ))
-    → Played done before mid old now (Ok lines) → Fed one mid after now new (Ok more)
-    → Played (done ++ one ∷ []) before after old new (Ok (lines ++ more))
+    → Plays done before mid old now (Ok lines) → Plays (one ∷ []) mid after now new (Ok more)
+    → Plays (done ++ one ∷ []) before after old new (Ok (lines ++ more))
 plays_more done one before mid after old now new lines more so next =
     let same = so.stays.contents in
     record {
-      leads = leads_more done one before mid after old.browser now.browser new.browser lines more
-          before.contents so.leads
-          (subst (λ (contents : Option Pages). IfOver contents now.browser
-          (λ site. Leads site.shelf (react site one [] now.browser.world) new.browser more)) same
-          next.leads);
-      asks = asks_more done one before mid after old.browser now.browser new.browser lines
-          before.contents so.leads so.asks
-          (subst (λ (contents : Option Pages). IfOver contents now.browser
-          (λ site. Asks (react site one [] now.browser.world).asked mid after)) same
-          next.asks);
+      leads = leads_more done one before mid after old now new lines more before.contents so.leads
+          (subst (λ (contents : Option JudgedPages). IfOver contents now.browser
+          (λ pages. Leads (one ∷ []) pages now new more)) same next.leads);
+      asks = asks_more done one before mid after old now new lines before.contents so.leads so.asks
+          (subst (λ (contents : Option JudgedPages). IfOver contents now.browser
+          (λ pages. Asks (step_of pages (one ∷ []) now).asked mid after)) same next.asks);
       steady = next.steady ∙ so.steady;
       failed = λ is. absurd cc;
-      missed = λ is. absurd cc;
       ended = λ over. let is = (so.ended over).0 in absurd cc;
       goes_on = λ going. tt;
       ready = next.ready;
@@ -200,41 +178,47 @@ plays_more done one before mid after old now new lines more so next =
 
 -- ---- one that fails
 
-pub plays_failing : (done rest : List Key) (one : Key) (before mid after : Seen)
+pub plays_failing : (keys done : List Key) (one : Key) (before mid after : Seen)
     (old now new : State) (lines : List (List ℕ)) (fault : SessionFault)
-    → Played done before mid old now (Ok lines) → Fed one mid after now new (Err fault)
-    → Played (done ++ one ∷ rest) before after old new (Err fault)
-plays_failing done rest one before mid after old now new lines fault so next =
-    let same = so.stays.contents in
-    record {
-      leads = tt;
-      asks = tt;
-      steady = tt;
-      failed = λ is. subst (λ (count : ℕ). Rose count after.faults) so.steady (next.failed is);
-      missed = λ is. fails_then done one before mid after old.browser now.browser new.browser lines
-          rest before.contents so.leads so.asks
-          (subst (λ (contents : Option Pages). IfOver contents now.browser
-          (λ site. Fails (react site one [] now.browser.world).asked mid after)) same
-          (next.missed is));
-      ended = λ over. let is = (so.ended over).0 in absurd cc;
-      goes_on = λ going. next.goes_on so.ready;
-      ready = tt;
-      over = next.over;
-      stays = Stays-then before mid after so.stays next.stays;
-    }
+    → Plays done before mid old now (Ok lines) → Plays (one ∷ []) mid after now new (Err fault)
+    → Plays keys before after old new (Err fault)
+plays_failing keys done one before mid after old now new lines fault so next = record {
+  leads = tt;
+  asks = tt;
+  steady = tt;
+  failed = λ is. subst (λ (count : ℕ). Rose count after.faults) so.steady (next.failed is);
+  ended = λ over. let is = (so.ended over).0 in absurd cc;
+  goes_on = λ going. next.goes_on so.ready;
+  ready = tt;
+  over = next.over;
+  stays = Stays-then before mid after so.stays next.stays;
+}
+
+-- where the store failed at it
+pub missed_failing : (done rest : List Key) (one : Key) (before mid after : Seen)
+    (old now : State) (lines : List (List ℕ)) → Stays mid after
+    → Plays done before mid old now (Ok lines)
+    → IfOver mid.contents now.browser
+    (λ pages. Missed (step_of pages (one ∷ []) now).asked mid after)
+    → IfOver before.contents old.browser
+    (λ pages. MissedAt (done ++ one ∷ rest) pages old before after)
+missed_failing done rest one before mid after old now lines stays so next =
+    missed_then done one before mid after old now now lines rest before.contents stays so.leads
+    so.asks
+    (subst (λ (contents : Option JudgedPages). IfOver contents now.browser
+    (λ pages. Missed (step_of pages (one ∷ []) now).asked mid after)) so.stays.contents next)
 
 -- a key was played, and then memory ran out
 pub plays_wanting : (keys done : List Key) (one : Key) (before mid after : Seen)
     (old now new last : State) (lines more : List (List ℕ))
-    → Played done before mid old now (Ok lines) → Fed one mid after now new (Ok more)
+    → Plays done before mid old now (Ok lines) → Plays (one ∷ []) mid after now new (Ok more)
     → last.is_over ≡ true
-    → Played keys before after old last (Err NoMemory)
+    → Plays keys before after old last (Err NoMemory)
 plays_wanting keys done one before mid after old now new last lines more so next over = record {
   leads = tt;
   asks = tt;
   steady = tt;
   failed = λ is. absurd cc;
-  missed = λ is. absurd cc;
   ended = λ was. let is = (so.ended was).0 in absurd cc;
   goes_on = λ going is. absurd cc;
   ready = tt;
@@ -256,3 +240,13 @@ pub one_more : (keys : List Key) (i : ℕ) (one : Key) → i < length keys → o
     → take (i + 1) keys ≡ take i keys ++ one ∷ []
 one_more keys i one within is =
     take_more keys i one within ∙ ap (λ (key : Key). take i keys ++ key ∷ []) (sym is)
+
+-- ---- where a session stands after keys
+
+-- a dialog waits exactly where they end in one
+pub open_by : (pages : Pages) (keys : List Key) (old new : State) → PlaysOn keys pages old new
+    → (step_of pages keys old).is_open ≡ is_some new.waiting
+open_by pages keys old new on =
+    ap (λ (all : List Key). (step_of pages all old).is_open) (sym (append-nil keys))
+    ∙ ap (λ (s : Step). s.is_open) (on [])
+    ∙ ap (λ (s : Step). s.is_open) (step_none pages new)

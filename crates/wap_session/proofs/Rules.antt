@@ -1,96 +1,141 @@
 -- Calls of a context, and of what is built on one, by their rules.
-use Rattle.std.proofs.Common.{◌≡◌, ℕ, List, Option, Some, None, Result}
-use Rattle.std.proofs.Common.{Ok, Err, sym, ap, subst, ◌∙◌}
-use Rattle.std.specs.Prelude.{IsErrAnd}
+use Rattle.std.proofs.Common.{◌≡◌, ℕ, List, [], ◌∷◌, ◌++◌, Option, Some, None, Result}
+use Rattle.std.proofs.Common.{Ok, Err, refl, sym, ap, subst, ◌∙◌}
+use Rattle.std.specs.Prelude.{IsErrAnd, is_some}
 use Rattle.std.proofs.lemmas.Result.{err_from_is_err_and}
 use Rattle.wap_base.specs.declared.fault.RunErr.{RunErr}
 use Rattle.wap_base.specs.declared.fault.RunErr.TheVariants as run
-use Rattle.wap_site.specs.Pages.{Pages}
-use Rattle.wap_world.specs.Sites.{Site}
-use Rattle.wap_world.specs.Decks.{decks_site}
+use Rattle.wap_input.specs.declared.key.Key.{Key}
+use Rattle.wap_site.specs.Pages.{Pages as JudgedPages}
 use Rattle.wap_site.specs.Misses.{Asked}
-use Rattle.wap_site.specs.Asking.{Seen, Stays, Asks, Fails}
+use Rattle.wap_site.specs.Asking.{Seen, Stays, Asks}
+use Rattle.wap_site.proofs.Asking.{Asks-nil, Stays-same}
+use Rattle.wap_world.specs.declared.refusal.Refusal.TheVariants as refusals
+use Rattle.wap_world.specs.Shelves.{Shelf}
 use Rattle.wap_world.specs.World.{World}
-use Rattle.wap_world.specs.Steps.{Step}
-use Rattle.wap_context.specs.Browsers.{Browser, IsOver, IfOver}
-use Rattle.wap_context.specs.Acting.{Follows, Acts}
-use Rattle.wap_session.specs.inside.Turns.{with_budget}
+use Rattle.wap_world.specs.Lines.{refusal_line}
+use Rattle.wap_world.specs.Steps.{Scene, Step, joined, quiet}
+use Rattle.wap_world.specs.Keys.{ignored}
+use Rattle.wap_world.proofs.Joining.{joined_assoc, joined_nothing}
+use Rattle.wap_scripting.specs.UnitSites.{Pages, shelf_of, unit_pages}
+use Rattle.wap_scripting.specs.Waiting.{Waits, left_over}
+use Rattle.wap_scripting.specs.Feeding.{meaning}
+use Rattle.wap_context.specs.declared.waiting.Step.{Step as Did}
+use Rattle.wap_context.specs.declared.waiting.Step.TheVariants.{Settled}
+use Rattle.wap_context.specs.Browsers.{Browser, IsOver, Shows}
+use Rattle.wap_context.specs.Missing.{Missed}
+use Rattle.wap_context.specs.Sites.{fragment_call, IfOver}
+use Rattle.wap_context.specs.Acting.{waiting_in, Follows, Acts}
+use Rattle.wap_session.specs.Feeding.{left_open}
+use Rattle.wap_session.specs.inside.Turns.{IsBehind}
 
--- ---- steps that come to the same but for their lines
+-- what a call does over pages, before the keys that would come after it
+abbrev pub Rule : Type 0
+Rule = Pages → List Key → World → Step
 
-pub record After (change : List (List ℕ) → List (List ℕ)) (one other : Step) : Type 0 where
-  pub world : other.world ≡ one.world
-  pub lines : other.lines ≡ change one.lines
-  pub asked : other.asked ≡ one.asked
+-- ---- a rule after lines
 
--- a rule from one browser, and another from a browser before
-abbrev pub LeadsTo : (List (List ℕ) → List (List ℕ)) → (one other : Site → World → Step)
-    → (mid old : Browser) → Type 0
-LeadsTo change one other mid old = (site : Site) → IsOver site.shelf old
-    → IsOver site.shelf mid × After change (one site mid.world) (other site old.world)
+-- lines that come first
+abbrev pub first_lines : List (List ℕ) → World → Step
+first_lines lines world = quiet [] (record { world = world; lines = lines })
 
-over_by : (contents : Option Pages) (mid old : Browser) (P Q : Site → Type 0)
-    → ((site : Site) → IsOver site.shelf old → IsOver site.shelf mid × (P site → Q site))
+-- a rule from one browser, and another from a browser before, which comes to lines and then to the
+-- same
+abbrev pub LeadsTo : List (List ℕ) → (one other : Rule) → (mid old : Browser) → Type 0
+LeadsTo lines one other mid old = (pages : Pages) → IsOver (shelf_of pages) old
+    → IsOver (shelf_of pages) mid × ((keys : List Key) → other pages keys old.world
+    ≡ joined (first_lines lines mid.world) (one pages keys mid.world))
+
+-- a fact over the pages of one browser from one over those of another
+over_by : (contents : Option JudgedPages) (mid old : Browser) (P Q : Pages → Type 0)
+    → ((pages : Pages) → IsOver (shelf_of pages) old
+    → IsOver (shelf_of pages) mid × (P pages → Q pages))
     → IfOver contents mid P → IfOver contents old Q
 over_by None mid old P Q by so = tt
-over_by (Some pages) mid old P Q by so =
-    let site = decks_site pages in
-    λ is. (by site is).1 (so (by site is).0)
+over_by (Some judged) mid old P Q by so =
+    let pages = unit_pages judged in
+    λ is. (by pages is).1 (so (by pages is).0)
 
-module _ (change : List (List ℕ) → List (List ℕ)) (one other : Site → World → Step)
-    (before after : Seen) (mid old new : Browser) (leads : LeadsTo change one other mid old) where
-  follows_by : (lines : List (List ℕ)) → (contents : Option Pages)
-      → IfOver contents mid (λ site. Follows site.shelf (one site mid.world) new lines)
-      → IfOver contents old (λ site. Follows site.shelf (other site old.world) new (change lines))
-  follows_by lines contents so =
-      over_by contents mid old (λ site. Follows site.shelf (one site mid.world) new lines)
-      (λ site. Follows site.shelf (other site old.world) new (change lines))
-      (λ site is. (
-        (leads site is).0,
-        λ follows. record {
-          leads = follows.leads ∙ sym (leads site is).1.world;
-          tells = ap change follows.tells ∙ sym (leads site is).1.lines;
-          over = follows.over;
-        },
+module _ (lines : List (List ℕ)) (one other : Rule) (before after : Seen)
+    (mid old new : Browser) (leads : LeadsTo lines one other mid old) where
+  -- what was done is the same but for these lines
+  follows_one : (pages : Pages) (did further : Did) → IsBehind lines did further
+      → ((keys : List Key) → other pages keys old.world
+      ≡ joined (first_lines lines mid.world) (one pages keys mid.world))
+      → Follows pages (one pages) mid new did → Follows pages (other pages) old new further
+  follows_one pages did further behind same so =
+      let front = first_lines lines mid.world in
+      let step = one pages [] mid.world in
+      let last = same [] in
+      record {
+        leads = so.leads ∙ sym (ap (λ (s : Step). s.world) last);
+        tells = behind.lines_are ∙ ap (λ (l : List (List ℕ)). lines ++ l) so.tells
+            ∙ sym (ap (λ (s : Step). s.lines) last);
+        over = so.over;
+        asks_user = ap (λ (s : Step). s.is_open) last ∙ so.asks_user
+            ∙ sym (ap is_some behind.waiting_is);
+        on = λ keys. same keys ∙ ap (joined front) (so.on keys)
+            ∙ sym (joined_assoc front (left_open step)
+            (left_over fragment_call pages (waiting_in did) keys step.world))
+            ∙ sym (ap (λ (s : Step). meaning fragment_call pages
+            (record { step = left_open s; waiting = waiting_in did }) keys) last)
+            ∙ sym (ap (λ (o : Option Waits). meaning fragment_call pages
+            (record { step = left_open (other pages [] old.world); waiting = o }) keys)
+            behind.waiting_is);
+      }
+
+  -- over pages that may be known
+  follows_by : (did further : Did) → IsBehind lines did further
+      → (contents : Option JudgedPages)
+      → IfOver contents mid (λ pages. Follows pages (one pages) mid new did)
+      → IfOver contents old (λ pages. Follows pages (other pages) old new further)
+  follows_by did further behind contents so =
+      over_by contents mid old (λ pages. Follows pages (one pages) mid new did)
+      (λ pages. Follows pages (other pages) old new further)
+      (λ pages is. (
+        (leads pages is).0,
+        follows_one pages did further behind (leads pages is).1,
       )) so
 
-  asks_by : (contents : Option Pages)
-      → IfOver contents mid (λ site. Asks (one site mid.world).asked before after)
-      → IfOver contents old (λ site. Asks (other site old.world).asked before after)
+  -- the same pages were asked for
+  asks_by : (contents : Option JudgedPages)
+      → IfOver contents mid (λ pages. Asks (one pages [] mid.world).asked before after)
+      → IfOver contents old (λ pages. Asks (other pages [] old.world).asked before after)
   asks_by contents so =
-      over_by contents mid old (λ site. Asks (one site mid.world).asked before after)
-      (λ site. Asks (other site old.world).asked before after)
-      (λ site is. (
-        (leads site is).0,
+      over_by contents mid old (λ pages. Asks (one pages [] mid.world).asked before after)
+      (λ pages. Asks (other pages [] old.world).asked before after)
+      (λ pages is. (
+        (leads pages is).0,
         subst (λ (asked : List Asked). Asks asked before after)
-            (sym (leads site is).1.asked),
+            (sym (ap (λ (s : Step). s.asked) ((leads pages is).1 []))),
       )) so
 
-  fails_by : (contents : Option Pages)
-      → IfOver contents mid (λ site. Fails (one site mid.world).asked before after)
-      → IfOver contents old (λ site. Fails (other site old.world).asked before after)
-  fails_by contents so =
-      over_by contents mid old (λ site. Fails (one site mid.world).asked before after)
-      (λ site. Fails (other site old.world).asked before after)
-      (λ site is. (
-        (leads site is).0,
-        subst (λ (asked : List Asked). Fails asked before after)
-            (sym (leads site is).1.asked),
+  -- until the store failed at one
+  missed_by : (contents : Option JudgedPages)
+      → IfOver contents mid (λ pages. Missed (one pages [] mid.world).asked before after)
+      → IfOver contents old (λ pages. Missed (other pages [] old.world).asked before after)
+  missed_by contents so =
+      over_by contents mid old (λ pages. Missed (one pages [] mid.world).asked before after)
+      (λ pages. Missed (other pages [] old.world).asked before after)
+      (λ pages is. (
+        (leads pages is).0,
+        subst (λ (asked : List Asked). Missed asked before after)
+            (sym (ap (λ (s : Step). s.asked) ((leads pages is).1 []))),
       )) so
 
-  pub Acts-ok : (lines shown : List (List ℕ)) → shown ≡ change lines
-      → Acts one before after mid new (Ok lines) → Acts other before after old new (Ok shown)
-  Acts-ok lines shown changed so =
-      subst (λ (last : List (List ℕ)). Acts other before after old new (Ok last)) (sym changed)
-      (record {
-        follows = follows_by lines before.contents so.follows;
-        asks = asks_by before.contents so.asks;
-        steady = so.steady;
-        failed = λ is. absurd cc;
-        missed = λ is. absurd cc;
-        stays = so.stays;
-      })
+  -- a call that did something
+  pub Acts-ok : (did further : Did) → IsBehind lines did further
+      → Acts one before after mid new (Ok did) → Acts other before after old new (Ok further)
+  Acts-ok did further behind so = record {
+    follows = follows_by did further behind before.contents so.follows;
+    asks = asks_by before.contents so.asks;
+    steady = so.steady;
+    failed = λ is. absurd cc;
+    missed = λ is. absurd cc;
+    stays = so.stays;
+  }
 
+  -- a call that failed
   pub Acts-err : (fault : RunErr) → Acts one before after mid new (Err fault)
       → Acts other before after old new (Err fault)
   Acts-err fault so = record {
@@ -98,19 +143,38 @@ module _ (change : List (List ℕ) → List (List ℕ)) (one other : Site → Wo
     asks = tt;
     steady = tt;
     failed = so.failed;
-    missed = λ is. fails_by before.contents (so.missed is);
+    missed = λ is. missed_by before.contents (so.missed is);
     stays = so.stays;
   }
 
+-- however it ended, with no lines first
+pub Acts-leads : (one other : Rule) (before after : Seen) (mid old new : Browser)
+    → LeadsTo [] one other mid old → (result : Result Did RunErr)
+    → Acts one before after mid new result → Acts other before after old new result
+Acts-leads one other before after mid old new leads (Ok did) so =
+    Acts-ok [] one other before after mid old new leads did did
+    (record { lines_are = refl; waiting_is = refl }) so
+Acts-leads one other before after mid old new leads (Err fault) so =
+    Acts-err [] one other before after mid old new leads fault so
+
+-- two rules that come to the same from a browser
+pub Acts-same : (one other : Rule) (before after : Seen) (old new : Browser)
+    → ((pages : Pages) → IsOver (shelf_of pages) old → (keys : List Key)
+    → other pages keys old.world ≡ one pages keys old.world)
+    → (result : Result Did RunErr) → Acts one before after old new result
+    → Acts other before after old new result
+Acts-same one other before after old new same =
+    Acts-leads one other before after old old new (λ pages is. (is, same pages is))
+
 -- ---- memory ran out
 
-pub Acts-wants : (rule : Site → World → Step) (before after : Seen) (old new : Browser)
-    (result : Result (List (List ℕ)) RunErr)
+pub Acts-wants : (rule : Rule) (before after : Seen) (old new : Browser)
+    (result : Result Did RunErr)
     → Stays before after → IsErrAnd result (λ (fault : RunErr). fault ≡ run.NoMemory)
     → Acts rule before after old new result
 Acts-wants rule before after old new result stays wants =
     let (fault, is, none) = err_from_is_err_and result wants in
-    subst (λ (last : Result (List (List ℕ)) RunErr). Acts rule before after old new last)
+    subst (λ (last : Result Did RunErr). Acts rule before after old new last)
     (sym (is ∙ ap Err none)) (record {
       follows = tt;
       asks = tt;
@@ -120,46 +184,53 @@ Acts-wants rule before after old new result stays wants =
       stays = stays;
     })
 
--- ---- turns
+-- ---- a call that asks for no pages
 
-budget_follows : (rule : Site → World → Step) (budget : ℕ) (old new : Browser)
-    (lines : List (List ℕ))
-    → ((pages : Pages) → (rule (decks_site pages) old.world).world.budget ≡ budget)
-    → (contents : Option Pages)
-    → IfOver contents old (λ site. Follows site.shelf (rule site old.world) new lines)
-    → IfOver contents old
-    (λ site. Follows site.shelf (rule site old.world) (with_budget budget new) lines)
-budget_follows rule budget old new lines same None so = tt
-budget_follows rule budget old new lines same (Some pages) so = λ is.
-    let follows = so is in
-    let world = (rule (decks_site pages) old.world).world in
+-- it leaves keys as they are
+shows_follow : (scene : Shelf → World → Scene) (old new : Browser) (lines : List (List ℕ))
+    → Shows old new lines scene → (contents : Option JudgedPages)
+    → IfOver contents old (λ pages. Follows pages
+    (λ keys world. quiet keys (scene (shelf_of pages) world)) old new (Settled lines))
+shows_follow scene old new lines shows None = tt
+shows_follow scene old new lines shows (Some judged) = λ is.
+    let shelf = shelf_of (unit_pages judged) in
     record {
-      leads = ap (λ (one : World). record one { budget = budget }) follows.leads
-          ∙ ap (λ (count : ℕ). record world { budget = count }) (sym (same pages));
-      tells = follows.tells;
-      over = follows.over;
+      leads = shows.world shelf is;
+      tells = shows.tells shelf is;
+      over = shows.over shelf is;
+      asks_user = refl;
+      on = λ keys. sym (joined_nothing (quiet [] (scene shelf old.world)) keys);
     }
 
--- a rule that keeps the turns that each key has
-pub Acts-budget : (rule : Site → World → Step) (budget : ℕ) (before after : Seen)
-    (old new : Browser)
-    → ((pages : Pages) → (rule (decks_site pages) old.world).world.budget ≡ budget)
-    → (result : Result (List (List ℕ)) RunErr)
-    → Acts rule before after old new result
-    → Acts rule before after old (with_budget budget new) result
-Acts-budget rule budget before after old new same (Ok lines) so = record {
-  follows = budget_follows rule budget old new lines same before.contents so.follows;
-  asks = so.asks;
-  steady = so.steady;
-  failed = so.failed;
-  missed = so.missed;
-  stays = so.stays;
+-- and so it asks for none
+asks_none : (seen : Seen) (browser : Browser) (contents : Option JudgedPages)
+    → IfOver contents browser (λ pages. Asks [] seen seen)
+asks_none seen browser None = tt
+asks_none seen browser (Some judged) = λ is. Asks-nil seen
+
+pub Acts-shows : (scene : Shelf → World → Scene) (seen : Seen) (old new : Browser)
+    (lines : List (List ℕ)) → Shows old new lines scene
+    → Acts (λ pages keys world. quiet keys (scene (shelf_of pages) world)) seen seen old new
+    (Ok (Settled lines))
+Acts-shows scene seen old new lines shows = record {
+  follows = shows_follow scene old new lines shows seen.contents;
+  asks = asks_none seen old seen.contents;
+  steady = refl;
+  failed = λ is. absurd cc;
+  missed = λ is. absurd cc;
+  stays = Stays-same seen;
 }
-Acts-budget rule budget before after old new same (Err fault) so = record {
-  follows = tt;
-  asks = tt;
-  steady = tt;
-  failed = so.failed;
-  missed = so.missed;
-  stays = so.stays;
-}
+
+-- a key that fits nothing
+pub Acts-ignored : (rule : Rule) (seen : Seen) (browser : Browser) (did : Did)
+    → did ≡ Settled (refusal_line refusals.Ignored ∷ [])
+    → ((pages : Pages) → IsOver (shelf_of pages) browser → (keys : List Key)
+    → rule pages keys browser.world ≡ quiet keys (ignored browser.world))
+    → Acts rule seen seen browser browser (Ok did)
+Acts-ignored rule seen browser did is same =
+    let lines = refusal_line refusals.Ignored ∷ [] in
+    subst (λ (one : Did). Acts rule seen seen browser browser (Ok one)) (sym is)
+    (Acts-same (λ pages keys world. quiet keys (ignored world)) rule seen seen browser browser same
+    (Ok (Settled lines))
+    (Acts-shows (λ shelf world. ignored world) seen browser browser lines
+    (record { world = λ shelf over. refl; tells = λ shelf over. refl; over = λ shelf over. over })))

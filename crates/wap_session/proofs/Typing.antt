@@ -1,6 +1,11 @@
 -- Fields of the card at hand.
-use Rattle.std.proofs.Common.{◌≡◌, ℕ, List, [], ◌++◌, Option, Some, None, refl, sym, ap, subst, ◌∙◌}
-use Rattle.std.specs.Option.{option_map_or}
+use Rattle.std.proofs.Common.{◌≡◌, ℕ, Bool, true, false, List, [], Option, Some, None, refl, sym, ap, subst, ◌∙◌}
+use Rattle.std.specs.Prelude.{is_some, if◌then◌else◌}
+use Rattle.std.specs.Option.{option_map_or, option_and_then}
+use Rattle.wap_input.specs.declared.key.Key.{Key}
+use Rattle.wap_cardrules.specs.Dos.{do_task}
+use Rattle.wap_cardrules.specs.Fields.{link_task}
+use Rattle.wap_cardrules.specs.declared.task.Task.TheVariants.{Prev}
 use Rattle.std.specs.List.{flat_map}
 use Rattle.wap_filling.specs.declared.fault.VarFault.{VarFault}
 use Rattle.wap_input.specs.declared.key.Key.TheVariants as key
@@ -11,13 +16,17 @@ use Rattle.wap_cardrules.specs.declared.task.Task.{Task}
 use Rattle.wap_cardrules.specs.Entering.{TextEntered, enter_text, OptionChosen, none_chosen, choose}
 use Rattle.wap_world.specs.Shelves.{Shelf}
 use Rattle.wap_world.specs.Sites.{Site}
+use Rattle.wap_scripting.specs.UnitSites.{Pages, shelf_of, units_site}
+use Rattle.wap_context.specs.Sites.{site_of}
 use Rattle.wap_world.specs.World.{World, Place, place_now}
-use Rattle.wap_world.specs.Steps.{Scene, Step}
+use Rattle.wap_world.specs.Steps.{Scene, Step, quiet, then_task}
+use Rattle.wap_world.specs.Tasks.{act}
 use Rattle.wap_world.specs.Setting.{fault_lines}
 use Rattle.wap_world.specs.Screens.{show}
 use Rattle.wap_world.specs.Keys.{ignored, act_or, type_text, after_text}
 use Rattle.wap_world.specs.Keys.{choose_option, after_choice, at_card, apply}
 use Rattle.wap_context.specs.Browsers.{Browser, IsOver, Shows, with_vars, typed_in, chosen_in}
+use Rattle.wap_context.specs.Browsers.{place_held}
 use Rattle.wap_session.specs.inside.Pressing.{typed}
 use Rattle.wap_context.proofs.Places.{held_now}
 use Rattle.wap_session.proofs.Rules.{LeadsTo}
@@ -74,42 +83,172 @@ abbrev chosen_at : World → (n m : ℕ) → Option Place → OptionChosen
 chosen_at world n m place =
     option_map_or (λ (one : Place). choose world.vars one.card n m) place (none_chosen world.vars)
 
-chosen_by : (site : Site) (world : World) (n m : ℕ) (place : Option Place)
-    → at_card [] world (λ (one : Place). choose_option site [] n m one world) place
-    ≡ after_choice site [] (record world { vars = (chosen_at world n m place).vars })
+chosen_by : (site : Site) (keys : List Key) (world : World) (n m : ℕ) (place : Option Place)
+    → at_card keys world (λ (one : Place). choose_option site keys n m one world) place
+    ≡ after_choice site keys (record world { vars = (chosen_at world n m place).vars })
     (chosen_at world n m place).answer
-chosen_by site world n m None = refl
-chosen_by site world n m (Some place) = refl
+chosen_by site keys world n m None = refl
+chosen_by site keys world n m (Some place) = refl
 
-chosen_now : (site : Site) (browser : Browser) (n m : ℕ) → IsOver site.shelf browser
-    → apply site [] browser.world (key.Choose n m)
-    ≡ after_choice site [] (with_vars (chosen_in browser n m).vars browser).world
+chosen_now : (pages : Pages) (keys : List Key) (browser : Browser) (n m : ℕ)
+    → IsOver (shelf_of pages) browser
+    → apply (site_of pages) keys browser.world (key.Choose n m)
+    ≡ after_choice (site_of pages) keys (with_vars (chosen_in browser n m).vars browser).world
     (chosen_in browser n m).answer
-chosen_now site browser n m is =
-    chosen_by site browser.world n m (place_now site.shelf browser.world)
-    ∙ ap (λ (place : Option Place). after_choice site []
+unfolding units_site
+chosen_now pages keys browser n m is =
+    chosen_by (site_of pages) keys browser.world n m (place_now (shelf_of pages) browser.world)
+    ∙ ap (λ (place : Option Place). after_choice (site_of pages) keys
     (record browser.world { vars = (chosen_at browser.world n m place).vars })
-    (chosen_at browser.world n m place).answer) (held_now site.shelf browser is)
+    (chosen_at browser.world n m place).answer) (held_now (shelf_of pages) browser is)
 
 -- the lines of refused sets, and then the task of onpick or show
 pub chosen_leads : (old mid : Browser) (n m : ℕ) (faults : List VarFault) (task : Option Task)
     → mid ≡ with_vars (chosen_in old n m).vars old
     → chosen.Set faults task ≡ (chosen_in old n m).answer
-    → LeadsTo (λ lines. flat_map fault_lines faults ++ lines)
-    (λ site world. act_or (show site.shelf world) site [] world task)
-    (λ site world. apply site [] world (key.Choose n m)) mid old
-chosen_leads old mid n m faults task set is site over =
-    let first = with_vars (chosen_in old n m).vars old in
-    let same : apply site [] old.world (key.Choose n m)
-    ≡ after_choice site [] mid.world (chosen.Set faults task) =
-    chosen_now site old n m over
-    ∙ ap (after_choice site [] first.world) (sym is)
-    ∙ ap (λ (browser : Browser). after_choice site [] browser.world (chosen.Set faults task))
-    (sym set) in (
-      subst (λ (browser : Browser). IsOver site.shelf browser) (sym set) over,
-      record {
-        world = ap (λ (step : Step). step.world) same;
-        lines = ap (λ (step : Step). step.lines) same;
-        asked = ap (λ (step : Step). step.asked) same;
-      },
-    )
+    → LeadsTo (flat_map fault_lines faults)
+    (λ pages keys world. act_or (show (shelf_of pages) world) (site_of pages) keys world task)
+    (λ pages keys world. apply (site_of pages) keys world (key.Choose n m)) mid old
+unfolding units_site
+chosen_leads old mid n m faults task set is pages over = (
+  subst (λ (browser : Browser). IsOver (shelf_of pages) browser) (sym set) over,
+  λ keys.
+      let first = with_vars (chosen_in old n m).vars old in
+      chosen_now pages keys old n m over
+      ∙ ap (after_choice (site_of pages) keys first.world) (sym is)
+      ∙ ap (λ (browser : Browser). after_choice (site_of pages) keys browser.world
+      (chosen.Set faults task)) (sym set),
+)
+
+-- no option: the key fits nothing
+pub chosen_none : (old mid : Browser) (n m : ℕ) → mid ≡ with_vars (chosen_in old n m).vars old
+    → chosen.NoOption ≡ (chosen_in old n m).answer
+    → LeadsTo [] (λ pages keys world. quiet keys (ignored world))
+    (λ pages keys world. apply (site_of pages) keys world (key.Choose n m)) mid old
+chosen_none old mid n m set is pages over = (
+  subst (λ (browser : Browser). IsOver (shelf_of pages) browser) (sym set) over,
+  λ keys.
+      let first = with_vars (chosen_in old n m).vars old in
+      chosen_now pages keys old n m over
+      ∙ ap (after_choice (site_of pages) keys first.world) (sym is)
+      ∙ ap (λ (browser : Browser). quiet keys (ignored browser.world)) (sym set),
+)
+
+-- ---- keys that ask for no pages
+
+-- a text that is entered, before other keys
+typed_place : (shelf : Shelf) (keys : List Key) (world : World) (n : ℕ) (text : List ℕ)
+    (place : Option Place)
+    → at_card keys world (λ (one : Place). quiet keys (type_text shelf n text one world)) place
+    ≡ quiet keys (option_map_or (λ (one : Place). type_text shelf n text one world) place
+    (ignored world))
+typed_place shelf keys world n text None = refl
+typed_place shelf keys world n text (Some place) = refl
+
+pub typed_keys : (n : ℕ) (text : List ℕ) (pages : Pages) (keys : List Key) (world : World)
+    → apply (site_of pages) keys world (key.Enter n text)
+    ≡ quiet keys (typed n text (shelf_of pages) world)
+unfolding units_site
+typed_keys n text pages keys world =
+    typed_place (shelf_of pages) keys world n text (place_now (shelf_of pages) world)
+
+-- ---- tasks of the card at hand
+
+-- a task by the place where the browser is, or a key that fits nothing
+tasked_by : (site : Site) (keys : List Key) (world : World) (task : Place → Option Task)
+    (place : Option Place)
+    → at_card keys world (λ (one : Place). act_or (ignored world) site keys world (task one)) place
+    ≡ act_or (ignored world) site keys world (option_and_then task place)
+tasked_by site keys world task None = refl
+tasked_by site keys world task (Some place) = refl
+
+-- by the place at hand
+pub tasked_now : (pages : Pages) (keys : List Key) (browser : Browser)
+    (task : Place → Option Task) → IsOver (shelf_of pages) browser
+    → at_card keys browser.world
+    (λ (one : Place). act_or (ignored browser.world) (site_of pages) keys browser.world (task one))
+    (place_now (shelf_of pages) browser.world)
+    ≡ act_or (ignored browser.world) (site_of pages) keys browser.world
+    (option_and_then task (place_held browser))
+tasked_now pages keys browser task is =
+    tasked_by (site_of pages) keys browser.world task (place_now (shelf_of pages) browser.world)
+    ∙ ap (λ (place : Option Place). act_or (ignored browser.world) (site_of pages) keys
+    browser.world (option_and_then task place)) (held_now (shelf_of pages) browser is)
+
+-- the do of a name, or the link of a number
+pub do_now : (name : List ℕ) (pages : Pages) (keys : List Key) (browser : Browser)
+    → IsOver (shelf_of pages) browser
+    → apply (site_of pages) keys browser.world (key.Do name)
+    ≡ act_or (ignored browser.world) (site_of pages) keys browser.world (option_and_then
+    (λ (place : Place). do_task browser.world.vars place.deck place.card name)
+    (place_held browser))
+unfolding units_site
+do_now name pages keys browser is =
+    tasked_now pages keys browser
+    (λ (place : Place). do_task browser.world.vars place.deck place.card name) is
+
+-- without a card none
+none_held : (o : Option Place) → is_some o ≡ false → o ≡ None
+none_held None none = refl
+none_held (Some place) none = absurd cc
+
+pub do_none : (name : List ℕ) (pages : Pages) (keys : List Key) (browser : Browser)
+    → is_some (place_held browser) ≡ false → IsOver (shelf_of pages) browser
+    → apply (site_of pages) keys browser.world (key.Do name) ≡ quiet keys (ignored browser.world)
+do_none name pages keys browser none is =
+    do_now name pages keys browser is
+    ∙ ap (λ (place : Option Place). act_or (ignored browser.world) (site_of pages) keys
+    browser.world (option_and_then
+    (λ (one : Place). do_task browser.world.vars one.deck one.card name) place))
+    (none_held (place_held browser) none)
+
+pub link_now : (n : ℕ) (pages : Pages) (keys : List Key) (browser : Browser)
+    → IsOver (shelf_of pages) browser
+    → apply (site_of pages) keys browser.world (key.Pick n)
+    ≡ act_or (ignored browser.world) (site_of pages) keys browser.world (option_and_then
+    (λ (place : Place). link_task browser.world.vars place.card n) (place_held browser))
+unfolding units_site
+link_now n pages keys browser is =
+    tasked_now pages keys browser
+    (λ (place : Place). link_task browser.world.vars place.card n) is
+
+-- back, by whether a card is at hand
+back_by : (site : Site) (keys : List Key) (world : World) (rule : Step) (place : Option Place)
+    → at_card keys world (λ (one : Place). rule) place
+    ≡ (if is_some place then rule else quiet keys (ignored world))
+back_by site keys world rule None = refl
+back_by site keys world rule (Some place) = refl
+
+back_now : (pages : Pages) (keys : List Key) (browser : Browser)
+    → IsOver (shelf_of pages) browser
+    → apply (site_of pages) keys browser.world key.Back
+    ≡ (if is_some (place_held browser)
+    then act (site_of pages) keys browser.world (then_task (Prev []))
+    else quiet keys (ignored browser.world))
+unfolding units_site
+back_now pages keys browser is =
+    back_by (site_of pages) keys browser.world
+    (act (site_of pages) keys browser.world (then_task (Prev [])))
+    (place_now (shelf_of pages) browser.world)
+    ∙ ap (λ (place : Option Place). if is_some place
+    then act (site_of pages) keys browser.world (then_task (Prev []))
+    else quiet keys (ignored browser.world)) (held_now (shelf_of pages) browser is)
+
+-- with a card
+pub back_some : (pages : Pages) (keys : List Key) (browser : Browser)
+    → is_some (place_held browser) ≡ true → IsOver (shelf_of pages) browser
+    → apply (site_of pages) keys browser.world key.Back
+    ≡ act (site_of pages) keys browser.world (then_task (Prev []))
+back_some pages keys browser some is =
+    back_now pages keys browser is
+    ∙ ap (λ (b : Bool). if b then act (site_of pages) keys browser.world (then_task (Prev []))
+    else quiet keys (ignored browser.world)) some
+
+-- and without one
+pub back_none : (pages : Pages) (keys : List Key) (browser : Browser)
+    → is_some (place_held browser) ≡ false → IsOver (shelf_of pages) browser
+    → apply (site_of pages) keys browser.world key.Back ≡ quiet keys (ignored browser.world)
+back_none pages keys browser none is =
+    back_now pages keys browser is
+    ∙ ap (λ (b : Bool). if b then act (site_of pages) keys browser.world (then_task (Prev []))
+    else quiet keys (ignored browser.world)) none

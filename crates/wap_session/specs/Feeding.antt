@@ -1,53 +1,83 @@
 -- What a session is seen as, and what keys come to. This project's own.
-use Rattle.std.specs.Prelude.{◌≡◌, ℕ, Bool, true, false, List, ◌∷◌, ◌++◌, Option, None}
-use Rattle.std.specs.Prelude.{IfOk, IfErr, OnOk, OnErr, ◌≢◌, Result, Err}
+use Rattle.std.specs.Prelude.{◌≡◌, Bool, true, false, List, ◌++◌, Option, None, is_some}
+use Rattle.std.specs.Prelude.{IfOk, IfErr, OnOk, OnErr, ◌≢◌, ℕ, Result, Err}
 use Rattle.wap_base.specs.Count.{Rose}
 use Rattle.wap_input.specs.declared.key.Key.{Key}
-use Rattle.wap_site.specs.Pages.{Pages}
-use Rattle.wap_site.specs.Asking.{Seen, Stays, Asks, Fails}
-use Rattle.wap_world.specs.Shelves.{Shelf}
-use Rattle.wap_world.specs.Sites.{Site}
-use Rattle.wap_world.specs.World.{World}
-use Rattle.wap_world.specs.Steps.{Step}
-use Rattle.wap_world.specs.Sessions.{shown, shown_by, Begun, world_of}
-use Rattle.wap_context.specs.Browsers.{Browser, IsOver, IfOver}
+use Rattle.wap_site.specs.Asking.{Seen, Stays, Asks}
+use Rattle.wap_world.specs.Steps.{Step, joined}
+use Rattle.wap_world.specs.Sessions.{shown_by, Begun, world_of}
+use Rattle.wap_scripting.specs.UnitSites.{Pages, shelf_of}
+use Rattle.wap_scripting.specs.Waiting.{Waits, State as Between, played_from}
+use Rattle.wap_context.specs.Browsers.{Browser, IsOver}
+use Rattle.wap_context.specs.Missing.{Missed}
+use Rattle.wap_context.specs.Sites.{fragment_call, IfOver}
 use Rattle.wap_session.specs.declared.fault.SessionFault.{SessionFault}
 use Rattle.wap_session.specs.declared.fault.SessionFault.TheVariants.{Store, Ended}
 
--- a browser between two keys, and whether it is over with it: after a fault it gives no more lines
+-- a session between two keys: its browser, the script that waits for the answer to a dialog, if one
+-- does, and whether it is over: after a fault it gives no more lines
 pub record State : Type 0 where
   pub browser : Browser
+  pub waiting : Option Waits
   pub is_over : Bool
 
 -- a session in which nothing was done
 abbrev pub beginning : Begun → State
 beginning begun = record {
   browser = record { world = world_of begun; deck = None };
+  waiting = None;
   is_over = false;
 }
 
--- a session stands where a step leads, over the same shelf, and these are the lines that it shows
-pub record Leads (shelf : Shelf) (step : Step) (browser : Browser) (lines : List (List ℕ)) : Type 0
-  where
-    pub leads_on : browser.world ≡ step.world
-    pub tells : lines ≡ shown_by step
-    pub over : IsOver shelf browser
+-- ---- what keys come to
 
--- keys that are played as a rule says over the site of the pages: these before and after, the
--- session before and after, and the answer
-pub record Plays (rule : Site → World → Step) (before after : Seen) (old new : State)
+-- the world in which keys are played, and the script that waits for them
+abbrev pub between : State → Between
+between state = record { world = state.browser.world; waiting = state.waiting }
+
+-- what keys come to in a session over these pages
+abbrev pub step_of : Pages → List Key → State → Step
+step_of pages keys state = played_from fragment_call pages (between state) keys
+
+-- the lines that they show
+abbrev pub shown_of : Pages → List Key → State → List (List ℕ)
+shown_of pages keys state = shown_by (step_of pages keys state)
+
+-- a step whose dialog is left to further keys
+abbrev pub left_open : Step → Step
+left_open step = record step { is_open = false }
+
+-- ---- what is played
+
+-- what further keys come to after these keys is what they come to in the new session
+abbrev pub PlaysOn : List Key → Pages → State → State → Type 0
+PlaysOn keys pages old new = (others : List Key) → step_of pages (keys ++ others) old
+    ≡ joined (left_open (step_of pages keys old)) (step_of pages others new)
+
+-- keys lead from one session to another, and show these lines
+pub record Leads (keys : List Key) (pages : Pages) (old new : State) (lines : List (List ℕ)) : Type 0
+  where
+    -- it stands where the step of the keys leads, over the same pages
+    pub world : new.browser.world ≡ (step_of pages keys old).world
+    pub over : IsOver (shelf_of pages) new.browser
+    -- a script waits exactly where the keys end in its dialog
+    pub asks_user : is_some new.waiting ≡ (step_of pages keys old).is_open
+    pub tells : lines ≡ shown_of pages keys old
+    -- further keys go on from there
+    pub on : PlaysOn keys pages old new
+
+-- keys that are played: pages before and after, the session before and after, and the answer
+pub record Plays (keys : List Key) (before after : Seen) (old new : State)
     (result : Result (List (List ℕ)) SessionFault) : Type 0 where
-  -- the lines and the new world are the step's
+  -- the lines and the new session are those of the keys' step
   pub leads : IfOk result (λ lines. IfOver before.contents old.browser
-      (λ site. Leads site.shelf (rule site old.browser.world) new.browser lines))
+      (λ pages. Leads keys pages old new lines))
   -- the step's pages were asked for, in order
   pub asks : OnOk result (IfOver before.contents old.browser
-      (λ site. Asks (rule site old.browser.world).asked before after))
+      (λ pages. Asks (step_of pages keys old).asked before after))
   pub steady : OnOk result (after.faults ≡ before.faults)
-  -- the store failed at one of them
+  -- the store failed
   pub failed : result ≡ Err Store → Rose before.faults after.faults
-  pub missed : result ≡ Err Store → IfOver before.contents old.browser
-      (λ site. Fails (rule site old.browser.world).asked before after)
   -- exactly a session that is over gives no more lines, and it asks for nothing
   pub ended : old.is_over ≡ true → (result ≡ Err Ended) × (after ≡ before)
   pub goes_on : old.is_over ≡ false → IfErr result (λ fault. fault ≢ Ended)
@@ -56,7 +86,15 @@ pub record Plays (rule : Site → World → Step) (before after : Seen) (old new
   -- however it ends
   pub stays : Stays before after
 
--- the lines of a key, and then what any further keys show, are what the key and these show
-abbrev pub ShowsOn : Key → Option Pages → State → State → List (List ℕ) → Type 0
-ShowsOn one contents old new lines = IfOver contents old.browser (λ site. (keys : List Key)
-    → lines ++ shown site keys new.browser.world ≡ shown site (one ∷ keys) old.browser.world)
+-- the store failed at a page of the last of these first keys, and those before it were played
+pub record MissedAt (keys : List Key) (pages : Pages) (old : State) (before after : Seen) : Type 0
+  where
+    pub first : List Key
+    pub others : List Key
+    pub split : keys ≡ first ++ others
+    pub missed : Missed (step_of pages first old).asked before after
+
+-- the lines of keys, and then what any further keys show, are what the keys and these show
+abbrev pub ShowsOn : List Key → Pages → State → State → List (List ℕ) → Type 0
+ShowsOn keys pages old new lines = (others : List Key)
+    → lines ++ shown_of pages others new ≡ shown_of pages (keys ++ others) old

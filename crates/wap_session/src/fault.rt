@@ -1,6 +1,6 @@
 //! Why a session gives no lines.
 use thiserror::Error;
-use wap_base::RunErr;
+use wap_base::{NoMemory, RunErr};
 
 /// Why a key gave no lines. After each of these a session is over.
 #[derive(Clone, Copy, Debug, PartialEq, Eq, Error)]
@@ -26,5 +26,16 @@ impl From<RunErr> for SessionFault {
             RunErr::Store => SessionFault::Store,
             RunErr::NoMemory => SessionFault::NoMemory,
         }
+    }
+}
+
+impl From<NoMemory> for SessionFault {
+    ghost use Rattle.std.specs.Prelude.{◌≡◌};
+    ghost use Rattle.wap_session.specs.declared.fault.SessionFault.TheVariants as session;
+
+    ghost from_gives = { λ _ fault. fault ≡ session.NoMemory };
+
+    fn from(_error: NoMemory) -> SessionFault {
+        SessionFault::NoMemory
     }
 }

@@ -4,12 +4,16 @@ ghost use Rattle.std.specs.Option.{option_and_then};
 ghost use Rattle.wap_cardrules.specs.Dos.{do_task};
 ghost use Rattle.wap_cardrules.specs.Fields.{link_task};
 ghost use Rattle.wap_input.specs.declared.key.Key.TheVariants as the_keys;
+ghost use Rattle.wap_world.specs.declared.refusal.Refusal.TheVariants as refusals;
 ghost use Rattle.wap_world.specs.Lines.{refusal_line};
 ghost use Rattle.wap_world.specs.Steps.{behind};
 ghost use Rattle.wap_world.specs.Screens.{show, show_screen, refuse};
 ghost use Rattle.wap_world.specs.Keys.{ignored, act_or, apply};
+ghost use Rattle.wap_scripting.specs.UnitSites.{shelf_of};
 ghost use Rattle.wap_context.specs.Browsers.{place_held, Shows};
+ghost use Rattle.wap_context.specs.Sites.{site_of};
 ghost use Rattle.wap_context.specs.Acting.{Acts};
+ghost use Rattle.wap_session.specs.inside.Turns.{IsBehind};
 ghost use Rattle.wap_session.specs.inside.Pressing.{typed};
 
 use crate::lines::{add_lines, refusal_lines, variable_lines};
@@ -17,13 +21,36 @@ use std::alloc::Global;
 use wap_base::{NoMemory, Rows, RunErr, Text};
 use wap_cardrules::{Chosen, Entered, Task};
 use wap_cards::{do_task, link_task};
-use wap_context::Context;
+use wap_context::{Context, Step};
 use wap_input::Key;
 use wap_screens::add_fault_lines;
 use wap_site::Pages;
 use wap_world::Refusal;
 
-/// Plays a key, which has its turns already, and gives its lines as they are.
+/// A key that fits nothing.
+fn ignore(alloc: Global) -> Result<Step, NoMemory>
+    ensures { IfOk result (λ did. did ≡ Step.Settled (refusal_line refusals.Ignored ∷ [])) }
+{
+    Ok(Step::Settled(refusal_lines(alloc, Refusal::Ignored)?))
+}
+
+/// What was done, after further lines.
+fn behind(mut lines: Rows<Text>, did: Step) -> Result<Step, NoMemory>
+    ensures { IfOk result (IsBehind lines did) }
+{
+    match did {
+        Step::Settled(more) => {
+            add_lines(&mut lines, more)?;
+            Ok(Step::Settled(lines))
+        }
+        Step::Asks(more, dialog, waiting) => {
+            add_lines(&mut lines, more)?;
+            Ok(Step::Asks(lines, dialog, waiting))
+        }
+    }
+}
+
+/// Plays a key outside a dialog, which has its turns already.
 ///
 /// # Errors
 /// `Store` where a page couldn't be fetched, and `NoMemory`.
@@ -32,26 +59,28 @@ pub(crate) fn press<P: Pages>(
     alloc: Global,
     key: &Key,
     pages: &mut P,
-) -> Result<Rows<Text>, RunErr>
-    ensures { Acts (λ site world. apply site [] world key.now)
+) -> Result<Step, RunErr>
+    ensures { Acts (λ of keys world. apply (site_of of) keys world key.now)
         (P.seen pages.old) (P.seen pages.new) context.old context.new result }
 {
     match key {
         Key::Open(url) => context.open(alloc, pages, url),
         Key::Do(name) => run_do(context, alloc, name, pages),
         Key::Pick(number) => follow_link(context, alloc, *number, pages),
-        Key::Enter(number, text) => Ok(enter_text(context, alloc, *number, text)?),
+        Key::Enter(number, text) => {
+            Ok(Step::Settled(enter_text(context, alloc, *number, text)?))
+        }
         Key::Choose(field, option) => choose_option(context, alloc, *field, *option, pages),
         Key::Back => go_back(context, alloc, pages),
         Key::Tick(time) => context.tick(alloc, pages, *time),
+        Key::Vars => Ok(Step::Settled(variable_lines(alloc, context.vars())?)),
         Key::Ok
         | Key::Cancel
         | Key::Answer(_)
         | Key::Stop
         | Key::Push(_)
         | Key::Inbox
-        | Key::Follow(_) => Ok(refusal_lines(alloc, Refusal::Ignored)?),
-        Key::Vars => Ok(variable_lines(alloc, context.vars())?),
+        | Key::Follow(_) => Ok(ignore(alloc)?),
     }
 }
 
@@ -61,13 +90,13 @@ fn act_or_ignore<P: Pages>(
     alloc: Global,
     task: Option<Task>,
     pages: &mut P,
-) -> Result<Rows<Text>, RunErr>
-    ensures { Acts (λ site world. act_or (ignored world) site [] world task)
+) -> Result<Step, RunErr>
+    ensures { Acts (λ of keys world. act_or (ignored world) (site_of of) keys world task)
         (P.seen pages.old) (P.seen pages.new) context.old context.new result }
 {
     match task {
         Some(task) => context.act(alloc, pages, task),
-        None => Ok(refusal_lines(alloc, Refusal::Ignored)?),
+        None => Ok(ignore(alloc)?),
     }
 }
 
@@ -77,13 +106,14 @@ fn act_or_show<P: Pages>(
     alloc: Global,
     task: Option<Task>,
     pages: &mut P,
-) -> Result<Rows<Text>, RunErr>
-    ensures { Acts (λ site world. act_or (show site.shelf world) site [] world task)
+) -> Result<Step, RunErr>
+    ensures { Acts (λ of keys world.
+        act_or (show (shelf_of of) world) (site_of of) keys world task)
         (P.seen pages.old) (P.seen pages.new) context.old context.new result }
 {
     match task {
         Some(task) => context.act(alloc, pages, task),
-        None => Ok(context.show(alloc)?),
+        None => Ok(Step::Settled(context.show(alloc)?)),
     }
 }
 
@@ -105,14 +135,14 @@ fn run_do<P: Pages>(
     alloc: Global,
     name: &Text,
     pages: &mut P,
-) -> Result<Rows<Text>, RunErr>
-    ensures { Acts (λ site world. apply site [] world (the_keys.Do name.now))
+) -> Result<Step, RunErr>
+    ensures { Acts (λ of keys world. apply (site_of of) keys world (the_keys.Do name.now))
         (P.seen pages.old) (P.seen pages.new) context.old context.new result }
 {
     if context.has_card() {
         return run_do_here(context, alloc, name, pages);
     }
-    Ok(refusal_lines(alloc, Refusal::Ignored)?)
+    Ok(ignore(alloc)?)
 }
 
 /// Runs the do of a name of the current card.
@@ -121,8 +151,8 @@ fn run_do_here<P: Pages>(
     alloc: Global,
     name: &Text,
     pages: &mut P,
-) -> Result<Rows<Text>, RunErr>
-    ensures { Acts (λ site world. apply site [] world (the_keys.Do name.now))
+) -> Result<Step, RunErr>
+    ensures { Acts (λ of keys world. apply (site_of of) keys world (the_keys.Do name.now))
         (P.seen pages.old) (P.seen pages.new) context.old context.new result }
 {
     let task = task_of_do(context, alloc, name)?;
@@ -146,8 +176,8 @@ fn follow_link<P: Pages>(
     alloc: Global,
     number: u16,
     pages: &mut P,
-) -> Result<Rows<Text>, RunErr>
-    ensures { Acts (λ site world. apply site [] world (the_keys.Pick number))
+) -> Result<Step, RunErr>
+    ensures { Acts (λ of keys world. apply (site_of of) keys world (the_keys.Pick number))
         (P.seen pages.old) (P.seen pages.new) context.old context.new result }
 {
     let task = task_of_link(context, alloc, number)?;
@@ -155,18 +185,14 @@ fn follow_link<P: Pages>(
 }
 
 /// Goes back to the card before, once a card was entered.
-fn go_back<P: Pages>(
-    context: &mut Context,
-    alloc: Global,
-    pages: &mut P,
-) -> Result<Rows<Text>, RunErr>
-    ensures { Acts (λ site world. apply site [] world the_keys.Back)
+fn go_back<P: Pages>(context: &mut Context, alloc: Global, pages: &mut P) -> Result<Step, RunErr>
+    ensures { Acts (λ of keys world. apply (site_of of) keys world the_keys.Back)
         (P.seen pages.old) (P.seen pages.new) context.old context.new result }
 {
     if context.has_card() {
         return context.act(alloc, pages, Task::Prev(Rows::new(alloc)));
     }
-    Ok(refusal_lines(alloc, Refusal::Ignored)?)
+    Ok(ignore(alloc)?)
 }
 
 /// A refusal, and then the screen of the current card alone.
@@ -213,17 +239,17 @@ fn choose_option<P: Pages>(
     field: u16,
     option: u16,
     pages: &mut P,
-) -> Result<Rows<Text>, RunErr>
-    ensures { Acts (λ site world. apply site [] world (the_keys.Choose field option))
+) -> Result<Step, RunErr>
+    ensures { Acts (λ of keys world. apply (site_of of) keys world (the_keys.Choose field option))
         (P.seen pages.old) (P.seen pages.new) context.old context.new result }
 {
     match context.choose(alloc, field, option)? {
-        Chosen::NoOption => Ok(refusal_lines(alloc, Refusal::Ignored)?),
+        Chosen::NoOption => Ok(ignore(alloc)?),
         Chosen::Set(faults, task) => {
             let mut lines = Rows::new(alloc);
             add_fault_lines(alloc, faults.as_slice(), &mut lines)?;
-            add_lines(&mut lines, act_or_show(context, alloc, task, pages)?)?;
-            Ok(lines)
+            let did = act_or_show(context, alloc, task, pages)?;
+            Ok(behind(lines, did)?)
         }
     }
 }

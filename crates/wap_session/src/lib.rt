@@ -5,7 +5,9 @@ mod dots;
 mod fault;
 mod keys;
 mod lines;
+mod replies;
 mod session;
+mod standing;
 
 pub use fault::SessionFault;
 pub use session::Session;

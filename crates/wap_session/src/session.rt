@@ -1,33 +1,33 @@
 //! Sessions.
-ghost use Rattle.std.specs.Prelude.{◌≡◌, ◌++◌, ℕ, List, [], true, false, IfOk, OnOk, IfErr, OnErr};
-ghost use Rattle.wap_world.specs.Keys.{react};
-ghost use Rattle.wap_world.specs.Sessions.{played};
-ghost use Rattle.wap_context.specs.Acting.{Acts};
-ghost use Rattle.wap_session.specs.Feeding.{beginning, Plays, ShowsOn};
-ghost use Rattle.wap_session.specs.inside.Turns.{turn_of};
+ghost use Rattle.std.specs.Prelude.{◌≡◌, ◌++◌, ◌∷◌, ℕ, List, [], true, is_some};
+ghost use Rattle.std.specs.Prelude.{IfOk, OnOk, IfErr, OnErr, IsErrOf};
+ghost use Rattle.wap_base.specs.Limits.{AreInRange};
+ghost use Rattle.wap_context.specs.Missing.{Missed};
+ghost use Rattle.wap_context.specs.Sites.{IfOver};
+ghost use Rattle.wap_session.specs.Feeding.{beginning, step_of, Plays, MissedAt, ShowsOn};
 
 use crate::SessionFault;
-use crate::dots::shown_lines;
-use crate::keys::press;
 use crate::lines::add_lines;
+use crate::standing::{Standing, after, turn};
 use std::alloc::Global;
 use std::marker::Model;
-use wap_base::{Limits, NoMemory, Rows, RunErr, Text};
+use std::mem;
+use wap_base::{Limits, NoMemory, Rows, Text};
 use wap_context::Context;
 use wap_input::Key;
 use wap_site::Pages;
 
-/// A browser that is played by keys. A contract sees its state between two keys.
+/// A browser that is played by keys: it is at rest, waits for the answer to a dialog, or is over. A
+/// contract sees its state between two keys.
 #[derive(Drop)]
 pub struct Session {
     context: Context,
-    budget: u32,
-    is_over: bool,
+    standing: Standing,
 }
 
 impl Model for Session {
     ghost use Rattle.wap_session.specs.Feeding.{State};
-    ghost use Rattle.wap_session.specs.inside.Turns.{with_budget};
+    ghost use Rattle.wap_session.specs.inside.Turns.{state_of};
     ghost use Rattle.wap_markup.specs.contracts.deck.Item as item;
     ghost use Rattle.std.specs.Coded.{codes};
 
@@ -35,15 +35,13 @@ impl Model for Session {
 
     ghost coded = { Prim.hlevel (codes, item.the_row.coded) };
 
-    ghost view = { λ session. record {
-      browser = with_budget session.budget session.context;
-      is_over = session.is_over;
-    } };
+    ghost view = { λ session. state_of session.context session.standing };
 }
 
 impl Session {
     /// A session in which nothing was done. Each key has so many turns.
     pub fn new(alloc: Global, seed: u32, budget: u32, limits: Limits) -> Session
+        requires limits { AreInRange limits }
         ensures { (url : List ℕ) → result ≡ beginning
             (record { url = url; seed = seed; budget = budget; limits = limits }) }
     {
@@ -51,28 +49,21 @@ impl Session {
         context.begin_key(budget);
         Session {
             context,
-            budget,
-            is_over: false,
+            standing: Standing::Rest,
         }
     }
 
-    /// Plays a key with its turns.
-    fn take_turn<P: Pages>(
-        &mut self,
-        alloc: Global,
-        key: &Key,
-        pages: &mut P,
-    ) -> Result<Rows<Text>, RunErr>
-        ensures acts { Acts (turn_of key.now) (P.seen pages.old) (P.seen pages.new)
-            self.old.browser self.new.browser result }
-        ensures going { self.new.is_over ≡ self.old.is_over }
+    /// Whether a key failed.
+    fn is_over(&self) -> bool
+        ensures { result ≡ self.now.is_over }
     {
-        self.context.begin_key(self.budget);
-        let lines = press(&mut self.context, alloc, key, pages)?;
-        Ok(shown_lines(alloc, lines)?)
+        match &self.standing {
+            Standing::Over => true,
+            Standing::Rest | Standing::Waits(_, _) => false,
+        }
     }
 
-    /// Plays a key, and gives the lines that it shows.
+    /// Plays a key, and gives the lines that it shows. In a dialog it answers this, if it can.
     ///
     /// # Errors
     /// `Store` where a page couldn't be fetched, and `NoMemory`; from then on `Ended`.
@@ -82,21 +73,24 @@ impl Session {
         key: &Key,
         pages: &mut P,
     ) -> Result<Rows<Text>, SessionFault>
-        ensures plays { Plays (λ site world. react site key.now [] world)
-            (P.seen pages.old) (P.seen pages.new) self.old self.new result }
-        ensures shown { IfOk result
-            (ShowsOn key.now (P.seen pages.old).contents self.old self.new) }
+        ensures plays { Plays (key.now ∷ []) (P.seen pages.old) (P.seen pages.new)
+            self.old self.new result }
+        ensures missed { IsErrOf result SessionFault.Store
+            → IfOver (P.seen pages.old).contents self.old.browser (λ of.
+            Missed (step_of of (key.now ∷ []) self.old).asked
+            (P.seen pages.old) (P.seen pages.new)) }
+        ensures shown { IfOk result (λ lines.
+            IfOver (P.seen pages.old).contents self.old.browser (λ of.
+            ShowsOn (key.now ∷ []) of self.old self.new lines)) }
     {
-        if self.is_over {
+        if self.is_over() {
             return Err(SessionFault::Ended);
         }
-        match self.take_turn(alloc, key, pages) {
-            Ok(lines) => Ok(lines),
-            Err(fault) => {
-                self.is_over = true;
-                Err(SessionFault::from(fault))
-            }
-        }
+        let standing = mem::replace(&mut self.standing, Standing::Over);
+        let did = turn(&mut self.context, alloc, standing, key, pages)?;
+        let (lines, standing) = after(alloc, did)?;
+        self.standing = standing;
+        Ok(lines)
     }
 
     /// Appends lines; where memory runs out, the session is over.
@@ -109,7 +103,7 @@ impl Session {
         match add_lines(lines, more) {
             Ok(()) => Ok(()),
             Err(NoMemory) => {
-                self.is_over = true;
+                self.standing = Standing::Over;
                 Err(SessionFault::NoMemory)
             }
         }
@@ -125,10 +119,16 @@ impl Session {
         keys: &[Key],
         pages: &mut P,
     ) -> Result<Rows<Text>, SessionFault>
-        ensures { Plays (λ site world. played site keys.now world)
-            (P.seen pages.old) (P.seen pages.new) self.old self.new result }
+        ensures plays { Plays keys.now (P.seen pages.old) (P.seen pages.new)
+            self.old self.new result }
+        ensures missed { IsErrOf result SessionFault.Store
+            → IfOver (P.seen pages.old).contents self.old.browser (λ of.
+            MissedAt keys.now of self.old (P.seen pages.old) (P.seen pages.new)) }
+        ensures shown { IfOk result (λ lines.
+            IfOver (P.seen pages.old).contents self.old.browser (λ of.
+            ShowsOn keys.now of self.old self.new lines)) }
     {
-        if self.is_over {
+        if self.is_over() {
             return Err(SessionFault::Ended);
         }
         let mut lines = Rows::new(alloc);
@@ -139,10 +139,13 @@ impl Session {
         Ok(lines)
     }
 
-    /// Whether a script waits for an answer. No script is run yet.
+    /// Whether a script waits for the answer to a dialog.
     pub fn in_dialog(&self) -> bool
-        ensures { result ≡ false }
+        ensures { result ≡ is_some self.now.waiting }
     {
-        false
+        match &self.standing {
+            Standing::Waits(_, _) => true,
+            Standing::Rest | Standing::Over => false,
+        }
     }
 }

@@ -1,29 +1,61 @@
 -- A key within a session. This project's own.
-use Rattle.std.specs.Prelude.{ℕ, []}
+use Rattle.std.specs.Prelude.{List, ◌++◌, ◌≡◌, Bool, true, false, ℕ, Option, Some, None}
 use Rattle.wap_base.specs.declared.fault.RunErr.{RunErr}
 use Rattle.wap_base.specs.declared.fault.RunErr.TheVariants as run
-use Rattle.wap_input.specs.declared.key.Key.{Key}
-use Rattle.wap_world.specs.Sites.{Site}
-use Rattle.wap_world.specs.World.{World}
-use Rattle.wap_world.specs.Steps.{Step}
-use Rattle.wap_world.specs.Keys.{react}
-use Rattle.wap_world.specs.Sessions.{shown_by}
+use Rattle.wap_scripting.specs.Dialogs.{Reply as Meant, answers, ends_it, passes}
+use Rattle.wap_scripting.specs.Waiting.{Waits}
+use Rattle.wap_context.specs.declared.waiting.Step.{Step as Did}
+use Rattle.wap_context.specs.Acting.{lines_in, waiting_in}
 use Rattle.wap_context.specs.Browsers.{Browser}
+use Rattle.wap_context.specs.Pausing.{waits_of}
 use Rattle.wap_session.specs.declared.fault.SessionFault.{SessionFault}
 use Rattle.wap_session.specs.declared.fault.SessionFault.TheVariants as session
+use Rattle.wap_session.specs.declared.replies.Reply.{Reply}
+use Rattle.wap_session.specs.declared.replies.Reply.TheVariants as reply
+use Rattle.wap_session.specs.declared.standing.Standing.{Standing}
+use Rattle.wap_session.specs.declared.standing.Standing.TheVariants.{Rest, Waits as Asking, Over}
+use Rattle.wap_session.specs.Feeding.{State}
 
--- a step with its lines as they are shown
-abbrev pub as_shown : Step → Step
-as_shown step = record step { lines = shown_by step }
+-- ---- how a session stands
 
--- what a key comes to and shows
-abbrev pub turn_of : Key → Site → World → Step
-turn_of one site world = as_shown (react site one [] world)
+-- the script that waits, if one does
+abbrev pub waiting_of : Standing → Option Waits
+waiting_of Rest = None
+waiting_of (Asking dialog paused) = Some (waits_of dialog paused)
+waiting_of Over = None
 
--- a browser whose keys have so many turns
-abbrev pub with_budget : ℕ → Browser → Browser
-with_budget budget browser =
-    record browser { world = record browser.world { budget = budget } }
+abbrev pub is_over : Standing → Bool
+is_over Rest = false
+is_over (Asking dialog paused) = false
+is_over Over = true
+
+-- the session with this browser
+abbrev pub state_of : Browser → Standing → State
+state_of browser standing = record {
+  browser = browser;
+  waiting = waiting_of standing;
+  is_over = is_over standing;
+}
+
+-- ---- what a key did
+
+-- further lines before those of what was done
+pub record IsBehind (lines : List (List ℕ)) (one other : Did) : Type 0 where
+  pub lines_are : lines_in other ≡ lines ++ lines_in one
+  pub waiting_is : waiting_in other ≡ waiting_in one
+
+-- how the session stands after what was done
+pub record IsAfter (standing : Standing) (did : Did) : Type 0 where
+  pub waiting_is : waiting_of standing ≡ waiting_in did
+  pub ready : is_over standing ≡ false
+
+-- what a key is to a dialog
+abbrev pub meant : Reply → Meant
+meant (reply.Answers v) = answers v
+meant reply.Ends = ends_it
+meant reply.Passes = passes
+
+-- ---- faults
 
 -- the fault of a session in which a key failed
 abbrev pub fault_of : RunErr → SessionFault

@@ -2,35 +2,49 @@ use Rattle.std.proofs.Common.{ap, sym, subst, ◌∙◌, ◌+◌, drop, take, Li
 use Rattle.std.proofs.lemmas.Result.{err_from_is_err_and}
 use Rattle.std.proofs.lemmas.List.{take_all}
 use Rattle.wap_input.specs.declared.key.Key.{Key}
-use Rattle.wap_session.specs.Feeding.{State}
-use Rattle.wap_session.proofs.Playing.{Played, plays_none, plays_more, plays_failing}
+use Rattle.wap_context.specs.Sites.{IfOver}
+use Rattle.wap_session.specs.Feeding.{Plays, MissedAt}
+use Rattle.wap_session.proofs.Turning.{shows_on}
+use Rattle.wap_session.proofs.Playing.{plays_none, plays_more, plays_failing, missed_failing}
 use Rattle.wap_session.proofs.Playing.{plays_wanting, around, one_more}
 use Rattle.wap_session.proofs.session.Session.play.Goals as goal
 
 pub loop-key-init : goal.loop-key-init
 loop-key-init g c =
     rw c.new-lines.ensures (plays_none (g.P.Pages.seen c.args.pages.now) c.args.self.now
-    (sym (ap (λ (state : State). state.is_over) c.self.view_is) ∙ c.if-self.false))
+    (sym c.is_over.ensures ∙ c.if-is_over.false))
 
-pub returns-in_err-more : goal.returns-in_err-more
-returns-in_err-more g c =
+pub returns-in_err-more-clause-plays : goal.returns-in_err-more-clause-plays
+returns-in_err-more-clause-plays g c =
+    let keys = c.args.keys.now in
+    let fault = c.in_err-more.field-0.0 in
+    let p = err_from_is_err_and c.from_residual.result c.from_residual.ensures.1 in
+    rw (p.1, p.2)
+    (plays_failing keys (take c.loop-key.key-index keys) c.key-item.result
+    (g.P.Pages.seen c.args.pages.now) (g.P.Pages.seen c.loop-key.pages)
+    (g.P.Pages.seen c.feed.new.pages) c.args.self.now
+    c.loop-key.self c.feed.new.self c.loop-key.lines fault
+    c.loop-key.invariant c.in_err-more.ensures.plays)
+
+pub returns-in_err-more-clause-missed : goal.returns-in_err-more-clause-missed
+returns-in_err-more-clause-missed g c is =
     let keys = c.args.keys.now in
     let i = c.loop-key.key-index in
     let one = c.key-item.result in
-    let fault = c.in_err-more.field-0.0 in
+    let old = c.args.self.now in
     let before = g.P.Pages.seen c.args.pages.now in
     let mid = g.P.Pages.seen c.loop-key.pages in
     let after = g.P.Pages.seen c.feed.new.pages in
     let p = err_from_is_err_and c.from_residual.result c.from_residual.ensures.1 in
-    rw (p.1, p.2) (subst (λ (all : List Key). Played all before after c.args.self.now
-    c.feed.new.self (Err fault))
+    subst (λ (all : List Key). IfOver before.contents old.browser
+    (λ pages. MissedAt all pages old before after))
     (around keys i one c.loop-key-test.true c.key-item.is)
-    (plays_failing (take i keys) (drop (i + 1) keys) one before mid after c.args.self.now
-    c.loop-key.self c.feed.new.self c.loop-key.lines fault
-    c.loop-key.invariant c.in_err-more.ensures.plays))
+    (missed_failing (take i keys) (drop (i + 1) keys) one before mid after old c.loop-key.self
+    c.loop-key.lines c.in_err-more.ensures.plays.stays c.loop-key.invariant
+    (c.in_err-more.ensures.missed (sym (p.1 ∙ ap Err p.2) ∙ is)))
 
-pub returns-in_err-keep_lines : goal.returns-in_err-keep_lines
-returns-in_err-keep_lines g c =
+pub returns-in_err-keep_lines-clause-plays : goal.returns-in_err-keep_lines-clause-plays
+returns-in_err-keep_lines-clause-plays g c =
     let keys = c.args.keys.now in
     let i = c.loop-key.key-index in
     let p = err_from_is_err_and c.from_residual-in_err-keep_lines.result
@@ -56,8 +70,17 @@ loop-key-preserved g c =
     c.args.self.now c.loop-key.self c.feed.new.self c.loop-key.lines c.in_ok-more.more
     c.loop-key.invariant c.in_ok-more.ensures.plays)
 
-pub returns : goal.returns
-returns g c =
-    subst (λ (all : List Key). Played all (g.P.Pages.seen c.args.pages.now)
+pub returns-clause-plays : goal.returns-clause-plays
+returns-clause-plays g c =
+    subst (λ (all : List Key). Plays all (g.P.Pages.seen c.args.pages.now)
     (g.P.Pages.seen c.loop-key.pages) c.args.self.now c.loop-key.self (Ok c.loop-key.lines))
     (take_all c.loop-key.key-index c.args.keys.now c.loop-key-test.false) c.loop-key.invariant
+
+pub returns-clause-shown : goal.returns-clause-shown
+returns-clause-shown g c =
+    let before = g.P.Pages.seen c.args.pages.now in
+    let played = subst (λ (all : List Key). Plays all before
+    (g.P.Pages.seen c.loop-key.pages) c.args.self.now c.loop-key.self (Ok c.loop-key.lines))
+    (take_all c.loop-key.key-index c.args.keys.now c.loop-key-test.false) c.loop-key.invariant in
+    shows_on c.args.keys.now c.args.self.now c.loop-key.self c.loop-key.lines before.contents
+    played.leads

@@ -1,0 +1,200 @@
+-- Keys in a dialog.
+use Rattle.std.proofs.Common.{◌≡◌, ℕ, ◌-◌, Bool, true, false, List, [], ◌∷◌, ◌++◌, cond, ltb}
+use Rattle.std.proofs.Common.{Option, Some, None, Ok, refl, sym, ap, subst, ◌∙◌}
+use Rattle.std.proofs.lemmas.List.{append-nil}
+use Rattle.wap_input.specs.declared.key.Key.{Key}
+use Rattle.wap_input.specs.declared.key.Key.TheVariants as key
+use Rattle.wap_value.specs.declared.value.Value.{Value}
+use Rattle.wap_execution.specs.declared.dialog.Dialog.{Dialog}
+use Rattle.wap_execution_laws.specs.Settings.{uncounted}
+use Rattle.wap_execution_laws.specs.Keyed.{gone_on}
+use Rattle.wap_site.specs.Pages.{Pages as JudgedPages}
+use Rattle.wap_site.specs.Misses.{Asked}
+use Rattle.wap_site.specs.Asking.{Seen, Asks}
+use Rattle.wap_site.proofs.Asking.{Asks-nil, Stays-same}
+use Rattle.wap_world.specs.declared.timer.Timer.{Timer}
+use Rattle.wap_world.specs.declared.timer.Timer.TheVariants.{NotStarted, Running, Off, Expired}
+use Rattle.wap_world.specs.Shelves.{Shelf}
+use Rattle.wap_world.specs.World.{World, Place, place_now}
+use Rattle.wap_world.specs.Steps.{Scene, Step, joined, quiet, still}
+use Rattle.std.specs.Option.{option_and_then}
+use Rattle.wap_cardrules.specs.Timers.{timer_in, timer_variable}
+use Rattle.wap_world.specs.Timers.{store_under}
+use Rattle.wap_world.specs.Starting.{ended_script}
+use Rattle.wap_world.specs.Tasks.{onward, act}
+use Rattle.wap_world.specs.Screens.{at_place}
+use Rattle.wap_scripting.specs.Dialogs.{Reply, answers, ends_it, passes, reply_to, run_out}
+use Rattle.wap_scripting.specs.Dialogs.{tick_waiting, meanwhile, after_reply, answered_by}
+use Rattle.wap_scripting.specs.UnitSites.{Pages, shelf_of, unit_pages, keyed_host, ran_of}
+use Rattle.wap_scripting.specs.UnitSites.{units_site}
+use Rattle.wap_scripting.specs.Waiting.{Waits, inside, resumed_step}
+use Rattle.wap_scripting_laws.proofs.Replying.{stay_means}
+use Rattle.wap_context.specs.declared.waiting.Step.TheVariants.{Asks as AsksUser}
+use Rattle.wap_context.specs.Browsers.{Browser, Shows}
+use Rattle.wap_context.specs.Pausing.{Paused, waits_of}
+use Rattle.wap_context.specs.Sites.{fragment_call, IfOver}
+use Rattle.wap_context.specs.Acting.{Follows, Acts, answer, stop}
+use Rattle.wap_session.specs.Feeding.{left_open}
+use Rattle.wap_session.proofs.Turning.{turn_rule}
+
+-- ---- an answer, and the end
+
+-- what a key comes to in a dialog, by its reply
+abbrev replied : Pages → Waits → World → Reply → Key → List Key → Step
+replied pages one w reply key keys =
+    let got = after_reply (shelf_of pages) reply key keys (quiet (key ∷ keys) (still (inside w)))
+    (answered_by (shelf_of pages) one.dialog keys) in
+    onward (act (units_site fragment_call pages)) (ended_script (shelf_of pages) one.base
+    (ran_of (gone_on (uncounted one.limits (keyed_host pages)) (λ end. end) one.frames got.0
+    w.turns got.1)))
+
+-- a key that answers goes on with the script
+pub answers_so : (dialog : Dialog) (paused : Paused) (one : Key) (v : Value)
+    → reply_to dialog one ≡ answers v → (pages : Pages) (keys : List Key) (world : World)
+    → turn_rule (Some (waits_of dialog paused)) one pages keys world
+    ≡ answer paused v pages keys world
+unfolding resumed_step
+answers_so dialog paused one v is pages keys world =
+    ap (λ (reply : Reply). replied pages (waits_of dialog paused) world reply one keys)
+    is
+
+-- and `stop` ends it
+pub ends_so : (dialog : Dialog) (paused : Paused) (one : Key)
+    → reply_to dialog one ≡ ends_it → (pages : Pages) (keys : List Key) (world : World)
+    → turn_rule (Some (waits_of dialog paused)) one pages keys world
+    ≡ stop paused pages keys world
+unfolding resumed_step
+ends_so dialog paused one is pages keys world =
+    ap (λ (reply : Reply). replied pages (waits_of dialog paused) world reply one keys)
+    is
+
+-- ---- any other key
+
+-- a variable is set for a timer that ran out, whatever turns are left
+stored_apart : (name : Option (List ℕ)) (w : World)
+    → let scene = store_under name 0 (record (inside w) { timer = Expired }) in
+    record scene { world = record scene.world { turns = w.turns } }
+    ≡ store_under name 0 (record w { timer = Expired })
+stored_apart None w = refl
+stored_apart (Some name) w = refl
+
+-- so a timer that runs out in a dialog does what it does with its turns apart
+out_apart : (place : Option Place) (w : World) → let scene = at_place run_out place (inside w) in
+    record scene { world = record scene.world { turns = w.turns } } ≡ at_place run_out place w
+out_apart None w = refl
+out_apart (Some place) w =
+    stored_apart (option_and_then timer_variable (timer_in place.card)) w
+
+-- and so does time that passes
+tick_apart : (shelf : Shelf) (n : ℕ) (timer : Timer) (w : World)
+    → let scene = tick_waiting shelf n timer (inside w) in
+    record scene { world = record scene.world { turns = w.turns } } ≡ tick_waiting shelf n timer w
+tick_apart shelf n NotStarted w = refl
+tick_apart shelf n (Running time) w = by (ltb n time)
+  where
+    by : (b : Bool) → let scene = cond b
+        (still (record (inside w) { timer = Running (time - n) }))
+        (at_place run_out (place_now shelf w) (inside w)) in
+        record scene { world = record scene.world { turns = w.turns } }
+        ≡ cond b (still (record w { timer = Running (time - n) }))
+        (at_place run_out (place_now shelf w) w)
+    by true = refl
+    by false = out_apart (place_now shelf w) w
+tick_apart shelf n Off w = refl
+tick_apart shelf n Expired w = refl
+
+-- or any key that is no answer
+apart : (shelf : Shelf) (one : Key) (w : World) → let scene = meanwhile shelf one (inside w) in
+    record scene { world = record scene.world { turns = w.turns } } ≡ meanwhile shelf one w
+apart shelf (key.Open url) w = refl
+apart shelf (key.Do name) w = refl
+apart shelf (key.Pick n) w = refl
+apart shelf (key.Enter n text) w = refl
+apart shelf (key.Choose n m) w = refl
+apart shelf key.Back w = refl
+apart shelf (key.Tick n) w = tick_apart shelf n w.timer w
+apart shelf key.Ok w = refl
+apart shelf key.Cancel w = refl
+apart shelf (key.Answer text) w = refl
+apart shelf key.Stop w = refl
+apart shelf key.Vars w = refl
+apart shelf (key.Push bytes) w = refl
+apart shelf key.Inbox w = refl
+apart shelf (key.Follow n) w = refl
+
+module _ (pages : Pages) (one : Waits) (key : Key) (w : World)
+    (is : reply_to one.dialog key ≡ passes) where
+  -- what the key does
+  abbrev scene : Scene
+  scene = meanwhile (shelf_of pages) key w
+
+  -- the dialog stays for the keys after it
+  passes_so : (keys : List Key) → turn_rule (Some one) key pages keys w
+      ≡ joined (quiet [] scene) (resumed_step fragment_call pages one keys scene.world)
+  passes_so keys =
+      stay_means fragment_call pages one w key is keys
+      ∙ ap (λ (s : Scene). joined (quiet [] s) (resumed_step fragment_call pages one keys s.world))
+      (apart (shelf_of pages) key w)
+
+  -- and without these it is open
+  left_so : turn_rule (Some one) key pages [] w
+      ≡ record (quiet [] (record scene { lines = scene.lines ++ [] })) { is_open = true }
+  unfolding resumed_step
+  left_so = passes_so []
+
+  -- so this was done
+  shut_so : left_open (turn_rule (Some one) key pages [] w) ≡ quiet [] scene
+  shut_so = ap (λ (s : Step). left_open s) left_so
+      ∙ ap (λ (lines : List (List ℕ)). quiet [] (record scene { lines = lines }))
+      (append-nil scene.lines)
+
+-- a browser after such a key
+passes_follow : (dialog : Dialog) (paused : Paused) (one : Key) (old new : Browser)
+    (lines : List (List ℕ)) → reply_to dialog one ≡ passes
+    → Shows old new lines (λ shelf world. meanwhile shelf one world)
+    → (contents : Option JudgedPages) → IfOver contents old (λ pages.
+    Follows pages (turn_rule (Some (waits_of dialog paused)) one pages) old new
+    (AsksUser lines dialog paused))
+passes_follow dialog paused one old new lines is shows None = tt
+passes_follow dialog paused one old new lines is shows (Some judged) = λ over.
+    let pages = unit_pages judged in
+    let shelf = shelf_of pages in
+    let waits = waits_of dialog paused in
+    let w = old.world in
+    let left = left_so pages waits one w is in
+    let shut = shut_so pages waits one w is in
+    record {
+      leads = shows.world shelf over ∙ sym (ap (λ (s : Step). s.world) left);
+      tells = shows.tells shelf over ∙ sym (ap (λ (s : Step). s.lines) shut);
+      over = shows.over shelf over;
+      asks_user = ap (λ (s : Step). s.is_open) left;
+      on = λ keys. passes_so pages waits one w is keys
+          ∙ sym (ap (λ (s : Step). joined s
+          (resumed_step fragment_call pages waits keys s.world)) shut);
+    }
+
+-- it asked for nothing
+passes_asks : (dialog : Dialog) (paused : Paused) (one : Key) (seen : Seen) (old : Browser)
+    → reply_to dialog one ≡ passes → (contents : Option JudgedPages)
+    → IfOver contents old (λ pages.
+    Asks (turn_rule (Some (waits_of dialog paused)) one pages [] old.world).asked seen seen)
+passes_asks dialog paused one seen old is None = tt
+passes_asks dialog paused one seen old is (Some judged) = λ over.
+    subst (λ (asked : List Asked). Asks asked seen seen)
+    (sym (ap (λ (s : Step). s.asked)
+    (left_so (unit_pages judged) (waits_of dialog paused) one old.world is)))
+    (Asks-nil seen)
+
+pub passes_act : (dialog : Dialog) (paused : Paused) (one : Key) (seen : Seen)
+    (old new : Browser) (lines : List (List ℕ)) → reply_to dialog one ≡ passes
+    → Shows old new lines (λ shelf world. meanwhile shelf one world)
+    → Acts (turn_rule (Some (waits_of dialog paused)) one) seen seen old new
+    (Ok (AsksUser lines dialog paused))
+passes_act dialog paused one seen old new lines is shows = record {
+  follows = passes_follow dialog paused one old new lines is shows seen.contents;
+  asks = passes_asks dialog paused one seen old is seen.contents;
+  steady = refl;
+  failed = λ e. absurd cc;
+  missed = λ e. absurd cc;
+  stays = Stays-same seen;
+}

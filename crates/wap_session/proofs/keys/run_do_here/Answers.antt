@@ -1,0 +1,22 @@
+use Rattle.std.proofs.Common.{Option, sym, ap, ◌∙◌}
+use Rattle.wap_cardrules.specs.declared.task.Task.{Task}
+use Rattle.wap_input.specs.declared.key.Key.TheVariants as key
+use Rattle.wap_world.specs.Keys.{ignored, act_or, apply}
+use Rattle.wap_context.specs.Sites.{site_of}
+use Rattle.wap_session.proofs.Rules.{Acts-same}
+use Rattle.wap_session.proofs.Typing.{do_now}
+use Rattle.wap_session.proofs.keys.run_do_here.Goals as goal
+
+pub returns : goal.returns
+returns g c =
+    let old = c.args.context.now in
+    let name = c.args.name.now in
+    Acts-same
+    (λ pages keys world. act_or (ignored world) (site_of pages) keys world c.in_ok-task.task)
+    (λ pages keys world. apply (site_of pages) keys world (key.Do name))
+    (g.P.Pages.seen c.args.pages.now) (g.P.Pages.seen c.act_or_ignore.new.pages) old
+    c.act_or_ignore.new.context
+    (λ pages is keys. do_now name pages keys old is
+    ∙ ap (λ (task : Option Task). act_or (ignored old.world) (site_of pages) keys old.world task)
+    (sym c.in_ok-task.ensures))
+    c.act_or_ignore.result c.act_or_ignore.ensures
