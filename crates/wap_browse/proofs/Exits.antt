@@ -1,7 +1,7 @@
 -- How a session comes to its end.
 use Rattle.std.proofs.Common.{◌≡◌, ◌≢◌, ℕ, ◌≤◌, List, [], ◌∷◌, ◌++◌, Option, Some}
 use Rattle.std.proofs.Common.{refl, sym, ap, subst, map, ◌∙◌, arith}
-use Rattle.std.specs.Prelude.{IfSome, Ok}
+use Rattle.std.specs.Prelude.{Bool, true, false, is_some, IfSome, Ok}
 use Rattle.wap_base.specs.Count.{Rose}
 use Rattle.wap_devices.specs.Transfer.{Appends, AppendsPrefix}
 use Rattle.wap_devices.specs.Sources.{SourceSeen}
@@ -18,24 +18,27 @@ use Rattle.wap_keys.specs.Reading.{Reading, Answers, GivesUp, CountsFaults}
 use Rattle.wap_keys.proofs.ReaderLaws.{begun as nothing_read, given_of}
 use Rattle.wap_keys.proofs.WholeLaws.{known_of, few_of, some_rest, none_left}
 use Rattle.wap_keys.proofs.FaultLaws.{ended_counts}
-use Rattle.wap_site.specs.Pages.{Pages}
+use Rattle.wap_site.specs.Pages.{Pages as JudgedPages}
 use Rattle.wap_world.specs.Sites.{Site}
-use Rattle.wap_world.specs.Decks.{decks_site}
-use Rattle.wap_site.specs.Asking.{Stays, Fails}
+use Rattle.wap_site.specs.Asking.{Stays}
 use Rattle.wap_site.proofs.Asking.{Stays-same, Stays-then}
 use Rattle.wap_world.specs.Lines.{shown_line, lines_bytes}
 use Rattle.wap_world.specs.Sessions.{Begun, played, shown_by, world_of, transcript}
-use Rattle.wap_session.specs.Feeding.{State}
+use Rattle.wap_scripting.specs.UnitSites.{Pages, unit_pages}
+use Rattle.wap_context.specs.Missing.{Missed}
+use Rattle.wap_context.specs.Sites.{site_of}
+use Rattle.wap_session.specs.Feeding.{State, beginning, step_of, PlaysOn}
+use Rattle.wap_session.proofs.Playing.{on_none, on_more, open_by}
 use Rattle.wap_status.specs.declared.status.Status.{Status}
 use Rattle.wap_status.specs.declared.status.Status.TheVariants.{Done, Usage, Refused, StoreFault}
 use Rattle.wap_status.specs.declared.status.Status.TheVariants.{KeyReadFault, WriteFault, NoMemory}
-use Rattle.wap_status.specs.declared.status.Status.TheVariants.{BadKey, TooManyKeys}
+use Rattle.wap_status.specs.declared.status.Status.TheVariants.{BadKey, OpenDialog, TooManyKeys}
 use Rattle.wap_browse.specs.Outside.{Outside}
 use Rattle.wap_browse.specs.Handling.{IsPlayed}
-use Rattle.wap_browse.specs.Endings.{ended}
+use Rattle.wap_browse.specs.Endings.{at_end, ended}
 use Rattle.wap_browse.specs.inside.Played.{Moment, LeadsPart, GoesOn, Stops}
-use Rattle.wap_browse.specs.inside.Ends.{EndsSo, ShowsTo, Written, Comes, IsOfLine, StoreMoves}
-use Rattle.wap_browse.specs.inside.Ends.{ReadMoves, WriteMoves, BrowsesTo}
+use Rattle.wap_browse.specs.inside.Ends.{EndsSo, ShowsTo, EndsAt, Written, Comes, IsOfLine}
+use Rattle.wap_browse.specs.inside.Ends.{StoreMoves, ReadMoves, WriteMoves, BrowsesTo}
 use Rattle.wap_browse.proofs.Optional.{if_some, some_fact}
 use Rattle.wap_browse.proofs.Stepping.{none_lines}
 use Rattle.wap_browse.proofs.Firsts.{first_all, opened_first, prefix_whole, prefix_of}
@@ -55,9 +58,9 @@ comes_by : (begun : Begun) (old new : Outside) (status : Status) (taken : List �
     → HasGiven old.source new.source taken given
     → ((bytes rest : List ℕ) → old.source.left ≡ Some bytes → new.source.left ≡ Some rest
     → EndsSo status bytes taken rest given)
-    → ((pages : Pages) (bytes : List ℕ) → old.pages.contents ≡ Some pages
+    → ((judged : JudgedPages) (bytes : List ℕ) → old.pages.contents ≡ Some judged
     → AreFirst given (keys_of bytes).keys
-    → Written status (decks_site pages) begun bytes given old new)
+    → Written status (site_of (unit_pages judged)) begun bytes given old new)
     → IfSome old.source.left (λ bytes. Comes begun bytes old new status)
 comes_by begun old new status taken given has ends written = if_some old.source.left
     (λ bytes. Comes begun bytes old new status)
@@ -76,8 +79,8 @@ comes_by begun old new status taken given has ends written = if_some old.source.
       prompt = has.prompt;
       ends = ends bytes rest known left;
       written = if_some old.pages.contents
-          (λ pages. Written status (decks_site pages) begun bytes given old new)
-          (λ pages is. written pages bytes is of_all);
+          (λ judged. Written status (site_of (unit_pages judged)) begun bytes given old new)
+          (λ judged is. written judged bytes is of_all);
     })
 
 -- ---- the keys came to their end
@@ -91,60 +94,81 @@ keys_are old new bytes taken given ending known read no_fault =
     (known_of old new taken given ending read no_fault)
 
 -- how the bytes end
-ends_so : (old new : SourceSeen) (ending : Ending) (bytes taken rest : List ℕ) (given : List Key)
+ends_so : (is_open : Bool) (old new : SourceSeen) (ending : Ending) (bytes taken rest : List ℕ)
+    (given : List Key)
     → old.left ≡ Some bytes → new.left ≡ Some rest → IsRead old new taken given ending
-    → EndsSo (ended ending) bytes taken rest given
-ends_so old new way.End bytes taken rest given known left read = (
+    → EndsSo (ended is_open ending) bytes taken rest given
+ends_so false old new way.End bytes taken rest given known left read = (
   none_left new.left rest left read.ends.0.left,
   keys_are old new bytes taken given way.End known read (λ e. absurd cc),
 )
-ends_so old new (way.BadKey line fault) bytes taken rest given known left read =
+ends_so true old new way.End bytes taken rest given known left read = (
+  none_left new.left rest left read.ends.0.left,
+  keys_are old new bytes taken given way.End known read (λ e. absurd cc),
+)
+ends_so is_open old new (way.BadKey line fault) bytes taken rest given known left read =
     keys_are old new bytes taken given (way.BadKey line fault) known read (λ e. absurd cc)
-ends_so old new way.TooManyKeys bytes taken rest given known left read = (
+ends_so is_open old new way.TooManyKeys bytes taken rest given known left read = (
   read.ends.0,
   keys_are old new bytes taken given way.TooManyKeys known read (λ e. absurd cc),
 )
-ends_so old new way.ReadFault bytes taken rest given known left read = read.ends.1
+ends_so is_open old new way.ReadFault bytes taken rest given known left read = read.ends.1
 
 -- however the keys came to their end, all that was given was played
-shows_so : (ending : Ending) (site : Site) (begun : Begun) (given : List Key) (old new : Outside)
-    → IsPlayed site begun given old new → ShowsTo (ended ending) site begun given old new
-shows_so way.End site begun given old new so = so
-shows_so (way.BadKey line fault) site begun given old new so = so
-shows_so way.TooManyKeys site begun given old new so = so
-shows_so way.ReadFault site begun given old new so = so
+shows_so : (is_open : Bool) (ending : Ending) (site : Site) (begun : Begun) (given : List Key)
+    (old new : Outside) → IsPlayed site begun given old new
+    → ShowsTo (ended is_open ending) site begun given old new
+shows_so false way.End site begun given old new so = so
+shows_so true way.End site begun given old new so = so
+shows_so is_open (way.BadKey line fault) site begun given old new so = so
+shows_so is_open way.TooManyKeys site begun given old new so = so
+shows_so is_open way.ReadFault site begun given old new so = so
+
+-- the status says whether a dialog is open
+opens_so : (is_open : Bool) (ending : Ending) (other : Bool) → other ≡ is_open
+    → EndsAt (ended is_open ending) other
+opens_so false way.End other is = is
+opens_so true way.End other is = is
+opens_so is_open (way.BadKey line fault) other is = tt
+opens_so is_open way.TooManyKeys other is = tt
+opens_so is_open way.ReadFault other is = tt
 
 -- and the store didn't fail
-store_so : (ending : Ending) (before after : ℕ) → after ≡ before
-    → StoreMoves (ended ending) before after
-store_so way.End before after is = is
-store_so (way.BadKey line fault) before after is = is
-store_so way.TooManyKeys before after is = is
-store_so way.ReadFault before after is = is
+store_so : (is_open : Bool) (ending : Ending) (before after : ℕ) → after ≡ before
+    → StoreMoves (ended is_open ending) before after
+store_so false way.End before after is = is
+store_so true way.End before after is = is
+store_so is_open (way.BadKey line fault) before after is = is
+store_so is_open way.TooManyKeys before after is = is
+store_so is_open way.ReadFault before after is = is
 
 -- nor did the sink
-write_so : (ending : Ending) (before after : ℕ) → after ≡ before
-    → WriteMoves (ended ending) before after
-write_so way.End before after is = is
-write_so (way.BadKey line fault) before after is = is
-write_so way.TooManyKeys before after is = is
-write_so way.ReadFault before after is = is
+write_so : (is_open : Bool) (ending : Ending) (before after : ℕ) → after ≡ before
+    → WriteMoves (ended is_open ending) before after
+write_so false way.End before after is = is
+write_so true way.End before after is = is
+write_so is_open (way.BadKey line fault) before after is = is
+write_so is_open way.TooManyKeys before after is = is
+write_so is_open way.ReadFault before after is = is
 
 -- the source failed only where the ending says so
-read_so : (ending : Ending) (before now after : ℕ) → now ≡ before
-    → CountsFaults now after (Ok (next.Ended ending)) → ReadMoves (ended ending) before after
-read_so way.End before now after is counts = counts ∙ is
-read_so (way.BadKey line fault) before now after is counts = counts ∙ is
-read_so way.TooManyKeys before now after is counts = counts ∙ is
-read_so way.ReadFault before now after is counts = rose_from before now after is counts.1
+read_so : (is_open : Bool) (ending : Ending) (before now after : ℕ) → now ≡ before
+    → CountsFaults now after (Ok (next.Ended ending))
+    → ReadMoves (ended is_open ending) before after
+read_so false way.End before now after is counts = counts ∙ is
+read_so true way.End before now after is counts = counts ∙ is
+read_so is_open (way.BadKey line fault) before now after is counts = counts ∙ is
+read_so is_open way.TooManyKeys before now after is counts = counts ∙ is
+read_so is_open way.ReadFault before now after is counts = rose_from before now after is counts.1
 
 -- out of memory is no fault of a line
-of_line_so : (ending : Ending) (old new : SourceSeen) (taken : List ℕ) (given : List Key)
-    → IsRead old new taken given ending → IsOfLine (ended ending)
-of_line_so way.End old new taken given read = tt
-of_line_so (way.BadKey line fault) old new taken given read = read.ends.0
-of_line_so way.TooManyKeys old new taken given read = tt
-of_line_so way.ReadFault old new taken given read = tt
+of_line_so : (is_open : Bool) (ending : Ending) (old new : SourceSeen) (taken : List ℕ)
+    (given : List Key) → IsRead old new taken given ending → IsOfLine (ended is_open ending)
+of_line_so false way.End old new taken given read = tt
+of_line_so true way.End old new taken given read = tt
+of_line_so is_open (way.BadKey line fault) old new taken given read = read.ends.0
+of_line_so is_open way.TooManyKeys old new taken given read = tt
+of_line_so is_open way.ReadFault old new taken given read = tt
 
 -- all keys that were given were played, and no more are
 pub ended_browses : (begun : Begun) (old now : Outside) (reader after : Reading) (state : State)
@@ -152,35 +176,41 @@ pub ended_browses : (begun : Begun) (old now : Outside) (reader after : Reading)
     → Goes begun old now reader state key → GoesOn key (moment_of now state) new
     → Answers now.source source reader after (next.Ended ending)
     → CountsFaults now.source.faults source.faults (Ok (next.Ended ending))
-    → BrowsesTo begun old (read_to (played_to now new) source) (ended ending)
+    → BrowsesTo begun old (read_to (played_to now new) source)
+    (ended (is_some new.state.waiting) ending)
 ended_browses begun old now reader after state key new source ending goes so answers counts =
     let given = goes.given in
     let (more, read) = answers old.source goes.taken given goes.read in
     let taken = goes.taken ++ more in
     let last = read_to (played_to now new) source in
     let browsed = all_pressed begun old now reader state key new goes so in
+    let is_open = is_some new.state.waiting in
     record {
-      known = comes_by begun old last (ended ending) taken given read.given
+      known = comes_by begun old last (ended is_open ending) taken given read.given
           (λ bytes rest known left.
-          ends_so old.source source ending bytes taken rest given known left read)
-          (λ pages bytes is of_all.
+          ends_so is_open old.source source ending bytes taken rest given known left read)
+          (λ judged bytes is of_all.
           let stands = some_fact old.pages.contents
-          (λ p. Stands p begun (Open begun.url ∷ given) old (played_to now new) new.state)
-          pages is browsed.stands in
+          (λ p. Stands (unit_pages p) begun (Open begun.url ∷ given) old (played_to now new)
+          new.state) judged is browsed.stands in
+          let pages = unit_pages judged in
           record {
             prefix = prefix_of pages begun (Open begun.url ∷ given) (keys_of bytes).keys
-                old.sink.written new.sink.written
-                (opened_first begun.url given (keys_of bytes).keys of_all)
+                new.state old.sink.written new.sink.written
+                (opened_first begun.url given (keys_of bytes).keys of_all) stands.on
                 (prefix_whole old.sink.written new.sink.written
-                (transcript (decks_site pages) begun given) stands.wrote);
-            shows = shows_so ending (decks_site pages) begun given old last
+                (transcript (site_of pages) begun given) stands.wrote);
+            shows = shows_so is_open ending (site_of pages) begun given old last
                 (record { wrote = stands.wrote; asked = stands.asks.fetches });
+            opens = opens_so is_open ending
+                (played (site_of pages) (Open begun.url ∷ given) (world_of begun)).is_open
+                (open_by pages (Open begun.url ∷ given) (beginning begun) new.state stands.on);
           });
-      store = store_so ending old.pages.faults new.pages.faults browsed.steady;
-      read = read_so ending old.source.faults now.source.faults source.faults goes.read.steady
+      store = store_so is_open ending old.pages.faults new.pages.faults browsed.steady;
+      read = read_so is_open ending old.source.faults now.source.faults source.faults goes.read.steady
           counts;
-      write = write_so ending old.sink.faults new.sink.faults browsed.write_steady;
-      of_line = of_line_so ending old.source source taken given read;
+      write = write_so is_open ending old.sink.faults new.sink.faults browsed.write_steady;
+      of_line = of_line_so is_open ending old.source source taken given read;
       stays = browsed.stays;
       read_counts = omega (
         arith,
@@ -208,18 +238,20 @@ reader_runs_out begun old now reader state key new source goes so gives steady =
     let browsed = all_pressed begun old now reader state key new goes so in
     record {
       known = comes_by begun old last NoMemory taken given has (λ bytes rest known left. tt)
-          (λ pages bytes is of_all.
+          (λ judged bytes is of_all.
           let stands = some_fact old.pages.contents
-          (λ p. Stands p begun (Open begun.url ∷ given) old (played_to now new) new.state)
-          pages is browsed.stands in
+          (λ p. Stands (unit_pages p) begun (Open begun.url ∷ given) old (played_to now new)
+          new.state) judged is browsed.stands in
+          let pages = unit_pages judged in
           record {
             prefix = prefix_of pages begun (Open begun.url ∷ given) (keys_of bytes).keys
-                old.sink.written new.sink.written
-                (opened_first begun.url given (keys_of bytes).keys of_all)
+                new.state old.sink.written new.sink.written
+                (opened_first begun.url given (keys_of bytes).keys of_all) stands.on
                 (prefix_whole old.sink.written new.sink.written
-                (transcript (decks_site pages) begun given) stands.wrote);
+                (transcript (site_of pages) begun given) stands.wrote);
             shows = memory_stops pages begun (Open begun.url ∷ given) given old last
                 (first_all (Open begun.url ∷ given)) (omega arith) (omega arith) stands.wrote;
+            opens = tt;
           });
       store = tt;
       read = steady ∙ goes.read.steady;
@@ -237,9 +269,10 @@ reader_runs_out begun old now reader state key new source goes so gives steady =
 -- what all stops share
 stopped_by : (begun : Begun) (old now : Outside) (reader : Reading) (state : State) (key : Key)
     (new : Moment) (status : Status) → (goes : Goes begun old now reader state key)
-    → ((pages : Pages) (bytes : List ℕ) → Stands pages begun goes.pressed old now state
-    → AreFirst goes.given (keys_of bytes).keys → old.pages.contents ≡ Some pages
-    → Written status (decks_site pages) begun bytes goes.given old (played_to now new))
+    → ((judged : JudgedPages) (bytes : List ℕ)
+    → Stands (unit_pages judged) begun goes.pressed old now state
+    → AreFirst goes.given (keys_of bytes).keys → old.pages.contents ≡ Some judged
+    → Written status (site_of (unit_pages judged)) begun bytes goes.given old (played_to now new))
     → ((bytes rest : List ℕ) → EndsSo status bytes goes.taken rest goes.given)
     → StoreMoves status old.pages.faults new.pages.faults
     → ReadMoves status old.source.faults now.source.faults
@@ -252,9 +285,10 @@ stopped_by begun old now reader state key new status goes written ends store rea
     record {
       known = comes_by begun old (played_to now new) status goes.taken goes.given has
           (λ bytes rest known left. ends bytes rest)
-          (λ pages bytes is of_all.
-          written pages bytes
-          (some_fact old.pages.contents (λ p. Stands p begun goes.pressed old now state) pages is
+          (λ judged bytes is of_all.
+          written judged bytes
+          (some_fact old.pages.contents
+          (λ p. Stands (unit_pages p) begun goes.pressed old now state) judged is
           goes.browsed.stands) of_all is);
       store = store;
       read = read;
@@ -273,15 +307,15 @@ prefix_unwritten : (pages : Pages) (begun : Begun) (pressed given all : List Key
     → IsNext begun pressed given key → AreFirst given all
     → Stands pages begun pressed old now state
     → sink ≡ now.sink
-    → AppendsPrefix old.sink.written sink.written (transcript (decks_site pages) begun all)
+    → AppendsPrefix old.sink.written sink.written (transcript (site_of pages) begun all)
 prefix_unwritten pages begun pressed given all key old now state sink next first stands unwritten =
     subst (λ (s : SinkSeen).
-    AppendsPrefix old.sink.written s.written (transcript (decks_site pages) begun all))
+    AppendsPrefix old.sink.written s.written (transcript (site_of pages) begun all))
     (sym unwritten)
-    (prefix_of pages begun pressed all old.sink.written now.sink.written
-    (pressed_first begun pressed given all key next first)
+    (prefix_of pages begun pressed all state old.sink.written now.sink.written
+    (pressed_first begun pressed given all key next first) stands.on
     (prefix_whole old.sink.written now.sink.written
-    (lines_bytes (shown_by (played (decks_site pages) pressed (world_of begun)))) stands.wrote))
+    (lines_bytes (shown_by (played (site_of pages) pressed (world_of begun)))) stands.wrote))
 
 -- a sink that stays has failed as often as before
 sink_steady : (before now after : SinkSeen) → now.faults ≡ before.faults → after ≡ now
@@ -297,34 +331,40 @@ stop_browses begun old now reader state key new StoreFault goes so =
     let steady =
     sink_steady old.sink now.sink new.sink goes.browsed.write_steady so.unwritten in
     stopped_by begun old now reader state key new StoreFault goes
-    (λ pages bytes stands first is.
+    (λ judged bytes stands first is.
+    let pages = unit_pages judged in
     record {
       prefix = prefix_unwritten pages begun goes.pressed goes.given (keys_of bytes).keys key old
           now state new.sink goes.next first stands so.unwritten;
       shows = store_stops pages begun goes.pressed goes.given key old now state new goes.next stands
-          (step_known pages begun goes.pressed old now state key
-          (λ p step. Fails step.asked now.pages new.pages) is goes.browsed.stays stands so.missed)
-          so.unwritten;
+          (step_known judged begun goes.pressed old now state
+          (λ p. Missed (step_of p (key ∷ []) state).asked now.pages new.pages) is
+          goes.browsed.stays stands so.missed)
+          so.stays so.unwritten;
+      opens = tt;
     })
     (λ bytes rest. tt)
     (rose_from old.pages.faults now.pages.faults new.pages.faults goes.browsed.steady so.rose)
     goes.read.steady steady tt so.stays (omega (arith, steady))
 stop_browses begun old now reader state key new WriteFault goes so =
     stopped_by begun old now reader state key new WriteFault goes
-    (λ pages bytes stands first is.
-    let leads = step_known pages begun goes.pressed old now state key
-    (λ p step. LeadsPart step (moment_of now state) new) is goes.browsed.stays stands so.leads in
-    let step = played (decks_site pages) goes.pressed (world_of begun) in
-    let both = played (decks_site pages) (goes.pressed ++ key ∷ []) (world_of begun) in
+    (λ judged bytes stands first is.
+    let pages = unit_pages judged in
+    let leads = step_known judged begun goes.pressed old now state
+    (λ p. LeadsPart p key (moment_of now state) new) is goes.browsed.stays stands so.leads in
+    let step = played (site_of pages) goes.pressed (world_of begun) in
+    let both = played (site_of pages) (goes.pressed ++ key ∷ []) (world_of begun) in
     record {
-      prefix = prefix_of pages begun (goes.pressed ++ key ∷ []) (keys_of bytes).keys
+      prefix = prefix_of pages begun (goes.pressed ++ key ∷ []) (keys_of bytes).keys new.state
           old.sink.written new.sink.written
           (both_first begun goes.pressed goes.given (keys_of bytes).keys key goes.next first)
+          (on_more pages goes.pressed key (beginning begun) state new.state stands.on leads.on)
           (part_prefix old.sink.written new.sink.written (lines_bytes (shown_by step))
           (lines_bytes (shown_by both))
           (sink_part pages begun goes.pressed key old now state new stands leads));
       shows = sink_stops pages begun goes.pressed goes.given key old now state new goes.next stands
           leads;
+      opens = tt;
     })
     (λ bytes rest. tt)
     (so.steady ∙ goes.browsed.steady)
@@ -336,12 +376,14 @@ stop_browses begun old now reader state key new NoMemory goes so =
     let steady =
     sink_steady old.sink now.sink new.sink goes.browsed.write_steady so.unwritten in
     stopped_by begun old now reader state key new NoMemory goes
-    (λ pages bytes stands first is.
+    (λ judged bytes stands first is.
+    let pages = unit_pages judged in
     record {
       prefix = prefix_unwritten pages begun goes.pressed goes.given (keys_of bytes).keys key old
           now state new.sink goes.next first stands so.unwritten;
       shows = key_runs_out pages begun goes.pressed goes.given key old now state new goes.next
           stands so.unwritten;
+      opens = tt;
     })
     (λ bytes rest. tt)
     tt goes.read.steady steady tt so.stays (omega (arith, steady))
@@ -350,6 +392,7 @@ stop_browses begun old now reader state key new Usage goes so = absurd so
 stop_browses begun old now reader state key new (Refused fault) goes so = absurd so
 stop_browses begun old now reader state key new KeyReadFault goes so = absurd so
 stop_browses begun old now reader state key new (BadKey line fault) goes so = absurd so
+stop_browses begun old now reader state key new OpenDialog goes so = absurd so
 stop_browses begun old now reader state key new TooManyKeys goes so = absurd so
 
 -- ---- memory ran out before anything was done
@@ -357,7 +400,7 @@ stop_browses begun old now reader state key new TooManyKeys goes so = absurd so
 -- the lines of no key are none
 stands_nowhere : (pages : Pages) (begun : Begun) (written : Option (List ℕ))
     → Appends written written
-    (lines_bytes (shown_by (played (decks_site pages) [] (world_of begun))))
+    (lines_bytes (shown_by (played (site_of pages) [] (world_of begun))))
 stands_nowhere pages begun written =
     subst (λ (lines : List (List ℕ)). Appends written written (lines_bytes (map shown_line lines)))
     (sym (none_lines pages (world_of begun))) (Appends-nil written)
@@ -368,15 +411,18 @@ nothing_browses begun old =
     let has = given_of old.source old.source [] [] _ (nothing_read old.source [] refl) in
     record {
       known = comes_by begun old old NoMemory [] [] has (λ bytes rest known left. tt)
-          (λ pages bytes is of_all.
+          (λ judged bytes is of_all.
+          let pages = unit_pages judged in
           record {
-            prefix = prefix_of pages begun [] (keys_of bytes).keys old.sink.written
-                old.sink.written (Open begun.url ∷ (keys_of bytes).keys, refl)
+            prefix = prefix_of pages begun [] (keys_of bytes).keys (beginning begun)
+                old.sink.written old.sink.written (Open begun.url ∷ (keys_of bytes).keys, refl)
+                (on_none pages (beginning begun))
                 (prefix_whole old.sink.written old.sink.written
-                (lines_bytes (shown_by (played (decks_site pages) [] (world_of begun))))
+                (lines_bytes (shown_by (played (site_of pages) [] (world_of begun))))
                 (stands_nowhere pages begun old.sink.written));
             shows = memory_stops pages begun [] [] old old (Open begun.url ∷ [], refl)
                 (omega arith) (omega arith) (stands_nowhere pages begun old.sink.written);
+            opens = tt;
           });
       store = tt;
       read = refl;

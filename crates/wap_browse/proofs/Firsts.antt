@@ -6,8 +6,9 @@ use Rattle.wap_devices.specs.Transfer.{Appends, AppendsPrefix}
 use Rattle.wap_input.specs.declared.key.Key.{Key}
 use Rattle.wap_input.specs.declared.key.Key.TheVariants.{Open}
 use Rattle.wap_keys.specs.Read.{AreFirst}
-use Rattle.wap_site.specs.Pages.{Pages}
-use Rattle.wap_world.specs.Decks.{decks_site}
+use Rattle.wap_scripting.specs.UnitSites.{Pages}
+use Rattle.wap_context.specs.Sites.{site_of}
+use Rattle.wap_session.specs.Feeding.{State, beginning, step_of, PlaysOn}
 use Rattle.wap_world.specs.Lines.{lines_bytes}
 use Rattle.wap_world.specs.Sessions.{Begun, played, shown_by, world_of, transcript, first_steps}
 use Rattle.wap_browse.proofs.Stepping.{bytes_in_parts}
@@ -39,10 +40,10 @@ one_longer pressed key = omega (arith, length-append pressed (key ∷ []))
 -- the steps of so many first keys are those of these
 pub steps_of : (pages : Pages) (begun : Begun) (pressed all : List Key) (count : ℕ)
     → count ≡ length pressed → AreFirst pressed (Open begun.url ∷ all)
-    → first_steps (decks_site pages) begun all count
-    ≡ played (decks_site pages) pressed (world_of begun)
+    → first_steps (site_of pages) begun all count
+    ≡ played (site_of pages) pressed (world_of begun)
 steps_of pages begun pressed all count many (others, split) =
-    ap (λ (keys : List Key). played (decks_site pages) keys (world_of begun))
+    ap (λ (keys : List Key). played (site_of pages) keys (world_of begun))
     (ap (take count) split ∙ take_at pressed others count (sym many))
 
 -- ---- bytes
@@ -63,17 +64,18 @@ pub prefix_whole : (before after : Option (List ℕ)) (bytes : List ℕ)
 prefix_whole before after bytes wrote = (bytes, [], sym (append-nil bytes), wrote)
 
 -- a prefix of the bytes of first keys is one of the transcript over all
-pub prefix_of : (pages : Pages) (begun : Begun) (pressed all : List Key)
+pub prefix_of : (pages : Pages) (begun : Begun) (pressed all : List Key) (state : State)
     (before after : Option (List ℕ)) → AreFirst pressed (Open begun.url ∷ all)
+    → PlaysOn pressed pages (beginning begun) state
     → AppendsPrefix before after
-    (lines_bytes (shown_by (played (decks_site pages) pressed (world_of begun))))
-    → AppendsPrefix before after (transcript (decks_site pages) begun all)
-prefix_of pages begun pressed all before after (others, split) prefix =
+    (lines_bytes (shown_by (played (site_of pages) pressed (world_of begun))))
+    → AppendsPrefix before after (transcript (site_of pages) begun all)
+prefix_of pages begun pressed all state before after (others, split) on prefix =
     let world = world_of begun in
-    let step = played (decks_site pages) pressed world in
+    let step = played (site_of pages) pressed world in
     prefix_more before after (lines_bytes (shown_by step))
-    (lines_bytes (shown_by (played (decks_site pages) others step.world)))
-    (transcript (decks_site pages) begun all)
-    (ap (λ (keys : List Key). lines_bytes (shown_by (played (decks_site pages) keys world))) split
-    ∙ bytes_in_parts pages pressed others world)
+    (lines_bytes (shown_by (step_of pages others state)))
+    (transcript (site_of pages) begun all)
+    (ap (λ (keys : List Key). lines_bytes (shown_by (played (site_of pages) keys world))) split
+    ∙ bytes_in_parts pages begun pressed state on others)
     prefix

@@ -10,24 +10,21 @@ use Rattle.wap_input.specs.declared.key.Key.{Key}
 use Rattle.wap_input.specs.declared.key.Key.TheVariants.{Open}
 use Rattle.wap_keys.specs.declared.ending.Next.TheVariants as next
 use Rattle.wap_keys.specs.Reading.{Reading, HasRead, Answers}
-use Rattle.wap_site.specs.Pages.{Pages}
+use Rattle.wap_site.specs.Pages.{Pages as JudgedPages}
 use Rattle.wap_site.specs.Misses.{Asked}
 use Rattle.wap_site.specs.Asking.{Stays, Asks}
 use Rattle.wap_site.proofs.Asking.{Asks-nil, Asks-then, Stays-same, Stays-then}
-use Rattle.wap_world.specs.Sites.{Site}
-use Rattle.wap_world.specs.Decks.{shelf_of, decks_site}
-use Rattle.wap_world.specs.World.{World}
 use Rattle.wap_world.specs.Lines.{shown_line, lines_bytes}
-use Rattle.wap_world.specs.Steps.{Step}
-use Rattle.wap_world.specs.Keys.{react}
 use Rattle.wap_world.specs.Sessions.{Begun, played, shown_by, world_of}
+use Rattle.wap_scripting.specs.UnitSites.{Pages, shelf_of, unit_pages}
 use Rattle.wap_context.specs.Browsers.{IsOver}
-use Rattle.wap_session.specs.Feeding.{State, beginning}
+use Rattle.wap_context.specs.Sites.{site_of}
+use Rattle.wap_session.specs.Feeding.{State, beginning, step_of, PlaysOn}
+use Rattle.wap_session.proofs.Playing.{on_none, on_more}
 use Rattle.wap_browse.specs.Outside.{Outside}
 use Rattle.wap_browse.specs.inside.Played.{Moment, IfKnown, Leads, GoesOn}
 use Rattle.wap_browse.proofs.Optional.{if_some, some_fact}
-use Rattle.wap_browse.proofs.Stepping.{none_world, none_lines, none_asked}
-use Rattle.wap_browse.proofs.Stepping.{more_world, more_asked, more_bytes}
+use Rattle.wap_browse.proofs.Stepping.{none_lines, none_asked, asked_in_parts, bytes_in_parts}
 
 -- ---- what is seen
 
@@ -48,16 +45,18 @@ read_to now source = record now { source = source }
 -- where the pages are known: the session and the outside stand where these keys lead
 pub record Stands (pages : Pages) (begun : Begun) (pressed : List Key) (old now : Outside)
     (state : State) : Type 0 where
-  pub world : state.browser.world ≡ (played (decks_site pages) pressed (world_of begun)).world
   pub over : IsOver (shelf_of pages) state.browser
-  pub asks : Asks (played (decks_site pages) pressed (world_of begun)).asked old.pages now.pages
+  -- further keys go on from there
+  pub on : PlaysOn pressed pages (beginning begun) state
+  pub asks : Asks (played (site_of pages) pressed (world_of begun)).asked old.pages now.pages
   pub wrote : Appends old.sink.written now.sink.written
-      (lines_bytes (shown_by (played (decks_site pages) pressed (world_of begun))))
+      (lines_bytes (shown_by (played (site_of pages) pressed (world_of begun))))
 
 -- so far nothing failed, and the session stands where these keys lead
 pub record Browsed (begun : Begun) (pressed : List Key) (old now : Outside) (state : State) : Type 0
   where
-    pub stands : IfSome old.pages.contents (λ pages. Stands pages begun pressed old now state)
+    pub stands : IfSome old.pages.contents
+        (λ judged. Stands (unit_pages judged) begun pressed old now state)
     pub ready : state.is_over ≡ false
     pub stays : Stays old.pages now.pages
     pub steady : now.pages.faults ≡ old.pages.faults
@@ -81,8 +80,8 @@ stands_first : (pages : Pages) (begun : Begun) (old : Outside)
 stands_first pages begun old =
     let world = world_of begun in
     record {
-      world = sym (none_world pages world);
       over = refl;
+      on = on_none pages (beginning begun);
       asks = subst (λ (asked : List Asked). Asks asked old.pages old.pages)
           (sym (none_asked pages world)) (Asks-nil old.pages);
       wrote = subst (Appends old.sink.written old.sink.written)
@@ -102,8 +101,8 @@ goes_first begun old reader state is read = record {
   next = refl;
   browsed = subst (Browsed begun [] old old) (sym is) (record {
     stands = if_some old.pages.contents
-        (λ pages. Stands pages begun [] old old (beginning begun))
-        (λ pages known. stands_first pages begun old);
+        (λ judged. Stands (unit_pages judged) begun [] old old (beginning begun))
+        (λ judged known. stands_first (unit_pages judged) begun old);
     ready = refl;
     stays = Stays-same old.pages;
     steady = refl;
@@ -114,41 +113,34 @@ goes_first begun old reader state is read = record {
 
 -- ---- a key
 
--- a fact of a key's step, where the session stands
-pub step_known : (pages : Pages) (begun : Begun) (pressed : List Key) (old now : Outside)
-    (state : State) (key : Key) (Fact : Site → Step → Type 0)
-    → old.pages.contents ≡ Some pages → Stays old.pages now.pages
-    → Stands pages begun pressed old now state
-    → IfKnown key (moment_of now state) Fact
-    → Fact (decks_site pages)
-    (react (decks_site pages) key [] (played (decks_site pages) pressed (world_of begun)).world)
-step_known pages begun pressed old now state key Fact known stays stands fact =
-    subst (λ (world : World). Fact (decks_site pages) (react (decks_site pages) key [] world))
-    stands.world
-    (some_fact (option_map decks_site now.pages.contents)
-    (λ site. IsOver site.shelf state.browser → Fact site (react site key [] state.browser.world))
-    (decks_site pages) (ap (option_map decks_site) (stays.contents ∙ known)) fact stands.over)
+-- a fact of a key, where the session stands
+pub step_known : (judged : JudgedPages) (begun : Begun) (pressed : List Key) (old now : Outside)
+    (state : State) (Fact : Pages → Type 0)
+    → old.pages.contents ≡ Some judged → Stays old.pages now.pages
+    → Stands (unit_pages judged) begun pressed old now state
+    → IfKnown (moment_of now state) Fact → Fact (unit_pages judged)
+step_known judged begun pressed old now state Fact known stays stands fact =
+    some_fact (option_map unit_pages now.pages.contents)
+    (λ pages. IsOver (shelf_of pages) state.browser → Fact pages)
+    (unit_pages judged) (ap (option_map unit_pages) (stays.contents ∙ known)) fact stands.over
 
 -- one key further
 stands_more : (pages : Pages) (begun : Begun) (pressed : List Key) (old now : Outside)
     (state : State) (key : Key) (new : Moment)
     → Stands pages begun pressed old now state
-    → Leads (shelf_of pages)
-    (react (decks_site pages) key [] (played (decks_site pages) pressed (world_of begun)).world)
-    (moment_of now state) new
+    → Leads pages key (moment_of now state) new
     → Stands pages begun (pressed ++ key ∷ []) old (played_to now new) new.state
 stands_more pages begun pressed old now state key new stands leads =
-    let world = world_of begun in
-    let step = played (decks_site pages) pressed world in
-    let one = react (decks_site pages) key [] step.world in
+    let step = played (site_of pages) pressed (world_of begun) in
+    let one = step_of pages (key ∷ []) state in
     record {
-      world = leads.world ∙ sym (more_world pages pressed key world);
       over = leads.over;
+      on = on_more pages pressed key (beginning begun) state new.state stands.on leads.on;
       asks = subst (λ (asked : List Asked). Asks asked old.pages new.pages)
-          (sym (more_asked pages pressed key world))
+          (sym (asked_in_parts pages begun pressed state stands.on (key ∷ [])))
           (Asks-then step.asked one.asked old.pages now.pages new.pages stands.asks leads.asks);
       wrote = subst (Appends old.sink.written new.sink.written)
-          (sym (more_bytes pages pressed key world))
+          (sym (bytes_in_parts pages begun pressed state stands.on (key ∷ [])))
           (Appends-then old.sink.written now.sink.written new.sink.written
           (lines_bytes (shown_by step))
           (lines_bytes (shown_by one)) stands.wrote leads.wrote);
@@ -161,13 +153,14 @@ pub browsed_more : (begun : Begun) (pressed : List Key) (old now : Outside) (sta
     → Browsed begun (pressed ++ key ∷ []) old (played_to now new) new.state
 browsed_more begun pressed old now state key new browsed goes = record {
   stands = if_some old.pages.contents
-      (λ pages. Stands pages begun (pressed ++ key ∷ []) old (played_to now new) new.state)
-      (λ pages known.
+      (λ judged. Stands (unit_pages judged) begun (pressed ++ key ∷ []) old (played_to now new)
+      new.state)
+      (λ judged known.
       let stands = some_fact old.pages.contents
-      (λ p. Stands p begun pressed old now state) pages known browsed.stands in
-      stands_more pages begun pressed old now state key new stands
-      (step_known pages begun pressed old now state key
-      (λ site step. Leads site.shelf step (moment_of now state) new) known browsed.stays stands
+      (λ p. Stands (unit_pages p) begun pressed old now state) judged known browsed.stands in
+      stands_more (unit_pages judged) begun pressed old now state key new stands
+      (step_known judged begun pressed old now state
+      (λ pages. Leads pages key (moment_of now state) new) known browsed.stays stands
       goes.leads));
   ready = goes.ready;
   stays = Stays-then old.pages now.pages new.pages browsed.stays goes.stays;
@@ -192,13 +185,13 @@ read_on : (begun : Begun) (pressed : List Key) (old now : Outside) (state : Stat
     → Browsed begun pressed old (read_to now source) state
 read_on begun pressed old now state source browsed = record {
   stands = if_some old.pages.contents
-      (λ pages. Stands pages begun pressed old (read_to now source) state)
-      (λ pages known.
+      (λ judged. Stands (unit_pages judged) begun pressed old (read_to now source) state)
+      (λ judged known.
       let stands = some_fact old.pages.contents
-      (λ p. Stands p begun pressed old now state) pages known browsed.stands in
+      (λ p. Stands (unit_pages p) begun pressed old now state) judged known browsed.stands in
       record {
-        world = stands.world;
         over = stands.over;
+        on = stands.on;
         asks = stands.asks;
         wrote = stands.wrote;
       });

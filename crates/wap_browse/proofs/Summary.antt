@@ -1,24 +1,25 @@
 -- What browsing comes to, sentence by sentence.
-use Rattle.std.proofs.Common.{◌≡◌, ◌≢◌, ℕ, List, refl, sym, ap, subst, inl, inr}
+use Rattle.std.proofs.Common.{◌≡◌, ◌≢◌, ℕ, Bool, true, false, List, [], refl, sym, ap, subst, ◌∙◌, inl, inr}
 use Rattle.wap_base.specs.Count.{Rose}
 use Rattle.wap_input.specs.declared.key.Key.{Key}
 use Rattle.wap_keys.specs.declared.ending.Ending.{Ending}
 use Rattle.wap_keys.specs.declared.ending.Ending.TheVariants as way
 use Rattle.wap_keys.specs.Lines.{Keys, keys_of}
 use Rattle.wap_world.specs.Sites.{Site}
-use Rattle.wap_world.specs.Decks.{decks_site}
-use Rattle.wap_world.specs.Sessions.{Begun}
+use Rattle.wap_world.specs.Sessions.{Begun, session}
+use Rattle.wap_scripting.specs.UnitSites.{unit_pages}
+use Rattle.wap_context.specs.Sites.{site_of}
 use Rattle.wap_status.specs.declared.status.Status.{Status}
 use Rattle.wap_status.specs.declared.status.Status.TheVariants.{Done, Usage, Refused, StoreFault}
 use Rattle.wap_status.specs.declared.status.Status.TheVariants.{KeyReadFault, WriteFault, NoMemory}
-use Rattle.wap_status.specs.declared.status.Status.TheVariants.{BadKey, TooManyKeys}
+use Rattle.wap_status.specs.declared.status.Status.TheVariants.{BadKey, OpenDialog, TooManyKeys}
 use Rattle.wap_status.specs.Statuses.{IsOrWants}
 use Rattle.wap_browse.specs.Outside.{Outside}
 use Rattle.wap_browse.specs.Handling.{IsPlayed}
-use Rattle.wap_browse.specs.Endings.{ended}
-use Rattle.wap_browse.specs.Headline.{Shows, Reads, Browses}
-use Rattle.wap_browse.specs.inside.Ends.{EndsSo, ShowsTo, Written, Comes, IsOfLine, StoreMoves}
-use Rattle.wap_browse.specs.inside.Ends.{ReadMoves, WriteMoves, BrowsesTo}
+use Rattle.wap_browse.specs.Endings.{at_end, ended}
+use Rattle.wap_browse.specs.Headline.{NothingFails, Shows, Reads, Browses}
+use Rattle.wap_browse.specs.inside.Ends.{EndsSo, ShowsTo, EndsAt, Written, Comes, IsOfLine}
+use Rattle.wap_browse.specs.inside.Ends.{StoreMoves, ReadMoves, WriteMoves, BrowsesTo}
 use Rattle.wap_browse.proofs.Optional.{if_some, some_fact}
 
 -- ---- counts
@@ -34,6 +35,7 @@ store_steady KeyReadFault before after moves one two = moves
 store_steady WriteFault before after moves one two = moves
 store_steady NoMemory before after moves one two = absurd (two refl)
 store_steady (BadKey line fault) before after moves one two = moves
+store_steady OpenDialog before after moves one two = moves
 store_steady TooManyKeys before after moves one two = moves
 
 -- and so did the source
@@ -47,6 +49,7 @@ read_steady KeyReadFault before after moves one = absurd (one refl)
 read_steady WriteFault before after moves one = moves
 read_steady NoMemory before after moves one = moves
 read_steady (BadKey line fault) before after moves one = moves
+read_steady OpenDialog before after moves one = moves
 read_steady TooManyKeys before after moves one = moves
 
 -- and the sink
@@ -60,62 +63,103 @@ write_steady KeyReadFault before after moves one = moves
 write_steady WriteFault before after moves one = absurd (one refl)
 write_steady NoMemory before after moves one = moves
 write_steady (BadKey line fault) before after moves one = moves
+write_steady OpenDialog before after moves one = moves
 write_steady TooManyKeys before after moves one = moves
 
 -- ---- completeness
 
--- where nothing failed the status is that of how the keys end, or memory ran out
-complete_by : (status : Status) (old new : Outside) (bytes taken rest : List ℕ) (given : List Key)
+-- where nothing failed the status is that of how the keys end, by whether a dialog is open there,
+-- or memory ran out
+complete_by : (status : Status) (is_open : List Key → Bool) (old new : Outside)
+    (bytes taken rest : List ℕ) (given : List Key)
     → StoreMoves status old.pages.faults new.pages.faults
     → ReadMoves status old.source.faults new.source.faults
     → WriteMoves status old.sink.faults new.sink.faults
-    → EndsSo status bytes taken rest given
-    → ¬ Rose old.pages.faults new.pages.faults → ¬ Rose old.source.faults new.source.faults
-    → ¬ Rose old.sink.faults new.sink.faults
-    → IsOrWants (ended (keys_of bytes).ending) status
-complete_by Done old new bytes taken rest given store read write ends one two three =
-    inl (ap (λ (all : Keys). ended all.ending) (sym ends.1))
-complete_by Usage old new bytes taken rest given store read write ends one two three =
+    → EndsSo status bytes taken rest given → EndsAt status (is_open given)
+    → NothingFails old new
+    → IsOrWants (ended (is_open (keys_of bytes).keys) (keys_of bytes).ending) status
+complete_by Done is_open old new bytes taken rest given store read write ends opens none =
+    inl (ap at_end (sym opens)
+    ∙ ap (λ (all : Keys). ended (is_open all.keys) all.ending) (sym ends.1))
+complete_by Usage is_open old new bytes taken rest given store read write ends opens none =
     absurd store
-complete_by (Refused fault) old new bytes taken rest given store read write ends one two three =
+complete_by (Refused fault) is_open old new bytes taken rest given store read write ends opens none =
     absurd store
-complete_by StoreFault old new bytes taken rest given store read write ends one two three =
-    absurd (one store)
-complete_by KeyReadFault old new bytes taken rest given store read write ends one two three =
-    absurd (two read)
-complete_by WriteFault old new bytes taken rest given store read write ends one two three =
-    absurd (three write)
-complete_by NoMemory old new bytes taken rest given store read write ends one two three = inr refl
-complete_by (BadKey line fault) old new bytes taken rest given store read write ends one two three =
-    inl (ap (λ (all : Keys). ended all.ending) (sym ends))
-complete_by TooManyKeys old new bytes taken rest given store read write ends one two three =
-    inl (ap (λ (all : Keys). ended all.ending) (sym ends.1))
+complete_by StoreFault is_open old new bytes taken rest given store read write ends opens none =
+    absurd (none.store store)
+complete_by KeyReadFault is_open old new bytes taken rest given store read write ends opens none =
+    absurd (none.source read)
+complete_by WriteFault is_open old new bytes taken rest given store read write ends opens none =
+    absurd (none.sink write)
+complete_by NoMemory is_open old new bytes taken rest given store read write ends opens none =
+    inr refl
+complete_by (BadKey line fault) is_open old new bytes taken rest given store read write ends opens
+    none =
+    inl (ap (λ (all : Keys). ended (is_open all.keys) all.ending) (sym ends))
+complete_by OpenDialog is_open old new bytes taken rest given store read write ends opens none =
+    inl (ap at_end (sym opens)
+    ∙ ap (λ (all : Keys). ended (is_open all.keys) all.ending) (sym ends.1))
+complete_by TooManyKeys is_open old new bytes taken rest given store read write ends opens none =
+    inl (ap (λ (all : Keys). ended (is_open all.keys) all.ending) (sym ends.1))
+
+-- some answer to whether a dialog is open is that of the status
+open_with : (status : Status) → (is_open : Bool) × EndsAt status is_open
+open_with Done = (false, refl)
+open_with Usage = (false, tt)
+open_with (Refused fault) = (false, tt)
+open_with StoreFault = (false, tt)
+open_with KeyReadFault = (false, tt)
+open_with WriteFault = (false, tt)
+open_with NoMemory = (false, tt)
+open_with (BadKey line fault) = (false, tt)
+open_with OpenDialog = (true, refl)
+open_with TooManyKeys = (false, tt)
 
 -- ---- sentences
 
+-- at the end of the keys all bytes were taken
+done_by : (is_open : Bool) (bytes taken rest : List ℕ) (given : List Key)
+    → EndsSo (at_end is_open) bytes taken rest given
+    → (rest ≡ []) × (keys_of bytes ≡ record { keys = given; ending = way.End })
+done_by false bytes taken rest given so = so
+done_by true bytes taken rest given so = so
+
+-- and the session is open or not as the status says
+open_by : (is_open other : Bool) → EndsAt (at_end is_open) other → other ≡ is_open
+open_by false other so = so
+open_by true other so = so
+
 -- where the keys came to an end the session was played to its end
-played_by : (ending : Ending) (site : Site) (begun : Begun) (given : List Key)
-    (old new : Outside) → ShowsTo (ended ending) site begun given old new
+played_by : (is_open : Bool) (ending : Ending) (site : Site) (begun : Begun) (given : List Key)
+    (old new : Outside) → ShowsTo (ended is_open ending) site begun given old new
     → IsPlayed site begun given old new
-played_by way.End site begun given old new so = so
-played_by (way.BadKey line fault) site begun given old new so = so
-played_by way.TooManyKeys site begun given old new so = so
-played_by way.ReadFault site begun given old new so = so
+played_by false way.End site begun given old new so = so
+played_by true way.End site begun given old new so = so
+played_by is_open (way.BadKey line fault) site begun given old new so = so
+played_by is_open way.TooManyKeys site begun given old new so = so
+played_by is_open way.ReadFault site begun given old new so = so
 
 -- what was written
-shows_by : (site : Site) (begun : Begun) (bytes : List ℕ) (given : List Key)
-    (old new : Outside) (status : Status) → Written status site begun bytes given old new
-    → Shows site begun bytes given old new status
-shows_by site begun bytes given old new status written =
+shows_by : (site : Site) (begun : Begun) (bytes : List ℕ) (old new : Outside) (status : Status)
+    → BrowsesTo begun old new status → (comes : Comes begun bytes old new status)
+    → Written status site begun bytes comes.given old new
+    → Shows site begun bytes comes.given old new status
+shows_by site begun bytes old new status so comes written =
+    let given = comes.given in
     let at : (other : Status) → status ≡ other → ShowsTo other site begun given old new =
     λ other is. subst (λ (s : Status). ShowsTo s site begun given old new) is
     written.shows in
     record {
       prefix = written.prefix;
-      played = λ ending is. played_by ending site begun given old new (at (ended ending) is);
+      played = λ is_open ending is.
+          played_by is_open ending site begun given old new (at (ended is_open ending) is);
+      open_so = λ is_open is. open_by is_open (session site begun given).is_open
+          (subst (λ (s : Status). EndsAt s (session site begun given).is_open) is written.opens);
       store_fault = λ is. at StoreFault is;
       write_fault = λ is. at WriteFault is;
       no_memory = λ is. at NoMemory is;
+      complete = complete_by status (λ keys. (session site begun keys).is_open) old new bytes
+          comes.taken comes.rest given so.store so.read so.write comes.ends written.opens;
     }
 
 -- what was read
@@ -135,17 +179,21 @@ reads_by begun bytes old new status so comes =
       given = comes.given;
       first = comes.first;
       prompt = comes.prompt;
-      done = λ is. at Done is;
+      done = λ is_open is. done_by is_open bytes comes.taken comes.rest comes.given
+          (at (at_end is_open) is);
       bad_key = λ line fault is. at (BadKey line fault) is;
       too_many_keys = λ is. at TooManyKeys is;
       read_fault = λ is. at KeyReadFault is;
-      complete = complete_by status old new bytes comes.taken comes.rest comes.given
-          so.store so.read so.write comes.ends;
+      complete = λ none. let (is_open, opens) = open_with status in (
+        is_open,
+        complete_by status (λ keys. is_open) old new bytes comes.taken comes.rest comes.given
+            so.store so.read so.write comes.ends opens none,
+      );
       shows = if_some old.pages.contents
-          (λ pages. Shows (decks_site pages) begun bytes comes.given old new status)
-          (λ pages is. shows_by (decks_site pages) begun bytes comes.given old new status
+          (λ judged. Shows (site_of (unit_pages judged)) begun bytes comes.given old new status)
+          (λ judged is. shows_by (site_of (unit_pages judged)) begun bytes old new status so comes
           (some_fact old.pages.contents
-          (λ p. Written status (decks_site p) begun bytes comes.given old new) pages is
+          (λ p. Written status (site_of (unit_pages p)) begun bytes comes.given old new) judged is
           comes.written));
     }
 

@@ -1,5 +1,6 @@
 -- What browsing comes to: what is written, what is asked for, and how it ends. This project's own.
-use Rattle.std.specs.Prelude.{◌≡◌, ◌≢◌, ℕ, ◌+◌, ◌≤◌, List, [], ◌++◌, length, Some, IfSome}
+use Rattle.std.specs.Prelude.{◌≡◌, ◌≢◌, ℕ, ◌+◌, ◌≤◌, Bool, List, [], ◌++◌, length}
+use Rattle.std.specs.Prelude.{Some, IfSome}
 use Rattle.wap_base.specs.Count.{Rose}
 use Rattle.wap_devices.specs.Transfer.{AppendsPrefix}
 use Rattle.wap_input.specs.declared.key.Key.{Key}
@@ -12,18 +13,25 @@ use Rattle.wap_keys.specs.Lines.{keys_of, keys_at}
 use Rattle.wap_keys.specs.Read.{AreFirst, keys_among, rose, IsPrompt, TakesAtMost, AtMostOnce}
 use Rattle.wap_pages.specs.declared.fault.PageFault.{PageFault}
 use Rattle.wap_world.specs.Sites.{Site}
-use Rattle.wap_world.specs.Decks.{decks_site}
 use Rattle.wap_site.specs.Asking.{Stays}
-use Rattle.wap_world.specs.Sessions.{Begun, transcript}
+use Rattle.wap_world.specs.Sessions.{Begun, session, transcript}
+use Rattle.wap_scripting.specs.UnitSites.{unit_pages}
+use Rattle.wap_context.specs.Sites.{site_of}
 use Rattle.wap_status.specs.declared.status.Status.{Status}
-use Rattle.wap_status.specs.declared.status.Status.TheVariants.{Done, Usage, Refused, StoreFault}
+use Rattle.wap_status.specs.declared.status.Status.TheVariants.{Usage, Refused, StoreFault}
 use Rattle.wap_status.specs.declared.status.Status.TheVariants.{KeyReadFault, WriteFault, NoMemory}
 use Rattle.wap_status.specs.declared.status.Status.TheVariants.{BadKey, TooManyKeys}
 use Rattle.wap_status.specs.Statuses.{IsOrWants}
 use Rattle.wap_browse.specs.Outside.{Outside}
 use Rattle.wap_browse.specs.Handling.{IsPlayed}
 use Rattle.wap_browse.specs.Stopping.{StopsAtStore, StopsAtSink, StopsForMemory}
-use Rattle.wap_browse.specs.Endings.{ended}
+use Rattle.wap_browse.specs.Endings.{at_end, ended}
+
+-- no count of faults rose
+pub record NothingFails (old new : Outside) : Type 0 where
+  pub store : ¬ Rose old.pages.faults new.pages.faults
+  pub source : ¬ Rose old.source.faults new.source.faults
+  pub sink : ¬ Rose old.sink.faults new.sink.faults
 
 -- what was written over this site, where of these bytes of keys these keys were given
 pub record Shows (site : Site) (begun : Begun) (bytes : List ℕ) (given : List Key)
@@ -32,11 +40,19 @@ pub record Shows (site : Site) (begun : Begun) (bytes : List ℕ) (given : List 
   pub prefix : AppendsPrefix old.sink.written new.sink.written
       (transcript site begun (keys_of bytes).keys)
   -- the transcript over the keys that were given, where the keys came to an end
-  pub played : (ending : Ending) → status ≡ ended ending → IsPlayed site begun given old new
+  pub played : (is_open : Bool) (ending : Ending) → status ≡ ended is_open ending
+      → IsPlayed site begun given old new
+  -- at their end it is Done outside a dialog, and OpenDialog in one
+  pub open_so : (is_open : Bool) → status ≡ at_end is_open
+      → (session site begun given).is_open ≡ is_open
   -- the lines of the first of these, whole keys only, but where the sink failed
   pub store_fault : status ≡ StoreFault → StopsAtStore site begun given old new
   pub write_fault : status ≡ WriteFault → StopsAtSink site begun given old new
   pub no_memory : status ≡ NoMemory → StopsForMemory site begun given old new
+  -- where nothing failed, the status is that of the end of all keys, in a dialog or outside, or
+  -- memory ran out
+  pub complete : NothingFails old new → IsOrWants
+      (ended (session site begun (keys_of bytes).keys).is_open (keys_of bytes).ending) status
 
 -- what a source with these bytes gave, and how it ended by them
 pub record Reads (begun : Begun) (bytes : List ℕ) (old new : Outside) (status : Status) : Type 0
@@ -52,9 +68,10 @@ pub record Reads (begun : Begun) (bytes : List ℕ) (old new : Outside) (status 
     -- with any status, no piece was taken once the last of them was there, or a line that is no key
     -- line, were it only begun and too long already
     pub prompt : IsPrompt taken given
-    -- these statuses come only where the bytes end so: all were taken; a line is no key line; there
-    -- is one past the limit, and no more were taken; or more were to come
-    pub done : status ≡ Done
+    -- these statuses come only where the bytes end so: with Done and OpenDialog all were taken; a
+    -- line is no key line; there is one past the limit, and no more were taken; or more were to
+    -- come
+    pub done : (is_open : Bool) → status ≡ at_end is_open
         → (rest ≡ []) × (keys_of bytes ≡ record { keys = given; ending = ending.End })
     pub bad_key : (line : ℕ) (fault : KeyFault) → status ≡ BadKey line fault
         → keys_of bytes ≡ record { keys = given; ending = ending.BadKey line fault }
@@ -64,12 +81,11 @@ pub record Reads (begun : Begun) (bytes : List ℕ) (old new : Outside) (status 
     pub read_fault : status ≡ KeyReadFault
         → keys_at ending.ReadFault taken ≡ record { keys = given; ending = ending.ReadFault }
     -- and where nothing failed, they have to come, or memory ran out
-    pub complete : ¬ Rose old.pages.faults new.pages.faults
-        → ¬ Rose old.source.faults new.source.faults → ¬ Rose old.sink.faults new.sink.faults
-        → IsOrWants (ended (keys_of bytes).ending) status
+    pub complete : NothingFails old new
+        → (is_open : Bool) × IsOrWants (ended is_open (keys_of bytes).ending) status
     -- what was written, where the pages are known
     pub shows : IfSome old.pages.contents
-        (λ pages. Shows (decks_site pages) begun bytes given old new status)
+        (λ judged. Shows (site_of (unit_pages judged)) begun bytes given old new status)
 
 -- a session that is begun so, from the outside before to the outside after, and its status
 pub record Browses (begun : Begun) (old new : Outside) (status : Status) : Type 0 where

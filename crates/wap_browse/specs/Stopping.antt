@@ -4,6 +4,7 @@ use Rattle.std.specs.Prelude.{◌≡◌, ℕ, ◌+◌, ◌<◌, ◌≤◌, List,
 use Rattle.wap_devices.specs.Transfer.{Appends}
 use Rattle.wap_input.specs.declared.key.Key.{Key}
 use Rattle.wap_world.specs.Sites.{Site}
+use Rattle.wap_base.specs.Count.{greatest_count}
 use Rattle.wap_site.specs.Asking.{raised_by}
 use Rattle.wap_world.specs.Sessions.{Begun}
 use Rattle.wap_browse.specs.Outside.{Outside}
@@ -29,8 +30,8 @@ pub record StopsAtStore (site : Site) (begun : Begun) (given : List Key) (old ne
   -- nothing of it was written
   pub wrote : Appends old.sink.written new.sink.written
       (first_lines site begun given (length given))
-  -- the store was asked for a page of it
-  pub asked : IfSome old.pages.cache (λ cache. RoseWithin
+  -- the store was asked for a page of it, which is seen while its count is below the greatest
+  pub asked : IfSome old.pages.cache (λ cache. new.pages.fetches < greatest_count → RoseWithin
       (first_misses site begun given cache (length given))
       (first_misses site begun given cache (length given + 1))
       old.pages.fetches new.pages.fetches)

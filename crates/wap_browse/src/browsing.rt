@@ -1,4 +1,5 @@
 //! Browsing.
+ghost use Rattle.wap_base.specs.Limits.{AreInRange};
 ghost use Rattle.wap_browse.specs.Headline.{Browses};
 ghost use Rattle.wap_browse.specs.Beginning.{begun_with};
 
@@ -13,8 +14,8 @@ use wap_session::{Key, Session};
 use wap_site::Pages;
 use wap_status::Status;
 
-/// Opens the URL, and then plays key after key. The lines of each are written before the next is
-/// read.
+/// Opens the URL, and then plays key after key: in a dialog they answer it. The lines of each are
+/// written before the next is read.
 pub fn browse<P: Pages, I: Source, O: Sink>(
     alloc: Global,
     begun: Beginning,
@@ -22,6 +23,7 @@ pub fn browse<P: Pages, I: Source, O: Sink>(
     keys: &mut I,
     out: &mut O,
 ) -> Status
+    requires limits { AreInRange begun.limits }
     ensures { Browses (begun_with begun)
         (record { pages = P.seen pages.old; source = I.seen keys.old; sink = O.seen out.old })
         (record { pages = P.seen pages.new; source = I.seen keys.new; sink = O.seen out.new })
@@ -37,7 +39,7 @@ pub fn browse<P: Pages, I: Source, O: Sink>(
         }
         key = match reader.next(alloc, keys) {
             Ok(Next::Key(key)) => key,
-            Ok(Next::Ended(ending)) => return status_of(ending),
+            Ok(Next::Ended(ending)) => return status_of(session.in_dialog(), ending),
             Err(NoMemory) => return Status::NoMemory,
         };
     }

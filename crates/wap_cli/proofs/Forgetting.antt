@@ -7,14 +7,15 @@ use Rattle.wap_devices.specs.Sinks.{SinkSeen}
 use Rattle.wap_input.specs.declared.key.Key.{Key}
 use Rattle.wap_site.specs.Misses.{Cache}
 use Rattle.wap_world.specs.Sites.{Site}
-use Rattle.wap_world.specs.Decks.{decks_site}
 use Rattle.wap_world.specs.Sessions.{Begun}
+use Rattle.wap_scripting.specs.UnitSites.{unit_pages}
+use Rattle.wap_context.specs.Sites.{site_of}
 use Rattle.wap_status.specs.declared.status.Status.{Status}
 use Rattle.wap_pages.specs.Caches.{CachedPages, cache_of, seen_over}
 use Rattle.wap_browse.specs.Outside.{Outside}
 use Rattle.wap_browse.specs.Handling.{IsPlayed}
 use Rattle.wap_browse.specs.Stopping.{StopsAtStore, StopsAtSink, StopsForMemory}
-use Rattle.wap_browse.specs.Headline.{Shows, Reads, Browses}
+use Rattle.wap_browse.specs.Headline.{NothingFails, Shows, Reads, Browses}
 use Rattle.wap_browse.proofs.Optional.{if_some, some_fact}
 use Rattle.wap_cli.specs.Devices.{Devices, browsed}
 
@@ -44,16 +45,22 @@ module _ (begun : Begun) (old new : Outside) (status : Status) (cache : Option C
   for_memory site given so =
       record { count = so.count; least = so.least; most = so.most; wrote = so.wrote }
 
+  -- nothing failed
+  none_fails : NothingFails old (with_cache cache new) → NothingFails old new
+  none_fails none = record { store = none.store; source = none.source; sink = none.sink }
+
   -- what was written
   shows : (site : Site) (bytes : List ℕ) (given : List Key)
       → Shows site begun bytes given old new status
       → Shows site begun bytes given old (with_cache cache new) status
   shows site bytes given so = record {
     prefix = so.prefix;
-    played = λ ending is. played site given (so.played ending is);
+    played = λ is_open ending is. played site given (so.played is_open ending is);
+    open_so = so.open_so;
     store_fault = λ is. at_store site given (so.store_fault is);
     write_fault = λ is. at_sink site given (so.write_fault is);
     no_memory = λ is. for_memory site given (so.no_memory is);
+    complete = λ none. so.complete (none_fails none);
   }
 
   -- what was read
@@ -71,12 +78,14 @@ module _ (begun : Begun) (old new : Outside) (status : Status) (cache : Option C
     bad_key = so.bad_key;
     too_many_keys = so.too_many_keys;
     read_fault = so.read_fault;
-    complete = so.complete;
+    complete = λ none. so.complete (none_fails none);
     shows = if_some old.pages.contents
-        (λ pages. Shows (decks_site pages) begun bytes so.given old (with_cache cache new) status)
-        (λ pages known. shows (decks_site pages) bytes so.given
+        (λ judged. Shows (site_of (unit_pages judged)) begun bytes so.given old
+        (with_cache cache new) status)
+        (λ judged known. shows (site_of (unit_pages judged)) bytes so.given
         (some_fact old.pages.contents
-        (λ p. Shows (decks_site p) begun bytes so.given old new status) pages known so.shows));
+        (λ p. Shows (site_of (unit_pages p)) begun bytes so.given old new status) judged known
+        so.shows));
   }
 
   -- but that its capacity is as before

@@ -9,7 +9,7 @@ use Rattle.wap_words.specs.declared.words.PageCommand.{PageCommand}
 use Rattle.wap_status.specs.declared.status.Status.{Status}
 use Rattle.wap_status.specs.declared.status.Status.TheVariants.{Done, Usage, Refused, StoreFault}
 use Rattle.wap_status.specs.declared.status.Status.TheVariants.{KeyReadFault, WriteFault, NoMemory}
-use Rattle.wap_status.specs.declared.status.Status.TheVariants.{BadKey, TooManyKeys}
+use Rattle.wap_status.specs.declared.status.Status.TheVariants.{BadKey, OpenDialog, TooManyKeys}
 use Rattle.wap_devices.specs.Stores.{StoreSeen, Fetches}
 use Rattle.wap_devices.specs.Contents.{answer_of, answer_for}
 use Rattle.wap_devices.specs.declared.store.Fetched.{Fetched}
@@ -110,6 +110,7 @@ is_answer KeyReadFault of_page store sink = absurd of_page
 is_answer WriteFault of_page store sink = absurd (sink refl)
 is_answer NoMemory of_page store sink = inr (inr refl)
 is_answer (BadKey line fault) of_page store sink = absurd of_page
+is_answer OpenDialog of_page store sink = absurd of_page
 is_answer TooManyKeys of_page store sink = absurd of_page
 
 module _ (command : PageCommand) (name : List ℕ) (store store_after : StoreSeen)

@@ -19,7 +19,7 @@ use Rattle.wap_pages.specs.Refusals.{RefusesUnit, RefusesVerify, RefusesDocument
 use Rattle.wap_status.specs.declared.status.Status.{Status}
 use Rattle.wap_status.specs.declared.status.Status.TheVariants.{Done, Usage, Refused, StoreFault}
 use Rattle.wap_status.specs.declared.status.Status.TheVariants.{KeyReadFault, WriteFault, NoMemory}
-use Rattle.wap_status.specs.declared.status.Status.TheVariants.{BadKey, TooManyKeys}
+use Rattle.wap_status.specs.declared.status.Status.TheVariants.{BadKey, OpenDialog, TooManyKeys}
 
 -- the text that a command writes for a page with these bytes
 abbrev pub IsText : PageCommand → List ℕ → List ℕ → Type 0
@@ -63,6 +63,7 @@ IsOfPage KeyReadFault = ⊥
 IsOfPage WriteFault = Unit {0}
 IsOfPage NoMemory = Unit {0}
 IsOfPage (BadKey line fault) = ⊥
+IsOfPage OpenDialog = ⊥
 IsOfPage TooManyKeys = ⊥
 
 -- what a command comes to on a page: the sink before and after, and how it ended

@@ -17,7 +17,7 @@ use Rattle.wap_site.specs.Asking.{raised_by}
 use Rattle.wap_status.specs.declared.status.Status.{Status}
 use Rattle.wap_status.specs.declared.status.Status.TheVariants.{Done, Usage, Refused, StoreFault}
 use Rattle.wap_status.specs.declared.status.Status.TheVariants.{KeyReadFault, WriteFault, NoMemory}
-use Rattle.wap_status.specs.declared.status.Status.TheVariants.{BadKey, TooManyKeys}
+use Rattle.wap_status.specs.declared.status.Status.TheVariants.{BadKey, OpenDialog, TooManyKeys}
 use Rattle.wap_prepare.specs.Reports.{Entry, AreEntries, IsEntry}
 use Rattle.wap_prepare.specs.Fetching.{AsksFor}
 use Rattle.wap_prepare.specs.Preparing.{Prepares, AsksWithin}
@@ -253,4 +253,5 @@ module _ {A : Type 0} (names_in : A → List (List ℕ)) (store listed after : S
       reported StoreFault so = absurd so
       reported KeyReadFault so = absurd so
       reported (BadKey line fault) so = absurd so
+      reported OpenDialog so = absurd so
       reported TooManyKeys so = absurd so

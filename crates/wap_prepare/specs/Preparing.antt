@@ -10,7 +10,7 @@ use Rattle.wap_site.specs.Asking.{raised_by}
 use Rattle.wap_status.specs.declared.status.Status.{Status}
 use Rattle.wap_status.specs.declared.status.Status.TheVariants.{Done, Usage, Refused, StoreFault}
 use Rattle.wap_status.specs.declared.status.Status.TheVariants.{KeyReadFault, WriteFault, NoMemory}
-use Rattle.wap_status.specs.declared.status.Status.TheVariants.{BadKey, TooManyKeys}
+use Rattle.wap_status.specs.declared.status.Status.TheVariants.{BadKey, OpenDialog, TooManyKeys}
 use Rattle.wap_prepare.specs.Reports.{Entry, AreEntries, report}
 
 -- preparing ends so
@@ -23,6 +23,7 @@ IsOfFolder KeyReadFault = ⊥
 IsOfFolder WriteFault = Unit {0}
 IsOfFolder NoMemory = Unit {0}
 IsOfFolder (BadKey line fault) = ⊥
+IsOfFolder OpenDialog = ⊥
 IsOfFolder TooManyKeys = ⊥
 
 -- the entries of all pages, and what was written of the report on them

@@ -6,7 +6,7 @@ use Rattle.wap_pages.specs.Printing.{page_text}
 use Rattle.wap_status.specs.declared.status.Status.{Status}
 use Rattle.wap_status.specs.declared.status.Status.TheVariants.{Done, Usage, Refused, StoreFault}
 use Rattle.wap_status.specs.declared.status.Status.TheVariants.{KeyReadFault, WriteFault, NoMemory}
-use Rattle.wap_status.specs.declared.status.Status.TheVariants.{BadKey, TooManyKeys}
+use Rattle.wap_status.specs.declared.status.Status.TheVariants.{BadKey, OpenDialog, TooManyKeys}
 
 abbrev pub number_of : Status → ℕ
 number_of Done = 0
@@ -17,6 +17,7 @@ number_of KeyReadFault = 4
 number_of WriteFault = 5
 number_of NoMemory = 6
 number_of (BadKey line fault) = 7
+number_of OpenDialog = 8
 number_of TooManyKeys = 9
 
 abbrev pub fault_name : KeyFault → List ℕ
@@ -36,6 +37,7 @@ fixed_line StoreFault = codes "wap: store fault\n"
 fixed_line KeyReadFault = codes "wap: key read fault\n"
 fixed_line WriteFault = codes "wap: write fault\n"
 fixed_line NoMemory = codes "wap: no memory\n"
+fixed_line OpenDialog = codes "wap: open dialog\n"
 fixed_line TooManyKeys = codes "wap: too many keys\n"
 fixed_line (Refused fault) = []
 fixed_line (BadKey line fault) = []
@@ -51,6 +53,7 @@ status_line StoreFault = fixed_line StoreFault
 status_line KeyReadFault = fixed_line KeyReadFault
 status_line WriteFault = fixed_line WriteFault
 status_line NoMemory = fixed_line NoMemory
+status_line OpenDialog = fixed_line OpenDialog
 status_line TooManyKeys = fixed_line TooManyKeys
 
 -- the run ended so, or ran out of memory

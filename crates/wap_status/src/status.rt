@@ -25,6 +25,8 @@ pub enum Status {
     NoMemory,
     /// A line is no key line; lines are counted from 1.
     BadKey { line: u32, fault: KeyFault },
+    /// The keys ended while a script waited in a dialog.
+    OpenDialog,
     /// There are more bytes of key lines than are read.
     TooManyKeys,
 }
@@ -77,6 +79,7 @@ impl Status {
             Status::WriteFault => 5,
             Status::NoMemory => 6,
             Status::BadKey { .. } => 7,
+            Status::OpenDialog => 8,
             Status::TooManyKeys => 9,
         }
     }
@@ -92,6 +95,7 @@ impl Status {
             Status::KeyReadFault => b"wap: key read fault\n",
             Status::WriteFault => b"wap: write fault\n",
             Status::NoMemory => b"wap: no memory\n",
+            Status::OpenDialog => b"wap: open dialog\n",
             Status::TooManyKeys => b"wap: too many keys\n",
         }
     }
@@ -109,6 +113,7 @@ impl Status {
             | Status::KeyReadFault
             | Status::WriteFault
             | Status::NoMemory
+            | Status::OpenDialog
             | Status::TooManyKeys => write_all(out, self.line()),
         }
     }

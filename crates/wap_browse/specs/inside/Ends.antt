@@ -1,5 +1,6 @@
 -- What browsing comes to, status by status. This project's own.
-use Rattle.std.specs.Prelude.{◌≡◌, ◌≢◌, ℕ, ◌+◌, ◌≤◌, List, [], ◌++◌, length, Some, IfSome}
+use Rattle.std.specs.Prelude.{◌≡◌, ◌≢◌, ℕ, ◌+◌, ◌≤◌, Bool, true, false, List, [], ◌++◌, length, Some}
+use Rattle.std.specs.Prelude.{IfSome}
 use Rattle.wap_base.specs.Count.{Rose}
 use Rattle.wap_devices.specs.Transfer.{AppendsPrefix}
 use Rattle.wap_input.specs.declared.key.Key.{Key}
@@ -9,13 +10,14 @@ use Rattle.wap_keys.specs.declared.ending.Ending.TheVariants as ending
 use Rattle.wap_keys.specs.Lines.{keys_of, keys_at}
 use Rattle.wap_keys.specs.Read.{AreFirst, keys_among, rose, IsPrompt, TakesAtMost, AtMostOnce}
 use Rattle.wap_world.specs.Sites.{Site}
-use Rattle.wap_world.specs.Decks.{decks_site}
 use Rattle.wap_site.specs.Asking.{Stays}
-use Rattle.wap_world.specs.Sessions.{Begun, transcript}
+use Rattle.wap_world.specs.Sessions.{Begun, session, transcript}
+use Rattle.wap_scripting.specs.UnitSites.{unit_pages}
+use Rattle.wap_context.specs.Sites.{site_of}
 use Rattle.wap_status.specs.declared.status.Status.{Status}
 use Rattle.wap_status.specs.declared.status.Status.TheVariants.{Done, Usage, Refused, StoreFault}
 use Rattle.wap_status.specs.declared.status.Status.TheVariants.{KeyReadFault, WriteFault, NoMemory}
-use Rattle.wap_status.specs.declared.status.Status.TheVariants.{BadKey, TooManyKeys}
+use Rattle.wap_status.specs.declared.status.Status.TheVariants.{BadKey, OpenDialog, TooManyKeys}
 use Rattle.wap_browse.specs.Outside.{Outside}
 use Rattle.wap_browse.specs.Handling.{IsPlayed}
 use Rattle.wap_browse.specs.Stopping.{StopsAtStore, StopsAtSink, StopsForMemory}
@@ -33,6 +35,8 @@ EndsSo WriteFault bytes taken rest given = Unit {0}
 EndsSo NoMemory bytes taken rest given = Unit {0}
 EndsSo (BadKey line fault) bytes taken rest given =
     keys_of bytes ≡ record { keys = given; ending = ending.BadKey line fault }
+EndsSo OpenDialog bytes taken rest given =
+    (rest ≡ []) × (keys_of bytes ≡ record { keys = given; ending = ending.End })
 EndsSo TooManyKeys bytes taken rest given =
     (length taken ≡ KEYS_LIMIT + 1)
     × (keys_of bytes ≡ record { keys = given; ending = ending.TooManyKeys })
@@ -47,7 +51,21 @@ ShowsTo KeyReadFault site begun given old new = IsPlayed site begun given old ne
 ShowsTo WriteFault site begun given old new = StopsAtSink site begun given old new
 ShowsTo NoMemory site begun given old new = StopsForMemory site begun given old new
 ShowsTo (BadKey line fault) site begun given old new = IsPlayed site begun given old new
+ShowsTo OpenDialog site begun given old new = IsPlayed site begun given old new
 ShowsTo TooManyKeys site begun given old new = IsPlayed site begun given old new
+
+-- whether a dialog is open is as the status says
+abbrev pub EndsAt : Status → Bool → Type 0
+EndsAt Done is_open = is_open ≡ false
+EndsAt Usage is_open = Unit {0}
+EndsAt (Refused fault) is_open = Unit {0}
+EndsAt StoreFault is_open = Unit {0}
+EndsAt KeyReadFault is_open = Unit {0}
+EndsAt WriteFault is_open = Unit {0}
+EndsAt NoMemory is_open = Unit {0}
+EndsAt (BadKey line fault) is_open = Unit {0}
+EndsAt OpenDialog is_open = is_open ≡ true
+EndsAt TooManyKeys is_open = Unit {0}
 
 -- what was written over this site
 pub record Written (status : Status) (site : Site) (begun : Begun) (bytes : List ℕ)
@@ -55,6 +73,7 @@ pub record Written (status : Status) (site : Site) (begun : Begun) (bytes : List
   pub prefix : AppendsPrefix old.sink.written new.sink.written
       (transcript site begun (keys_of bytes).keys)
   pub shows : ShowsTo status site begun given old new
+  pub opens : EndsAt status (session site begun given).is_open
 
 -- what a source with these bytes gave
 pub record Comes (begun : Begun) (bytes : List ℕ) (old new : Outside) (status : Status) : Type 0
@@ -68,7 +87,7 @@ pub record Comes (begun : Begun) (bytes : List ℕ) (old new : Outside) (status 
     pub prompt : IsPrompt taken given
     pub ends : EndsSo status bytes taken rest given
     pub written : IfSome old.pages.contents
-        (λ pages. Written status (decks_site pages) begun bytes given old new)
+        (λ judged. Written status (site_of (unit_pages judged)) begun bytes given old new)
 
 -- out of memory is no fault of a line
 abbrev pub IsOfLine : Status → Type 0
@@ -80,6 +99,7 @@ IsOfLine KeyReadFault = Unit {0}
 IsOfLine WriteFault = Unit {0}
 IsOfLine NoMemory = Unit {0}
 IsOfLine (BadKey line fault) = fault ≢ key.NoMemory
+IsOfLine OpenDialog = Unit {0}
 IsOfLine TooManyKeys = Unit {0}
 
 -- ---- counts of faults, before and after
@@ -94,6 +114,7 @@ StoreMoves KeyReadFault before after = after ≡ before
 StoreMoves WriteFault before after = after ≡ before
 StoreMoves NoMemory before after = Unit {0}
 StoreMoves (BadKey line fault) before after = after ≡ before
+StoreMoves OpenDialog before after = after ≡ before
 StoreMoves TooManyKeys before after = after ≡ before
 
 -- that of the source
@@ -106,6 +127,7 @@ ReadMoves KeyReadFault before after = Rose before after
 ReadMoves WriteFault before after = after ≡ before
 ReadMoves NoMemory before after = after ≡ before
 ReadMoves (BadKey line fault) before after = after ≡ before
+ReadMoves OpenDialog before after = after ≡ before
 ReadMoves TooManyKeys before after = after ≡ before
 
 -- that of the sink
@@ -118,6 +140,7 @@ WriteMoves KeyReadFault before after = after ≡ before
 WriteMoves WriteFault before after = Rose before after
 WriteMoves NoMemory before after = after ≡ before
 WriteMoves (BadKey line fault) before after = after ≡ before
+WriteMoves OpenDialog before after = after ≡ before
 WriteMoves TooManyKeys before after = after ≡ before
 
 -- ---- all together

@@ -6,7 +6,7 @@ use Rattle.wap_devices.specs.Transfer.{Appends, AppendsPrefix}
 use Rattle.wap_status.specs.declared.status.Status.{Status}
 use Rattle.wap_status.specs.declared.status.Status.TheVariants.{Done, Usage, Refused, StoreFault}
 use Rattle.wap_status.specs.declared.status.Status.TheVariants.{KeyReadFault, WriteFault, NoMemory}
-use Rattle.wap_status.specs.declared.status.Status.TheVariants.{BadKey, TooManyKeys}
+use Rattle.wap_status.specs.declared.status.Status.TheVariants.{BadKey, OpenDialog, TooManyKeys}
 use Rattle.wap_prepare.specs.Reports.{Entry, report}
 
 -- it was written whole
@@ -30,4 +30,5 @@ ReportsTo entries before after KeyReadFault = ⊥
 ReportsTo entries before after WriteFault = Part entries before after
 ReportsTo entries before after NoMemory = after ≡ before
 ReportsTo entries before after (BadKey line fault) = ⊥
+ReportsTo entries before after OpenDialog = ⊥
 ReportsTo entries before after TooManyKeys = ⊥

@@ -1,6 +1,6 @@
 -- Each key is played and then the next is read: what both come to is a lemma of Going, where the
 -- session goes on, and of Exits, where it comes to its end.
-use Rattle.std.proofs.Common.{Ok, sym, subst}
+use Rattle.std.proofs.Common.{Bool, Ok, sym, ap, subst, ◌∙◌}
 use Rattle.wap_keys.specs.Reading.{Answers, CountsFaults}
 use Rattle.wap_keys.specs.declared.ending.Next.{Next}
 use Rattle.wap_keys.proofs.FaultLaws.{lost_steady}
@@ -8,6 +8,7 @@ use Rattle.wap_status.specs.declared.status.Status.{Status}
 use Rattle.wap_status.specs.declared.status.Status.TheVariants.{NoMemory}
 use Rattle.wap_browse.specs.Outside.{Outside}
 use Rattle.wap_browse.specs.Beginning.{begun_with}
+use Rattle.wap_browse.specs.Endings.{ended}
 use Rattle.wap_browse.specs.Headline.{Browses}
 use Rattle.wap_browse.specs.inside.Played.{Moment}
 use Rattle.wap_browse.proofs.Going.{goes_first, goes_more, played_to, read_to}
@@ -93,7 +94,9 @@ returns-in-Ok-Ended g c =
     let begun = begun_with c.args.begun in
     let source = g.I.Source.seen c.next.new.source in
     let last = read_to (played_to now new) source in
-    subst (λ (status : Status). Browses begun old last status) (sym c.status_of.ensures)
+    subst (λ (status : Status). Browses begun old last status)
+    (sym (c.status_of.ensures
+    ∙ ap (λ (is_open : Bool). ended is_open c.in-Ok-Ended.ending) c.in_dialog.ensures))
     (browses_by begun old last _
     (ended_browses begun old now c.loop-status.reader c.next.new.self c.loop-status.session
     c.loop-status.key new source c.in-Ok-Ended.ending c.loop-status.invariant c.in_default.ensures
