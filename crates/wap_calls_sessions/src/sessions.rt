@@ -28,12 +28,20 @@ fn give(call: &mut Call, shown: Result<Rows<Text>, SessionFault>) -> Result<(), 
     Ok(())
 }
 
+/// Says where a script waits for the answer to a dialog.
+fn give_dialog(call: &mut Call, session: &Session) {
+    if session.in_dialog() {
+        call.give_word("Dialog");
+    }
+}
+
 /// Feeds a session the keys, one after the other.
 pub fn feed<P: Pages>(call: &mut Call, pages: &mut P) -> Result<(), CaseFault> {
     let alloc = call.alloc();
     let mut session = new_session(alloc);
     for key in &keys(call)? {
         give(call, session.feed(alloc, key, pages))?;
+        give_dialog(call, &session);
     }
     Ok(())
 }
@@ -44,5 +52,6 @@ pub fn play<P: Pages>(call: &mut Call, pages: &mut P) -> Result<(), CaseFault> {
     let keys = keys(call)?;
     let mut session = new_session(alloc);
     give(call, session.play(alloc, keys.as_slice(), pages))?;
+    give_dialog(call, &session);
     give(call, session.play(alloc, &[], pages))
 }
