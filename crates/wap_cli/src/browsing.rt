@@ -1,5 +1,6 @@
 //! Browsing over a store.
 ghost use Rattle.std.specs.Prelude.{◌≤◌};
+ghost use Rattle.wap_base.specs.Limits.{AreInRange};
 ghost use Rattle.wap_browse.specs.Headline.{Browses};
 ghost use Rattle.wap_pages.specs.declared.cached.TheConstants.{LEAST_CAPACITY, MOST_CAPACITY};
 ghost use Rattle.wap_cli.specs.Devices.{browsed};
@@ -23,6 +24,7 @@ pub(crate) fn browse<S: Store, I: Source, O: Sink>(
 ) -> (Status, S)
     requires some { LEAST_CAPACITY ≤ begun.cache }
     requires few { begun.cache ≤ MOST_CAPACITY }
+    requires limits { AreInRange begun.limits }
     ensures { Browses (begun_by begun)
         (browsed begun.cache (record {
           store = S.seen store;
