@@ -1,5 +1,5 @@
 -- How the browsing of a made folder ends.
-use Rattle.std.proofs.Common.{◌≡◌, ℕ, List, Ok, Err, inl, inr, refl, subst, arith}
+use Rattle.std.proofs.Common.{◌≡◌, ℕ, List, Result, Ok, Err, inl, inr, refl, subst, arith}
 use Rattle.wap_devices.specs.Sinks.{SinkSeen, Puts}
 use Rattle.wap_devices.specs.Transfer.{Appends, AppendsPrefix}
 use Rattle.wap_devices.specs.declared.fault.Failed.{Failed}

@@ -14,15 +14,14 @@ use Rattle.wap_make.specs.Folders.{folder, deck_count, deck_page, script_name, s
 use Rattle.wap_pages.specs.Judged.{judged}
 use Rattle.wap_site.specs.Asking.{Seen}
 use Rattle.wap_site.specs.Pages.{Pages}
-use Rattle.wap_world.specs.Decks.{decks_site}
-use Rattle.wap_world.specs.Sessions.{played, world_of}
-use Rattle.wap_context.specs.Browsers.{Browser, IfOver}
-use Rattle.wap_session.specs.Feeding.{State, Leads, beginning}
-use Rattle.wap_session.proofs.Playing.{Played, plays_more}
-use Rattle.wap_session.proofs.Turning.{Fed}
+use Rattle.wap_scripting.specs.UnitSites.{unit_pages}
+use Rattle.wap_context.specs.Sites.{site_of, IfOver}
+use Rattle.wap_session.specs.Feeding.{State, Leads, Plays, beginning}
+use Rattle.wap_session.proofs.Playing.{plays_more}
 use Rattle.wap_made.specs.declared.playing.Played.{Played as Came}
 use Rattle.wap_made.specs.declared.making.Tour.{Tour}
-use Rattle.wap_made.specs.Making.{made_begun, made_pages, made_keys, made_report, first_url, onward}
+use Rattle.wap_made.specs.Making.{made_begun, made_pages, made_site, made_keys, made_report}
+use Rattle.wap_made.specs.Making.{first_url, onward}
 use Rattle.wap_made.specs.Making.{accepted_in, value_in, made_line}
 use Rattle.wap_made.specs.inside.Tours.{lines_by, IsPlayed, IsTour, report_of}
 
@@ -38,19 +37,20 @@ page_count n =
 -- ---- the session
 
 -- its lines, where the pages are known
-led : (contents : Option Pages) (keys : List Key) (new : Browser) (lines : List (List ℕ))
+led : (contents : Option Pages) (keys : List Key) (new : State) (lines : List (List ℕ))
     → IfOver contents (beginning made_begun).browser
-    (λ site. Leads site.shelf (played site keys (world_of made_begun)) new lines)
-    → IfSome contents (λ pages. lines ≡ lines_by (decks_site pages) keys)
+    (λ pages. Leads keys pages (beginning made_begun) new lines)
+    → IfSome contents (λ judged. lines ≡ lines_by (site_of (unit_pages judged)) keys)
 led None keys new lines so = tt
 led (Some pages) keys new lines so = (so refl).tells
 
 -- its lines, and those of the variables after them
 in_parts : (contents : Option Pages) (keys : List Key) (lines more : List (List ℕ)) (came : Came)
-    → IfSome contents (λ pages. lines ≡ lines_by (decks_site pages) keys)
-    → IfSome contents (λ pages. lines ++ more ≡ lines_by (decks_site pages) (keys ++ Vars ∷ []))
+    → IfSome contents (λ judged. lines ≡ lines_by (site_of (unit_pages judged)) keys)
+    → IfSome contents
+    (λ judged. lines ++ more ≡ lines_by (site_of (unit_pages judged)) (keys ++ Vars ∷ []))
     → came.lines ≡ length lines → came.sum.items ≡ value_in more
-    → IfSome contents (λ pages. IsPlayed (decks_site pages) keys came)
+    → IfSome contents (λ judged. IsPlayed (site_of (unit_pages judged)) keys came)
 in_parts None keys lines more came first all counted text = tt
 in_parts (Some pages) keys lines more came first all counted text = record {
   lines = counted ∙ ap length first;
@@ -61,17 +61,17 @@ in_parts (Some pages) keys lines more came first all counted text = record {
 -- keys that were played from the beginning, and then the key that asks for the variables
 pub is_played : (keys : List Key) (before mid after : Seen) (old now new : State)
     (lines more : List (List ℕ)) (came : Came) → old ≡ beginning made_begun
-    → Played keys before mid old now (Ok lines) → Fed Vars mid after now new (Ok more)
+    → Plays keys before mid old now (Ok lines) → Plays (Vars ∷ []) mid after now new (Ok more)
     → came.lines ≡ length lines → came.sum.items ≡ value_in more
-    → IfSome before.contents (λ pages. IsPlayed (decks_site pages) keys came)
+    → IfSome before.contents (λ judged. IsPlayed (site_of (unit_pages judged)) keys came)
 is_played keys before mid after old now new lines more came begun so next counted text =
-    let first : Played keys before mid (beginning made_begun) now (Ok lines) =
-    subst (λ (state : State). Played keys before mid state now (Ok lines)) begun so in
+    let first : Plays keys before mid (beginning made_begun) now (Ok lines) =
+    subst (λ (state : State). Plays keys before mid state now (Ok lines)) begun so in
     let all = plays_more keys Vars before mid after (beginning made_begun) now new lines more first
     next in
     in_parts before.contents keys lines more came
-    (led before.contents keys now.browser lines first.leads)
-    (led before.contents (keys ++ Vars ∷ []) new.browser (lines ++ more) all.leads) counted text
+    (led before.contents keys now lines first.leads)
+    (led before.contents (keys ++ Vars ∷ []) new (lines ++ more) all.leads) counted text
 
 -- ---- the whole
 
@@ -85,7 +85,8 @@ pub is_tour : (n : ℕ) (pages : Contents) (names listed : List (List ℕ)) (key
     → listed ≡ names → keys ≡ Open first_url ∷ replicate (length names - 1) onward → given ≡ keys
     → first ≡ Some (judged pages) → second ≡ first → tour.pages ≡ length names
     → IfSome first (λ known. tour.accepted ≡ length (accepted_in known listed))
-    → IfSome second (λ known. IsPlayed (decks_site known) given tour.played) → IsTour n tour
+    → IfSome second (λ known. IsPlayed (site_of (unit_pages known)) given tour.played)
+    → IsTour n tour
 is_tour n pages names listed keys given first second tour paged named lists pressed gives kept same
     counted accepted came =
     let is_named : names ≡ names_of (folder n) = named ∙ ap names_of paged in
@@ -94,10 +95,10 @@ is_tour n pages names listed keys given first second tour paged named lists pres
     let goes : given ≡ Open first_url ∷ made_keys n =
     gives ∙ pressed ∙ ap (λ (count : ℕ). Open first_url ∷ replicate count onward) decks in
     let known : first ≡ Some (made_pages n) = kept ∙ ap (λ (p : Contents). Some (judged p)) paged in
-    let played : IsPlayed (decks_site (made_pages n)) (Open first_url ∷ made_keys n) tour.played =
-    subst (λ (l : List Key). IsPlayed (decks_site (made_pages n)) l tour.played) goes
-    (at_known second (made_pages n) (λ p. IsPlayed (decks_site p) given tour.played)
-    (same ∙ known) came) in
+    let played : IsPlayed (made_site n) (Open first_url ∷ made_keys n) tour.played =
+    subst (λ (l : List Key). IsPlayed (made_site n) l tour.played) goes
+    (at_known second (made_pages n)
+    (λ p. IsPlayed (site_of (unit_pages p)) given tour.played) (same ∙ known) came) in
     record {
       pages = counted ∙ many;
       accepted = at_known first (made_pages n)

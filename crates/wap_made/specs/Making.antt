@@ -18,9 +18,10 @@ use Rattle.wap_site.specs.declared.page.Page.TheVariants as page
 use Rattle.wap_pages.specs.Judged.{judged}
 use Rattle.wap_make.specs.Folders.{folder, deck_count}
 use Rattle.wap_words.specs.declared.numbers.TheConstants.{DEFAULT_SEED, DEFAULT_BUDGET}
-use Rattle.wap_world.specs.Decks.{decks_site}
 use Rattle.wap_world.specs.Sites.{Site}
 use Rattle.wap_world.specs.Sessions.{Begun, session, shown_by}
+use Rattle.wap_scripting.specs.UnitSites.{unit_pages}
+use Rattle.wap_context.specs.Sites.{site_of}
 use Rattle.wap_status.specs.declared.status.Status.{Status}
 use Rattle.wap_status.specs.declared.status.Status.TheVariants.{Done, WriteFault, NoMemory}
 
@@ -68,14 +69,18 @@ made_keys n = replicate (deck_count n) onward
 abbrev pub lines_of : Site → List Key → List (List ℕ)
 lines_of site keys = shown_by (session site made_begun keys)
 
+-- the site of the folder
+abbrev pub made_site : ℕ → Site
+made_site n = site_of (unit_pages (made_pages n))
+
 -- the lines over the folder
 abbrev pub made_lines : ℕ → List (List ℕ)
-made_lines n = lines_of (decks_site (made_pages n)) (made_keys n)
+made_lines n = lines_of (made_site n) (made_keys n)
 
 -- what one key more shows, which asks for the variables
 abbrev pub made_variables : ℕ → List (List ℕ)
 made_variables n =
-    drop (length (made_lines n)) (lines_of (decks_site (made_pages n)) (made_keys n ++ Vars ∷ []))
+    drop (length (made_lines n)) (lines_of (made_site n) (made_keys n ++ Vars ∷ []))
 
 -- the beginning of the line of the variable that the script sets
 abbrev pub sum_mark : List ℕ

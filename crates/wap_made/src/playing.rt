@@ -1,6 +1,7 @@
 //! A session over a made folder.
 ghost use Rattle.std.specs.Prelude.{◌≡◌, IfOk, IfSome};
-ghost use Rattle.wap_world.specs.Decks.{decks_site};
+ghost use Rattle.wap_scripting.specs.UnitSites.{unit_pages};
+ghost use Rattle.wap_context.specs.Sites.{site_of};
 ghost use Rattle.wap_made.specs.Making.{value_in};
 ghost use Rattle.wap_made.specs.inside.Tours.{IsPlayed};
 
@@ -52,7 +53,7 @@ fn fault_of(fault: SessionFault) -> RunErr {
 /// Plays keys from the beginning of a session, and then looks at the variables.
 pub(crate) fn play<P: Pages>(alloc: Global, pages: &mut P, keys: &[Key]) -> Result<Played, RunErr>
     ensures { IfOk result (λ played. IfSome (P.seen pages.old).contents
-        (λ known. IsPlayed (decks_site known) keys.now played)) }
+        (λ known. IsPlayed (site_of (unit_pages known)) keys.now played)) }
 {
     let mut session = Session::new(alloc, DEFAULT_SEED, DEFAULT_BUDGET, Limits::default());
     let lines = match session.play(alloc, keys, pages) {
