@@ -10,6 +10,8 @@ use Rattle.wap_markup.specs.declared.document.Element.{Element}
 use Rattle.wap_markup.specs.declared.document.Attr.{Attr}
 use Rattle.wap_base.specs.declared.charset.Charset.{Charset}
 use Rattle.wap_markup.specs.declared.mark.Lead.{Lead}
+use Rattle.wap_markup.specs.declared.mark.DocumentType.{DocumentType}
+use Rattle.wap_markup.specs.declared.mark.DocumentType.TheVariants.{Wml, Other}
 use Rattle.wap_markup.specs.declared.mark.Identifier.{Identifier}
 use Rattle.wap_markup.specs.declared.mark.Identifier.TheVariants.{Numbered, Named}
 use Rattle.wap_markup.specs.declared.mark.ContentMark.{ContentMark}
@@ -32,22 +34,34 @@ IsVersion bytes version = (bytes ≡ version ∷ []) × (is_version version ≡ 
 abbrev pub is_public : ℕ → Bool
 is_public number = number == WML_1_1 || (number == WML_1_2 || number == WML_1_3)
 
--- the number of a public identifier by its name
+-- the number of a public identifier of WML by its name
 unfoldable pub public_named : List ℕ → Option ℕ
 public_named name =
     if is_same_text name (codes "-//WAPFORUM//DTD WML 1.1//EN") then Some WML_1_1 else
     if is_same_text name (codes "-//WAPFORUM//DTD WML 1.2//EN") then Some WML_1_2 else
     if is_same_text name (codes "-//WAPFORUM//DTD WML 1.3//EN") then Some WML_1_3 else None
 
+-- whether a number is a public identifier of a document type
+abbrev pub is_numbered : DocumentType → ℕ → Bool
+is_numbered Wml number = is_public number
+is_numbered (Other only) number = number == only
+
+-- whether the index of a name in the string table stands after this number: only names of WML are
+-- known
+abbrev pub is_by_name : DocumentType → ℕ → Bool
+is_by_name Wml number = number == 0
+is_by_name (Other only) number = false
+
 -- 0 stands before the index of a name in the string table
-abbrev pub IsIdentifierBehind : ℕ → Bool → List ℕ → Identifier → Type 0
-IsIdentifierBehind number true bytes identifier = Told Named IsMb bytes identifier
-IsIdentifierBehind number false bytes identifier =
-    Given (Numbered number) bytes identifier × (is_public number ≡ true)
+abbrev pub IsIdentifierBehind : DocumentType → ℕ → Bool → List ℕ → Identifier → Type 0
+IsIdentifierBehind kind number true bytes identifier = Told Named IsMb bytes identifier
+IsIdentifierBehind kind number false bytes identifier =
+    Given (Numbered number) bytes identifier × (is_numbered kind number ≡ true)
 
 -- a public identifier, by its number or by the index of its name (section 5.5)
-abbrev pub IsIdentifier : List ℕ → Identifier → Type 0
-IsIdentifier = Then IsMb (λ number. IsIdentifierBehind number (number == 0))
+abbrev pub IsIdentifier : DocumentType → List ℕ → Identifier → Type 0
+IsIdentifier kind =
+    Then IsMb (λ number. IsIdentifierBehind kind number (is_by_name kind number))
 
 -- the number that an identifier stands for, which takes no bytes
 abbrev pub IsPublic : List ℕ → Identifier → List ℕ → ℕ → Type 0
@@ -100,13 +114,17 @@ IsBody strings =
 
 -- ---- the whole
 
--- the bytes spell the document
-unfoldable pub IsDocument : List ℕ → Document → Type 0
-IsDocument =
+-- the bytes spell the document, which is of this type
+unfoldable pub IsDocumentOf : DocumentType → List ℕ → Document → Type 0
+IsDocumentOf kind =
     Then IsVersion (λ version.
-    Then IsIdentifier (λ identifier.
+    Then (IsIdentifier kind) (λ identifier.
     Then IsCharset (λ charset.
     Then IsOpaque (λ table.
     Then (IsPublic table identifier) (λ public.
     Told (λ root. record { version = version; public = public; charset = charset.0; root = root })
     (IsBody (record { charset = charset.1; table = table })))))))
+
+-- the bytes spell the document, which is one of WML
+abbrev pub IsDocument : List ℕ → Document → Type 0
+IsDocument = IsDocumentOf Wml

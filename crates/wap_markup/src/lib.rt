@@ -16,7 +16,7 @@ pub use codes::{
 };
 pub use deck::{Deck, Item, Node};
 pub use document::{Attr, Document, Element, Kid, LEVEL_LIMIT, Piece, Token};
-pub use mark::{AttributeMark, ContentMark, Identifier, Lead, Leaf, LeafMark, Role};
+pub use mark::{AttributeMark, ContentMark, DocumentType, Identifier, Lead, Leaf, LeafMark, Role};
 pub use name::{AttrName, Tag};
 pub use rules::RULES;
 pub use tables::{ATTR_NAMES, ATTR_STARTS, ATTR_VALUES, TAGS};

@@ -83,6 +83,15 @@ pub enum Leaf {
     Opaque(Bytes),
 }
 
+/// The document type that is read.
+#[derive(Clone, Copy, Debug, PartialEq, Eq)]
+pub enum DocumentType {
+    /// WML, of any of its versions.
+    Wml,
+    /// The one whose public identifier has this number. Its name isn't read.
+    Other(u32),
+}
+
 /// A public identifier.
 #[derive(Clone, Copy, Debug, PartialEq, Eq)]
 pub enum Identifier {

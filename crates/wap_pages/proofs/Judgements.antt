@@ -13,6 +13,7 @@ use Rattle.wap_base.specs.declared.charset.Charset.TheVariants.{Utf8}
 use Rattle.wap_base.proofs.Choices.{ok_same, err_same, some_same}
 use Rattle.wap_markup.specs.declared.document.Document.{Document}
 use Rattle.wap_markup.specs.declared.deck.Deck.{Deck}
+use Rattle.wap_markup.specs.declared.mark.DocumentType.TheVariants.{Wml}
 use Rattle.wap_markup.specs.Documents.{IsDocument}
 use Rattle.wap_markup.specs.Decks.{deck_of}
 use Rattle.wap_markup.specs.Good.{IsGood}
@@ -62,22 +63,22 @@ use Rattle.wap_pages.proofs.Refusing.{by_deck}
 -- what is read is a document
 document_takes : (bytes : List ℕ) (document : Document) → document_at bytes ≡ Ok document
     → IsDocument bytes document
-document_takes = documents.document_takes
+document_takes = documents.document_takes Wml
 
 -- and a document is read
 document_again : (bytes : List ℕ) (document : Document) → IsDocument bytes document
     → document_at bytes ≡ Ok document
-document_again = documents.document_again
+document_again = documents.document_again Wml
 
 -- what isn't read is refused
 document_stops : (bytes : List ℕ) (why : DocFault) → document_at bytes ≡ Err why
     → IsRefused bytes why
-document_stops = documents.document_stops
+document_stops = documents.document_stops Wml
 
 -- and what is refused isn't read
 document_fails : (bytes : List ℕ) (why : DocFault) → IsRefused bytes why
     → document_at bytes ≡ Err why
-document_fails = documents.document_fails
+document_fails = documents.document_fails Wml
 
 -- ---- decks
 

@@ -8,13 +8,14 @@ use Rattle.wap_base.specs.declared.charset.Charset.TheVariants.{Utf8}
 use Rattle.wap_markup.specs.declared.document.Document.{Document}
 use Rattle.wap_markup.specs.declared.document.TheConstants.{LEVEL_LIMIT}
 use Rattle.wap_markup.specs.declared.mark.ContentMark.{ContentMark}
+use Rattle.wap_markup.specs.declared.mark.DocumentType.TheVariants.{Wml}
 use Rattle.wap_markup.specs.declared.mark.Identifier.TheVariants.{Numbered}
 use Rattle.wap_markup.specs.Spellings.{none}
 use Rattle.wap_markup.specs.Strings.{Strings}
 use Rattle.wap_markup.specs.Grammar.{State, IsOpaque}
 use Rattle.wap_markup.specs.Documents.{is_public, IsIdentifier, IsIdentifierBehind}
 use Rattle.wap_markup.specs.Documents.{IsRootBehind, IsRoot, first_state, into_root}
-use Rattle.wap_markup.specs.Documents.{out_of_root, IsBody, IsDocument}
+use Rattle.wap_markup.specs.Documents.{out_of_root, IsBody, IsDocument, IsDocumentOf}
 use Rattle.wap_markup.specs.declared.codes.TheConstants.{VERSION, CHARSET}
 use Rattle.wap_spelling.specs.Names.{table_of, names_of}
 use Rattle.wap_spelling.specs.Spelling.{sized, first_pages, element_spelling}
@@ -80,14 +81,15 @@ module _ (document : Document) (is : IsSpellable document) (texts : HasTexts doc
         };
       }
 
-  identifier_read : IsIdentifier (mb_spelling document.public) (Numbered document.public)
+  identifier_read : IsIdentifier Wml (mb_spelling document.public) (Numbered document.public)
   identifier_read = record {
     front = mb_spelling document.public;
     rest = [];
     spelled = sym (append-nil (mb_spelling document.public));
     a = document.public;
     first = number_read document.public (public_small document.public is.public);
-    next = subst (λ (b : Bool). IsIdentifierBehind document.public b [] (Numbered document.public))
+    next =
+        subst (λ (b : Bool). IsIdentifierBehind Wml document.public b [] (Numbered document.public))
         (sym (public_some document.public is.public)) ((refl, refl), is.public);
   }
 
@@ -105,7 +107,7 @@ module _ (document : Document) (is : IsSpellable document) (texts : HasTexts doc
       }
 
   pub document_read : IsDocument (spelling document) (canon document)
-  unfolding IsDocument spelling
+  unfolding IsDocumentOf spelling
   document_read =
       let root = root_spelling names document.root in
       let table = sized (table_of names) in

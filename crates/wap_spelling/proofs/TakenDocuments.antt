@@ -16,6 +16,7 @@ use Rattle.wap_markup.specs.declared.document.Document.{Document}
 use Rattle.wap_markup.specs.declared.document.Element.{Element}
 use Rattle.wap_markup.specs.declared.document.Attr.{Attr}
 use Rattle.wap_markup.specs.declared.mark.Lead.{Lead}
+use Rattle.wap_markup.specs.declared.mark.DocumentType.TheVariants.{Wml}
 use Rattle.wap_markup.specs.declared.mark.Identifier.{Identifier}
 use Rattle.wap_markup.specs.declared.mark.ContentMark.{ContentMark}
 use Rattle.wap_markup.specs.declared.mark.ContentMark.TheVariants as content
@@ -25,7 +26,7 @@ use Rattle.wap_markup.specs.Strings.{Strings, is_not_zero}
 use Rattle.wap_markup.specs.Grammar.{State, table_size}
 use Rattle.wap_markup.specs.Documents.{is_public, public_named, IsIdentifierBehind}
 use Rattle.wap_markup.specs.Documents.{IsPublic, IsOuter, IsRootBehind, IsRoot}
-use Rattle.wap_markup.specs.Documents.{first_state, into_root, IsBody, IsDocument}
+use Rattle.wap_markup.specs.Documents.{first_state, into_root, IsBody, IsDocument, IsDocumentOf}
 use Rattle.wap_spelling.specs.Names.{with_attr, with_element, names_of}
 use Rattle.wap_spelling.specs.Spellable.{HasNoZero, IsString, FitsElement, IsSpellable, HasTexts}
 use Rattle.wap_spelling.proofs.Strings.{and_true, and_parts}
@@ -103,7 +104,7 @@ named_public false false true public e = ap is_public (sym (some_same 10 public 
 named_public false false false public e = absurd cc
 
 public_by : (number : ℕ) (b : Bool) (bytes : List ℕ) (identifier : Identifier)
-    → IsIdentifierBehind number b bytes identifier
+    → IsIdentifierBehind Wml number b bytes identifier
     → (table rest : List ℕ) (public : ℕ) → IsPublic table identifier rest public
     → is_public public ≡ true
 unfolding public_named
@@ -181,7 +182,7 @@ module _ (Byte : ℕ → Type 0) (Is : List ℕ → Type 0)
       → IsDocument bytes document
       → (is_public document.public ≡ true) × FitsElement Is LEVEL_LIMIT document.root
       × (table_size (names_of document) < 2 ^ 32)
-  unfolding IsDocument
+  unfolding IsDocumentOf
   document_taken bytes document all is =
       let after_version = (split_of Byte bytes is.front is.rest is.spelled all).1 in
       let identifier = is.next in

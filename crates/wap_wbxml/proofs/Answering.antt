@@ -3,21 +3,22 @@ use Rattle.std.proofs.Common.{◌≢◌, List, ℕ, Result, Ok, Err}
 use Rattle.std.specs.Prelude.{IfOk, IfErr}
 use Rattle.wap_base.specs.Outcome.{Meets}
 use Rattle.wap_markup.specs.declared.document.Document.{Document}
-use Rattle.wap_markup.specs.Documents.{IsDocument}
+use Rattle.wap_markup.specs.declared.mark.DocumentType.{DocumentType}
+use Rattle.wap_markup.specs.Documents.{IsDocumentOf}
 use Rattle.wap_wbxml.specs.declared.fault.DocFault.{DocFault}
 use Rattle.wap_wbxml.specs.declared.fault.DocFault.TheVariants.{NoMemory}
-use Rattle.wap_wbxml.specs.Refusal.{IsRefused}
-use Rattle.wap_wbxml.specs.reading.Whole.{document_at}
+use Rattle.wap_wbxml.specs.Refusal.{IsRefusedAs}
+use Rattle.wap_wbxml.specs.reading.Whole.{typed_at}
 use Rattle.wap_wbxml.proofs.DocumentLaws.{document_takes, document_stops}
 
-pub found_is : (bytes : List ℕ) (result : Result Document DocFault)
-    → Meets NoMemory (λ d. d) result (document_at bytes)
-    → IfOk result (λ document. IsDocument bytes document)
-found_is bytes (Ok document) read = document_takes bytes document read
-found_is bytes (Err fault) read = tt
+pub found_is : (kind : DocumentType) (bytes : List ℕ) (result : Result Document DocFault)
+    → Meets NoMemory (λ d. d) result (typed_at kind bytes)
+    → IfOk result (λ document. IsDocumentOf kind bytes document)
+found_is kind bytes (Ok document) read = document_takes kind bytes document read
+found_is kind bytes (Err fault) read = tt
 
-pub refused_is : (bytes : List ℕ) (result : Result Document DocFault)
-    → Meets NoMemory (λ d. d) result (document_at bytes)
-    → IfErr result (λ fault. fault ≢ NoMemory → IsRefused bytes fault)
-refused_is bytes (Ok document) read = tt
-refused_is bytes (Err fault) read = λ other. document_stops bytes fault (read other)
+pub refused_is : (kind : DocumentType) (bytes : List ℕ) (result : Result Document DocFault)
+    → Meets NoMemory (λ d. d) result (typed_at kind bytes)
+    → IfErr result (λ fault. fault ≢ NoMemory → IsRefusedAs kind bytes fault)
+refused_is kind bytes (Ok document) read = tt
+refused_is kind bytes (Err fault) read = λ other. document_stops kind bytes fault (read other)

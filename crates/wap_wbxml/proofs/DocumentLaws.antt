@@ -12,6 +12,7 @@ use Rattle.wap_markup.specs.declared.document.TheConstants.{LEVEL_LIMIT}
 use Rattle.wap_markup.specs.declared.document.Document.{Document}
 use Rattle.wap_markup.specs.declared.document.Element.{Element}
 use Rattle.wap_base.specs.declared.charset.Charset.{Charset}
+use Rattle.wap_markup.specs.declared.mark.DocumentType.{DocumentType}
 use Rattle.wap_markup.specs.declared.mark.Identifier.{Identifier}
 use Rattle.wap_markup.specs.declared.mark.Identifier.TheVariants.{Numbered, Named}
 use Rattle.wap_markup.specs.declared.mark.Lead.{Lead}
@@ -22,10 +23,10 @@ use Rattle.wap_markup.specs.Codes.{content_mark}
 use Rattle.wap_markup.specs.Spellings.{Then, Told, Given, ManyOf}
 use Rattle.wap_markup.specs.Strings.{string_from}
 use Rattle.wap_markup.specs.Grammar.{State, IsLead, IsInstruction}
-use Rattle.wap_markup.specs.Documents.{is_version, IsVersion, is_public, public_named}
+use Rattle.wap_markup.specs.Documents.{is_version, IsVersion, is_numbered, is_by_name, public_named}
 use Rattle.wap_markup.specs.Documents.{IsIdentifierBehind, IsIdentifier, IsPublic, IsCharset}
 use Rattle.wap_markup.specs.Documents.{IsOuter, IsRootBehind, IsRoot, first_state, into_root}
-use Rattle.wap_markup.specs.Documents.{out_of_root, IsBody, IsDocument}
+use Rattle.wap_markup.specs.Documents.{out_of_root, IsBody, IsDocumentOf}
 use Rattle.wap_wbxml.specs.declared.fault.DocFault.{DocFault}
 use Rattle.wap_wbxml.specs.declared.fault.DocFault.TheVariants as doc
 use Rattle.wap_wbxml.specs.reading.Steps.{Reading, some, told}
@@ -36,12 +37,12 @@ use Rattle.wap_wbxml.specs.Places.{input_of}
 use Rattle.wap_wbxml.specs.reading.Whole.{version_at, identifier_from, identifier_at, or_no_charset}
 use Rattle.wap_wbxml.specs.reading.Whole.{charset_at, or_not_public, public_of, outer_from}
 use Rattle.wap_wbxml.specs.reading.Whole.{next_outer, outers_at, root_from, root_at, body_at}
-use Rattle.wap_wbxml.specs.reading.Whole.{document_of, whole_at, all_of_it, document_at}
+use Rattle.wap_wbxml.specs.reading.Whole.{document_of, whole_at, all_of_it, typed_at}
 use Rattle.wap_wbxml.specs.Refusals.{Anything, RefusedThen}
 use Rattle.wap_wbxml.specs.Refusal.{RefusedVersion, RefusedIdentifierBehind, RefusedIdentifier}
 use Rattle.wap_wbxml.specs.Refusal.{RefusedCharset, RefusedPublic, RefusedOuter, InstructionsEnd}
 use Rattle.wap_wbxml.specs.Refusal.{OutersEnd, RefusedOuters, RefusedRootBehind, RefusedRoot}
-use Rattle.wap_wbxml.specs.Refusal.{RefusedBody, RefusedWhole, IsRefused}
+use Rattle.wap_wbxml.specs.Refusal.{RefusedBody, RefusedWhole, IsRefusedAs}
 use Rattle.wap_wbxml.proofs.Readings.{Reads, pair_same, no_fault, no_value, reads_behind}
 use Rattle.wap_wbxml.proofs.Readings.{reads_then, reads_told, reads_given, reads_as, reads_found}
 use Rattle.wap_wbxml.proofs.Runs.{Items, StopsOpen, reads_open}
@@ -99,15 +100,15 @@ reads_version total = record {
 }
 
 -- a number that isn't 0 has to be that of a document type
-reads_numbered : (number : ℕ)
+reads_numbered : (kind : DocumentType) (number : ℕ)
     → Reads Anything
-    (λ rest. cond (is_public number) (Ok (Numbered number, rest)) (Err doc.PublicId))
-    (λ bytes identifier. Given (Numbered number) bytes identifier × (is_public number ≡ true))
-    (λ rest fault. (is_public number ≡ false) × (fault ≡ doc.PublicId))
-reads_numbered number = record {
+    (λ rest. cond (is_numbered kind number) (Ok (Numbered number, rest)) (Err doc.PublicId))
+    (λ bytes identifier. Given (Numbered number) bytes identifier × (is_numbered kind number ≡ true))
+    (λ rest fault. (is_numbered kind number ≡ false) × (fault ≡ doc.PublicId))
+reads_numbered kind number = record {
   takes =
       λ bytes x rest e. elim
-      (chosen (is_public number) (Ok (Numbered number, bytes)) (Err doc.PublicId)
+      (chosen (is_numbered kind number) (Ok (Numbered number, bytes)) (Err doc.PublicId)
       (Ok (x, rest)) e) [
         | inl t ↦
             let same = pair_same (Numbered number) x bytes rest t.1 in
@@ -119,7 +120,7 @@ reads_numbered number = record {
       ∙ ap (λ (l : List ℕ). Ok (Numbered number, l ++ rest)) is.0.0
       ∙ ap (λ (i : Identifier). Ok (i, rest)) (sym is.0.1);
   stops =
-      λ bytes fault e. elim (chosen (is_public number) (Ok (Numbered number, bytes))
+      λ bytes fault e. elim (chosen (is_numbered kind number) (Ok (Numbered number, bytes))
       (Err doc.PublicId) (Err fault) e) [
         | inl t ↦ absurd (no_fault t.1)
         | inr f ↦ (f.0, sym (err_same doc.PublicId fault f.1))
@@ -130,19 +131,19 @@ reads_numbered number = record {
       ∙ ap Err (sym refused.1);
 }
 
-reads_identifier_behind : (total number : ℕ) (b : Bool)
-    → Reads Anything (identifier_from total number b) (IsIdentifierBehind number b)
-    (RefusedIdentifierBehind total number b)
-reads_identifier_behind total number true =
+reads_identifier_behind : (kind : DocumentType) (total number : ℕ) (b : Bool)
+    → Reads Anything (identifier_from kind total number b) (IsIdentifierBehind kind number b)
+    (RefusedIdentifierBehind kind total number b)
+reads_identifier_behind kind total number true =
     reads_told Named (reads_number total) (λ a rest u. u) (λ a rest u. u)
-reads_identifier_behind total number false = reads_numbered number
+reads_identifier_behind kind total number false = reads_numbered kind number
 
-reads_identifier : (total : ℕ)
-    → Reads Anything (identifier_at total) IsIdentifier (RefusedIdentifier total)
+reads_identifier : (kind : DocumentType) (total : ℕ)
+    → Reads Anything (identifier_at kind total) (IsIdentifier kind) (RefusedIdentifier kind total)
 unfolding identifier_at RefusedIdentifier
-reads_identifier total =
-    reads_then (λ number. identifier_from total number (eqb number 0)) (reads_number total)
-    (λ number. reads_identifier_behind total number (eqb number 0))
+reads_identifier kind total =
+    reads_then (λ number. identifier_from kind total number (is_by_name kind number)) (reads_number total)
+    (λ number. reads_identifier_behind kind total number (is_by_name kind number))
 
 charset_found : (o : Option Charset) (charset : Charset) → or_no_charset o ≡ Ok charset
     → o ≡ Some charset
@@ -441,7 +442,7 @@ module _ (input : Input) where
 abbrev WholeEnds : Document → List ℕ → Type 0
 WholeEnds document rest = InstructionsEnd rest
 
-module _ (total : ℕ) where
+module _ (kind : DocumentType) (total : ℕ) where
   abbrev body_of : ℕ → ℕ × Charset → List ℕ → ℕ → List ℕ → Reading Document
   body_of version charset table public rest =
       told (document_of version public charset) (body_at (input_of total charset table) rest)
@@ -472,18 +473,19 @@ module _ (total : ℕ) where
       (λ bytes. bind_assoc (public_of table identifier) (λ public. Ok (public, bytes))
       (λ public. body_of version charset table public.0 public.1))
 
-  pub reads_whole : Reads WholeEnds (whole_at total) IsDocument (RefusedWhole total)
-  unfolding whole_at IsDocument RefusedWhole
+  pub reads_whole
+      : Reads WholeEnds (whole_at kind total) (IsDocumentOf kind) (RefusedWhole kind total)
+  unfolding whole_at IsDocumentOf RefusedWhole
   reads_whole =
       reads_then
-      (λ version rest. identifier_at total rest >>= λ identifier. charset_at total identifier.1
+      (λ version rest. identifier_at kind total rest >>= λ identifier. charset_at total identifier.1
       >>= λ charset. opaque_at total charset.1
       >>= λ table. public_then version identifier.0 charset.0 table.0 table.1)
       (reads_version total)
       (λ version. reads_then
       (λ identifier rest. charset_at total rest >>= λ charset. opaque_at total charset.1
       >>= λ table. public_then version identifier charset.0 table.0 table.1)
-      (reads_identifier total)
+      (reads_identifier kind total)
       (λ identifier. reads_then
       (λ charset rest.
       opaque_at total rest >>= λ table. public_then version identifier charset table.0 table.1)
@@ -512,36 +514,37 @@ all_fails : (total : ℕ) (document : Document) (rest : List ℕ) (fault : DocFa
 all_fails total document [] fault refused = let none = refused.0 in absurd (omega arith)
 all_fails total document (byte ∷ rest) fault refused = ap Err (sym refused.1)
 
-pub document_takes : (bytes : List ℕ) (document : Document) → document_at bytes ≡ Ok document
-    → IsDocument bytes document
-unfolding document_at
-document_takes bytes document e =
+pub document_takes : (kind : DocumentType) (bytes : List ℕ) (document : Document)
+    → typed_at kind bytes ≡ Ok document
+    → IsDocumentOf kind bytes document
+unfolding typed_at
+document_takes kind bytes document e =
     let total = length bytes in
-    let a = bind_ok (whole_at total bytes) (all_of_it total) document e in
-    let b = (reads_whole total).takes bytes a.0.0 a.0.1 a.1 in
+    let a = bind_ok (whole_at kind total bytes) (all_of_it total) document e in
+    let b = (reads_whole kind total).takes bytes a.0.0 a.0.1 a.1 in
     let c = all_takes total a.0.0 a.0.1 document a.2 in
-    subst (λ (l : List ℕ). IsDocument l document)
+    subst (λ (l : List ℕ). IsDocumentOf kind l document)
     (sym (b.1 ∙ ap (λ (l : List ℕ). b.0 ++ l) c.0 ∙ append-nil b.0))
-    (subst (IsDocument b.0) c.1 b.2)
+    (subst (IsDocumentOf kind b.0) c.1 b.2)
 
-pub document_again : (bytes : List ℕ) (document : Document) → IsDocument bytes document
-    → document_at bytes ≡ Ok document
-unfolding document_at
-document_again bytes document is =
+pub document_again : (kind : DocumentType) (bytes : List ℕ) (document : Document)
+    → IsDocumentOf kind bytes document → typed_at kind bytes ≡ Ok document
+unfolding typed_at
+document_again kind bytes document is =
     let total = length bytes in
     ap (λ (r : Reading Document). r >>= all_of_it total)
-    (ap (whole_at total) (sym (append-nil bytes))
-    ∙ (reads_whole total).again bytes document [] is tt)
+    (ap (whole_at kind total) (sym (append-nil bytes))
+    ∙ (reads_whole kind total).again bytes document [] is tt)
 
-pub document_stops : (bytes : List ℕ) (fault : DocFault) → document_at bytes ≡ Err fault
-    → IsRefused bytes fault
-unfolding document_at IsRefused
-document_stops bytes fault e =
+pub document_stops : (kind : DocumentType) (bytes : List ℕ) (fault : DocFault)
+    → typed_at kind bytes ≡ Err fault → IsRefusedAs kind bytes fault
+unfolding typed_at IsRefusedAs
+document_stops kind bytes fault e =
     let total = length bytes in
-    elim (bind_err (whole_at total bytes) (all_of_it total) fault e) [
-      | inl failed ↦ inl ((reads_whole total).stops bytes fault failed)
+    elim (bind_err (whole_at kind total bytes) (all_of_it total) fault e) [
+      | inl failed ↦ inl ((reads_whole kind total).stops bytes fault failed)
       | inr read ↦
-          let b = (reads_whole total).takes bytes read.0.0 read.0.1 read.1 in
+          let b = (reads_whole kind total).takes bytes read.0.0 read.0.1 read.1 in
           inr (record {
             front = b.0;
             rest = read.0.1;
@@ -553,24 +556,25 @@ document_stops bytes fault e =
           })
     ]
 
-pub document_fails : (bytes : List ℕ) (fault : DocFault) → IsRefused bytes fault
-    → document_at bytes ≡ Err fault
-unfolding document_at IsRefused
-document_fails bytes fault refused =
+pub document_fails : (kind : DocumentType) (bytes : List ℕ) (fault : DocFault)
+    → IsRefusedAs kind bytes fault → typed_at kind bytes ≡ Err fault
+unfolding typed_at IsRefusedAs
+document_fails kind bytes fault refused =
     let total = length bytes in
     elim refused [
       | inl here ↦
           ap (λ (r : Reading Document). r >>= all_of_it total)
-          ((reads_whole total).fails bytes fault here)
+          ((reads_whole kind total).fails bytes fault here)
       | inr later ↦
-          ap (λ (l : List ℕ). whole_at total l >>= all_of_it total) later.spelled
+          ap (λ (l : List ℕ). whole_at kind total l >>= all_of_it total) later.spelled
           ∙ ap (λ (r : Reading Document). r >>= all_of_it total)
-          ((reads_whole total).again later.front later.a later.rest later.is later.ends)
+          ((reads_whole kind total).again later.front later.a later.rest later.is later.ends)
           ∙ all_fails total later.a later.rest fault later.refused
     ]
 
 -- no bytes have two documents
-pub one_document : (bytes : List ℕ) (a b : Document) → IsDocument bytes a
-    → IsDocument bytes b → a ≡ b
-one_document bytes a b first second =
-    ok_same a b (sym (document_again bytes a first) ∙ document_again bytes b second)
+pub one_document : (kind : DocumentType) (bytes : List ℕ) (a b : Document)
+    → IsDocumentOf kind bytes a
+    → IsDocumentOf kind bytes b → a ≡ b
+one_document kind bytes a b first second =
+    ok_same a b (sym (document_again kind bytes a first) ∙ document_again kind bytes b second)

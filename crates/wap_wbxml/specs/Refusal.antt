@@ -8,6 +8,8 @@ use Rattle.wap_markup.specs.declared.codes.TheConstants.{SWITCH_PAGE, PI}
 use Rattle.wap_markup.specs.declared.document.Attr.{Attr}
 use Rattle.wap_markup.specs.declared.document.TheConstants.{LEVEL_LIMIT}
 use Rattle.wap_base.specs.declared.charset.Charset.{Charset}
+use Rattle.wap_markup.specs.declared.mark.DocumentType.{DocumentType}
+use Rattle.wap_markup.specs.declared.mark.DocumentType.TheVariants.{Wml}
 use Rattle.wap_markup.specs.declared.mark.Identifier.{Identifier}
 use Rattle.wap_markup.specs.declared.mark.Identifier.TheVariants.{Numbered, Named}
 use Rattle.wap_markup.specs.declared.mark.Lead.{Lead}
@@ -28,7 +30,7 @@ use Rattle.wap_markup.specs.Grammar.{State, IsLead, IsPiece, IsAttribute, IsAttr
 use Rattle.wap_markup.specs.Grammar.{IsKid, IsElement, Elements, counted, table_size}
 use Rattle.wap_markup.specs.Grammar.{on_attribute_page, on_tag_page}
 use Rattle.wap_markup.specs.Documents as documents
-use Rattle.wap_markup.specs.Documents.{is_version, is_public, public_named, IsVersion}
+use Rattle.wap_markup.specs.Documents.{is_version, is_numbered, is_by_name, public_named, IsVersion}
 use Rattle.wap_markup.specs.Documents.{IsIdentifier, IsCharset, IsPublic, IsOuter, IsRoot}
 use Rattle.wap_markup.specs.Documents.{first_state, into_root, out_of_root}
 use Rattle.wap_wbxml.specs.declared.fault.DocFault.{DocFault}
@@ -267,17 +269,17 @@ RefusedVersion total [] fault = fault ≡ doc.Short total
 RefusedVersion total (byte ∷ rest) fault = (is_version byte ≡ false) × (fault ≡ doc.Version)
 
 -- a public identifier after its number: 0 stands before an index, and another number has to be one
--- of WML (WAP-192, section 5.5)
-abbrev pub RefusedIdentifierBehind : ℕ → ℕ → Bool → Refusal
-RefusedIdentifierBehind total number true rest fault = RefusedNumber total rest fault
-RefusedIdentifierBehind total number false rest fault =
-    (is_public number ≡ false) × (fault ≡ doc.PublicId)
+-- of the document type (WAP-192, section 5.5)
+abbrev pub RefusedIdentifierBehind : DocumentType → ℕ → ℕ → Bool → Refusal
+RefusedIdentifierBehind kind total number true rest fault = RefusedNumber total rest fault
+RefusedIdentifierBehind kind total number false rest fault =
+    (is_numbered kind number ≡ false) × (fault ≡ doc.PublicId)
 
--- a public identifier: its number or its index is refused, or the number is none of WML
-unfoldable pub RefusedIdentifier : ℕ → Refusal
-RefusedIdentifier total =
+-- a public identifier: its number or its index is refused, or the number is another type's
+unfoldable pub RefusedIdentifier : DocumentType → ℕ → Refusal
+RefusedIdentifier kind total =
     RefusedThen IsMb (RefusedNumber total) (λ number.
-    RefusedIdentifierBehind total number (number == 0))
+    RefusedIdentifierBehind kind total number (is_by_name kind number))
 
 -- the number is none of a character set that is known
 abbrev pub NoCharset : ℕ → Refusal
@@ -341,21 +343,27 @@ RefusedBody input =
 
 -- a document, part by part from the left: version, public identifier, character set, string table
 -- and body
-unfoldable pub RefusedWhole : ℕ → Refusal
-RefusedWhole total =
+unfoldable pub RefusedWhole : DocumentType → ℕ → Refusal
+RefusedWhole kind total =
     RefusedThen IsVersion (RefusedVersion total) (λ version.
-    RefusedThen IsIdentifier (RefusedIdentifier total) (λ identifier.
+    RefusedThen (IsIdentifier kind) (RefusedIdentifier kind total) (λ identifier.
     RefusedThen IsCharset (RefusedCharset total) (λ charset.
     RefusedThen grammar.IsOpaque (RefusedOpaque total) (λ table.
     RefusedThen (IsPublic table identifier) (RefusedPublic table identifier) (λ public.
     RefusedBody (input_of total charset table))))))
 
 -- bytes after a document that goes on no further
-abbrev pub RefusedRest : ℕ → Refusal
-RefusedRest total =
-    BehindWhole documents.IsDocument (λ document. InstructionsEnd)
+abbrev pub RefusedRest : DocumentType → ℕ → Refusal
+RefusedRest kind total =
+    BehindWhole (documents.IsDocumentOf kind) (λ document. InstructionsEnd)
     (λ document rest fault. (0 < length rest) × (fault ≡ doc.Rest (place total rest)))
 
--- the bytes are no document: this is the first thing in them that can't stand where it does
-unfoldable pub IsRefused : List ℕ → DocFault → Type 0
-IsRefused bytes = EitherRefused (RefusedWhole (length bytes)) (RefusedRest (length bytes)) bytes
+-- the bytes are no document of this type: this is the first thing in them that can't stand where
+-- it does
+unfoldable pub IsRefusedAs : DocumentType → List ℕ → DocFault → Type 0
+IsRefusedAs kind bytes =
+    EitherRefused (RefusedWhole kind (length bytes)) (RefusedRest kind (length bytes)) bytes
+
+-- the bytes are no document of WML, for the first thing in them that can't stand where it does
+abbrev pub IsRefused : List ℕ → DocFault → Type 0
+IsRefused = IsRefusedAs Wml

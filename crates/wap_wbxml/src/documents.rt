@@ -2,12 +2,14 @@
 ghost use Rattle.std.specs.Prelude.{◌≡◌, ◌≢◌, ◌↔◌, ℕ, List, IfOk, IfErr, Ok, Err};
 ghost use Rattle.wap_base.specs.Outcome.{Meets};
 ghost use Rattle.wap_markup.specs.declared.document.Document.{Document};
-ghost use Rattle.wap_markup.specs.Documents.{IsDocument};
+ghost use Rattle.wap_markup.specs.declared.mark.DocumentType.{DocumentType};
+ghost use Rattle.wap_markup.specs.declared.mark.DocumentType.TheVariants.{Other};
+ghost use Rattle.wap_markup.specs.Documents.{IsDocument, IsDocumentOf};
 ghost use Rattle.wap_wbxml.specs.declared.fault.DocFault.{DocFault};
 ghost use Rattle.wap_wbxml.specs.declared.fault.DocFault.TheVariants.{NoMemory};
-ghost use Rattle.wap_wbxml.specs.Refusal.{IsRefused};
+ghost use Rattle.wap_wbxml.specs.Refusal.{IsRefused, IsRefusedAs};
 ghost use Rattle.wap_wbxml.specs.reading.Whole.{next_outer, outers_at, root_at};
-ghost use Rattle.wap_wbxml.specs.reading.Whole.{body_at, whole_at, document_at};
+ghost use Rattle.wap_wbxml.specs.reading.Whole.{body_at, whole_at, typed_at, document_at};
 
 use crate::DocFault;
 use crate::attributes::read_instruction;
@@ -19,7 +21,7 @@ use crate::marks::content_mark;
 use crate::state::State;
 use std::alloc::Global;
 use wap_base::Rows;
-use wap_markup::{Attr, ContentMark, Document, Element, LEVEL_LIMIT, PI};
+use wap_markup::{Attr, ContentMark, Document, DocumentType, Element, LEVEL_LIMIT, PI};
 
 /// The document that the bytes spell, or the first thing in them, from the left, that can't stand
 /// where it does. Processing instructions outside the root are read and left out.
@@ -35,22 +37,42 @@ pub fn decode(alloc: Global, bytes: &[u8]) -> Result<Document, DocFault>
 
     ensures exact { Meets NoMemory (λ d. d) result (document_at bytes.now) }
 {
-    read_document(alloc, bytes)
+    read_document(alloc, DocumentType::Wml, bytes)
 }
 
-/// No bytes have two documents, or a document and a fault, or two faults; and reading from the
-/// left finds the document or the fault that they have.
+/// The same of a document of another type, whose public identifier has this number. A document that
+/// has its identifier by name is refused.
+pub fn decode_with(alloc: Global, bytes: &[u8], public: u32) -> Result<Document, DocFault>
+    ensures found { IfOk result (λ document. IsDocumentOf (Other public) bytes.now document) }
+    ensures only { (d : Document) → IsDocumentOf (Other public) bytes.now d
+        → Meets NoMemory (λ d. d) result (Ok d) }
+
+    ensures refused { IfErr result (λ fault. fault ≢ NoMemory
+        → IsRefusedAs (Other public) bytes.now fault) }
+    ensures first { (f : DocFault) → IsRefusedAs (Other public) bytes.now f
+        → Meets NoMemory (λ d. d) result (Err f) }
+
+    ensures exact { Meets NoMemory (λ d. d) result (typed_at (Other public) bytes.now) }
+{
+    read_document(alloc, DocumentType::Other(public), bytes)
+}
+
+/// No bytes have two documents of one type, or a document and a fault, or two faults; and reading
+/// from the left finds the document or the fault that they have.
 pub fn no_two_documents()
-    ensures one { (b : List ℕ) (d e : Document) → IsDocument b d → IsDocument b e → d ≡ e }
-    ensures found { (b : List ℕ) (d : Document) → (document_at b ≡ Ok d) ↔ IsDocument b d }
-    ensures refused { (b : List ℕ) (f : DocFault) → (document_at b ≡ Err f) ↔ IsRefused b f }
+    ensures one { (kind : DocumentType) (b : List ℕ) (d e : Document) → IsDocumentOf kind b d
+        → IsDocumentOf kind b e → d ≡ e }
+    ensures found { (kind : DocumentType) (b : List ℕ) (d : Document)
+        → (typed_at kind b ≡ Ok d) ↔ IsDocumentOf kind b d }
+    ensures refused { (kind : DocumentType) (b : List ℕ) (f : DocFault)
+        → (typed_at kind b ≡ Err f) ↔ IsRefusedAs kind b f }
 {}
 
-#[tactic(auto, unfolding(crate::specs::reading::Whole::document_at))]
-fn read_document(alloc: Global, bytes: &[u8]) -> Result<Document, DocFault>
-    ensures { Meets NoMemory (λ d. d) result (document_at bytes.now) }
+#[tactic(auto, unfolding(crate::specs::reading::Whole::typed_at))]
+fn read_document(alloc: Global, kind: DocumentType, bytes: &[u8]) -> Result<Document, DocFault>
+    ensures { Meets NoMemory (λ d. d) result (typed_at kind bytes.now) }
 {
-    let (document, rest) = read_whole(alloc, bytes.len(), bytes)?;
+    let (document, rest) = read_whole(alloc, kind, bytes.len(), bytes)?;
     if !rest.is_empty() {
         return Err(DocFault::Rest {
             at: bytes.len().saturating_sub(rest.len()),
@@ -62,13 +84,15 @@ fn read_document(alloc: Global, bytes: &[u8]) -> Result<Document, DocFault>
 #[tactic(auto, unfolding(crate::specs::reading::Whole::whole_at))]
 fn read_whole<'a>(
     alloc: Global,
+    kind: DocumentType,
     total: usize,
     bytes: &'a [u8],
 ) -> Result<(Document, &'a [u8]), DocFault>
-    ensures { Meets NoMemory (λ read. (read.0, read.1.now)) result (whole_at total bytes.now) }
+    ensures { Meets NoMemory (λ read. (read.0, read.1.now)) result
+        (whole_at kind total bytes.now) }
 {
     let (version, rest) = read_version(total, bytes)?;
-    let (identifier, rest) = read_identifier(total, rest)?;
+    let (identifier, rest) = read_identifier(kind, total, rest)?;
     let (charset, rest) = read_charset(total, rest)?;
     let (table, rest) = read_opaque(total, rest)?;
     let public = find_public(table, identifier)?;

@@ -8,7 +8,8 @@ ghost use Rattle.wap_wbxml.specs.declared.fault.DocFault.TheVariants.{NoMemory};
 pub enum DocFault {
     /// The version isn't WBXML 1.1, 1.2 or 1.3.
     Version,
-    /// The public identifier isn't that of WML 1.1, 1.2 or 1.3, nor its name.
+    /// The public identifier isn't one of the document type that is read: for WML the number or
+    /// the name of WML 1.1, 1.2 or 1.3.
     PublicId,
     /// The character set isn't US-ASCII, ISO-8859-1 or UTF-8, nor left open.
     Charset,

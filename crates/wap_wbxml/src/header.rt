@@ -4,13 +4,14 @@ ghost use Rattle.std.specs.Prelude.{◌≡◌, codes};
 ghost use Rattle.std.specs.Option.{option_map};
 ghost use Rattle.wap_base.specs.Outcome.{Meets};
 ghost use Rattle.wap_markup.specs.Documents.{is_version, is_public, public_named};
+ghost use Rattle.wap_markup.specs.Documents.{is_numbered, is_by_name};
 ghost use Rattle.wap_wbxml.specs.declared.fault.DocFault.TheVariants.{NoMemory};
 ghost use Rattle.wap_wbxml.specs.reading.Whole.{version_at, identifier_at, charset_at, public_of};
 
 use crate::DocFault;
 use crate::fronts::{read_number, string_from};
 use wap_base::Charset;
-use wap_markup::{Identifier, VERSION, WML_1_1, WML_1_2, WML_1_3};
+use wap_markup::{DocumentType, Identifier, VERSION, WML_1_1, WML_1_2, WML_1_3};
 
 /// The version.
 #[tactic(auto, unfolding(crate::specs::reading::Whole::version_at))]
@@ -28,18 +29,43 @@ pub(crate) fn read_version(total: usize, bytes: &[u8]) -> Result<(u8, &[u8]), Do
 
 /// The public identifier, by its number or by the index of its name.
 #[tactic(auto, unfolding(crate::specs::reading::Whole::identifier_at))]
-pub(crate) fn read_identifier(total: usize, bytes: &[u8]) -> Result<(Identifier, &[u8]), DocFault>
-    ensures { Meets NoMemory (λ read. (read.0, read.1.now)) result (identifier_at total bytes.now) }
+pub(crate) fn read_identifier(
+    kind: DocumentType,
+    total: usize,
+    bytes: &[u8],
+) -> Result<(Identifier, &[u8]), DocFault>
+    ensures { Meets NoMemory (λ read. (read.0, read.1.now)) result
+        (identifier_at kind total bytes.now) }
 {
     let (number, rest) = read_number(total, bytes)?;
-    if number == 0 {
+    if is_by_name(kind, number) {
         let (index, rest) = read_number(total, rest)?;
         return Ok((Identifier::Named(index), rest));
     }
-    if !is_public(number) {
+    if !is_numbered(kind, number) {
         return Err(DocFault::PublicId);
     }
     Ok((Identifier::Numbered(number), rest))
+}
+
+/// Whether a number is a public identifier of a document type.
+fn is_numbered(kind: DocumentType, number: u32) -> bool
+    ensures { result ≡ is_numbered kind number }
+{
+    match kind {
+        DocumentType::Wml => is_public(number),
+        DocumentType::Other(only) => number == only,
+    }
+}
+
+/// Whether the index of a name stands after a number.
+fn is_by_name(kind: DocumentType, number: u32) -> bool
+    ensures { result ≡ is_by_name kind number }
+{
+    match kind {
+        DocumentType::Wml => number == 0,
+        DocumentType::Other(_) => false,
+    }
 }
 
 fn is_public(number: u32) -> bool

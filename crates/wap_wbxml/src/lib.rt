@@ -12,6 +12,6 @@ mod leaves;
 mod marks;
 mod state;
 
-pub use documents::{decode, no_two_documents};
+pub use documents::{decode, decode_with, no_two_documents};
 pub use fault::DocFault;
 pub use wap_markup::{Attr, Document, Element, Kid, Piece, Token};

@@ -9,6 +9,8 @@ use Rattle.wap_markup.specs.declared.document.Document.{Document}
 use Rattle.wap_markup.specs.declared.document.Element.{Element}
 use Rattle.wap_base.specs.declared.charset.Charset.{Charset}
 use Rattle.wap_markup.specs.declared.mark.Lead.{Lead}
+use Rattle.wap_markup.specs.declared.mark.DocumentType.{DocumentType}
+use Rattle.wap_markup.specs.declared.mark.DocumentType.TheVariants.{Wml}
 use Rattle.wap_markup.specs.declared.mark.Identifier.{Identifier}
 use Rattle.wap_markup.specs.declared.mark.Identifier.TheVariants.{Numbered, Named}
 use Rattle.wap_markup.specs.declared.mark.ContentMark.{ContentMark}
@@ -17,7 +19,7 @@ use Rattle.wap_base.specs.Charsets.{charset_of}
 use Rattle.wap_markup.specs.Codes.{content_mark}
 use Rattle.wap_markup.specs.Strings.{string_from}
 use Rattle.wap_markup.specs.Grammar.{State}
-use Rattle.wap_markup.specs.Documents.{is_version, is_public, public_named}
+use Rattle.wap_markup.specs.Documents.{is_version, is_numbered, is_by_name, public_named}
 use Rattle.wap_markup.specs.Documents.{first_state, into_root, out_of_root}
 use Rattle.wap_wbxml.specs.declared.fault.DocFault.{DocFault}
 use Rattle.wap_wbxml.specs.declared.fault.DocFault.TheVariants as fault
@@ -34,15 +36,16 @@ version_at total [] = Err (fault.Short total)
 version_at total (byte ∷ rest) = if is_version byte then Ok (byte, rest) else Err fault.Version
 
 -- a public identifier after its number: 0 stands before the index of its name
-abbrev pub identifier_from : ℕ → ℕ → Bool → List ℕ → Reading Identifier
-identifier_from total number true rest = told Named (number_at total rest)
-identifier_from total number false rest =
-    if is_public number then Ok (Numbered number, rest) else Err fault.PublicId
+abbrev pub identifier_from : DocumentType → ℕ → ℕ → Bool → List ℕ → Reading Identifier
+identifier_from kind total number true rest = told Named (number_at total rest)
+identifier_from kind total number false rest =
+    if is_numbered kind number then Ok (Numbered number, rest) else Err fault.PublicId
 
 -- a public identifier
-unfoldable pub identifier_at : ℕ → List ℕ → Reading Identifier
-identifier_at total bytes =
-    number_at total bytes >>= λ number. identifier_from total number.0 (number.0 == 0) number.1
+unfoldable pub identifier_at : DocumentType → ℕ → List ℕ → Reading Identifier
+identifier_at kind total bytes =
+    number_at total bytes >>= λ number.
+    identifier_from kind total number.0 (is_by_name kind number.0) number.1
 
 -- a character set, or the fault that there is none
 abbrev pub or_no_charset : Option Charset → Result Charset DocFault
@@ -111,10 +114,10 @@ document_of version public charset root =
     record { version = version; public = public; charset = charset.0; root = root }
 
 -- a document, and what follows it
-unfoldable pub whole_at : ℕ → List ℕ → Reading Document
-whole_at total bytes =
+unfoldable pub whole_at : DocumentType → ℕ → List ℕ → Reading Document
+whole_at kind total bytes =
     version_at total bytes >>= λ version.
-    identifier_at total version.1 >>= λ identifier.
+    identifier_at kind total version.1 >>= λ identifier.
     charset_at total identifier.1 >>= λ charset.
     opaque_at total charset.1 >>= λ table.
     public_of table.0 identifier.0 >>= λ public.
@@ -126,6 +129,10 @@ abbrev pub all_of_it : ℕ → Document × List ℕ → Result Document DocFault
 all_of_it total (document, []) = Ok document
 all_of_it total (document, byte ∷ rest) = Err (fault.Rest (place total (byte ∷ rest)))
 
--- the document that the bytes spell, or the first fault from the left
-unfoldable pub document_at : List ℕ → Result Document DocFault
-document_at bytes = whole_at (length bytes) bytes >>= all_of_it (length bytes)
+-- the document of a type that the bytes spell, or the first fault from the left
+unfoldable pub typed_at : DocumentType → List ℕ → Result Document DocFault
+typed_at kind bytes = whole_at kind (length bytes) bytes >>= all_of_it (length bytes)
+
+-- the document of WML that the bytes spell, or the first fault from the left
+abbrev pub document_at : List ℕ → Result Document DocFault
+document_at = typed_at Wml

@@ -7,7 +7,9 @@ returns-clause-one c = one_document
 
 pub returns-clause-found : goal.returns-clause-found
 returns-clause-found c =
-    λ bytes document. (document_takes bytes document, document_again bytes document)
+    λ kind bytes document.
+    (document_takes kind bytes document, document_again kind bytes document)
 
 pub returns-clause-refused : goal.returns-clause-refused
-returns-clause-refused c = λ bytes fault. (document_stops bytes fault, document_fails bytes fault)
+returns-clause-refused c = λ kind bytes fault.
+    (document_stops kind bytes fault, document_fails kind bytes fault)
