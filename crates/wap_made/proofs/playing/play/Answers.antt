@@ -17,5 +17,5 @@ returns g c =
       budget = DEFAULT_BUDGET;
       limits = limits;
     })) c.default.ensures.0)
-    c.in-Ok.ensures c.in-Ok-feed.ensures.plays (c.in_ok-copied.ensures.0 ∙ c.len.ensures)
+    c.in-Ok.ensures.plays c.in-Ok-feed.ensures.plays (c.in_ok-copied.ensures.0 ∙ c.len.ensures)
     (c.in_ok-copied.ensures.1 ∙ c.value_in.ensures ∙ ap value_in c.as_slice.ensures)
