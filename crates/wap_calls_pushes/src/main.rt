@@ -1,7 +1,8 @@
-//! Plays calls of service indications: documents read as indications, and pushes into an inbox:
-//! files of lines `CALL ARGUMENTS = RESULT`.
+//! Plays calls of service indications: pushed bytes read as indications, pushes into an inbox, and
+//! damaged pushes: files of lines `CALL ARGUMENTS = RESULT`.
 #![tactic(auto)]
 
+mod damaging;
 mod playing;
 mod reading;
 
@@ -16,12 +17,14 @@ use wap_push::{Indication, PushFault};
 enum PushCall {
     Indication,
     Inbox,
+    Damaged,
 }
 
 /// The calls, by their names.
-static CALLS: [(&str, PushCall); 2] = [
+static CALLS: [(&str, PushCall); 3] = [
     ("indication", PushCall::Indication),
     ("inbox", PushCall::Inbox),
+    ("damaged", PushCall::Damaged),
 ];
 
 /// The calls of service indications.
@@ -32,6 +35,7 @@ impl Calls for Pushes {
         match meaning_of(&CALLS, name) {
             Some(PushCall::Indication) => reading::show(call),
             Some(PushCall::Inbox) => playing::play(call),
+            Some(PushCall::Damaged) => damaging::play(call),
             None => Err(CaseFault::Line),
         }
     }

@@ -1,43 +1,25 @@
-//! Documents read as indications.
+//! Pushed bytes read as indications.
 use wap_base::Text;
 use wap_casebook::{Call, CaseFault};
-use wap_push::{Action, Indication, PushFault, indication_of};
-use wap_wbxml::{DocFault, decode};
+use wap_faults::push_fault_text;
+use wap_push::{Action, Indication, PushFault, read_push};
 
-/// What the bytes of a document are.
-pub enum Reading {
-    /// An indication.
-    Indication(Indication),
-    /// A document that is none.
-    Refused(PushFault),
-    /// No document.
-    NoDocument,
-}
-
-/// What the next argument, bytes, is.
-pub fn read_next(call: &mut Call) -> Result<Reading, CaseFault> {
+/// The indication that the next argument is, or why it is none.
+pub fn read_next(call: &mut Call) -> Result<Result<Indication, PushFault>, CaseFault> {
     let bytes = call.bytes();
-    let document = match decode(call.alloc(), bytes.as_slice()) {
-        Ok(document) => document,
-        Err(DocFault::NoMemory) => return Err(CaseFault::NoMemory),
-        Err(_) => return Ok(Reading::NoDocument),
-    };
-    match indication_of(call.alloc(), &document) {
-        Ok(indication) => Ok(Reading::Indication(indication)),
+    match read_push(call.alloc(), bytes.as_slice()) {
         Err(PushFault::NoMemory) => Err(CaseFault::NoMemory),
-        Err(fault) => Ok(Reading::Refused(fault)),
+        read => Ok(read),
     }
 }
 
-/// Gives why a document is no indication.
-pub fn give_fault(call: &mut Call, fault: PushFault) {
-    call.give_word(match fault {
-        PushFault::Root => "Root",
-        PushFault::Child => "Child",
-        PushFault::Created => "Created",
-        PushFault::NoId => "NoId",
-        PushFault::NoMemory => "NoMemory",
-    });
+/// Gives why bytes are no indication, as it is printed.
+pub fn give_fault(call: &mut Call, fault: PushFault) -> Result<(), CaseFault> {
+    let Ok(text) = push_fault_text(call.alloc(), fault) else {
+        return Err(CaseFault::NoMemory);
+    };
+    call.give_text(&text);
+    Ok(())
 }
 
 /// The word for how an indication is to be met.
@@ -81,9 +63,7 @@ fn give_indication(call: &mut Call, indication: &Indication) -> Result<(), CaseF
 /// Gives the indication that the next argument is, or why it is none.
 pub fn show(call: &mut Call) -> Result<(), CaseFault> {
     match read_next(call)? {
-        Reading::Indication(indication) => give_indication(call, &indication)?,
-        Reading::Refused(fault) => give_fault(call, fault),
-        Reading::NoDocument => call.give_word("Document"),
+        Ok(indication) => give_indication(call, &indication),
+        Err(fault) => give_fault(call, fault),
     }
-    Ok(())
 }

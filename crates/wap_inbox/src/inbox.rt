@@ -131,4 +131,17 @@ impl Inbox {
         }
         left
     }
+    /// All entries in order of identifiers, in one pass.
+    pub fn entries(&self) -> Result<Vec<&Indication>, NoMemory>
+        ensures { IfOk result (λ entries. map (λ entry. entry.now) entries.items
+            ≡ inbox_of self.now) }
+    {
+        let mut entries = Vec::new(self.alloc);
+        for winner in self.winners.values() {
+            if is_kept(winner) {
+                entries.push(winner)?;
+            }
+        }
+        Ok(entries)
+    }
 }

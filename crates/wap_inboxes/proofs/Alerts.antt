@@ -12,7 +12,7 @@ use Rattle.wap_inbox.proofs.Winner.{own_first, other_first}
 use Rattle.wap_inboxes.specs.Notices.{is_latest}
 
 -- whether a winner, if there is one, was made no later
-abbrev passes : Option Indication → Indication → Bool
+abbrev pub passes : Option Indication → Indication → Bool
 passes None more = true
 passes (Some winner) more = nat_le winner.created more.created
 
@@ -49,7 +49,7 @@ first_passes p more (Some w) =
     (nat_le w.created more.created) refl refl refl
 
 -- no push of the identifier was made later where its winner wasn't
-latest_passes : (pushes : List Indication) (more : Indication)
+pub latest_passes : (pushes : List Indication) (more : Indication)
     → is_latest pushes more ≡ passes (winner_of pushes more.id) more
 latest_passes [] more = refl
 latest_passes (p ∷ ps) more = by (is_of more.id p) refl (latest_passes ps more) where

@@ -1,5 +1,5 @@
 -- Sessions with an inbox. This project's own.
-use Rattle.std.specs.Prelude.{ℕ, zero, suc, List, [], ◌∷◌, length, Result}
+use Rattle.std.specs.Prelude.{◌≡◌, ℕ, zero, suc, List, [], ◌∷◌, length, Result}
 use Rattle.wap_input.specs.declared.key.Key.{Key}
 use Rattle.wap_input.specs.declared.key.Key.TheVariants.{Open}
 use Rattle.wap_push.specs.declared.indication.Indication.{Indication}
@@ -8,6 +8,7 @@ use Rattle.wap_world.specs.Lines.{lines_bytes}
 use Rattle.wap_world.specs.Sites.{Site}
 use Rattle.wap_world.specs.Steps.{still, quiet, joined}
 use Rattle.wap_world.specs.Sessions.{Begun, world_of, shown_by}
+use Rattle.wap_inboxes.specs.Winners.{Alike}
 use Rattle.wap_inboxes.specs.Inboxes.{Handset, Stepped, taking_none, react_with}
 
 -- what a browser keeps after a step
@@ -42,3 +43,8 @@ module _ (read : List ℕ → Result Indication PushFault) where
   -- its lines, as they are written
   abbrev pub transcript_with : Site → Begun → List Key → List ℕ
   transcript_with site begun keys = lines_bytes (shown_by (session_with site begun keys).step)
+
+-- the same step, and then pushes that have the same winners
+pub record StepAlike (one other : Stepped) : Type 0 where
+  pub step : one.step ≡ other.step
+  pub pushes : Alike one.pushes other.pushes

@@ -17,16 +17,27 @@ ghost use Rattle.wap_world.specs.Steps.{still, quiet};
 ghost use Rattle.wap_world.specs.Keys.{ignored, renewed, react};
 ghost use Rattle.wap_world.specs.Sessions.{played};
 ghost use Rattle.wap_inbox.specs.Inbox.{HaveWinners, alerts, IsAlert};
-ghost use Rattle.wap_inboxes.specs.Winners.{winners_of};
+ghost use Rattle.wap_inboxes.specs.Winners.{winners_of, Alike};
 ghost use Rattle.wap_inboxes.specs.Notices.{is_latest, no_push_line, notice_lines};
 ghost use Rattle.wap_inboxes.specs.Inboxes.{Handset, taking_none, telling, url_at, is_of_inbox};
 ghost use Rattle.wap_inboxes.specs.Inboxes.{react_with};
-ghost use Rattle.wap_inboxes.specs.Sessions.{played_with};
+ghost use Rattle.wap_inboxes.specs.Sessions.{played_with, StepAlike};
 
 /// The winners that are calculated are the winners of all pushes, and no other list is.
 pub fn winners_are_calculated()
     ensures { (pushes winners : List Indication)
         → HaveWinners pushes winners ↔ (winners ≡ winners_of pushes) }
+{}
+
+/// What keys come to hangs on the winners of the pushes alone, and so do the winners afterwards.
+/// Winners have themselves as winners, so they stand for all pushes of which they are the winners.
+pub fn winners_stand_for_pushes()
+    ensures own { (pushes winners : List Indication) → HaveWinners pushes winners
+        → HaveWinners winners winners }
+    ensures alike { (read : List ℕ → Result Indication PushFault) (site : Site)
+        (keys : List Key) (world : World) (one other : List Indication) → Alike one other
+        → StepAlike (played_with read site keys (record { world = world; pushes = one }))
+        (played_with read site keys (record { world = world; pushes = other })) }
 {}
 
 /// An indication is shown when it comes exactly where an inbox, into which it is put after these

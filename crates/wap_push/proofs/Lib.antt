@@ -1,2 +1,3 @@
 pub mod Plain
 pub mod Readings
+pub mod Pushing

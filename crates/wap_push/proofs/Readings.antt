@@ -53,7 +53,7 @@ body_found document body found =
 module _ (document : Document) (body : Element) (created : ℕ) (root : is_si document ≡ true)
     (child : IsBody document body)
     (time : created_of body.attrs ≡ Some created) where
-  indication_named : (id : Option (List ℕ)) → identifier_of body.attrs ≡ id
+  pub indication_named : (id : Option (List ℕ)) → identifier_of body.attrs ≡ id
       → (pushed : Indication) → named body created id ≡ Ok pushed → IsIndication document pushed
   indication_named None id_is pushed given = absurd (cc given)
   indication_named (Some id) id_is pushed given =
@@ -69,7 +69,7 @@ module _ (document : Document) (body : Element) (created : ℕ) (root : is_si do
         text = refl;
       })
 
-  nameless : (id : Option (List ℕ)) → identifier_of body.attrs ≡ id
+  pub nameless : (id : Option (List ℕ)) → identifier_of body.attrs ≡ id
       → (why : PushFault) → named body created id ≡ Err why → IsRefused document why
   nameless None id_is why given =
       let same : fault.NoId ≡ why = cc given in

@@ -62,4 +62,5 @@ IsRefused document fault.Child =
     (is_si document ≡ true) × ((body : Element) → IsBody document body → ⊥)
 IsRefused document fault.Created = IsUndated document
 IsRefused document fault.NoId = IsNameless document
+IsRefused document (fault.Document why) = ⊥
 IsRefused document fault.NoMemory = ⊥

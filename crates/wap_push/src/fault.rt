@@ -1,10 +1,15 @@
-//! Why a document is no indication.
+//! Why bytes that were pushed are no indication.
 ghost use Rattle.std.specs.Prelude.{◌≡◌};
 ghost use Rattle.wap_push.specs.declared.fault.PushFault.TheVariants.{NoMemory};
+ghost use Rattle.wap_push.specs.Pushes.{push_error};
 
-/// Why a document is no indication: the first of these that is so.
+use wap_wbxml::DocFault;
+
+/// Why bytes that were pushed are no indication: the first of these that is so.
 #[derive(Clone, Copy, Debug, PartialEq, Eq)]
 pub enum PushFault {
+    /// They are no document of indications. This fault is never that memory ran out.
+    Document(DocFault),
     /// The root isn't `si`.
     Root,
     /// The elements in the root aren't one `indication`, without an element in it, and after it at
@@ -14,7 +19,7 @@ pub enum PushFault {
     Created,
     /// It has no identifier and no URL.
     NoId,
-    /// Memory ran out, which says nothing of the document.
+    /// Memory ran out, which says nothing of the bytes.
     NoMemory,
 }
 
@@ -23,5 +28,16 @@ impl From<wap_base::NoMemory> for PushFault {
 
     fn from(_error: wap_base::NoMemory) -> PushFault {
         PushFault::NoMemory
+    }
+}
+
+impl From<DocFault> for PushFault {
+    ghost from_gives = { λ fault error. error ≡ push_error fault };
+
+    fn from(fault: DocFault) -> PushFault {
+        if fault == DocFault::NoMemory {
+            return PushFault::NoMemory;
+        }
+        PushFault::Document(fault)
     }
 }

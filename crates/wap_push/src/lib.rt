@@ -1,5 +1,5 @@
-//! Service indications (WAP-167): the short notices that sites push to a handset, read from
-//! documents.
+//! Service indications (WAP-167): the short notices that sites push to a handset, read from the
+//! bytes that are pushed.
 #![tactic(auto)]
 
 mod codes;
@@ -9,6 +9,7 @@ mod fault;
 mod fields;
 mod indication;
 mod names;
+mod pushes;
 mod reading;
 mod tables;
 mod values;
@@ -16,5 +17,6 @@ mod values;
 pub use fault::PushFault;
 pub use indication::{Action, Indication};
 pub use names::{PushField, PushTag};
+pub use pushes::read_push;
 pub use reading::indication_of;
-pub use tables::{PUSH_ACTIONS, PUSH_STARTS, PUSH_TAGS, PUSH_VALUES};
+pub use tables::{PUSH_ACTIONS, PUSH_STARTS, PUSH_TAGS, PUSH_VALUES, SI_1_0};

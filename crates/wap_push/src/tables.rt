@@ -2,6 +2,9 @@
 use crate::indication::Action;
 use crate::names::{PushField, PushTag};
 
+/// The public identifier of indications: Service Indication 1.0 (WAP-192, section 7.2).
+pub const SI_1_0: u32 = 5;
+
 /// Each element with its code. Codes ascend.
 pub static PUSH_TAGS: [(u8, PushTag); 4] = [
     (0x05, PushTag::Si),
