@@ -1,0 +1,2 @@
+mod Searching
+pub mod Fitting

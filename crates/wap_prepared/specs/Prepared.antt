@@ -1,0 +1,23 @@
+-- Pages that are ready to be shared by sessions, and what is seen of them. This project's own.
+use Rattle.std.specs.Prelude.{All, Some, None}
+use Rattle.std.specs.Map.{keys_of}
+use Rattle.wap_base.specs.Texts.{AreAscending}
+use Rattle.wap_site.specs.Pages.{Pages, IsThere}
+use Rattle.wap_site.specs.Asking.{Seen}
+
+-- they stand in the order of the UTF-8 bytes of their names, each once, and each is there
+pub record ArePrepared (pages : Pages) : Type 0 where
+  pub ascending : AreAscending (keys_of pages)
+  pub there : All (λ page. IsThere page.1) pages
+
+-- they are known, but not the bytes from which they were judged; no cache keeps some of them, and no
+-- store stands below them that could fail
+abbrev pub shared_seen : Pages → Seen
+shared_seen pages = record {
+  contents = Some pages;
+  behind = None;
+  cache = None;
+  faults = 0;
+  fetches = 0;
+  listings = 0;
+}
