@@ -9,10 +9,13 @@ use Rattle.wap_unit.specs.declared.fault.UnitFault.{UnitFault}
 use Rattle.wap_unit.specs.declared.fault.UnitFault.TheVariants as unit
 use Rattle.wap_verify.specs.declared.fault.VerifyFault.{VerifyFault}
 use Rattle.wap_verify.specs.declared.fault.VerifyFault.TheVariants as verify
+use Rattle.wap_codegen.specs.declared.fault.CompileFault.{CompileFault}
+use Rattle.wap_codegen.specs.declared.fault.CompileFault.TheVariants as compile
 use Rattle.wap_pages.specs.declared.fault.PageErr.{PageErr}
 use Rattle.wap_pages.specs.declared.fault.PageErr.TheVariants.{Refused, NoMemory}
 use Rattle.wap_pages.specs.declared.fault.PageFault.TheVariants as page
 use Rattle.wap_pages.specs.Faults.{document_error, deck_error, unit_error, verify_error}
+use Rattle.wap_pages.specs.Faults.{source_error}
 
 pub unit_cases : (P : PageErr → Type 0) (fault : UnitFault) → (fault ≡ unit.NoMemory → P NoMemory)
     → (fault ≢ unit.NoMemory → P (Refused (page.Unit fault))) → P (unit_error fault)
@@ -69,3 +72,13 @@ deck_cases P (deck.Value path) none some = some (λ e. absurd cc)
 deck_cases P (deck.DuplicateId path) none some = some (λ e. absurd cc)
 deck_cases P deck.NoCard none some = some (λ e. absurd cc)
 deck_cases P deck.NoMemory none some = none refl
+
+pub source_cases : (P : PageErr → Type 0) (fault : CompileFault)
+    → (fault ≡ compile.NoMemory → P NoMemory)
+    → (fault ≢ compile.NoMemory → P (Refused (page.Source fault))) → P (source_error fault)
+source_cases P (compile.Lex why) none some = some (λ e. absurd cc)
+source_cases P (compile.Parse why) none some = some (λ e. absurd cc)
+source_cases P (compile.Scope why) none some = some (λ e. absurd cc)
+source_cases P (compile.TooManyConstants count) none some = some (λ e. absurd cc)
+source_cases P (compile.CodeTooLong function wide) none some = some (λ e. absurd cc)
+source_cases P compile.NoMemory none some = none refl

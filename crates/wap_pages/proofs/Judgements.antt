@@ -1,6 +1,7 @@
--- What bytes are judged, by the relations of bytes, documents, decks and units.
-use Rattle.std.proofs.Common.{◌≡◌, ◌≢◌, ◌↔◌, ℕ, Bool, true, false, cond, List, [], ◌∷◌, Option, Some}
-use Rattle.std.proofs.Common.{None, Result, Ok, Err, refl, sym, ap, subst, ◌∙◌, ◌⊎◌, inl, inr}
+-- What bytes are judged, by the relations of bytes, documents, decks, units and sources.
+use Rattle.std.proofs.Common.{◌≡◌, ◌≢◌, ◌↔◌, ℕ, ◌<◌, ◌^◌, Bool, true, false, cond, List, [], ◌∷◌}
+use Rattle.std.proofs.Common.{length, Option, Some, None, Result, Ok, Err, refl, sym, ap, subst}
+use Rattle.std.proofs.Common.{◌∙◌, ◌⊎◌, inl, inr}
 use Rattle.std.specs.Prelude.{All, IfOk}
 use Rattle.std.specs.Cmp.Lexicographic.{bytes_decides}
 use Rattle.std.specs.Map.{keys_of}
@@ -38,6 +39,13 @@ use Rattle.wap_verify.specs.Faults.{IsFault}
 use Rattle.wap_runnable.specs.Runnable.{may_run, AreAlike}
 use Rattle.wap_runnable.proofs.Deciding.{passes, fails}
 use Rattle.wap_runnable.proofs.Alike.{alike}
+use Rattle.wap_program.specs.declared.program.Program.{Program}
+use Rattle.wap_compiled.specs.Units.{compiled}
+use Rattle.wap_accepted.specs.Reading.{accepted_in}
+use Rattle.wap_accepted.proofs.Accepting as accepting
+use Rattle.wap_codegen.specs.declared.fault.CompileFault.{CompileFault}
+use Rattle.wap_source_faults.proofs.Finding.{found}
+use Rattle.wap_source_faults.proofs.Alike as sources
 use Rattle.wap_site.specs.Pages.{page_of, IsThere, AreSitePages}
 use Rattle.wap_site.specs.declared.page.Page.{Page}
 use Rattle.wap_site.specs.declared.page.Page.TheVariants as page
@@ -47,12 +55,13 @@ use Rattle.wap_pages.specs.declared.fault.PageErr.{PageErr}
 use Rattle.wap_pages.specs.declared.fault.PageErr.TheVariants as error
 use Rattle.wap_pages.specs.declared.fault.PageFault.{PageFault}
 use Rattle.wap_pages.specs.declared.fault.PageFault.TheVariants as fault
-use Rattle.wap_pages.specs.Refusals.{RefusesCheck, RefusesVerify, IsDeckRefused}
+use Rattle.wap_pages.specs.Refusals.{RefusesCheck, RefusesSource, RefusesVerify, IsDeckRefused}
 use Rattle.wap_pages.specs.Judged.{kind_of, page_of_deck, page_of_document, page_of_unit}
-use Rattle.wap_pages.specs.Judged.{page_of_text, page_as, page_of_bytes, judged, page_where}
-use Rattle.wap_pages.specs.Judged.{AreBytes, IsDeckPage, IsUnitPage, IsTextPage, RefusesText}
-use Rattle.wap_pages.specs.Judged.{RefusesSource, RefusesAs, Refuses, may_differ}
-use Rattle.wap_pages.specs.inside.Judging.{IsDeckIn, IsUnitIn, IsTextIn, IsPageAs}
+use Rattle.wap_pages.specs.Judged.{page_of_program, page_of_text, page_as, page_of_bytes, judged}
+use Rattle.wap_pages.specs.Judged.{page_where, AreBytes, IsDeckPage, IsUnitPage, IsSourcePage}
+use Rattle.wap_pages.specs.Judged.{IsScriptPage, IsTextPage, RefusesText}
+use Rattle.wap_pages.specs.Judged.{RefusesAs, Refuses, may_differ}
+use Rattle.wap_pages.specs.inside.Judging.{IsDeckIn, IsUnitIn, IsSourceIn, IsTextIn, IsPageAs}
 use Rattle.wap_pages.specs.inside.Judging.{Judges, JudgesDeck}
 use Rattle.wap_pages.specs.Faults.{deck_error}
 use Rattle.wap_pages.proofs.Errors.{deck_cases}
@@ -100,7 +109,8 @@ faultless document good =
 abbrev Known : Kind → List ℕ → Page → Type 0
 Known k bytes one =
     IsPageAs k bytes one
-    ⊎ ((one ≡ page.Refused) × ((why : PageFault) × RefusesAs k bytes why))
+    ⊎ ((one ≡ page.Refused)
+    × (length bytes < 2 ^ 31 → (why : PageFault) × RefusesAs k bytes why))
 
 deck_known : (bytes : List ℕ) (document : Document) → IsDocument bytes document
     → (first : Option DeckFault) → first_fault (faults (deck_of document)) ≡ first
@@ -111,7 +121,7 @@ deck_known bytes document spells None is = inl (record {
   deck = record { is = refl; good = good_deck (deck_of document) is };
 })
 deck_known bytes document spells (Some why) is =
-    inr (refl, (fault.Deck why, RefusesCheck.deck document why spells is))
+    inr (refl, λ few. (fault.Deck why, RefusesCheck.deck document why spells is))
 
 document_known : (bytes : List ℕ) (read : Result Document DocFault) → document_at bytes ≡ read
     → Known kind.Deck bytes (page_of_document read)
@@ -119,12 +129,16 @@ document_known bytes (Ok document) is =
     deck_known bytes document (document_takes bytes document is)
     (first_fault (faults (deck_of document))) refl
 document_known bytes (Err why) is =
-    inr (refl, (fault.Document why, RefusesCheck.document why (document_stops bytes why is)))
+    inr (
+      refl,
+      λ few.
+          (fault.Document why, RefusesCheck.document why (document_stops bytes why is)),
+    )
 
 text_known : (bytes : List ℕ) (read : Option (List ℕ)) → text_in Utf8 bytes ≡ read
     → Known kind.Words bytes (page_of_text read)
 text_known bytes (Some text) is = inl (record { text = text; spells = is; is = refl })
-text_known bytes None is = inr (refl, (fault.NotText, RefusesText.not_text is))
+text_known bytes None is = inr (refl, λ few. (fault.NotText, RefusesText.not_text is))
 
 run_known : (bytes : List ℕ) (unit : Unit) → IsUnit bytes unit → (may : Bool)
     → may_run unit ≡ may
@@ -133,21 +147,33 @@ run_known bytes unit spells true is =
     inl (record { unit = unit; spells = spells; verified = (passes unit).0 is; is = refl })
 run_known bytes unit spells false is =
     let found = (fails unit).0 is in
-    inr (refl, (fault.Verify found.0, RefusesVerify.verify unit found.0 spells found.1))
+    inr (refl, λ few. (fault.Verify found.0, RefusesVerify.verify unit found.0 spells found.1))
 
 unit_known : (bytes : List ℕ) → AreBytes bytes → (read : Result Unit UnitFault)
     → unit_at bytes ≡ read → Known kind.Unit bytes (page_of_unit read)
 unit_known bytes are (Ok unit) is =
     run_known bytes unit (unit_takes bytes unit are is) (may_run unit) refl
 unit_known bytes are (Err why) is =
-    inr (refl, (fault.Unit why, RefusesVerify.unit why (unit_stops bytes why is)))
+    inr (refl, λ few. (fault.Unit why, RefusesVerify.unit why (unit_stops bytes why is)))
+
+source_known : (bytes : List ℕ) (read : Option Program) → accepted_in bytes ≡ read
+    → Known kind.Source bytes (page_of_program read)
+source_known bytes (Some p) is =
+    inl (record { program = p; accepted = (accepting.some bytes p).0 is; is = refl })
+source_known bytes None is = inr (
+  refl,
+  λ few. elim (found bytes few) [
+    | inl accepted ↦ absurd ((accepting.none bytes).0 is accepted.0 accepted.1)
+    | inr refused ↦ (fault.Source refused.0, RefusesSource.source refused.0 refused.1)
+  ],
+)
 
 known : (k : Kind) (bytes : List ℕ) → AreBytes bytes → Known k bytes (page_as k bytes)
 unfolding page_as
 known kind.Deck bytes are = document_known bytes (document_at bytes) refl
 known kind.Words bytes are = text_known bytes (text_in Utf8 bytes) refl
 known kind.Unit bytes are = unit_known bytes are (unit_at bytes) refl
-known kind.Source bytes are = inr (refl, (fault.Unbuilt, RefusesSource.unbuilt))
+known kind.Source bytes are = source_known bytes (accepted_in bytes) refl
 
 -- ---- and what they are, they are judged
 
@@ -162,7 +188,8 @@ page_is kind.Unit bytes one is =
     ap page_of_unit (unit_again bytes is.unit is.spells)
     ∙ ap (λ (b : Bool). cond b (page.Script is.unit) page.Refused) ((passes is.unit).1 is.verified)
     ∙ sym is.is
-page_is kind.Source bytes one is = absurd is
+page_is kind.Source bytes one is =
+    ap page_of_program ((accepting.some bytes is.program).1 is.accepted) ∙ sym is.is
 
 refused_as : (k : Kind) (bytes : List ℕ) (why : PageFault) → RefusesAs k bytes why
     → page_as k bytes ≡ page.Refused
@@ -178,7 +205,9 @@ refused_as kind.Unit bytes _ (RefusesVerify.unit why refused) =
 refused_as kind.Unit bytes _ (RefusesVerify.verify unit why spells found) =
     ap page_of_unit (unit_again bytes unit spells)
     ∙ ap (λ (b : Bool). cond b (page.Script unit) page.Refused) ((fails unit).1 (why, found))
-refused_as kind.Source bytes why is = refl
+refused_as kind.Source bytes _ (RefusesSource.source why of) =
+    ap page_of_program ((accepting.none bytes).1
+    (λ p accepted. sources.accepted_apart bytes p why accepted of))
 
 -- a page that bytes are is none that is refused
 accepted_as : (k : Kind) (bytes : List ℕ) (one : Page) → IsPageAs k bytes one
@@ -186,7 +215,7 @@ accepted_as : (k : Kind) (bytes : List ℕ) (one : Page) → IsPageAs k bytes on
 accepted_as kind.Deck bytes one is = λ so. cc (sym is.deck.is ∙ so)
 accepted_as kind.Words bytes one is = λ so. cc (sym is.is ∙ so)
 accepted_as kind.Unit bytes one is = λ so. cc (sym is.is ∙ so)
-accepted_as kind.Source bytes one is = absurd is
+accepted_as kind.Source bytes one is = λ so. cc (sym is.is ∙ so)
 
 -- ---- two faults
 
@@ -199,6 +228,11 @@ of_verify : (one other : VerifyFault) → AreAlike one other
 of_verify one other (inl same) = inl (ap (λ (why : VerifyFault). fault.Verify why) same)
 of_verify one other (inr both) = inr both
 
+of_source : (one other : CompileFault) → sources.MayBoth one other
+    → MayBoth (fault.Source one) (fault.Source other)
+of_source one other (inl same) = inl (ap (λ (why : CompileFault). fault.Source why) same)
+of_source one other (inr both) = inr both
+
 module _ (bytes : List ℕ) where
   deck_faults : (one other : PageFault) → RefusesCheck bytes one → RefusesCheck bytes other
       → one ≡ other
@@ -207,14 +241,17 @@ module _ (bytes : List ℕ) where
       (err_same {A = Document} why why'
       (sym (document_fails bytes why refused) ∙ document_fails bytes why' refused'))
   deck_faults _ _ (RefusesCheck.document why refused) (RefusesCheck.deck document why' spells first) =
-      absurd (cc (sym (document_fails bytes why refused) ∙ document_again bytes document spells))
+      absurd (cc (sym (document_fails bytes why refused)
+      ∙ document_again bytes document spells))
   deck_faults _ _ (RefusesCheck.deck document why spells first) (RefusesCheck.document why' refused) =
-      absurd (cc (sym (document_fails bytes why' refused) ∙ document_again bytes document spells))
+      absurd (cc (sym (document_fails bytes why' refused)
+      ∙ document_again bytes document spells))
   deck_faults _ _ (RefusesCheck.deck document why spells first)
       (RefusesCheck.deck document' why' spells' first') =
       let same =
       ok_same {E = DocFault} document document'
-      (sym (document_again bytes document spells) ∙ document_again bytes document' spells') in
+      (sym (document_again bytes document spells)
+      ∙ document_again bytes document' spells') in
       ap (λ (f : DeckFault). fault.Deck f) (some_same why why'
       (sym first ∙ ap (λ (d : Document). first_fault (faults (deck_of d))) same ∙ first'))
 
@@ -240,15 +277,16 @@ module _ (bytes : List ℕ) where
   text_faults _ _ (RefusesText.not_text none) (RefusesText.not_text none') = refl
 
   source_faults : (one other : PageFault) → RefusesSource bytes one → RefusesSource bytes other
-      → one ≡ other
-  source_faults _ _ RefusesSource.unbuilt RefusesSource.unbuilt = refl
+      → MayBoth one other
+  source_faults _ _ (RefusesSource.source why is) (RefusesSource.source other so) =
+      of_source why other (sources.alike bytes why other is so)
 
   faults_as : (k : Kind) (one other : PageFault) → RefusesAs k bytes one → RefusesAs k bytes other
       → MayBoth one other
   faults_as kind.Deck one other first second = inl (deck_faults one other first second)
   faults_as kind.Words one other first second = inl (text_faults one other first second)
   faults_as kind.Unit one other first second = unit_faults one other first second
-  faults_as kind.Source one other first second = inl (source_faults one other first second)
+  faults_as kind.Source one other first second = source_faults one other first second
 
 -- ---- pages
 
@@ -262,6 +300,12 @@ script_or_refused (Ok unit) P script none =
     by_test : (b : Bool) → P (cond b (page.Script unit) page.Refused)
     by_test true = script unit
     by_test false = none
+
+-- a source that was read, or none, is no deck and no text
+program_or_refused : (read : Option Program) (P : Page → Type 0)
+    → ((p : Program) → P (page.Script (compiled p))) → P page.Refused → P (page_of_program read)
+program_or_refused (Some p) P script none = script p
+program_or_refused None P script none = none
 
 -- a text that was read, or none, is no deck and no script
 words_or_refused : (read : Option (List ℕ)) (P : Page → Type 0)
@@ -296,11 +340,23 @@ module _ (name bytes : List ℕ) where
         };
       })
 
-  pub script_page : (unit : Unit) → IsUnitPage name bytes unit
+  pub unit_page : (unit : Unit) → IsUnitPage name bytes unit
       → page_of_bytes name bytes ≡ page.Script unit
-  script_page unit is =
+  unit_page unit is =
       by_kind kind.Unit is.kind ∙ page_is kind.Unit bytes (page.Script unit)
       (record { unit = unit; spells = is.spells; verified = is.verified; is = refl })
+
+  pub source_page : (p : Program) → IsSourcePage name bytes p
+      → page_of_bytes name bytes ≡ page.Script (compiled p)
+  source_page p is =
+      by_kind kind.Source is.kind ∙ page_is kind.Source bytes (page.Script (compiled p))
+      (record { program = p; accepted = is.accepted; is = refl })
+
+  pub script_page : (unit : Unit) → IsScriptPage name bytes unit
+      → page_of_bytes name bytes ≡ page.Script unit
+  script_page unit (inl is) = unit_page unit is
+  script_page unit (inr (p, is, same)) =
+      source_page p is ∙ ap (λ (u : Unit). page.Script u) (sym same)
 
   pub text_page : (text : List ℕ) → IsTextPage name bytes text
       → page_of_bytes name bytes ≡ page.Words text
@@ -338,7 +394,9 @@ module _ (name bytes : List ℕ) where
   deck_as kind.Unit is deck so =
       absurd (script_or_refused (unit_at bytes) (λ (one : Page). one ≡ page.Deck deck → ⊥)
       (λ unit e. cc e) (λ e. cc e) so)
-  deck_as kind.Source is deck so = absurd (cc so)
+  deck_as kind.Source is deck so =
+      absurd (program_or_refused (accepted_in bytes) (λ (one : Page). one ≡ page.Deck deck → ⊥)
+      (λ p e. cc e) (λ e. cc e) so)
 
   pub page_deck : (deck : Deck) → page_of_bytes name bytes ≡ page.Deck deck
       → IsDeckPage name bytes deck
@@ -367,7 +425,9 @@ module _ (name bytes : List ℕ) where
   text_as kind.Unit is text so =
       absurd (script_or_refused (unit_at bytes) (λ (one : Page). one ≡ page.Words text → ⊥)
       (λ unit e. cc e) (λ e. cc e) so)
-  text_as kind.Source is text so = absurd (cc so)
+  text_as kind.Source is text so =
+      absurd (program_or_refused (accepted_in bytes) (λ (one : Page). one ≡ page.Words text → ⊥)
+      (λ p e. cc e) (λ e. cc e) so)
 
   pub page_text_is : (text : List ℕ) → page_of_bytes name bytes ≡ page.Words text
       → IsTextPage name bytes text
@@ -387,8 +447,18 @@ module _ (name bytes : List ℕ) where
       inner : page.Script of.unit ≡ page.Script unit → of.unit ≡ unit
       inner e = cc
 
+  -- a unit that a source is compiled to
+  source_of : kind_of name ≡ kind.Source → (one : Page) → IsSourceIn bytes one → (unit : Unit)
+      → one ≡ page.Script unit
+      → (p : Program) × IsSourcePage name bytes p × (unit ≡ compiled p)
+  source_of is one of unit so =
+      (of.program, record { kind = is; accepted = of.accepted }, inner (sym so ∙ of.is))
+    where
+      inner : page.Script unit ≡ page.Script (compiled of.program) → unit ≡ compiled of.program
+      inner e = cc
+
   unit_as : AreBytes bytes → (k : Kind) → kind_of name ≡ k → (unit : Unit)
-      → page_as k bytes ≡ page.Script unit → IsUnitPage name bytes unit
+      → page_as k bytes ≡ page.Script unit → IsScriptPage name bytes unit
   unfolding page_as
   unit_as are kind.Deck is unit so =
       absurd (deck_or_refused (document_at bytes) (λ (one : Page). one ≡ page.Script unit → ⊥)
@@ -398,13 +468,17 @@ module _ (name bytes : List ℕ) where
       (λ text e. cc e) (λ e. cc e) so)
   unit_as are kind.Unit is unit so =
       elim (unit_known bytes are (unit_at bytes) refl) [
-        | inl of ↦ unit_of is (page_of_unit (unit_at bytes)) of unit so
+        | inl of ↦ inl (unit_of is (page_of_unit (unit_at bytes)) of unit so)
         | inr none ↦ absurd (cc (sym none.0 ∙ so))
       ]
-  unit_as are kind.Source is unit so = absurd (cc so)
+  unit_as are kind.Source is unit so =
+      elim (source_known bytes (accepted_in bytes) refl) [
+        | inl of ↦ inr (source_of is (page_of_program (accepted_in bytes)) of unit so)
+        | inr none ↦ absurd (cc (sym none.0 ∙ so))
+      ]
 
   pub page_script : AreBytes bytes → (unit : Unit) → page_of_bytes name bytes ≡ page.Script unit
-      → IsUnitPage name bytes unit
+      → IsScriptPage name bytes unit
   page_script are = unit_as are (kind_of name) refl
 
   -- ---- refusals
@@ -413,16 +487,16 @@ module _ (name bytes : List ℕ) where
       → page_of_bytes name bytes ≡ page.Refused
   refused_is = refused_as (kind_of name) bytes
 
-  some_fault : AreBytes bytes → page_of_bytes name bytes ≡ page.Refused
-      → (why : PageFault) × Refuses name bytes why
-  some_fault are so = elim (known (kind_of name) bytes are) [
+  pub some_fault : AreBytes bytes → length bytes < 2 ^ 31
+      → page_of_bytes name bytes ≡ page.Refused → (why : PageFault) × Refuses name bytes why
+  some_fault are few so = elim (known (kind_of name) bytes are) [
     | inl of ↦ absurd (accepted_as (kind_of name) bytes (page_of_bytes name bytes) of so)
-    | inr none ↦ none.1
+    | inr none ↦ none.1 few
   ]
 
-  pub refused_page : AreBytes bytes → (page_of_bytes name bytes ≡ page.Refused)
-      ↔ ((why : PageFault) × Refuses name bytes why)
-  refused_page are = (some_fault are, λ some. refused_is some.0 some.1)
+  pub refused_page : AreBytes bytes → length bytes < 2 ^ 31
+      → (page_of_bytes name bytes ≡ page.Refused) ↔ ((why : PageFault) × Refuses name bytes why)
+  refused_page are few = (some_fault are few, λ some. refused_is some.0 some.1)
 
   pub one_fault : (why other : PageFault) → Refuses name bytes why
       → Refuses name bytes other → MayBoth why other
@@ -432,20 +506,23 @@ module _ (name bytes : List ℕ) where
   abbrev pub IsNone : Type 0
   IsNone = ((deck : Deck) → ¬ IsDeckPage name bytes deck)
       × ((unit : Unit) → ¬ IsUnitPage name bytes unit)
+      × ((p : Program) → ¬ IsSourcePage name bytes p)
       × ((text : List ℕ) → ¬ IsTextPage name bytes text)
 
   no_page : (k : Kind) → kind_of name ≡ k → (one : Page) → IsPageAs k bytes one → IsNone → ⊥
   no_page kind.Deck is one of none =
       none.0 (deck_of of.document) (deck_in is one of (deck_of of.document) of.deck.is)
-  no_page kind.Words is one of none = none.2 of.text (text_of is one of of.text of.is)
+  no_page kind.Words is one of none = none.3 of.text (text_of is one of of.text of.is)
   no_page kind.Unit is one of none = none.1 of.unit (unit_of is one of of.unit of.is)
-  no_page kind.Source is one of none = of
+  no_page kind.Source is one of none =
+      none.2 of.program (record { kind = is; accepted = of.accepted })
 
   pub neither_page : AreBytes bytes → (page_of_bytes name bytes ≡ page.Refused) ↔ IsNone
   neither_page are = (
     λ refused. (
       λ deck is. no_deck deck (sym refused ∙ deck_page deck is),
-      λ unit is. no_unit unit (sym refused ∙ script_page unit is),
+      λ unit is. no_unit unit (sym refused ∙ unit_page unit is),
+      λ p is. no_unit (compiled p) (sym refused ∙ source_page p is),
       λ text is. no_text text (sym refused ∙ text_page text is),
     ),
     λ neither. elim (known (kind_of name) bytes are) [
@@ -474,7 +551,9 @@ module _ (name bytes : List ℕ) where
   there kind.Unit =
       script_or_refused (unit_at bytes) (λ (one : Page). one ≢ page.Missing) (λ unit e. cc e)
       (λ e. cc e)
-  there kind.Source = λ e. cc e
+  there kind.Source =
+      program_or_refused (accepted_in bytes) (λ (one : Page). one ≢ page.Missing) (λ p e. cc e)
+      (λ e. cc e)
 
   pub page_there : page_of_bytes name bytes ≢ page.Missing
   page_there = there (kind_of name)
@@ -579,6 +658,13 @@ pub unit_unread : (bytes : List ℕ) (why : PageErr)
     → Judges kind.Unit bytes (Err why)
 unit_unread bytes (error.Refused found) is = is found refl
 unit_unread bytes error.NoMemory is = tt
+
+-- bytes that aren't compiled are no script
+pub source_unread : (bytes : List ℕ) (why : PageErr)
+    → ((found : PageFault) → why ≡ error.Refused found → RefusesAs kind.Source bytes found)
+    → Judges kind.Source bytes (Err why)
+source_unread bytes (error.Refused found) is = is found refl
+source_unread bytes error.NoMemory is = tt
 
 -- a document whose deck isn't good is refused for the first fault
 pub deck_refused_for : (document : Document) (why : DeckFault)

@@ -1,7 +1,7 @@
 pub mod Errors
 mod Ends
 pub mod Refusing
-mod Judgements
+pub mod Judgements
 mod Keeping
 mod Seeing
 mod Fetching

@@ -1,5 +1,5 @@
--- What an error says of bytes that are read as a document or as a unit: why they are refused, and
--- that they are none. Memory that ran out says nothing.
+-- What an error says of bytes that are read as a document, as a unit or as a source: why they are
+-- refused, and that they are none. Memory that ran out says nothing.
 use Rattle.std.proofs.Common.{◌≡◌, ◌≢◌, ℕ, List, Result, Ok, Err, refl, subst}
 use Rattle.std.specs.Prelude.{Some}
 use Rattle.wap_markup.specs.declared.document.Document.{Document}
@@ -19,14 +19,21 @@ use Rattle.wap_unit.specs.declared.fault.UnitFault.TheVariants as unit
 use Rattle.wap_verify.specs.Faults.{IsFault}
 use Rattle.wap_verify.specs.declared.fault.VerifyFault.{VerifyFault}
 use Rattle.wap_verify.specs.declared.fault.VerifyFault.TheVariants as verify
+use Rattle.wap_program.specs.declared.program.Program.{Program}
+use Rattle.wap_compiled.specs.Units.{compiled}
+use Rattle.wap_codegen.specs.Faults.{IsCompileFault}
+use Rattle.wap_codegen.specs.declared.fault.CompileFault.{CompileFault}
+use Rattle.wap_codegen.specs.declared.fault.CompileFault.TheVariants as compile
 use Rattle.wap_pages.specs.declared.fault.PageErr.{PageErr}
 use Rattle.wap_pages.specs.declared.fault.PageErr.TheVariants.{Refused, NoMemory}
 use Rattle.wap_pages.specs.declared.fault.PageFault.{PageFault}
 use Rattle.wap_pages.specs.declared.fault.PageFault.TheVariants as page
 use Rattle.wap_pages.specs.Faults.{document_error, deck_error, unit_error, verify_error}
-use Rattle.wap_pages.specs.Refusals.{RefusesUnit, RefusesVerify, RefusesDocument}
+use Rattle.wap_pages.specs.Faults.{source_error}
+use Rattle.wap_pages.specs.Refusals.{RefusesSource, RefusesUnit, RefusesVerify, RefusesDocument}
 use Rattle.wap_pages.specs.Refusals.{IsDeckRefused, RefusesCheck}
 use Rattle.wap_pages.proofs.Errors.{document_cases, deck_cases, unit_cases, verify_cases}
+use Rattle.wap_pages.proofs.Errors.{source_cases}
 
 -- ---- the bytes are no unit
 
@@ -52,6 +59,34 @@ module _ (bytes : List ℕ) (fault : UnitFault) where
       (λ none e. absurd cc)
       (λ some e.
       subst (RefusesUnit bytes) (inner (page.Unit fault) e) (RefusesUnit.unit fault (is some)))
+    where
+      inner : (one : PageFault) → Refused one ≡ Refused why → one ≡ why
+      inner one e = cc
+
+-- ---- the bytes are no source
+
+module _ (bytes : List ℕ) (fault : CompileFault) where
+  -- bytes that are compiled aren't refused
+  pub source_only : (p : Program)
+      → (fault ≢ compile.NoMemory
+      → ◌≡◌ {A = Result Unit CompileFault} (Ok (compiled p)) (Err fault))
+      → Only (compiled p) (source_error fault)
+  source_only p is =
+      source_cases (Only (compiled p)) fault (λ none e. absurd (e refl))
+      (λ some e. absurd (no_both (is some)))
+    where
+      no_both : ◌≡◌ {A = Result Unit CompileFault} (Ok (compiled p)) (Err fault) → ⊥
+      no_both e = cc
+
+  -- bytes that are refused have this fault
+  pub source_refused : (why : PageFault) → IsCompileFault bytes fault
+      → source_error fault ≡ Refused why → RefusesSource bytes why
+  source_refused why is =
+      source_cases (λ error. error ≡ Refused why → RefusesSource bytes why) fault
+      (λ none e. absurd cc)
+      (λ some e.
+      subst (RefusesSource bytes) (inner (page.Source fault) e)
+      (RefusesSource.source fault (record { cause = is; some = some })))
     where
       inner : (one : PageFault) → Refused one ≡ Refused why → one ≡ why
       inner one e = cc

@@ -7,6 +7,8 @@ use Rattle.wap_wbxml.specs.declared.fault.DocFault.{DocFault}
 use Rattle.wap_wbxml.specs.declared.fault.DocFault.TheVariants as document
 use Rattle.wap_deckcheck.specs.declared.fault.DeckFault.{DeckFault}
 use Rattle.wap_deckcheck.specs.declared.fault.DeckFault.TheVariants as deck
+use Rattle.wap_codegen.specs.declared.fault.CompileFault.{CompileFault}
+use Rattle.wap_codegen.specs.declared.fault.CompileFault.TheVariants as compile
 use Rattle.wap_pages.specs.declared.fault.PageErr.{PageErr}
 use Rattle.wap_pages.specs.declared.fault.PageErr.TheVariants.{Refused, NoMemory}
 use Rattle.wap_pages.specs.declared.fault.PageFault.TheVariants as page
@@ -27,3 +29,7 @@ unit_error fault = Refused (page.Unit fault)
 abbrev pub verify_error : VerifyFault → PageErr
 verify_error verify.NoMemory = NoMemory
 verify_error fault = Refused (page.Verify fault)
+
+abbrev pub source_error : CompileFault → PageErr
+source_error compile.NoMemory = NoMemory
+source_error fault = Refused (page.Source fault)

@@ -1,8 +1,8 @@
--- Pages as they are judged by their names and bytes. This project's own: the names' ends, and that
--- sources of scripts are refused, until they are read. What documents, their decks and good decks
--- are, what units are, and which of them may be run, stands in lower definitions.
-use Rattle.std.specs.Prelude.{◌≡◌, ℕ, ◌<◌, Bool, false, nat_eq, if◌then◌else◌, List, map, Option, Some, None}
-use Rattle.std.specs.Prelude.{Result, Ok, Err, codes}
+-- Pages as they are judged by their names and bytes. This project's own: the names' ends. What
+-- documents, their decks and good decks are, what units are, which of them may be run, which
+-- sources are accepted, and what their programs are compiled to, stands in lower definitions.
+use Rattle.std.specs.Prelude.{◌≡◌, ◌⊎◌, ℕ, ◌<◌, Bool, false, nat_eq, if◌then◌else◌, List, map}
+use Rattle.std.specs.Prelude.{Option, Some, None, Result, Ok, Err, codes}
 use Rattle.std.specs.List.{ends_with, AllByRecursion}
 use Rattle.wap_base.specs.Contents.{Contents}
 use Rattle.wap_base.specs.Charsets.{text_in}
@@ -22,6 +22,11 @@ use Rattle.wap_unit.specs.declared.fault.UnitFault.{UnitFault}
 use Rattle.wap_unit.specs.inside.Reading.{unit_at}
 use Rattle.wap_verify.specs.Sound.{IsVerified}
 use Rattle.wap_runnable.specs.Runnable.{may_run, is_of_depths}
+use Rattle.wap_program.specs.declared.program.Program.{Program}
+use Rattle.wap_compiled.specs.Units.{compiled}
+use Rattle.wap_compiled.specs.Accepted.{IsAccepted}
+use Rattle.wap_accepted.specs.Reading.{accepted_in}
+use Rattle.wap_source_faults.specs.Faults.{is_of_parser}
 use Rattle.wap_site.specs.Pages.{Pages}
 use Rattle.wap_site.specs.declared.page.Page.{Page}
 use Rattle.wap_site.specs.declared.page.Page.TheVariants as page
@@ -29,7 +34,7 @@ use Rattle.wap_pages.specs.declared.kind.Kind.{Kind}
 use Rattle.wap_pages.specs.declared.kind.Kind.TheVariants as kind
 use Rattle.wap_pages.specs.declared.fault.PageFault.{PageFault}
 use Rattle.wap_pages.specs.declared.fault.PageFault.TheVariants as fault
-use Rattle.wap_pages.specs.Refusals.{RefusesVerify, RefusesCheck}
+use Rattle.wap_pages.specs.Refusals.{RefusesSource, RefusesVerify, RefusesCheck}
 
 -- ---- what a page is read as
 
@@ -60,6 +65,11 @@ abbrev pub page_of_unit : Result Unit UnitFault → Page
 page_of_unit (Ok unit) = if may_run unit then page.Script unit else page.Refused
 page_of_unit (Err why) = page.Refused
 
+-- a source is the unit of its program
+abbrev pub page_of_program : Option Program → Page
+page_of_program (Some p) = page.Script (compiled p)
+page_of_program None = page.Refused
+
 abbrev pub page_of_text : Option (List ℕ) → Page
 page_of_text (Some text) = page.Words text
 page_of_text None = page.Refused
@@ -69,7 +79,7 @@ unfoldable pub page_as : Kind → List ℕ → Page
 page_as kind.Deck bytes = page_of_document (document_at bytes)
 page_as kind.Words bytes = page_of_text (text_in Utf8 bytes)
 page_as kind.Unit bytes = page_of_unit (unit_at bytes)
-page_as kind.Source bytes = page.Refused
+page_as kind.Source bytes = page_of_program (accepted_in bytes)
 
 -- ---- pages
 
@@ -86,7 +96,8 @@ abbrev pub page_where : List ℕ → Option (List ℕ) → Page
 page_where name (Some bytes) = page_of_bytes name bytes
 page_where name None = page.Missing
 
--- ---- the same by the relations of bytes, documents, decks and units, which laws tie to the above
+-- ---- the same by the relations of bytes, documents, decks, units and sources, which laws tie to
+-- the above
 
 -- a byte is a number below 256
 abbrev pub AreBytes : List ℕ → Type 0
@@ -106,6 +117,17 @@ pub record IsUnitPage (name bytes : List ℕ) (unit : Unit) : Type 0 where
   pub spells : IsUnit bytes unit
   pub verified : IsVerified unit
 
+-- the bytes are the source of this program
+pub record IsSourcePage (name bytes : List ℕ) (p : Program) : Type 0 where
+  pub kind : kind_of name ≡ kind.Source
+  pub accepted : IsAccepted bytes p
+
+-- the bytes are this unit, and it may be run, or the source of a program that is compiled to it
+abbrev pub IsScriptPage : List ℕ → List ℕ → Unit → Type 0
+IsScriptPage name bytes unit =
+    IsUnitPage name bytes unit
+    ⊎ ((p : Program) × IsSourcePage name bytes p × (unit ≡ compiled p))
+
 -- the bytes are this text
 pub record IsTextPage (name bytes text : List ℕ) : Type 0 where
   pub kind : kind_of name ≡ kind.Words
@@ -114,10 +136,6 @@ pub record IsTextPage (name bytes text : List ℕ) : Type 0 where
 -- the bytes are no text
 pub data RefusesText (bytes : List ℕ) : PageFault → Type 0 where
   not_text : text_in Utf8 bytes ≡ None → RefusesText bytes fault.NotText
-
--- a source is refused, since sources aren't read yet
-pub data RefusesSource (bytes : List ℕ) : PageFault → Type 0 where
-  unbuilt : RefusesSource bytes fault.Unbuilt
 
 -- bytes that are read as a page of a kind are refused for a fault
 abbrev pub RefusesAs : Kind → List ℕ → PageFault → Type 0
@@ -131,12 +149,15 @@ abbrev pub Refuses : List ℕ → List ℕ → PageFault → Type 0
 Refuses name bytes = RefusesAs (kind_of name) bytes
 
 -- beside this fault another may be named: of the places of a unit at which the numbers of values
--- don't fit, any may be
+-- don't fit, and of those where a parser stops, any may be
 abbrev pub may_differ : PageFault → Bool
 may_differ fault.Missing = false
 may_differ (fault.Document why) = false
 may_differ (fault.Deck why) = false
+may_differ (fault.Source why) = is_of_parser why
 may_differ (fault.Unit why) = false
 may_differ (fault.Verify why) = is_of_depths why
 may_differ fault.NotText = false
-may_differ fault.Unbuilt = false
+may_differ (fault.Image why) = false
+may_differ (fault.Save why) = false
+may_differ fault.NotDeck = false

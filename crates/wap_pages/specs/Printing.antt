@@ -2,38 +2,24 @@
 use Rattle.std.specs.Prelude.{ℕ, List, [], ◌∷◌, ◌++◌, codes, decimal}
 use Rattle.std.specs.List.{flat_map}
 use Rattle.wap_base.specs.Ascii.{space, slash}
+use Rattle.wap_faults.specs.Faults.{fault_text, document_text, image_text, save_text}
 use Rattle.wap_unit.specs.declared.fault.UnitFault.{UnitFault}
 use Rattle.wap_unit.specs.declared.fault.UnitFault.TheVariants as unit
 use Rattle.wap_verify.specs.declared.fault.VerifyFault.{VerifyFault}
 use Rattle.wap_verify.specs.declared.fault.VerifyFault.TheVariants as verify
-use Rattle.wap_wbxml.specs.declared.fault.DocFault.{DocFault}
-use Rattle.wap_wbxml.specs.declared.fault.DocFault.TheVariants as document
 use Rattle.wap_deckcheck.specs.declared.fault.DeckFault.{DeckFault}
 use Rattle.wap_deckcheck.specs.declared.fault.DeckFault.TheVariants as deck
+use Rattle.wap_lex.specs.declared.fault.LexFault.{LexFault}
+use Rattle.wap_lex.specs.declared.fault.LexFault.TheVariants as lex
+use Rattle.wap_grammar.specs.declared.fault.ParseFault.{ParseFault}
+use Rattle.wap_grammar.specs.declared.fault.ParseFault.TheVariants as parse
+use Rattle.wap_program.specs.declared.program.Span.{Span}
+use Rattle.wap_scope.specs.declared.fault.ScopeFault.{ScopeFault}
+use Rattle.wap_scope.specs.declared.fault.ScopeFault.TheVariants as scope
+use Rattle.wap_codegen.specs.declared.fault.CompileFault.{CompileFault}
+use Rattle.wap_codegen.specs.declared.fault.CompileFault.TheVariants as compile
 use Rattle.wap_pages.specs.declared.fault.PageFault.{PageFault}
 use Rattle.wap_pages.specs.declared.fault.PageFault.TheVariants as page
-
--- a field, after a space
-abbrev pub field_text : ℕ → List ℕ
-field_text field = space ∷ decimal field
-
--- a name and its fields
-abbrev pub fault_text : List ℕ → List ℕ → List ℕ
-fault_text name fields = name ++ flat_map field_text fields
-
-abbrev pub document_text : DocFault → List ℕ
-document_text document.Version = fault_text (codes "Version") []
-document_text document.PublicId = fault_text (codes "PublicId") []
-document_text document.Charset = fault_text (codes "Charset") []
-document_text (document.Short at) = fault_text (codes "Short") (at ∷ [])
-document_text (document.Number at) = fault_text (codes "Number") (at ∷ [])
-document_text (document.Token at) = fault_text (codes "Token") (at ∷ [])
-document_text (document.Index at) = fault_text (codes "Index") (at ∷ [])
-document_text (document.Text at) = fault_text (codes "Text") (at ∷ [])
-document_text (document.Depth at) = fault_text (codes "Depth") (at ∷ [])
-document_text (document.Table at) = fault_text (codes "Table") (at ∷ [])
-document_text (document.Rest at) = fault_text (codes "Rest") (at ∷ [])
-document_text document.NoMemory = fault_text (codes "NoMemory") []
 
 -- the numbers of a path, with strokes between them
 abbrev pub step_text : ℕ → List ℕ
@@ -84,12 +70,58 @@ verify_text (verify.Depths function at found other) =
     fault_text (codes "Depths") (function ∷ at ∷ found ∷ other ∷ [])
 verify_text verify.NoMemory = fault_text (codes "NoMemory") []
 
+abbrev pub lex_text : LexFault → List ℕ
+lex_text lex.NotText = fault_text (codes "NotText") []
+lex_text (lex.BadChar at) = fault_text (codes "BadChar") (at ∷ [])
+lex_text (lex.OpenString at) = fault_text (codes "OpenString") (at ∷ [])
+lex_text (lex.OpenComment at) = fault_text (codes "OpenComment") (at ∷ [])
+lex_text (lex.BadEscape at) = fault_text (codes "BadEscape") (at ∷ [])
+lex_text (lex.IntRange at) = fault_text (codes "IntRange") (at ∷ [])
+lex_text lex.NoMemory = fault_text (codes "NoMemory") []
+
+abbrev pub parse_text : ParseFault → List ℕ
+parse_text (parse.Syntax at) = fault_text (codes "Syntax") (at ∷ [])
+parse_text (parse.Nested at) = fault_text (codes "Nested") (at ∷ [])
+parse_text parse.NoMemory = fault_text (codes "NoMemory") []
+
+-- a name, and where a part of a source begins and ends
+abbrev pub span_text : List ℕ → Span → List ℕ
+span_text name span = fault_text name (span.from ∷ span.to ∷ [])
+
+abbrev pub scope_text : ScopeFault → List ℕ
+scope_text (scope.NoVariable span) = span_text (codes "NoVariable") span
+scope_text (scope.TwoVariables span) = span_text (codes "TwoVariables") span
+scope_text (scope.NoFunction span) = span_text (codes "NoFunction") span
+scope_text (scope.TwoFunctions span) = span_text (codes "TwoFunctions") span
+scope_text (scope.Arguments span) = span_text (codes "Arguments") span
+scope_text (scope.NoUnit span) = span_text (codes "NoUnit") span
+scope_text (scope.TwoUnits span) = span_text (codes "TwoUnits") span
+scope_text (scope.NoLibrary span) = span_text (codes "NoLibrary") span
+scope_text (scope.LoneBreak span) = span_text (codes "LoneBreak") span
+scope_text (scope.TwoAccess span) = span_text (codes "TwoAccess") span
+scope_text (scope.TooManyLocals span) = span_text (codes "TooManyLocals") span
+scope_text (scope.TooManyFunctions span) = span_text (codes "TooManyFunctions") span
+scope_text scope.NoMemory = fault_text (codes "NoMemory") []
+
+abbrev pub compile_text : CompileFault → List ℕ
+compile_text (compile.Lex fault) = lex_text fault
+compile_text (compile.Parse fault) = parse_text fault
+compile_text (compile.Scope fault) = scope_text fault
+compile_text (compile.TooManyConstants count) =
+    fault_text (codes "TooManyConstants") (count ∷ [])
+compile_text (compile.CodeTooLong function wide) =
+    fault_text (codes "CodeTooLong") (function ∷ wide ∷ [])
+compile_text compile.NoMemory = fault_text (codes "NoMemory") []
+
 -- the innermost fault
 abbrev pub page_text : PageFault → List ℕ
 page_text page.Missing = fault_text (codes "Missing") []
 page_text (page.Document fault) = document_text fault
 page_text (page.Deck fault) = deck_text fault
+page_text (page.Source fault) = compile_text fault
 page_text (page.Unit fault) = unit_text fault
 page_text (page.Verify fault) = verify_text fault
 page_text page.NotText = fault_text (codes "NotText") []
-page_text page.Unbuilt = fault_text (codes "Unbuilt") []
+page_text (page.Image fault) = image_text fault
+page_text (page.Save fault) = save_text fault
+page_text page.NotDeck = fault_text (codes "NotDeck") []

@@ -1,5 +1,5 @@
--- Why bytes are refused: as a unit, as one that may be run, as a document, as a document whose deck
--- is good. This project's own.
+-- Why bytes are refused: as a source, as a unit, as one that may be run, as a document, as a
+-- document whose deck is good. This project's own.
 use Rattle.std.specs.Prelude.{◌≡◌, ℕ, List, Some}
 use Rattle.wap_markup.specs.declared.document.Document.{Document}
 use Rattle.wap_markup.specs.Documents.{IsDocument}
@@ -10,8 +10,13 @@ use Rattle.wap_unit.specs.Units.{IsUnit}
 use Rattle.wap_unit.specs.Refusal as units
 use Rattle.wap_wbxml.specs.Refusal as documents
 use Rattle.wap_verify.specs.Faults.{IsFault}
+use Rattle.wap_source_faults.specs.Faults.{IsFaultOf}
 use Rattle.wap_pages.specs.declared.fault.PageFault.{PageFault}
 use Rattle.wap_pages.specs.declared.fault.PageFault.TheVariants as page
+
+-- the bytes are no source that can be compiled
+pub data RefusesSource (bytes : List ℕ) : PageFault → Type 0 where
+  source : (why : _) → IsFaultOf bytes why → RefusesSource bytes (page.Source why)
 
 -- the bytes are no unit
 pub data RefusesUnit (bytes : List ℕ) : PageFault → Type 0 where

@@ -1,9 +1,12 @@
 //! Why a page is refused.
 ghost use Rattle.std.specs.Prelude.{◌≡◌};
 ghost use Rattle.wap_pages.specs.Faults.{document_error, deck_error, unit_error, verify_error};
+ghost use Rattle.wap_pages.specs.Faults.{source_error};
 ghost use Rattle.wap_pages.specs.declared.fault.PageErr.TheVariants.{NoMemory};
 
+use wap_codegen::CompileFault;
 use wap_deckcheck::DeckFault;
+use wap_parts::{ImageFault, SaveFault};
 use wap_unit::UnitFault;
 use wap_verify::VerifyFault;
 use wap_wbxml::DocFault;
@@ -18,14 +21,20 @@ pub enum PageFault {
     Document(DocFault),
     /// It is a document whose deck isn't good.
     Deck(DeckFault),
+    /// It is no source of a script that can be compiled.
+    Source(CompileFault),
     /// It is no compiled unit.
     Unit(UnitFault),
     /// It is a compiled unit that may not be run.
     Verify(VerifyFault),
     /// It is no text in UTF-8.
     NotText,
-    /// It is a script's source, and sources aren't read yet.
-    Unbuilt,
+    /// It is no image of a context. `judge` never says so, nor the two below.
+    Image(ImageFault),
+    /// A context has no image.
+    Save(SaveFault),
+    /// It is the page of a card, and no deck.
+    NotDeck,
 }
 
 /// Why a call on a page gives nothing.
@@ -86,5 +95,16 @@ impl From<VerifyFault> for PageErr {
             return PageErr::NoMemory;
         }
         PageErr::Refused(PageFault::Verify(fault))
+    }
+}
+
+impl From<CompileFault> for PageErr {
+    ghost from_gives = { λ fault error. error ≡ source_error fault };
+
+    fn from(fault: CompileFault) -> PageErr {
+        if fault == CompileFault::NoMemory {
+            return PageErr::NoMemory;
+        }
+        PageErr::Refused(PageFault::Source(fault))
     }
 }

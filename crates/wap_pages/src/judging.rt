@@ -5,7 +5,7 @@ ghost use Rattle.wap_pages.specs.Judged.{page_of_bytes, Refuses, may_differ};
 ghost use Rattle.wap_pages.specs.inside.Judging.{Judges, JudgesDeck};
 ghost use Rattle.wap_pages.specs.declared.fault.PageErr.TheVariants as error;
 
-use crate::reading::{document_in, verified_in};
+use crate::reading::{compiled_in, document_in, verified_in};
 use crate::{Kind, PageErr, PageFault};
 use std::alloc::Global;
 use wap_base::{Charset, Text};
@@ -38,7 +38,7 @@ fn judge_by_kind(alloc: Global, kind: Kind, bytes: &[u8]) -> Result<Page, PageEr
         Kind::Deck => judge_deck(alloc, bytes),
         Kind::Words => judge_text(alloc, bytes),
         Kind::Unit => judge_unit(alloc, bytes),
-        Kind::Source => Err(PageErr::Refused(PageFault::Unbuilt)),
+        Kind::Source => judge_source(alloc, bytes),
     }
 }
 
@@ -68,6 +68,15 @@ fn judge_unit(alloc: Global, bytes: &[u8]) -> Result<Page, PageErr>
 {
     let verified = verified_in(alloc, bytes)?;
     Ok(Page::Script(Shared::new(alloc, verified)?))
+}
+
+/// The unit of the program that a source spells.
+fn judge_source(alloc: Global, bytes: &[u8]) -> Result<Page, PageErr>
+    requires { length bytes.now < 2 ^ 31 }
+    ensures { Judges Kind.Source bytes.now result }
+{
+    let compiled = compiled_in(alloc, bytes)?;
+    Ok(Page::Script(Shared::new(alloc, compiled)?))
 }
 
 /// The text that bytes are.

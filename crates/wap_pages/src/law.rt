@@ -1,33 +1,36 @@
 //! What the judging of pages means.
-ghost use Rattle.std.specs.Prelude.{◌≡◌, ◌≢◌, ◌↔◌, ◌⊎◌, ℕ, true, List};
+ghost use Rattle.std.specs.Prelude.{◌≡◌, ◌≢◌, ◌<◌, ◌^◌, ◌↔◌, ◌⊎◌, ℕ, true, List, length};
 ghost use Rattle.wap_base.specs.Contents.{Contents, names_of, page_named};
 ghost use Rattle.wap_base.specs.Texts.{AreDistinct};
 ghost use Rattle.wap_markup.specs.declared.deck.Deck.{Deck};
 ghost use Rattle.wap_code.specs.declared.unit.Unit.{Unit};
+ghost use Rattle.wap_program.specs.declared.program.Program.{Program};
 ghost use Rattle.wap_site.specs.Pages.{page_of, AreSitePages};
 ghost use Rattle.wap_site.specs.declared.page.Page.TheVariants as page;
 ghost use Rattle.wap_pages.specs.declared.fault.PageFault.{PageFault};
 ghost use Rattle.wap_pages.specs.Judged.{page_of_bytes, judged, page_where, AreBytes};
-ghost use Rattle.wap_pages.specs.Judged.{IsDeckPage, IsUnitPage, IsTextPage, Refuses, may_differ};
+ghost use Rattle.wap_pages.specs.Judged.{IsDeckPage, IsUnitPage, IsSourcePage, IsScriptPage};
+ghost use Rattle.wap_pages.specs.Judged.{IsTextPage, Refuses, may_differ};
 
 /// A law of `judged`, which does nothing when it is called. A name's page is that of its bytes, and
 /// missing where it has none. It is a deck where the bytes are a document that means this deck, and
-/// it is good; it is a script where the bytes are this unit, and it may be run; it is a text where
-/// the bytes are this text; and it is refused where there is none of these. Where no name of the
-/// store stands twice, they are pages that a site may have.
+/// it is good; it is a script where the bytes are this unit, and it may be run, or a source that is
+/// compiled to it; it is a text where the bytes are this text; and it is refused where there is
+/// none of these. Where no name of the store stands twice, they are pages that a site may have.
 pub fn pages_are_judged()
     ensures pages { (name : List ℕ) (contents : Contents)
         → page_of name (judged contents) ≡ page_where name (page_named name contents) }
     ensures deck { (name bytes : List ℕ) (deck : Deck)
         → (page_of_bytes name bytes ≡ page.Deck deck) ↔ IsDeckPage name bytes deck }
     ensures script { (name bytes : List ℕ) (unit : Unit) → AreBytes bytes
-        → (page_of_bytes name bytes ≡ page.Script unit) ↔ IsUnitPage name bytes unit }
+        → (page_of_bytes name bytes ≡ page.Script unit) ↔ IsScriptPage name bytes unit }
     ensures words { (name bytes text : List ℕ)
         → (page_of_bytes name bytes ≡ page.Words text) ↔ IsTextPage name bytes text }
     ensures refused { (name bytes : List ℕ) → AreBytes bytes
         → (page_of_bytes name bytes ≡ page.Refused)
         ↔ (((deck : Deck) → ¬ IsDeckPage name bytes deck)
         × ((unit : Unit) → ¬ IsUnitPage name bytes unit)
+        × ((p : Program) → ¬ IsSourcePage name bytes p)
         × ((text : List ℕ) → ¬ IsTextPage name bytes text)) }
     ensures found { (name bytes : List ℕ) → page_of_bytes name bytes ≢ page.Missing }
     ensures site { (contents : Contents) → AreDistinct (names_of contents)
@@ -35,9 +38,9 @@ pub fn pages_are_judged()
 {}
 
 /// A law of the faults for which pages are refused: a page that is refused has one, and it has one
-/// alone, unless it is a unit in which any of several places may be named.
+/// alone, unless it is a unit or a source in which any of several places may be named.
 pub fn refused_pages_have_faults()
-    ensures some { (name bytes : List ℕ) → AreBytes bytes
+    ensures some { (name bytes : List ℕ) → AreBytes bytes → length bytes < 2 ^ 31
         → (page_of_bytes name bytes ≡ page.Refused)
         ↔ ((fault : PageFault) × Refuses name bytes fault) }
     ensures one { (name bytes : List ℕ) (fault other : PageFault) → Refuses name bytes fault

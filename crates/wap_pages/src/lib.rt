@@ -2,18 +2,21 @@
 #![tactic(auto)]
 
 mod cached;
+mod deck_faults;
 mod fault;
 mod judging;
 mod kind;
 mod law;
 mod printing;
 mod reading;
+mod source_faults;
 mod threads;
+mod unit_faults;
 
 pub use cached::{Cached, LEAST_CAPACITY, MOST_CAPACITY};
 pub use fault::{PageErr, PageFault};
 pub use judging::judge;
 pub use kind::Kind;
 pub use law::{pages_are_judged, refused_pages_have_faults};
-pub use reading::{document_in, unit_in, verified_in};
+pub use reading::{compiled_in, document_in, unit_in, verified_in};
 pub use threads::all_cross;

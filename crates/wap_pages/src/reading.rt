@@ -1,4 +1,4 @@
-//! What bytes are read as: documents, and units.
+//! What bytes are read as: documents, units, and sources with the units that they are compiled to.
 ghost use Rattle.std.specs.Prelude.{◌≡◌, ◌<◌, ◌^◌, length, IfOk, Ok, Err};
 ghost use Rattle.wap_base.specs.Outcome.{Meets};
 ghost use Rattle.wap_markup.specs.declared.document.Document.{Document};
@@ -6,12 +6,17 @@ ghost use Rattle.wap_markup.specs.Documents.{IsDocument};
 ghost use Rattle.wap_code.specs.declared.unit.Unit.{Unit};
 ghost use Rattle.wap_unit.specs.Units.{IsUnit};
 ghost use Rattle.wap_verify.specs.Sound.{IsVerified};
+ghost use Rattle.wap_program.specs.declared.program.Program.{Program};
+ghost use Rattle.wap_compiled.specs.Units.{compiled};
+ghost use Rattle.wap_compiled.specs.Accepted.{IsAccepted};
 ghost use Rattle.wap_pages.specs.Refusals.{RefusesDocument, RefusesUnit, RefusesVerify};
+ghost use Rattle.wap_pages.specs.Refusals.{RefusesSource};
 ghost use Rattle.wap_pages.specs.declared.fault.PageErr.TheVariants as error;
 ghost use Rattle.wap_pages.specs.declared.fault.PageFault.{PageFault};
 
 use crate::PageErr;
 use std::alloc::Global;
+use wap_codegen::compile;
 use wap_markup::Document;
 use wap_unit::Unit;
 use wap_verify::{Verified, verify};
@@ -53,4 +58,17 @@ pub fn verified_in(alloc: Global, bytes: &[u8]) -> Result<Verified, PageErr>
         Ok(verified) => Ok(verified),
         Err((_, fault)) => Err(PageErr::from(fault)),
     }
+}
+
+/// The unit that the bytes are compiled to, if they are a source.
+pub fn compiled_in(alloc: Global, bytes: &[u8]) -> Result<Verified, PageErr>
+    requires { length bytes.now < 2 ^ 31 }
+    ensures found { IfOk result (λ unit.
+        (p : Program) × IsAccepted bytes.now p × (unit ≡ compiled p)) }
+    ensures only { (p : Program) → IsAccepted bytes.now p
+        → Meets error.NoMemory (λ unit. unit) result (Ok (compiled p)) }
+    ensures refused { (fault : PageFault) → result ≡ Err (error.Refused fault)
+        → RefusesSource bytes.now fault }
+{
+    Ok(compile(alloc, bytes)?)
 }

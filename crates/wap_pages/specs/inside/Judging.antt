@@ -9,6 +9,9 @@ use Rattle.wap_markup.specs.Good.{IsGood}
 use Rattle.wap_unit.specs.Units.{IsUnit}
 use Rattle.wap_verify.specs.Sound.{IsVerified}
 use Rattle.wap_code.specs.declared.unit.Unit.{Unit}
+use Rattle.wap_program.specs.declared.program.Program.{Program}
+use Rattle.wap_compiled.specs.Units.{compiled}
+use Rattle.wap_compiled.specs.Accepted.{IsAccepted}
 use Rattle.wap_site.specs.declared.page.Page.{Page}
 use Rattle.wap_site.specs.declared.page.Page.TheVariants as page
 use Rattle.wap_pages.specs.declared.kind.Kind.{Kind}
@@ -36,6 +39,12 @@ pub record IsUnitIn (bytes : List ℕ) (one : Page) : Type 0 where
   pub verified : IsVerified unit
   pub is : one ≡ page.Script unit
 
+-- the page is the unit of the program whose source the bytes are
+pub record IsSourceIn (bytes : List ℕ) (one : Page) : Type 0 where
+  pub program : Program
+  pub accepted : IsAccepted bytes program
+  pub is : one ≡ page.Script (compiled program)
+
 -- the page is the text that the bytes are
 pub record IsTextIn (bytes : List ℕ) (one : Page) : Type 0 where
   pub text : List ℕ
@@ -47,7 +56,7 @@ abbrev pub IsPageAs : Kind → List ℕ → Page → Type 0
 IsPageAs kind.Deck bytes = IsDeckIn bytes
 IsPageAs kind.Words bytes = IsTextIn bytes
 IsPageAs kind.Unit bytes = IsUnitIn bytes
-IsPageAs kind.Source bytes = λ one. ⊥
+IsPageAs kind.Source bytes = IsSourceIn bytes
 
 -- the answer on bytes that are read as a page of a kind is right, unless memory runs out
 abbrev pub Judges : Kind → List ℕ → Result Page PageErr → Type 0

@@ -2,7 +2,7 @@ use Rattle.std.proofs.Common.{ℕ, List, sym, subst, codes}
 use Rattle.wap_deckcheck.specs.declared.fault.DeckFault.{DeckFault}
 use Rattle.wap_devices.specs.Sinks.{Puts}
 use Rattle.wap_pages.specs.Printing.{at_path, deck_text}
-use Rattle.wap_pages.proofs.printing.print_deck_fault.Goals as goal
+use Rattle.wap_pages.proofs.deck_faults.print_deck_fault.Goals as goal
 
 pub returns-in-DuplicateId : goal.returns-in-DuplicateId
 returns-in-DuplicateId g c =
