@@ -1,0 +1,50 @@
+-- Whatever a store holds, it has pages.
+use Rattle.std.proofs.Common.{◌≡◌, ℕ, ◌<◌, ◌^◌, List, [], ◌∷◌, length, refl, inl, inr, ◌⊎◌, All}
+use Rattle.std.proofs.lemmas.List.Elements.{recursion_from_All}
+use Rattle.std.specs.List.{AllByRecursion}
+use Rattle.wap_base.specs.Contents.{Contents}
+use Rattle.wap_code.specs.declared.unit.Unit.{Unit}
+use Rattle.wap_site.specs.declared.page.Page.{Page}
+use Rattle.wap_site.specs.declared.page.Page.TheVariants as page
+use Rattle.wap_scripting.specs.ScriptPages.{PageOf, deck, script, words, refused}
+use Rattle.wap_scripting.specs.Sources.{Script, of_unit, AllPages}
+use Rattle.wap_source_sites.specs.Programs.{Accepted}
+use Rattle.wap_pages.specs.Judged.{page_of_bytes, AreBytes, IsScriptPage}
+use Rattle.wap_pages.proofs.Judgements.{page_deck, page_script, page_text_is, some_fault}
+use Rattle.wap_pages.proofs.Judgements.{page_there}
+use Rattle.wap_source_pages.specs.SourcePages.{source_of, IsPage, ArePages, IsStored}
+
+module _ (name bytes : List ℕ) where
+  abbrev Made : Type 0
+  Made = (one : PageOf (Script Accepted)) × IsPage name bytes one
+
+  -- a script is a unit or a source
+  of_script : (unit : Unit) → IsScriptPage name bytes unit → Made
+  of_script unit (inl is) = (script (of_unit unit), IsPage.a_unit unit is)
+  of_script unit (inr (p, is, same)) =
+      (script (source_of bytes p is.accepted), IsPage.a_source p is)
+
+  -- the page, by what it is judged
+  made_by : AreBytes bytes → length bytes < 2 ^ 31 → (one : Page)
+      → page_of_bytes name bytes ≡ one → Made
+  made_by are few (page.Deck one) is = (deck one, IsPage.a_deck one (page_deck name bytes one is))
+  made_by are few (page.Script unit) is = of_script unit (page_script name bytes are unit is)
+  made_by are few (page.Words text) is =
+      (words text, IsPage.a_text text (page_text_is name bytes text is))
+  made_by are few page.Refused is =
+      let found = some_fault name bytes are few is in
+      (refused, IsPage.none found.0 found.1)
+  made_by are few page.Missing is = absurd (page_there name bytes is)
+
+-- the pages, entry by entry
+made : (contents : Contents) → AllByRecursion IsStored contents
+    → (pages : AllPages Accepted) × ArePages contents pages
+made [] are = ([], tt)
+made (entry ∷ contents) are =
+    let here = made_by entry.0 entry.1 are.0.0 are.0.1 (page_of_bytes entry.0 entry.1) refl in
+    let rest = made contents are.1 in
+    ((entry.0, here.0) ∷ rest.0, ((refl, here.1), rest.1))
+
+pub store_has_pages : (contents : Contents) → All IsStored contents
+    → (pages : AllPages Accepted) × ArePages contents pages
+store_has_pages contents are = made contents (recursion_from_All IsStored contents are)
