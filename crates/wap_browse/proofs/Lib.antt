@@ -6,3 +6,4 @@ pub mod Going
 pub mod Stopped
 pub mod Exits
 pub mod Summary
+pub mod Forgetting

@@ -1,16 +1,17 @@
--- One key more.
-use Rattle.std.proofs.Common.{◌≡◌, ℕ, List, [], ◌∷◌, ◌++◌, refl, ap, ◌∙◌}
-use Rattle.std.specs.Prelude.{map}
-use Rattle.std.proofs.lemmas.List.{map-append}
+-- One step, and then another.
+use Rattle.std.proofs.Common.{◌≡◌, ℕ, List, [], ◌∷◌, ◌++◌, Bool, sym, ap, ◌∙◌}
+use Rattle.std.specs.Prelude.{map, is_some}
+use Rattle.std.proofs.lemmas.List.{map-append, append-nil}
 use Rattle.std.proofs.lemmas.Grind.{flat_map-append}
 use Rattle.wap_input.specs.declared.key.Key.{Key}
+use Rattle.wap_site.specs.Misses.{Asked}
 use Rattle.wap_world.specs.World.{World}
 use Rattle.wap_world.specs.Lines.{shown_line, line_bytes, lines_bytes}
-use Rattle.wap_world.specs.Steps.{Step}
-use Rattle.wap_world.specs.Sessions.{Begun, played, shown_by, world_of}
+use Rattle.wap_world.specs.Steps.{Step, joined, quiet, still}
 use Rattle.wap_scripting.specs.UnitSites.{Pages}
-use Rattle.wap_context.specs.Sites.{site_of}
-use Rattle.wap_session.specs.Feeding.{State, beginning, step_of, PlaysOn}
+use Rattle.wap_session.specs.Feeding.{State, step_of, left_open}
+use Rattle.wap_session.proofs.Alone.{none_played}
+use Rattle.wap_browse.specs.Handling.{bytes_of}
 
 -- ---- bytes
 
@@ -22,33 +23,38 @@ lines_bytes-append first others =
     ap lines_bytes (map-append shown_line first others)
     ∙ flat_map-append line_bytes (map shown_line first) (map shown_line others)
 
--- ---- nothing
+-- the bytes of two steps
+pub bytes_joined : (all one two : Step) → all ≡ joined (left_open one) two
+    → bytes_of all ≡ bytes_of one ++ bytes_of two
+bytes_joined all one two is = ap bytes_of is ∙ lines_bytes-append one.lines two.lines
 
--- no keys play nothing
-pub none_lines : (pages : Pages) (world : World) → (played (site_of pages) [] world).lines ≡ []
-unfolding played
-none_lines pages world = refl
+-- and what they ask for
+pub asked_joined : (all one two : Step) → all ≡ joined (left_open one) two
+    → all.asked ≡ one.asked ++ two.asked
+asked_joined all one two is = ap (λ (s : Step). s.asked) is
 
-pub none_asked : (pages : Pages) (world : World) → (played (site_of pages) [] world).asked ≡ []
-unfolding played
-none_asked pages world = refl
+-- ---- no keys
 
--- ---- keys in two parts
+-- they play nothing in any session
+pub none_of : (pages : Pages) (state : State) → step_of pages [] state
+    ≡ record (quiet [] (still state.browser.world)) { is_open = is_some state.waiting }
+none_of pages state = none_played pages state.waiting state.browser.world
 
-module _ (pages : Pages) (begun : Begun) (first : List Key) (state : State)
-    (on : PlaysOn first pages (beginning begun) state) where
-  -- what was asked for
-  pub asked_in_parts : (others : List Key)
-      → (played (site_of pages) (first ++ others) (world_of begun)).asked
-      ≡ (played (site_of pages) first (world_of begun)).asked ++ (step_of pages others state).asked
-  asked_in_parts others = ap (λ (s : Step). s.asked) (on others)
+-- ---- where keys lead
 
-  -- the bytes that were written
-  pub bytes_in_parts : (others : List Key)
-      → lines_bytes (shown_by (played (site_of pages) (first ++ others) (world_of begun)))
-      ≡ lines_bytes (shown_by (played (site_of pages) first (world_of begun)))
-      ++ lines_bytes (shown_by (step_of pages others state))
-  bytes_in_parts others =
-      ap (λ (s : Step). lines_bytes (shown_by s)) (on others)
-      ∙ lines_bytes-append (played (site_of pages) first (world_of begun)).lines
-      (step_of pages others state).lines
+module _ (pages : Pages) (play : List Key → Step) (given : List Key) (state : State)
+    (on : (others : List Key) → play (given ++ others)
+    ≡ joined (left_open (play given)) (step_of pages others state)) where
+  -- a dialog is open exactly where a script waits
+  pub open_there : (play given).is_open ≡ is_some state.waiting
+  open_there =
+      ap (λ (keys : List Key). (play keys).is_open) (sym (append-nil given))
+      ∙ ap (λ (s : Step). s.is_open) (on [])
+      ∙ ap (λ (s : Step). s.is_open) (none_of pages state)
+
+  -- the world is that of the session
+  pub world_there : state.browser.world ≡ (play given).world
+  world_there =
+      sym (ap (λ (s : Step). s.world) (none_of pages state))
+      ∙ sym (ap (λ (s : Step). s.world) (on []))
+      ∙ ap (λ (keys : List Key). (play keys).world) (append-nil given)

@@ -5,20 +5,19 @@ use Rattle.wap_input.specs.declared.key.Key.{Key}
 use Rattle.wap_keys.specs.declared.ending.Ending.{Ending}
 use Rattle.wap_keys.specs.declared.ending.Ending.TheVariants as way
 use Rattle.wap_keys.specs.Lines.{Keys, keys_of}
-use Rattle.wap_world.specs.Sites.{Site}
-use Rattle.wap_world.specs.Sessions.{Begun, session}
-use Rattle.wap_scripting.specs.UnitSites.{unit_pages}
-use Rattle.wap_context.specs.Sites.{site_of}
+use Rattle.wap_world.specs.Steps.{Step}
+use Rattle.wap_scripting.specs.UnitSites.{Pages, unit_pages}
 use Rattle.wap_status.specs.declared.status.Status.{Status}
 use Rattle.wap_status.specs.declared.status.Status.TheVariants.{Done, Usage, Refused, StoreFault}
 use Rattle.wap_status.specs.declared.status.Status.TheVariants.{KeyReadFault, WriteFault, NoMemory}
 use Rattle.wap_status.specs.declared.status.Status.TheVariants.{BadKey, OpenDialog, TooManyKeys}
 use Rattle.wap_status.specs.Statuses.{IsOrWants}
 use Rattle.wap_browse.specs.Outside.{Outside}
+use Rattle.wap_browse.specs.Plays.{Play, ArePagesOf}
 use Rattle.wap_browse.specs.Handling.{IsPlayed}
 use Rattle.wap_browse.specs.Endings.{at_end, ended}
-use Rattle.wap_browse.specs.Headline.{NothingFails, Shows, Reads, Browses}
-use Rattle.wap_browse.specs.inside.Ends.{EndsSo, ShowsTo, EndsAt, Written, Comes, IsOfLine}
+use Rattle.wap_browse.specs.Headline.{NothingFails, Shows, Reads, BrowsesSeen}
+use Rattle.wap_browse.specs.inside.Ends.{EndsSo, ShowsTo, EndsAt, Written, Gives, IsOfLine}
 use Rattle.wap_browse.specs.inside.Ends.{StoreMoves, ReadMoves, WriteMoves, BrowsesTo}
 use Rattle.wap_browse.proofs.Optional.{if_some, some_fact}
 
@@ -130,85 +129,85 @@ open_by false other so = so
 open_by true other so = so
 
 -- where the keys came to an end the session was played to its end
-played_by : (is_open : Bool) (ending : Ending) (site : Site) (begun : Begun) (given : List Key)
-    (old new : Outside) → ShowsTo (ended is_open ending) site begun given old new
-    → IsPlayed site begun given old new
-played_by false way.End site begun given old new so = so
-played_by true way.End site begun given old new so = so
-played_by is_open (way.BadKey line fault) site begun given old new so = so
-played_by is_open way.TooManyKeys site begun given old new so = so
-played_by is_open way.ReadFault site begun given old new so = so
+played_by : (is_open : Bool) (ending : Ending) (play : List Key → Step) (given : List Key)
+    (old new : Outside) → ShowsTo (ended is_open ending) play given old new
+    → IsPlayed play given old new
+played_by false way.End play given old new so = so
+played_by true way.End play given old new so = so
+played_by is_open (way.BadKey line fault) play given old new so = so
+played_by is_open way.TooManyKeys play given old new so = so
+played_by is_open way.ReadFault play given old new so = so
 
 -- what was written
-shows_by : (site : Site) (begun : Begun) (bytes : List ℕ) (old new : Outside) (status : Status)
-    → BrowsesTo begun old new status → (comes : Comes begun bytes old new status)
-    → Written status site begun bytes comes.given old new
-    → Shows site begun bytes comes.given old new status
-shows_by site begun bytes old new status so comes written =
-    let given = comes.given in
-    let at : (other : Status) → status ≡ other → ShowsTo other site begun given old new =
-    λ other is. subst (λ (s : Status). ShowsTo s site begun given old new) is
+shows_by : (all : Play) (play : List Key → Step) (bytes : List ℕ) (old new : Outside)
+    (status : Status) → BrowsesTo all old new status → (gives : Gives all bytes old new status)
+    → Written status play bytes gives.given old new
+    → Shows play bytes gives.given old new status
+shows_by all play bytes old new status so gives written =
+    let given = gives.given in
+    let at : (other : Status) → status ≡ other → ShowsTo other play given old new =
+    λ other is. subst (λ (s : Status). ShowsTo s play given old new) is
     written.shows in
     record {
       prefix = written.prefix;
       played = λ is_open ending is.
-          played_by is_open ending site begun given old new (at (ended is_open ending) is);
-      open_so = λ is_open is. open_by is_open (session site begun given).is_open
-          (subst (λ (s : Status). EndsAt s (session site begun given).is_open) is written.opens);
+          played_by is_open ending play given old new (at (ended is_open ending) is);
+      open_so = λ is_open is. open_by is_open (play given).is_open
+          (subst (λ (s : Status). EndsAt s (play given).is_open) is written.opens);
       store_fault = λ is. at StoreFault is;
       write_fault = λ is. at WriteFault is;
       no_memory = λ is. at NoMemory is;
-      complete = complete_by status (λ keys. (session site begun keys).is_open) old new bytes
-          comes.taken comes.rest given so.store so.read so.write comes.ends written.opens;
+      complete = complete_by status (λ keys. (play keys).is_open) old new bytes
+          gives.taken gives.rest given so.store so.read so.write gives.ends written.opens;
     }
 
 -- what was read
-reads_by : (begun : Begun) (bytes : List ℕ) (old new : Outside) (status : Status)
-    → BrowsesTo begun old new status → Comes begun bytes old new status
-    → Reads begun bytes old new status
-reads_by begun bytes old new status so comes =
+reads_by : (play : Play) (bytes : List ℕ) (old new : Outside) (status : Status)
+    → BrowsesTo play old new status → Gives play bytes old new status
+    → Reads (ArePagesOf old.pages) play bytes old new status
+reads_by play bytes old new status so gives =
     let at : (other : Status) → status ≡ other
-    → EndsSo other bytes comes.taken comes.rest comes.given =
-    λ other is. subst (λ (s : Status). EndsSo s bytes comes.taken comes.rest comes.given) is
-    comes.ends in
+    → EndsSo other bytes gives.taken gives.rest gives.given =
+    λ other is. subst (λ (s : Status). EndsSo s bytes gives.taken gives.rest gives.given) is
+    gives.ends in
     record {
-      taken = comes.taken;
-      rest = comes.rest;
-      split = comes.split;
-      left_is = comes.left_is;
-      given = comes.given;
-      first = comes.first;
-      prompt = comes.prompt;
-      done = λ is_open is. done_by is_open bytes comes.taken comes.rest comes.given
+      taken = gives.taken;
+      rest = gives.rest;
+      split = gives.split;
+      left_is = gives.left_is;
+      given = gives.given;
+      first = gives.first;
+      prompt = gives.prompt;
+      done = λ is_open is. done_by is_open bytes gives.taken gives.rest gives.given
           (at (at_end is_open) is);
       bad_key = λ line fault is. at (BadKey line fault) is;
       too_many_keys = λ is. at TooManyKeys is;
       read_fault = λ is. at KeyReadFault is;
       complete = λ none. let (is_open, opens) = open_with status in (
         is_open,
-        complete_by status (λ keys. is_open) old new bytes comes.taken comes.rest comes.given
-            so.store so.read so.write comes.ends opens none,
+        complete_by status (λ keys. is_open) old new bytes gives.taken gives.rest gives.given
+            so.store so.read so.write gives.ends opens none,
       );
-      shows = if_some old.pages.contents
-          (λ judged. Shows (site_of (unit_pages judged)) begun bytes comes.given old new status)
-          (λ judged is. shows_by (site_of (unit_pages judged)) begun bytes old new status so comes
+      shows = λ pages (judged, known, is).
+          subst (λ (p : Pages). Shows (play p) bytes gives.given old new status) (sym is)
+          (shows_by play (play (unit_pages judged)) bytes old new status so gives
           (some_fact old.pages.contents
-          (λ p. Written status (site_of (unit_pages p)) begun bytes comes.given old new) judged is
-          comes.written));
+          (λ p. Written status (play (unit_pages p)) bytes gives.given old new) judged known
+          gives.written));
     }
 
 -- all of it
-pub browses_by : (begun : Begun) (old new : Outside) (status : Status)
-    → BrowsesTo begun old new status → Browses begun old new status
-browses_by begun old new status so =
+pub browses_by : (play : Play) (old new : Outside) (status : Status)
+    → BrowsesTo play old new status → BrowsesSeen play old new status
+browses_by play old new status so =
     let store : (other : Status) → status ≡ other
     → StoreMoves other old.pages.faults new.pages.faults =
     λ other is. subst (λ (s : Status). StoreMoves s old.pages.faults new.pages.faults) is
     so.store in
     record {
-      known = if_some old.source.left (λ bytes. Reads begun bytes old new status)
-          (λ bytes is. reads_by begun bytes old new status so
-          (some_fact old.source.left (λ b. Comes begun b old new status) bytes is so.known));
+      known = if_some old.source.left (λ bytes. Reads (ArePagesOf old.pages) play bytes old new status)
+          (λ bytes is. reads_by play bytes old new status so
+          (some_fact old.source.left (λ b. Gives play b old new status) bytes is so.known));
       store_fault = λ is. store StoreFault is;
       read_fault = λ is.
           subst (λ (s : Status). ReadMoves s old.source.faults new.source.faults) is so.read;

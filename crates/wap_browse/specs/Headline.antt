@@ -1,4 +1,5 @@
--- What browsing comes to: what is written, what is asked for, and how it ends. This project's own.
+-- What it comes to that keys are read and played: what is written, what is asked for, and how it
+-- ends. This project's own.
 use Rattle.std.specs.Prelude.{◌≡◌, ◌≢◌, ℕ, ◌+◌, ◌≤◌, Bool, List, [], ◌++◌, length}
 use Rattle.std.specs.Prelude.{Some, IfSome}
 use Rattle.wap_base.specs.Count.{Rose}
@@ -12,18 +13,16 @@ use Rattle.wap_keys.specs.declared.ending.Ending.TheVariants as ending
 use Rattle.wap_keys.specs.Lines.{keys_of, keys_at}
 use Rattle.wap_keys.specs.Read.{AreFirst, keys_among, rose, IsPrompt, TakesAtMost, AtMostOnce}
 use Rattle.wap_pages.specs.declared.fault.PageFault.{PageFault}
-use Rattle.wap_world.specs.Sites.{Site}
 use Rattle.wap_site.specs.Asking.{Stays}
-use Rattle.wap_world.specs.Sessions.{Begun, session, transcript}
-use Rattle.wap_scripting.specs.UnitSites.{unit_pages}
-use Rattle.wap_context.specs.Sites.{site_of}
+use Rattle.wap_world.specs.Steps.{Step}
 use Rattle.wap_status.specs.declared.status.Status.{Status}
 use Rattle.wap_status.specs.declared.status.Status.TheVariants.{Usage, Refused, StoreFault}
 use Rattle.wap_status.specs.declared.status.Status.TheVariants.{KeyReadFault, WriteFault, NoMemory}
 use Rattle.wap_status.specs.declared.status.Status.TheVariants.{BadKey, TooManyKeys}
 use Rattle.wap_status.specs.Statuses.{IsOrWants}
 use Rattle.wap_browse.specs.Outside.{Outside}
-use Rattle.wap_browse.specs.Handling.{IsPlayed}
+use Rattle.wap_browse.specs.Plays.{Play, ArePagesOf}
+use Rattle.wap_browse.specs.Handling.{bytes_of, IsPlayed}
 use Rattle.wap_browse.specs.Stopping.{StopsAtStore, StopsAtSink, StopsForMemory}
 use Rattle.wap_browse.specs.Endings.{at_end, ended}
 
@@ -33,64 +32,65 @@ pub record NothingFails (old new : Outside) : Type 0 where
   pub source : ¬ Rose old.source.faults new.source.faults
   pub sink : ¬ Rose old.sink.faults new.sink.faults
 
--- what was written over this site, where of these bytes of keys these keys were given
-pub record Shows (site : Site) (begun : Begun) (bytes : List ℕ) (given : List Key)
-    (old new : Outside) (status : Status) : Type 0 where
-  -- with any status no more than a prefix of the transcript over all keys
+-- what was written where keys come to this, and of these bytes of keys these keys were given
+pub record Shows (play : List Key → Step) (bytes : List ℕ) (given : List Key) (old new : Outside)
+    (status : Status) : Type 0 where
+  -- with any status no more than a prefix of the lines of all keys
   pub prefix : AppendsPrefix old.sink.written new.sink.written
-      (transcript site begun (keys_of bytes).keys)
-  -- the transcript over the keys that were given, where the keys came to an end
+      (bytes_of (play (keys_of bytes).keys))
+  -- the lines of the keys that were given, where the keys came to an end
   pub played : (is_open : Bool) (ending : Ending) → status ≡ ended is_open ending
-      → IsPlayed site begun given old new
+      → IsPlayed play given old new
   -- at their end it is Done outside a dialog, and OpenDialog in one
   pub open_so : (is_open : Bool) → status ≡ at_end is_open
-      → (session site begun given).is_open ≡ is_open
+      → (play given).is_open ≡ is_open
   -- the lines of the first of these, whole keys only, but where the sink failed
-  pub store_fault : status ≡ StoreFault → StopsAtStore site begun given old new
-  pub write_fault : status ≡ WriteFault → StopsAtSink site begun given old new
-  pub no_memory : status ≡ NoMemory → StopsForMemory site begun given old new
+  pub store_fault : status ≡ StoreFault → StopsAtStore play given old new
+  pub write_fault : status ≡ WriteFault → StopsAtSink play given old new
+  pub no_memory : status ≡ NoMemory → StopsForMemory play given old new
   -- where nothing failed, the status is that of the end of all keys, in a dialog or outside, or
   -- memory ran out
   pub complete : NothingFails old new → IsOrWants
-      (ended (session site begun (keys_of bytes).keys).is_open (keys_of bytes).ending) status
+      (ended (play (keys_of bytes).keys).is_open (keys_of bytes).ending) status
 
 -- what a source with these bytes gave, and how it ended by them
-pub record Reads (begun : Begun) (bytes : List ℕ) (old new : Outside) (status : Status) : Type 0
-  where
-    -- of the bytes these were taken, and these are left
-    pub taken : List ℕ
-    pub rest : List ℕ
-    pub split : bytes ≡ taken ++ rest
-    pub left_is : new.source.left ≡ Some rest
-    -- one after the other these keys were given, the first that the whole lines among them say
-    pub given : List Key
-    pub first : AreFirst given (keys_among (rose old.source.ends new.source.ends) taken)
-    -- with any status, no piece was taken once the last of them was there, or a line that is no key
-    -- line, were it only begun and too long already
-    pub prompt : IsPrompt taken given
-    -- these statuses come only where the bytes end so: with Done and OpenDialog all were taken; a
-    -- line is no key line; there is one past the limit, and no more were taken; or more were to
-    -- come
-    pub done : (is_open : Bool) → status ≡ at_end is_open
-        → (rest ≡ []) × (keys_of bytes ≡ record { keys = given; ending = ending.End })
-    pub bad_key : (line : ℕ) (fault : KeyFault) → status ≡ BadKey line fault
-        → keys_of bytes ≡ record { keys = given; ending = ending.BadKey line fault }
-    pub too_many_keys : status ≡ TooManyKeys
-        → (length taken ≡ KEYS_LIMIT + 1)
-        × (keys_of bytes ≡ record { keys = given; ending = ending.TooManyKeys })
-    pub read_fault : status ≡ KeyReadFault
-        → keys_at ending.ReadFault taken ≡ record { keys = given; ending = ending.ReadFault }
-    -- and where nothing failed, they have to come, or memory ran out
-    pub complete : NothingFails old new
-        → (is_open : Bool) × IsOrWants (ended is_open (keys_of bytes).ending) status
-    -- what was written, where the pages are known
-    pub shows : IfSome old.pages.contents
-        (λ judged. Shows (site_of (unit_pages judged)) begun bytes given old new status)
+pub record Reads {P : Type 0} (Are : P → Type 0) (play : P → List Key → Step) (bytes : List ℕ)
+    (old new : Outside) (status : Status) : Type 0 where
+  -- of the bytes these were taken, and these are left
+  pub taken : List ℕ
+  pub rest : List ℕ
+  pub split : bytes ≡ taken ++ rest
+  pub left_is : new.source.left ≡ Some rest
+  -- one after the other these keys were given, the first that the whole lines among them say
+  pub given : List Key
+  pub first : AreFirst given (keys_among (rose old.source.ends new.source.ends) taken)
+  -- with any status, no piece was taken once the last of them was there, or a line that is no key
+  -- line, were it only begun and too long already
+  pub prompt : IsPrompt taken given
+  -- these statuses come only where the bytes end so: with Done and OpenDialog all were taken; a
+  -- line is no key line; there is one past the limit, and no more were taken; or more were to
+  -- come
+  pub done : (is_open : Bool) → status ≡ at_end is_open
+      → (rest ≡ []) × (keys_of bytes ≡ record { keys = given; ending = ending.End })
+  pub bad_key : (line : ℕ) (fault : KeyFault) → status ≡ BadKey line fault
+      → keys_of bytes ≡ record { keys = given; ending = ending.BadKey line fault }
+  pub too_many_keys : status ≡ TooManyKeys
+      → (length taken ≡ KEYS_LIMIT + 1)
+      × (keys_of bytes ≡ record { keys = given; ending = ending.TooManyKeys })
+  pub read_fault : status ≡ KeyReadFault
+      → keys_at ending.ReadFault taken ≡ record { keys = given; ending = ending.ReadFault }
+  -- and where nothing failed, they have to come, or memory ran out
+  pub complete : NothingFails old new
+      → (is_open : Bool) × IsOrWants (ended is_open (keys_of bytes).ending) status
+  -- what was written over these pages
+  pub shows : (pages : P) → Are pages → Shows (play pages) bytes given old new status
 
--- a session that is begun so, from the outside before to the outside after, and its status
-pub record Browses (begun : Begun) (old new : Outside) (status : Status) : Type 0 where
+-- keys that come to this over these pages are read and played, from the outside before to the
+-- outside after, and the status
+pub record Browses {P : Type 0} (Are : P → Type 0) (play : P → List Key → Step)
+    (old new : Outside) (status : Status) : Type 0 where
   -- what was read and written, where the bytes of keys are known
-  pub known : IfSome old.source.left (λ bytes. Reads begun bytes old new status)
+  pub known : IfSome old.source.left (λ bytes. Reads Are play bytes old new status)
   -- these statuses come only where a count of faults rose
   pub store_fault : status ≡ StoreFault → Rose old.pages.faults new.pages.faults
   pub read_fault : status ≡ KeyReadFault → Rose old.source.faults new.source.faults
@@ -112,3 +112,7 @@ pub record Browses (begun : Begun) (old new : Outside) (status : Status) : Type 
   -- no more bytes of keys are taken than one too many, and the source gives its end once at most
   pub few : TakesAtMost (KEYS_LIMIT + 1) old.source new.source
   pub end_once : AtMostOnce old.source.ends new.source.ends
+
+-- the same over the pages that are seen
+abbrev pub BrowsesSeen : Play → Outside → Outside → Status → Type 0
+BrowsesSeen play old new status = Browses (ArePagesOf old.pages) play old new status

@@ -1,7 +1,10 @@
 pub mod Headline
 pub mod Outside
 pub mod Beginning
+pub mod Plays
 pub mod Handling
+pub mod Standing
 pub mod Stopping
 pub mod Endings
+pub mod Resting
 pub mod inside

@@ -1,21 +1,49 @@
 //! Browsing.
+ghost use Rattle.std.specs.Prelude.{◌≡◌};
 ghost use Rattle.wap_base.specs.Limits.{AreInRange};
-ghost use Rattle.wap_browse.specs.Headline.{Browses};
+ghost use Rattle.wap_browse.specs.Headline.{BrowsesSeen};
+ghost use Rattle.wap_browse.specs.Resting.{Rests};
 ghost use Rattle.wap_browse.specs.Beginning.{begun_with};
+ghost use Rattle.wap_browse.specs.Plays.{opened};
 
 use crate::Beginning;
-use crate::ending::status_of;
-use crate::playing::play;
+use crate::playing::play_read;
+use crate::reading::play_keys;
 use std::alloc::Global;
-use wap_base::NoMemory;
 use wap_devices::{Sink, Source};
-use wap_keys::{Next, Reader};
 use wap_session::{Key, Session};
 use wap_site::Pages;
 use wap_status::Status;
 
 /// Opens the URL, and then plays key after key: in a dialog they answer it. The lines of each are
-/// written before the next is read.
+/// written before the next is read. Gives the session back as it is then.
+pub fn browse_session<P: Pages, I: Source, O: Sink>(
+    alloc: Global,
+    begun: Beginning,
+    pages: &mut P,
+    keys: &mut I,
+    out: &mut O,
+) -> (Status, Session)
+    requires limits { AreInRange begun.limits }
+    ensures browses { BrowsesSeen (opened (begun_with begun))
+        (record { pages = P.seen pages.old; source = I.seen keys.old; sink = O.seen out.old })
+        (record { pages = P.seen pages.new; source = I.seen keys.new; sink = O.seen out.new })
+        result.0 }
+    ensures rests { result.0 ≡ Status.Done → Rests (opened (begun_with begun))
+        (record { pages = P.seen pages.old; source = I.seen keys.old; sink = O.seen out.old })
+        result.1 }
+{
+    let mut session = Session::new(alloc, begun.seed, begun.budget, begun.limits);
+    let first = Key::Open(begun.url);
+    let mut buffer = Vec::new(alloc);
+    if let Err(status) = play_read(alloc, &mut session, first, pages, out, &mut buffer) {
+        return (status, session);
+    }
+    let status = play_keys(alloc, &mut session, pages, keys, out);
+    (status, session)
+}
+
+/// Opens the URL, and then plays key after key, as `browse_session` does.
 pub fn browse<P: Pages, I: Source, O: Sink>(
     alloc: Global,
     begun: Beginning,
@@ -24,23 +52,10 @@ pub fn browse<P: Pages, I: Source, O: Sink>(
     out: &mut O,
 ) -> Status
     requires limits { AreInRange begun.limits }
-    ensures { Browses (begun_with begun)
+    ensures { BrowsesSeen (opened (begun_with begun))
         (record { pages = P.seen pages.old; source = I.seen keys.old; sink = O.seen out.old })
         (record { pages = P.seen pages.new; source = I.seen keys.new; sink = O.seen out.new })
         result }
 {
-    let mut session = Session::new(alloc, begun.seed, begun.budget, begun.limits);
-    let mut reader = Reader::new(alloc);
-    let mut buffer = Vec::new(alloc);
-    let mut key = Key::Open(begun.url);
-    loop {
-        if let Err(status) = play(alloc, &mut session, &key, pages, out, &mut buffer) {
-            return status;
-        }
-        key = match reader.next(alloc, keys) {
-            Ok(Next::Key(key)) => key,
-            Ok(Next::Ended(ending)) => return status_of(session.in_dialog(), ending),
-            Err(NoMemory) => return Status::NoMemory,
-        };
-    }
+    browse_session(alloc, begun, pages, keys, out).0
 }

@@ -6,6 +6,8 @@ mod browsing;
 mod ending;
 mod lines;
 mod playing;
+mod reading;
 
 pub use beginning::Beginning;
-pub use browsing::browse;
+pub use browsing::{browse, browse_session};
+pub use reading::play_keys;

@@ -39,3 +39,21 @@ pub(crate) fn play<P: Pages, O: Sink>(
         Err(Failed) => Err(Status::WriteFault),
     }
 }
+
+/// Plays a key that was read, and that nothing needs afterwards.
+pub(crate) fn play_read<P: Pages, O: Sink>(
+    alloc: Global,
+    session: &mut Session,
+    key: Key,
+    pages: &mut P,
+    out: &mut O,
+    buffer: &mut Vec<u8>,
+) -> Result<(), Status>
+    requires { session.old.is_over ≡ false }
+    ensures { Plays key
+        (record { pages = P.seen pages.old; state = session.old; sink = O.seen out.old })
+        (record { pages = P.seen pages.new; state = session.new; sink = O.seen out.new })
+        result }
+{
+    play(alloc, session, &key, pages, out, buffer)
+}

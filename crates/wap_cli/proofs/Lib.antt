@@ -1,3 +1,3 @@
 pub mod Answering
-pub mod Forgetting
 pub mod Serving
+pub mod Sourcing

@@ -14,6 +14,7 @@ use Rattle.wap_devices.specs.Stores.{StoreSeen, Fetches}
 use Rattle.wap_devices.specs.Contents.{answer_of, answer_for}
 use Rattle.wap_devices.specs.declared.store.Fetched.{Fetched}
 use Rattle.wap_devices.specs.declared.store.StoreErr.TheVariants as store_error
+use Rattle.wap_browse.specs.Plays.{opened}
 use Rattle.wap_browse.proofs.Exits.{nothing_browses}
 use Rattle.wap_browse.proofs.Summary.{browses_by}
 use Rattle.wap_prepare.proofs.Ending.{nothing_prepared}
@@ -21,6 +22,7 @@ use Rattle.wap_made.proofs.Ending.{nothing_made}
 use Rattle.wap_cli.specs.Answers.{IsPageOf, IsOfPage, Answers, page_of}
 use Rattle.wap_cli.specs.Devices.{Devices, browsed}
 use Rattle.wap_cli.specs.Headline.{begun_by, IsAnswer, Serves, ServesUnread, Runs}
+use Rattle.wap_cli.proofs.Sourcing.{browses_over}
 
 pub nothing_answered : (command : PageCommand) (page : Option (List ℕ)) (sink : SinkSeen)
     → Answers command page sink sink NoMemory
@@ -77,8 +79,9 @@ nothing_served command name old = record {
 pub nothing_runs : (said : Option Command) (old : Devices) → Runs said old old NoMemory
 nothing_runs None old = record { ends = inr refl; untouched = refl }
 nothing_runs (Some (Browse one)) old =
-    browses_by (begun_by one) (browsed one.cache old) (browsed one.cache old) NoMemory
-    (nothing_browses (begun_by one) (browsed one.cache old))
+    browses_over (begun_by one) one.cache old old NoMemory
+    (browses_by (opened (begun_by one)) (browsed one.cache old) (browsed one.cache old) NoMemory
+    (nothing_browses (opened (begun_by one)) (browsed one.cache old)))
 nothing_runs (Some (Page command name)) old = nothing_served command name old
 nothing_runs (Some (Prepare workers)) old =
     record { prepares = nothing_prepared old.store old.sink; unread = refl }

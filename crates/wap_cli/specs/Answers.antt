@@ -1,4 +1,4 @@
--- What a command on one page comes to: verify, list, check and canon. This project's own.
+-- What a command on one page comes to: verify, list, check, canon and compile. This project's own.
 use Rattle.std.specs.Prelude.{◌≡◌, ◌≢◌, ◌≤◌, ℕ, List, Option, Some, None, IfSome, Result, Ok}
 use Rattle.std.specs.Prelude.{Err}
 use Rattle.wap_devices.specs.declared.store.Fetched.{Fetched}
@@ -15,7 +15,9 @@ use Rattle.wap_pages.specs.declared.fault.PageFault.{PageFault}
 use Rattle.wap_pages.specs.declared.fault.PageFault.TheVariants.{Missing}
 use Rattle.wap_inspect.specs.Units.{IsVerifyLine, IsListing}
 use Rattle.wap_inspect.specs.Documents.{IsCanonical, IsCheckLine}
+use Rattle.wap_inspect.specs.Sources.{IsCompiled}
 use Rattle.wap_pages.specs.Refusals.{RefusesUnit, RefusesVerify, RefusesDocument, RefusesCheck}
+use Rattle.wap_pages.specs.Refusals.{RefusesSource}
 use Rattle.wap_status.specs.declared.status.Status.{Status}
 use Rattle.wap_status.specs.declared.status.Status.TheVariants.{Done, Usage, Refused, StoreFault}
 use Rattle.wap_status.specs.declared.status.Status.TheVariants.{KeyReadFault, WriteFault, NoMemory}
@@ -27,6 +29,7 @@ IsText command.Verify bytes text = IsVerifyLine bytes text
 IsText command.List bytes text = IsListing bytes text
 IsText command.Check bytes text = IsCheckLine bytes text
 IsText command.Canon bytes text = IsCanonical bytes text
+IsText command.Compile bytes text = IsCompiled bytes text
 
 -- why it refuses such a page
 abbrev pub IsReason : PageCommand → List ℕ → PageFault → Type 0
@@ -34,6 +37,7 @@ IsReason command.Verify bytes fault = RefusesVerify bytes fault
 IsReason command.List bytes fault = RefusesUnit bytes fault
 IsReason command.Check bytes fault = RefusesCheck bytes fault
 IsReason command.Canon bytes fault = RefusesDocument bytes fault
+IsReason command.Compile bytes fault = RefusesSource bytes fault
 
 -- the same, where the page may be missing
 abbrev pub IsTextOf : PageCommand → Option (List ℕ) → List ℕ → Type 0

@@ -13,9 +13,9 @@ use Rattle.wap_status.specs.declared.status.Status.{Status}
 use Rattle.wap_status.specs.declared.status.Status.TheVariants.{Done, Usage, Refused, StoreFault}
 use Rattle.wap_status.specs.declared.status.Status.TheVariants.{WriteFault, NoMemory}
 use Rattle.wap_status.specs.Statuses.{IsOrWants}
-use Rattle.wap_browse.specs.Headline.{Browses}
 use Rattle.wap_cli.specs.Answers.{IsOfPage, IsPageOf, Answers}
-use Rattle.wap_cli.specs.Devices.{Devices, browsed}
+use Rattle.wap_cli.specs.Browsing.{BrowsesOver}
+use Rattle.wap_cli.specs.Devices.{Devices}
 use Rattle.wap_cli.specs.Folders.{PreparesUnread, MakesAlone}
 
 -- what a command browses
@@ -74,7 +74,7 @@ pub record Misused (old new : Devices) (status : Status) : Type 0 where
 -- its status; it is the same by however many workers a folder is prepared
 abbrev pub Runs : Option Command → Devices → Devices → Status → Type 0
 Runs (Some (Browse one)) old new status =
-    Browses (begun_by one) (browsed one.cache old) (browsed one.cache new) status
+    BrowsesOver (begun_by one) one.cache old new status
 Runs (Some (Page command name)) old new status = ServesUnread command name old new status
 Runs (Some (Prepare workers)) old new status = PreparesUnread old new status
 Runs (Some (Make n)) old new status = MakesAlone n old new status

@@ -1,4 +1,5 @@
 pub mod Headline
+pub mod Browsing
 pub mod Devices
 pub mod Answers
 pub mod Folders

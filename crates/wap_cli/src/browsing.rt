@@ -1,9 +1,8 @@
 //! Browsing over a store.
 ghost use Rattle.std.specs.Prelude.{◌≤◌};
 ghost use Rattle.wap_base.specs.Limits.{AreInRange};
-ghost use Rattle.wap_browse.specs.Headline.{Browses};
 ghost use Rattle.wap_pages.specs.declared.cached.TheConstants.{LEAST_CAPACITY, MOST_CAPACITY};
-ghost use Rattle.wap_cli.specs.Devices.{browsed};
+ghost use Rattle.wap_cli.specs.Browsing.{BrowsesOver};
 ghost use Rattle.wap_cli.specs.Headline.{begun_by};
 
 use crate::Status;
@@ -25,17 +24,9 @@ pub(crate) fn browse<S: Store, I: Source, O: Sink>(
     requires some { LEAST_CAPACITY ≤ begun.cache }
     requires few { begun.cache ≤ MOST_CAPACITY }
     requires limits { AreInRange begun.limits }
-    ensures { Browses (begun_by begun)
-        (browsed begun.cache (record {
-          store = S.seen store;
-          source = I.seen keys.old;
-          sink = O.seen out.old;
-        }))
-        (browsed begun.cache (record {
-          store = S.seen result.1;
-          source = I.seen keys.new;
-          sink = O.seen out.new;
-        }))
+    ensures { BrowsesOver (begun_by begun) begun.cache
+        (record { store = S.seen store; source = I.seen keys.old; sink = O.seen out.old })
+        (record { store = S.seen result.1; source = I.seen keys.new; sink = O.seen out.new })
         result.0 }
 {
     let mut pages = match Cached::new(alloc, store, begun.cache as usize) {

@@ -10,7 +10,9 @@ use std::alloc::Global;
 use wap_base::Text;
 use wap_devices::{Failed, Fetched, Sink, Store, StoreErr, write_all};
 use wap_dis::listing;
-use wap_inspect::{PageErr, PageFault, canonical, check_line, unit_in, verify_line};
+use wap_inspect::{
+    PageErr, PageFault, canonical, check_line, compiled_bytes, unit_in, verify_line,
+};
 use wap_words::PageCommand;
 
 /// How a command ends that writes nothing.
@@ -81,6 +83,18 @@ fn check<O: Sink>(alloc: Global, bytes: &[u8], out: &mut O) -> Status
     }
 }
 
+/// Writes the unit that a source is compiled to.
+fn compile<O: Sink>(alloc: Global, bytes: &[u8], out: &mut O) -> Status
+    requires { length bytes.now < 2 ^ 31 }
+    ensures { Answers PageCommand.Compile (Some bytes.now) (O.seen out.old) (O.seen out.new)
+        result }
+{
+    match compiled_bytes(alloc, bytes) {
+        Ok(unit) => written_so(write_all(out, unit.as_slice())),
+        Err(error) => refused_by(error),
+    }
+}
+
 /// Does a command on a page with these bytes.
 fn answer_bytes<O: Sink>(alloc: Global, command: PageCommand, bytes: &[u8], out: &mut O) -> Status
     requires { length bytes.now < 2 ^ 31 }
@@ -92,6 +106,7 @@ fn answer_bytes<O: Sink>(alloc: Global, command: PageCommand, bytes: &[u8], out:
         PageCommand::List => list(alloc, bytes, out),
         PageCommand::Check => check(alloc, bytes, out),
         PageCommand::Canon => canon(alloc, bytes, out),
+        PageCommand::Compile => compile(alloc, bytes, out),
     }
 }
 

@@ -2,8 +2,10 @@
 #![tactic(auto)]
 
 mod documents;
+mod sources;
 mod units;
 
 pub use documents::{canonical, check_line};
+pub use sources::compiled_bytes;
 pub use units::verify_line;
 pub use wap_pages::{PageErr, PageFault, unit_in};

@@ -18,7 +18,7 @@ pub(crate) enum Word {
 }
 
 /// The word of each command.
-pub(crate) static WORDS: [(&str, Word); 7] = [
+pub(crate) static WORDS: [(&str, Word); 8] = [
     ("browse", Word::Browse),
     ("verify", Word::Page(PageCommand::Verify)),
     ("list", Word::Page(PageCommand::List)),
@@ -26,6 +26,7 @@ pub(crate) static WORDS: [(&str, Word); 7] = [
     ("canon", Word::Page(PageCommand::Canon)),
     ("prepare", Word::Prepare),
     ("make", Word::Make),
+    ("compile", Word::Page(PageCommand::Compile)),
 ];
 
 /// The word beside a name.

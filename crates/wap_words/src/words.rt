@@ -36,6 +36,8 @@ pub enum PageCommand {
     Check,
     /// It is read as a document, and written again.
     Canon,
+    /// It is read as a source, and the unit that it is compiled to is written.
+    Compile,
 }
 
 /// A command, with its values.

@@ -9,17 +9,16 @@ use Rattle.wap_keys.specs.declared.fault.KeyFault.TheVariants as key
 use Rattle.wap_keys.specs.declared.ending.Ending.TheVariants as ending
 use Rattle.wap_keys.specs.Lines.{keys_of, keys_at}
 use Rattle.wap_keys.specs.Read.{AreFirst, keys_among, rose, IsPrompt, TakesAtMost, AtMostOnce}
-use Rattle.wap_world.specs.Sites.{Site}
 use Rattle.wap_site.specs.Asking.{Stays}
-use Rattle.wap_world.specs.Sessions.{Begun, session, transcript}
+use Rattle.wap_world.specs.Steps.{Step}
 use Rattle.wap_scripting.specs.UnitSites.{unit_pages}
-use Rattle.wap_context.specs.Sites.{site_of}
 use Rattle.wap_status.specs.declared.status.Status.{Status}
 use Rattle.wap_status.specs.declared.status.Status.TheVariants.{Done, Usage, Refused, StoreFault}
 use Rattle.wap_status.specs.declared.status.Status.TheVariants.{KeyReadFault, WriteFault, NoMemory}
 use Rattle.wap_status.specs.declared.status.Status.TheVariants.{BadKey, OpenDialog, TooManyKeys}
 use Rattle.wap_browse.specs.Outside.{Outside}
-use Rattle.wap_browse.specs.Handling.{IsPlayed}
+use Rattle.wap_browse.specs.Plays.{Play}
+use Rattle.wap_browse.specs.Handling.{bytes_of, IsPlayed}
 use Rattle.wap_browse.specs.Stopping.{StopsAtStore, StopsAtSink, StopsForMemory}
 
 -- the bytes end so
@@ -42,17 +41,17 @@ EndsSo TooManyKeys bytes taken rest given =
     × (keys_of bytes ≡ record { keys = given; ending = ending.TooManyKeys })
 
 -- so much was written
-abbrev pub ShowsTo : Status → Site → Begun → List Key → Outside → Outside → Type 0
-ShowsTo Done site begun given old new = IsPlayed site begun given old new
-ShowsTo Usage site begun given old new = ⊥
-ShowsTo (Refused fault) site begun given old new = ⊥
-ShowsTo StoreFault site begun given old new = StopsAtStore site begun given old new
-ShowsTo KeyReadFault site begun given old new = IsPlayed site begun given old new
-ShowsTo WriteFault site begun given old new = StopsAtSink site begun given old new
-ShowsTo NoMemory site begun given old new = StopsForMemory site begun given old new
-ShowsTo (BadKey line fault) site begun given old new = IsPlayed site begun given old new
-ShowsTo OpenDialog site begun given old new = IsPlayed site begun given old new
-ShowsTo TooManyKeys site begun given old new = IsPlayed site begun given old new
+abbrev pub ShowsTo : Status → (List Key → Step) → List Key → Outside → Outside → Type 0
+ShowsTo Done play given old new = IsPlayed play given old new
+ShowsTo Usage play given old new = ⊥
+ShowsTo (Refused fault) play given old new = ⊥
+ShowsTo StoreFault play given old new = StopsAtStore play given old new
+ShowsTo KeyReadFault play given old new = IsPlayed play given old new
+ShowsTo WriteFault play given old new = StopsAtSink play given old new
+ShowsTo NoMemory play given old new = StopsForMemory play given old new
+ShowsTo (BadKey line fault) play given old new = IsPlayed play given old new
+ShowsTo OpenDialog play given old new = IsPlayed play given old new
+ShowsTo TooManyKeys play given old new = IsPlayed play given old new
 
 -- whether a dialog is open is as the status says
 abbrev pub EndsAt : Status → Bool → Type 0
@@ -67,16 +66,16 @@ EndsAt (BadKey line fault) is_open = Unit {0}
 EndsAt OpenDialog is_open = is_open ≡ true
 EndsAt TooManyKeys is_open = Unit {0}
 
--- what was written over this site
-pub record Written (status : Status) (site : Site) (begun : Begun) (bytes : List ℕ)
-    (given : List Key) (old new : Outside) : Type 0 where
+-- what was written where keys come to this
+pub record Written (status : Status) (play : List Key → Step) (bytes : List ℕ) (given : List Key)
+    (old new : Outside) : Type 0 where
   pub prefix : AppendsPrefix old.sink.written new.sink.written
-      (transcript site begun (keys_of bytes).keys)
-  pub shows : ShowsTo status site begun given old new
-  pub opens : EndsAt status (session site begun given).is_open
+      (bytes_of (play (keys_of bytes).keys))
+  pub shows : ShowsTo status play given old new
+  pub opens : EndsAt status (play given).is_open
 
 -- what a source with these bytes gave
-pub record Comes (begun : Begun) (bytes : List ℕ) (old new : Outside) (status : Status) : Type 0
+pub record Gives (play : Play) (bytes : List ℕ) (old new : Outside) (status : Status) : Type 0
   where
     pub taken : List ℕ
     pub rest : List ℕ
@@ -87,7 +86,7 @@ pub record Comes (begun : Begun) (bytes : List ℕ) (old new : Outside) (status 
     pub prompt : IsPrompt taken given
     pub ends : EndsSo status bytes taken rest given
     pub written : IfSome old.pages.contents
-        (λ judged. Written status (site_of (unit_pages judged)) begun bytes given old new)
+        (λ judged. Written status (play (unit_pages judged)) bytes given old new)
 
 -- out of memory is no fault of a line
 abbrev pub IsOfLine : Status → Type 0
@@ -145,8 +144,8 @@ WriteMoves TooManyKeys before after = after ≡ before
 
 -- ---- all together
 
-pub record BrowsesTo (begun : Begun) (old new : Outside) (status : Status) : Type 0 where
-  pub known : IfSome old.source.left (λ bytes. Comes begun bytes old new status)
+pub record BrowsesTo (play : Play) (old new : Outside) (status : Status) : Type 0 where
+  pub known : IfSome old.source.left (λ bytes. Gives play bytes old new status)
   pub store : StoreMoves status old.pages.faults new.pages.faults
   pub read : ReadMoves status old.source.faults new.source.faults
   pub write : WriteMoves status old.sink.faults new.sink.faults

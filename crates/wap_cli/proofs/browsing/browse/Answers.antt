@@ -1,23 +1,29 @@
 use Rattle.std.proofs.Common.{sym, subst}
 use Rattle.wap_status.specs.declared.status.Status.TheVariants.{NoMemory}
-use Rattle.wap_browse.specs.Headline.{Browses}
+use Rattle.wap_browse.specs.Plays.{ArePagesOf, opened}
 use Rattle.wap_browse.proofs.Exits.{nothing_browses}
 use Rattle.wap_browse.proofs.Summary.{browses_by}
-use Rattle.wap_cli.specs.Devices.{browsed}
+use Rattle.wap_browse.proofs.Forgetting.{browsed_over, outside_over}
+use Rattle.wap_cli.specs.Browsing.{BrowsesOver}
+use Rattle.wap_cli.specs.Devices.{Devices, browsed}
 use Rattle.wap_cli.specs.Headline.{begun_by}
-use Rattle.wap_cli.proofs.Forgetting.{devices_of, browsed_over}
+use Rattle.wap_cli.proofs.Sourcing.{browses_over, fresh_pages}
 use Rattle.wap_cli.proofs.browsing.browse.Goals as goal
 
 pub returns-in-Err : goal.returns-in-Err
 returns-in-Err g c =
     let source = g.I.Source.seen c.args.keys.now in
     let sink = g.O.Sink.seen c.args.out.now in
-    let old = browsed c.args.begun.cache (devices_of g.S.Store.seen c.args.store source sink) in
-    subst (λ store. Browses (begun_by c.args.begun) old
-    (browsed c.args.begun.cache (devices_of g.S.Store.seen store source sink)) NoMemory)
+    let capacity = c.args.begun.cache in
+    let begun = begun_by c.args.begun in
+    let devices : Devices =
+    record { store = g.S.Store.seen c.args.store; source = source; sink = sink } in
+    subst (λ store. BrowsesOver begun capacity devices
+    (record { store = g.S.Store.seen store; source = source; sink = sink }) NoMemory)
     (sym c.in-Err.ensures.back)
-    (browses_by (begun_by c.args.begun) old old NoMemory
-    (nothing_browses (begun_by c.args.begun) old))
+    (browses_over begun capacity devices devices NoMemory
+    (browses_by (opened begun) (browsed capacity devices) (browsed capacity devices) NoMemory
+    (nothing_browses (opened begun) (browsed capacity devices))))
 
 pub returns : goal.returns
 returns g c =
@@ -28,7 +34,19 @@ returns g c =
     let source_after = g.I.Source.seen played.keys in
     let sink = g.O.Sink.seen c.args.out.now in
     let sink_after = g.O.Sink.seen played.out in
-    browsed_over g.S.Store.seen (begun_by begun) c.in-Ok.pages played.pages c.args.store
-    c.into_store.result begun.cache source source_after sink sink_after status
-    c.in-Ok.ensures.store c.in-Ok.ensures.kept c.in-Ok.ensures.capacity c.into_store.ensures
-    c.browse-status.ensures
+    let old : Devices =
+    record { store = g.S.Store.seen c.args.store; source = source; sink = sink } in
+    let new : Devices = record {
+      store = g.S.Store.seen c.into_store.result;
+      source = source_after;
+      sink = sink_after;
+    } in
+    browses_over (begun_by begun) begun.cache old new status
+    (browsed_over g.S.Store.seen (ArePagesOf (browsed begun.cache old).pages)
+    (opened (begun_by begun)) c.in-Ok.pages played.pages c.args.store c.into_store.result begun.cache
+    source source_after sink sink_after status c.in-Ok.ensures.store c.in-Ok.ensures.kept
+    c.in-Ok.ensures.capacity c.into_store.ensures
+    (fresh_pages g.S.Store.seen (opened (begun_by begun)) c.in-Ok.pages c.args.store begun.cache
+    (outside_over g.S.Store.seen c.in-Ok.pages source sink)
+    (outside_over g.S.Store.seen played.pages source_after sink_after) status
+    c.in-Ok.ensures.store c.in-Ok.ensures.kept c.in-Ok.ensures.capacity c.browse-status.ensures))

@@ -6,10 +6,7 @@ use Rattle.wap_devices.specs.Sources.{SourceSeen}
 use Rattle.wap_devices.specs.Sinks.{SinkSeen}
 use Rattle.wap_input.specs.declared.key.Key.{Key}
 use Rattle.wap_site.specs.Misses.{Cache}
-use Rattle.wap_world.specs.Sites.{Site}
-use Rattle.wap_world.specs.Sessions.{Begun}
-use Rattle.wap_scripting.specs.UnitSites.{unit_pages}
-use Rattle.wap_context.specs.Sites.{site_of}
+use Rattle.wap_world.specs.Steps.{Step}
 use Rattle.wap_status.specs.declared.status.Status.{Status}
 use Rattle.wap_pages.specs.Caches.{CachedPages, cache_of, seen_over}
 use Rattle.wap_browse.specs.Outside.{Outside}
@@ -17,32 +14,32 @@ use Rattle.wap_browse.specs.Handling.{IsPlayed}
 use Rattle.wap_browse.specs.Stopping.{StopsAtStore, StopsAtSink, StopsForMemory}
 use Rattle.wap_browse.specs.Headline.{NothingFails, Shows, Reads, Browses}
 use Rattle.wap_browse.proofs.Optional.{if_some, some_fact}
-use Rattle.wap_cli.specs.Devices.{Devices, browsed}
 
 -- the outside, with another cache
 abbrev pub with_cache : Option Cache → Outside → Outside
 with_cache cache new = record new { pages = record new.pages { cache = cache } }
 
-module _ (begun : Begun) (old new : Outside) (status : Status) (cache : Option Cache) where
+module _ {P : Type 0} (Are : P → Type 0) (play : P → List Key → Step)
+    (old new : Outside) (status : Status) (cache : Option Cache) where
   -- a session that was played to its end
-  played : (site : Site) (given : List Key) → IsPlayed site begun given old new
-      → IsPlayed site begun given old (with_cache cache new)
-  played site given so = record { wrote = so.wrote; asked = so.asked }
+  played : (of : List Key → Step) (given : List Key) → IsPlayed of given old new
+      → IsPlayed of given old (with_cache cache new)
+  played of given so = record { wrote = so.wrote; asked = so.asked }
 
   -- one that the store stopped
-  at_store : (site : Site) (given : List Key) → StopsAtStore site begun given old new
-      → StopsAtStore site begun given old (with_cache cache new)
-  at_store site given so = record { wrote = so.wrote; asked = so.asked }
+  at_store : (of : List Key → Step) (given : List Key) → StopsAtStore of given old new
+      → StopsAtStore of given old (with_cache cache new)
+  at_store of given so = record { wrote = so.wrote; asked = so.asked }
 
   -- one that the sink stopped
-  at_sink : (site : Site) (given : List Key) → StopsAtSink site begun given old new
-      → StopsAtSink site begun given old (with_cache cache new)
-  at_sink site given so = record { wrote = so.wrote; asked = so.asked }
+  at_sink : (of : List Key → Step) (given : List Key) → StopsAtSink of given old new
+      → StopsAtSink of given old (with_cache cache new)
+  at_sink of given so = record { wrote = so.wrote; asked = so.asked }
 
   -- one that memory stopped
-  for_memory : (site : Site) (given : List Key) → StopsForMemory site begun given old new
-      → StopsForMemory site begun given old (with_cache cache new)
-  for_memory site given so =
+  for_memory : (of : List Key → Step) (given : List Key) → StopsForMemory of given old new
+      → StopsForMemory of given old (with_cache cache new)
+  for_memory of given so =
       record { count = so.count; least = so.least; most = so.most; wrote = so.wrote }
 
   -- nothing failed
@@ -50,22 +47,22 @@ module _ (begun : Begun) (old new : Outside) (status : Status) (cache : Option C
   none_fails none = record { store = none.store; source = none.source; sink = none.sink }
 
   -- what was written
-  shows : (site : Site) (bytes : List ℕ) (given : List Key)
-      → Shows site begun bytes given old new status
-      → Shows site begun bytes given old (with_cache cache new) status
-  shows site bytes given so = record {
+  shows : (of : List Key → Step) (bytes : List ℕ) (given : List Key)
+      → Shows of bytes given old new status
+      → Shows of bytes given old (with_cache cache new) status
+  shows of bytes given so = record {
     prefix = so.prefix;
-    played = λ is_open ending is. played site given (so.played is_open ending is);
+    played = λ is_open ending is. played of given (so.played is_open ending is);
     open_so = so.open_so;
-    store_fault = λ is. at_store site given (so.store_fault is);
-    write_fault = λ is. at_sink site given (so.write_fault is);
-    no_memory = λ is. for_memory site given (so.no_memory is);
+    store_fault = λ is. at_store of given (so.store_fault is);
+    write_fault = λ is. at_sink of given (so.write_fault is);
+    no_memory = λ is. for_memory of given (so.no_memory is);
     complete = λ none. so.complete (none_fails none);
   }
 
   -- what was read
-  reads : (bytes : List ℕ) → Reads begun bytes old new status
-      → Reads begun bytes old (with_cache cache new) status
+  reads : (bytes : List ℕ) → Reads Are play bytes old new status
+      → Reads Are play bytes old (with_cache cache new) status
   reads bytes so = record {
     taken = so.taken;
     rest = so.rest;
@@ -79,25 +76,19 @@ module _ (begun : Begun) (old new : Outside) (status : Status) (cache : Option C
     too_many_keys = so.too_many_keys;
     read_fault = so.read_fault;
     complete = λ none. so.complete (none_fails none);
-    shows = if_some old.pages.contents
-        (λ judged. Shows (site_of (unit_pages judged)) begun bytes so.given old
-        (with_cache cache new) status)
-        (λ judged known. shows (site_of (unit_pages judged)) bytes so.given
-        (some_fact old.pages.contents
-        (λ p. Shows (site_of (unit_pages p)) begun bytes so.given old new status) judged known
-        so.shows));
+    shows = λ pages are. shows (play pages) bytes so.given (so.shows pages are);
   }
 
   -- but that its capacity is as before
   pub forget_cache
       : option_map (λ kept. kept.capacity) cache
       ≡ option_map (λ kept. kept.capacity) old.pages.cache
-      → Browses begun old new status → Browses begun old (with_cache cache new) status
+      → Browses Are play old new status → Browses Are play old (with_cache cache new) status
   forget_cache same so = record {
     known = if_some old.source.left
-        (λ bytes. Reads begun bytes old (with_cache cache new) status)
+        (λ bytes. Reads Are play bytes old (with_cache cache new) status)
         (λ bytes said. reads bytes
-        (some_fact old.source.left (λ b. Reads begun b old new status) bytes said so.known));
+        (some_fact old.source.left (λ b. Reads Are play b old new status) bytes said so.known));
     store_fault = so.store_fault;
     read_fault = so.read_fault;
     write_fault = so.write_fault;
@@ -123,6 +114,14 @@ module _ (begun : Begun) (old new : Outside) (status : Status) (cache : Option C
 
 -- ---- over the pages of a store
 
+-- the outside over a store, of whose pages none of so many is kept yet
+abbrev pub fresh_over : StoreSeen → ℕ → SourceSeen → SinkSeen → Outside
+fresh_over store capacity source sink = record {
+  pages = seen_over store (record { names = []; capacity = capacity });
+  source = source;
+  sink = sink;
+}
+
 module _ {S : Type 0} (seen : S → StoreSeen) where
   -- the outside of a browser over a cache
   abbrev pub outside_over : CachedPages S → SourceSeen → SinkSeen → Outside
@@ -132,28 +131,25 @@ module _ {S : Type 0} (seen : S → StoreSeen) where
     sink = sink;
   }
 
-  abbrev pub devices_of : S → SourceSeen → SinkSeen → Devices
-  devices_of store source sink = record { store = seen store; source = source; sink = sink }
-
   -- a cache that kept nothing at first
-  pub browsed_over : (begun : Begun) (first last : CachedPages S) (store back : S) (capacity : ℕ)
-      (source source_after : SourceSeen) (sink sink_after : SinkSeen) (status : Status)
+  pub browsed_over : {P : Type 0} (Are : P → Type 0) (play : P → List Key → Step)
+      (first last : CachedPages S) (store back : S) (capacity : ℕ) (source source_after : SourceSeen) (sink sink_after : SinkSeen) (status : Status)
       → first.store ≡ store → first.kept ≡ [] → first.capacity ≡ capacity → back ≡ last.store
-      → Browses begun (outside_over first source sink) (outside_over last source_after sink_after)
-      status
-      → Browses begun (browsed capacity (devices_of store source sink))
-      (browsed capacity (devices_of back source_after sink_after)) status
-  browsed_over begun first last store back capacity source source_after sink sink_after status of
+      → Browses Are play (outside_over first source sink)
+      (outside_over last source_after sink_after) status
+      → Browses Are play (fresh_over (seen store) capacity source sink)
+      (fresh_over (seen back) capacity source_after sink_after) status
+  browsed_over Are play first last store back capacity source source_after sink sink_after status of
       none many is so =
-      let before : Outside = browsed capacity (devices_of store source sink) in
+      let before : Outside = fresh_over (seen store) capacity source sink in
       let after : Outside = outside_over last source_after sink_after in
       let from : first ≡ record { store = store; kept = []; capacity = capacity } =
       λ i. record { store = of i; kept = none i; capacity = many i } in
-      let new : Browses begun before after status =
+      let new : Browses Are play before after status =
       subst (λ (cached : CachedPages S).
-      Browses begun (outside_over cached source sink) after status) from so in
-      subst (λ (s : S). Browses begun before
-      (browsed capacity (devices_of s source_after sink_after)) status) (sym is)
-      (forget_cache begun before after status
+      Browses Are play (outside_over cached source sink) after status) from so in
+      subst (λ (s : S). Browses Are play before
+      (fresh_over (seen s) capacity source_after sink_after) status) (sym is)
+      (forget_cache Are play before after status
       (Some (record { names = []; capacity = capacity })) refl
       new)

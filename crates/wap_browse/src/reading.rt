@@ -1,0 +1,51 @@
+//! Playing the keys of a source.
+ghost use Rattle.std.specs.Prelude.{◌≡◌, [], false};
+ghost use Rattle.wap_browse.specs.Headline.{BrowsesSeen};
+ghost use Rattle.wap_browse.specs.Resting.{Rests};
+ghost use Rattle.wap_browse.specs.Plays.{Play};
+ghost use Rattle.wap_browse.specs.Standing.{Moved, outside_of, Browsed};
+
+use crate::ending::status_of;
+use crate::playing::play_read;
+use std::alloc::Global;
+use wap_base::NoMemory;
+use wap_devices::{Sink, Source};
+use wap_keys::{Next, Reader};
+use wap_session::Session;
+use wap_site::Pages;
+use wap_status::Status;
+
+/// Plays key after key of a source in a session in which nothing failed: in a dialog they answer
+/// it. The lines of each are written before the next is read. Whatever led to here, keys come from
+/// there to what they come to.
+pub fn play_keys<P: Pages, I: Source, O: Sink>(
+    alloc: Global,
+    session: &mut Session,
+    pages: &mut P,
+    keys: &mut I,
+    out: &mut O,
+) -> Status
+    requires { session.old.is_over ≡ false }
+    ensures browses { (play : Play) (from : Moved) → Browsed play [] from
+        (record { pages = P.seen pages.old; sink = O.seen out.old }) session.old
+        → BrowsesSeen play (outside_of from (I.seen keys.old))
+        (record { pages = P.seen pages.new; source = I.seen keys.new; sink = O.seen out.new })
+        result }
+    ensures rests { (play : Play) (from : Moved) → Browsed play [] from
+        (record { pages = P.seen pages.old; sink = O.seen out.old }) session.old
+        → result ≡ Status.Done
+        → Rests play (outside_of from (I.seen keys.old)) session.new }
+{
+    let mut reader = Reader::new(alloc);
+    let mut buffer = Vec::new(alloc);
+    loop {
+        let key = match reader.next(alloc, keys) {
+            Ok(Next::Key(key)) => key,
+            Ok(Next::Ended(ending)) => return status_of(session.in_dialog(), ending),
+            Err(NoMemory) => return Status::NoMemory,
+        };
+        if let Err(status) = play_read(alloc, session, key, pages, out, &mut buffer) {
+            return status;
+        }
+    }
+}

@@ -1,0 +1,70 @@
+-- The headline: what browsing over a store comes to, where its pages are those that its contents
+-- are by the relations of bytes, and a source of a script means what its program means. This
+-- project's own.
+use Rattle.std.specs.Prelude.{◌≡◌, ℕ, Bool, false, List, Some, IfSome}
+use Rattle.wap_base.specs.Contents.{Contents}
+use Rattle.wap_devices.specs.Stores.{StoreSeen}
+use Rattle.wap_devices.specs.Transfer.{Appends}
+use Rattle.wap_input.specs.declared.key.Key.{Key}
+use Rattle.wap_keys.specs.Lines.{keys_of}
+use Rattle.wap_world.specs.Sites.{Site}
+use Rattle.wap_world.specs.Steps.{Step}
+use Rattle.wap_world.specs.Sessions.{Begun, session}
+use Rattle.wap_scripting.specs.Sources.{AllPages, site_of, compiled_pages}
+use Rattle.wap_exchange_laws.specs.Denial.{is_entered, DifferWithin}
+use Rattle.wap_source_sites.specs.Programs.{Accepted, programs, unit_of}
+use Rattle.wap_source_pages.specs.SourcePages.{ArePages}
+use Rattle.wap_context.specs.Sites.{fragment_call}
+use Rattle.wap_status.specs.declared.status.Status.{Status}
+use Rattle.wap_browse.specs.Endings.{at_end}
+use Rattle.wap_browse.specs.Handling.{bytes_of}
+use Rattle.wap_browse.specs.Headline.{Browses}
+use Rattle.wap_cli.specs.Devices.{Devices, browsed}
+
+-- ---- pages, and what keys come to over them
+
+-- the contents of a store are these pages, where they are known
+abbrev pub ArePagesOf : StoreSeen → AllPages Accepted → Type 0
+ArePagesOf store pages =
+    (contents : Contents) × (store.contents ≡ Some contents) × ArePages contents pages
+
+-- the site of these pages: a source comes to what its program means, and a unit to what its
+-- instructions mean
+abbrev pub site_over : AllPages Accepted → Site
+site_over pages = site_of programs fragment_call pages
+
+-- what keys come to where a session begins so: its URL is opened before they are played
+abbrev pub opened_over : Begun → AllPages Accepted → List Key → Step
+opened_over begun pages keys = session (site_over pages) begun keys
+
+-- ---- scripts to which nobody was let in
+
+-- other pages than these: what the rules see of all names is the same, and but for scripts under
+-- some names, of which each access test of a step was a denial, so are the pages
+pub record DifferWhereDenied (among : List ℕ → Bool) (pages other : AllPages Accepted)
+    (step : Step) : Type 0 where
+  pub differ : DifferWithin among (compiled_pages programs unit_of pages)
+      (compiled_pages programs unit_of other)
+  pub denied : is_entered among step.tests ≡ false
+
+-- what was written for these bytes of keys is what they come to over such pages
+abbrev pub WritesOver : Begun → Devices → Devices → List ℕ → Type 0
+WritesOver begun old new bytes =
+    let keys = (keys_of bytes).keys in
+    (pages other : AllPages Accepted) → ArePagesOf old.store pages → (among : List ℕ → Bool)
+    → DifferWhereDenied among pages other (opened_over begun pages keys)
+    → Appends old.sink.written new.sink.written (bytes_of (opened_over begun other keys))
+
+-- ---- the headline
+
+-- browsing that begins so, with room for so many pages in the cache: the store, the keys and what
+-- was written before and after, and the status
+pub record BrowsesOver (begun : Begun) (capacity : ℕ) (old new : Devices) (status : Status)
+    : Type 0 where
+  -- what was read and written, what was asked for, and how it ended, over all pages that the
+  -- contents are
+  pub browses : Browses (ArePagesOf old.store) (opened_over begun) (browsed capacity old)
+      (browsed capacity new) status
+  -- where all keys were played, scripts to which nobody was let in might have been any others
+  pub denied : (is_open : Bool) → status ≡ at_end is_open
+      → IfSome old.source.left (WritesOver begun old new)
