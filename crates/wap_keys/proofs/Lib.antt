@@ -1,7 +1,7 @@
 mod DecimalLaws
 mod KeyLaws
 mod FormLaws
-mod LineLaws
+pub mod LineLaws
 mod LineSteps
 pub mod ReaderLaws
 mod ReaderSteps

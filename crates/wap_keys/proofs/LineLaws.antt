@@ -30,14 +30,14 @@ led_line c cs e =
     cond b (record { bytes = []; ended = true } ∷ lines_of cs) (led c (lines_of cs))) e
 
 -- a line feed ends the line that is begun
-ended_line : (begun rest : List ℕ) → is_unended begun ≡ true
+pub ended_line : (begun rest : List ℕ) → is_unended begun ≡ true
     → lines_of (begun ++ (10 ∷ rest)) ≡ record { bytes = begun; ended = true } ∷ lines_of rest
 ended_line [] rest all = refl
 ended_line (c ∷ cs) rest all =
     let p = parts c cs all in
     led_line c (cs ++ (10 ∷ rest)) p.0 ∙ ap (led c) (ended_line cs rest p.1)
 
-abbrev last_line : List ℕ → List Line
+abbrev pub last_line : List ℕ → List Line
 last_line [] = []
 last_line (c ∷ cs) = record { bytes = c ∷ cs; ended = false } ∷ []
 
@@ -46,7 +46,7 @@ led_last c [] = refl
 led_last c (d ∷ ds) = refl
 
 -- the end of all bytes ends it, where it isn't empty
-unended_line : (begun : List ℕ) → is_unended begun ≡ true → lines_of begun ≡ last_line begun
+pub unended_line : (begun : List ℕ) → is_unended begun ≡ true → lines_of begun ≡ last_line begun
 unended_line [] all = refl
 unended_line (c ∷ cs) all =
     let p = parts c cs all in
@@ -55,7 +55,7 @@ unended_line (c ∷ cs) all =
 -- ---- lines that are too long
 
 -- the first line has at least the bytes that are begun
-abbrev Begins : ℕ → List Line → Type 0
+abbrev pub Begins : ℕ → List Line → Type 0
 Begins count lines =
     (line : Line) × (more : List Line) × (lines ≡ line ∷ more) × (count ≤ length line.bytes)
 
@@ -76,7 +76,7 @@ begins_by : (count : ℕ) (lines others : List Line) → others ≡ lines → Be
     → Begins count others
 begins_by count lines others e (line, more, is, long) = (line, more, e ∙ is, long)
 
-first_line : (c : ℕ) (cs rest : List ℕ) → is_unended (c ∷ cs) ≡ true
+pub first_line : (c : ℕ) (cs rest : List ℕ) → is_unended (c ∷ cs) ≡ true
     → Begins (length (c ∷ cs)) (lines_of ((c ∷ cs) ++ rest))
 first_line c [] rest all =
     begins_by 1 (led c (lines_of rest)) (lines_of (c ∷ rest)) (led_line c rest (parts c [] all).0)

@@ -19,7 +19,7 @@ pub(crate) enum Said {
 }
 
 /// A line without a carriage return at its end.
-pub(crate) fn without_return(line: &[u8]) -> &[u8]
+pub fn without_return(line: &[u8]) -> &[u8]
     ensures { result.now ≡ without_return line.now }
 {
     if line.ends_with(b"\r") {

@@ -10,7 +10,7 @@ use wap_base::NoMemory;
 
 /// What follows a line that is begun.
 #[derive(Clone, Copy)]
-pub(crate) enum Prefix {
+pub enum Prefix {
     /// There is no line feed yet.
     Begun,
     /// A line feed stands at a place.
@@ -49,7 +49,7 @@ pub(crate) fn whole_line(unread: &[u8]) -> Option<&[u8]>
 }
 
 /// Appends to a line what follows it up to the first line feed, unless that is too long.
-pub(crate) fn take_prefix(line: &mut Vec<u8>, unread: &[u8]) -> Result<Prefix, NoMemory>
+pub fn take_prefix(line: &mut Vec<u8>, unread: &[u8]) -> Result<Prefix, NoMemory>
     requires { length line.old.items ≤ LINE_LIMIT }
     ensures takes { IfOk result (TakesPrefix line.old.items line.new.items unread.now) }
     ensures err { OnErr result (line.new.items ≡ line.old.items) }
