@@ -1,7 +1,7 @@
 -- Scripts that are started: what the decision and the start come to.
-use Rattle.std.proofs.Common.{◌≡◌, ◌∙◌, ◌≤◌, ℕ, Bool, true, false, List, [], ◌∷◌, ◌++◌, Option, Some}
-use Rattle.std.proofs.Common.{None, Ok, Err, refl, sym, ap, ap₂, subst, cond, eqb, arith, append-nil}
-use Rattle.std.specs.Prelude.{Result, length, slice_get, map}
+use Rattle.std.proofs.Common.{◌≡◌, ◌∙◌, ℕ, Bool, true, false, List, [], ◌∷◌, ◌++◌, Option, Some}
+use Rattle.std.proofs.Common.{None, Ok, refl, sym, ap, ap₂, subst, cond, eqb, arith, append-nil}
+use Rattle.std.specs.Prelude.{Result, length, slice_get}
 use Rattle.std.specs.Option.{option_map, option_and_then}
 use Rattle.std.specs.List.{list_any}
 use Rattle.std.proofs.lemmas.Bool.{eqb-true, eq-eqb}
@@ -21,17 +21,16 @@ use Rattle.wap_execution_laws.specs.Settings.{uncounted}
 use Rattle.wap_frames.specs.Standing.{CanEnter}
 use Rattle.wap_machine.specs.Stacks.{Stack, stack, answered, IsEntered}
 use Rattle.wap_cardrules.specs.Values.{Pairs}
-use Rattle.wap_site.specs.Asking.{Seen, Asks}
+use Rattle.wap_site.specs.Asking.{Seen}
 use Rattle.wap_site.proofs.Asking.{Asks-nil, Stays-same}
 use Rattle.wap_world.specs.Shelves.{Shelf}
-use Rattle.wap_world.specs.World.{World, Place, place_now}
-use Rattle.wap_world.specs.Steps.{Scene, Step, Once, Next, still, behind, quiet, settled, after_step}
+use Rattle.wap_world.specs.World.{World, Place}
+use Rattle.wap_world.specs.Steps.{Scene, Step, still, behind, quiet, settled, after_step}
 use Rattle.wap_world.specs.Setting.{set_variables}
 use Rattle.wap_world.specs.Sites.{failed as failed_by, External, Call}
 use Rattle.wap_world.specs.Access.{may_enter}
 use Rattle.wap_world.specs.Requests.{test, test_of}
-use Rattle.wap_world.specs.Starting.{script_line, is_too_long, not_started, prepared, ended_script}
-use Rattle.wap_world.specs.Screens.{show}
+use Rattle.wap_world.specs.Starting.{script_line, is_too_long, not_started, ended_script}
 use Rattle.wap_world.proofs.Joining.{once_before}
 use Rattle.wap_scripting.specs.Units.{entrance_in, index_named, external_in}
 use Rattle.wap_scripting.specs.UnitSites.{Pages, shelf_of, keyed_host, ran_of, started_at}
@@ -41,7 +40,7 @@ use Rattle.wap_context.specs.declared.waiting.Went.{Went}
 use Rattle.wap_context.specs.declared.starting.Start.{Start}
 use Rattle.wap_context.specs.declared.starting.Start.TheVariants.{Not, Runs}
 use Rattle.wap_context.specs.Browsers.{Browser, IsOver, place_held}
-use Rattle.wap_context.specs.Sites.{fragment_call, IfOver}
+use Rattle.wap_context.specs.Sites.{fragment_call}
 use Rattle.wap_context.specs.Pausing.{Paused}
 use Rattle.wap_context.specs.inside.Held.{show_at}
 use Rattle.wap_context.specs.inside.Moving.{PlaysAt, Moves, Takes, next_in, waits_in}

@@ -1,5 +1,5 @@
 -- Calls of a context: a navigation, and all that it leads to.
-use Rattle.std.proofs.Common.{◌≡◌, ◌∙◌, ℕ, List, [], Option, Ok, Err, refl, sym, subst}
+use Rattle.std.proofs.Common.{◌≡◌, ℕ, List, [], Ok, Err, refl, sym, subst}
 use Rattle.std.specs.Prelude.{Result}
 use Rattle.wap_base.specs.declared.fault.RunErr.{RunErr}
 use Rattle.wap_value.specs.declared.value.Value.{Value}
@@ -11,7 +11,7 @@ use Rattle.wap_scripting.specs.UnitSites.{Pages, shelf_of, units_site}
 use Rattle.wap_state.specs.Scenes.{Line}
 use Rattle.wap_context.specs.declared.waiting.Went.{Went}
 use Rattle.wap_context.specs.declared.waiting.Step.{Step as Did}
-use Rattle.wap_context.specs.Browsers.{Browser, IsOver}
+use Rattle.wap_context.specs.Browsers.{Browser}
 use Rattle.wap_context.specs.Sites.{site_of}
 use Rattle.wap_context.specs.Pausing.{Paused}
 use Rattle.wap_context.specs.Acting.{Acts, answer, stop}

@@ -6,14 +6,13 @@ use Rattle.wap_base.specs.declared.limits.Limits.{Limits}
 use Rattle.wap_url.specs.declared.url.Url.{Url}
 use Rattle.wap_input.specs.declared.key.Key.{Key}
 use Rattle.wap_execution.specs.declared.fatal.Fatal.{Fatal}
-use Rattle.wap_execution.specs.Outcomes.{Outcome as Meant, Ended}
 use Rattle.wap_cardrules.specs.declared.event.Event.TheVariants as event
 use Rattle.wap_cardrules.specs.declared.task.Task.{Task}
 use Rattle.wap_world.specs.declared.timer.Timer.{Timer}
 use Rattle.wap_world.specs.declared.timer.Timer.TheVariants.{NotStarted, Running, Off, Expired}
 use Rattle.wap_world.specs.Shelves.{Shelf}
 use Rattle.wap_world.specs.World.{World, Place, place_now}
-use Rattle.wap_world.specs.Steps.{Scene, Step, Once, Next, then_task, joined, after_step, still, quiet}
+use Rattle.wap_world.specs.Steps.{Step, Once, Next, joined, after_step, still, quiet}
 use Rattle.wap_world.specs.Steps.{settled}
 use Rattle.wap_world.specs.Timers.{settled_timer}
 use Rattle.wap_world.specs.Entering.{event_task}
@@ -22,8 +21,7 @@ use Rattle.wap_world.proofs.Joining.{before, once_before, or_false, joined_nothi
 use Rattle.wap_machine.specs.Runs.{meant, KeepsLimits}
 use Rattle.wap_machine.specs.declared.machine.Outcome.{Outcome}
 use Rattle.wap_machine.specs.declared.machine.Outcome.TheVariants.{Done, Exited, Fatal as Died, Asks}
-use Rattle.wap_scripting.specs.Waiting.{Waits}
-use Rattle.wap_scripting.specs.Halves.{Half, half_by}
+use Rattle.wap_scripting.specs.Halves.{half_by}
 use Rattle.wap_state.specs.Scenes.{Line}
 use Rattle.wap_context.specs.Browsers.{Browser, IsOver, place_held}
 use Rattle.wap_context.specs.inside.Held.{show_at, entered_at, begun_at}

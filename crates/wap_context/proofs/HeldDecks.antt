@@ -1,9 +1,11 @@
 -- The deck at hand is the one that a shelf has under the URL of the place.
-use Rattle.std.proofs.Common.{◌≡◌, ◌∙◌, Bool, true, false, Option, Some, None, refl, sym, subst}
+use Rattle.std.proofs.Common.{◌≡◌, ◌∙◌, ℕ, Bool, true, false, Option, Some, None, refl, sym, subst}
 use Rattle.std.specs.Prelude.{if◌then◌else◌}
 use Rattle.std.specs.Option.{option_and_then}
 use Rattle.wap_url.specs.declared.url.Url.{Url}
 use Rattle.wap_markup.specs.declared.deck.Deck.{Deck}
+use Rattle.wap_world.specs.declared.history.Entry.{Entry}
+use Rattle.wap_world.specs.History.{entry_of}
 use Rattle.wap_world.specs.Shelves.{Shelf}
 use Rattle.wap_world.specs.World.{Place}
 use Rattle.wap_world.specs.Urls.{is_same_page}
@@ -60,3 +62,10 @@ pub here_has : (browser : Browser) (one : Request) (page : Page)
     → (shelf : Shelf) → IsOver shelf browser → HasDeck page.0 page.1 shelf
 here_has browser one page is shelf over =
     found_has shelf browser (place_held browser) (is_here one) page refl over (sym is)
+
+-- ---- an entry by the URL of the place, which has no fragment
+
+pub entry_here : (here : Url) (earlier : Entry) (card : ℕ) → card ≡ earlier.card
+    → here.fragment ≡ None → entry_of here card ≡ record earlier { url = here }
+entry_here here earlier card same whole =
+    λ i. record { url = record here { fragment = sym whole i }; card = same i }

@@ -15,3 +15,4 @@ pub mod Beginning
 pub mod Pursuing
 pub mod Passing
 pub mod Calling
+pub mod Reviving

@@ -1,12 +1,10 @@
 -- The rules for navigations over a site, by what is found at the place at hand.
 use Rattle.std.proofs.Common.{◌≡◌, ◌∙◌, ℕ, Bool, true, false, List, [], Option, Some, None}
 use Rattle.std.proofs.Common.{Ok, Err, refl, sym, ap, subst, ◌+◌, add-one}
-use Rattle.std.specs.Prelude.{Result, if◌then◌else◌}
+use Rattle.std.specs.Prelude.{if◌then◌else◌}
 use Rattle.std.specs.Option.{option_map, option_map_or}
 use Rattle.wap_url.specs.declared.url.Url.{Url}
 use Rattle.wap_input.specs.declared.key.Key.{Key}
-use Rattle.wap_cardrules.specs.declared.task.Task.{Task}
-use Rattle.wap_cardrules.specs.declared.task.Task.TheVariants as task
 use Rattle.wap_cardrules.specs.declared.task.Go.{Go}
 use Rattle.wap_cardrules.specs.Values.{Pairs}
 use Rattle.wap_world.specs.declared.history.Entry.{Entry}
@@ -15,13 +13,13 @@ use Rattle.wap_world.specs.declared.refusal.Refusal.TheVariants as refusals
 use Rattle.wap_world.specs.Shelves.{Shelf}
 use Rattle.wap_world.specs.Sites.{Site}
 use Rattle.wap_world.specs.World.{World, Place, place_now}
-use Rattle.wap_world.specs.Steps.{Once, Next}
+use Rattle.wap_world.specs.Steps.{Once}
 use Rattle.wap_world.specs.Requests.{Request, plain_get, request_of}
 use Rattle.wap_world.specs.History.{earlier_entry}
 use Rattle.wap_world.specs.Urls.{target_of, is_same_page}
 use Rattle.wap_world.specs.Tasks.{refused, with_url, return, base_now, arrive, request, ask_back}
 use Rattle.wap_world.specs.Tasks.{stay_or_ask, back_from, back_to, is_here, here_with, card_here}
-use Rattle.wap_world.specs.Tasks.{url_now, go, open_url, prev, with_turn, task_once}
+use Rattle.wap_world.specs.Tasks.{url_now, go, open_url, prev, with_turn}
 use Rattle.wap_context.specs.Browsers.{Browser, IsOver, place_held}
 use Rattle.wap_context.specs.inside.Held.{page_under, page_here}
 use Rattle.wap_context.proofs.Places.{held_now}

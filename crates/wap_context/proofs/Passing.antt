@@ -1,7 +1,7 @@
 -- Time that passes: quiet steps, a timer that runs out, and time in a dialog.
-use Rattle.std.proofs.Common.{◌≡◌, ◌∙◌, ◌<◌, ◌≤◌, ◌-◌, ℕ, Bool, true, false, List, [], ◌∷◌, ◌++◌}
+use Rattle.std.proofs.Common.{◌≡◌, ◌∙◌, ◌<◌, ◌≤◌, ◌-◌, ℕ, Bool, List, [], ◌++◌}
 use Rattle.std.proofs.Common.{Option, Some, None, Ok, Err, refl, sym, ap, ap₂, subst}
-use Rattle.std.proofs.Common.{append-nil, cond, ltb}
+use Rattle.std.proofs.Common.{cond}
 use Rattle.std.specs.Prelude.{Result, IsErr, IsErrAnd}
 use Rattle.std.specs.Option.{option_map}
 use Rattle.std.proofs.lemmas.Bool.{lt-ltb, le-ltb, false≢true}
@@ -15,15 +15,14 @@ use Rattle.wap_site.proofs.Asking.{Asks-nil, Stays-same}
 use Rattle.wap_world.specs.declared.timer.Timer.{Timer}
 use Rattle.wap_world.specs.declared.timer.Timer.TheVariants.{NotStarted, Running, Off, Expired}
 use Rattle.wap_world.specs.Shelves.{Shelf}
-use Rattle.wap_world.specs.World.{World, Place, place_now}
-use Rattle.wap_world.specs.Steps.{Scene, Step, Next, then_task, still, quiet, joined, followed}
-use Rattle.wap_world.specs.Screens.{at_place, here}
+use Rattle.wap_world.specs.World.{World, Place}
+use Rattle.wap_world.specs.Steps.{Scene, Step, then_task, still, quiet, joined, followed}
+use Rattle.wap_world.specs.Screens.{at_place}
 use Rattle.wap_world.specs.Entering.{event_task}
 use Rattle.wap_world.specs.Tasks.{act}
 use Rattle.wap_world.specs.Keys.{ignored, act_or, expire, pass_time, at_card}
 use Rattle.wap_world.proofs.Joining.{joined_nothing}
-use Rattle.wap_world_laws.specs.Ignored.{is_running}
-use Rattle.wap_scripting.specs.Dialogs.{tick_waiting, run_out as expires}
+use Rattle.wap_scripting.specs.Dialogs.{tick_waiting}
 use Rattle.wap_scripting.specs.UnitSites.{Pages, shelf_of, units_site}
 use Rattle.wap_state.specs.Scenes.{Line}
 use Rattle.wap_context.specs.declared.waiting.Went.{Went}
@@ -36,12 +35,12 @@ use Rattle.wap_context.specs.Missing.{Missed}
 use Rattle.wap_context.specs.Acting.{tick}
 use Rattle.wap_context.specs.inside.Held.{event_at}
 use Rattle.wap_context.specs.inside.Moving.{PlaysAt, next_in, waits_in, pursued, Pursues}
-use Rattle.wap_context.specs.inside.Ticking.{left_of, left_at, end_place, run_out, expire_place}
+use Rattle.wap_context.specs.inside.Ticking.{left_of, left_at, end_place, run_out}
 use Rattle.wap_context.specs.inside.Ticking.{count_down_at}
 use Rattle.wap_context.proofs.Places.{held_now}
 use Rattle.wap_context.proofs.Plays.{history_kept, over_kept}
 use Rattle.wap_context.proofs.Takings.{over_all, over_map, if_ok_both}
-use Rattle.wap_context.proofs.Pursuing.{StepRule, Behind, Going, ends_settled, pursues_after}
+use Rattle.wap_context.proofs.Pursuing.{StepRule, Going, ends_settled, pursues_after}
 
 -- ---- by other rules
 

@@ -1,5 +1,5 @@
 -- All that a navigation leads to, with any keys after it.
-use Rattle.std.proofs.Common.{◌≡◌, ◌∙◌, ◌<◌, ◌≤◌, ℕ, ◌+◌, Bool, true, false, List, [], ◌∷◌, ◌++◌}
+use Rattle.std.proofs.Common.{◌≡◌, ◌∙◌, ◌<◌, ◌≤◌, ℕ, ◌+◌, Bool, false, List, [], ◌++◌}
 use Rattle.std.proofs.Common.{Option, Some, None, Ok, Err, refl, sym, ap, ap₂, subst, append_assoc}
 use Rattle.std.proofs.Common.{append-nil, arith}
 use Rattle.std.specs.Prelude.{Result, IfSome, IfOk, OnOk, is_some, ◌||◌}
@@ -16,12 +16,12 @@ use Rattle.wap_site.proofs.Asking.{Asks-nil, Asks-then, Stays-same, Stays-then}
 use Rattle.wap_world.specs.World.{World}
 use Rattle.wap_world.specs.Steps.{Step, Once, Next, still, quiet, joined}
 use Rattle.wap_world.specs.Tasks.{go_on, onward, act, task_once}
-use Rattle.wap_world.proofs.Joining.{before, once_before, joined_assoc, joined_nothing}
+use Rattle.wap_world.proofs.Joining.{before, joined_assoc, joined_nothing}
 use Rattle.wap_world_laws.proofs.Following.{act_goes_on}
 use Rattle.wap_scripting.specs.UnitSites.{Pages, shelf_of}
 use Rattle.wap_scripting.specs.Waiting.{Waits, left_over, resumed_step}
 use Rattle.wap_scripting.specs.Halves.{once_by}
-use Rattle.wap_scripting.specs.Feeding.{Fed, meaning}
+use Rattle.wap_scripting.specs.Feeding.{meaning}
 use Rattle.wap_scripting_laws.proofs.Feeding.{waits_means}
 use Rattle.wap_scripting_laws.proofs.Keeping.{units_fall}
 use Rattle.wap_state.specs.Scenes.{Line}
@@ -34,10 +34,10 @@ use Rattle.wap_context.specs.Pausing.{Paused, waits_of}
 use Rattle.wap_context.specs.Missing.{Missed}
 use Rattle.wap_context.specs.Sites.{fragment_call, site_of, IfOver}
 use Rattle.wap_context.specs.Acting.{lines_in, waiting_in, fed_of, Follows, Acts}
-use Rattle.wap_context.specs.inside.Moving.{next_in, waits_in, Goes, Takes, Spends, Onces, pursued}
+use Rattle.wap_context.specs.inside.Moving.{next_in, waits_in, Goes, Takes, Spends, pursued}
 use Rattle.wap_context.specs.inside.Moving.{Ends, Pursues}
 use Rattle.wap_context.proofs.Missing.{Asks-missed, Missed-more}
-use Rattle.wap_context.proofs.Takings.{Rule, over_all, over_map, both_told, if_ok_both, on_ok_both}
+use Rattle.wap_context.proofs.Takings.{Rule, over_all, over_map, both_told, on_ok_both}
 
 -- a rule for a whole call
 abbrev pub StepRule : Type 0

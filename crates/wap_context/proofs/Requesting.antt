@@ -1,6 +1,6 @@
 -- Navigations of a browser over pages that are known, with any keys after them: each from what it
 -- finds at the place at hand, and from the page that answers.
-use Rattle.std.proofs.Common.{◌≡◌, ◌∙◌, ◌≤◌, ℕ, ◌+◌, List, [], ◌∷◌, ◌++◌, Option, Some, None, Ok}
+use Rattle.std.proofs.Common.{◌≡◌, ◌∙◌, ◌≤◌, ℕ, ◌+◌, List, [], ◌∷◌, Option, Some, None, Ok}
 use Rattle.std.proofs.Common.{Err}
 use Rattle.std.proofs.Common.{refl, sym, ap, subst, arith, false}
 use Rattle.std.specs.Prelude.{Result, IfOk, IfSome, IsErr, IsErrAnd}
@@ -27,10 +27,9 @@ use Rattle.wap_world.specs.declared.refusal.Refusal.{Refusal}
 use Rattle.wap_world.specs.declared.refusal.Refusal.TheVariants as refusals
 use Rattle.wap_world.specs.Shelves.{Shelf, Shelved}
 use Rattle.wap_world.specs.World.{World, Place, place_now, deck_in}
-use Rattle.wap_world.specs.Steps.{Scene, Once, Next, then_task, and_then, quiet, settled}
+use Rattle.wap_world.specs.Steps.{Scene, Next, then_task, and_then, quiet, settled}
 use Rattle.wap_world.specs.Steps.{after_step}
 use Rattle.wap_world.specs.Requests.{Request, plain_get, request_of, ask, answer_to}
-use Rattle.wap_world.specs.History.{earlier_entry}
 use Rattle.wap_world.specs.Urls.{target_of}
 use Rattle.wap_world.specs.Screens.{at_place, screen_lines}
 use Rattle.wap_world.specs.Entering.{leave_place}
@@ -48,7 +47,7 @@ use Rattle.wap_state.specs.Scenes.{Line}
 use Rattle.wap_context.specs.declared.waiting.Went.{Went}
 use Rattle.wap_context.specs.declared.waiting.Went.TheVariants.{Settled}
 use Rattle.wap_context.specs.Browsers.{Browser, IsOver, place_held}
-use Rattle.wap_context.specs.Sites.{site_of, IfOver}
+use Rattle.wap_context.specs.Sites.{site_of}
 use Rattle.wap_context.specs.inside.Held.{answered_at, returned_at, arrive_at, return_at}
 use Rattle.wap_context.specs.inside.Held.{refused_at}
 use Rattle.wap_context.specs.inside.Held.{refresh_at, page_under, page_here}
@@ -63,8 +62,8 @@ use Rattle.wap_context.proofs.Arrivals.{answers_deck, entered_deck, moves_settle
 use Rattle.wap_context.proofs.Rules.{refused_on, arrive_on, return_on, answered_on, returned_on}
 use Rattle.wap_context.proofs.Navigations.{stay_by, stay_found, base_held, go_is, go_refused}
 use Rattle.wap_context.proofs.Navigations.{open_is}
-use Rattle.wap_context.proofs.Navigations.{open_refused, back_by, back_found, prev_some, prev_none}
-use Rattle.wap_context.proofs.Navigations.{less_turn, turn_is, turn_none, over_turn}
+use Rattle.wap_context.proofs.Navigations.{open_refused, back_by, back_found}
+use Rattle.wap_context.proofs.Navigations.{turn_is, turn_none, over_turn}
 use Rattle.wap_context.proofs.Takings.{Rule, over_all, over_same, takes_moves, takes_task}
 use Rattle.wap_context.proofs.Takings.{takes_from, takes_after}
 use Rattle.wap_context.proofs.Takings.{After, told_asked, takes_by, takes_err, takes_missed}

@@ -3,18 +3,15 @@ use Rattle.std.proofs.Common.{◌≡◌, ◌∙◌, ◌⊎◌, inl, inr, ◌≤�
 use Rattle.std.proofs.Common.{◌∷◌, ◌++◌, Option, Some, None, Ok, Err, refl, sym, ap, ap₂, subst, arith}
 use Rattle.std.proofs.Common.{append_assoc, append-nil}
 use Rattle.std.proofs.lemmas.Bool.{cases_lt}
-use Rattle.std.specs.Prelude.{Result, IfSome, IfOk, OnOk, min, unwrap_or, if◌then◌else◌, ◌||◌}
+use Rattle.std.specs.Prelude.{Result, IfSome, min, unwrap_or, if◌then◌else◌, ◌||◌}
 use Rattle.std.specs.Option.{option_map, option_and_then}
 use Rattle.wap_base.specs.declared.fault.RunErr.{RunErr}
 use Rattle.wap_base.specs.declared.fault.RunErr.TheVariants.{Store}
 use Rattle.wap_base.specs.declared.limits.Limits.{Limits}
 use Rattle.wap_base.specs.Count.{greatest_count, raised, Rose}
 use Rattle.wap_url.specs.declared.url.Url.{Url}
-use Rattle.wap_value.specs.declared.value.Value.{Value}
-use Rattle.wap_markup.specs.declared.deck.Deck.{Deck}
 use Rattle.wap_input.specs.declared.key.Key.{Key}
 use Rattle.wap_execution.specs.Outcomes.{Outcome as Meant, value, exit, fatal, waits, stuck, Ended}
-use Rattle.wap_execution.specs.Running.{finished}
 use Rattle.wap_execution_laws.specs.Settings.{uncounted}
 use Rattle.wap_execution_laws.specs.Simulation.{ComeToSame, IsKin}
 use Rattle.wap_execution_laws.proofs.RunLaws.{Keeps, finished_follows}
@@ -27,14 +24,14 @@ use Rattle.wap_site.specs.Misses.{Cache, Asked as Question, is_miss, after_askin
 use Rattle.wap_site.specs.Asking.{Seen, raised_by, RaisedWithin, Stays, Asks}
 use Rattle.wap_site.proofs.Counts.{raised_by-then}
 use Rattle.wap_world.specs.declared.history.Entry.{Entry}
-use Rattle.wap_world.specs.World.{World, Place, place_in, place_of, place_now, deck_at, last_entry}
-use Rattle.wap_world.specs.Steps.{Scene, Step, Once, Next, still, quiet, after_step}
+use Rattle.wap_world.specs.World.{World, Place, place_now, deck_at, last_entry}
+use Rattle.wap_world.specs.Steps.{Step, Once, quiet, after_step}
 use Rattle.wap_cardrules.specs.declared.task.Task.{Task}
 use Rattle.wap_world.specs.Shelves.{Shelf}
 use Rattle.wap_world.specs.Starting.{in_world, end_done}
 use Rattle.wap_world.proofs.Joining.{once_before}
 use Rattle.wap_scripting.specs.UnitSites.{Pages, shelf_of, externals_of, unit_under, host_of, unit_pages}
-use Rattle.wap_scripting.specs.Views.{Counted, counted_once, counted_all, View, viewing, view_of, Shows}
+use Rattle.wap_scripting.specs.Views.{Counted, counted_all, View, viewing, view_of, Shows}
 use Rattle.wap_scripting.specs.Views.{IsAtHand, NoStep, NoView}
 use Rattle.wap_scripting.specs.Waiting.{Waits, inside}
 use Rattle.wap_scripting.specs.Halves.{Half, half_by, half_of, once_by, once_of}
@@ -52,7 +49,7 @@ use Rattle.wap_context.specs.inside.Moving.{Moves, Goes, Takes, next_in, waits_i
 use Rattle.wap_context.specs.inside.Starting.{run_of, run_with, CameTo, RunsTo, end_at, waits_by}
 use Rattle.wap_context.proofs.Places.{held_now}
 use Rattle.wap_context.proofs.Ending.{half_is}
-use Rattle.wap_context.proofs.Takings.{over_map, if_ok_both, on_ok_both}
+use Rattle.wap_context.proofs.Takings.{over_map}
 
 -- ---- a run leaves whether a dialog is open
 

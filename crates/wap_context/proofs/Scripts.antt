@@ -1,5 +1,5 @@
 -- A page that is a script is entered by the rules as its unit says.
-use Rattle.std.proofs.Common.{◌≡◌, ◌∙◌, ℕ, Bool, true, false, List, [], ◌∷◌, Option, Some, None, cond}
+use Rattle.std.proofs.Common.{◌≡◌, ◌∙◌, ℕ, Bool, true, false, List, Option, Some, None, cond}
 use Rattle.std.proofs.Common.{refl, sym, ap, eqb}
 use Rattle.std.specs.Prelude.{length}
 use Rattle.std.specs.Option.{option_and_then}
@@ -14,12 +14,11 @@ use Rattle.wap_execution.specs.declared.fatal.Fatal.TheVariants as fatal
 use Rattle.wap_execution_laws.specs.Settings.{uncounted}
 use Rattle.wap_input.specs.declared.key.Key.{Key}
 use Rattle.wap_cardrules.specs.Values.{Pairs}
-use Rattle.wap_site.specs.declared.page.Page.{Page}
 use Rattle.wap_site.specs.declared.page.Page.TheVariants as page
 use Rattle.wap_site.specs.Pages.{Pages as JudgedPages, page_of}
-use Rattle.wap_world.specs.Sites.{External, Call, Site}
+use Rattle.wap_world.specs.Sites.{External, Call}
 use Rattle.wap_world.specs.World.{World}
-use Rattle.wap_world.specs.Steps.{Once, quiet, after_step}
+use Rattle.wap_world.specs.Steps.{quiet, after_step}
 use Rattle.wap_world.specs.Setting.{set_variables}
 use Rattle.wap_world.specs.Requests.{test, test_of}
 use Rattle.wap_world.specs.Starting.{is_too_long, not_started, prepared, ended_script, start_external}
@@ -31,10 +30,9 @@ use Rattle.wap_scripting.specs.UnitSites.{ran_of, started_at, unit_pages}
 use Rattle.wap_scripting.specs.UnitSites.{units_site}
 use Rattle.wap_host.specs.Finding.{shelved_page}
 use Rattle.wap_host.proofs.Shelves.{unit_is, externals_are}
-use Rattle.wap_context.specs.declared.starting.Start.{Start}
 use Rattle.wap_context.specs.declared.starting.Start.TheVariants.{Not, Runs}
 use Rattle.wap_context.specs.Sites.{fragment_call, site_of}
-use Rattle.wap_context.specs.inside.Starting.{if_long, start_found, start_called, start_of, begun_with}
+use Rattle.wap_context.specs.inside.Starting.{if_long, start_found, start_called, begun_with}
 use Rattle.wap_context.specs.inside.Starting.{started_with, allowed_with, script_with}
 
 module _ (judged : JudgedPages) (unit : Unit) (name : List ℕ)

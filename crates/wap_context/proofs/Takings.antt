@@ -1,6 +1,6 @@
 -- One navigation over pages, with any keys after it: from what its parts come to.
 use Rattle.std.proofs.Common.{◌≡◌, ◌∙◌, ◌≤◌, ℕ, ◌+◌, Bool, false, List, [], ◌∷◌, ◌++◌, Option, Some}
-use Rattle.std.proofs.Common.{None, Ok, Err, refl, sym, ap, ap₂, subst, append_assoc, append-nil, arith}
+use Rattle.std.proofs.Common.{None, Ok, Err, refl, sym, ap, ap₂, subst, append_assoc, arith}
 use Rattle.std.specs.Prelude.{Result, IfSome, IfOk, OnOk, IsErr, IsErrAnd, ◌||◌}
 use Rattle.std.specs.Option.{option_map}
 use Rattle.std.proofs.lemmas.Bool.{false≢true}
@@ -17,9 +17,9 @@ use Rattle.wap_site.specs.Misses.{Asked as Question}
 use Rattle.wap_site.proofs.Asking.{Asks-nil, Asks-then, Stays-same, Stays-then}
 use Rattle.wap_world.specs.Shelves.{Shelf}
 use Rattle.wap_world.specs.World.{World}
-use Rattle.wap_world.specs.Steps.{Step, Once, Next, then_task, joined, after_step}
-use Rattle.wap_world.specs.Requests.{Request, request_line, ask}
-use Rattle.wap_world.proofs.Joining.{once_before, or_false}
+use Rattle.wap_world.specs.Steps.{Step, Once, Next, then_task, after_step}
+use Rattle.wap_world.specs.Requests.{Request}
+use Rattle.wap_world.proofs.Joining.{once_before}
 use Rattle.wap_scripting.specs.UnitSites.{Pages, shelf_of, unit_pages}
 use Rattle.wap_scripting.specs.Waiting.{Waits}
 use Rattle.wap_scripting.specs.Halves.{once_by}

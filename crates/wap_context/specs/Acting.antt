@@ -4,14 +4,10 @@ use Rattle.std.specs.Prelude.{◌≡◌, ℕ, true, false, List, [], Option, Som
 use Rattle.std.specs.Prelude.{IfOk, OnOk, Result, Err}
 use Rattle.wap_base.specs.declared.fault.RunErr.{RunErr}
 use Rattle.wap_base.specs.declared.fault.RunErr.TheVariants.{Store}
-use Rattle.wap_base.specs.declared.limits.Limits.{Limits}
 use Rattle.wap_base.specs.Count.{Rose}
-use Rattle.wap_url.specs.declared.url.Url.{Url}
 use Rattle.wap_value.specs.declared.value.Value.{Value}
 use Rattle.wap_input.specs.declared.key.Key.{Key}
-use Rattle.wap_execution.specs.declared.dialog.Dialog.{Dialog}
 use Rattle.wap_execution.specs.declared.fatal.Fatal.TheVariants.{Stopped}
-use Rattle.wap_execution.specs.Frames.{Frame}
 use Rattle.wap_execution.specs.Running.{resumed}
 use Rattle.wap_execution_laws.specs.Settings.{uncounted}
 use Rattle.wap_site.specs.Asking.{Seen, Stays, Asks}

@@ -3,4 +3,5 @@ pub mod Browsers
 pub mod Missing
 pub mod Sites
 pub mod Acting
+pub mod Saved
 pub mod inside

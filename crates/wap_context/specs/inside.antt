@@ -2,3 +2,4 @@ pub mod Held
 pub mod Moving
 pub mod Ticking
 pub mod Starting
+pub mod Reviving

@@ -1,12 +1,14 @@
 //! Asking for a page.
-ghost use Rattle.std.specs.Prelude.{◌≡◌};
+ghost use Rattle.std.specs.Prelude.{◌≡◌, IfOk};
+ghost use Rattle.wap_world.specs.Access.{may_enter};
 ghost use Rattle.wap_world.specs.Requests.{plain_get};
 ghost use Rattle.wap_context.specs.inside.Moving.{Asked, deck_answer, page_answer};
 
 use std::alloc::Global;
-use wap_base::{Rows, RunErr, Text};
+use wap_base::{NoMemory, Rows, RunErr, Text};
 use wap_good::GoodDeck;
-use wap_requests::{Request, plain_get, request_line};
+use wap_page_urls::{PageEntry, PageRequest, PageUrl};
+use wap_requests::{Entrance, may_enter as may_be_entered, request_line};
 use wap_site::{Page, Pages, Shared};
 use wap_url::{Url, name_of};
 use wap_verify::Verified;
@@ -35,30 +37,43 @@ pub(crate) fn page_answer(page: Page) -> Result<Result<Shared<GoodDeck>, Refusal
     }
 }
 
+/// Whether a page may be entered from a URL.
+pub(crate) fn may_enter(
+    alloc: Global,
+    page: &PageUrl,
+    entrance: Option<Entrance>,
+    caller: &Option<Url>,
+) -> Result<bool, NoMemory>
+    ensures { IfOk result (λ may. may ≡ may_enter page.now entrance caller.now) }
+{
+    may_be_entered(alloc, page.as_url(), entrance, caller)
+}
+
 /// Adds the line of a request, and asks for the page.
 pub(crate) fn ask<P: Pages>(
     alloc: Global,
     pages: &mut P,
-    request: &Request,
+    request: &PageRequest,
     lines: &mut Rows<Text>,
 ) -> Result<Page, RunErr>
     ensures { Asked request.now (P.seen pages.old) (P.seen pages.new) lines.old lines.new result }
 {
-    lines.add(request_line(alloc, request)?)?;
-    let name = name_of(alloc, &request.url)?;
-    pages.page(alloc, &name, request.fresh)
+    let asked = request.as_request();
+    lines.add(request_line(alloc, asked)?)?;
+    let name = name_of(alloc, &asked.url)?;
+    pages.page(alloc, &name, asked.fresh)
 }
 
-/// Adds the line of a plain request for a page, and asks for it.
+/// Adds the line of a plain request for the page of an entry, and asks for it.
 pub(crate) fn ask_for<P: Pages>(
     alloc: Global,
     pages: &mut P,
-    url: &Url,
+    entry: &PageEntry,
     lines: &mut Rows<Text>,
 ) -> Result<Page, RunErr>
-    ensures { Asked (plain_get url.now) (P.seen pages.old)
+    ensures { Asked (plain_get entry.now.url) (P.seen pages.old)
         (P.seen pages.new) lines.old lines.new result }
 {
-    let request = plain_get(url.copy(alloc)?);
+    let request = PageRequest::get(entry.copy_url(alloc)?);
     ask(alloc, pages, &request, lines)
 }

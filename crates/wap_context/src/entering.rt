@@ -1,7 +1,6 @@
 //! Entering a card (WAP-191, sections 9.2, 9.5 and 9.10).
 ghost use Rattle.std.specs.Prelude.{◌≡◌, Some, Ok, IfOk, OnOk};
 ghost use Rattle.std.specs.Option.{option_map};
-ghost use Rattle.wap_url.specs.Printing.{without_fragment};
 ghost use Rattle.wap_world.specs.Steps.{then_task};
 ghost use Rattle.wap_world.specs.Tasks.{card_for, is_new_context, in_context};
 ghost use Rattle.wap_world.specs.History.{pushed, entry_of, in_deck, back_at};
@@ -11,22 +10,24 @@ ghost use Rattle.wap_context.specs.inside.Held.{arrive_if_at, try_deck_at, retur
 ghost use Rattle.wap_context.specs.inside.Held.{answered_at, returned_at};
 ghost use Rattle.wap_context.specs.inside.Moving.{Moves, HasDeck, Answers};
 
+use crate::asking::may_enter;
 use crate::context::Context;
 use std::alloc::Global;
 use wap_base::{NoMemory, Rows, Text};
 use wap_cardrules::{Event, Task};
 use wap_cards::{binding, is_true};
 use wap_good::{AttrName, GoodDeck};
-use wap_requests::{entrance_of, may_enter};
+use wap_page_urls::{PageEntry, PageUrl};
+use wap_requests::entrance_of;
 use wap_site::Shared;
 use wap_url::Url;
-use wap_world::{Entry, Refusal, Timer};
+use wap_world::{Refusal, Timer};
 
 /// The number of the card that a URL's fragment names, else of the first.
-fn card_for(deck: &GoodDeck, url: &Url) -> usize
+fn card_for(deck: &GoodDeck, url: &PageUrl) -> usize
     ensures { result ≡ card_for deck.now url.now }
 {
-    match &url.fragment {
+    match &url.as_url().fragment {
         Some(id) => match deck.find_card(id) {
             Some(number) => number,
             None => 0,
@@ -45,26 +46,14 @@ fn is_new_context(alloc: Global, deck: &GoodDeck, number: usize) -> Result<bool,
     }
 }
 
-/// The entry of a card that was reached by a URL.
-fn entry_of(url: Url, card: usize) -> Entry
-    ensures { result ≡ entry_of url card }
-{
-    let mut page = url;
-    page.fragment = None;
-    Entry { url: page, card }
-}
-
 /// An entry whose card is one of a deck.
-fn in_deck(deck: &GoodDeck, entry: Entry) -> Entry
+pub(crate) fn in_deck(deck: &GoodDeck, entry: PageEntry) -> PageEntry
     ensures { result ≡ in_deck deck.now entry }
 {
-    if entry.card < deck.card_count() {
+    if entry.card() < deck.card_count() {
         return entry;
     }
-    Entry {
-        url: entry.url,
-        card: 0,
-    }
+    entry.with_card(0)
 }
 
 impl Context {
@@ -80,6 +69,7 @@ impl Context {
     }
 
     /// The timer is not started.
+    #[tactic(auto, using(wap_state::proofs::Keeping::keeps_reset))]
     fn reset_timer(&mut self)
         ensures { self.new ≡ not_started self.old }
     {
@@ -139,7 +129,12 @@ impl Context {
     }
 
     /// Pushes a card of a deck onto the history, which is empty first in a new context.
-    fn push_card(&mut self, alloc: Global, url: Url, deck: Shared<GoodDeck>) -> Result<(), NoMemory>
+    fn push_card(
+        &mut self,
+        alloc: Global,
+        url: PageUrl,
+        deck: Shared<GoodDeck>,
+    ) -> Result<(), NoMemory>
         ensures { OnOk result (self.new ≡ record {
           world = pushed (in_context deck (card_for deck url) self.old.world)
               (entry_of url (card_for deck url));
@@ -150,7 +145,7 @@ impl Context {
         if is_new_context(alloc, &deck, number)? {
             self.state.clear();
         }
-        self.state.push(entry_of(url, number))?;
+        self.state.push(PageEntry::of(url, number))?;
         self.deck = Some(deck);
         Ok(())
     }
@@ -160,7 +155,7 @@ impl Context {
         &mut self,
         alloc: Global,
         sets: Rows<(Text, Text)>,
-        url: Url,
+        url: PageUrl,
         deck: Shared<GoodDeck>,
         lines: &mut Rows<Text>,
     ) -> Result<Option<Task>, NoMemory>
@@ -180,7 +175,7 @@ impl Context {
         alloc: Global,
         sets: Rows<(Text, Text)>,
         caller: &Option<Url>,
-        url: Url,
+        url: PageUrl,
         deck: Shared<GoodDeck>,
         lines: &mut Rows<Text>,
     ) -> Result<Option<Task>, NoMemory>
@@ -205,7 +200,7 @@ impl Context {
         alloc: Global,
         sets: Rows<(Text, Text)>,
         caller: &Option<Url>,
-        url: Url,
+        url: PageUrl,
         answer: Result<Shared<GoodDeck>, Refusal>,
         lines: &mut Rows<Text>,
     ) -> Result<Option<Task>, NoMemory>
@@ -221,7 +216,7 @@ impl Context {
     }
 
     /// Drops the current card, and puts an earlier one of a deck in place of the one before it.
-    fn pop_card(&mut self, earlier: Entry, deck: Shared<GoodDeck>) -> Result<(), NoMemory>
+    fn pop_card(&mut self, earlier: PageEntry, deck: Shared<GoodDeck>) -> Result<(), NoMemory>
         ensures { OnOk result (self.new ≡ record {
           world = back_at self.old.world (in_deck deck earlier);
           deck = Some deck;
@@ -237,7 +232,7 @@ impl Context {
         &mut self,
         alloc: Global,
         sets: Rows<(Text, Text)>,
-        earlier: Entry,
+        earlier: PageEntry,
         deck: Shared<GoodDeck>,
         lines: &mut Rows<Text>,
     ) -> Result<Option<Task>, NoMemory>
@@ -256,7 +251,7 @@ impl Context {
         &mut self,
         alloc: Global,
         sets: Rows<(Text, Text)>,
-        earlier: Entry,
+        earlier: PageEntry,
         answer: Result<Shared<GoodDeck>, Refusal>,
         lines: &mut Rows<Text>,
     ) -> Result<Option<Task>, NoMemory>

@@ -8,6 +8,7 @@ mod entering;
 mod following;
 mod navigation;
 mod running;
+mod saved;
 mod scenes;
 mod script_lines;
 mod starting;
@@ -15,6 +16,8 @@ mod ticking;
 mod waiting;
 
 pub use context::Context;
+pub use saved::Revived;
 pub use waiting::{Step, Ticked, Waiting};
+pub use wap_parts::ContextParts;
 pub use wap_site::{Page, Pages};
 pub use wap_world::Timer;

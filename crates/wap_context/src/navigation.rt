@@ -1,10 +1,11 @@
 //! Go, open and prev (WAP-191, sections 9.2, 9.5 and 9.10).
-ghost use Rattle.std.specs.Prelude.{◌≡◌, Some, true, false, IfOk};
+ghost use Rattle.std.specs.Prelude.{◌≡◌, Some, None, true, false, IfOk, IfSome};
 ghost use Rattle.std.specs.Option.{option_map, option_map_or};
 ghost use Rattle.wap_world.specs.World.{place_now};
 ghost use Rattle.wap_world.specs.Tasks.{base_now, with_turn, go, open_url, prev};
 ghost use Rattle.wap_world.specs.Tasks.{stay_or_ask, request, ask_back, back_from, task_once};
 ghost use Rattle.wap_scripting.specs.UnitSites.{shelf_of};
+ghost use Rattle.wap_page_urls.specs.PageUrls.{IsPageUrl};
 ghost use Rattle.wap_context.specs.Browsers.{place_held};
 ghost use Rattle.wap_context.specs.Sites.{site_of};
 ghost use Rattle.wap_context.specs.inside.Held.{page_under, page_here};
@@ -17,23 +18,19 @@ use std::alloc::Global;
 use wap_base::{NoMemory, Rows, RunErr, Text};
 use wap_cardrules::{Go, Task};
 use wap_good::GoodDeck;
-use wap_requests::{Request, is_same_page, plain_get, request_of, target};
+use wap_page_urls::{PageEntry, PageRequest, PageUrl, plain, target};
+use wap_requests::is_same_page;
 use wap_site::{Pages, Shared};
 use wap_url::Url;
-use wap_world::{Entry, Refusal};
-
-/// A URL with the fragment of another.
-fn with_fragment_of(mut here: Url, url: Url) -> Url
-    ensures { result ≡ record here { fragment = url.fragment } }
-{
-    here.fragment = url.fragment;
-    here
-}
+use wap_world::Refusal;
 
 impl Context {
     /// A copy of the current deck's URL, if there is a current card.
     fn url(&self, alloc: Global) -> Result<Option<Url>, NoMemory>
-        ensures { IfOk result (λ url. url ≡ option_map (λ place. place.url) (place_held self.now)) }
+        ensures is { IfOk result
+            (λ url. url ≡ option_map (λ place. place.url) (place_held self.now)) }
+        ensures page { IfOk result (λ url. IfSome url IsPageUrl) }
+        ensures whole { IfOk result (λ url. IfSome url (λ url. url.fragment ≡ None)) }
     {
         if self.here().is_none() {
             return Ok(None);
@@ -46,8 +43,9 @@ impl Context {
         &self,
         alloc: Global,
         url: &Url,
-    ) -> Result<Option<(Url, Shared<GoodDeck>)>, NoMemory>
-        ensures { IfOk result (λ page. page ≡ page_under url.now (place_held self.now)) }
+    ) -> Result<Option<(PageUrl, Shared<GoodDeck>)>, NoMemory>
+        ensures is { IfOk result (λ page. page ≡ page_under url.now (place_held self.now)) }
+        ensures whole { IfOk result (λ page. IfSome page (λ page. page.0.fragment ≡ None)) }
     {
         let (Some(here), Some(deck)) = (self.url(alloc)?, &self.deck) else {
             return Ok(None);
@@ -55,21 +53,22 @@ impl Context {
         if !is_same_page(alloc, url, &here)? {
             return Ok(None);
         }
-        Ok(Some((here, deck.share()?)))
+        Ok(Some((PageUrl::of(here), deck.share()?)))
     }
 
     /// The current deck and its URL, where that is what a request asks for.
     fn page_here(
         &self,
         alloc: Global,
-        one: &Request,
-    ) -> Result<Option<(Url, Shared<GoodDeck>)>, NoMemory>
+        one: &PageRequest,
+    ) -> Result<Option<(PageUrl, Shared<GoodDeck>)>, NoMemory>
         ensures { IfOk result (λ page. page ≡ page_here one.now (place_held self.now)) }
     {
-        if one.body.is_some() || one.fresh {
+        let asked = one.as_request();
+        if asked.body.is_some() || asked.fresh {
             return Ok(None);
         }
-        self.page_under(alloc, &one.url)
+        self.page_under(alloc, &asked.url)
     }
 
     /// Asks for a page, and enters the deck that it is.
@@ -79,19 +78,20 @@ impl Context {
         pages: &mut P,
         sets: Rows<(Text, Text)>,
         caller: &Option<Url>,
-        one: Request,
+        one: PageRequest,
         lines: &mut Rows<Text>,
     ) -> Result<Went, RunErr>
         ensures { Takes (λ pages keys world. request (site_of pages) keys sets caller.now one world)
             (P.seen pages.old) (P.seen pages.new) self.old self.new lines.old lines.new result }
     {
         let page = ask(alloc, pages, &one, lines)?;
+        let url = one.into_url();
         match page_answer(page) {
             Ok(answer) => {
-                let next = self.take_answer(alloc, sets, caller, one.url, answer, lines)?;
+                let next = self.take_answer(alloc, sets, caller, url, answer, lines)?;
                 Ok(went_to(next))
             }
-            Err(unit) => self.try_script(alloc, pages, sets, caller, one.url, unit, lines),
+            Err(unit) => self.try_script(alloc, pages, sets, caller, url, unit, lines),
         }
     }
 
@@ -102,7 +102,7 @@ impl Context {
         pages: &mut P,
         sets: Rows<(Text, Text)>,
         caller: &Option<Url>,
-        one: Request,
+        one: PageRequest,
         lines: &mut Rows<Text>,
     ) -> Result<Went, RunErr>
         ensures { Takes (λ pages keys world. stay_or_ask (site_of pages) keys sets caller.now one world
@@ -111,7 +111,7 @@ impl Context {
     {
         match self.page_here(alloc, &one)? {
             Some((here, deck)) => {
-                let url = with_fragment_of(here, one.url);
+                let url = one.fragment_on(here);
                 Ok(went_to(self.arrive(alloc, sets, url, deck, lines)?))
             }
             None => self.request(alloc, pages, sets, caller, one, lines),
@@ -119,13 +119,14 @@ impl Context {
     }
 
     /// A copy of the current deck's URL; without a card, that of the script that asked.
-    fn base(&self, alloc: Global, from: Option<Url>) -> Result<Option<Url>, NoMemory>
-        ensures { IfOk result (λ url. url ≡ option_map_or Some
+    fn base(&self, alloc: Global, from: Option<PageUrl>) -> Result<Option<Url>, NoMemory>
+        ensures is { IfOk result (λ url. url ≡ option_map_or Some
             (option_map (λ place. place.url) (place_held self.now)) from) }
+        ensures page { IfOk result (λ url. IfSome url IsPageUrl) }
     {
         match self.url(alloc)? {
             Some(url) => Ok(Some(url)),
-            None => Ok(from),
+            None => Ok(plain(from)),
         }
     }
 
@@ -135,7 +136,7 @@ impl Context {
         alloc: Global,
         pages: &mut P,
         one: Go,
-        from: Option<Url>,
+        from: Option<PageUrl>,
         lines: &mut Rows<Text>,
     ) -> Result<Went, RunErr>
         ensures { Takes (λ pages keys world.
@@ -145,7 +146,7 @@ impl Context {
         let base = self.base(alloc, from)?;
         match target(alloc, &base, &one.href)? {
             Ok(url) => {
-                let request = request_of(alloc, &base, &one, url)?;
+                let request = PageRequest::of(alloc, &base, &one, url)?;
                 self.stay_or_ask(alloc, pages, one.sets, &base, request, lines)
             }
             Err(refusal) => Ok(went_to(self.refuse(alloc, refusal, lines)?)),
@@ -167,7 +168,7 @@ impl Context {
         match target(alloc, &base, url)? {
             Ok(url) => {
                 let sets = Rows::new(alloc);
-                self.request(alloc, pages, sets, &None, plain_get(url), lines)
+                self.request(alloc, pages, sets, &None, PageRequest::get(url), lines)
             }
             Err(refusal) => Ok(went_to(self.refuse(alloc, refusal, lines)?)),
         }
@@ -179,13 +180,13 @@ impl Context {
         alloc: Global,
         pages: &mut P,
         sets: Rows<(Text, Text)>,
-        earlier: Entry,
+        earlier: PageEntry,
         lines: &mut Rows<Text>,
     ) -> Result<Went, RunErr>
         ensures { Takes (λ pages keys world. ask_back (shelf_of pages) keys sets earlier world)
             (P.seen pages.old) (P.seen pages.new) self.old self.new lines.old lines.new result }
     {
-        let page = ask_for(alloc, pages, &earlier.url, lines)?;
+        let page = ask_for(alloc, pages, &earlier, lines)?;
         Ok(went_to(self.return_with(alloc, sets, earlier, deck_answer(page), lines)?))
     }
 
@@ -195,19 +196,16 @@ impl Context {
         alloc: Global,
         pages: &mut P,
         sets: Rows<(Text, Text)>,
-        earlier: Entry,
+        earlier: PageEntry,
         lines: &mut Rows<Text>,
     ) -> Result<Went, RunErr>
         ensures { Takes (λ pages keys world. back_from (shelf_of pages) keys sets earlier world
             (place_now (shelf_of pages) world))
             (P.seen pages.old) (P.seen pages.new) self.old self.new lines.old lines.new result }
     {
-        match self.page_under(alloc, &earlier.url)? {
+        match self.page_under(alloc, earlier.url())? {
             Some((here, deck)) => {
-                let card = Entry {
-                    url: here,
-                    card: earlier.card,
-                };
+                let card = PageEntry::of(here, earlier.card());
                 Ok(went_to(self.return_to(alloc, sets, card, deck, lines)?))
             }
             None => self.ask_back(alloc, pages, sets, earlier, lines),
@@ -268,7 +266,7 @@ impl Context {
         alloc: Global,
         pages: &mut P,
         task: Task,
-        from: Option<Url>,
+        from: Option<PageUrl>,
         lines: &mut Rows<Text>,
     ) -> Result<Went, RunErr>
         ensures { Onces (λ pages keys world.

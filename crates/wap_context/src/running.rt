@@ -19,9 +19,9 @@ use wap_cardrules::{Event, Task};
 use wap_execution::Fatal;
 use wap_host::Running;
 use wap_machine::{Machine, Outcome};
+use wap_page_urls::PageUrl;
 use wap_site::Pages;
 use wap_state::State;
-use wap_url::Url;
 use wap_world::Timer;
 
 /// What a timer is before the navigation that a script asked for.
@@ -78,6 +78,7 @@ impl Context {
 
     /// No navigation is done: where the timer ran out meanwhile, its task is next, else the card is
     /// shown.
+    #[tactic(auto, using(wap_state::proofs::Keeping::keeps_off))]
     fn rest(&mut self, alloc: Global, lines: &mut Rows<Text>) -> Result<Option<Task>, NoMemory>
         ensures { IfOk result (λ next.
             Moves (rest_at self.old.world.timer (place_held self.old) self.old.world)
@@ -93,10 +94,11 @@ impl Context {
     }
 
     /// A script came to its end: what it asked for is next, else the card is shown.
+    #[tactic(auto, using(wap_state::proofs::Keeping::keeps_settled))]
     fn end_done(
         &mut self,
         alloc: Global,
-        base: Url,
+        base: PageUrl,
         lines: &mut Rows<Text>,
     ) -> Result<Went, NoMemory>
         ensures moves { IfOk result (λ went.
@@ -134,7 +136,7 @@ impl Context {
     pub(crate) fn end_script(
         &mut self,
         alloc: Global,
-        base: Url,
+        base: PageUrl,
         outcome: Outcome,
         lines: &mut Rows<Text>,
     ) -> Result<Went, NoMemory>
@@ -157,7 +159,7 @@ impl Context {
         alloc: Global,
         pages: &mut P,
         machine: Machine,
-        base: Url,
+        base: PageUrl,
         first: Rows<Text>,
         lines: &mut Rows<Text>,
     ) -> Result<Went, RunErr>

@@ -16,6 +16,7 @@ ghost use Rattle.wap_scripting.specs.Units.{external_in};
 ghost use Rattle.wap_scripting.specs.UnitSites.{shelf_of};
 ghost use Rattle.std.specs.Prelude.{None};
 
+use crate::asking::may_enter;
 use crate::context::Context;
 use crate::script_lines::add_script_line;
 use crate::waiting::Went;
@@ -25,7 +26,7 @@ use wap_execution::Fatal;
 use wap_host::{entrance_in, external_in};
 use wap_invocation::{Invocation, read_call};
 use wap_machine::Machine;
-use wap_requests::may_enter;
+use wap_page_urls::PageUrl;
 use wap_site::{Pages, Shared};
 use wap_url::Url;
 use wap_value::Value;
@@ -90,10 +91,10 @@ fn start_with(unit: &Verified, call: Invocation, string: u32) -> Start
 }
 
 /// What a URL to a script starts.
-fn start_of(alloc: Global, unit: &Verified, string: u32, url: &Url) -> Result<Start, NoMemory>
+fn start_of(alloc: Global, unit: &Verified, string: u32, url: &PageUrl) -> Result<Start, NoMemory>
     ensures { IfOk result (λ start. start ≡ start_of unit.now string url.now) }
 {
-    match call_in(alloc, url)? {
+    match call_in(alloc, url.as_url())? {
         Some(call) => Ok(start_with(unit, call, string)),
         None => Ok(Start::Not(Fatal::NoFunction)),
     }
@@ -107,14 +108,6 @@ fn copy_of(alloc: Global, url: &Option<Url>) -> Result<Option<Url>, NoMemory>
         Some(url) => Ok(Some(url.copy(alloc)?)),
         None => Ok(None),
     }
-}
-
-/// A URL without its fragment.
-fn without_fragment(mut url: Url) -> Url
-    ensures { result ≡ without_fragment url }
-{
-    url.fragment = None;
-    url
 }
 
 impl Context {
@@ -151,7 +144,7 @@ impl Context {
         pages: &mut P,
         sets: Rows<(Text, Text)>,
         caller: &Option<Url>,
-        url: Url,
+        url: PageUrl,
         unit: Shared<Verified>,
         index: u8,
         arguments: Rows<Value>,
@@ -164,12 +157,12 @@ impl Context {
         let mut first = Rows::new(alloc);
         self.set_variables(alloc, sets, &mut first)?;
         self.clear_pending();
-        let base = without_fragment(url);
+        let base = url.without_fragment();
         let limits = self.limits();
         let machine = Machine::start(
             alloc,
             unit,
-            base.copy(alloc)?,
+            base.to_url(alloc)?,
             copy_of(alloc, caller)?,
             index,
             arguments.into_vec(),
@@ -185,7 +178,7 @@ impl Context {
         pages: &mut P,
         sets: Rows<(Text, Text)>,
         caller: &Option<Url>,
-        url: Url,
+        url: PageUrl,
         unit: Shared<Verified>,
         lines: &mut Rows<Text>,
     ) -> Result<Went, RunErr>
@@ -211,7 +204,7 @@ impl Context {
         pages: &mut P,
         sets: Rows<(Text, Text)>,
         caller: &Option<Url>,
-        url: Url,
+        url: PageUrl,
         unit: Shared<Verified>,
         lines: &mut Rows<Text>,
     ) -> Result<Went, RunErr>

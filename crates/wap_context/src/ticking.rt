@@ -60,6 +60,7 @@ impl Context {
     }
 
     /// Lets so many tenths of a second pass: less than remains of the timer, or all.
+    #[tactic(auto, using(wap_state::proofs::Keeping::keeps_counted))]
     pub(crate) fn pass_time<P: Pages>(
         &mut self,
         alloc: Global,
@@ -96,6 +97,7 @@ impl Context {
     }
 
     /// Lets so many tenths of a second pass while a script waits, of what remains of the timer.
+    #[tactic(auto, using(wap_state::proofs::Keeping::keeps_counted))]
     pub(crate) fn count_down(
         &mut self,
         alloc: Global,

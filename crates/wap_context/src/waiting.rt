@@ -9,14 +9,14 @@ use wap_base::{Rows, Text};
 use wap_cardrules::Task;
 use wap_execution::Dialog;
 use wap_machine::Waiting as Machine;
-use wap_url::Url;
+use wap_page_urls::PageUrl;
 
 /// A script that waits for the answer to its dialog. A contract sees its limits, its frames and the
 /// URL of the script that was started.
 #[derive(Drop)]
 pub struct Waiting {
     pub(crate) machine: Machine,
-    pub(crate) base: Url,
+    pub(crate) base: PageUrl,
 }
 
 impl Model for Waiting {
@@ -55,7 +55,7 @@ pub enum Went {
     /// Nothing.
     Settled,
     /// A task; where there is no card, from the URL of the script that asked for it.
-    Leads(Task, Option<Url>),
+    Leads(Task, Option<PageUrl>),
     /// A script asks its user, and goes on with the answer.
     Asks(Dialog, Waiting),
 }

@@ -1,5 +1,5 @@
 -- Calls of libraries: functions that no library has, and results within the limit of Strings.
-use Rattle.std.proofs.Common.{◌≡◌, ◌≢◌, ◌∙◌, ◌≤◌, ℕ, List, [], ◌∷◌, Bool, true, false, Option, Some}
+use Rattle.std.proofs.Common.{◌≡◌, ◌∙◌, ◌≤◌, ℕ, List, [], ◌∷◌, Bool, true, false, Option, Some}
 use Rattle.std.proofs.Common.{None, zero, suc, length, refl, sym, ap, ap₂, subst, arith}
 use Rattle.std.specs.Prelude.{slice_get, Ok, Err, if◌then◌else◌, nat_lt}
 use Rattle.wap_base.specs.Utf8.{utf8_len}
@@ -10,9 +10,9 @@ use Rattle.wap_library.specs.declared.outcome.LibOut.TheVariants as lib
 use Rattle.wap_library.specs.Generator.{Generator}
 use Rattle.wap_code.specs.Libraries.{lib_args}
 use Rattle.wap_library_laws.proofs.Tables.{handed}
-use Rattle.wap_library.specs.Libraries.{function_at, row_of, row_at, IsPure}
+use Rattle.wap_library.specs.Libraries.{function_at, row_of, IsPure}
 use Rattle.wap_library.specs.Outcome.{outcome, generator_after, limited}
-use Rattle.wap_library.specs.Row.{Row, gives, of_none, applied, arguments}
+use Rattle.wap_library.specs.Row.{gives, of_none, applied, arguments}
 use Rattle.wap_library.specs.declared.function.Function.{Function}
 use Rattle.std.specs.Option.{option_map, option_map_or}
 use Rattle.wap_execution.specs.declared.library.HostOut.{HostOut}
@@ -21,10 +21,8 @@ use Rattle.wap_machine.specs.Hosts.{IsNoBudget}
 use Rattle.wap_world.specs.World.{World}
 use Rattle.wap_world.specs.Steps.{Step}
 use Rattle.wap_scripting.specs.Hosting.{kept_by, kept, within}
-use Rattle.wap_scripting.specs.Browsing.{browser_functions, BrowserFunction}
-use Rattle.wap_scripting.specs.Browsing.{dialog_functions, DialogFunction}
 use Rattle.wap_host.specs.Stages.{Sight}
-use Rattle.wap_host.specs.Serving.{begun, Gave}
+use Rattle.wap_host.specs.Serving.{Gave}
 
 -- ---- functions that aren't there
 

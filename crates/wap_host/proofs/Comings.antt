@@ -1,13 +1,11 @@
 -- What a page gives to a script that calls its functions, or loads it.
-use Rattle.std.proofs.Common.{◌≡◌, ◌∙◌, ℕ, Bool, List, [], ◌∷◌, Option, Some, Ok}
+use Rattle.std.proofs.Common.{◌≡◌, ℕ, List, [], Option, Some, Ok}
 use Rattle.std.proofs.Common.{refl, sym, ap, ap₂, subst}
 use Rattle.std.specs.Prelude.{if◌then◌else◌, nat_eq, codes}
 use Rattle.std.specs.List.{ends_with}
 use Rattle.wap_url.specs.declared.url.Url.{Url}
 use Rattle.wap_url.specs.Printing.{name_for, without_fragment}
-use Rattle.wap_value.specs.declared.value.Value.{Value}
 use Rattle.wap_code.specs.declared.unit.Unit.{Unit}
-use Rattle.wap_execution.specs.declared.library.HostOut.{HostOut}
 use Rattle.wap_execution.specs.declared.library.HostOut.TheVariants as out
 use Rattle.wap_site.specs.declared.page.Page.{Page}
 use Rattle.wap_site.specs.declared.page.Page.TheVariants as judge
@@ -19,7 +17,7 @@ use Rattle.wap_world.specs.Steps.{Step, still, quiet}
 use Rattle.wap_world.specs.Access.{may_enter}
 use Rattle.wap_world.specs.Requests.{plain_get}
 use Rattle.wap_scripting.specs.Additions.{with_request}
-use Rattle.wap_scripting.specs.Units.{entrance_in, external_in}
+use Rattle.wap_scripting.specs.Units.{entrance_in}
 use Rattle.wap_scripting.specs.Loading.{text_in, loaded, not_acceptable}
 use Rattle.wap_scripting.specs.Hosting.{callable, callable_if, found_under, found_at, kept, within}
 use Rattle.wap_scripting.specs.UnitSites.{Pages, shelf_of, unit_under, externals_of, unit_pages}

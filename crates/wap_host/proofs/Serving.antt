@@ -2,7 +2,7 @@
 use Rattle.std.proofs.Common.{◌≡◌, ◌∙◌, ◌≤◌, ◌+◌, ℕ, Bool, true, false, List, [], ◌∷◌, ◌++◌}
 use Rattle.std.proofs.Common.{Option, Some, None, Ok, Err, refl, sym, ap, subst, arith}
 use Rattle.std.proofs.Common.{append-nil}
-use Rattle.std.specs.Prelude.{if◌then◌else◌, Result, IfSome, IfOk, IsErr, IsErrAnd}
+use Rattle.std.specs.Prelude.{if◌then◌else◌, Result, IfSome, IsErr, IsErrAnd}
 use Rattle.std.proofs.lemmas.Bool.{false≢true}
 use Rattle.std.proofs.Math.Path.{fun_ext}
 use Rattle.std.specs.Option.{option_map}
@@ -18,17 +18,17 @@ use Rattle.wap_execution.specs.declared.library.HostOut.TheVariants as out
 use Rattle.wap_value.specs.declared.value.Value.TheVariants.{Invalid}
 use Rattle.wap_scripting.specs.Browsing.{gives}
 use Rattle.wap_scripting.specs.Hosting.{within}
-use Rattle.wap_machine.specs.Hosts.{Gives, AtMost, Fetches}
+use Rattle.wap_machine.specs.Hosts.{Gives, Fetches}
 use Rattle.wap_site.specs.declared.page.Page.{Page}
 use Rattle.wap_site.specs.Pages.{Pages as JudgedPages, page_of, AreSitePages}
 use Rattle.wap_site.specs.Misses.{Cache, Asked as Question, is_miss, after_asking, after_all, misses}
-use Rattle.wap_site.specs.Asking.{Seen, raised_by, RaisedWithin, Stays, Asks, Fails}
+use Rattle.wap_site.specs.Asking.{Seen, raised_by, RaisedWithin, Stays}
 use Rattle.wap_site.proofs.Asking.{Stays-same}
 use Rattle.wap_world.specs.Requests.{plain_get, request_line}
 use Rattle.wap_world.specs.World.{World}
 use Rattle.wap_world.specs.Steps.{Step}
 use Rattle.wap_scripting.specs.UnitSites.{Pages, unit_pages}
-use Rattle.wap_scripting.specs.Views.{Counted, View, counted_once, counted_all, added}
+use Rattle.wap_scripting.specs.Views.{Counted, View, counted_all, added}
 use Rattle.wap_host.specs.Stages.{Sight, counted_in, view_in, count_of, fetched_in}
 use Rattle.wap_host.specs.Serving.{begun, Gave, Serves, question, AsksFor}
 use Rattle.wap_host.specs.inside.Counting.{count_in}

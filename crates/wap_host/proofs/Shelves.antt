@@ -1,6 +1,6 @@
 -- What stands under a name in judged pages, as pages of units.
 use Rattle.std.proofs.Common.{◌≡◌, ◌∙◌, ℕ, Bool, true, false, List, [], ◌∷◌, Option, Some, None}
-use Rattle.std.proofs.Common.{refl, sym, ap}
+use Rattle.std.proofs.Common.{refl, ap}
 use Rattle.std.specs.Prelude.{if◌then◌else◌, IfSome, unwrap_or, option_and_then}
 use Rattle.std.specs.Option.{option_map}
 use Rattle.std.proofs.lemmas.Map.Entries.{All-lookup}
@@ -10,10 +10,9 @@ use Rattle.wap_site.specs.declared.page.Page.{Page}
 use Rattle.wap_site.specs.declared.page.Page.TheVariants as judge
 use Rattle.wap_site.specs.Pages.{Pages as JudgedPages, IsThere, AreSitePages}
 use Rattle.wap_site.specs.Pages.{page_under as judged_under, page_of}
-use Rattle.wap_world.specs.Sites.{External}
 use Rattle.wap_scripting.specs.Units.{external_in}
-use Rattle.wap_scripting.specs.ScriptPages.{PageOf, script, page_under, script_in, shelved}
-use Rattle.wap_scripting.specs.UnitSites.{Pages, units, no_unit, shelf_of, unit_under, externals_of}
+use Rattle.wap_scripting.specs.ScriptPages.{PageOf, page_under, script_in, shelved}
+use Rattle.wap_scripting.specs.UnitSites.{units, no_unit, shelf_of, unit_under, externals_of}
 use Rattle.wap_scripting.specs.UnitSites.{unit_page, unit_pages}
 use Rattle.wap_host.specs.Finding.{shelved_page}
 

@@ -36,9 +36,9 @@ pub(crate) fn place_at_hand<'a>(
     ensures { result ≡ place_with deck.now state.now }
 {
     match (state.last(), deck) {
-        (Some(entry), Some(deck)) => match deck.card(entry.card) {
+        (Some(entry), Some(deck)) => match deck.card(entry.card()) {
             Some(card) => Some(Standing {
-                url: &entry.url,
+                url: entry.url(),
                 deck,
                 card,
             }),

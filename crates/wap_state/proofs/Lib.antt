@@ -1,2 +1,4 @@
 pub mod Slots
 pub mod Lasts
+pub mod Keeping
+pub mod Saving

@@ -1,11 +1,14 @@
 -- Slots of the history, each with an entry.
 use Rattle.std.proofs.Common.{◌≡◌, ◌∙◌, ℕ, List, [], ◌∷◌, ◌++◌, map, length, take}
 use Rattle.std.proofs.Common.{drop, Option, Some, None, refl, sym, ap}
-use Rattle.std.specs.List.{remove, last_or}
+use Rattle.std.specs.Prelude.{IfSome}
+use Rattle.std.specs.List.{remove, last_or, flat_map, AllByRecursion}
 use Rattle.std.specs.Option.{option_to_list}
 use Rattle.std.proofs.lemmas.List.{map-append, length-map, take-map}
 use Rattle.wap_world.specs.declared.history.Entry.{Entry}
-use Rattle.wap_state.specs.inside.History.{entries_in, AreFilled}
+use Rattle.wap_page_urls.specs.PageUrls.{IsPageEntry}
+use Rattle.wap_state.specs.Saved.{saved_entry}
+use Rattle.wap_state.specs.inside.History.{entries_in, AreFilled, saved_slot}
 
 abbrev Slots : Type 0
 Slots = List (Option Entry)
@@ -69,3 +72,17 @@ pub filled_last : (slots others : Slots) (last : Option Entry) → AreFilled slo
     → last ∷ [] ≡ map Some (option_to_list (last_or None (entries_in slots)))
 filled_last slots others last is ends =
     one_left (entries_in slots) others last (sym is ∙ ends)
+
+-- ---- what is known of the entries in slots, and what is saved of them
+
+pub pages_in : (slots : Slots) → AllByRecursion (λ slot. IfSome slot IsPageEntry) slots
+    → AllByRecursion IsPageEntry (entries_in slots)
+pages_in [] all = tt
+pages_in (Some entry ∷ slots) all = (all.0, pages_in slots all.1)
+pages_in (None ∷ slots) all = pages_in slots all.1
+
+pub saved_in : (slots : Slots) → flat_map saved_slot slots ≡ map saved_entry (entries_in slots)
+saved_in [] = refl
+saved_in (Some entry ∷ slots) =
+    ap (λ (others : List (List ℕ × ℕ)). saved_entry entry ∷ others) (saved_in slots)
+saved_in (None ∷ slots) = saved_in slots

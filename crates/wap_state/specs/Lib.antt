@@ -1,3 +1,5 @@
 pub mod Held
 pub mod Scenes
+pub mod Standing
+pub mod Saved
 pub mod inside

@@ -5,6 +5,7 @@
 mod fields;
 mod hand;
 mod history;
+mod saved;
 mod screens;
 mod setting;
 mod state;

@@ -34,8 +34,8 @@ pub struct State {
 }
 
 impl Model for State {
-    ghost use Rattle.wap_base.specs.Limits.{AreInRange};
     ghost use Rattle.wap_world.specs.World.{World};
+    ghost use Rattle.wap_state.specs.Standing.{KeepsRules};
 
     ghost Value = { World };
 
@@ -50,11 +50,12 @@ impl Model for State {
       limits = state.limits;
     } };
 
-    ghost invariant = { λ state. AreInRange state.limits };
+    ghost invariant = { λ state. KeepsRules state.limits state.history state.timer };
 }
 
 impl State {
     /// A world in which nothing was done.
+    #[tactic(auto, using(crate::proofs::Keeping::keeps_first))]
     pub fn new(alloc: Global, seed: u32, limits: Limits) -> State
         requires { AreInRange limits }
         ensures { result ≡ first_world seed 0 limits }
@@ -71,6 +72,7 @@ impl State {
         }
     }
     /// The limits are ones that may be chosen, for those who rest a proof on it. It does nothing.
+    #[tactic(auto, using(crate::proofs::Keeping::range_of))]
     pub fn keep_limits(&self)
         ensures { AreInRange self.now.limits }
     {

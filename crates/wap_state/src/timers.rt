@@ -58,6 +58,7 @@ fn pair_of(alloc: Global, name: Option<Text>, time: u32) -> Result<Rows<(Text, T
 
 impl State {
     /// Starts the timer of a card, whatever its state.
+    #[tactic(auto, using(crate::proofs::Keeping::keeps_from))]
     pub fn start_timer(&mut self, alloc: Global, card: &View<'_>) -> Result<(), NoMemory>
         ensures { OnOk result (self.new ≡ start_timer card.now self.old) }
     {
@@ -107,6 +108,7 @@ impl State {
     }
 
     /// The timer of a card has run out.
+    #[tactic(auto, using(crate::proofs::Keeping::keeps_off))]
     pub fn end_timer(
         &mut self,
         alloc: Global,
@@ -121,6 +123,7 @@ impl State {
     }
 
     /// The timer of a card has run out while a script waits.
+    #[tactic(auto, using(crate::proofs::Keeping::keeps_expired))]
     pub fn expire(
         &mut self,
         alloc: Global,

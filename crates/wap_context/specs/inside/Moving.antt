@@ -1,6 +1,6 @@
 -- What the parts of a navigation come to. Contracts inside the crate cite it; those of its public
 -- calls don't. This project's own.
-use Rattle.std.specs.Prelude.{◌≡◌, ◌≤◌, ℕ, ◌+◌, false, List, [], ◌++◌, ◌∷◌, Option, Some, None}
+use Rattle.std.specs.Prelude.{◌≡◌, ◌≤◌, ◌+◌, false, List, [], ◌++◌, ◌∷◌, Option, Some, None}
 use Rattle.std.specs.Prelude.{IfSome, IfOk, OnOk, Result, Ok, Err}
 use Rattle.wap_base.specs.declared.fault.RunErr.{RunErr}
 use Rattle.wap_base.specs.declared.fault.RunErr.TheVariants.{Store}
@@ -24,7 +24,7 @@ use Rattle.wap_world.specs.Tasks.{act}
 use Rattle.wap_scripting.specs.UnitSites.{Pages, shelf_of}
 use Rattle.wap_scripting.specs.Waiting.{Waits, resumed_step}
 use Rattle.wap_scripting.specs.Halves.{once_by}
-use Rattle.wap_scripting.specs.Feeding.{Fed, Means}
+use Rattle.wap_scripting.specs.Feeding.{Means}
 use Rattle.wap_state.specs.Scenes.{Line, Plays}
 use Rattle.wap_context.specs.declared.waiting.Went.{Went}
 use Rattle.wap_context.specs.declared.waiting.Went.TheVariants.{Settled, Leads, Asks as AsksUser}

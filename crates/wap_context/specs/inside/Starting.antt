@@ -2,11 +2,10 @@
 -- at hand. Contracts inside the crate cite it; those of its public calls don't. This project's own.
 use Rattle.std.specs.Prelude.{◌≡◌, ⊤, ℕ, Bool, true, false, ◌==◌, if◌then◌else◌, List, [], ◌∷◌, length}
 use Rattle.std.specs.Prelude.{Option, Some, None, IfOk, OnOk, ◌≤◌, Result, Err}
-use Rattle.std.specs.Option.{option_map, option_and_then}
+use Rattle.std.specs.Option.{option_and_then}
 use Rattle.std.specs.List.{list_any}
 use Rattle.wap_base.specs.declared.fault.RunErr.{RunErr}
 use Rattle.wap_base.specs.declared.fault.RunErr.TheVariants.{Store}
-use Rattle.wap_base.specs.declared.limits.Limits.{Limits}
 use Rattle.wap_base.specs.Count.{Rose}
 use Rattle.wap_url.specs.declared.url.Url.{Url}
 use Rattle.wap_url.specs.Printing.{without_fragment}
@@ -15,7 +14,7 @@ use Rattle.wap_input.specs.declared.key.Key.{Key}
 use Rattle.wap_code.specs.declared.unit.Unit.{Unit}
 use Rattle.wap_execution.specs.declared.fatal.Fatal.{Fatal}
 use Rattle.wap_execution.specs.declared.fatal.Fatal.TheVariants as fatal
-use Rattle.wap_execution.specs.Frames.{Function, Frame, code_at}
+use Rattle.wap_execution.specs.Frames.{Function, code_at}
 use Rattle.wap_execution.specs.Outcomes.{Ended}
 use Rattle.wap_execution.specs.Running.{finished}
 use Rattle.wap_execution_laws.specs.Settings.{uncounted}

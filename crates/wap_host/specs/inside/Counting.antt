@@ -1,5 +1,5 @@
 -- Counts of a view and of pages. It only carries proofs.
-use Rattle.std.specs.Prelude.{◌≡◌, ◌≤◌, ℕ, ◌+◌, Bool, true, false, if◌then◌else◌, List, [], ◌∷◌}
+use Rattle.std.specs.Prelude.{◌≡◌, ◌≤◌, ℕ, Bool, true, false, if◌then◌else◌, List, [], ◌∷◌}
 use Rattle.std.specs.Prelude.{Option, Some, None, IfSome, refl}
 use Rattle.std.proofs.Common.{zero, suc, sym, subst}
 use Rattle.std.specs.Option.{option_map}

@@ -1,4 +1,4 @@
-use Rattle.std.proofs.Common.{◌∙◌, ℕ, nat_lt, sym, ap}
+use Rattle.std.proofs.Common.{◌∙◌, nat_lt, sym, ap}
 use Rattle.wap_value.specs.declared.value.Value.{Value}
 use Rattle.wap_world.specs.Starting.{is_too_long}
 use Rattle.wap_base.proofs.Utf8Lengths.{length-encode_utf8_all}

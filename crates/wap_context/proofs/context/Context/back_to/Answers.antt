@@ -1,6 +1,11 @@
-use Rattle.std.proofs.Common.{refl}
+use Rattle.std.proofs.Common.{◌≡◌, ◌∙◌, ap, subst, Option, None, IfSome}
+use Rattle.wap_url.specs.declared.url.Url.{Url}
+use Rattle.wap_markup.specs.declared.deck.Deck.{Deck}
+use Rattle.wap_context.specs.Browsers.{place_held}
+use Rattle.wap_context.specs.inside.Held.{page_under}
 use Rattle.wap_site.proofs.Asking.{Stays-same}
 use Rattle.wap_context.proofs.Takings.{takes_rejected}
+use Rattle.wap_context.proofs.HeldDecks.{entry_here}
 use Rattle.wap_context.proofs.Requesting.{GoesBack, back_returns, back_asks}
 use Rattle.wap_context.proofs.context.Context.back_to.Goals as goal
 
@@ -10,9 +15,14 @@ returns-in_ok-return_to-in-Some g c =
     c.args.self.now c.return_to.new.self c.args.lines.now c.args.sets c.args.earlier
     c.return_to.new.lines c.in_ok-return_to-in-Some.field-0 c.went_to.result
     c.in_ok-here.field-0 (c.in-Some.here, c.in-Some.deck)
-    (record { url = c.in-Some.here; card = c.args.earlier.card })
+    c.of-card.result
     c.went_to.ensures.next c.went_to.ensures.none
-    c.in_ok-here.ensures c.in-Some.is refl
+    (c.in_ok-here.ensures.is
+    ∙ ap (λ (u : Url). page_under u (place_held c.args.self.now)) c.url.ensures) c.in-Some.is
+    (c.of-card.ensures
+    ∙ entry_here c.in-Some.here c.args.earlier c.card.result c.card.ensures
+    (subst (λ (o : Option (Url × Deck)). IfSome o (λ page. page.0.fragment ≡ None)) c.in-Some.is
+    c.in_ok-here.ensures.whole))
     c.in_ok-return_to-in-Some.ensures
 
 pub returns-in_err-return_to-in-Some : goal.returns-in_err-return_to-in-Some
@@ -30,4 +40,5 @@ returns-in-None g c =
     back_asks (g.P.Pages.seen c.args.pages.now)
     c.args.self.now c.ask_back.new.self c.args.lines.now c.args.sets c.args.earlier
     (g.P.Pages.seen c.ask_back.new.pages) c.ask_back.new.lines c.in_ok-here.field-0
-    c.ask_back.result c.in_ok-here.ensures c.in-None.is c.ask_back.ensures
+    c.ask_back.result (c.in_ok-here.ensures.is
+    ∙ ap (λ (u : Url). page_under u (place_held c.args.self.now)) c.url.ensures) c.in-None.is c.ask_back.ensures

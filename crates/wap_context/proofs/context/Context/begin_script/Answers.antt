@@ -13,14 +13,23 @@ use Rattle.wap_context.proofs.Takings.{takes_rejected}
 use Rattle.wap_context.proofs.Beginning.{begin_takes}
 use Rattle.wap_context.proofs.context.Context.begin_script.Goals as goal
 
-pub returns-in_err-copy : goal.returns-in_err-copy
-returns-in_err-copy g c =
+pub returns-in_err-set_variables : goal.returns-in_err-set_variables
+returns-in_err-set_variables g c =
+    takes_rejected
+    (begun_with c.args.unit c.args.sets c.args.caller.now c.args.url c.args.index
+    c.args.arguments) (g.P.Pages.seen c.args.pages.now) (g.P.Pages.seen c.args.pages.now)
+    c.args.self.now c.set_variables.new.self c.args.lines.now c.args.lines.now
+    c.from_residual.result (Stays-same (g.P.Pages.seen c.args.pages.now))
+    c.from_residual.ensures.0 c.from_residual.ensures.1
+
+pub returns-in_err-to_url : goal.returns-in_err-to_url
+returns-in_err-to_url g c =
     takes_rejected
     (begun_with c.args.unit c.args.sets c.args.caller.now c.args.url c.args.index
     c.args.arguments) (g.P.Pages.seen c.args.pages.now) (g.P.Pages.seen c.args.pages.now)
     c.args.self.now c.clear_pending.new.self c.args.lines.now c.args.lines.now
-    c.from_residual-in_err-copy.result (Stays-same (g.P.Pages.seen c.args.pages.now))
-    c.from_residual-in_err-copy.ensures.0 c.from_residual-in_err-copy.ensures.1
+    c.from_residual-in_err-to_url.result (Stays-same (g.P.Pages.seen c.args.pages.now))
+    c.from_residual-in_err-to_url.ensures.0 c.from_residual-in_err-to_url.ensures.1
 
 pub returns-in_err-copy_of : goal.returns-in_err-copy_of
 returns-in_err-copy_of g c =
@@ -45,18 +54,18 @@ returns g c =
     let entered = subst (λ (base : Url).
     IsEntered c.limits-limits.result
     (function_in c.args.unit base c.args.caller.now c.args.index) c.args.arguments []
-    c.in_ok-machine.machine) c.in_ok-copy.ensures
+    c.in_ok-machine.machine) c.in_ok-to_url.ensures
     (subst (λ (caller : Option Url).
     IsEntered c.limits-limits.result
-    (function_in c.args.unit c.in_ok-copy.field-0 caller c.args.index) c.args.arguments []
+    (function_in c.args.unit c.in_ok-to_url.field-0 caller c.args.index) c.args.arguments []
     c.in_ok-machine.machine) c.in_ok-copy_of.ensures
     (subst (λ (arguments : List Value).
     IsEntered c.limits-limits.result
-    (function_in c.args.unit c.in_ok-copy.field-0 c.in_ok-copy_of.field-0 c.args.index) arguments
+    (function_in c.args.unit c.in_ok-to_url.field-0 c.in_ok-copy_of.field-0 c.args.index) arguments
     [] c.in_ok-machine.machine) c.into_vec.ensures
     (subst (λ (unit : Unit).
     IsEntered c.limits-limits.result
-    (function_in unit c.in_ok-copy.field-0 c.in_ok-copy_of.field-0 c.args.index)
+    (function_in unit c.in_ok-to_url.field-0 c.in_ok-copy_of.field-0 c.args.index)
     c.into_vec.result.items [] c.in_ok-machine.machine) c.unit.view_is
     c.in_ok-machine.ensures))) in
     begin_takes c.args.unit c.args.sets c.args.caller.now c.args.url c.args.index c.args.arguments

@@ -21,7 +21,7 @@ returns-in_ok-request-in-Ok g c =
     (λ pages over keys.
     go_by pages c.args.self.now over keys c.args.from c.in_ok-base.base c.args.one c.in-Ok.url
     c.in_ok-request-in-Ok.request
-    c.in_ok-base.ensures (sym c.in-Ok.is ∙ c.in_ok-url.ensures) c.in_ok-request-in-Ok.ensures)
+    c.in_ok-base.ensures.is (sym c.in-Ok.is ∙ c.in_ok-url.ensures) c.in_ok-request-in-Ok.ensures)
     c.stay_or_ask.ensures
 
 pub returns-in_ok-refuse-in-Err : goal.returns-in_ok-refuse-in-Err
@@ -34,7 +34,7 @@ returns-in_ok-refuse-in-Err g c =
     c.went_to.ensures.next c.went_to.ensures.none
     (λ pages over keys.
     go_no pages c.args.self.now over keys c.args.from c.in_ok-base.base c.args.one c.in-Err.refusal
-    c.in_ok-base.ensures
+    c.in_ok-base.ensures.is
     (sym c.in-Err.is ∙ c.in_ok-url.ensures))
     c.in_ok-refuse-in-Err.ensures
 

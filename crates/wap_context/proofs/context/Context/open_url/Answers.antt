@@ -11,16 +11,16 @@ pub returns-in-Ok : goal.returns-in-Ok
 returns-in-Ok g c =
     takes_from (λ pages keys world. open_url (site_of pages) keys c.args.url.now world)
     (λ pages keys world.
-    request (site_of pages) keys c.new-sets.result None c.plain_get.result world)
+    request (site_of pages) keys c.new-sets.result None c.get.result world)
     (g.P.Pages.seen c.args.pages.now)
     (g.P.Pages.seen c.request.new.pages) c.args.self.now c.request.new.self
     c.args.lines.now c.request.new.lines c.request.result
     (λ pages over keys.
     ap₂ (λ (s : Pairs) (r : Request).
     request (site_of pages) keys s None r c.args.self.now.world)
-    c.new-sets.ensures c.plain_get.ensures
+    c.new-sets.ensures c.get.ensures
     ∙ open_by pages c.args.self.now over keys c.in_ok-base.base c.args.url.now c.in-Ok.url
-    c.in_ok-base.ensures
+    c.in_ok-base.ensures.is
     (sym c.in-Ok.is ∙ c.in_ok-url.ensures))
     c.request.ensures
 
@@ -33,6 +33,6 @@ returns g c =
     c.went_to.ensures.next c.went_to.ensures.none
     (λ pages over keys.
     open_no pages c.args.self.now over keys c.in_ok-base.base c.args.url.now c.in-Err.refusal
-    c.in_ok-base.ensures
+    c.in_ok-base.ensures.is
     (sym c.in-Err.is ∙ c.in_ok-url.ensures))
     c.in_ok-refuse-in-Err.ensures

@@ -1,30 +1,29 @@
 use Rattle.std.proofs.Common.{◌∙◌, sym, ap, Err}
 use Rattle.std.proofs.lemmas.Result.{err_from_is_err_and}
-use Rattle.wap_world.specs.Requests.{Request}
 use Rattle.wap_world.specs.Tasks.{request}
 use Rattle.wap_context.specs.Sites.{site_of}
 use Rattle.wap_context.proofs.Requesting.{page_missed, request_first, request_takes, request_starts}
 use Rattle.wap_context.proofs.context.Context.request.Goals as goal
 
-pub returns-in-Ok : goal.returns-in-Ok
-returns-in-Ok g c =
+pub returns-in_ok-next-in-Ok : goal.returns-in_ok-next-in-Ok
+returns-in_ok-next-in-Ok g c =
     request_takes (g.P.Pages.seen c.args.pages.now)
     c.args.self.now c.take_answer.new.self c.args.lines.now
     c.args.sets c.args.caller.now c.args.one
     (g.P.Pages.seen c.ask.new.pages) c.ask.new.lines c.take_answer.new.lines
-    c.in_ok-next-in-Ok.next c.went_to.result c.in_ok-page.page c.in-Ok.answer c.one.inside.url
-    (ap (λ (r : Request). r.url) c.one.view_is)
+    c.in_ok-next-in-Ok.next c.went_to.result c.in_ok-page.page c.in-Ok.answer c.into_url-url.result
+    c.into_url-url.ensures
     c.went_to.ensures.next c.went_to.ensures.none
     c.in_ok-page.ensures (sym c.page_answer.ensures ∙ c.in-Ok.is) c.in_ok-next-in-Ok.ensures
 
-pub returns : goal.returns
-returns g c =
+pub returns-in-Err : goal.returns-in-Err
+returns-in-Err g c =
     request_starts (g.P.Pages.seen c.args.pages.now)
     c.args.self.now c.try_script.new.self c.args.lines.now
     c.args.sets c.args.caller.now c.args.one
     (g.P.Pages.seen c.ask.new.pages) (g.P.Pages.seen c.try_script.new.pages)
     c.ask.new.lines c.try_script.new.lines c.try_script.result c.in_ok-page.page c.in-Err.unit
-    c.one.inside.url (ap (λ (r : Request). r.url) c.one.view_is)
+    c.into_url-url.result c.into_url-url.ensures
     c.in_ok-page.ensures (sym c.page_answer.ensures ∙ c.in-Err.is) c.try_script.ensures
 
 pub returns-in_err-page : goal.returns-in_err-page

@@ -1,8 +1,9 @@
 use Rattle.std.proofs.Common.{◌∙◌, ap}
 use Rattle.wap_base.specs.declared.limits.Limits.{Limits}
+use Rattle.wap_url.specs.Printing.{without_fragment}
 use Rattle.wap_code.specs.declared.unit.Unit.{Unit}
 use Rattle.wap_context.specs.inside.Starting.{start_of}
-use Rattle.wap_context.proofs.Beginning.{start_begins, start_rejects}
+use Rattle.wap_context.proofs.Beginning.{start_begins, start_enters, start_rejects}
 use Rattle.wap_context.proofs.context.Context.start.Goals as goal
 
 pub returns-in_ok-reject-in-Not : goal.returns-in_ok-reject-in-Not
@@ -25,3 +26,11 @@ returns-in-Runs g c =
     (c.in_ok-why.ensures ∙ ap (λ (u : Unit). start_of u string c.args.url) c.deref.ensures)
     (ap (λ (l : Limits). l.string) c.limits-string.ensures.value) c.in-Runs.is
     c.begin_script.ensures
+
+pub begin_script-requires : goal.begin_script-requires
+begin_script-requires g c =
+    let string = c.limits-string.result.string in
+    start_enters c.args.unit string (without_fragment c.args.url) c.args.caller.now c.in-Runs.index
+    c.in-Runs.arguments c.args.url c.in_ok-why.field-0
+    (c.in_ok-why.ensures ∙ ap (λ (u : Unit). start_of u string c.args.url) c.deref.ensures)
+    c.in-Runs.is

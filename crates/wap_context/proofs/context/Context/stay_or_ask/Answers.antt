@@ -1,5 +1,3 @@
-use Rattle.std.proofs.Common.{◌∙◌, ap}
-use Rattle.wap_world.specs.Requests.{Request}
 use Rattle.wap_site.proofs.Asking.{Stays-same}
 use Rattle.wap_context.proofs.Takings.{takes_rejected}
 use Rattle.wap_context.proofs.Requesting.{StaysOrAsks, stay_arrives, stay_asks}
@@ -11,11 +9,10 @@ returns-in_ok-arrive-in-Some g c =
     c.args.self.now c.arrive.new.self c.args.lines.now
     c.args.sets c.args.caller.now c.args.one c.arrive.new.lines c.in_ok-arrive-in-Some.field-0
     c.went_to.result c.in_ok-here.field-0
-    (c.in-Some.here, c.in-Some.deck) c.with_fragment_of-url.result
+    (c.in-Some.here, c.in-Some.deck) c.fragment_on-url.result
     c.went_to.ensures.next c.went_to.ensures.none
     c.in_ok-here.ensures c.in-Some.is
-    (c.with_fragment_of-url.ensures
-    ∙ ap (λ (one : Request). record c.in-Some.here { fragment = one.url.fragment }) c.one.view_is)
+    c.fragment_on-url.ensures
     c.in_ok-arrive-in-Some.ensures
 
 pub returns-in_err-arrive-in-Some : goal.returns-in_err-arrive-in-Some

@@ -6,12 +6,12 @@ use Rattle.wap_world.specs.History.{earlier_entry}
 use Rattle.wap_state.proofs.Lasts.{earlier_at}
 use Rattle.wap_state.proofs.state.State.earlier.Goals as goal
 
-pub returns-in_ok-copy_of-in-Some : goal.returns-in_ok-copy_of-in-Some
-returns-in_ok-copy_of-in-Some c =
+pub returns-in_ok-copy-in-Some : goal.returns-in_ok-copy-in-Some
+returns-in_ok-copy-in-Some c =
     let history : List Entry = c.self.inside.history in
     let count : c.len-count.result ≡ length history = c.len-count.ensures.value in
     let some : 2 ≤ length history = omega arith in
-    ap Some c.in_ok-copy_of-in-Some.ensures
+    ap Some c.in_ok-copy-in-Some.ensures
     ∙ sym (ap option_copied c.in-Some.is)
     ∙ c.get.ensures
     ∙ ap (λ (n : ℕ). slice_get history (n - 2)) count

@@ -1,0 +1,79 @@
+-- What is made of the parts of a context that was saved. This project's own.
+use Rattle.std.specs.Prelude.{◌≡◌, ⊤, false, List, ◌++◌, map, Option, Some, None}
+use Rattle.std.specs.Prelude.{IfSome, IfOk, OnOk, Result, Err}
+use Rattle.std.specs.Option.{option_map, option_map_or, option_to_list}
+use Rattle.wap_base.specs.declared.fault.RunErr.{RunErr}
+use Rattle.wap_base.specs.declared.fault.RunErr.TheVariants.{Store}
+use Rattle.wap_base.specs.Count.{Rose}
+use Rattle.wap_url.specs.Printing.{name_for}
+use Rattle.wap_markup.specs.declared.deck.Deck.{Deck}
+use Rattle.wap_parts.specs.declared.parts.ContextParts.{ContextParts}
+use Rattle.wap_site.specs.declared.page.Page.{Page}
+use Rattle.wap_site.specs.declared.page.Page.TheVariants as page
+use Rattle.wap_site.specs.Pages.{Pages as JudgedPages, page_of}
+use Rattle.wap_site.specs.Misses.{Asked}
+use Rattle.wap_site.specs.Asking.{Seen, Stays, Asks}
+use Rattle.wap_world.specs.Shelves.{Shelf}
+use Rattle.wap_world.specs.World.{World, last_entry}
+use Rattle.wap_world.specs.History.{all_but_last, in_deck}
+use Rattle.wap_scripting.specs.UnitSites.{shelf_of, unit_pages}
+use Rattle.wap_state.specs.Saved.{saved_world}
+use Rattle.wap_context.specs.declared.saved.Revived.{Revived}
+use Rattle.wap_context.specs.declared.saved.Revived.TheVariants.{Context, Missing, Refused}
+use Rattle.wap_context.specs.Browsers.{IsOver}
+use Rattle.wap_context.specs.Missing.{Missed}
+
+-- the world with its current card in a deck: past the deck's end it is the first card
+abbrev pub with_last_in : Deck → World → World
+with_last_in deck world = record world {
+  history = all_but_last world.history ++ map (in_deck deck) (option_to_list (last_entry world));
+}
+
+-- by the page of the current card
+abbrev pub revived_on : World → Page → Revived
+revived_on world (page.Deck deck) =
+    Context (record { world = with_last_in deck world; deck = Some deck })
+revived_on world (page.Script unit) = Refused
+revived_on world (page.Words text) = Refused
+revived_on world page.Refused = Refused
+revived_on world page.Missing = Missing
+
+-- what is made of parts, where this is the page of the current card; without a card it doesn't
+-- matter
+abbrev pub revived : ContextParts → Page → Revived
+revived parts answer = let world = saved_world parts in
+    option_map_or (λ entry. revived_on world answer) (last_entry world)
+    (Context (record { world = world; deck = None }))
+
+-- the page that is asked for: that of the current card, if there is one, and not fresh
+abbrev pub asked_for : ContextParts → List Asked
+asked_for parts = map (λ entry. (name_for entry.url, false))
+    (option_to_list (last_entry (saved_world parts)))
+
+-- the shelf has the deck of what was made
+abbrev pub StandsOver : Shelf → Revived → Type 0
+StandsOver shelf (Context browser) = IsOver shelf browser
+StandsOver shelf Missing = ⊤
+StandsOver shelf Refused = ⊤
+
+-- what is made of parts over these contents, where they are known
+pub record IsRevived (parts : ContextParts) (contents : Option JudgedPages) (result : Revived) :
+    Type 0 where
+  -- the page of the current card
+  pub answer : Page
+  pub found : IfSome contents (λ pages. IfSome (last_entry (saved_world parts))
+      (λ entry. answer ≡ page_of (name_for entry.url) pages))
+  pub is : result ≡ revived parts answer
+  pub over : IfSome (option_map unit_pages contents)
+      (λ pages. StandsOver (shelf_of pages) result)
+
+-- a call that makes a context of parts: the pages before and after, and the answer
+pub record Revives (parts : ContextParts) (before after : Seen) (result : Result Revived RunErr) :
+    Type 0 where
+  pub is : IfOk result (IsRevived parts before.contents)
+  pub asks : OnOk result (Asks (asked_for parts) before after)
+  -- the store failed at the page
+  pub failed : result ≡ Err Store → Rose before.faults after.faults
+  pub missed : result ≡ Err Store → Missed (asked_for parts) before after
+  -- however it ends
+  pub stays : Stays before after
