@@ -69,21 +69,21 @@ module _ (pages : Pages) where
       (ended_script shelf one.base ran) (omega (arith, first, second, third))
 
   -- in a dialog and outside
-  turned_none : (o : Option Waits) (w : World) (key : Key)
+  pub turned_none : (o : Option Waits) (w : World) (key : Key)
       → length (turned fragment_call pages o w key []).keys ≤ 0
   turned_none None w key =
       keys_fall (site_of pages) (units_few fragment_call pages) key [] w
   turned_none (Some one) w key = resumed_none one w key
 
 -- a list without length
-none_of : (keys : List Key) → length keys ≤ 0 → keys ≡ []
+pub none_of : (keys : List Key) → length keys ≤ 0 → keys ≡ []
 none_of [] few = refl
 none_of (key ∷ keys) few = absurd (omega (arith, few))
 
 -- ---- what it comes to
 
 -- a step that left no keys, before any others
-closed : (r : Step) → r.keys ≡ [] → joined r (quiet [] (still r.world)) ≡ r
+pub closed : (r : Step) → r.keys ≡ [] → joined r (quiet [] (still r.world)) ≡ r
 closed r none = joined_nothing r [] ∙ ap (λ (keys : List Key). before keys r) (sym none)
 
 -- a key that is played alone is played without further ones

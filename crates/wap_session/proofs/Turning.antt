@@ -15,7 +15,7 @@ use Rattle.wap_world.specs.Keys.{renewed, apply, react}
 use Rattle.wap_world.specs.Sessions.{shown_by}
 use Rattle.wap_scripting.specs.UnitSites.{unit_pages}
 use Rattle.wap_scripting.specs.Waiting.{Waits, State as Between, played_from}
-use Rattle.wap_scripting.specs.Feeding.{turned}
+use Rattle.wap_scripting.specs.Feeding.{turned, meaning}
 use Rattle.wap_scripting_laws.proofs.Feeding.{feeds}
 use Rattle.wap_context.specs.declared.waiting.Step.{Step as Did}
 use Rattle.wap_context.specs.Browsers.{Browser}
@@ -25,7 +25,7 @@ use Rattle.wap_context.specs.Acting.{lines_in, waiting_in, fed_of, Follows, Acts
 use Rattle.wap_session.specs.declared.fault.SessionFault.{SessionFault}
 use Rattle.wap_session.specs.declared.fault.SessionFault.TheVariants.{Store, NoMemory}
 use Rattle.wap_session.specs.Feeding.{State, between, step_of, shown_of, left_open}
-use Rattle.wap_session.specs.Feeding.{Leads, Plays, ShowsOn}
+use Rattle.wap_session.specs.Feeding.{TurnsTo, Leads, Plays, ShowsOn}
 use Rattle.wap_session.specs.declared.standing.Standing.{Standing}
 use Rattle.wap_session.specs.declared.standing.Standing.TheVariants.{Over}
 use Rattle.wap_session.specs.inside.Turns.{fault_of, waiting_of, is_over, state_of, IsAfter}
@@ -76,6 +76,22 @@ module _ (key : Key) (before after : Seen) (old new : State) where
             (played_from fragment_call pages state others)) later
             ∙ sym (ap (λ (s : Step). joined (left_open s) (step_of pages others new)) one);
       }
+
+  -- what it left to further keys
+  pub turns_by : (did : Did) → new.waiting ≡ waiting_in did → (contents : Option JudgedPages)
+      → IfOver contents old.browser (λ pages.
+      Follows pages (turn_rule old.waiting key pages) old.browser new.browser did)
+      → IfOver contents old.browser (λ pages. TurnsTo key pages old new)
+  turns_by did waits None so = tt
+  turns_by did waits (Some judged) so = λ is keys.
+      let pages = unit_pages judged in
+      let step = turn_rule old.waiting key pages [] old.browser.world in
+      (so is).on keys
+      ∙ ap (λ (waiting : Option Waits). meaning fragment_call pages
+      (record { step = left_open step; waiting = waiting }) keys) (sym waits)
+      ∙ ap (λ (s : Step). meaning fragment_call pages
+      (record { step = left_open s; waiting = new.waiting }) keys)
+      (sym (alone pages old.waiting old.browser.world key))
 
   -- a key that was played
   pub played_ok : (did : Did) (lines : List (List ℕ)) → lines ≡ map shown_line (lines_in did)
@@ -199,6 +215,16 @@ module _ (key : Key) (before after : Seen) (first last : Browser) (standing : St
       (Ok lines)) was
       (played_ok key before after (state_of first standing) (state_of last next) did lines shown
       so.waiting_is so.ready going acts)
+
+  -- what is left to further keys
+  pub fed_turns : (did : Did) (next : Standing) → IsAfter next did
+      → Acts (turn_rule (waiting_of standing) key) before after first last (Ok did)
+      → IfOver before.contents old.browser (λ pages. TurnsTo key pages old (state_of last next))
+  fed_turns did next so acts =
+      subst (λ (state : State). IfOver before.contents state.browser
+      (λ pages. TurnsTo key pages state (state_of last next))) was
+      (turns_by key before after (state_of first standing) (state_of last next) did so.waiting_is
+      before.contents acts.follows)
 
   -- the key failed
   pub fed_err : (fault : RunErr)

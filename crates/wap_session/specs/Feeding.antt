@@ -1,5 +1,6 @@
 -- What a session is seen as, and what keys come to. This project's own.
-use Rattle.std.specs.Prelude.{◌≡◌, Bool, true, false, List, ◌++◌, Option, None, is_some}
+use Rattle.std.specs.Prelude.{◌≡◌, Bool, true, false, not, ◌&&◌, if◌then◌else◌}
+use Rattle.std.specs.Prelude.{List, [], ◌∷◌, ◌++◌, Option, Some, None, is_some, is_none}
 use Rattle.std.specs.Prelude.{IfOk, IfErr, OnOk, OnErr, ◌≢◌, ℕ, Result, Err}
 use Rattle.wap_base.specs.Count.{Rose}
 use Rattle.wap_input.specs.declared.key.Key.{Key}
@@ -8,6 +9,7 @@ use Rattle.wap_world.specs.Steps.{Step, joined}
 use Rattle.wap_world.specs.Sessions.{shown_by, Begun, world_of}
 use Rattle.wap_scripting.specs.UnitSites.{Pages, shelf_of}
 use Rattle.wap_scripting.specs.Waiting.{Waits, State as Between, played_from}
+use Rattle.wap_scripting.specs.Feeding.{Turns}
 use Rattle.wap_context.specs.Browsers.{Browser, IsOver}
 use Rattle.wap_context.specs.Missing.{Missed}
 use Rattle.wap_context.specs.Sites.{fragment_call, IfOver}
@@ -25,6 +27,21 @@ pub record State : Type 0 where
 abbrev pub beginning : Begun → State
 beginning begun = record {
   browser = record { world = world_of begun; deck = None };
+  waiting = None;
+  is_over = false;
+}
+
+-- the browser, unless a script waits or a key failed
+abbrev pub context_at_rest : State → Option Browser
+context_at_rest state =
+    if is_none state.waiting && not state.is_over then Some state.browser else None
+
+-- a session that goes on with a browser, whose keys have so many turns
+abbrev pub going_on : Browser → ℕ → State
+going_on browser turns = record {
+  browser = record browser {
+    world = record browser.world { budget = turns; turns = turns };
+  };
   waiting = None;
   is_over = false;
 }
@@ -53,6 +70,14 @@ left_open step = record step { is_open = false }
 abbrev pub PlaysOn : List Key → Pages → State → State → Type 0
 PlaysOn keys pages old new = (others : List Key) → step_of pages (keys ++ others) old
     ≡ joined (left_open (step_of pages keys old)) (step_of pages others new)
+
+-- a key did what its step says without further keys, and left the rest to these: they answer the
+-- dialog that waits now, and are played after it, whatever else they may do there
+abbrev pub TurnsTo : Key → Pages → State → State → Type 0
+TurnsTo key pages old new = Turns fragment_call pages (between old) key (record {
+  step = left_open (step_of pages (key ∷ []) old);
+  waiting = new.waiting;
+})
 
 -- keys lead from one session to another, and show these lines
 pub record Leads (keys : List Key) (pages : Pages) (old new : State) (lines : List (List ℕ)) : Type 0

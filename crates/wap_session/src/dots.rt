@@ -79,7 +79,7 @@ fn each_shown(alloc: Global, lines: Rows<Text>) -> Result<Rows<Text>, NoMemory>
 }
 
 /// Lines as they are shown; where none has control characters, they are kept.
-pub(crate) fn shown_lines(alloc: Global, lines: Rows<Text>) -> Result<Rows<Text>, NoMemory>
+pub fn shown_lines(alloc: Global, lines: Rows<Text>) -> Result<Rows<Text>, NoMemory>
     ensures { IfOk result (λ shown. shown ≡ map shown_line lines) }
 {
     if have_control(lines.as_slice()) {

@@ -6,9 +6,12 @@ mod fault;
 mod keys;
 mod lines;
 mod replies;
+mod saved;
 mod session;
 mod standing;
 
+pub use dots::shown_lines;
 pub use fault::SessionFault;
+pub use lines::add_lines;
 pub use session::Session;
 pub use wap_input::Key;

@@ -9,7 +9,7 @@ use wap_vars::Vars;
 use wap_world::Refusal;
 
 /// Appends lines.
-pub(crate) fn add_lines(lines: &mut Rows<Text>, more: Rows<Text>) -> Result<(), NoMemory>
+pub fn add_lines(lines: &mut Rows<Text>, more: Rows<Text>) -> Result<(), NoMemory>
     ensures { OnOk result (lines.new ≡ lines.old ++ more) }
 {
     for line in more.into_vec() {

@@ -4,7 +4,7 @@ ghost use Rattle.std.specs.Prelude.{IfOk, OnOk, IfErr, OnErr, IsErrOf};
 ghost use Rattle.wap_base.specs.Limits.{AreInRange};
 ghost use Rattle.wap_context.specs.Missing.{Missed};
 ghost use Rattle.wap_context.specs.Sites.{IfOver};
-ghost use Rattle.wap_session.specs.Feeding.{beginning, step_of, Plays, MissedAt, ShowsOn};
+ghost use Rattle.wap_session.specs.Feeding.{beginning, step_of, TurnsTo, Plays, MissedAt, ShowsOn};
 
 use crate::SessionFault;
 use crate::lines::add_lines;
@@ -21,8 +21,8 @@ use wap_site::Pages;
 /// contract sees its state between two keys.
 #[derive(Drop)]
 pub struct Session {
-    context: Context,
-    standing: Standing,
+    pub(crate) context: Context,
+    pub(crate) standing: Standing,
 }
 
 impl Model for Session {
@@ -82,6 +82,8 @@ impl Session {
         ensures shown { IfOk result (λ lines.
             IfOver (P.seen pages.old).contents self.old.browser (λ of.
             ShowsOn (key.now ∷ []) of self.old self.new lines)) }
+        ensures turns { OnOk result (IfOver (P.seen pages.old).contents self.old.browser (λ of.
+            TurnsTo key.now of self.old self.new)) }
     {
         if self.is_over() {
             return Err(SessionFault::Ended);

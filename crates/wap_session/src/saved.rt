@@ -1,0 +1,33 @@
+//! Sessions whose context is saved, and sessions that go on with one.
+ghost use Rattle.std.specs.Prelude.{◌≡◌, ◌<◌, not, ◌&&◌, is_none, None, false, if◌then◌else◌, Some};
+ghost use Rattle.std.specs.Option.{option_copied};
+ghost use Rattle.wap_session.specs.Feeding.{going_on, context_at_rest};
+
+use crate::session::Session;
+use crate::standing::Standing;
+use wap_context::Context;
+
+impl Session {
+    /// The context, unless a script waits for its user or a key failed.
+    pub fn context(&self) -> Option<&Context>
+        ensures { option_copied result ≡ context_at_rest self.now }
+    {
+        match &self.standing {
+            Standing::Rest => Some(&self.context),
+            Standing::Waits(_, _) | Standing::Over => None,
+        }
+    }
+
+    /// A session that goes on with a context. Each key has so many turns.
+    pub fn of(context: Context, budget: u32) -> Session
+        requires { 0 < budget }
+        ensures { result ≡ going_on context budget }
+    {
+        let mut context = context;
+        context.begin_key(budget);
+        Session {
+            context,
+            standing: Standing::Rest,
+        }
+    }
+}
