@@ -81,7 +81,7 @@ use Rattle.wap_scripting_laws.proofs.Plain.{IsPlain, external_plain, library_pla
 
 module _ (among : List ℕ → Bool) where
   -- one of these names was entered by a test
-  abbrev Entered : List AccessTest → Type 0
+  abbrev pub Entered : List AccessTest → Type 0
   Entered tests = is_entered among tests ≡ true
 
   -- the first of two is so
@@ -100,20 +100,20 @@ module _ (among : List ℕ → Bool) where
   or_by false b c is on = on is
 
   -- tests that come first
-  first : (one other : List AccessTest) → Entered one → Entered (one ++ other)
+  pub first : (one other : List AccessTest) → Entered one → Entered (one ++ other)
   first [] other is = absurd (cc)
   first (t ∷ one) other is =
       or_by (among t.page && t.allowed) (is_entered among one) (is_entered among (one ++ other)) is
       (λ later. first one other later)
 
   -- tests that come later
-  second : (one other : List AccessTest) → Entered other → Entered (one ++ other)
+  pub second : (one other : List AccessTest) → Entered other → Entered (one ++ other)
   second [] other is = is
   second (t ∷ one) other is =
       or_second (among t.page && t.allowed) (is_entered among (one ++ other)) (second one other is)
 
   -- a step that entered one of these names
-  abbrev Lost : Step → Type 0
+  abbrev pub Lost : Step → Type 0
   Lost step = Entered step.tests
 
   -- a test that lets one of these names in
@@ -275,7 +275,7 @@ module _ (among : List ℕ → Bool) where
   -- ---- steps that are the same, or both lost
 
   -- the same steps, or both lost
-  abbrev StepAlike : Step → Step → Type 0
+  abbrev pub StepAlike : Step → Step → Type 0
   StepAlike a b = (a ≡ b) ⊎ (Lost a × Lost b)
 
   -- the same navigations, or both lost
@@ -692,13 +692,14 @@ module _ (among : List ℕ → Bool) where
       shelf_is = fun_ext differ.shelf
 
       -- other names have the same units
-      codes_are : (name : List ℕ) → among name ≡ false → unit_under one name ≡ unit_under other name
+      pub codes_are : (name : List ℕ) → among name ≡ false
+          → unit_under one name ≡ unit_under other name
       codes_are name outside =
           ap (λ page. unwrap_or (script_in page) no_unit)
           (differ.pages name outside)
 
       -- and the same external functions
-      names_are : (name function : List ℕ) → among name ≡ false
+      pub names_are : (name function : List ℕ) → among name ≡ false
           → externals_of one name function ≡ externals_of other name function
       names_are name function outside =
           ap (λ page. option_and_then (λ (u : CodeUnit). external_in u function) (script_in page))
@@ -763,7 +764,7 @@ module _ (among : List ℕ → Bool) where
           s s refl))
 
       -- the other pages' site, by this shelf
-      abbrev site_over : Shelf → Site
+      abbrev pub site_over : Shelf → Site
       site_over shelf = record {
         shelf = shelf;
         external = externals_of other;
@@ -775,6 +776,21 @@ module _ (among : List ℕ → Bool) where
       unless_lost : (a b : Step) → is_entered among a.tests ≡ false → StepAlike a b → a ≡ b
       unless_lost a b none (inl is) = is
       unless_lost a b none (inr lost) = absurd (let l = lost.0 in cc)
+
+      -- a key, over the site of the one pages and over that of the others by the same shelf
+      pub reacts_same : (pressed : Key) (keys : List Key) (w : World)
+          → StepAlike (react (units_site call one) pressed keys w)
+          (react (site_over (shelf_of one)) pressed keys w)
+      unfolding units_site
+      reacts_same pressed keys w =
+          react_alike (shelf_of one) call (externals_of one) (externals_of other)
+          (run_over (shelf_of one) one) (run_over (shelf_of one) other) names_are runs_alike
+          pressed keys w
+
+      -- which is that of the others
+      pub site_is : site_over (shelf_of one) ≡ units_site call other
+      unfolding units_site
+      site_is = ap site_over shelf_is
 
       -- sessions of both sites
       same_play : (keys : List Key) (w : World)

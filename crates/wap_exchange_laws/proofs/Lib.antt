@@ -1,3 +1,4 @@
 pub mod Replacing
 pub mod Denying
 pub mod Sources
+pub mod Inboxes

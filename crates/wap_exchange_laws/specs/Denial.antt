@@ -1,10 +1,14 @@
 -- Scripts that were only ever denied don't matter to a session. This project's own.
-use Rattle.std.specs.Prelude.{◌≡◌, ℕ, Bool, false, ◌&&◌, ◌||◌, List, [], ◌∷◌, Option}
+use Rattle.std.specs.Prelude.{◌≡◌, ℕ, Bool, false, ◌&&◌, ◌||◌, List, [], ◌∷◌, Option, Result}
 use Rattle.wap_input.specs.declared.key.Key.{Key}
+use Rattle.wap_push.specs.declared.indication.Indication.{Indication}
+use Rattle.wap_push.specs.declared.fault.PushFault.{PushFault}
 use Rattle.wap_world.specs.World.{World}
 use Rattle.wap_world.specs.Steps.{AccessTest}
 use Rattle.wap_world.specs.Sites.{Call}
 use Rattle.wap_world.specs.Sessions.{played}
+use Rattle.wap_inboxes.specs.Inboxes.{Handset}
+use Rattle.wap_inboxes.specs.Sessions.{played_with}
 use Rattle.wap_scripting.specs.ScriptPages.{page_under}
 use Rattle.wap_scripting.specs.UnitSites.{Pages, shelf_of, units_site}
 
@@ -26,3 +30,13 @@ DeniedMatterNot =
     → DifferWithin among one other → (keys : List Key) (world : World)
     → is_entered among (played (units_site call one) keys world).tests ≡ false
     → played (units_site call one) keys world ≡ played (units_site call other) keys world
+
+-- and with an inbox, however what is pushed is read
+abbrev pub DeniedMatterNotWith : Type 0
+DeniedMatterNotWith =
+    (read : List ℕ → Result Indication PushFault) (call : List ℕ → Option Call)
+    (among : List ℕ → Bool) (one other : Pages) → DifferWithin among one other
+    → (keys : List Key) (handset : Handset)
+    → is_entered among (played_with read (units_site call one) keys handset).step.tests ≡ false
+    → played_with read (units_site call one) keys handset
+    ≡ played_with read (units_site call other) keys handset

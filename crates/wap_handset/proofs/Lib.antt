@@ -1,0 +1,5 @@
+pub mod Holding
+pub mod Turning
+pub mod Keying
+pub mod Playing
+pub mod Sessions
