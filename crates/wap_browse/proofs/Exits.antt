@@ -1,5 +1,5 @@
 -- How a session comes to its end.
-use Rattle.std.proofs.Common.{◌≡◌, ◌≢◌, ℕ, ◌≤◌, ◌+◌, List, [], ◌∷◌, ◌++◌, Option, Some, None}
+use Rattle.std.proofs.Common.{◌≡◌, ◌≢◌, ℕ, ◌≤◌, List, [], ◌∷◌, ◌++◌, Option, Some, None}
 use Rattle.std.proofs.Common.{length, refl, sym, ap, subst, ◌∙◌, arith}
 use Rattle.std.specs.Prelude.{Bool, true, false, is_some, IfSome, Ok}
 use Rattle.wap_base.specs.Count.{Rose}
@@ -20,10 +20,11 @@ use Rattle.wap_site.specs.Pages.{Pages as JudgedPages}
 use Rattle.wap_site.specs.Asking.{Stays}
 use Rattle.wap_site.proofs.Asking.{Stays-same, Stays-then}
 use Rattle.wap_world.specs.Steps.{Step, joined}
-use Rattle.wap_scripting.specs.UnitSites.{Pages, unit_pages}
+use Rattle.wap_scripting.specs.UnitSites.{unit_pages}
 use Rattle.wap_scripting.specs.Waiting.{Waits}
 use Rattle.wap_context.specs.Missing.{Missed}
-use Rattle.wap_session.specs.Feeding.{State, step_of, left_open}
+use Rattle.wap_session.specs.Feeding.{left_open}
+use Rattle.wap_handset.specs.Feeding.{State, step_of}
 use Rattle.wap_status.specs.declared.status.Status.{Status}
 use Rattle.wap_status.specs.declared.status.Status.TheVariants.{Done, Usage, Refused, StoreFault}
 use Rattle.wap_status.specs.declared.status.Status.TheVariants.{KeyReadFault, WriteFault, NoMemory}
@@ -31,7 +32,7 @@ use Rattle.wap_status.specs.declared.status.Status.TheVariants.{BadKey, OpenDial
 use Rattle.wap_browse.specs.Outside.{Outside}
 use Rattle.wap_browse.specs.Plays.{Play}
 use Rattle.wap_browse.specs.Handling.{bytes_of, IsPlayed}
-use Rattle.wap_browse.specs.Endings.{at_end, ended}
+use Rattle.wap_browse.specs.Endings.{ended}
 use Rattle.wap_browse.specs.Resting.{StandsAfter, Rests}
 use Rattle.wap_browse.specs.inside.Played.{Moment, LeadsPart, Stops}
 use Rattle.wap_browse.specs.Standing.{Moved, moved_of, outside_of, Stands}
@@ -226,7 +227,7 @@ done_so waiting way.ReadFault is = absurd cc
 left_closed : (step : Step) → step.is_open ≡ false → left_open step ≡ step
 left_closed step is = λ i. record step { is_open = sym is i }
 
--- and then the session stands where they lead
+-- and then the handset stands where they lead
 pub ended_rests : (play : Play) (old now : Outside) (reader after : Reading) (state : State)
     (source : SourceSeen) (ending : Ending) → Reaches play old now reader state
     → Answers now.source source reader after (next.Ended ending)
@@ -261,6 +262,7 @@ ended_rests play old now reader after state source ending reaches answers done =
             on = λ others. stands.on others
                 ∙ ap (λ (s : Step). joined s (step_of pages others state))
                 (left_closed (play pages given) closed);
+            unpushed = stands.unpushed;
           })));
     }
 

@@ -6,7 +6,6 @@ use Rattle.std.proofs.lemmas.List.{append-nil, take_at, length-append}
 use Rattle.wap_devices.specs.Transfer.{Appends, AppendsPrefix}
 use Rattle.wap_input.specs.declared.key.Key.{Key}
 use Rattle.wap_keys.specs.Read.{AreFirst}
-use Rattle.wap_site.specs.Misses.{Asked}
 use Rattle.wap_world.specs.Steps.{Step}
 use Rattle.wap_browse.specs.Handling.{bytes_of, first_lines, first_asked}
 

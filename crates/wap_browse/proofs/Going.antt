@@ -1,5 +1,5 @@
 -- A session that goes on, key by key.
-use Rattle.std.proofs.Common.{◌≡◌, ℕ, false, List, [], ◌∷◌, ◌++◌, length, map}
+use Rattle.std.proofs.Common.{◌≡◌, ℕ, false, List, [], ◌∷◌, ◌++◌, length}
 use Rattle.std.proofs.Common.{Some, refl, sym, ap, subst, ◌∙◌, append_assoc}
 use Rattle.std.proofs.lemmas.List.{append-nil}
 use Rattle.std.specs.Prelude.{IfSome}
@@ -15,15 +15,15 @@ use Rattle.wap_site.specs.Pages.{Pages as JudgedPages}
 use Rattle.wap_site.specs.Misses.{Asked}
 use Rattle.wap_site.specs.Asking.{Stays, Asks}
 use Rattle.wap_site.proofs.Asking.{Asks-nil, Asks-then, Stays-same, Stays-then}
-use Rattle.wap_world.specs.Lines.{shown_line, lines_bytes}
 use Rattle.wap_world.specs.Steps.{Step, joined, quiet, still}
 use Rattle.wap_world.specs.Sessions.{Begun, world_of}
 use Rattle.wap_world.proofs.Joining.{joined_assoc}
 use Rattle.wap_scripting.specs.UnitSites.{Pages, shelf_of, unit_pages}
 use Rattle.wap_context.specs.Browsers.{IsOver}
-use Rattle.wap_session.specs.Feeding.{State, beginning, step_of, left_open}
+use Rattle.wap_session.specs.Feeding.{left_open}
+use Rattle.wap_handset.specs.Feeding.{State, beginning, step_of}
 use Rattle.wap_browse.specs.Outside.{Outside}
-use Rattle.wap_browse.specs.Plays.{Play, opened}
+use Rattle.wap_browse.specs.Plays.{Play, opened, IsNoPush, HaveNoPush}
 use Rattle.wap_browse.specs.Handling.{bytes_of, first_lines, first_asked}
 use Rattle.wap_browse.specs.inside.Played.{Moment, IfKnown, Leads, GoesOn}
 use Rattle.wap_browse.specs.Standing.{Moved, moved_of, outside_of, Stands, Browsed}
@@ -56,6 +56,7 @@ pub record Nears (pages : Pages) (play : List Key → Step) (given : List Key) (
       ≡ joined (left_open before) (step_of pages (key ∷ others) state)
   pub asks : Asks before.asked old.pages now.pages
   pub wrote : Appends old.sink.written now.sink.written (bytes_of before)
+  pub unpushed : HaveNoPush given → IsNoPush key × (state.winners ≡ [])
 
 -- so far nothing failed, and this key is next
 pub record Comes (play : Play) (given : List Key) (key : Key) (old now : Moved) (state : State)
@@ -84,11 +85,18 @@ opens_first begun old state is =
             on = λ others. refl;
             asks = Asks-nil old.pages;
             wrote = Appends-nil old.sink.written;
+            unpushed = λ none. (λ bytes is. absurd cc, refl);
           });
       stays = Stays-same old.pages;
       steady = refl;
       write_steady = refl;
     })
+
+-- of keys of which none is a push the last is none, and none of those before it
+apart : (given : List Key) (key : Key) → HaveNoPush (given ++ key ∷ [])
+    → HaveNoPush given × IsNoPush key
+apart [] key none = (tt, none.0)
+apart (one ∷ given) key none = let rest = apart given key none.1 in ((none.0, rest.0), rest.1)
 
 -- a key that was read is next
 nears_next : (pages : Pages) (play : List Key → Step) (given : List Key) (key : Key)
@@ -103,6 +111,8 @@ nears_next pages play given key old now state stands = record {
       ap play (append_assoc given (key ∷ []) others) ∙ stands.on (key ∷ others);
   asks = stands.asks;
   wrote = stands.wrote;
+  unpushed = λ none.
+      let both = apart given key none in (both.1, stands.unpushed both.0);
 }
 
 pub comes_next : (play : Play) (given : List Key) (key : Key) (old now : Moved) (state : State)
@@ -123,7 +133,7 @@ comes_next play given key old now state browsed = record {
 
 -- ---- a key that is played
 
--- a fact of a key, where the session stands
+-- a fact of a key, where the handset stands
 pub step_known : (judged : JudgedPages) (play : List Key → Step) (given : List Key) (key : Key)
     (old now : Moved) (state : State) (Fact : Pages → Type 0)
     → old.pages.contents ≡ Some judged → Stays old.pages now.pages
@@ -140,7 +150,7 @@ module _ (pages : Pages) (play : List Key → Step) (given : List Key) (key : Ke
   pub whole : play given ≡ joined (left_open nears.before) (step_of pages (key ∷ []) state)
   whole = ap play (sym (append-nil given)) ∙ nears.on []
 
-  -- and with further keys, where it leads to another session
+  -- and with further keys, where it leads to another handset
   pub beyond : (new : State) (others : List Key)
       → step_of pages (key ∷ others) state
       ≡ joined (left_open (step_of pages (key ∷ []) state)) (step_of pages others new)
@@ -168,6 +178,8 @@ module _ (pages : Pages) (play : List Key → Step) (given : List Key) (key : Ke
             (sym (bytes_joined (play given) nears.before one whole))
             (Appends-then old.sink.written now.sink.written new.sink.written
             (bytes_of nears.before) (bytes_of one) nears.wrote leads.wrote);
+        unpushed = λ none.
+            let before = nears.unpushed none in leads.unpushed before.0 before.1;
       }
 
 -- the key was played, and its lines were written

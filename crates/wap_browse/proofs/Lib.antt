@@ -7,3 +7,4 @@ pub mod Stopped
 pub mod Exits
 pub mod Summary
 pub mod Forgetting
+pub mod Unpushed

@@ -1,16 +1,15 @@
 -- One step, and then another.
-use Rattle.std.proofs.Common.{◌≡◌, ℕ, List, [], ◌∷◌, ◌++◌, Bool, sym, ap, ◌∙◌}
+use Rattle.std.proofs.Common.{◌≡◌, ℕ, List, [], ◌++◌, sym, ap, ◌∙◌}
 use Rattle.std.specs.Prelude.{map, is_some}
 use Rattle.std.proofs.lemmas.List.{map-append, append-nil}
 use Rattle.std.proofs.lemmas.Grind.{flat_map-append}
 use Rattle.wap_input.specs.declared.key.Key.{Key}
-use Rattle.wap_site.specs.Misses.{Asked}
-use Rattle.wap_world.specs.World.{World}
 use Rattle.wap_world.specs.Lines.{shown_line, line_bytes, lines_bytes}
-use Rattle.wap_world.specs.Steps.{Step, joined, quiet, still}
+use Rattle.wap_world.specs.Steps.{Step, joined}
 use Rattle.wap_scripting.specs.UnitSites.{Pages}
-use Rattle.wap_session.specs.Feeding.{State, step_of, left_open}
-use Rattle.wap_session.proofs.Alone.{none_played}
+use Rattle.wap_session.specs.Feeding.{left_open}
+use Rattle.wap_handset.specs.Feeding.{State, step_of}
+use Rattle.wap_handset.proofs.Playing.{step_none}
 use Rattle.wap_browse.specs.Handling.{bytes_of}
 
 -- ---- bytes
@@ -33,13 +32,6 @@ pub asked_joined : (all one two : Step) → all ≡ joined (left_open one) two
     → all.asked ≡ one.asked ++ two.asked
 asked_joined all one two is = ap (λ (s : Step). s.asked) is
 
--- ---- no keys
-
--- they play nothing in any session
-pub none_of : (pages : Pages) (state : State) → step_of pages [] state
-    ≡ record (quiet [] (still state.browser.world)) { is_open = is_some state.waiting }
-none_of pages state = none_played pages state.waiting state.browser.world
-
 -- ---- where keys lead
 
 module _ (pages : Pages) (play : List Key → Step) (given : List Key) (state : State)
@@ -50,11 +42,11 @@ module _ (pages : Pages) (play : List Key → Step) (given : List Key) (state : 
   open_there =
       ap (λ (keys : List Key). (play keys).is_open) (sym (append-nil given))
       ∙ ap (λ (s : Step). s.is_open) (on [])
-      ∙ ap (λ (s : Step). s.is_open) (none_of pages state)
+      ∙ ap (λ (s : Step). s.is_open) (step_none pages state)
 
-  -- the world is that of the session
+  -- the world is that of the handset
   pub world_there : state.browser.world ≡ (play given).world
   world_there =
-      sym (ap (λ (s : Step). s.world) (none_of pages state))
+      sym (ap (λ (s : Step). s.world) (step_none pages state))
       ∙ sym (ap (λ (s : Step). s.world) (on []))
       ∙ ap (λ (keys : List Key). (play keys).world) (append-nil given)

@@ -1,6 +1,6 @@
 -- A session that stops before its end: what was written, and asked for.
-use Rattle.std.proofs.Common.{◌≡◌, ℕ, ◌+◌, ◌<◌, ◌≤◌, List, [], ◌∷◌, ◌++◌, length, Option}
-use Rattle.std.proofs.Common.{refl, sym, ap, subst, ◌∙◌, append_assoc, arith}
+use Rattle.std.proofs.Common.{◌≡◌, ℕ, ◌+◌, ◌<◌, List, [], ◌∷◌, ◌++◌, length, Option}
+use Rattle.std.proofs.Common.{sym, ap, subst, ◌∙◌, append_assoc, arith}
 use Rattle.std.specs.Prelude.{IfSome}
 use Rattle.wap_devices.specs.Transfer.{Appends, AppendsPrefix}
 use Rattle.wap_devices.specs.Sinks.{SinkSeen}
@@ -14,11 +14,11 @@ use Rattle.wap_site.proofs.Asking.{Asks-then}
 use Rattle.wap_world.specs.Steps.{Step}
 use Rattle.wap_scripting.specs.UnitSites.{Pages}
 use Rattle.wap_context.specs.Missing.{Missed}
-use Rattle.wap_session.specs.Feeding.{State, step_of}
+use Rattle.wap_handset.specs.Feeding.{State, step_of}
 use Rattle.wap_browse.specs.Outside.{Outside}
 use Rattle.wap_browse.specs.Handling.{bytes_of, first_lines, first_asked}
-use Rattle.wap_browse.specs.Stopping.{RoseWithin, WritesPart, StopsAtStore}
-use Rattle.wap_browse.specs.Stopping.{StopsAtSink, StopsForMemory}
+use Rattle.wap_browse.specs.Stopping.{RoseWithin, WritesPart}
+use Rattle.wap_browse.specs.Stopping.{StopsForMemory}
 use Rattle.wap_browse.specs.inside.Played.{Moment, LeadsPart}
 use Rattle.wap_browse.specs.Standing.{Moved, Stands}
 use Rattle.wap_browse.proofs.Stepping.{asked_joined, bytes_joined}

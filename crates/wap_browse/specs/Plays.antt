@@ -1,11 +1,15 @@
 -- What keys come to over pages. This project's own.
-use Rattle.std.specs.Prelude.{◌≡◌, List, Some}
+use Rattle.std.specs.Prelude.{◌≡◌, ◌≢◌, ℕ, List, Some}
+use Rattle.std.specs.List.{AllByRecursion}
 use Rattle.wap_input.specs.declared.key.Key.{Key}
+use Rattle.wap_input.specs.declared.key.Key.TheVariants.{Push}
 use Rattle.wap_site.specs.Pages.{Pages as JudgedPages}
 use Rattle.wap_site.specs.Asking.{Seen}
 use Rattle.wap_world.specs.Steps.{Step}
-use Rattle.wap_world.specs.Sessions.{Begun, session}
+use Rattle.wap_world.specs.Sessions.{Begun}
 use Rattle.wap_scripting.specs.UnitSites.{Pages, unit_pages}
+use Rattle.wap_push.specs.Pushes.{push_at}
+use Rattle.wap_inboxes.specs.Sessions.{session_with}
 use Rattle.wap_context.specs.Sites.{site_of}
 
 -- what each list of keys comes to over pages whose scripts are units
@@ -17,6 +21,14 @@ abbrev pub ArePagesOf : Seen → Pages → Type 0
 ArePagesOf seen pages =
     (judged : JudgedPages) × (seen.contents ≡ Some judged) × (pages ≡ unit_pages judged)
 
--- where a session begins so: its URL is opened before they are played
+-- where a session with an inbox begins so: its URL is opened before they are played
 abbrev pub opened : Begun → Play
-opened begun pages keys = session (site_of pages) begun keys
+opened begun pages keys = (session_with push_at (site_of pages) begun keys).step
+
+-- a key is no push
+abbrev pub IsNoPush : Key → Type 0
+IsNoPush one = (bytes : List ℕ) → one ≢ Push bytes
+
+-- none of these keys is one
+abbrev pub HaveNoPush : List Key → Type 0
+HaveNoPush keys = AllByRecursion IsNoPush keys

@@ -11,19 +11,19 @@ use crate::playing::play_read;
 use crate::reading::play_keys;
 use std::alloc::Global;
 use wap_devices::{Sink, Source};
-use wap_session::{Key, Session};
+use wap_handset::{Handset, Key};
 use wap_site::Pages;
 use wap_status::Status;
 
 /// Opens the URL, and then plays key after key: in a dialog they answer it. The lines of each are
-/// written before the next is read. Gives the session back as it is then.
+/// written before the next is read. Gives the handset back as it is then.
 pub fn browse_session<P: Pages, I: Source, O: Sink>(
     alloc: Global,
     begun: Beginning,
     pages: &mut P,
     keys: &mut I,
     out: &mut O,
-) -> (Status, Session)
+) -> (Status, Handset)
     requires limits { AreInRange begun.limits }
     ensures browses { BrowsesSeen (opened (begun_with begun))
         (record { pages = P.seen pages.old; source = I.seen keys.old; sink = O.seen out.old })
@@ -33,14 +33,14 @@ pub fn browse_session<P: Pages, I: Source, O: Sink>(
         (record { pages = P.seen pages.old; source = I.seen keys.old; sink = O.seen out.old })
         result.1 }
 {
-    let mut session = Session::new(alloc, begun.seed, begun.budget, begun.limits);
+    let mut handset = Handset::new(alloc, begun.seed, begun.budget, begun.limits);
     let first = Key::Open(begun.url);
     let mut buffer = Vec::new(alloc);
-    if let Err(status) = play_read(alloc, &mut session, first, pages, out, &mut buffer) {
-        return (status, session);
+    if let Err(status) = play_read(alloc, &mut handset, first, pages, out, &mut buffer) {
+        return (status, handset);
     }
-    let status = play_keys(alloc, &mut session, pages, keys, out);
-    (status, session)
+    let status = play_keys(alloc, &mut handset, pages, keys, out);
+    (status, handset)
 }
 
 /// Opens the URL, and then plays key after key, as `browse_session` does.

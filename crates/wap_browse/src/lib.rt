@@ -1,4 +1,4 @@
-//! Browsing: a session whose keys are read and played one after the other.
+//! Browsing: a session with an inbox whose keys are read and played one after the other.
 #![tactic(auto)]
 
 mod beginning;

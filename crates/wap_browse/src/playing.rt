@@ -5,7 +5,7 @@ ghost use Rattle.wap_browse.specs.inside.Played.{Plays};
 use crate::lines::put_lines;
 use std::alloc::Global;
 use wap_devices::{Failed, Sink, write_all};
-use wap_session::{Key, Session, SessionFault};
+use wap_handset::{Handset, Key, SessionFault};
 use wap_site::Pages;
 use wap_status::Status;
 
@@ -13,19 +13,19 @@ use wap_status::Status;
 /// session ends.
 pub(crate) fn play<P: Pages, O: Sink>(
     alloc: Global,
-    session: &mut Session,
+    handset: &mut Handset,
     key: &Key,
     pages: &mut P,
     out: &mut O,
     buffer: &mut Vec<u8>,
 ) -> Result<(), Status>
-    requires { session.old.is_over ≡ false }
+    requires { handset.old.is_over ≡ false }
     ensures { Plays key.now
-        (record { pages = P.seen pages.old; state = session.old; sink = O.seen out.old })
-        (record { pages = P.seen pages.new; state = session.new; sink = O.seen out.new })
+        (record { pages = P.seen pages.old; state = handset.old; sink = O.seen out.old })
+        (record { pages = P.seen pages.new; state = handset.new; sink = O.seen out.new })
         result }
 {
-    let lines = match session.feed(alloc, key, pages) {
+    let lines = match handset.feed(alloc, key, pages) {
         Ok(lines) => lines,
         Err(SessionFault::Store) => return Err(Status::StoreFault),
         Err(SessionFault::NoMemory) => return Err(Status::NoMemory),
@@ -43,17 +43,17 @@ pub(crate) fn play<P: Pages, O: Sink>(
 /// Plays a key that was read, and that nothing needs afterwards.
 pub(crate) fn play_read<P: Pages, O: Sink>(
     alloc: Global,
-    session: &mut Session,
+    handset: &mut Handset,
     key: Key,
     pages: &mut P,
     out: &mut O,
     buffer: &mut Vec<u8>,
 ) -> Result<(), Status>
-    requires { session.old.is_over ≡ false }
+    requires { handset.old.is_over ≡ false }
     ensures { Plays key
-        (record { pages = P.seen pages.old; state = session.old; sink = O.seen out.old })
-        (record { pages = P.seen pages.new; state = session.new; sink = O.seen out.new })
+        (record { pages = P.seen pages.old; state = handset.old; sink = O.seen out.old })
+        (record { pages = P.seen pages.new; state = handset.new; sink = O.seen out.new })
         result }
 {
-    play(alloc, session, &key, pages, out, buffer)
+    play(alloc, handset, &key, pages, out, buffer)
 }

@@ -10,41 +10,41 @@ use crate::playing::play_read;
 use std::alloc::Global;
 use wap_base::NoMemory;
 use wap_devices::{Sink, Source};
+use wap_handset::Handset;
 use wap_keys::{Next, Reader};
-use wap_session::Session;
 use wap_site::Pages;
 use wap_status::Status;
 
-/// Plays key after key of a source in a session in which nothing failed: in a dialog they answer
+/// Plays key after key of a source in a handset in which nothing failed: in a dialog they answer
 /// it. The lines of each are written before the next is read. Whatever led to here, keys come from
 /// there to what they come to.
 pub fn play_keys<P: Pages, I: Source, O: Sink>(
     alloc: Global,
-    session: &mut Session,
+    handset: &mut Handset,
     pages: &mut P,
     keys: &mut I,
     out: &mut O,
 ) -> Status
-    requires { session.old.is_over ≡ false }
+    requires { handset.old.is_over ≡ false }
     ensures browses { (play : Play) (from : Moved) → Browsed play [] from
-        (record { pages = P.seen pages.old; sink = O.seen out.old }) session.old
+        (record { pages = P.seen pages.old; sink = O.seen out.old }) handset.old
         → BrowsesSeen play (outside_of from (I.seen keys.old))
         (record { pages = P.seen pages.new; source = I.seen keys.new; sink = O.seen out.new })
         result }
     ensures rests { (play : Play) (from : Moved) → Browsed play [] from
-        (record { pages = P.seen pages.old; sink = O.seen out.old }) session.old
+        (record { pages = P.seen pages.old; sink = O.seen out.old }) handset.old
         → result ≡ Status.Done
-        → Rests play (outside_of from (I.seen keys.old)) session.new }
+        → Rests play (outside_of from (I.seen keys.old)) handset.new }
 {
     let mut reader = Reader::new(alloc);
     let mut buffer = Vec::new(alloc);
     loop {
         let key = match reader.next(alloc, keys) {
             Ok(Next::Key(key)) => key,
-            Ok(Next::Ended(ending)) => return status_of(session.in_dialog(), ending),
+            Ok(Next::Ended(ending)) => return status_of(handset.in_dialog(), ending),
             Err(NoMemory) => return Status::NoMemory,
         };
-        if let Err(status) = play_read(alloc, session, key, pages, out, &mut buffer) {
+        if let Err(status) = play_read(alloc, handset, key, pages, out, &mut buffer) {
             return status;
         }
     }

@@ -4,7 +4,8 @@ use Rattle.std.specs.Prelude.{IfSome}
 use Rattle.wap_base.specs.Contents.{Contents, page_named}
 use Rattle.wap_devices.specs.Sinks.{SinkSeen}
 use Rattle.wap_words.specs.declared.words.Command.{Command}
-use Rattle.wap_words.specs.declared.words.Command.TheVariants.{Browse, Page, Prepare, Make}
+use Rattle.wap_words.specs.declared.words.Command.TheVariants.{Browse, Image, Resume, Page}
+use Rattle.wap_words.specs.declared.words.Command.TheVariants.{Prepare, Make, Replay}
 use Rattle.wap_words.specs.declared.words.PageCommand.{PageCommand}
 use Rattle.wap_status.specs.declared.status.Status.{Status}
 use Rattle.wap_status.specs.declared.status.Status.TheVariants.{Done, Usage, Refused, StoreFault}
@@ -17,12 +18,16 @@ use Rattle.wap_devices.specs.declared.store.StoreErr.TheVariants as store_error
 use Rattle.wap_browse.specs.Plays.{opened}
 use Rattle.wap_browse.proofs.Exits.{nothing_browses}
 use Rattle.wap_browse.proofs.Summary.{browses_by}
-use Rattle.wap_prepare.proofs.Ending.{nothing_prepared}
+use Rattle.wap_resume.proofs.Going.{nothing_imaged, nothing_resumed}
+use Rattle.wap_prepare.specs.Preparing.{Reports}
+use Rattle.wap_prepare.proofs.Ending.{nothing_done}
 use Rattle.wap_made.proofs.Ending.{nothing_made}
+use Rattle.wap_replay.proofs.Over.{nothing_replayed}
 use Rattle.wap_cli.specs.Answers.{IsPageOf, IsOfPage, Answers, page_of}
-use Rattle.wap_cli.specs.Devices.{Devices, browsed}
-use Rattle.wap_cli.specs.Headline.{begun_by, IsAnswer, Serves, ServesUnread, Runs}
+use Rattle.wap_cli.specs.Devices.{Devices, browsed, around}
+use Rattle.wap_cli.specs.Headline.{begun_by, each_begun_by, IsAnswer, Serves, ServesUnread, Runs}
 use Rattle.wap_cli.proofs.Sourcing.{browses_over}
+use Rattle.wap_cli.proofs.SourcedLists.{replays_over}
 
 pub nothing_answered : (command : PageCommand) (page : Option (List ℕ)) (sink : SinkSeen)
     → Answers command page sink sink NoMemory
@@ -82,11 +87,19 @@ nothing_runs (Some (Browse one)) old =
     browses_over (begun_by one) one.cache old old NoMemory
     (browses_by (opened (begun_by one)) (browsed one.cache old) (browsed one.cache old) NoMemory
     (nothing_browses (opened (begun_by one)) (browsed one.cache old)))
+nothing_runs (Some (Image one)) old = nothing_imaged (begun_by one) (browsed one.cache old)
+nothing_runs (Some (Resume one)) old = nothing_resumed one.name (browsed one.cache old)
 nothing_runs (Some (Page command name)) old = nothing_served command name old
 nothing_runs (Some (Prepare workers)) old =
-    record { prepares = nothing_prepared old.store old.sink; unread = refl }
+    record {
+      prepares = nothing_done (λ Wrote. Reports Wrote old.store.contents) old.store old.sink;
+      unread = refl;
+    }
 nothing_runs (Some (Make n)) old =
     record { makes = nothing_made n old.sink; unasked = refl; unread = refl }
+nothing_runs (Some (Replay one)) old =
+    replays_over (each_begun_by one) old old NoMemory
+    (nothing_replayed (each_begun_by one) (around old))
 
 -- ---- what the store answered
 

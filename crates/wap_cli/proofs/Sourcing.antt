@@ -12,11 +12,14 @@ use Rattle.wap_keys.specs.Lines.{Keys, keys_of}
 use Rattle.wap_site.specs.Asking.{Seen}
 use Rattle.wap_world.specs.Sites.{Site}
 use Rattle.wap_world.specs.Steps.{Step}
-use Rattle.wap_world.specs.Sessions.{Begun, world_of, session}
+use Rattle.wap_world.specs.Sessions.{Begun, world_of}
+use Rattle.wap_push.specs.Pushes.{push_at}
+use Rattle.wap_inboxes.specs.Inboxes.{Stepped}
+use Rattle.wap_inboxes.specs.Sessions.{session_with}
 use Rattle.wap_scripting.specs.UnitSites.{Pages, unit_pages}
 use Rattle.wap_scripting.specs.Sources.{AllPages}
 use Rattle.wap_context.specs.Sites.{fragment_call}
-use Rattle.wap_exchange_laws.proofs.Sources.{denied_sources}
+use Rattle.wap_exchange_laws.proofs.Inboxes.{denied_sources_with}
 use Rattle.wap_source_sites.specs.Programs.{Accepted, programs, unit_of}
 use Rattle.wap_source_sites.proofs.Agreed.{unit_agrees}
 use Rattle.wap_source_pages.proofs.Judging.{site_judged}
@@ -117,7 +120,9 @@ units_of store seen is begun pages (contents, known, are) = (
     is ∙ ap (λ (some : Option Contents). option_map judged some) known,
     refl,
   ),
-  ap (λ (site : Site). session site begun) (sym (site_judged fragment_call contents pages are)),
+  ap {B = List Key → Step}
+      (λ (site : Site) (keys : List Key). (session_with push_at site begun keys).step)
+      (sym (site_judged fragment_call contents pages are)),
 )
 
 module _ (begun : Begun) (capacity : ℕ) (old new : Devices) (status : Status) where
@@ -139,8 +144,10 @@ module _ (begun : Begun) (capacity : ℕ) (old new : Devices) (status : Status) 
       let keys = (keys_of bytes).keys in
       let given : keys ≡ so.given = ap (λ (k : Keys). k.keys) (so.done is_open is).1 in
       let same : opened_over begun pages keys ≡ opened_over begun other keys =
-      denied_sources programs unit_of unit_agrees fragment_call among pages other differ.differ
-      (Open begun.url ∷ keys) (world_of begun) differ.denied in
+      ap (λ (stepped : Stepped). stepped.step)
+      (denied_sources_with programs unit_of unit_agrees fragment_call among pages other
+      differ.differ push_at (Open begun.url ∷ keys)
+      (record { world = world_of begun; pushes = [] }) differ.denied) in
       subst (λ (step : Step). Appends old.sink.written new.sink.written (bytes_of step))
       (ap (opened_over begun pages) (sym given) ∙ same)
       ((so.shows pages are).played is_open End is).wrote

@@ -9,7 +9,9 @@ use Rattle.wap_input.specs.declared.key.Key.{Key}
 use Rattle.wap_keys.specs.Lines.{keys_of}
 use Rattle.wap_world.specs.Sites.{Site}
 use Rattle.wap_world.specs.Steps.{Step}
-use Rattle.wap_world.specs.Sessions.{Begun, session}
+use Rattle.wap_world.specs.Sessions.{Begun}
+use Rattle.wap_push.specs.Pushes.{push_at}
+use Rattle.wap_inboxes.specs.Sessions.{session_with}
 use Rattle.wap_scripting.specs.Sources.{AllPages, site_of, compiled_pages}
 use Rattle.wap_exchange_laws.specs.Denial.{is_entered, DifferWithin}
 use Rattle.wap_source_sites.specs.Programs.{Accepted, programs, unit_of}
@@ -33,9 +35,10 @@ ArePagesOf store pages =
 abbrev pub site_over : AllPages Accepted → Site
 site_over pages = site_of programs fragment_call pages
 
--- what keys come to where a session begins so: its URL is opened before they are played
+-- what keys come to where a session with an inbox begins so: its URL is opened before they are
+-- played
 abbrev pub opened_over : Begun → AllPages Accepted → List Key → Step
-opened_over begun pages keys = session (site_over pages) begun keys
+opened_over begun pages keys = (session_with push_at (site_over pages) begun keys).step
 
 -- ---- scripts to which nobody was let in
 

@@ -6,21 +6,31 @@ use Rattle.wap_devices.specs.Sinks.{SinkSeen}
 use Rattle.wap_pages.specs.declared.fault.PageFault.{PageFault}
 use Rattle.wap_words.specs.declared.words.Browse.{Browse as Browsing}
 use Rattle.wap_words.specs.declared.words.Command.{Command}
-use Rattle.wap_words.specs.declared.words.Command.TheVariants.{Browse, Page, Prepare, Make}
+use Rattle.wap_words.specs.declared.words.Replay.{Replay as Replaying}
+use Rattle.wap_words.specs.declared.words.Command.TheVariants.{Browse, Image, Resume, Page}
+use Rattle.wap_words.specs.declared.words.Command.TheVariants.{Prepare, Make, Replay}
 use Rattle.wap_words.specs.declared.words.PageCommand.{PageCommand}
 use Rattle.wap_world.specs.Sessions.{Begun}
 use Rattle.wap_status.specs.declared.status.Status.{Status}
 use Rattle.wap_status.specs.declared.status.Status.TheVariants.{Done, Usage, Refused, StoreFault}
 use Rattle.wap_status.specs.declared.status.Status.TheVariants.{WriteFault, NoMemory}
 use Rattle.wap_status.specs.Statuses.{IsOrWants}
+use Rattle.wap_resume.specs.Saving.{Images}
+use Rattle.wap_resume.specs.Resuming.{Resumes}
 use Rattle.wap_cli.specs.Answers.{IsOfPage, IsPageOf, Answers}
 use Rattle.wap_cli.specs.Browsing.{BrowsesOver}
-use Rattle.wap_cli.specs.Devices.{Devices}
+use Rattle.wap_cli.specs.Devices.{Devices, browsed}
+use Rattle.wap_cli.specs.Replaying.{ReplaysOver}
 use Rattle.wap_cli.specs.Folders.{PreparesUnread, MakesAlone}
 
 -- what a command browses
 abbrev pub begun_by : Browsing → Begun
 begun_by one =
+    record { url = one.url; seed = one.seed; budget = one.budget; limits = one.limits }
+
+-- what each session is begun with that a command replays
+abbrev pub each_begun_by : Replaying → Begun
+each_begun_by one =
     record { url = one.url; seed = one.seed; budget = one.budget; limits = one.limits }
 
 -- a status of a command on one page where nothing failed
@@ -71,11 +81,16 @@ pub record Misused (old new : Devices) (status : Status) : Type 0 where
   pub untouched : new ≡ old
 
 -- a run of a command, or of words that are none, from the devices before to the devices after, and
--- its status; it is the same by however many workers a folder is prepared
+-- its status; it is the same by however many workers a folder is prepared, or lists are replayed
 abbrev pub Runs : Option Command → Devices → Devices → Status → Type 0
 Runs (Some (Browse one)) old new status =
     BrowsesOver (begun_by one) one.cache old new status
+Runs (Some (Image one)) old new status =
+    Images (begun_by one) (browsed one.cache old) (browsed one.cache new) status
+Runs (Some (Resume one)) old new status =
+    Resumes one.name (browsed one.cache old) (browsed one.cache new) status
 Runs (Some (Page command name)) old new status = ServesUnread command name old new status
 Runs (Some (Prepare workers)) old new status = PreparesUnread old new status
 Runs (Some (Make n)) old new status = MakesAlone n old new status
+Runs (Some (Replay one)) old new status = ReplaysOver (each_begun_by one) old new status
 Runs None old new status = Misused old new status

@@ -1,5 +1,6 @@
 pub mod Headline
 pub mod Browsing
+pub mod Replaying
 pub mod Devices
 pub mod Answers
 pub mod Folders

@@ -5,12 +5,15 @@ ghost use Rattle.wap_cli.specs.Headline.{Runs};
 use crate::Status;
 use crate::browsing::browse;
 use crate::pages::answer;
+use crate::replaying::replay;
+use crate::saved::image;
 use std::alloc::Global;
 use std::thread::Threads;
 use wap_base::{NoMemory, Text};
 use wap_devices::{Gate, Sink, Source, Store};
 use wap_made::make;
 use wap_prepare::prepare;
+use wap_resume::resume;
 use wap_words::{Command, read_words};
 
 /// Runs the command that the words are, over the pages of the store and the key lines of the
@@ -31,6 +34,8 @@ pub fn run<R: Threads + Sync, S: Store, I: Source, O: Sink, G: Gate + Sync>(
 {
     match read_words(alloc, words) {
         Ok(Some(Command::Browse(begun))) => browse(alloc, begun, store, keys, out),
+        Ok(Some(Command::Image(begun))) => image(alloc, begun, store, keys, out),
+        Ok(Some(Command::Resume(one))) => resume(alloc, &one.name, one.cache, store, keys, out),
         Ok(Some(Command::Page(command, name))) => {
             (answer(alloc, command, &name, &mut store, out), store)
         }
@@ -38,6 +43,9 @@ pub fn run<R: Threads + Sync, S: Store, I: Source, O: Sink, G: Gate + Sync>(
             (prepare(rt, alloc, &mut store, workers, gate, out), store)
         }
         Ok(Some(Command::Make(n))) => (make(alloc, n, out), store),
+        Ok(Some(Command::Replay(begun))) => {
+            (replay(rt, alloc, begun, &mut store, keys, out, gate), store)
+        }
         Ok(None) => (Status::Usage, store),
         Err(NoMemory) => (Status::NoMemory, store),
     }

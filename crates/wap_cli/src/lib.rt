@@ -4,6 +4,8 @@
 mod browsing;
 mod commands;
 mod pages;
+mod replaying;
+mod saved;
 
 pub use commands::run;
 pub use wap_status::Status;

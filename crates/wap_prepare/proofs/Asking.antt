@@ -1,5 +1,5 @@
 -- A store that was asked for some pages is asked for more.
-use Rattle.std.proofs.Common.{◌≡◌, ℕ, ◌+◌, ◌<◌, ◌≤◌, Result, Ok, Err, refl, sym, ap, ◌∙◌}
+use Rattle.std.proofs.Common.{◌≡◌, ℕ, ◌+◌, ◌≤◌, Result, Ok, Err, refl, sym, ap, ◌∙◌}
 use Rattle.std.proofs.Common.{subst, arith, Option, Some, None}
 use Rattle.std.specs.Prelude.{List, [], ◌∷◌, ◌++◌, length, IfSome, IsErr, IsErrAnd, IsErrOf}
 use Rattle.std.specs.Map.{keys_of}
@@ -13,7 +13,7 @@ use Rattle.wap_devices.specs.declared.store.StoreErr.TheVariants.{Failed, NoMemo
 use Rattle.wap_site.specs.Asking.{raised_by}
 use Rattle.wap_site.proofs.Counts.{raised_by-then}
 use Rattle.wap_prepare.specs.Fetching.{AsksFor}
-use Rattle.wap_prepare.specs.inside.Jobs.{page_of, Job, IsAnswered}
+use Rattle.wap_prepare.specs.Fetching.{page_of, Job, IsAnswered}
 
 -- so many were asked for, and none failed
 pub record Asked (count : ℕ) (before after : StoreSeen) : Type 0 where
@@ -36,20 +36,21 @@ module _ (i : ℕ) (a b c : StoreSeen) (asked : Asked i a b) where
   more_fetches more is =
       is ∙ ap (raised_by more) asked.fetches ∙ sym (raised_by-then i more a.fetches)
 
-  -- and then one more
-  pub one_more : {A : Type 0} (job : A) → AsksFor {A = A} 1 b c (Ok job) → Asked (i + 1) a c
-  one_more job asks = record {
-    fetches = more_fetches 1 asks.whole;
+  -- and then more
+  pub asked_more : {A : Type 0} (more : ℕ) (job : A) → AsksFor {A = A} more b c (Ok job)
+      → Asked (i + more) a c
+  asked_more more job asks = record {
+    fetches = more_fetches more asks.whole;
     listings = asks.listings ∙ asked.listings;
     contents = asks.contents ∙ asked.contents;
     faults = asks.steady ∙ asked.faults;
   }
 
-  -- the next one failed
-  pub next_fails : {A B : Type 0} (count : ℕ) → i < count → (fault : StoreErr)
-      → AsksFor {A = A} 1 b c (Err fault)
+  -- one of the next failed
+  pub more_fail : {A B : Type 0} (more count : ℕ) → i + more ≤ count → (fault : StoreErr)
+      → AsksFor {A = A} more b c (Err fault)
       → AsksFor {A = B} count a c (Err fault)
-  next_fails count within fault asks =
+  more_fail more count within fault asks =
       let some = asks.few.1 in
       let counts = asks.counts in
       let same = asked.faults in

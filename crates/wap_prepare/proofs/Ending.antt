@@ -1,16 +1,15 @@
--- How preparing ends.
+-- How work on all pages of a folder ends.
 use Rattle.std.proofs.Common.{◌≡◌, ℕ, ◌≤◌, List, [], ◌∷◌, Option, Some, None, Ok, Err, Result}
 use Rattle.std.proofs.Common.{inl, inr, refl}
-use Rattle.std.proofs.Common.{sym, ap, subst, ◌∙◌, arith}
-use Rattle.std.specs.Prelude.{All, IfSome, length}
-use Rattle.std.specs.Map.{keys_of}
+use Rattle.std.proofs.Common.{ap, subst, ◌∙◌, arith}
+use Rattle.std.specs.Prelude.{IfSome, length}
 use Rattle.std.specs.List.Sorted.{IsPermutation}
 use Rattle.std.proofs.lemmas.List.Sorted.{length_permutation}
 use Rattle.wap_base.specs.Contents.{Contents, names_of}
 use Rattle.wap_base.specs.Count.{Rose}
-use Rattle.wap_base.specs.Texts.{AreAscending}
 use Rattle.wap_devices.specs.Stores.{StoreSeen, Lists}
 use Rattle.wap_devices.specs.Sinks.{SinkSeen}
+use Rattle.wap_devices.specs.Transfer.{Appends, AppendsPrefix}
 use Rattle.wap_devices.specs.declared.store.StoreErr.{StoreErr}
 use Rattle.wap_devices.specs.declared.store.StoreErr.TheVariants as store_error
 use Rattle.wap_site.specs.Asking.{raised_by}
@@ -18,10 +17,9 @@ use Rattle.wap_status.specs.declared.status.Status.{Status}
 use Rattle.wap_status.specs.declared.status.Status.TheVariants.{Done, Usage, Refused, StoreFault}
 use Rattle.wap_status.specs.declared.status.Status.TheVariants.{KeyReadFault, WriteFault, NoMemory}
 use Rattle.wap_status.specs.declared.status.Status.TheVariants.{BadKey, OpenDialog, TooManyKeys}
-use Rattle.wap_prepare.specs.Reports.{Entry, AreEntries, IsEntry}
 use Rattle.wap_prepare.specs.Fetching.{AsksFor}
-use Rattle.wap_prepare.specs.Preparing.{Prepares, AsksWithin}
-use Rattle.wap_prepare.specs.inside.Ends.{ReportsTo}
+use Rattle.wap_prepare.specs.Working.{WorksOnAll, AsksWithin}
+use Rattle.wap_prepare.specs.inside.Ends.{PutsTo}
 
 length-keys : (pages : Contents) → length (names_of pages) ≡ length pages
 length-keys [] = refl
@@ -46,9 +44,9 @@ none_asked None after before is = tt
 none_asked (Some pages) after before is = (0, omega arith, is)
 
 -- memory ran out before the store was asked
-pub nothing_prepared : (store : StoreSeen) (sink : SinkSeen)
-    → Prepares store store sink sink NoMemory
-nothing_prepared store sink = record {
+pub nothing_done : (Tells : (List ℕ → Type 0) → Type 0) (store : StoreSeen) (sink : SinkSeen)
+    → WorksOnAll Tells store store sink sink NoMemory
+nothing_done Tells store sink = record {
   done = λ e. absurd cc;
   prefix = λ e. absurd cc;
   unwritten = λ undone other. refl;
@@ -66,11 +64,11 @@ nothing_prepared store sink = record {
   write_counts = omega arith;
 }
 
-module _ {A : Type 0} (names_in : A → List (List ℕ)) (store listed after : StoreSeen)
-    (sink sink_after : SinkSeen) where
+module _ (Tells : (List ℕ → Type 0) → Type 0) {A : Type 0} (names_in : A → List (List ℕ))
+    (store listed after : StoreSeen) (sink sink_after : SinkSeen) where
   -- the store failed when it was asked for the names
   pub list_fails : Lists names_in store listed (Err store_error.Failed)
-      → Prepares store listed sink sink StoreFault
+      → WorksOnAll Tells store listed sink sink StoreFault
   list_fails lists = record {
     done = λ e. absurd cc;
     prefix = λ e. absurd cc;
@@ -91,7 +89,7 @@ module _ {A : Type 0} (names_in : A → List (List ℕ)) (store listed after : S
 
   -- memory ran out for the names
   pub list_no_memory : Lists names_in store listed (Err store_error.NoMemory)
-      → Prepares store listed sink sink NoMemory
+      → WorksOnAll Tells store listed sink sink NoMemory
   list_no_memory lists = record {
     done = λ e. absurd cc;
     prefix = λ e. absurd cc;
@@ -120,7 +118,7 @@ module _ {A : Type 0} (names_in : A → List (List ℕ)) (store listed after : S
     -- it failed at a page
     pub page_fails : {B : Type 0}
         → AsksFor {A = B} (length (names_in names)) listed after (Err store_error.Failed)
-        → Prepares store after sink sink StoreFault
+        → WorksOnAll Tells store after sink sink StoreFault
     page_fails asks =
         let rose : Rose store.faults after.faults =
         subst (λ (faults : ℕ). Rose faults after.faults) lists.asked.steady (asks.failed refl) in
@@ -144,10 +142,10 @@ module _ {A : Type 0} (names_in : A → List (List ℕ)) (store listed after : S
           write_counts = omega arith;
         }
 
-    -- memory ran out for the pages, or for what they are judged
+    -- memory ran out for the pages, or for what is done with them
     pub no_memory : {B : Type 0}
         → AsksFor {A = B} (length (names_in names)) listed after (Err store_error.NoMemory)
-        → Prepares store after sink sink NoMemory
+        → WorksOnAll Tells store after sink sink NoMemory
     no_memory asks =
         let first = lists.asked.counts in
         let second = asks.counts in
@@ -169,31 +167,20 @@ module _ {A : Type 0} (names_in : A → List (List ℕ)) (store listed after : S
           write_counts = omega arith;
         }
 
-    module _ {B : Type 0} (entries : List Entry) (same : keys_of entries ≡ names_in names)
-        (right : All (IsEntry listed.contents) entries) (judged : B)
-        (asks : AsksFor {A = B} (length (names_in names)) listed after (Ok judged)) where
-      are_entries : AreEntries store.contents entries
-      are_entries = record {
-        ascending = subst AreAscending (sym same) lists.ascending;
-        all =
-            subst (λ (l : List (List ℕ)). IfSome store.contents
-            (λ pages. IsPermutation (names_of pages) l)) (sym same) lists.names;
-        right =
-            subst (λ (contents : Option Contents). All (IsEntry contents) entries)
-            lists.asked.contents right;
-      }
-
+    module _ {B : Type 0} (text : List ℕ)
+        (tells : (Wrote : List ℕ → Type 0) → Wrote text → Tells Wrote) (worked : B)
+        (asks : AsksFor {A = B} (length (names_in names)) listed after (Ok worked)) where
       steady : after.faults ≡ store.faults
       steady = asks.steady ∙ lists.asked.steady
 
-      -- the report was written, or not
-      pub reported : (status : Status) → ReportsTo entries sink sink_after status
-          → Prepares store after sink sink_after status
-      reported Done so =
+      -- the text was written, or not
+      pub ended : (status : Status) → PutsTo text sink sink_after status
+          → WorksOnAll Tells store after sink sink_after status
+      ended Done so =
           let faults = steady in
           let writes = so.steady in
           record {
-            done = λ e. record { entries = entries; right = are_entries; wrote = so.wrote };
+            done = λ e. tells (Appends sink.written sink_after.written) so.wrote;
             prefix = λ e. absurd cc;
             unwritten = λ undone other. absurd (undone refl);
             ends = tt;
@@ -209,11 +196,11 @@ module _ {A : Type 0} (names_in : A → List (List ℕ)) (store listed after : S
             store_counts = omega (arith, faults);
             write_counts = omega (arith, writes);
           }
-      reported WriteFault so =
+      ended WriteFault so =
           let faults = steady in
           record {
             done = λ e. absurd cc;
-            prefix = λ e. record { entries = entries; right = are_entries; wrote = so.wrote };
+            prefix = λ e. tells (AppendsPrefix sink.written sink_after.written) so.wrote;
             unwritten = λ undone other. absurd (other refl);
             ends = tt;
             store_fault = λ e. absurd cc;
@@ -228,7 +215,7 @@ module _ {A : Type 0} (names_in : A → List (List ℕ)) (store listed after : S
             store_counts = omega (arith, faults);
             write_counts = so.counts;
           }
-      reported NoMemory so =
+      ended NoMemory so =
           let faults = steady in
           let writes : sink_after.faults ≡ sink.faults = ap (λ (s : SinkSeen). s.faults) so in
           record {
@@ -248,10 +235,10 @@ module _ {A : Type 0} (names_in : A → List (List ℕ)) (store listed after : S
             store_counts = omega (arith, faults);
             write_counts = omega (arith, writes);
           }
-      reported Usage so = absurd so
-      reported (Refused fault) so = absurd so
-      reported StoreFault so = absurd so
-      reported KeyReadFault so = absurd so
-      reported (BadKey line fault) so = absurd so
-      reported OpenDialog so = absurd so
-      reported TooManyKeys so = absurd so
+      ended Usage so = absurd so
+      ended (Refused fault) so = absurd so
+      ended StoreFault so = absurd so
+      ended KeyReadFault so = absurd so
+      ended (BadKey line fault) so = absurd so
+      ended OpenDialog so = absurd so
+      ended TooManyKeys so = absurd so

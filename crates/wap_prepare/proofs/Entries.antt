@@ -1,14 +1,20 @@
 -- What jobs came to is right for the pages of the store.
 use Rattle.std.proofs.Common.{◌≡◌, ℕ, List, [], ◌∷◌, map, Option, Some, None, Result, Ok}
-use Rattle.std.proofs.Common.{refl, sym, ap₂, subst}
-use Rattle.std.specs.Prelude.{All, IfOk}
+use Rattle.std.proofs.Common.{refl, sym, ap, ap₂, subst, ◌∙◌, ◌+◌, ◌++◌, take, drop}
+use Rattle.std.proofs.Common.{length, append_assoc}
+use Rattle.std.specs.Prelude.{All, IfOk, IfSome}
 use Rattle.std.specs.List.{AllZip, AllByRecursion}
 use Rattle.std.specs.Map.{keys_of}
-use Rattle.std.proofs.lemmas.List.Elements.{recursion_from_All, All-from_recursion}
-use Rattle.wap_base.specs.Contents.{Contents, page_named}
+use Rattle.std.specs.List.Sorted.{IsPermutation}
+use Rattle.std.proofs.lemmas.List.{take-append-drop, length-append}
+use Rattle.std.proofs.lemmas.List.Elements.{recursion_from_All, All-from_recursion, All-append}
+use Rattle.wap_base.specs.Contents.{Contents, names_of, page_named}
+use Rattle.wap_base.specs.Texts.{AreAscending}
 use Rattle.wap_base.specs.declared.fault.NoMemory.{NoMemory}
-use Rattle.wap_prepare.specs.Reports.{Entry, IsVerdict, IsEntry}
-use Rattle.wap_prepare.specs.inside.Jobs.{Job, IsRight, IsAnswered}
+use Rattle.wap_devices.specs.Stores.{StoreSeen, Lists}
+use Rattle.wap_prepare.specs.Reports.{Entry, AreEntries, IsVerdict, IsEntry}
+use Rattle.wap_prepare.specs.Fetching.{Job, IsAnswered}
+use Rattle.wap_prepare.specs.inside.Jobs.{IsRight}
 
 -- answers that all are there
 pub all_there : (jobs : List Job) (entries : List Entry) (answers : List (Result Entry NoMemory))
@@ -62,3 +68,54 @@ all_right contents jobs entries answered right =
       entry_right contents job entry answered.0 right.0,
       by_lists jobs entries answered.1 right.1,
     )
+
+-- so they are the entries of all pages, of which the names were listed
+pub are_entries : {A : Type 0} (names_in : A → List (List ℕ)) (store listed : StoreSeen) (names : A)
+    (entries : List Entry) → Lists names_in store listed (Ok names)
+    → keys_of entries ≡ names_in names → All (IsEntry listed.contents) entries
+    → AreEntries store.contents entries
+are_entries names_in store listed names entries lists same right = record {
+  ascending = subst AreAscending (sym same) lists.ascending;
+  all =
+      subst (λ (l : List (List ℕ)). IfSome store.contents
+      (λ pages. IsPermutation (names_of pages) l)) (sym same) lists.names;
+  right =
+      subst (λ (contents : Option Contents). All (IsEntry contents) entries)
+      lists.asked.contents right;
+}
+
+-- ---- entries that are judged in parts
+
+keys-append : (entries more : List Entry)
+    → keys_of (entries ++ more) ≡ keys_of entries ++ keys_of more
+keys-append [] more = refl
+keys-append (entry ∷ entries) more =
+    ap (λ (names : List (List ℕ)). entry.0 ∷ names) (keys-append entries more)
+
+-- names that are taken in two parts
+pub parts_together : (some left rest : List (List ℕ)) (k : ℕ) → some ≡ take k left
+    → rest ≡ drop k left → length some + length rest ≡ length left
+parts_together some left rest k first last =
+    sym (length-append some rest)
+    ∙ ap length (ap₂ (λ (l m : List (List ℕ)). l ++ m) first last ∙ take-append-drop k left)
+
+-- the names that are left after more of them
+pub left_after : (entries more all : List Entry) (some left rest names : List (List ℕ)) (k : ℕ)
+    → keys_of entries ++ left ≡ names → some ≡ take k left → rest ≡ drop k left
+    → keys_of more ≡ some → all ≡ entries ++ more → keys_of all ++ rest ≡ names
+left_after entries more all some left rest names k so first last are together =
+    ap (λ (l : List Entry). keys_of l ++ rest) together
+    ∙ ap (λ (l : List (List ℕ)). l ++ rest) (keys-append entries more)
+    ∙ append_assoc (keys_of entries) (keys_of more) rest
+    ∙ ap (λ (l : List (List ℕ)). keys_of entries ++ l)
+    (ap₂ (λ (l m : List (List ℕ)). l ++ m) (are ∙ first) last ∙ take-append-drop k left)
+    ∙ so
+
+-- all of them are right
+pub right_after : (contents now : Option Contents) (entries more all : List Entry)
+    → All (IsEntry contents) entries → now ≡ contents → All (IsEntry now) more
+    → all ≡ entries ++ more → All (IsEntry contents) all
+right_after contents now entries more all right same more_right together =
+    subst (λ (l : List Entry). All (IsEntry contents) l) (sym together)
+    (All-append (IsEntry contents) entries more right
+    (subst (λ (c : Option Contents). All (IsEntry c) more) same more_right))

@@ -1,7 +1,10 @@
 -- A store that is asked for several pages, one after the other. This project's own.
-use Rattle.std.specs.Prelude.{◌≡◌, ℕ, ◌≤◌, Result, OnOk, IsErrOf}
+use Rattle.std.specs.Prelude.{◌≡◌, ℕ, ◌≤◌, List, Option, Some, None, IfSome, Result, OnOk, IsErrOf}
+use Rattle.wap_base.specs.Contents.{Contents, page_named}
 use Rattle.wap_base.specs.Count.{Rose}
 use Rattle.wap_devices.specs.Stores.{StoreSeen}
+use Rattle.wap_devices.specs.declared.store.Fetched.{Fetched}
+use Rattle.wap_devices.specs.declared.store.Fetched.TheVariants as fetched
 use Rattle.wap_devices.specs.declared.store.StoreErr.{StoreErr}
 use Rattle.wap_devices.specs.declared.store.StoreErr.TheVariants.{Failed}
 use Rattle.wap_site.specs.Asking.{raised_by}
@@ -17,3 +20,18 @@ pub record AsksFor {A : Type 0} (count : ℕ) (before after : StoreSeen) (result
   pub counts : before.faults ≤ after.faults
   pub failed : IsErrOf result Failed → Rose before.faults after.faults
   pub steady : OnOk result (after.faults ≡ before.faults)
+
+-- ---- what it answers
+
+-- the bytes that the store answered
+abbrev pub page_of : Fetched → Option (List ℕ)
+page_of fetched.Missing = None
+page_of (fetched.Found bytes) = Some bytes
+
+-- a name, and what the store answered for it
+abbrev pub Job : Type 0
+Job = List ℕ × Fetched
+
+-- the store answered the page of the name, where its pages are known
+abbrev pub IsAnswered : Option Contents → Job → Type 0
+IsAnswered contents job = IfSome contents (λ pages. page_of job.1 ≡ page_named job.0 pages)

@@ -1,30 +1,12 @@
 -- What the preparing of a folder comes to: its report, or how it ends without one. This project's
 -- own.
-use Rattle.std.specs.Prelude.{◌≡◌, ◌≢◌, ◌⊎◌, ℕ, ◌≤◌, List, Option, IfSome, length}
+use Rattle.std.specs.Prelude.{ℕ, List, Option}
 use Rattle.wap_base.specs.Contents.{Contents}
-use Rattle.wap_base.specs.Count.{raised, Rose}
 use Rattle.wap_devices.specs.Stores.{StoreSeen}
 use Rattle.wap_devices.specs.Sinks.{SinkSeen}
-use Rattle.wap_devices.specs.Transfer.{Appends, AppendsPrefix}
-use Rattle.wap_site.specs.Asking.{raised_by}
 use Rattle.wap_status.specs.declared.status.Status.{Status}
-use Rattle.wap_status.specs.declared.status.Status.TheVariants.{Done, Usage, Refused, StoreFault}
-use Rattle.wap_status.specs.declared.status.Status.TheVariants.{KeyReadFault, WriteFault, NoMemory}
-use Rattle.wap_status.specs.declared.status.Status.TheVariants.{BadKey, OpenDialog, TooManyKeys}
 use Rattle.wap_prepare.specs.Reports.{Entry, AreEntries, report}
-
--- preparing ends so
-abbrev pub IsOfFolder : Status → Type 0
-IsOfFolder Done = Unit {0}
-IsOfFolder Usage = ⊥
-IsOfFolder (Refused fault) = ⊥
-IsOfFolder StoreFault = Unit {0}
-IsOfFolder KeyReadFault = ⊥
-IsOfFolder WriteFault = Unit {0}
-IsOfFolder NoMemory = Unit {0}
-IsOfFolder (BadKey line fault) = ⊥
-IsOfFolder OpenDialog = ⊥
-IsOfFolder TooManyKeys = ⊥
+use Rattle.wap_prepare.specs.Working.{WorksOnAll}
 
 -- the entries of all pages, and what was written of the report on them
 pub record Reports (Wrote : List ℕ → Type 0) (contents : Option Contents) : Type 0 where
@@ -32,38 +14,7 @@ pub record Reports (Wrote : List ℕ → Type 0) (contents : Option Contents) : 
   pub right : AreEntries contents entries
   pub wrote : Wrote (report entries)
 
--- the store is asked for no more pages than there are, where these are known
-abbrev pub AsksWithin : StoreSeen → StoreSeen → Type 0
-AsksWithin before after = IfSome before.contents (λ pages.
-    (more : ℕ) × (more ≤ length pages) × (after.fetches ≡ raised_by more before.fetches))
-
 -- the store and the sink, before and after, and how it ended
-pub record Prepares (store store_after : StoreSeen) (sink sink_after : SinkSeen) (status : Status)
-    : Type 0 where
-  -- on Done the report was written, and where the sink failed, a prefix of it
-  pub done : status ≡ Done
-      → Reports (Appends sink.written sink_after.written) store.contents
-  pub prefix : status ≡ WriteFault
-      → Reports (AppendsPrefix sink.written sink_after.written) store.contents
-  -- and else nothing
-  pub unwritten : status ≢ Done → status ≢ WriteFault → sink_after ≡ sink
-  pub ends : IsOfFolder status
-  -- these statuses come only where a count of faults rose
-  pub store_fault : status ≡ StoreFault → Rose store.faults store_after.faults
-  pub write_fault : status ≡ WriteFault → Rose sink.faults sink_after.faults
-  -- and no fault is passed over
-  pub store_steady : status ≢ StoreFault → status ≢ NoMemory
-      → store_after.faults ≡ store.faults
-  pub write_steady : status ≢ WriteFault → sink_after.faults ≡ sink.faults
-  -- where neither failed, the report is written, or memory ran out
-  pub complete : ¬ Rose store.faults store_after.faults → ¬ Rose sink.faults sink_after.faults
-      → (status ≡ Done) ⊎ (status ≡ NoMemory)
-  -- the names are asked for once, or not where memory ran out, and each page once at most
-  pub listings : status ≢ NoMemory → store_after.listings ≡ raised store.listings
-  pub once : (store_after.listings ≡ store.listings)
-      ⊎ (store_after.listings ≡ raised store.listings)
-  pub asked : AsksWithin store store_after
-  -- however it ends
-  pub kept : store_after.contents ≡ store.contents
-  pub store_counts : store.faults ≤ store_after.faults
-  pub write_counts : sink.faults ≤ sink_after.faults
+abbrev pub Prepares : StoreSeen → StoreSeen → SinkSeen → SinkSeen → Status → Type 0
+Prepares store store_after sink sink_after status =
+    WorksOnAll (λ Wrote. Reports Wrote store.contents) store store_after sink sink_after status

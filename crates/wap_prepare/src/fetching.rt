@@ -2,7 +2,7 @@
 ghost use Rattle.std.specs.Prelude.{◌≡◌, All, IfOk, length};
 ghost use Rattle.std.specs.Map.{keys_of};
 ghost use Rattle.wap_prepare.specs.Fetching.{AsksFor};
-ghost use Rattle.wap_prepare.specs.inside.Jobs.{IsAnswered};
+ghost use Rattle.wap_prepare.specs.Fetching.{IsAnswered};
 
 use crate::job::Job;
 use std::alloc::Global;
@@ -26,7 +26,7 @@ fn fetch_one<S: Store>(alloc: Global, store: &mut S, name: &Text) -> Result<Job,
 }
 
 /// What the store answers for each name.
-pub(crate) fn fetch_all<S: Store>(
+pub fn fetch_all<S: Store>(
     alloc: Global,
     store: &mut S,
     names: &[Text],

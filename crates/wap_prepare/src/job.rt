@@ -8,7 +8,7 @@ use wap_devices::Fetched;
 
 /// A name, and what the store answered for it. A contract sees a pair of them.
 #[derive(Drop)]
-pub(crate) struct Job {
+pub struct Job {
     name: Text,
     page: Fetched,
 }
@@ -35,14 +35,14 @@ impl Job {
     }
 
     /// The name of the page.
-    pub(crate) fn name(&self) -> &Text
+    pub fn name(&self) -> &Text
         ensures { result.now ≡ self.now.0 }
     {
         &self.name
     }
 
     /// What the store answered.
-    pub(crate) fn page(&self) -> &Fetched
+    pub fn page(&self) -> &Fetched
         ensures page { result.now ≡ self.now.1 }
         ensures small { IsSmall self.now.1 }
     {

@@ -2,7 +2,8 @@
 ghost use Rattle.std.specs.Prelude.{◌≡◌, ◌<◌, ◌^◌, Some, Ok, map, length, IfOk};
 ghost use Rattle.wap_devices.specs.Pages.{IsSmall};
 ghost use Rattle.wap_prepare.specs.Reports.{IsVerdict};
-ghost use Rattle.wap_prepare.specs.inside.Jobs.{page_of, IsRight};
+ghost use Rattle.wap_prepare.specs.Fetching.{page_of};
+ghost use Rattle.wap_prepare.specs.inside.Jobs.{IsRight};
 
 use crate::job::Job;
 use std::alloc::Global;
@@ -56,7 +57,7 @@ impl Work for Judging {
 }
 
 /// What jobs came to, if memory sufficed for all.
-pub(crate) fn all_answers<A: Drop>(
+pub fn all_answers<A: Drop>(
     alloc: Global,
     answers: Vec<Result<A, NoMemory>>,
 ) -> Result<Vec<A>, NoMemory>

@@ -8,4 +8,7 @@ mod judging;
 mod preparing;
 mod report;
 
+pub use fetching::fetch_all;
+pub use job::Job;
+pub use judging::all_answers;
 pub use preparing::prepare;

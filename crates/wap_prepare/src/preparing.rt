@@ -2,11 +2,11 @@
 ghost use Rattle.std.specs.Prelude.{◌<◌, ◌≡◌, All, IfOk, length};
 ghost use Rattle.std.specs.List.{AllZip};
 ghost use Rattle.std.specs.Map.{keys_of};
-ghost use Rattle.wap_prepare.specs.Reports.{IsEntry};
+ghost use Rattle.wap_prepare.specs.Reports.{IsEntry, report};
 ghost use Rattle.wap_prepare.specs.Fetching.{AsksFor};
 ghost use Rattle.wap_prepare.specs.Preparing.{Prepares};
 ghost use Rattle.wap_prepare.specs.inside.Jobs.{IsRight};
-ghost use Rattle.wap_prepare.specs.inside.Ends.{ReportsTo};
+ghost use Rattle.wap_prepare.specs.inside.Ends.{PutsTo};
 
 use crate::fetching::fetch_all;
 use crate::job::Job;
@@ -20,6 +20,9 @@ use wap_devices::{Failed, Gate, Sink, Store, StoreErr, write_all};
 use wap_folder::run_jobs;
 use wap_pages::PageFault;
 use wap_status::Status;
+
+/// How many pages each worker is given at a time.
+const PAGES_EACH: usize = 16;
 
 /// What each page is judged that a store answered.
 fn judge_pages<R: Threads + Sync, G: Gate + Sync>(
@@ -37,8 +40,8 @@ fn judge_pages<R: Threads + Sync, G: Gate + Sync>(
     all_answers(alloc, answers)
 }
 
-/// What the page of each name is judged. So many workers share the pages.
-fn judge_all<R: Threads + Sync, S: Store, G: Gate + Sync>(
+/// What the page of each of some names is judged. So many workers share the pages.
+fn judge_some<R: Threads + Sync, S: Store, G: Gate + Sync>(
     rt: &R,
     alloc: Global,
     store: &mut S,
@@ -62,13 +65,43 @@ fn judge_all<R: Threads + Sync, S: Store, G: Gate + Sync>(
     }
 }
 
+/// What the page of each name is judged. The pages are fetched and judged in parts, one after the
+/// other, so that no more of them are in memory than those of one part.
+fn judge_all<R: Threads + Sync, S: Store, G: Gate + Sync>(
+    rt: &R,
+    alloc: Global,
+    store: &mut S,
+    names: &[Text],
+    workers: u8,
+    gate: &G,
+) -> Result<Vec<(Text, Option<PageFault>)>, StoreErr>
+    requires { 0 < workers }
+    ensures names { IfOk result (λ entries. keys_of entries.items ≡ names.now) }
+    ensures right { IfOk result (λ entries. All (IsEntry (S.seen store.old).contents)
+        entries.items) }
+    ensures asks { AsksFor (length names.now) (S.seen store.old) (S.seen store.new) result }
+{
+    let most = PAGES_EACH * usize::from(workers);
+    let mut entries = Vec::new(alloc);
+    let mut left = names;
+    while !left.is_empty() {
+        let (some, rest) = left.split_at(most.min(left.len()));
+        match judge_some(rt, alloc, store, some, workers, gate) {
+            Ok(mut more) => entries.append(&mut more)?,
+            Err(fault) => return Err(fault),
+        }
+        left = rest;
+    }
+    Ok(entries)
+}
+
 /// Writes the report on these pages.
 fn write_report<O: Sink>(
     alloc: Global,
     entries: &[(Text, Option<PageFault>)],
     out: &mut O,
 ) -> Status
-    ensures { ReportsTo entries.now (O.seen out.old) (O.seen out.new) result }
+    ensures { PutsTo (report entries.now) (O.seen out.old) (O.seen out.new) result }
 {
     let Ok(text) = report_on(alloc, entries) else {
         return Status::NoMemory;

@@ -5,3 +5,5 @@
 mod meeting;
 #[cfg(test)]
 mod prepare;
+#[cfg(test)]
+mod replay;

@@ -1,7 +1,7 @@
 -- The numbers of a command that words are.
 use Rattle.std.proofs.Common.{◌≡◌, ◌⊎◌, ℕ, ◌≤◌, Bool, true, false, List}
 use Rattle.std.proofs.Common.{Option, Some, None, inl, inr, refl, sym, subst, lit≤}
-use Rattle.std.specs.Prelude.{◌&&◌, nat_lt, nat_le, length, option_and_then, codes}
+use Rattle.std.specs.Prelude.{◌&&◌, nat_lt, nat_le, length, option_map, option_and_then, codes}
 use Rattle.std.specs.Prelude.{IfSome}
 use Rattle.std.specs.List.{list_all}
 use Rattle.std.specs.Char.{is_ascii_digit}
@@ -19,22 +19,31 @@ use Rattle.wap_words.specs.declared.numbers.TheConstants.{DEFAULT_SEED, LEAST_BU
 use Rattle.wap_words.specs.declared.numbers.TheConstants.{DEFAULT_BUDGET, LEAST_CACHE, MOST_CACHE}
 use Rattle.wap_words.specs.declared.numbers.TheConstants.{DEFAULT_CACHE, LEAST_WORKERS}
 use Rattle.wap_words.specs.declared.numbers.TheConstants.{MOST_WORKERS, DEFAULT_WORKERS}
+use Rattle.wap_words.specs.declared.words.Browse.{Browse}
 use Rattle.wap_words.specs.declared.words.Command.{Command}
+use Rattle.wap_words.specs.declared.words.Command.TheVariants as command_is
 use Rattle.wap_words.specs.declared.words.PageCommand.{PageCommand}
 use Rattle.wap_words.specs.declared.word.Word.{Word}
 use Rattle.wap_words.specs.declared.word.Word.TheVariants as word
-use Rattle.wap_words.specs.Ranges.{HasRanges}
+use Rattle.wap_words.specs.Ranges.{HasRanges, BrowsesInRange}
 use Rattle.wap_words.specs.Reading.{uses_of, text_of}
 use Rattle.wap_words.specs.Words.{at_least, number_of, greatest_number, limits_by, browse_form}
 use Rattle.wap_words.specs.Words.{browse_with, browse_by, browse_of, page_form, page_by, page_of}
 use Rattle.wap_words.specs.Words.{prepare_form, prepare_by, prepare_of, make_by, make_of}
-use Rattle.wap_words.specs.Words.{command_by}
+use Rattle.wap_words.specs.Words.{replay_form, replay_with, replay_by, replay_of}
+use Rattle.wap_words.specs.Words.{resume_form, resume_by, resume_of, command_by}
 
 -- what is there after a step was there before it
 bound_some : {A B : Type 0} (o : Option A) (next : A → Option B) (y : B)
     → option_and_then next o ≡ Some y → (x : A) × (next x ≡ Some y) × (o ≡ Some x)
 bound_some None next y e = absurd cc
 bound_some (Some x) next y e = (x, e, refl)
+
+-- and what is there of it after a change
+mapped_some : {A B : Type 0} (f : A → B) (o : Option A) (y : B) → option_map f o ≡ Some y
+    → (x : A) × (f x ≡ y) × (o ≡ Some x)
+mapped_some f None y e = absurd cc
+mapped_some f (Some x) y e = (x, some_same (f x) y e, refl)
 
 both : (a b : Bool) → (a && b) ≡ true → b ≡ true
 both true b e = e
@@ -105,10 +114,10 @@ limits_range string history depth limits e =
       depth = number_range LEAST_DEPTH MOST_DEPTH DEFAULT_DEPTH depth d (lit≤ tt) (lit≤ tt) is3;
     })
 
--- the command `browse`
-browse_range : (url seed budget cache string history depth : Option (List ℕ)) (said : Command)
+-- what is browsed
+browse_range : (url seed budget cache string history depth : Option (List ℕ)) (said : Browse)
     → browse_by url seed budget cache (limits_by string history depth) ≡ Some said
-    → HasRanges said
+    → BrowsesInRange said
 browse_range url seed budget cache string history depth said e =
     let (text, e1, is1) = bound_some url _ _ e in
     let (start, e2, is2) = bound_some (number_of 0 greatest_number DEFAULT_SEED seed) _ _ e1 in
@@ -119,13 +128,33 @@ browse_range url seed budget cache string history depth said e =
     let (limits, e5, is5) = bound_some (limits_by string history depth) _ _ e4 in
     let pages = number_range LEAST_CACHE MOST_CACHE DEFAULT_CACHE cache kept (lit≤ tt) (lit≤ tt)
     is4 in
-    subst HasRanges (some_same (browse_with start turns kept limits text) said e5) (record {
+    subst BrowsesInRange (some_same (browse_with start turns kept limits text) said e5) (record {
       some_turns = (number_range LEAST_BUDGET greatest_number DEFAULT_BUDGET budget turns
           (lit≤ tt) (lit≤ tt) is3).0;
       some_pages = pages.0;
       few_pages = pages.1;
       limits = limits_range string history depth limits is5;
     })
+
+-- by words of `browse` or `image`
+begun_range : (words : List (List ℕ)) (said : Browse)
+    → option_and_then browse_of (uses_of browse_form words) ≡ Some said → BrowsesInRange said
+begun_range words said e =
+    let (uses, by, is) = bound_some (uses_of browse_form words) browse_of said e in
+    browse_range (text_of (codes "url") uses) (text_of (codes "seed") uses)
+    (text_of (codes "budget") uses) (text_of (codes "cache") uses) (text_of (codes "string") uses)
+    (text_of (codes "history") uses) (text_of (codes "depth") uses) said by
+
+-- the command `resume`
+resume_range : (name cache : Option (List ℕ)) (said : Command) → resume_by name cache ≡ Some said
+    → HasRanges said
+resume_range name cache said e =
+    let (text, e1, is1) = bound_some name _ _ e in
+    let (kept, e2, is2) =
+    bound_some (number_of LEAST_CACHE MOST_CACHE DEFAULT_CACHE cache) _ _ e1 in
+    let (some, few) =
+    number_range LEAST_CACHE MOST_CACHE DEFAULT_CACHE cache kept (lit≤ tt) (lit≤ tt) is2 in
+    subst HasRanges (some_same _ said e2) (record { some_pages = some; few_pages = few })
 
 -- a command on one page, which has no number
 page_range : (on : PageCommand) (name : Option (List ℕ)) (said : Command)
@@ -152,14 +181,41 @@ make_range number said e =
     let (n, e2, is2) = bound_some (decimal_of greatest_number digits) _ _ e1 in
     subst HasRanges (some_same _ said e2) tt
 
+-- the command `replay`
+replay_range : (url seed budget workers string history depth : Option (List ℕ)) (said : Command)
+    → replay_by url seed budget workers (limits_by string history depth) ≡ Some said
+    → HasRanges said
+replay_range url seed budget workers string history depth said e =
+    let (text, e1, is1) = bound_some url _ _ e in
+    let (start, e2, is2) = bound_some (number_of 0 greatest_number DEFAULT_SEED seed) _ _ e1 in
+    let (turns, e3, is3) =
+    bound_some (number_of LEAST_BUDGET greatest_number DEFAULT_BUDGET budget) _ _ e2 in
+    let (count, e4, is4) =
+    bound_some (number_of LEAST_WORKERS MOST_WORKERS DEFAULT_WORKERS workers) _ _ e3 in
+    let (limits, e5, is5) = bound_some (limits_by string history depth) _ _ e4 in
+    let (some, few) = number_range LEAST_WORKERS MOST_WORKERS DEFAULT_WORKERS workers count
+    (lit≤ tt) (lit≤ tt) is4 in
+    subst HasRanges (some_same (replay_with start turns count limits text) said e5) (record {
+      some_turns = (number_range LEAST_BUDGET greatest_number DEFAULT_BUDGET budget turns
+          (lit≤ tt) (lit≤ tt) is3).0;
+      workers = record { some = some; few = few };
+      limits = limits_range string history depth limits is5;
+    })
+
 -- any command
 range_by : (begun : Word) (words : List (List ℕ)) (said : Command)
     → command_by begun words ≡ Some said → HasRanges said
 range_by word.Browse words said e =
-    let (uses, by, is) = bound_some (uses_of browse_form words) browse_of said e in
-    browse_range (text_of (codes "url") uses) (text_of (codes "seed") uses)
-    (text_of (codes "budget") uses) (text_of (codes "cache") uses) (text_of (codes "string") uses)
-    (text_of (codes "history") uses) (text_of (codes "depth") uses) said by
+    let (one, is, begun) = mapped_some (λ b. command_is.Browse b)
+    (option_and_then browse_of (uses_of browse_form words)) said e in
+    subst HasRanges is (begun_range words one begun)
+range_by word.Image words said e =
+    let (one, is, begun) = mapped_some (λ b. command_is.Image b)
+    (option_and_then browse_of (uses_of browse_form words)) said e in
+    subst HasRanges is (begun_range words one begun)
+range_by word.Resume words said e =
+    let (uses, by, is) = bound_some (uses_of resume_form words) resume_of said e in
+    resume_range (text_of (codes "name") uses) (text_of (codes "cache") uses) said by
 range_by (word.Page on) words said e =
     let (uses, by, is) = bound_some (uses_of page_form words) (page_of on) said e in
     page_range on (text_of (codes "name") uses) said by
@@ -169,6 +225,12 @@ range_by word.Prepare words said e =
 range_by word.Make words said e =
     let (uses, by, is) = bound_some (uses_of page_form words) make_of said e in
     make_range (text_of (codes "name") uses) said by
+range_by word.Replay words said e =
+    let (uses, by, is) = bound_some (uses_of replay_form words) replay_of said e in
+    replay_range (text_of (codes "url") uses) (text_of (codes "seed") uses)
+    (text_of (codes "budget") uses) (text_of (codes "workers") uses)
+    (text_of (codes "string") uses) (text_of (codes "history") uses)
+    (text_of (codes "depth") uses) said by
 
 range_of : (begun : Word) (words : List (List ℕ)) (said : Option Command)
     → command_by begun words ≡ said → IfSome said HasRanges

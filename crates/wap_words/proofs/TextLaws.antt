@@ -5,7 +5,8 @@ use Rattle.std.specs.Borrow.{Bor}
 use Rattle.std.proofs.lemmas.List.{take_more, map-append}
 use Rattle.clap.specs.declared.parser.matches.ArgMatches.{ArgMatches}
 use Rattle.wap_words.specs.declared.words.PageCommand.{PageCommand}
-use Rattle.wap_words.specs.Words.{limits_by, browse_by, browse_of, page_by, page_of}
+use Rattle.wap_words.specs.Words.{limits_by, browse_by, browse_of, resume_by, resume_of}
+use Rattle.wap_words.specs.Words.{page_by, page_of, replay_by, replay_of}
 use Rattle.wap_words.specs.Words.{prepare_by, prepare_of, make_by, make_of}
 use Rattle.std.specs.Prelude.{encode_utf8_all, option_map, find, slice_get, option_and_then}
 use Rattle.std.specs.Prelude.{Option, Bool, true, false, Some, map, cond}
@@ -110,6 +111,15 @@ browse_given m uses (given, is, has) =
     (text_of (codes "budget") given) (text_of (codes "cache") given)) (limits_given m given has)
     ∙ sym (ap (option_and_then browse_of) is)
 
+pub resume_given : (m : ArgMatches) (uses : Option (List Use)) → AreMatched (Some m) uses
+    → resume_by (text_in m (codes "name")) (text_in m (codes "cache"))
+    ≡ option_and_then resume_of uses
+resume_given m uses (given, is, has) =
+    ap (λ (name : Option Text). resume_by name (text_in m (codes "cache")))
+    (text_given m given (codes "name") has)
+    ∙ ap (resume_by (text_of (codes "name") given)) (text_given m given (codes "cache") has)
+    ∙ sym (ap (option_and_then resume_of) is)
+
 pub page_given : (on : PageCommand) (m : ArgMatches) (uses : Option (List Use))
     → AreMatched (Some m) uses
     → page_by on (text_in m (codes "name")) ≡ option_and_then (page_of on) uses
@@ -130,3 +140,23 @@ pub make_given : (m : ArgMatches) (uses : Option (List Use)) → AreMatched (Som
     → make_by (text_in m (codes "name")) ≡ option_and_then make_of uses
 make_given m uses (given, is, has) =
     ap make_by (text_given m given (codes "name") has) ∙ sym (ap (option_and_then make_of) is)
+
+pub replay_given : (m : ArgMatches) (uses : Option (List Use)) → AreMatched (Some m) uses
+    → replay_by (text_in m (codes "url")) (text_in m (codes "seed")) (text_in m (codes "budget"))
+    (text_in m (codes "workers")) (limits_by (text_in m (codes "string"))
+    (text_in m (codes "history")) (text_in m (codes "depth")))
+    ≡ option_and_then replay_of uses
+replay_given m uses (given, is, has) =
+    let limits = limits_by (text_in m (codes "string")) (text_in m (codes "history"))
+    (text_in m (codes "depth")) in
+    ap (λ (url : Option Text). replay_by url (text_in m (codes "seed")) (text_in m (codes "budget"))
+    (text_in m (codes "workers")) limits) (text_given m given (codes "url") has)
+    ∙ ap (λ (seed : Option Text). replay_by (text_of (codes "url") given) seed (text_in m
+    (codes "budget")) (text_in m (codes "workers")) limits) (text_given m given (codes "seed") has)
+    ∙ ap (λ (budget : Option Text). replay_by (text_of (codes "url") given) (text_of (codes "seed")
+    given) budget (text_in m (codes "workers")) limits) (text_given m given (codes "budget") has)
+    ∙ ap (λ (workers : Option Text). replay_by (text_of (codes "url") given) (text_of (codes "seed")
+    given) (text_of (codes "budget") given) workers limits) (text_given m given (codes "workers") has)
+    ∙ ap (replay_by (text_of (codes "url") given) (text_of (codes "seed") given)
+    (text_of (codes "budget") given) (text_of (codes "workers") given)) (limits_given m given has)
+    ∙ sym (ap (option_and_then replay_of) is)

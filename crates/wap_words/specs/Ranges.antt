@@ -4,24 +4,40 @@ use Rattle.wap_base.specs.Limits.{AreInRange}
 use Rattle.wap_words.specs.declared.numbers.TheConstants.{LEAST_BUDGET, LEAST_CACHE, MOST_CACHE}
 use Rattle.wap_words.specs.declared.numbers.TheConstants.{LEAST_WORKERS, MOST_WORKERS}
 use Rattle.wap_words.specs.declared.words.Browse.{Browse}
+use Rattle.wap_words.specs.declared.words.Replay.{Replay}
+use Rattle.wap_words.specs.declared.words.Resume.{Resume}
 use Rattle.wap_words.specs.declared.words.Command.{Command}
 use Rattle.wap_words.specs.declared.words.Command.TheVariants as command
 
--- the numbers of `browse`
+-- the numbers of `browse` and `image`
 pub record BrowsesInRange (one : Browse) : Type 0 where
   pub some_turns : LEAST_BUDGET ≤ one.budget
   pub some_pages : LEAST_CACHE ≤ one.cache
   pub few_pages : one.cache ≤ MOST_CACHE
   pub limits : AreInRange one.limits
 
--- so many workers may share the pages of a folder
+-- the number of `resume`
+pub record ResumesInRange (one : Resume) : Type 0 where
+  pub some_pages : LEAST_CACHE ≤ one.cache
+  pub few_pages : one.cache ≤ MOST_CACHE
+
+-- so many workers may share the work
 pub record AreWorkers (count : ℕ) : Type 0 where
   pub some : LEAST_WORKERS ≤ count
   pub few : count ≤ MOST_WORKERS
 
+-- the numbers of `replay`
+pub record ReplaysInRange (one : Replay) : Type 0 where
+  pub some_turns : LEAST_BUDGET ≤ one.budget
+  pub workers : AreWorkers one.workers
+  pub limits : AreInRange one.limits
+
 -- each number of a command is in its range
 abbrev pub HasRanges : Command → Type 0
 HasRanges (command.Browse one) = BrowsesInRange one
+HasRanges (command.Image one) = BrowsesInRange one
+HasRanges (command.Resume one) = ResumesInRange one
 HasRanges (command.Page on name) = Unit {0}
 HasRanges (command.Prepare workers) = AreWorkers workers
 HasRanges (command.Make n) = Unit {0}
+HasRanges (command.Replay one) = ReplaysInRange one

@@ -1,4 +1,4 @@
-//! The command `browse`.
+//! The commands `browse` and `image`, which have the same words.
 ghost use Rattle.std.specs.Prelude.{◌≡◌, IfOk, map, drop, option_map, option_and_then};
 ghost use Rattle.std.specs.Prelude.{encode_utf8_all, codes, Option};
 ghost use Rattle.wap_base.specs.declared.limits.Limits.{Limits};
@@ -35,7 +35,7 @@ fn limits_by(string: Option<&str>, history: Option<&str>, depth: Option<&str>) -
 }
 
 /// The limits that matches give, or none.
-fn limits_in(matches: &ArgMatches) -> Option<Limits>
+pub(crate) fn limits_in(matches: &ArgMatches) -> Option<Limits>
     ensures { result ≡ limits_by (text_in matches.now (codes "string"))
         (text_in matches.now (codes "history")) (text_in matches.now (codes "depth")) }
 {
@@ -45,7 +45,7 @@ fn limits_in(matches: &ArgMatches) -> Option<Limits>
     limits_by(string, history, depth)
 }
 
-/// The command of the texts that were given, and of limits.
+/// What is browsed by the texts that were given, and by limits.
 fn browse_by(
     alloc: Global,
     url: Option<&str>,
@@ -53,7 +53,7 @@ fn browse_by(
     budget: Option<&str>,
     cache: Option<&str>,
     limits: Option<Limits>,
-) -> Result<Option<Command>, NoMemory>
+) -> Result<Option<Browse>, NoMemory>
     ensures { IfOk result (λ said. said ≡ browse_by (option_map (λ text. text.now) url.entry)
         (option_map (λ text. text.now) seed.entry) (option_map (λ text. text.now) budget.entry)
         (option_map (λ text. text.now) cache.entry) limits) }
@@ -74,17 +74,17 @@ fn browse_by(
         return Ok(None);
     };
     let url = Text::of(alloc, url)?;
-    Ok(Some(Command::Browse(Browse {
+    Ok(Some(Browse {
         url,
         seed,
         budget,
         cache,
         limits,
-    })))
+    }))
 }
 
-/// The command `browse` that matches give, or none.
-fn browse_in(alloc: Global, matches: &ArgMatches) -> Result<Option<Command>, NoMemory>
+/// What is browsed by matches, or none.
+fn browse_in(alloc: Global, matches: &ArgMatches) -> Result<Option<Browse>, NoMemory>
     ensures { IfOk result (λ said. said ≡ browse_by (text_in matches.now (codes "url"))
         (text_in matches.now (codes "seed")) (text_in matches.now (codes "budget"))
         (text_in matches.now (codes "cache"))
@@ -98,18 +98,46 @@ fn browse_in(alloc: Global, matches: &ArgMatches) -> Result<Option<Command>, NoM
     browse_by(alloc, url, seed, budget, cache, limits_in(matches))
 }
 
-/// The command of words that begin with that of `browse`.
-pub(crate) fn read_browse(
-    alloc: Global,
-    word: &str,
-    words: &[Text],
-) -> Result<Option<Command>, NoMemory>
+/// What is browsed by the words after the first, or none.
+fn read_begun(alloc: Global, word: &str, words: &[Text]) -> Result<Option<Browse>, NoMemory>
     ensures { IfOk result (λ said. said ≡ option_and_then browse_of
         (uses_of browse_form (drop 1 (map encode_utf8_all words.now)))) }
 {
     let texts = texts_of(alloc, words)?;
     match browse_matches(alloc, word, &texts)? {
         Some(matches) => browse_in(alloc, &matches),
+        None => Ok(None),
+    }
+}
+
+/// The command of words that begin with that of `browse`.
+pub(crate) fn read_browse(
+    alloc: Global,
+    word: &str,
+    words: &[Text],
+) -> Result<Option<Command>, NoMemory>
+    ensures { IfOk result (λ said. said ≡ option_map (λ one. Command.Browse one)
+        (option_and_then browse_of (uses_of browse_form
+        (drop 1 (map encode_utf8_all words.now))))) }
+{
+    match read_begun(alloc, word, words)? {
+        Some(begun) => Ok(Some(Command::Browse(begun))),
+        None => Ok(None),
+    }
+}
+
+/// The command of words that begin with that of `image`.
+pub(crate) fn read_image(
+    alloc: Global,
+    word: &str,
+    words: &[Text],
+) -> Result<Option<Command>, NoMemory>
+    ensures { IfOk result (λ said. said ≡ option_map (λ one. Command.Image one)
+        (option_and_then browse_of (uses_of browse_form
+        (drop 1 (map encode_utf8_all words.now))))) }
+{
+    match read_begun(alloc, word, words)? {
+        Some(begun) => Ok(Some(Command::Image(begun))),
         None => Ok(None),
     }
 }

@@ -6,6 +6,8 @@ mod folders;
 mod matching;
 mod numbers;
 mod paging;
+mod replaying;
+mod resuming;
 mod word;
 mod words;
 
@@ -13,4 +15,4 @@ pub use numbers::{
     DEFAULT_BUDGET, DEFAULT_CACHE, DEFAULT_SEED, DEFAULT_WORKERS, LEAST_BUDGET, LEAST_CACHE,
     LEAST_WORKERS, MOST_CACHE, MOST_WORKERS,
 };
-pub use words::{Browse, Command, PageCommand, read_words};
+pub use words::{Browse, Command, PageCommand, Replay, Resume, read_words};

@@ -3,7 +3,8 @@ ghost use Rattle.std.specs.Prelude.{◌≡◌, false, IfOk, map, drop, option_ma
 ghost use Rattle.clap.specs.Simple.{app_of};
 ghost use Rattle.clap.specs.Walk.{rule_of};
 ghost use Rattle.wap_words.specs.Reading.{uses_of};
-ghost use Rattle.wap_words.specs.Words.{browse_form, page_form, prepare_form};
+ghost use Rattle.wap_words.specs.Words.{browse_form, resume_form, page_form, prepare_form};
+ghost use Rattle.wap_words.specs.Words.{replay_form};
 ghost use Rattle.wap_words.specs.inside.Matching.{option_named, app_by, AreMatched, IsMatchedBy};
 ghost use Rattle.wap_words.specs.inside.Matching.{AreTexts, text_in};
 
@@ -35,6 +36,16 @@ fn browse_parser<'a>(alloc: Global, word: &'a str) -> Result<clap::Command<'a>, 
         .arg(option(alloc, "depth"))
 }
 
+/// The parser of what follows the word of `resume`.
+fn resume_parser<'a>(alloc: Global, word: &'a str) -> Result<clap::Command<'a>, AllocError>
+    ensures { IfOk result (λ parser. app_of parser ≡ app_by word.entry.now resume_form) }
+{
+    clap::Command::new(alloc, word)
+        .disable_help_flag(true)
+        .arg(Arg::new(alloc, "name"))?
+        .arg(option(alloc, "cache"))
+}
+
 /// The parser of what follows the word of a command on one page.
 fn page_parser<'a>(alloc: Global, word: &'a str) -> Result<clap::Command<'a>, AllocError>
     ensures { IfOk result (λ parser. app_of parser ≡ app_by word.entry.now page_form) }
@@ -52,6 +63,21 @@ fn prepare_parser<'a>(alloc: Global, word: &'a str) -> Result<clap::Command<'a>,
         .disable_help_flag(true)
         .arg(Arg::new(alloc, "surplus"))?
         .arg(option(alloc, "workers"))
+}
+
+/// The parser of what follows the word of `replay`.
+fn replay_parser<'a>(alloc: Global, word: &'a str) -> Result<clap::Command<'a>, AllocError>
+    ensures { IfOk result (λ parser. app_of parser ≡ app_by word.entry.now replay_form) }
+{
+    clap::Command::new(alloc, word)
+        .disable_help_flag(true)
+        .arg(Arg::new(alloc, "url"))?
+        .arg(option(alloc, "seed"))?
+        .arg(option(alloc, "budget"))?
+        .arg(option(alloc, "workers"))?
+        .arg(option(alloc, "string"))?
+        .arg(option(alloc, "history"))?
+        .arg(option(alloc, "depth"))
 }
 
 /// The words as they are parsed.
@@ -98,6 +124,19 @@ pub(crate) fn browse_matches<'a>(
     matches_by(browse_parser(alloc, word)?, words)
 }
 
+/// What the words after the first give for `resume`, or none where they aren't of its form.
+pub(crate) fn resume_matches<'a>(
+    alloc: Global,
+    word: &'a str,
+    words: &'a [&'a str],
+) -> Result<Option<ArgMatches<'a>>, NoMemory>
+    requires { AreTexts (map (λ word. word.now) words.now) }
+    ensures { IfOk result (λ matches. AreMatched matches
+        (uses_of resume_form (drop 1 (map (λ word. word.now) words.entry.now)))) }
+{
+    matches_by(resume_parser(alloc, word)?, words)
+}
+
 /// What the words after the first give for `prepare`, or none where they aren't of its form.
 pub(crate) fn prepare_matches<'a>(
     alloc: Global,
@@ -109,6 +148,19 @@ pub(crate) fn prepare_matches<'a>(
         (uses_of prepare_form (drop 1 (map (λ word. word.now) words.entry.now)))) }
 {
     matches_by(prepare_parser(alloc, word)?, words)
+}
+
+/// What the words after the first give for `replay`, or none where they aren't of its form.
+pub(crate) fn replay_matches<'a>(
+    alloc: Global,
+    word: &'a str,
+    words: &'a [&'a str],
+) -> Result<Option<ArgMatches<'a>>, NoMemory>
+    requires { AreTexts (map (λ word. word.now) words.now) }
+    ensures { IfOk result (λ matches. AreMatched matches
+        (uses_of replay_form (drop 1 (map (λ word. word.now) words.entry.now)))) }
+{
+    matches_by(replay_parser(alloc, word)?, words)
 }
 
 /// What the words after the first give for a command on one page, or for `make`, or none where they

@@ -11,15 +11,20 @@ use crate::PageCommand;
 #[derive(Clone, Copy, Debug, PartialEq, Eq)]
 pub(crate) enum Word {
     Browse,
+    Image,
+    Resume,
     /// One page is looked at.
     Page(PageCommand),
     Prepare,
     Make,
+    Replay,
 }
 
 /// The word of each command.
-pub(crate) static WORDS: [(&str, Word); 8] = [
+pub(crate) static WORDS: [(&str, Word); 11] = [
     ("browse", Word::Browse),
+    ("image", Word::Image),
+    ("resume", Word::Resume),
     ("verify", Word::Page(PageCommand::Verify)),
     ("list", Word::Page(PageCommand::List)),
     ("check", Word::Page(PageCommand::Check)),
@@ -27,6 +32,7 @@ pub(crate) static WORDS: [(&str, Word); 8] = [
     ("prepare", Word::Prepare),
     ("make", Word::Make),
     ("compile", Word::Page(PageCommand::Compile)),
+    ("replay", Word::Replay),
 ];
 
 /// The word beside a name.

@@ -12,13 +12,14 @@ use Rattle.wap_scripting.specs.UnitSites.{Pages, shelf_of}
 use Rattle.wap_context.specs.Browsers.{IsOver}
 use Rattle.wap_context.specs.Missing.{Missed}
 use Rattle.wap_context.specs.Sites.{IfOver}
-use Rattle.wap_session.specs.Feeding.{State, step_of, PlaysOn}
+use Rattle.wap_handset.specs.Feeding.{State, step_of, PlaysOn}
+use Rattle.wap_browse.specs.Plays.{IsNoPush}
 use Rattle.wap_status.specs.declared.status.Status.{Status}
 use Rattle.wap_status.specs.declared.status.Status.TheVariants.{Done, Usage, Refused, StoreFault}
 use Rattle.wap_status.specs.declared.status.Status.TheVariants.{KeyReadFault, WriteFault, NoMemory}
 use Rattle.wap_status.specs.declared.status.Status.TheVariants.{BadKey, OpenDialog, TooManyKeys}
 
--- what a key is seen to move: pages, the session and the sink
+-- what a key is seen to move: pages, the handset and the sink
 pub record Moment : Type 0 where
   pub pages : Seen
   pub state : State
@@ -36,6 +37,7 @@ IfKnown old Fact = IfOver old.pages.contents old.state.browser Fact
 pub record Leads (pages : Pages) (key : Key) (old new : Moment) : Type 0 where
   pub over : IsOver (shelf_of pages) new.state.browser
   pub on : PlaysOn (key ∷ []) pages old.state new.state
+  pub unpushed : IsNoPush key → old.state.winners ≡ [] → new.state.winners ≡ []
   pub asks : Asks (step_at pages key old).asked old.pages new.pages
   pub wrote : Appends old.sink.written new.sink.written
       (lines_bytes (shown_by (step_at pages key old)))

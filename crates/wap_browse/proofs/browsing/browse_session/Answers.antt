@@ -1,21 +1,21 @@
 -- The URL is opened as a key before the first, and then the keys are read and played.
 use Rattle.std.proofs.Common.{ap}
 use Rattle.wap_input.specs.declared.key.Key.TheVariants.{Open}
-use Rattle.wap_session.specs.Feeding.{State}
+use Rattle.wap_handset.specs.Feeding.{State}
 use Rattle.wap_browse.specs.Beginning.{begun_with}
 use Rattle.wap_browse.specs.Plays.{opened}
 use Rattle.wap_browse.specs.Outside.{Outside}
-use Rattle.wap_browse.specs.Standing.{Moved, Browsed, moved_of, outside_of}
+use Rattle.wap_browse.specs.Standing.{Moved, moved_of, outside_of}
 use Rattle.wap_browse.specs.inside.Played.{Moment}
 use Rattle.wap_browse.proofs.Going.{opens_first, browsed_after, played_to}
 use Rattle.wap_browse.proofs.Exits.{first_stops, stop_undone}
 use Rattle.wap_browse.proofs.Summary.{browses_by}
 use Rattle.wap_browse.proofs.browsing.browse_session.Goals as goal
 
--- a new session isn't over
+-- a new handset isn't over
 pub play_read-requires : goal.play_read-requires
 play_read-requires g c =
-    ap (λ (state : State). state.is_over) (c.new-session.ensures c.args.begun.url)
+    ap (λ (state : State). state.is_over) (c.new-handset.ensures c.args.begun.url)
 
 -- the first key was played
 pub returns-clause-browses : goal.returns-clause-browses
@@ -27,12 +27,12 @@ returns-clause-browses g c =
     let begun = begun_with c.args.begun in
     let new : Moment = record {
       pages = g.P.Pages.seen c.play_read.new.pages;
-      state = c.play_read.new.session;
+      state = c.play_read.new.handset;
       sink = g.O.Sink.seen c.play_read.new.out;
     } in
     c.play_keys-status.ensures.browses (opened begun) from
-    (browsed_after (opened begun) _ (Open begun.url) from from c.new-session.result new
-    (opens_first begun from c.new-session.result (c.new-session.ensures begun.url))
+    (browsed_after (opened begun) _ (Open begun.url) from from c.new-handset.result new
+    (opens_first begun from c.new-handset.result (c.new-handset.ensures begun.url))
     c.in_default.ensures)
 
 pub returns-clause-rests : goal.returns-clause-rests
@@ -44,12 +44,12 @@ returns-clause-rests g c done =
     let begun = begun_with c.args.begun in
     let new : Moment = record {
       pages = g.P.Pages.seen c.play_read.new.pages;
-      state = c.play_read.new.session;
+      state = c.play_read.new.handset;
       sink = g.O.Sink.seen c.play_read.new.out;
     } in
     c.play_keys-status.ensures.rests (opened begun) from
-    (browsed_after (opened begun) _ (Open begun.url) from from c.new-session.result new
-    (opens_first begun from c.new-session.result (c.new-session.ensures begun.url))
+    (browsed_after (opened begun) _ (Open begun.url) from from c.new-handset.result new
+    (opens_first begun from c.new-handset.result (c.new-handset.ensures begun.url))
     c.in_default.ensures)
     done
 
@@ -64,13 +64,13 @@ returns-in-Err-clause-browses g c =
     let begun = begun_with c.args.begun in
     let new : Moment = record {
       pages = g.P.Pages.seen c.play_read.new.pages;
-      state = c.play_read.new.session;
+      state = c.play_read.new.handset;
       sink = g.O.Sink.seen c.play_read.new.out;
     } in
     browses_by (opened begun) old (outside_of (played_to new) old.source) c.in-Err.status
-    (first_stops (opened begun) old (moved_of old) c.new-session.result (Open begun.url) new
+    (first_stops (opened begun) old (moved_of old) c.new-handset.result (Open begun.url) new
     c.in-Err.status
-    (opens_first begun (moved_of old) c.new-session.result (c.new-session.ensures begun.url))
+    (opens_first begun (moved_of old) c.new-handset.result (c.new-handset.ensures begun.url))
     c.in-Err.ensures)
 
 pub returns-in-Err-clause-rests : goal.returns-in-Err-clause-rests

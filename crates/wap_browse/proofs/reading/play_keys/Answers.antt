@@ -1,18 +1,17 @@
 -- Each key is read and then played: what both come to is a lemma of Going, where the session goes
 -- on, and of Exits, where it comes to its end.
-use Rattle.std.proofs.Common.{◌≡◌, Bool, Ok, sym, ap, subst, ◌∙◌}
+use Rattle.std.proofs.Common.{Bool, Ok, sym, ap, subst, ◌∙◌}
 use Rattle.wap_keys.specs.Reading.{Answers, CountsFaults}
 use Rattle.wap_keys.specs.declared.ending.Next.{Next}
 use Rattle.wap_keys.proofs.FaultLaws.{lost_steady}
 use Rattle.wap_status.specs.declared.status.Status.{Status}
-use Rattle.wap_status.specs.declared.status.Status.TheVariants.{Done, NoMemory}
+use Rattle.wap_status.specs.declared.status.Status.TheVariants.{NoMemory}
 use Rattle.wap_browse.specs.Outside.{Outside}
 use Rattle.wap_browse.specs.Endings.{ended}
 use Rattle.wap_browse.specs.Headline.{BrowsesSeen}
-use Rattle.wap_browse.specs.Resting.{Rests}
 use Rattle.wap_browse.specs.Standing.{outside_of}
 use Rattle.wap_browse.specs.inside.Played.{Moment}
-use Rattle.wap_browse.proofs.Going.{goes_first, goes_more, moment_of, played_to}
+use Rattle.wap_browse.proofs.Going.{goes_first, goes_more, played_to}
 use Rattle.wap_browse.proofs.Exits.{ended_browses, ended_rests, reader_runs_out, read_stops}
 use Rattle.wap_browse.proofs.Exits.{stop_undone}
 use Rattle.wap_browse.proofs.Summary.{browses_by}
@@ -25,7 +24,7 @@ loop-key-init g c =
       source = g.I.Source.seen c.args.keys.now;
       sink = g.O.Sink.seen c.args.out.now;
     } in
-    goes_first start c.new-reader.result c.args.session.now c.requires
+    goes_first start c.new-reader.result c.args.handset.now c.requires
     (c.new-reader.ensures.read start.source)
 
 pub loop-key-preserved : goal.loop-key-preserved
@@ -42,11 +41,11 @@ loop-key-preserved g c =
     } in
     let new : Moment = record {
       pages = g.P.Pages.seen c.play_read.new.pages;
-      state = c.play_read.new.session;
+      state = c.play_read.new.handset;
       sink = g.O.Sink.seen c.play_read.new.out;
     } in
     let source = g.I.Source.seen c.next.new.source in
-    goes_more start now c.loop-key.reader c.next.new.self c.args.session.now c.loop-key.session
+    goes_more start now c.loop-key.reader c.next.new.self c.args.handset.now c.loop-key.handset
     c.in-Ok-Key.key source new c.loop-key.invariant
     (subst (Answers now.source source c.loop-key.reader c.next.new.self)
     c.in-Ok-Key.field-0-is c.in-Ok-Key.ensures.answers)
@@ -63,12 +62,12 @@ returns-in-Err-play_read-clause-browses g c play from began =
     } in
     let new : Moment = record {
       pages = g.P.Pages.seen c.play_read.new.pages;
-      state = c.play_read.new.session;
+      state = c.play_read.new.handset;
       sink = g.O.Sink.seen c.play_read.new.out;
     } in
     let source = g.I.Source.seen c.next.new.source in
     browses_by play old (outside_of (played_to new) source) c.in-Err-play_read.status
-    (read_stops play old now c.loop-key.reader c.next.new.self c.loop-key.session c.in-Ok-Key.key
+    (read_stops play old now c.loop-key.reader c.next.new.self c.loop-key.handset c.in-Ok-Key.key
     source new c.in-Err-play_read.status (c.loop-key.invariant.reaches play from began)
     (subst (Answers now.source source c.loop-key.reader c.next.new.self)
     c.in-Ok-Key.field-0-is c.in-Ok-Key.ensures.answers)
@@ -93,7 +92,7 @@ returns-in-Ok-Ended-clause-browses g c play from began =
     (sym (c.status_of.ensures
     ∙ ap (λ (is_open : Bool). ended is_open c.in-Ok-Ended.ending) c.in_dialog.ensures))
     (browses_by play old last _
-    (ended_browses play old now c.loop-key.reader c.next.new.self c.loop-key.session source
+    (ended_browses play old now c.loop-key.reader c.next.new.self c.loop-key.handset source
     c.in-Ok-Ended.ending (c.loop-key.invariant.reaches play from began)
     (subst (Answers now.source source c.loop-key.reader c.next.new.self)
     c.in-Ok-Ended.field-0-is c.in-Ok-Ended.ensures.answers)
@@ -111,7 +110,7 @@ returns-in-Ok-Ended-clause-rests g c play from began done =
       sink = g.O.Sink.seen c.loop-key.out;
     } in
     let source = g.I.Source.seen c.next.new.source in
-    ended_rests play old now c.loop-key.reader c.next.new.self c.loop-key.session source
+    ended_rests play old now c.loop-key.reader c.next.new.self c.loop-key.handset source
     c.in-Ok-Ended.ending (c.loop-key.invariant.reaches play from began)
     (subst (Answers now.source source c.loop-key.reader c.next.new.self)
     c.in-Ok-Ended.field-0-is c.in-Ok-Ended.ensures.answers)
@@ -130,7 +129,7 @@ returns-in-Err-clause-browses g c play from began =
     } in
     let source = g.I.Source.seen c.next.new.source in
     browses_by play old (record now { source = source }) NoMemory
-    (reader_runs_out play old now c.loop-key.reader c.loop-key.session source
+    (reader_runs_out play old now c.loop-key.reader c.loop-key.handset source
     (c.loop-key.invariant.reaches play from began) c.in-Err.ensures.gives_up
     (lost_steady c.next.result _ now.source.faults source.faults c.in-Err.is
     c.next.ensures.faults))

@@ -4,8 +4,8 @@ use Rattle.std.specs.Map.{keys_of}
 use Rattle.std.proofs.lemmas.List.{take_more}
 use Rattle.std.proofs.lemmas.List.Elements.{All-push}
 use Rattle.wap_base.specs.Contents.{Contents}
-use Rattle.wap_prepare.specs.inside.Jobs.{Job, IsAnswered}
-use Rattle.wap_prepare.proofs.Asking.{one_more, next_fails, then_memory, memory_over, keys-push}
+use Rattle.wap_prepare.specs.Fetching.{Job, IsAnswered}
+use Rattle.wap_prepare.proofs.Asking.{asked_more, more_fail, then_memory, memory_over, keys-push}
 use Rattle.wap_prepare.proofs.fetching.fetch_all.Goals as goal
 
 pub returns-in_err-push-in-Ok-fetch_one-clause-asks :
@@ -16,15 +16,15 @@ returns-in_err-push-in-Ok-fetch_one-clause-asks g c =
     let new = g.S.Store.seen c.fetch_one.new.store in
     memory_over _ (length c.args.names.now) old new c.from_residual.result
     (then_memory (i + 1) (length c.args.names.now) old new
-    (one_more i old (g.S.Store.seen c.loop-name.store) new c.loop-name.invariant.asked
+    (asked_more i old (g.S.Store.seen c.loop-name.store) new c.loop-name.invariant.asked 1
     c.in-Ok-fetch_one.job c.in-Ok-fetch_one.ensures.asks) (omega arith)) c.from_residual.ensures.0
     c.from_residual.ensures.1
 
 pub returns-in-Err-fetch_one-clause-asks : goal.returns-in-Err-fetch_one-clause-asks
 returns-in-Err-fetch_one-clause-asks g c =
-    next_fails c.loop-name.name-index (g.S.Store.seen c.args.store.now)
+    more_fail c.loop-name.name-index (g.S.Store.seen c.args.store.now)
     (g.S.Store.seen c.loop-name.store) (g.S.Store.seen c.fetch_one.new.store)
-    c.loop-name.invariant.asked (length c.args.names.now) (omega arith) c.in-Err-fetch_one.fault
+    c.loop-name.invariant.asked 1 (length c.args.names.now) (omega arith) c.in-Err-fetch_one.fault
     c.in-Err-fetch_one.ensures.asks
 
 pub loop-name-preserved : goal.loop-name-preserved
@@ -49,5 +49,6 @@ loop-name-preserved g c =
           (subst (λ (contents : Option Contents). IsAnswered contents job)
           c.loop-name.invariant.asked.contents c.in-Ok-fetch_one.ensures.answered));
       asked =
-          one_more i old now new c.loop-name.invariant.asked job c.in-Ok-fetch_one.ensures.asks;
+          asked_more i old now new c.loop-name.invariant.asked 1 job
+          c.in-Ok-fetch_one.ensures.asks;
     }

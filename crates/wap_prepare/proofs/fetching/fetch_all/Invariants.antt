@@ -1,6 +1,6 @@
 use Rattle.std.proofs.Common.{◌≡◌, take, All}
 use Rattle.std.specs.Map.{keys_of}
-use Rattle.wap_prepare.specs.inside.Jobs.{IsAnswered}
+use Rattle.wap_prepare.specs.Fetching.{IsAnswered}
 use Rattle.wap_prepare.proofs.Asking.{Asked}
 use Rattle.wap_prepare.proofs.fetching.fetch_all.Given as goal
 

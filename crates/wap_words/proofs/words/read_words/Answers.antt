@@ -15,3 +15,24 @@ returns-in-Some-Prepare-clause-ranges c =
     IfOk-weaker c.read_prepare.result _ _
     (read_range word.Prepare (drop 1 (map encode_utf8_all c.args.words.now)))
     c.read_prepare.ensures
+
+pub returns-in-Some-Image-clause-ranges : goal.returns-in-Some-Image-clause-ranges
+returns-in-Some-Image-clause-ranges c =
+    IfOk-weaker c.read_image.result _ _
+    (read_range word.Image (drop 1 (map encode_utf8_all c.args.words.now))) c.read_image.ensures
+
+pub returns-in-Some-Resume-clause-ranges : goal.returns-in-Some-Resume-clause-ranges
+returns-in-Some-Resume-clause-ranges c =
+    IfOk-weaker c.read_resume.result _ _
+    (read_range word.Resume (drop 1 (map encode_utf8_all c.args.words.now))) c.read_resume.ensures
+
+pub returns-in-Some-Make-clause-ranges : goal.returns-in-Some-Make-clause-ranges
+returns-in-Some-Make-clause-ranges c =
+    IfOk-weaker c.read_make.result _ _
+    (read_range word.Make (drop 1 (map encode_utf8_all c.args.words.now))) c.read_make.ensures
+
+pub returns-in-Some-Replay-clause-ranges : goal.returns-in-Some-Replay-clause-ranges
+returns-in-Some-Replay-clause-ranges c =
+    IfOk-weaker c.read_replay.result _ _
+    (read_range word.Replay (drop 1 (map encode_utf8_all c.args.words.now)))
+    c.read_replay.ensures

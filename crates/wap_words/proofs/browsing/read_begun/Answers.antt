@@ -7,7 +7,7 @@ use Rattle.wap_words.specs.Reading.{uses_of}
 use Rattle.wap_words.specs.Words.{browse_form, browse_of}
 use Rattle.wap_words.specs.inside.Matching.{AreMatched}
 use Rattle.wap_words.proofs.TextLaws.{browse_given}
-use Rattle.wap_words.proofs.browsing.read_browse.Goals as goal
+use Rattle.wap_words.proofs.browsing.read_begun.Goals as goal
 
 pub returns-in-Some : goal.returns-in-Some
 returns-in-Some c =

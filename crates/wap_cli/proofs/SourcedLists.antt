@@ -1,0 +1,25 @@
+-- What is said of lists of keys over the units that a store's pages are judged to is said of them
+-- over the sources that its pages are.
+use Rattle.std.proofs.Common.{◌∙◌}
+use Rattle.wap_devices.specs.Stores.{StoreSeen}
+use Rattle.wap_world.specs.Sites.{Site}
+use Rattle.wap_world.specs.Sessions.{Begun}
+use Rattle.wap_context.specs.Sites.{fragment_call}
+use Rattle.wap_source_pages.proofs.Judging.{site_judged}
+use Rattle.wap_status.specs.declared.status.Status.{Status}
+use Rattle.wap_replay.specs.Headline.{IsSiteOf, ReplaysSeen}
+use Rattle.wap_replay.proofs.Over.{replays_too}
+use Rattle.wap_cli.specs.Devices.{Devices, around}
+use Rattle.wap_cli.specs.Replaying.{IsSiteOver, ReplaysOver}
+
+-- the site of a store's pages is that of the judged pages
+site_of_units : (store : StoreSeen) (site : Site) → IsSiteOver store site → IsSiteOf store site
+site_of_units store site (pages, (contents, known, are), is) =
+    (contents, known, is ∙ site_judged fragment_call contents pages are)
+
+-- replaying over units is replaying over sources
+pub replays_over : (begun : Begun) (old new : Devices) (status : Status)
+    → ReplaysSeen begun (around old) (around new) status → ReplaysOver begun old new status
+replays_over begun old new status so =
+    replays_too (IsSiteOf old.store) (IsSiteOver old.store) (site_of_units old.store) begun
+    (around old) (around new) status so

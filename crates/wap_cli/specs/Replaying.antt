@@ -1,0 +1,24 @@
+-- The headline of lists of keys: what their replaying over a store comes to, where its pages are
+-- those that its contents are by the relations of bytes, and a source of a script means what its
+-- program means. This project's own.
+use Rattle.std.specs.Prelude.{◌≡◌}
+use Rattle.wap_devices.specs.Stores.{StoreSeen}
+use Rattle.wap_world.specs.Sites.{Site}
+use Rattle.wap_world.specs.Sessions.{Begun}
+use Rattle.wap_scripting.specs.Sources.{AllPages}
+use Rattle.wap_source_sites.specs.Programs.{Accepted}
+use Rattle.wap_status.specs.declared.status.Status.{Status}
+use Rattle.wap_replay.specs.Headline.{Replays}
+use Rattle.wap_cli.specs.Browsing.{ArePagesOf, site_over}
+use Rattle.wap_cli.specs.Devices.{Devices, around}
+
+-- the site of pages that the contents of a store are
+abbrev pub IsSiteOver : StoreSeen → Site → Type 0
+IsSiteOver store site =
+    (pages : AllPages Accepted) × ArePagesOf store pages × (site ≡ site_over pages)
+
+-- sessions that begin so, one for each list of keys: the store, the keys and what was written before
+-- and after, and the status
+abbrev pub ReplaysOver : Begun → Devices → Devices → Status → Type 0
+ReplaysOver begun old new status =
+    Replays (IsSiteOver old.store) begun (around old) (around new) status

@@ -1,0 +1,6 @@
+mod Sites
+mod Named
+mod Listed
+pub mod Transcripts
+mod Ending
+pub mod Over

@@ -1,0 +1,5 @@
+pub mod Outside
+pub mod Beginning
+pub mod Texts
+pub mod Headline
+pub mod inside

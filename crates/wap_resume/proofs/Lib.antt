@@ -1,0 +1,11 @@
+pub mod Images
+pub mod Naming
+pub mod Fetching
+pub mod Reviving
+pub mod Going
+pub mod Ending
+pub mod Lasting
+pub mod Over
+pub mod Budgets
+pub mod Walking
+pub mod Leading
