@@ -1,11 +1,22 @@
 //! A case, as its lines say it.
 use crate::devices::Devices;
 use crate::wanted::Wanted;
+use crate::wml::deck_bytes;
 use std::alloc::Global;
 use wap_base::{Bytes, Text};
 use wap_casebook::{
     CaseFault, Pieces, range, spelled_bytes, spelled_text, split_value, split_word, text,
 };
+
+/// A text that goes on over lines.
+#[derive(Clone, Copy)]
+enum Open {
+    Nothing,
+    /// The last deck.
+    Deck,
+    /// The last page, a source.
+    Source,
+}
 
 /// A case: what a run begins with, and what is wanted of it.
 #[derive(Drop)]
@@ -15,6 +26,9 @@ pub struct Case {
     pub line: usize,
     pub is_begun: bool,
     pub pages: Vec<(Text, Bytes)>,
+    /// The texts of decks.
+    decks: Vec<(Text, Bytes)>,
+    open: Open,
     pub words: Vec<Text>,
     pub keys: Bytes,
     pub devices: Devices,
@@ -44,6 +58,16 @@ pub fn add_spelled(
     Ok(())
 }
 
+/// Appends to the last of these texts.
+fn add_to_last(texts: &mut Vec<(Text, Bytes)>, mark: &[u8], more: &[u8]) -> Result<(), CaseFault> {
+    let Some((_, text)) = texts.last_mut() else {
+        return Err(CaseFault::Line);
+    };
+    text.add(mark)?;
+    text.add(more)?;
+    Ok(())
+}
+
 /// The page of a number, by its name and its bytes as they are spelled.
 fn numbered_page(
     alloc: Global,
@@ -64,6 +88,8 @@ impl Case {
             line: 0,
             is_begun: false,
             pages: Vec::new(alloc),
+            decks: Vec::new(alloc),
+            open: Open::Nothing,
             words: Vec::new(alloc),
             keys: Bytes::new(alloc),
             devices: Devices::new(alloc),
@@ -96,6 +122,13 @@ impl Case {
         }
     }
 
+    /// Keeps why its decks can't be written, if they can't.
+    pub fn note_ending(&mut self, number: usize, written: Result<(), CaseFault>) {
+        if let Err(fault) = written {
+            self.fail(number, fault);
+        }
+    }
+
     /// Reads the line of the name. An empty line ends a case, so that it has only one.
     pub fn read_name(&mut self, alloc: Global, line: &[u8]) -> Result<(), CaseFault> {
         if !self.name.is_empty() {
@@ -119,6 +152,42 @@ impl Case {
         Ok(())
     }
 
+    /// Reads a line `NAME TEXT`, of a deck.
+    pub fn read_deck(&mut self, alloc: Global, line: &[u8]) -> Result<(), CaseFault> {
+        let (name, deck) = split_word(line);
+        self.decks
+            .push((text(alloc, name)?, Bytes::of(alloc, deck)?))?;
+        self.open = Open::Deck;
+        Ok(())
+    }
+
+    /// Reads a line `NAME TEXT`, of a source.
+    pub fn read_source(&mut self, alloc: Global, line: &[u8]) -> Result<(), CaseFault> {
+        let (name, source) = split_word(line);
+        self.pages
+            .push((text(alloc, name)?, Bytes::of(alloc, source)?))?;
+        self.open = Open::Source;
+        Ok(())
+    }
+
+    /// Reads a further line of a deck, without the blanks before it, or of a source.
+    pub fn read_more(&mut self, line: &[u8]) -> Result<(), CaseFault> {
+        match self.open {
+            Open::Nothing => Err(CaseFault::Line),
+            Open::Deck => add_to_last(&mut self.decks, b"", line.trim_ascii_start()),
+            Open::Source => add_to_last(&mut self.pages, b"\n", line),
+        }
+    }
+
+    /// Takes the texts of the decks as pages, by the bytes of their documents.
+    pub fn write_decks(&mut self, alloc: Global) -> Result<(), CaseFault> {
+        for (name, deck) in &self.decks {
+            self.pages
+                .push((name.copy(alloc)?, deck_bytes(alloc, deck.as_slice())?))?;
+        }
+        Ok(())
+    }
+
     /// Reads a line `NAME BYTES`.
     pub fn read_page(
         &mut self,
@@ -130,6 +199,7 @@ impl Case {
         let name = text(alloc, name)?;
         let bytes = spelled_bytes(alloc, pieces, bytes, None)?;
         self.pages.push((name, bytes))?;
+        self.open = Open::Nothing;
         Ok(())
     }
 
@@ -145,6 +215,7 @@ impl Case {
         for number in from..to {
             self.add_numbered(alloc, pieces, split_value(rest), number)?;
         }
+        self.open = Open::Nothing;
         Ok(())
     }
 

@@ -11,6 +11,8 @@ enum Line {
     Case,
     Page,
     Pages,
+    Deck,
+    Source,
     Word,
     Argument,
     Key,
@@ -21,10 +23,11 @@ enum Line {
 }
 
 /// What lines begin with.
-static LINES: [(&str, Line); 22] = [
+static LINES: [(&str, Line); 24] = [
     ("case", Line::Case),
     ("page", Line::Page),
     ("pages", Line::Pages),
+    ("deck", Line::Deck),
     ("word", Line::Word),
     ("argument", Line::Argument),
     ("key", Line::Key),
@@ -44,6 +47,8 @@ static LINES: [(&str, Line); 22] = [
     ("reads", Line::Wanted(WantedLine::Reads)),
     ("left", Line::Wanted(WantedLine::Left)),
     ("unprinted", Line::Wanted(WantedLine::Unprinted)),
+    // After the lines of the device that begins so.
+    ("source", Line::Source),
 ];
 
 /// What stands after the words that a line begins with, where they are these.
@@ -77,6 +82,8 @@ fn read_rest(
         Line::Case => case.read_name(alloc, rest),
         Line::Page => case.read_page(alloc, pieces, rest),
         Line::Pages => case.read_pages(alloc, pieces, rest),
+        Line::Deck => case.read_deck(alloc, rest),
+        Line::Source => case.read_source(alloc, rest),
         Line::Word => case.read_word(alloc, rest),
         Line::Argument => case.read_argument(alloc, pieces, rest),
         Line::Key => add_line(&mut case.keys, rest),
@@ -94,6 +101,9 @@ fn read_line(
     pieces: &Pieces,
     line: &[u8],
 ) -> Result<(), CaseFault> {
+    if line.starts_with(b" ") {
+        return case.read_more(line);
+    }
     let (known, rest) = split_line(line)?;
     read_rest(case, alloc, pieces, known, rest)
 }

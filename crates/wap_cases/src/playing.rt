@@ -115,9 +115,22 @@ impl Reading {
             read(&mut self.case, alloc, &mut self.pieces, line, number);
             return Ok(());
         }
-        played.play(rt, alloc, &self.case)?;
+        self.play(played, rt, alloc)?;
         self.case = Case::new(alloc);
         Ok(())
+    }
+
+    /// Plays the case that was read, with its decks as pages.
+    fn play<R: Threads + Sync>(
+        &mut self,
+        played: &mut Played,
+        rt: &R,
+        alloc: Global,
+    ) -> Result<(), AllocError> {
+        let written = self.case.write_decks(alloc);
+        let line = self.case.line;
+        self.case.note_ending(line, written);
+        played.play(rt, alloc, &self.case)
     }
 }
 
@@ -138,6 +151,6 @@ pub fn play_all<R: Threads + Sync>(
     for (at, line) in lines.split(|byte| *byte == b'\n').enumerate() {
         reading.take(&mut played, rt, alloc, line, at.saturating_add(1))?;
     }
-    played.play(rt, alloc, &reading.case)?;
+    reading.play(&mut played, rt, alloc)?;
     Ok(played)
 }
