@@ -10,8 +10,8 @@ pub record ArePrepared (pages : Pages) : Type 0 where
   pub ascending : AreAscending (keys_of pages)
   pub there : All (λ page. IsThere page.1) pages
 
--- they are known, but not the bytes from which they were judged; no cache keeps some of them, and no
--- store stands below them that could fail
+-- they are known, but not the bytes from which they were judged; no cache keeps some of them, and
+-- no store stands below them that could fail
 abbrev pub shared_seen : Pages → Seen
 shared_seen pages = record {
   contents = Some pages;
