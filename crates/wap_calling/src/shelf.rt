@@ -1,0 +1,81 @@
+//! Pages of one's own: what a caller owes to a session.
+ghost use Rattle.std.specs.Prelude.{◌≡◌, [], ◌∷◌, IfOk, OnOk, IfErr, IsErrOf};
+ghost use Rattle.std.specs.Option.{option_copied};
+ghost use Rattle.wap_site.specs.Pages.{page_under, page_of, AreSitePages};
+ghost use Rattle.wap_site.specs.Asking.{Stays, Asks, Fails};
+ghost use Rattle.wap_calling.specs.Calling.{seen_of};
+
+use std::alloc::Global;
+use std::marker::Model;
+use wap_base::{NoMemory, RunErr, Text};
+use wap_site::{Page, Pages};
+
+/// Pages in memory, by their names. No name stands twice, and none of them is missing.
+#[derive(Drop)]
+pub struct Shelf {
+    pages: Vec<(Text, Page)>,
+}
+
+impl Model for Shelf {
+    ghost use Rattle.wap_markup.specs.contracts.deck.Item as item;
+    ghost use Rattle.std.specs.Coded.{codes};
+    ghost use Rattle.wap_site.specs.Pages.{Pages as Site, AreSitePages};
+
+    ghost Value = { Site };
+
+    ghost coded = { Prim.hlevel (codes, item.the_row.coded) };
+
+    ghost view = { λ shelf. shelf.pages.items };
+
+    ghost invariant = { λ shelf. AreSitePages shelf.pages.items };
+}
+
+impl Shelf {
+    /// These pages.
+    pub fn new(pages: Vec<(Text, Page)>) -> Shelf
+        requires { AreSitePages pages.items }
+        ensures { result ≡ pages.items }
+    {
+        Shelf { pages }
+    }
+}
+
+/// The page of a name, if there is one.
+fn find<'a>(pages: &'a [(Text, Page)], name: &Text) -> Option<&'a Page>
+    ensures { option_copied result ≡ page_under name.now pages.now }
+{
+    for (page_name, page) in pages {
+        if page_name == name {
+            return Some(page);
+        }
+    }
+    None
+}
+
+/// What the pages answer for a name; they share the page, and copy none of it.
+fn answer(pages: &[(Text, Page)], name: &Text) -> Result<Page, NoMemory>
+    ensures { IfOk result (λ page. page ≡ page_of name.now pages.now) }
+{
+    match find(pages, name) {
+        Some(page) => page.share(),
+        None => Ok(Page::Missing),
+    }
+}
+
+impl Pages for Shelf {
+    ghost seen = { seen_of };
+
+    fn page(&mut self, _alloc: Global, name: &Text, fresh: bool) -> Result<Page, RunErr>
+        ensures found { IfOk result (λ page. page ≡ page_of name.now self.old) }
+        ensures site { AreSitePages self.old }
+        ensures same { self.new ≡ self.old }
+        ensures never { IfErr result (λ fault. fault ≡ RunErr.NoMemory) }
+        ensures asks { OnOk result
+            (Asks ((name.now, fresh) ∷ []) (seen_of self.old) (seen_of self.new)) }
+        ensures failed { IsErrOf result RunErr.Store
+            → Fails ((name.now, fresh) ∷ []) (seen_of self.old) (seen_of self.new) }
+        ensures stays { Stays (seen_of self.old) (seen_of self.new) }
+    {
+        Ok(answer(self.pages.as_slice(), name)?)
+    }
+}

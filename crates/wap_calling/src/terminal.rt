@@ -1,0 +1,69 @@
+//! A session over pages of one's own: what a caller gets.
+ghost use Rattle.std.specs.Prelude.{◌≡◌, ◌∷◌, [], true, false, is_some, IfOk, OnOk, IfSome, Ok};
+ghost use Rattle.wap_input.specs.declared.key.Key.TheVariants.{Answer};
+ghost use Rattle.wap_world.specs.Sessions.{shown, played, world_of};
+ghost use Rattle.wap_scripting.specs.UnitSites.{unit_pages};
+ghost use Rattle.wap_context.specs.Sites.{site_of, IfOver};
+ghost use Rattle.wap_session.specs.Feeding.{beginning, shown_of};
+ghost use Rattle.wap_calling.specs.Calling.{begun};
+
+use std::alloc::Global;
+use wap_base::{Limits, Rows, Text};
+use wap_session::{Key, Session, SessionFault};
+use wap_site::Pages;
+
+/// The seed of random numbers.
+pub const SEED: u32 = 1;
+
+/// How many turns each key has.
+pub const BUDGET: u32 = 1000;
+
+/// A session in which nothing was done.
+pub fn new_session(alloc: Global) -> Session
+    ensures { result ≡ beginning begun }
+{
+    Session::new(alloc, SEED, BUDGET, Limits::default())
+}
+
+/// Plays keys in a new session, and gives the lines that they show.
+///
+/// # Errors
+/// `Store` where a page couldn't be fetched, and `NoMemory`; the session is over then.
+pub fn visit<P: Pages>(
+    alloc: Global,
+    session: &mut Session,
+    keys: &[Key],
+    pages: &mut P,
+) -> Result<Rows<Text>, SessionFault>
+    requires new { session.now ≡ beginning begun }
+    ensures shown { IfOk result (λ lines. IfSome (P.seen pages.old).contents (λ judged.
+        lines ≡ shown (site_of (unit_pages judged)) keys.now (world_of begun))) }
+    ensures waits { OnOk result (IfSome (P.seen pages.old).contents (λ judged.
+        is_some session.new.waiting
+        ≡ (played (site_of (unit_pages judged)) keys.now (world_of begun)).is_open)) }
+{
+    session.play(alloc, keys, pages)
+}
+
+/// Answers the dialog in which a session waits by a text, and gives the lines that follow; where
+/// none waits, there are none.
+///
+/// # Errors
+/// Those of `visit`.
+pub fn accept_dialog<P: Pages>(
+    alloc: Global,
+    session: &mut Session,
+    text: Text,
+    pages: &mut P,
+) -> Result<Rows<Text>, SessionFault>
+    ensures answered { IfOk result (λ lines. is_some session.old.waiting ≡ true
+        → IfOver (P.seen pages.old).contents session.old.browser
+        (λ of. lines ≡ shown_of of (Answer text ∷ []) session.old)) }
+    ensures untouched { is_some session.old.waiting ≡ false
+        → (session.new ≡ session.old) × (pages.new ≡ pages.old) × (result ≡ Ok []) }
+{
+    if !session.in_dialog() {
+        return Ok(Rows::new(alloc));
+    }
+    session.feed(alloc, &Key::Answer(text), pages)
+}
