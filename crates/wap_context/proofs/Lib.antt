@@ -1,5 +1,6 @@
 pub mod Words
 pub mod Places
+pub mod Standing
 pub mod Plays
 pub mod Missing
 pub mod Arrivals

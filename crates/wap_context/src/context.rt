@@ -1,5 +1,5 @@
 //! The context of a browser.
-ghost use Rattle.std.specs.Prelude.{◌≡◌, None, is_some, IfOk, OnOk};
+ghost use Rattle.std.specs.Prelude.{◌≡◌, ◌↔◌, [], None, is_some, IfOk, OnOk};
 ghost use Rattle.std.specs.Option.{option_map, option_copied};
 ghost use Rattle.wap_world.specs.World.{first_world};
 ghost use Rattle.wap_world.specs.Steps.{then_task};
@@ -25,8 +25,8 @@ use wap_vars::Vars;
 use wap_world::Timer;
 
 /// A browser's variables, history, timer and turns, and the deck of its current card. A contract
-/// sees its world and that deck. After a call that ends with a fault it is not to be used further:
-/// what such a call leaves isn't said.
+/// sees its world and that deck, which is there exactly where a card was entered. After a call that
+/// ends with a fault it is not to be used further: what else such a call leaves isn't said.
 #[derive(Drop)]
 pub struct Context {
     pub(crate) state: State,
@@ -34,6 +34,8 @@ pub struct Context {
 }
 
 impl Model for Context {
+    ghost use Rattle.wap_world.specs.World.{last_entry};
+    ghost use Rattle.wap_state.specs.Standing.{StandsIn};
     ghost use Rattle.wap_context.specs.Browsers.{Browser};
     ghost use Rattle.wap_markup.specs.contracts.deck.Item as item;
     ghost use Rattle.std.specs.Coded.{codes};
@@ -43,6 +45,8 @@ impl Model for Context {
     ghost coded = { Prim.hlevel (codes, item.the_row.coded) };
 
     ghost view = { λ context. record { world = context.state; deck = context.deck } };
+
+    ghost invariant = { λ context. StandsIn (last_entry context.state) context.deck };
 }
 
 impl Context {
@@ -175,10 +179,20 @@ impl Context {
         Ok(lines)
     }
 
+    /// What is so of the deck at hand, for those who rest a proof on it. It does nothing.
+    fn keep_deck(&self)
+        ensures empty { (self.now.deck ≡ None) ↔ (self.now.world.history ≡ []) }
+        ensures card { is_some (place_held self.now) ≡ is_some self.now.deck }
+    {
+        let _deck = &self.deck;
+    }
+
     /// Whether a card was entered.
     pub fn has_card(&self) -> bool
-        ensures { result ≡ is_some (place_held self.now) }
+        ensures is { result ≡ is_some (place_held self.now) }
+        ensures deck { result ≡ is_some self.now.deck }
     {
+        self.keep_deck();
         self.card().is_some()
     }
 
@@ -191,8 +205,10 @@ impl Context {
 
     /// The deck of the current card, once one was entered.
     pub fn deck(&self) -> Option<&GoodDeck>
-        ensures { option_copied result ≡ self.now.deck }
+        ensures is { option_copied result ≡ self.now.deck }
+        ensures empty { (self.now.deck ≡ None) ↔ (self.now.world.history ≡ []) }
     {
+        self.keep_deck();
         match &self.deck {
             Some(deck) => Some(deck),
             None => None,
@@ -201,8 +217,10 @@ impl Context {
 
     /// The current card, once one was entered.
     pub fn card(&self) -> Option<View<'_>>
-        ensures { result ≡ option_map (λ place. place.card) (place_held self.now) }
+        ensures is { result ≡ option_map (λ place. place.card) (place_held self.now) }
+        ensures deck { is_some result ≡ is_some self.now.deck }
     {
+        self.keep_deck();
         match self.here() {
             Some(here) => Some(here.card),
             None => None,
@@ -224,6 +242,7 @@ impl Context {
     }
 
     /// Enters a text into the field of a number, which shows nothing.
+    #[tactic(auto, using(wap_state::proofs::Standing::stands_same))]
     pub fn enter_text(
         &mut self,
         alloc: Global,
@@ -243,6 +262,7 @@ impl Context {
     }
 
     /// Chooses an option in the field of a number, which shows nothing.
+    #[tactic(auto, using(wap_state::proofs::Standing::stands_same))]
     pub fn choose(&mut self, alloc: Global, field: u16, option: u16) -> Result<Chosen, NoMemory>
         ensures vars { OnOk result
             (self.new ≡ with_vars (chosen_in self.old field option).vars self.old) }

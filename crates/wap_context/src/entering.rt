@@ -1,6 +1,7 @@
 //! Entering a card (WAP-191, sections 9.2, 9.5 and 9.10).
-ghost use Rattle.std.specs.Prelude.{◌≡◌, Some, Ok, IfOk, OnOk};
+ghost use Rattle.std.specs.Prelude.{◌≡◌, ◌<◌, length, Some, Ok, IfOk, OnOk};
 ghost use Rattle.std.specs.Option.{option_map};
+ghost use Rattle.wap_markup.specs.Cards.{cards_of};
 ghost use Rattle.wap_world.specs.Steps.{then_task};
 ghost use Rattle.wap_world.specs.Tasks.{card_for, is_new_context, in_context};
 ghost use Rattle.wap_world.specs.History.{pushed, entry_of, in_deck, back_at};
@@ -24,9 +25,13 @@ use wap_url::Url;
 use wap_world::{Refusal, Timer};
 
 /// The number of the card that a URL's fragment names, else of the first.
+#[tactic(auto, using(wap_world::proofs::Entries::numbered_below))]
 fn card_for(deck: &GoodDeck, url: &PageUrl) -> usize
-    ensures { result ≡ card_for deck.now url.now }
+    ensures is { result ≡ card_for deck.now url.now }
+    ensures below { result < length (cards_of deck.now) }
 {
+    // A good deck has a card.
+    let _root = deck.root();
     match &url.as_url().fragment {
         Some(id) => match deck.find_card(id) {
             Some(number) => number,
@@ -48,8 +53,11 @@ fn is_new_context(alloc: Global, deck: &GoodDeck, number: usize) -> Result<bool,
 
 /// An entry whose card is one of a deck.
 pub(crate) fn in_deck(deck: &GoodDeck, entry: PageEntry) -> PageEntry
-    ensures { result ≡ in_deck deck.now entry }
+    ensures is { result ≡ in_deck deck.now entry }
+    ensures below { result.card < length (cards_of deck.now) }
 {
+    // A good deck has a card.
+    let _root = deck.root();
     if entry.card() < deck.card_count() {
         return entry;
     }
@@ -129,6 +137,7 @@ impl Context {
     }
 
     /// Pushes a card of a deck onto the history, which is empty first in a new context.
+    #[tactic(auto, using(crate::proofs::Standing::stands_pushed))]
     fn push_card(
         &mut self,
         alloc: Global,
@@ -143,6 +152,7 @@ impl Context {
     {
         let number = card_for(&deck, &url);
         if is_new_context(alloc, &deck, number)? {
+            self.deck = None;
             self.state.clear();
         }
         self.state.push(PageEntry::of(url, number))?;
@@ -216,6 +226,7 @@ impl Context {
     }
 
     /// Drops the current card, and puts an earlier one of a deck in place of the one before it.
+    #[tactic(auto, using(crate::proofs::Standing::stands_back))]
     fn pop_card(&mut self, earlier: PageEntry, deck: Shared<GoodDeck>) -> Result<(), NoMemory>
         ensures { OnOk result (self.new ≡ record {
           world = back_at self.old.world (in_deck deck earlier);

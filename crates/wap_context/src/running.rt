@@ -55,6 +55,7 @@ impl Context {
     }
 
     /// Lends a machine the browser until it ends or asks its user, with the lines of its run.
+    #[tactic(auto, using(crate::proofs::Standing::stands_first))]
     fn run<P: Pages>(
         &mut self,
         alloc: Global,

@@ -30,7 +30,7 @@ pub enum Revived {
 }
 
 /// The world whose current card is this, with that card in a deck.
-#[tactic(auto, using(crate::proofs::Reviving::last_is))]
+#[tactic(auto, using(crate::proofs::Reviving::last_is, crate::proofs::Standing::stands_last))]
 fn with_deck(state: State, last: PageEntry, deck: Shared<GoodDeck>) -> Result<Context, NoMemory>
     requires { last_entry state ≡ Some last }
     ensures { IfOk result (λ context. context
@@ -107,6 +107,7 @@ impl Context {
     ///
     /// # Errors
     /// `Store` where the page couldn't be fetched, and `NoMemory`.
+    #[tactic(auto, using(crate::proofs::Standing::stands_none))]
     pub fn revive<P: Pages>(
         alloc: Global,
         parts: ContextParts,

@@ -23,6 +23,7 @@ impl Context {
     }
 
     /// Shows the current card, if there is one.
+    #[tactic(auto, using(wap_state::proofs::Standing::stands_same))]
     pub(crate) fn add_show(&mut self, alloc: Global, lines: &mut Rows<Text>) -> Result<(), NoMemory>
         ensures { OnOk result (PlaysAt show_at self.old self.new lines.old lines.new) }
     {
@@ -57,6 +58,7 @@ impl Context {
     }
 
     /// Leaves the current card, if there is one: a timer that runs stores what remains.
+    #[tactic(auto, using(wap_state::proofs::Standing::stands_same))]
     fn leave(&mut self, alloc: Global, lines: &mut Rows<Text>) -> Result<(), NoMemory>
         ensures { OnOk result
             (PlaysAt (at_place leave_place) self.old self.new lines.old lines.new) }
@@ -69,6 +71,7 @@ impl Context {
     }
 
     /// Sets variables.
+    #[tactic(auto, using(wap_state::proofs::Standing::stands_same))]
     pub(crate) fn set_variables(
         &mut self,
         alloc: Global,
@@ -96,6 +99,7 @@ impl Context {
     }
 
     /// Starts the timer of the current card anew, and draws its screen.
+    #[tactic(auto, using(wap_state::proofs::Standing::stands_same))]
     fn restart(&mut self, alloc: Global, lines: &mut Rows<Text>) -> Result<(), NoMemory>
         ensures { OnOk result
             (PlaysAt (at_place restart_place) self.old self.new lines.old lines.new) }

@@ -32,6 +32,7 @@ impl Context {
     }
 
     /// The timer of the current card, if there is one, has run out.
+    #[tactic(auto, using(wap_state::proofs::Standing::stands_same))]
     fn end_timer(&mut self, alloc: Global, lines: &mut Rows<Text>) -> Result<(), NoMemory>
         ensures { OnOk result
             (PlaysAt (at_place end_place) self.old self.new lines.old lines.new) }
@@ -85,6 +86,7 @@ impl Context {
 
     /// The timer of the current card, if there is one, has run out while a script waits: its task
     /// waits for the end of the script.
+    #[tactic(auto, using(wap_state::proofs::Standing::stands_same))]
     fn expire(&mut self, alloc: Global, lines: &mut Rows<Text>) -> Result<(), NoMemory>
         ensures { OnOk result
             (PlaysAt (at_place expire_place) self.old self.new lines.old lines.new) }

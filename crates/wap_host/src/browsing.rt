@@ -188,6 +188,7 @@ impl Sight {
     }
 
     /// WAP-194, "newContext".
+    #[tactic(auto, using(wap_state::proofs::Standing::stands_alone))]
     fn new_context(&mut self) -> Value
         ensures { Gave browser_new_context self.old self.new (out.Value result) }
     {

@@ -1,6 +1,8 @@
 //! A browser while a script runs.
 ghost use Rattle.std.specs.Prelude.{◌≡◌};
+ghost use Rattle.wap_world.specs.World.{last_entry};
 ghost use Rattle.wap_scripting.specs.Waiting.{inside};
+ghost use Rattle.wap_state.specs.Standing.{StandsIn};
 
 use crate::sight::Sight;
 use std::alloc::Global;
@@ -50,6 +52,7 @@ impl Running {
         deck: Option<Shared<GoodDeck>>,
         lines: Rows<Text>,
     ) -> Running
+        requires { StandsIn (last_entry state) deck }
         ensures { result ≡ record {
           world = inside state;
           deck = deck;
@@ -74,6 +77,7 @@ impl Running {
         ensures state { result.0 ≡ record self.world { turns = self.turns } }
         ensures deck { result.1 ≡ self.deck }
         ensures lines { result.2 ≡ self.lines }
+        ensures stands { StandsIn (last_entry result.0) result.1 }
     {
         let Running { sight, turns } = self;
         let Sight {

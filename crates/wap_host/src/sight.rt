@@ -27,6 +27,8 @@ pub(crate) struct Sight {
 }
 
 impl Model for Sight {
+    ghost use Rattle.wap_world.specs.World.{last_entry};
+    ghost use Rattle.wap_state.specs.Standing.{StandsIn};
     ghost use Rattle.wap_host.specs.Stages.{Sight as Shown};
     ghost use Rattle.wap_markup.specs.contracts.deck.Item as item;
     ghost use Rattle.std.specs.Coded.{codes};
@@ -36,6 +38,8 @@ impl Model for Sight {
     ghost coded = { Prim.hlevel (codes, item.the_row.coded) };
 
     ghost view = { λ it. record { world = it.state; deck = it.deck; lines = it.lines } };
+
+    ghost invariant = { λ it. StandsIn (last_entry it.state) it.deck };
 }
 
 impl Sight {

@@ -1,4 +1,5 @@
 pub mod Slots
+pub mod Standing
 pub mod Lasts
 pub mod Keeping
 pub mod Saving

@@ -23,6 +23,7 @@ impl State {
         }) }
         ensures answer { IfOk result (λ answer. answer
             ≡ (enter_text self.old.vars here.now.card number text.now).answer) }
+        ensures history { self.new.history ≡ self.old.history }
     {
         enter_text(alloc, &here.card, number, text, &mut self.vars)
     }
@@ -40,6 +41,7 @@ impl State {
         }) }
         ensures answer { IfOk result (λ answer. answer
             ≡ (choose self.old.vars here.now.card field option).answer) }
+        ensures history { self.new.history ≡ self.old.history }
     {
         choose(alloc, &here.card, field, option, &mut self.vars)
     }

@@ -34,9 +34,10 @@ impl State {
         card: &View<'_>,
         lines: &mut Rows<Text>,
     ) -> Result<(), NoMemory>
-        ensures { OnOk result
+        ensures plays { OnOk result
             (Plays (with_set self.old (defaults self.old.vars card.now))
             self.old self.new lines.old lines.new) }
+        ensures history { self.new.history ≡ self.old.history }
     {
         let refused = apply_defaults(alloc, card, &mut self.vars)?;
         add_fault_lines(alloc, refused.as_slice(), lines)
@@ -50,8 +51,9 @@ impl State {
         here: &Current<'_>,
         lines: &mut Rows<Text>,
     ) -> Result<(), NoMemory>
-        ensures { OnOk result (Plays (show_held here.now self.old)
+        ensures plays { OnOk result (Plays (show_held here.now self.old)
             self.old self.new lines.old lines.new) }
+        ensures history { self.new.history ≡ self.old.history }
     {
         self.apply_defaults(alloc, &here.card, lines)?;
         self.start(alloc, &here.card)?;
@@ -65,8 +67,9 @@ impl State {
         here: &Current<'_>,
         lines: &mut Rows<Text>,
     ) -> Result<(), NoMemory>
-        ensures { OnOk result (Plays (restart_held here.now self.old)
+        ensures plays { OnOk result (Plays (restart_held here.now self.old)
             self.old self.new lines.old lines.new) }
+        ensures history { self.new.history ≡ self.old.history }
     {
         self.start_timer(alloc, &here.card)?;
         self.add_screen(alloc, here, lines)

@@ -35,8 +35,9 @@ impl State {
         pairs: Rows<(Text, Text)>,
         lines: &mut Rows<Text>,
     ) -> Result<(), NoMemory>
-        ensures { OnOk result
+        ensures plays { OnOk result
             (Plays (set_variables pairs self.old) self.old self.new lines.old lines.new) }
+        ensures history { self.new.history ≡ self.old.history }
     {
         let refused = set_all(alloc, pairs, &mut self.vars)?;
         add_fault_lines(alloc, refused.as_slice(), lines)

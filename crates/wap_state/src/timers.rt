@@ -60,7 +60,8 @@ impl State {
     /// Starts the timer of a card, whatever its state.
     #[tactic(auto, using(crate::proofs::Keeping::keeps_from))]
     pub fn start_timer(&mut self, alloc: Global, card: &View<'_>) -> Result<(), NoMemory>
-        ensures { OnOk result (self.new ≡ start_timer card.now self.old) }
+        ensures starts { OnOk result (self.new ≡ start_timer card.now self.old) }
+        ensures history { self.new.history ≡ self.old.history }
     {
         self.timer = timer_from(timer_of(alloc, card, &self.vars)?);
         Ok(())
@@ -68,7 +69,8 @@ impl State {
 
     /// Starts the timer of a card, unless it has since the card was entered.
     pub fn start(&mut self, alloc: Global, card: &View<'_>) -> Result<(), NoMemory>
-        ensures { OnOk result (self.new ≡ started self.old.timer card.now self.old) }
+        ensures starts { OnOk result (self.new ≡ started self.old.timer card.now self.old) }
+        ensures history { self.new.history ≡ self.old.history }
     {
         match self.timer {
             Timer::NotStarted => self.start_timer(alloc, card),
@@ -84,8 +86,9 @@ impl State {
         time: u32,
         lines: &mut Rows<Text>,
     ) -> Result<(), NoMemory>
-        ensures { OnOk result (Plays (store_time card.now time self.old)
+        ensures plays { OnOk result (Plays (store_time card.now time self.old)
             self.old self.new lines.old lines.new) }
+        ensures history { self.new.history ≡ self.old.history }
     {
         let pairs = pair_of(alloc, timer_name(alloc, card)?, time)?;
         self.set_variables(alloc, pairs, lines)
@@ -98,8 +101,9 @@ impl State {
         card: &View<'_>,
         lines: &mut Rows<Text>,
     ) -> Result<(), NoMemory>
-        ensures { OnOk result (Plays (store_left self.old.timer card.now self.old)
+        ensures plays { OnOk result (Plays (store_left self.old.timer card.now self.old)
             self.old self.new lines.old lines.new) }
+        ensures history { self.new.history ≡ self.old.history }
     {
         match self.timer {
             Timer::Running(time) => self.store_time(alloc, card, time, lines),
@@ -115,8 +119,9 @@ impl State {
         card: &View<'_>,
         lines: &mut Rows<Text>,
     ) -> Result<(), NoMemory>
-        ensures { OnOk result (Plays (end_timer card.now self.old)
+        ensures plays { OnOk result (Plays (end_timer card.now self.old)
             self.old self.new lines.old lines.new) }
+        ensures history { self.new.history ≡ self.old.history }
     {
         self.timer = Timer::Off;
         self.store_time(alloc, card, 0, lines)
@@ -130,9 +135,10 @@ impl State {
         card: &View<'_>,
         lines: &mut Rows<Text>,
     ) -> Result<(), NoMemory>
-        ensures { OnOk result
+        ensures plays { OnOk result
             (Plays (store_time card.now 0 (record self.old { timer = Expired }))
             self.old self.new lines.old lines.new) }
+        ensures history { self.new.history ≡ self.old.history }
     {
         self.timer = Timer::Expired;
         self.store_time(alloc, card, 0, lines)

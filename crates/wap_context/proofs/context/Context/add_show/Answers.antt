@@ -10,7 +10,7 @@ returns-in-Some c =
     (λ entry one w. refl) c.self.inside.state c.self.inside.deck c.args.self.now c.self.view_is
     c.card_number-number.result c.card_number-number.ensures c.here.result c.here.ensures
     c.in-Some.here c.in-Some.is
-    c.show.new.self c.args.lines.now c.show.new.lines c.show.result c.show.ensures
+    c.show.new.self c.args.lines.now c.show.new.lines c.show.result c.show.ensures.plays
 
 pub returns-in-None : goal.returns-in-None
 returns-in-None c =

@@ -18,7 +18,7 @@ returns-in-Some c =
     (subst (λ (card : Node). OnOk c.end_timer.result
     (Plays (end_timer card c.self.inside.state) c.self.inside.state c.end_timer.new.self
     c.args.lines.now c.end_timer.new.lines))
-    (ap (λ (one : Held). one.card) c.here-in-Some.view_is) c.end_timer.ensures)
+    (ap (λ (one : Held). one.card) c.here-in-Some.view_is) c.end_timer.ensures.plays)
 
 pub returns-in-None : goal.returns-in-None
 returns-in-None c =

@@ -19,7 +19,7 @@ returns-in-Some c =
     (Plays (store_left c.self.inside.state.timer card c.self.inside.state)
     c.self.inside.state c.store_left.new.self
     c.args.lines.now c.store_left.new.lines))
-    (ap (λ (one : Held). one.card) c.here-in-Some.view_is) c.store_left.ensures)
+    (ap (λ (one : Held). one.card) c.here-in-Some.view_is) c.store_left.ensures.plays)
 
 pub returns-in-None : goal.returns-in-None
 returns-in-None c =

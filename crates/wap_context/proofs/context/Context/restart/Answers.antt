@@ -10,7 +10,7 @@ returns-in-Some c =
     (λ entry one w. refl) c.self.inside.state c.self.inside.deck c.args.self.now c.self.view_is
     c.card_number-number.result c.card_number-number.ensures c.here.result c.here.ensures
     c.in-Some.here c.in-Some.is
-    c.restart.new.self c.args.lines.now c.restart.new.lines c.restart.result c.restart.ensures
+    c.restart.new.self c.args.lines.now c.restart.new.lines c.restart.result c.restart.ensures.plays
 
 pub returns-in-None : goal.returns-in-None
 returns-in-None c =

@@ -11,6 +11,7 @@ use Rattle.wap_state.specs.Scenes.{Line}
 use Rattle.wap_context.specs.Browsers.{Browser}
 use Rattle.wap_context.specs.inside.Starting.{RunsTo}
 use Rattle.wap_context.proofs.Runs.{runs_ok, runs_err}
+use Rattle.wap_context.proofs.Standing.{stands_by}
 use Rattle.wap_context.proofs.context.Context.run.Goals as goal
 
 -- a browser by its parts
@@ -25,6 +26,11 @@ stage_of first b = record {
   lines = first;
   turns = b.world.turns;
 }
+
+pub new-host-requires : goal.new-host-requires
+new-host-requires g c =
+    stands_by c.self.inside.state c.replace-state.result c.self.inside.deck c.replace-deck.result
+    c.replace-state.ensures.value c.replace-deck.ensures.value c.self.invariant
 
 pub returns-in_err-outcome : goal.returns-in_err-outcome
 returns-in_err-outcome g c =
