@@ -17,7 +17,7 @@ returns-then-has_card g c =
     (λ pages keys world. act (site_of pages) keys world (then_task (Prev c.new.result)))
     (λ pages keys world. apply (site_of pages) keys world key.Back)
     (g.P.Pages.seen c.args.pages.now) (g.P.Pages.seen c.act.new.pages) old c.act.new.self
-    (λ pages is keys. back_some pages keys old (sym c.has_card.ensures ∙ c.if-has_card.true) is
+    (λ pages is keys. back_some pages keys old (sym c.has_card.ensures.is ∙ c.if-has_card.true) is
     ∙ ap (λ (sets : Pairs). act (site_of pages) keys old.world (then_task (Prev sets)))
     (sym c.new.ensures))
     c.act.result c.act.ensures
@@ -27,4 +27,4 @@ returns g c =
     let old = c.args.context.now in
     Acts-ignored (λ pages keys world. apply (site_of pages) keys world key.Back)
     (g.P.Pages.seen c.args.pages.now) old c.in_ok-ignore.field-0 c.in_ok-ignore.ensures
-    (λ pages is keys. back_none pages keys old (sym c.has_card.ensures ∙ c.if-has_card.false) is)
+    (λ pages is keys. back_none pages keys old (sym c.has_card.ensures.is ∙ c.if-has_card.false) is)

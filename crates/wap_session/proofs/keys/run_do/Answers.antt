@@ -12,5 +12,5 @@ returns g c =
     let name = c.args.name.now in
     Acts-ignored (λ pages keys world. apply (site_of pages) keys world (key.Do name))
     (g.P.Pages.seen c.args.pages.now) old c.in_ok-ignore.field-0 c.in_ok-ignore.ensures
-    (λ pages is keys. do_none name pages keys old (sym c.has_card.ensures ∙ c.if-has_card.false)
+    (λ pages is keys. do_none name pages keys old (sym c.has_card.ensures.is ∙ c.if-has_card.false)
     is)
