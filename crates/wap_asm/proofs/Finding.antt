@@ -1,9 +1,11 @@
 -- What is found in a list, where a test by pairs holds of it.
 use Rattle.std.proofs.Common.{◌≡◌, Bool, true, ◌&&◌, List, [], ◌∷◌, Some, None, ◌⊎◌}
-use Rattle.std.proofs.Common.{inl, inr, sym, ◌∙◌, ap, subst, find, arith}
-use Rattle.std.specs.List.{list_all}
+use Rattle.std.proofs.Common.{inl, inr, sym, ◌∙◌, ap, subst, find, arith, ℕ, ◌+◌, ◌<◌, ◌++◌}
+use Rattle.std.proofs.Common.{length, take, filter, slice_index_or, Option, refl}
+use Rattle.std.specs.List.{list_all, last_or}
 use Rattle.std.proofs.lemmas.Bool.{cases_Bool, and_parts, cond-true, cond-false, both_ways}
 use Rattle.std.proofs.lemmas.Option.{same_Some}
+use Rattle.std.proofs.lemmas.List.Elements.{filter_more}
 use Rattle.wap_asm.specs.Exact.{Among}
 
 -- whether q holds of each with each that comes after it
@@ -70,3 +72,17 @@ found_first p q (z ∷ zs) x y all e among is =
                 found_first p q zs x y parts.1 (sym (cond-false (p z) _ _ isnt) ∙ e) later is
           ]
     ]
+
+last_added : {X : Type 0} (o : Option X) (xs : List X) (x : X) → last_or o (xs ++ x ∷ []) ≡ Some x
+last_added o [] x = refl
+last_added o (y ∷ ys) x = last_added (Some y) ys x
+
+-- the last that passes of the first so many is the one right before their end, where it passes
+pub last_passing : {X : Type 0} (p : X → Bool) (xs : List X) (i j : ℕ) (d : X) → i ≡ j + 1
+    → j < length xs → p (slice_index_or xs j d) ≡ true
+    → last_or None (filter p (take i xs)) ≡ Some (slice_index_or xs j d)
+last_passing p xs i j d next within is =
+    ap (λ k. last_or None (filter p (take k xs))) next
+    ∙ ap (last_or None) (filter_more p xs j d within)
+    ∙ ap (λ ys. last_or None (filter p (take j xs) ++ ys)) (cond-true _ _ _ is)
+    ∙ last_added None (filter p (take j xs)) (slice_index_or xs j d)

@@ -65,13 +65,14 @@ fn shortest(operation: OpName, a: u32, b: u32, c: u32) -> Option<Row>
 fn longest_in(rows: &[Row], operation: OpName) -> Option<Row>
     ensures { result ≡ last_or None (filter (is_of operation) rows.now) }
 {
-    let mut last = None;
-    for row in rows {
-        if row.operation == operation {
-            last = Some(*row);
+    let mut i = rows.len();
+    while i > 0 {
+        i -= 1;
+        if rows[i].operation == operation {
+            return Some(rows[i]);
         }
     }
-    last
+    None
 }
 
 /// The longest spelling of an operation.
