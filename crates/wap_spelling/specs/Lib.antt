@@ -2,4 +2,5 @@ pub mod Writings
 pub mod Names
 pub mod Spelling
 pub mod Spellable
+pub mod Left
 pub mod inside

@@ -1,5 +1,6 @@
 //! Writing a document.
-ghost use Rattle.std.specs.Prelude.{◌≡◌, ◌≢◌, ◌++◌, IfOk, OnOk};
+ghost use Rattle.std.specs.Prelude.{◌≡◌, ◌≢◌, ◌++◌, IfOk, OnOk, OnErr};
+ghost use Rattle.std.specs.Io.{StartsWith};
 ghost use Rattle.wap_markup.specs.declared.document.Document.{Document};
 ghost use Rattle.wap_markup.specs.declared.deck.Deck.{Deck};
 ghost use Rattle.wap_markup.specs.Documents.{IsDocument};
@@ -37,10 +38,11 @@ pub fn encode(alloc: Global, document: &Document) -> Result<Bytes, NoMemory>
     Ok(bytes)
 }
 
-/// Writes what stands before the root.
+/// Writes what stands before the root. When out of memory some of it may stand after the bytes.
 pub fn write_header(bytes: &mut Bytes, public: u32, table: &Table) -> Result<(), NoMemory>
-    ensures { let header = header_spelling public table.now in
+    ensures ok { let header = header_spelling public table.now in
         OnOk result (bytes.new ≡ bytes.old ++ header) }
+    ensures left { OnErr result (StartsWith bytes.new bytes.old) }
 {
     bytes.push(VERSION)?;
     write_mb(bytes, public)?;

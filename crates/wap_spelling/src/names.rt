@@ -1,5 +1,5 @@
 //! The names that a document has in place of codes.
-ghost use Rattle.std.specs.Prelude.{◌≡◌, [], fold, OnOk, IfOk};
+ghost use Rattle.std.specs.Prelude.{◌≡◌, [], fold, OnOk, OnErr, IfOk};
 ghost use Rattle.wap_markup.specs.Grammar.{with_name};
 ghost use Rattle.wap_spelling.specs.Names.{with_token, with_attr, with_kid, with_element, names_of};
 
@@ -8,9 +8,10 @@ use std::alloc::Global;
 use wap_base::{NoMemory, Text};
 use wap_markup::{Attr, Document, Element, Kid, LEVEL_LIMIT, Token};
 
-/// Adds a name after the others, if it isn't one of them.
+/// Adds a name after the others, if it isn't one of them. When out of memory the names stay.
 pub fn add_name(alloc: Global, names: &mut IndexSet<Text>, name: &Text) -> Result<(), NoMemory>
-    ensures { OnOk result (names.new.keys ≡ with_name names.old.keys name.now) }
+    ensures ok { OnOk result (names.new.keys ≡ with_name names.old.keys name.now) }
+    ensures kept { OnErr result (names.new.keys ≡ names.old.keys) }
 {
     if names.contains(name) {
         return Ok(());

@@ -1,8 +1,10 @@
 //! Bytes that are written, and the pages of codes on which they end.
-ghost use Rattle.std.specs.Prelude.{◌≡◌, ◌+◌, ◌<◌, ◌^◌, ◌++◌, ◌∷◌, [], length, OnOk};
+ghost use Rattle.std.specs.Prelude.{◌≡◌, ◌+◌, ◌<◌, ◌^◌, ◌++◌, ◌∷◌, [], length, OnOk, OnErr};
+ghost use Rattle.std.specs.Io.{StartsWith};
 ghost use Rattle.wap_base.specs.Numbers.{mb_spelling};
 ghost use Rattle.wap_spelling.specs.Writings.{plain, on_tag_page, on_attribute_page};
 ghost use Rattle.wap_spelling.specs.Names.{string};
+ghost use Rattle.wap_spelling.specs.Left.{Begins};
 ghost use Rattle.wap_spelling.specs.Spelling.{sized, variable};
 ghost use Rattle.wap_spelling.specs.inside.Written.{written};
 
@@ -29,7 +31,8 @@ pub struct Output {
 
 /// Adds a text and the 0 that ends it.
 pub(crate) fn add_string(bytes: &mut Bytes, text: &Text) -> Result<(), NoMemory>
-    ensures { OnOk result (bytes.new ≡ bytes.old ++ string text.now) }
+    ensures ok { OnOk result (bytes.new ≡ bytes.old ++ string text.now) }
+    ensures left { OnErr result (StartsWith bytes.new bytes.old) }
 {
     bytes.add(text.as_str().as_bytes())?;
     bytes.push(0)
@@ -38,7 +41,8 @@ pub(crate) fn add_string(bytes: &mut Bytes, text: &Text) -> Result<(), NoMemory>
 /// Adds how many bytes there are, and the bytes.
 pub(crate) fn add_sized(bytes: &mut Bytes, content: &[u8]) -> Result<(), NoMemory>
     requires { length content.now < 2 ^ 32 }
-    ensures { OnOk result (bytes.new ≡ bytes.old ++ sized content.now) }
+    ensures ok { OnOk result (bytes.new ≡ bytes.old ++ sized content.now) }
+    ensures left { OnErr result (StartsWith bytes.new bytes.old) }
 {
     write_mb(bytes, content.len() as u32)?;
     bytes.add(content)
@@ -58,14 +62,16 @@ fn variable(conv: Conv) -> u8
 impl Output {
     /// Writes a byte.
     pub fn push(&mut self, byte: u8) -> Result<(), NoMemory>
-        ensures { OnOk result (self.new ≡ written (plain (byte ∷ [])) self.old) }
+        ensures ok { OnOk result (self.new ≡ written (plain (byte ∷ [])) self.old) }
+        ensures kept { OnErr result (self.new ≡ self.old) }
     {
         self.bytes.push(byte)
     }
 
     /// Writes a byte and a number after it.
     pub fn write_number(&mut self, byte: u8, number: u32) -> Result<(), NoMemory>
-        ensures { OnOk result (self.new ≡ written (plain (byte ∷ mb_spelling number)) self.old) }
+        ensures ok { OnOk result (self.new ≡ written (plain (byte ∷ mb_spelling number)) self.old) }
+        ensures left { OnErr result (Begins self.old self.new) }
     {
         self.bytes.push(byte)?;
         write_mb(&mut self.bytes, number)
@@ -73,7 +79,8 @@ impl Output {
 
     /// Writes a byte and a string after it.
     fn write_string(&mut self, byte: u8, text: &Text) -> Result<(), NoMemory>
-        ensures { OnOk result (self.new ≡ written (plain (byte ∷ string text.now)) self.old) }
+        ensures ok { OnOk result (self.new ≡ written (plain (byte ∷ string text.now)) self.old) }
+        ensures left { OnErr result (Begins self.old self.new) }
     {
         self.bytes.push(byte)?;
         add_string(&mut self.bytes, text)
@@ -81,22 +88,26 @@ impl Output {
 
     /// Writes a string in place.
     pub fn write_text(&mut self, text: &Text) -> Result<(), NoMemory>
-        ensures { OnOk result (self.new ≡ written (plain (STR_I ∷ string text.now)) self.old) }
+        ensures ok { OnOk result (self.new ≡ written (plain (STR_I ∷ string text.now)) self.old) }
+        ensures left { OnErr result (Begins self.old self.new) }
     {
         self.write_string(STR_I, text)
     }
 
     /// Writes a character by its number.
     pub fn write_entity(&mut self, number: u32) -> Result<(), NoMemory>
-        ensures { OnOk result (self.new ≡ written (plain (ENTITY ∷ mb_spelling number)) self.old) }
+        ensures ok { let bytes = ENTITY ∷ mb_spelling number in
+            OnOk result (self.new ≡ written (plain bytes) self.old) }
+        ensures left { OnErr result (Begins self.old self.new) }
     {
         self.write_number(ENTITY, number)
     }
 
     /// Writes a reference to a variable.
     pub fn write_variable(&mut self, name: &Text, conv: Conv) -> Result<(), NoMemory>
-        ensures { let bytes = variable conv ∷ string name.now in
+        ensures ok { let bytes = variable conv ∷ string name.now in
             OnOk result (self.new ≡ written (plain bytes) self.old) }
+        ensures left { OnErr result (Begins self.old self.new) }
     {
         self.write_string(variable(conv), name)
     }
@@ -104,7 +115,8 @@ impl Output {
     /// Writes an extension that stands alone, one of three.
     pub fn write_extension(&mut self, number: u8) -> Result<(), NoMemory>
         requires { number < 3 }
-        ensures { OnOk result (self.new ≡ written (plain ((EXT_0 + number) ∷ [])) self.old) }
+        ensures ok { OnOk result (self.new ≡ written (plain ((EXT_0 + number) ∷ [])) self.old) }
+        ensures kept { OnErr result (self.new ≡ self.old) }
     {
         self.push(EXT_0 + number)
     }
@@ -112,7 +124,8 @@ impl Output {
     /// Writes bytes that aren't looked at.
     pub fn write_opaque(&mut self, bytes: &[u8]) -> Result<(), NoMemory>
         requires { length bytes.now < 2 ^ 32 }
-        ensures { OnOk result (self.new ≡ written (plain (OPAQUE ∷ sized bytes.now)) self.old) }
+        ensures ok { OnOk result (self.new ≡ written (plain (OPAQUE ∷ sized bytes.now)) self.old) }
+        ensures left { OnErr result (Begins self.old self.new) }
     {
         self.bytes.push(OPAQUE)?;
         add_sized(&mut self.bytes, bytes)
@@ -120,7 +133,8 @@ impl Output {
 
     /// Writes a switch to the page, if it is another one.
     pub fn go_to_tag_page(&mut self, page: u8) -> Result<(), NoMemory>
-        ensures { OnOk result (self.new ≡ written (on_tag_page page) self.old) }
+        ensures ok { OnOk result (self.new ≡ written (on_tag_page page) self.old) }
+        ensures kept { OnErr result (self.new ≡ self.old) }
     {
         if page != self.pages.tag {
             self.bytes.add(&[SWITCH_PAGE, page])?;
@@ -131,7 +145,8 @@ impl Output {
 
     /// Writes a switch to the page, if it is another one.
     pub fn go_to_attribute_page(&mut self, page: u8) -> Result<(), NoMemory>
-        ensures { OnOk result (self.new ≡ written (on_attribute_page page) self.old) }
+        ensures ok { OnOk result (self.new ≡ written (on_attribute_page page) self.old) }
+        ensures kept { OnErr result (self.new ≡ self.old) }
     {
         if page != self.pages.attribute {
             self.bytes.add(&[SWITCH_PAGE, page])?;

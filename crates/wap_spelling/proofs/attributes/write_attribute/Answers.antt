@@ -13,7 +13,7 @@ returns c =
     let value = each piece_spelling attr.value in
     in_turn (on_attribute_page attr.page)
     (start ⨾ value) c.args.output.now c.go_to_attribute_page.new.self
-    c.write_pieces.new.output c.in_ok-go_to_attribute_page.ensures
+    c.write_pieces.new.output c.in_ok-go_to_attribute_page.ensures.ok
     (in_turn start value c.go_to_attribute_page.new.self c.write_start.new.output
     c.write_pieces.new.output
     c.in_ok-write_start.ensures

@@ -25,4 +25,4 @@ returns c =
     c.args.attrs.now c.args.output.now c.loop-attr.attr-index
     c.loop-attr.output c.push.new.self c.loop-attr-test.false c.if-is_empty.ensures
     c.loop-attr.invariant
-    c.in_ok-push.ensures
+    c.in_ok-push.ensures.ok

@@ -7,4 +7,4 @@ pub returns : goal.returns
 returns c =
     in_turn (on_attribute_page c.args.page)
     (plain (c.args.code ∷ [])) c.args.output.now c.go_to_attribute_page.new.self
-    c.push.new.self c.in_ok-go_to_attribute_page.ensures c.in_ok-push.ensures
+    c.push.new.self c.in_ok-go_to_attribute_page.ensures.ok c.in_ok-push.ensures.ok

@@ -10,6 +10,6 @@ returns c =
     let attribute = attr_spelling c.args.table.now c.args.attr.now in
     let end = plain (END ∷ []) in
     in_turn (plain (PI ∷ [])) (attribute ⨾ end) c.args.output.now c.push.new.self c.push-2.new.self
-    c.in_ok-push.ensures
+    c.in_ok-push.ensures.ok
     (in_turn attribute end c.push.new.self c.write_attribute.new.output c.push-2.new.self
-    c.in_ok-write_attribute.ensures c.in_ok-push-2.ensures)
+    c.in_ok-write_attribute.ensures c.in_ok-push-2.ensures.ok)

@@ -13,7 +13,7 @@ returns c =
       spelled =
           ap (λ (output : Output). output.bytes) c.in_ok-write_element.ensures
           ∙ ap (λ (bytes : List ℕ). bytes ++ root_spelling table root)
-          (c.in_ok-write_header.ensures
+          (c.in_ok-write_header.ensures.ok
           ∙ ap (λ (bytes : List ℕ). bytes ++ header_spelling public table) c.new-2.ensures)
           ∙ ap (λ (names : List (List ℕ)). header_spelling public names ++ root_spelling names root)
           (c.in_ok-table.ensures ∙ c.in_ok-names_of.ensures);

@@ -33,7 +33,7 @@ write_element-returns t c =
     c.in_ok-write_tag.ensures three in
     in_turn (on_tag_page element.page)
     (tag ⨾ attributes ⨾ content) c.args.output.now c.go_to_tag_page.new.self c.write_kids.new.output
-    c.in_ok-go_to_tag_page.ensures two
+    c.in_ok-go_to_tag_page.ensures.ok two
     ∙ ap (λ (w : Writing). written w c.args.output.now)
     (sym (deeper names c.args.levels element some))
 
@@ -62,4 +62,4 @@ write_kids-returns t c =
     ended_some (kid_spelling c.args.table.now (element_spelling c.args.table.now c.args.levels))
     c.args.kids.now
     c.args.output.now c.loop-kid.kid-index c.loop-kid.output c.push.new.self c.loop-kid-test.false
-    c.if-is_empty.ensures c.loop-kid.invariant c.in_ok-push.ensures
+    c.if-is_empty.ensures c.loop-kid.invariant c.in_ok-push.ensures.ok

@@ -13,8 +13,8 @@ use Rattle.wap_writing.proofs.attributes.write_attribute.Goals as goal
 pub returns-in-Some : goal.returns-in-Some
 returns-in-Some c =
     by_own c.args.attribute.now c.args.table.now c.args.output.now c.go_to_attribute_page.new.self
-    c.in_ok-go_to_attribute_page.ensures c.in-Some.code (sym c.own_code.ensures ∙ c.in-Some.is)
-    c.push.new.self c.write_parts.new.output c.in_ok-push.ensures
+    c.in_ok-go_to_attribute_page.ensures.ok c.in-Some.code (sym c.own_code.ensures ∙ c.in-Some.is)
+    c.push.new.self c.write_parts.new.output c.in_ok-push.ensures.ok
     (c.in_ok-write_parts.ensures
     ∙ ap (λ (parts : List Part). written (each part_spelling parts) c.push.new.self)
     c.as_slice-parts.ensures)
@@ -22,12 +22,12 @@ returns-in-Some c =
 pub returns-in-Some-whole_code : goal.returns-in-Some-whole_code
 returns-in-Some-whole_code c =
     by_whole c.args.attribute.now c.args.table.now c.args.output.now c.go_to_attribute_page.new.self
-    c.in_ok-go_to_attribute_page.ensures c.in-Some-whole_code.code
+    c.in_ok-go_to_attribute_page.ensures.ok c.in-Some-whole_code.code
     (sym c.own_code.ensures ∙ c.in_default.is)
     (sym (c.whole_code.ensures
     ∙ ap (λ (parts : List Part). whole_code c.args.attribute.now.0 parts) c.as_slice-parts.ensures)
     ∙ c.in-Some-whole_code.is)
-    c.push-in-Some-whole_code.new.self c.in_ok-push-2.ensures
+    c.push-in-Some-whole_code.new.self c.in_ok-push-2.ensures.ok
 
 pub returns : goal.returns
 returns c =
@@ -36,12 +36,12 @@ returns c =
     c.in_ok-text.ensures ∙ c.name_of_attr.ensures.characters ∙ c.name_of_attr.ensures.name in
     let place = c.place_of.ensures ∙ ap (place_of c.args.table.now) text in
     by_name c.args.attribute.now c.args.table.now c.args.output.now c.go_to_attribute_page.new.self
-    c.in_ok-go_to_attribute_page.ensures (sym c.own_code.ensures ∙ c.in_default.is)
+    c.in_ok-go_to_attribute_page.ensures.ok (sym c.own_code.ensures ∙ c.in_default.is)
     (sym (c.whole_code.ensures
     ∙ ap (λ (parts : List Part). whole_code name parts) c.as_slice-parts.ensures)
     ∙ c.in_default-whole_code.is)
     c.write_number.new.self c.write_parts-2.new.output
-    (c.in_ok-write_number.ensures
+    (c.in_ok-write_number.ensures.ok
     ∙ ap
     (λ place. written (plain (LITERAL ∷ mb_spelling place)) c.go_to_attribute_page.new.self) place)
     (c.in_ok-write_parts-2.ensures

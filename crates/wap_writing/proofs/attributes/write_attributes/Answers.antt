@@ -39,6 +39,6 @@ returns c =
     c.args.attributes.now
     c.args.output.now c.loop-attribute.attribute-index c.loop-attribute.output c.push.new.self
     c.loop-attribute-test.false c.if-is_empty.ensures c.loop-attribute.invariant
-    c.in_ok-push.ensures
+    c.in_ok-push.ensures.ok
     ∙ ap (λ (w : Writing). written w c.args.output.now)
     (ended_map (attr_spelling c.args.table.now) attr_of c.args.attributes.now)

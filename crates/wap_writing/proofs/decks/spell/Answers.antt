@@ -11,7 +11,7 @@ returns c =
     let table = c.in_ok-table.table in
     ap (λ (output : Output). output.bytes) c.in_ok-write_node.ensures
     ∙ ap (λ (bytes : List ℕ). bytes ++ root_spelling table root)
-    (c.in_ok-write_header.ensures
+    (c.in_ok-write_header.ensures.ok
     ∙ ap (λ (bytes : List ℕ). bytes ++ header_spelling 10 table) c.new-2.ensures)
     ∙ ap (λ (names : List (List ℕ)). header_spelling 10 names ++ root_spelling names root)
     (c.in_ok-table.ensures ∙ c.in_ok-names_of.ensures)

@@ -34,7 +34,7 @@ write_content-returns t c =
     (let is = c.if-not-give_content.false in let gives = c.give_content.ensures in cc) in
     end_some names spell kids more c.args.output.now c.write_items.new.output c.push.new.self
     c.in_ok-write_items.ensures
-    c.in_ok-push.ensures
+    c.in_ok-push.ensures.ok
 
 pub write_item-returns-then-levels-eq0 : goal.write_item-returns-then-levels-eq0
 write_item-returns-then-levels-eq0 t c =
@@ -111,8 +111,8 @@ write_node-returns t c =
     ∙ bits_are node kids in
     element_written names levels node c.args.output.now c.go_to_tag_page.new.self c.push.new.self
     c.write_attributes.new.output c.write_content.new.output
-    c.in_ok-go_to_tag_page.ensures
-    (c.in_ok-push.ensures
+    c.in_ok-go_to_tag_page.ensures.ok
+    (c.in_ok-push.ensures.ok
     ∙ ap (λ (byte : ℕ). written (plain (byte ∷ [])) c.go_to_tag_page.new.self)
     (ap₂ (λ (code bits : ℕ). code + bits) c.code_of.ensures bits))
     (c.in_ok-write_attributes.ensures

@@ -7,7 +7,7 @@ use Rattle.wap_writing.proofs.texts.write_literal.Goals as goal
 
 pub returns-then-is_string : goal.returns-then-is_string
 returns-then-is_string c =
-    c.in_ok-write_text.ensures
+    c.in_ok-write_text.ensures.ok
     ∙ each_one run_spelling (Some c.args.text.now) c.args.output.now
     ∙ ap (λ (runs : List (Option (List ℕ))). written (each run_spelling runs) c.args.output.now)
     (sym (c.is_string.ensures.0 c.if-is_string.true))

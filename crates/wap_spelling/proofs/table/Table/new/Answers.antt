@@ -35,7 +35,7 @@ loop-name-preserved c =
     let place : c.len.result ≡ 0 + length (table_of done) =
     (let are : length c.loop-name.bytes ≡ length (table_of done) =
     ap length c.loop-name.invariant.0 in omega arith) in (
-      c.in_ok-add_string.ensures ∙ ap (λ (l : List ℕ). l ++ string name) c.loop-name.invariant.0
+      c.in_ok-add_string.ensures.ok ∙ ap (λ (l : List ℕ). l ++ string name) c.loop-name.invariant.0
           ∙ table_one_more done name ∙ ap table_of more,
       c.in_ok-push.ensures.items
           ∙ ap (λ (l : List ℕ). l ++ c.len.result ∷ []) c.loop-name.invariant.1
