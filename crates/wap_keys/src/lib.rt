@@ -17,7 +17,7 @@ pub use ending::{Ending, Next};
 pub use fault::KeyFault;
 pub use key::read_key;
 pub use limits::{KEYS_LIMIT, LINE_LIMIT, PIECE_LIMIT};
-pub use line::without_return;
+pub use line::{content_key, without_return};
 pub use prefix::{Prefix, take_prefix};
 pub use reader::Reader;
 pub use reading::read_keys;

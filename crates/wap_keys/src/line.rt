@@ -29,8 +29,9 @@ pub fn without_return(line: &[u8]) -> &[u8]
     }
 }
 
-/// The key of a line, where it isn't empty and no comment.
-fn content_key(alloc: Global, content: &[u8]) -> Result<Option<Key>, KeyFault>
+/// The key of a line, if it says one: an empty line and a comment say none. The line is given
+/// without its line feed and a carriage return before that.
+pub fn content_key(alloc: Global, content: &[u8]) -> Result<Option<Key>, KeyFault>
     ensures { Meets OutOfMemory (λ key. key) result (content_key content.now) }
 {
     match content {

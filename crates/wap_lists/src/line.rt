@@ -4,7 +4,7 @@ ghost use Rattle.wap_lists.specs.Lists.{content_said};
 
 use std::alloc::Global;
 use wap_base::NoMemory;
-use wap_keys::{Key, KeyFault, read_key};
+use wap_keys::{Key, KeyFault, content_key};
 
 /// What a line says.
 #[derive(Drop)]
@@ -23,9 +23,9 @@ pub(crate) fn content_said(alloc: Global, content: &[u8]) -> Result<Said, NoMemo
 {
     match content {
         [b'%'] => Ok(Said::Divider),
-        [] | [b'#', ..] => Ok(Said::Nothing),
-        _ => match read_key(alloc, content) {
-            Ok(key) => Ok(Said::Key(key)),
+        _ => match content_key(alloc, content) {
+            Ok(None) => Ok(Said::Nothing),
+            Ok(Some(key)) => Ok(Said::Key(key)),
             Err(KeyFault::NoMemory) => Err(NoMemory),
             Err(fault) => Ok(Said::Bad(fault)),
         },
