@@ -12,7 +12,7 @@ use Rattle.wap_keys.specs.declared.ending.Ending.TheVariants.{End, BadKey}
 use Rattle.wap_keys.specs.Forms.{key_at}
 use Rattle.wap_keys.specs.Lines.{Line, Keys, led, lines_of, without_return, content, some_key}
 use Rattle.wap_keys.specs.Lines.{content_key, line_key, is_end, key_before, keys_from}
-use Rattle.wap_keys.specs.inside.Taking.{is_unended}
+use Rattle.wap_keys.specs.Prefixes.{is_unended}
 use Rattle.wap_keys.proofs.FormLaws.{key_wants_none}
 
 unended_parts : (c : ℕ) (cs : List ℕ) (b : Bool) → (c == 10) ≡ b → (not b && is_unended cs) ≡ true

@@ -20,7 +20,8 @@ use Rattle.wap_keys.specs.Read.{Takes, AtMostOnce, rose, ending_after, AreFirst,
 use Rattle.wap_keys.specs.Read.{keys_among}
 use Rattle.wap_keys.specs.Reading.{Reading, keys_then, said_yet, said_then, ends_known, HasRead}
 use Rattle.wap_keys.specs.Reading.{GivesUp}
-use Rattle.wap_keys.specs.inside.Taking.{is_unended, LosesPiece}
+use Rattle.wap_keys.specs.Prefixes.{is_unended}
+use Rattle.wap_keys.specs.inside.Taking.{LosesPiece}
 use Rattle.wap_keys.proofs.LineLaws.{cut_line}
 
 -- ---- bytes that are taken

@@ -3,6 +3,7 @@ pub mod Hexadecimal
 pub mod Forms
 pub mod Spelling
 pub mod Lines
+pub mod Prefixes
 pub mod Read
 pub mod Reading
 pub mod inside

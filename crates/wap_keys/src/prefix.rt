@@ -3,7 +3,7 @@ ghost use Rattle.std.specs.Prelude.{◌≡◌, ◌<◌, ◌≤◌, ◌+◌, ◌+
 ghost use Rattle.std.specs.Prelude.{IfOk, OnErr, IfNone, IfSome};
 ghost use Rattle.wap_base.specs.Ascii.{line_feed};
 ghost use Rattle.wap_keys.specs.declared.prefix.Prefix.TheVariants.{Whole};
-ghost use Rattle.wap_keys.specs.inside.Taking.{is_unended, TakesPrefix};
+ghost use Rattle.wap_keys.specs.Prefixes.{is_unended, TakesPrefix};
 
 use crate::LINE_LIMIT;
 use wap_base::NoMemory;

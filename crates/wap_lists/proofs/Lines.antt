@@ -8,7 +8,7 @@ use Rattle.wap_keys.specs.declared.fault.KeyFault.TheVariants.{TooLong}
 use Rattle.wap_keys.specs.declared.ending.Ending.{Ending}
 use Rattle.wap_keys.specs.declared.ending.Ending.TheVariants.{End, BadKey}
 use Rattle.wap_keys.specs.Lines.{Line, lines_of, without_return, content, is_end}
-use Rattle.wap_keys.specs.inside.Taking.{is_unended}
+use Rattle.wap_keys.specs.Prefixes.{is_unended}
 use Rattle.wap_keys.proofs.LineLaws.{ended_line, last_line, unended_line, Begins, first_line}
 use Rattle.wap_lists.specs.declared.line.Said.{Said}
 use Rattle.wap_lists.specs.declared.line.Said.TheVariants as said

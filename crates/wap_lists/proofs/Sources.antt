@@ -17,7 +17,7 @@ use Rattle.wap_keys.specs.declared.ending.Ending.{Ending}
 use Rattle.wap_keys.specs.declared.ending.Ending.TheVariants.{End, BadKey, TooManyKeys, ReadFault}
 use Rattle.wap_keys.specs.Lines.{lines_of}
 use Rattle.wap_keys.specs.Read.{Takes, AtMostOnce}
-use Rattle.wap_keys.specs.inside.Taking.{is_unended}
+use Rattle.wap_keys.specs.Prefixes.{is_unended}
 use Rattle.wap_keys.proofs.ReaderLaws.{takes_both, begun, ending_past, take_past}
 use Rattle.wap_keys.proofs.ReaderLaws.{no_bytes, none_follows}
 use Rattle.wap_lists.specs.declared.begun.Begun.{Begun}

@@ -15,7 +15,7 @@ use Rattle.wap_keys.specs.declared.ending.Ending.{Ending}
 use Rattle.wap_keys.specs.declared.ending.Ending.TheVariants.{End, BadKey}
 use Rattle.wap_keys.specs.declared.prefix.Prefix.TheVariants as prefix
 use Rattle.wap_keys.specs.Lines.{lines_of, without_return, content_key}
-use Rattle.wap_keys.specs.inside.Taking.{is_unended, TakesPrefix}
+use Rattle.wap_keys.specs.Prefixes.{is_unended, TakesPrefix}
 use Rattle.wap_keys.proofs.LineLaws.{content_wants_none}
 use Rattle.wap_lists.specs.declared.line.Said.{Said}
 use Rattle.wap_lists.specs.declared.line.Said.TheVariants as said

@@ -1,7 +1,7 @@
 //! Lists of keys as their bytes come.
 ghost use Rattle.std.specs.Prelude.{◌≡◌, ◌<◌, ◌≤◌, ◌+◌, ◌^◌, ◌++◌, [], ◌∷◌, true, length, IfOk};
 ghost use Rattle.wap_keys.specs.declared.limits.TheConstants.{LINE_LIMIT};
-ghost use Rattle.wap_keys.specs.inside.Taking.{is_unended};
+ghost use Rattle.wap_keys.specs.Prefixes.{is_unended};
 ghost use Rattle.wap_lists.specs.inside.Taking.{IsBeginning, Adds, TakesLine, TakesPiece, Finishes};
 
 use crate::line::{Said, content_said};

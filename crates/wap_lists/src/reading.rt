@@ -1,7 +1,7 @@
 //! Reading lists of keys to their end.
 ghost use Rattle.std.specs.Prelude.{◌≡◌, ◌≤◌, true, length, IfOk};
 ghost use Rattle.wap_keys.specs.declared.limits.TheConstants.{LINE_LIMIT};
-ghost use Rattle.wap_keys.specs.inside.Taking.{is_unended};
+ghost use Rattle.wap_keys.specs.Prefixes.{is_unended};
 ghost use Rattle.wap_lists.specs.Read.{ReadsLists};
 ghost use Rattle.wap_lists.specs.inside.Taking.{IsFinished};
 ghost use Rattle.wap_lists.specs.inside.Pieces.{ReadsPiece};

@@ -1,8 +1,6 @@
 -- Lines that are taken from a reader, and bytes that are read after them. This project's own.
-use Rattle.std.specs.Prelude.{◌≡◌, ◌≢◌, ℕ, ◌+◌, ◌<◌, ◌≤◌, Bool, true, ◌==◌, not, List, [], ◌∷◌}
-use Rattle.std.specs.Prelude.{◌++◌, length, take, drop, Option, Some, None, Result, Ok, Err}
-use Rattle.std.specs.List.{list_all}
-use Rattle.wap_base.specs.Ascii.{line_feed}
+use Rattle.std.specs.Prelude.{◌≡◌, ◌≢◌, ℕ, ◌+◌, ◌<◌, ◌≤◌, true, List, [], ◌++◌, length, take, drop}
+use Rattle.std.specs.Prelude.{Option, Some, None, Result, Ok, Err}
 use Rattle.wap_base.specs.Count.{raised, Rose}
 use Rattle.wap_devices.specs.Transfer.{IsAtEnd}
 use Rattle.wap_devices.specs.Sources.{SourceSeen, Reads}
@@ -15,8 +13,6 @@ use Rattle.wap_keys.specs.declared.ending.Ending.{Ending}
 use Rattle.wap_keys.specs.declared.ending.Ending.TheVariants.{End, BadKey}
 use Rattle.wap_keys.specs.declared.ending.Next.{Next}
 use Rattle.wap_keys.specs.declared.ending.Next.TheVariants as next
-use Rattle.wap_keys.specs.declared.prefix.Prefix.{Prefix}
-use Rattle.wap_keys.specs.declared.prefix.Prefix.TheVariants as prefix
 use Rattle.wap_keys.specs.declared.line.Said.{Said}
 use Rattle.wap_keys.specs.declared.line.Said.TheVariants as said
 use Rattle.wap_keys.specs.declared.reader.Taken.{Taken}
@@ -24,26 +20,11 @@ use Rattle.wap_keys.specs.declared.reader.Taken.TheVariants as taken
 use Rattle.wap_keys.specs.declared.reader.More.{More}
 use Rattle.wap_keys.specs.declared.reader.More.TheVariants as more
 use Rattle.wap_keys.specs.Lines.{key_before}
+use Rattle.wap_keys.specs.Prefixes.{is_unended}
 use Rattle.wap_keys.specs.Read.{Takes}
 use Rattle.wap_keys.specs.Reading.{Reading, said_yet}
 
 -- ---- lines
-
--- no line feed is among the bytes
-abbrev pub is_unended : List ℕ → Bool
-is_unended bytes = list_all (λ c. not (c == line_feed)) bytes
-
--- a line that is begun goes on with what follows it, up to a line feed
-abbrev pub TakesPrefix : List ℕ → List ℕ → List ℕ → Prefix → Type 0
-TakesPrefix old new unread prefix.Begun =
-    (is_unended unread ≡ true) × (new ≡ old ++ unread) × (length new ≤ LINE_LIMIT)
-TakesPrefix old new unread (prefix.Whole place) =
-    (place < length unread) × (unread ≡ take place unread ++ line_feed ∷ drop (place + 1) unread)
-    × (is_unended (take place unread) ≡ true)
-    × (new ≡ old ++ take place unread) × (length new ≤ LINE_LIMIT)
-TakesPrefix old new unread prefix.TooLong =
-    (begun : List ℕ) × (rest : List ℕ) × (unread ≡ begun ++ rest) × (is_unended begun ≡ true)
-    × (LINE_LIMIT < length old + length begun) × (new ≡ old)
 
 -- what a line says, by what its content comes to
 abbrev pub said_of : Result (Option Key) KeyFault → Said

@@ -9,7 +9,7 @@ use Rattle.wap_keys.specs.declared.fault.KeyFault.TheVariants.{NoMemory}
 use Rattle.wap_keys.specs.declared.ending.Ending.{Ending}
 use Rattle.wap_keys.specs.declared.ending.Ending.TheVariants.{End, BadKey, TooManyKeys, ReadFault}
 use Rattle.wap_keys.specs.Lines.{lines_of}
-use Rattle.wap_keys.specs.inside.Taking.{is_unended}
+use Rattle.wap_keys.specs.Prefixes.{is_unended}
 use Rattle.wap_lists.specs.declared.line.Said.{Said}
 use Rattle.wap_lists.specs.declared.line.Said.TheVariants as said
 use Rattle.wap_lists.specs.declared.begun.Begun.{Begun}

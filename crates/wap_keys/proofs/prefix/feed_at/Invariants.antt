@@ -1,5 +1,5 @@
 use Rattle.std.proofs.Common.{◌≡◌, true, take}
-use Rattle.wap_keys.specs.inside.Taking.{is_unended}
+use Rattle.wap_keys.specs.Prefixes.{is_unended}
 use Rattle.wap_keys.proofs.prefix.feed_at.Given as goal
 
 -- no line feed so far

@@ -4,7 +4,8 @@ use Rattle.wap_keys.specs.Lines.{without_return, content_key}
 use Rattle.wap_keys.specs.declared.fault.KeyFault.TheVariants.{TooLong, NoMemory}
 use Rattle.wap_keys.specs.declared.prefix.Prefix.{Prefix}
 use Rattle.wap_keys.specs.declared.prefix.Prefix.TheVariants as prefix
-use Rattle.wap_keys.specs.inside.Taking.{said_of, TakesPrefix}
+use Rattle.wap_keys.specs.Prefixes.{TakesPrefix}
+use Rattle.wap_keys.specs.inside.Taking.{said_of}
 use Rattle.wap_keys.proofs.LineSteps.{takes_whole, takes_long}
 use Rattle.wap_keys.proofs.reader.Reader.go_on.Goals as goal
 

@@ -2,7 +2,8 @@ use Rattle.std.proofs.Common.{◌≡◌, ℕ, List, [], length, drop, true, ap, 
 use Rattle.std.specs.Prelude.{◌==◌}
 use Rattle.wap_keys.specs.Lines.{without_return, content_key}
 use Rattle.wap_keys.specs.declared.prefix.Prefix.TheVariants as prefix
-use Rattle.wap_keys.specs.inside.Taking.{said_of, TakesPrefix}
+use Rattle.wap_keys.specs.Prefixes.{TakesPrefix}
+use Rattle.wap_keys.specs.inside.Taking.{said_of}
 use Rattle.wap_keys.proofs.LineSteps.{takes_whole, no_bytes}
 use Rattle.wap_keys.proofs.reader.Reader.take_line.Goals as goal
 

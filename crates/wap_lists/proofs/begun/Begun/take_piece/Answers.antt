@@ -4,7 +4,7 @@ use Rattle.std.proofs.lemmas.List.{drop-drop}
 use Rattle.wap_keys.specs.declared.fault.KeyFault.{KeyFault}
 use Rattle.wap_keys.specs.declared.prefix.Prefix.{Prefix}
 use Rattle.wap_keys.specs.declared.prefix.Prefix.TheVariants as prefix
-use Rattle.wap_keys.specs.inside.Taking.{TakesPrefix}
+use Rattle.wap_keys.specs.Prefixes.{TakesPrefix}
 use Rattle.wap_lists.specs.inside.Taking.{TakesLine}
 use Rattle.wap_lists.proofs.Taking.{long_read, line_refused, line_read, with_line, none_bad}
 use Rattle.wap_lists.proofs.begun.Begun.take_piece.Goals as goal
