@@ -1,6 +1,6 @@
 -- Keys whose bytes are taken from a source. This project's own.
 use Rattle.std.specs.Prelude.{◌≡◌, ◌≢◌, ◌⊎◌, ℕ, ◌+◌, ◌≤◌, Bool, nat_le, if◌then◌else◌}
-use Rattle.std.specs.Prelude.{List, [], ◌++◌, length, take, Option, Some, IfSome}
+use Rattle.std.specs.Prelude.{List, ◌++◌, length, take, Option, Some, IfSome}
 use Rattle.wap_base.specs.Count.{raised}
 use Rattle.wap_devices.specs.Transfer.{grown_by, TakesFrom, IsAtEnd}
 use Rattle.wap_devices.specs.Sources.{SourceSeen}
