@@ -19,7 +19,7 @@ use Rattle.wap_status.specs.declared.status.Status.TheVariants.{KeyReadFault, Wr
 use Rattle.wap_status.specs.declared.status.Status.TheVariants.{BadKey, OpenDialog, TooManyKeys}
 use Rattle.wap_prepare.specs.Fetching.{AsksFor}
 use Rattle.wap_prepare.specs.Working.{WorksOnAll, AsksWithin}
-use Rattle.wap_prepare.specs.inside.Ends.{PutsTo}
+use Rattle.wap_prepare.specs.Writing.{PutsTo}
 
 length-keys : (pages : Contents) → length (names_of pages) ≡ length pages
 length-keys [] = refl

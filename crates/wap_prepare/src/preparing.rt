@@ -6,7 +6,7 @@ ghost use Rattle.wap_prepare.specs.Reports.{IsEntry, report};
 ghost use Rattle.wap_prepare.specs.Fetching.{AsksFor};
 ghost use Rattle.wap_prepare.specs.Preparing.{Prepares};
 ghost use Rattle.wap_prepare.specs.inside.Jobs.{IsRight};
-ghost use Rattle.wap_prepare.specs.inside.Ends.{PutsTo};
+ghost use Rattle.wap_prepare.specs.Writing.{PutsTo};
 
 use crate::fetching::fetch_all;
 use crate::job::Job;

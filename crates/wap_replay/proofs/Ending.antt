@@ -29,7 +29,7 @@ use Rattle.wap_status.specs.declared.status.Status.TheVariants.{KeyReadFault, Wr
 use Rattle.wap_status.specs.declared.status.Status.TheVariants.{BadKey, OpenDialog, TooManyKeys}
 use Rattle.wap_status.specs.Statuses.{IsOrWants}
 use Rattle.wap_prepare.specs.Working.{WorksOnAll, IsOfFolder, AsksWithin}
-use Rattle.wap_prepare.specs.inside.Ends.{PutsTo}
+use Rattle.wap_prepare.specs.Writing.{PutsTo}
 use Rattle.wap_replay.specs.Outside.{Outside}
 use Rattle.wap_replay.specs.Texts.{replayed, site_over}
 use Rattle.wap_replay.specs.Headline.{ended, NothingFails, IsSiteOf, ReplaysSeen}

@@ -2,7 +2,7 @@
 ghost use Rattle.std.specs.Prelude.{◌<◌};
 ghost use Rattle.wap_base.specs.Limits.{AreInRange};
 ghost use Rattle.wap_prepare.specs.Working.{WorksOnAll};
-ghost use Rattle.wap_prepare.specs.inside.Ends.{PutsTo};
+ghost use Rattle.wap_prepare.specs.Writing.{PutsTo};
 ghost use Rattle.wap_scripting.specs.UnitSites.{unit_pages};
 ghost use Rattle.wap_context.specs.Sites.{site_of};
 ghost use Rattle.wap_replay.specs.Texts.{replayed};

@@ -3,7 +3,7 @@ use Rattle.std.specs.declared.alloc.Global.{Global}
 use Rattle.wap_prepare.specs.Reports.{Entry, AreEntries, report}
 use Rattle.wap_prepare.specs.Preparing.{Reports}
 use Rattle.wap_devices.specs.declared.store.StoreErr.TheVariants.{Failed, NoMemory}
-use Rattle.wap_prepare.specs.inside.Ends.{PutsTo}
+use Rattle.wap_prepare.specs.Writing.{PutsTo}
 use Rattle.wap_prepare.proofs.Asking.{asks_over}
 use Rattle.wap_prepare.proofs.Entries.{are_entries}
 use Rattle.wap_prepare.proofs.Ending.{page_fails, no_memory, ended}

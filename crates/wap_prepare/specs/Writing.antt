@@ -1,4 +1,4 @@
--- How a text is written, or isn't. This project's own.
+-- What is written of a text, by the status with which that ends. This project's own.
 use Rattle.std.specs.Prelude.{◌≡◌, ℕ, ◌≤◌, List}
 use Rattle.wap_base.specs.Count.{Rose}
 use Rattle.wap_devices.specs.Sinks.{SinkSeen}
@@ -8,7 +8,7 @@ use Rattle.wap_status.specs.declared.status.Status.TheVariants.{Done, Usage, Ref
 use Rattle.wap_status.specs.declared.status.Status.TheVariants.{KeyReadFault, WriteFault, NoMemory}
 use Rattle.wap_status.specs.declared.status.Status.TheVariants.{BadKey, OpenDialog, TooManyKeys}
 
--- it was written whole
+-- the text was written whole
 pub record Whole (text : List ℕ) (before after : SinkSeen) : Type 0 where
   pub wrote : Appends before.written after.written text
   pub steady : after.faults ≡ before.faults
@@ -19,7 +19,7 @@ pub record Part (text : List ℕ) (before after : SinkSeen) : Type 0 where
   pub counts : before.faults ≤ after.faults
   pub rose : Rose before.faults after.faults
 
--- what was written of it, by how that ended
+-- what was written of a text, by how that ended: where memory ran out nothing was
 abbrev pub PutsTo : List ℕ → SinkSeen → SinkSeen → Status → Type 0
 PutsTo text before after Done = Whole text before after
 PutsTo text before after Usage = ⊥
