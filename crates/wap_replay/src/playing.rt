@@ -19,7 +19,7 @@ use std::thread::Threads;
 use wap_base::{NoMemory, Rows, Text};
 use wap_devices::Gate;
 use wap_folder::{Work, run_jobs};
-use wap_handset::{Handset, Key};
+use wap_handset::{Handset, Key, SessionFault};
 use wap_prepare::all_answers;
 use wap_prepared::Prepared;
 use wap_status::Status;
@@ -75,7 +75,8 @@ struct Played {
     is_open: bool,
 }
 
-/// Plays a list by a session of its own.
+/// Plays a list by a session of its own. No store stands below the pages that could fail, and the
+/// handset isn't over, so that memory is all that may be missing.
 fn play(
     alloc: Global,
     pages: &Prepared,
@@ -93,11 +94,15 @@ fn play(
     let mut handset = Handset::new(alloc, begun.seed, begun.budget, begun.limits);
     let opened = match handset.feed(alloc, &first, &mut shared) {
         Ok(lines) => lines,
-        Err(_) => return Err(NoMemory),
+        Err(SessionFault::NoMemory) => return Err(NoMemory),
+        Err(SessionFault::Store) => unreachable!(),
+        Err(SessionFault::Ended) => unreachable!(),
     };
     let played = match handset.play(alloc, keys, &mut shared) {
         Ok(lines) => lines,
-        Err(_) => return Err(NoMemory),
+        Err(SessionFault::NoMemory) => return Err(NoMemory),
+        Err(SessionFault::Store) => unreachable!(),
+        Err(SessionFault::Ended) => unreachable!(),
     };
     Ok(Played {
         opened,
