@@ -5,8 +5,8 @@ ghost use Rattle.wap_browse.specs.Endings.{at_end, ended};
 use wap_keys::Ending;
 use wap_status::Status;
 
-/// How a session ends at the end of its keys.
-fn at_end(is_open: bool) -> Status
+/// How a session ends at the end of its keys, by whether a dialog is open then.
+pub fn at_end(is_open: bool) -> Status
     ensures { result ≡ at_end is_open }
 {
     if is_open {

@@ -10,4 +10,6 @@ mod reading;
 
 pub use beginning::Beginning;
 pub use browsing::{browse, browse_session};
+pub use ending::at_end;
+pub use lines::add_lines;
 pub use reading::play_keys;

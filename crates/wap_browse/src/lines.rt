@@ -1,17 +1,24 @@
 //! Lines as they are written.
-ghost use Rattle.std.specs.Prelude.{◌≡◌, OnOk};
+ghost use Rattle.std.specs.Prelude.{◌≡◌, ◌++◌, OnOk};
 ghost use Rattle.wap_world.specs.Lines.{lines_bytes};
 
 use wap_base::{NoMemory, Text};
 
-/// Puts into the buffer the bytes of lines: each line's UTF-8, and a line feed.
+/// Appends the bytes of lines: each line's UTF-8, and a line feed.
+pub fn add_lines(text: &mut Vec<u8>, lines: &[Text]) -> Result<(), NoMemory>
+    ensures { OnOk result (text.new.items ≡ text.old.items ++ lines_bytes lines.now) }
+{
+    for line in lines {
+        text.extend_from_slice(line.as_str().as_bytes())?;
+        text.push(b'\n')?;
+    }
+    Ok(())
+}
+
+/// Puts into the buffer the bytes of lines.
 pub(crate) fn put_lines(buffer: &mut Vec<u8>, lines: &[Text]) -> Result<(), NoMemory>
     ensures { OnOk result (buffer.new.items ≡ lines_bytes lines.now) }
 {
     buffer.clear();
-    for line in lines {
-        buffer.extend_from_slice(line.as_str().as_bytes())?;
-        buffer.push(b'\n')?;
-    }
-    Ok(())
+    add_lines(buffer, lines)
 }

@@ -1,5 +1,5 @@
 -- What is written of lists of keys that are replayed. This project's own.
-use Rattle.std.specs.Prelude.{ℕ, Bool, if◌then◌else◌, List, ◌++◌, codes, decimal}
+use Rattle.std.specs.Prelude.{ℕ, Bool, List, ◌++◌, codes, decimal}
 use Rattle.std.specs.List.{flat_map, enumerate_from}
 use Rattle.wap_base.specs.Contents.{Contents}
 use Rattle.wap_input.specs.declared.key.Key.{Key}
@@ -12,19 +12,14 @@ use Rattle.wap_push.specs.Pushes.{push_at}
 use Rattle.wap_inboxes.specs.Sessions.{session_with}
 use Rattle.wap_scripting.specs.UnitSites.{unit_pages}
 use Rattle.wap_context.specs.Sites.{site_of}
-use Rattle.wap_status.specs.declared.status.Status.{Status}
-use Rattle.wap_status.specs.declared.status.Status.TheVariants.{Done, OpenDialog}
 use Rattle.wap_status.specs.Statuses.{number_of}
-
--- how a session ends by itself, in a dialog or outside
-abbrev pub end_of : Bool → Status
-end_of is_open = if is_open then OpenDialog else Done
+use Rattle.wap_browse.specs.Endings.{at_end}
 
 -- the line before a list's transcript: the number of the list, and how its session ended
 abbrev pub header : ℕ → Bool → List ℕ
 header number is_open =
     codes "% " ++ (decimal number
-    ++ (codes " " ++ (decimal (number_of (end_of is_open)) ++ codes "\n")))
+    ++ (codes " " ++ (decimal (number_of (at_end is_open)) ++ codes "\n")))
 
 -- what a list comes to that is played over the site by a session of its own
 abbrev pub alone : Site → Begun → List Key → Step

@@ -7,43 +7,21 @@ ghost use Rattle.wap_world.specs.Lines.{lines_bytes};
 ghost use Rattle.wap_world.specs.Sessions.{shown_by};
 ghost use Rattle.wap_scripting.specs.UnitSites.{unit_pages};
 ghost use Rattle.wap_context.specs.Sites.{site_of};
-ghost use Rattle.wap_replay.specs.Beginning.{begun_with};
-ghost use Rattle.wap_replay.specs.Texts.{end_of, header, alone, replayed};
+ghost use Rattle.wap_browse.specs.Beginning.{begun_with};
+ghost use Rattle.wap_replay.specs.Texts.{header, alone, replayed};
 ghost use Rattle.wap_replay.specs.inside.Jobs.{text_on};
 
-use crate::Beginning;
 use itoa::Buffer;
 use std::alloc::Global;
 use std::marker::{Model, Sync};
 use std::thread::Threads;
 use wap_base::{NoMemory, Rows, Text};
+use wap_browse::{Beginning, add_lines, at_end};
 use wap_devices::Gate;
 use wap_folder::{Work, run_jobs};
 use wap_handset::{Handset, Key, SessionFault};
 use wap_prepare::all_answers;
 use wap_prepared::Prepared;
-use wap_status::Status;
-
-/// Appends the bytes of lines: each line's UTF-8, and a line feed.
-fn add_lines(text: &mut Vec<u8>, lines: &[Text]) -> Result<(), NoMemory>
-    ensures { OnOk result (text.new.items ≡ text.old.items ++ lines_bytes lines.now) }
-{
-    for line in lines {
-        text.extend_from_slice(line.as_str().as_bytes())?;
-        text.push(b'\n')?;
-    }
-    Ok(())
-}
-
-/// How a session ends by itself, in a dialog or outside.
-fn end_of(is_open: bool) -> Status
-    ensures { result ≡ end_of is_open }
-{
-    if is_open {
-        return Status::OpenDialog;
-    }
-    Status::Done
-}
 
 /// Appends the line before a list's transcript: the number of the list, and how its session ended.
 fn add_header(text: &mut Vec<u8>, number: usize, is_open: bool) -> Result<(), NoMemory>
@@ -53,7 +31,7 @@ fn add_header(text: &mut Vec<u8>, number: usize, is_open: bool) -> Result<(), No
     text.extend_from_slice(b"% ")?;
     text.extend_from_slice(buffer.format(number).as_bytes())?;
     text.extend_from_slice(b" ")?;
-    text.extend_from_slice(buffer.format(end_of(is_open).number()).as_bytes())?;
+    text.extend_from_slice(buffer.format(at_end(is_open).number()).as_bytes())?;
     Ok(text.extend_from_slice(b"\n")?)
 }
 
@@ -153,7 +131,7 @@ impl<'a> Model for Playing<'a> {
     ghost use Rattle.std.specs.Coded.{codes};
     ghost use Rattle.wap_markup.specs.contracts.deck.Item as item;
     ghost use Rattle.wap_base.specs.Limits.{AreInRange};
-    ghost use Rattle.wap_replay.specs.Beginning.{begun_with};
+    ghost use Rattle.wap_browse.specs.Beginning.{begun_with};
     ghost use Rattle.wap_replay.specs.inside.Jobs.{Stage};
 
     ghost Value = { Stage };

@@ -3,10 +3,18 @@ use Rattle.wap_site.specs.Pages.{Pages}
 use Rattle.wap_world.specs.Sessions.{shown_by}
 use Rattle.wap_scripting.specs.UnitSites.{unit_pages}
 use Rattle.wap_context.specs.Sites.{site_of}
-use Rattle.wap_replay.specs.Beginning.{begun_with}
+use Rattle.wap_handset.specs.Feeding.{State}
+use Rattle.wap_browse.specs.Beginning.{begun_with}
 use Rattle.wap_replay.specs.Texts.{alone}
 use Rattle.wap_replay.proofs.Transcripts.{played_alone}
 use Rattle.wap_replay.proofs.playing.play.Goals as goal
+
+-- a new handset isn't over
+pub unreachable-requires-in-Err-Ended : goal.unreachable-requires-in-Err-Ended
+unreachable-requires-in-Err-Ended c =
+    c.in-Err-Ended.ensures.plays.goes_on
+    (ap (λ (state : State). state.is_over) (c.new-handset.ensures (begun_with c.args.begun.now).url))
+    c.in-Err-Ended.field-0-is
 
 pub returns-clause-lines : goal.returns-clause-lines
 returns-clause-lines c =

@@ -5,7 +5,7 @@ use Rattle.std.proofs.lemmas.Result.{IfOk-weaker}
 use Rattle.wap_input.specs.declared.key.Key.{Key}
 use Rattle.wap_scripting.specs.UnitSites.{unit_pages}
 use Rattle.wap_context.specs.Sites.{site_of}
-use Rattle.wap_replay.specs.Beginning.{begun_with}
+use Rattle.wap_browse.specs.Beginning.{begun_with}
 use Rattle.wap_replay.specs.Texts.{replayed}
 use Rattle.wap_replay.specs.inside.Jobs.{Stage, text_on}
 use Rattle.wap_replay.proofs.Listed.{all_there}

@@ -5,7 +5,7 @@ use Rattle.wap_keys.specs.declared.ending.Ending.{Ending}
 use Rattle.wap_keys.specs.declared.ending.Ending.TheVariants as ending
 use Rattle.wap_lists.specs.Read.{ReadsLists}
 use Rattle.wap_status.specs.declared.status.Status.{Status}
-use Rattle.wap_replay.specs.Beginning.{begun_with}
+use Rattle.wap_browse.specs.Beginning.{begun_with}
 use Rattle.wap_replay.specs.Headline.{ended, ReplaysSeen}
 use Rattle.wap_replay.proofs.Ending.{wants, stopped, worked, differs_by}
 use Rattle.wap_replay.proofs.Ending.{bad_differs, many_differ, fault_differs}

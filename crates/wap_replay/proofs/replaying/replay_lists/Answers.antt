@@ -5,7 +5,7 @@ use Rattle.wap_prepare.proofs.Asking.{asks_over}
 use Rattle.wap_prepare.proofs.Ending.{page_fails, no_memory, ended}
 use Rattle.wap_scripting.specs.UnitSites.{unit_pages}
 use Rattle.wap_context.specs.Sites.{site_of}
-use Rattle.wap_replay.specs.Beginning.{begun_with}
+use Rattle.wap_browse.specs.Beginning.{begun_with}
 use Rattle.wap_replay.specs.Texts.{replayed}
 use Rattle.wap_replay.specs.inside.Jobs.{TellsOf}
 use Rattle.wap_replay.proofs.Named.{tells_named}

@@ -1,6 +1,6 @@
 use Rattle.std.proofs.Common.{◌≡◌, ◌++◌, take}
 use Rattle.wap_world.specs.Lines.{lines_bytes}
-use Rattle.wap_replay.proofs.playing.add_lines.Given as goal
+use Rattle.wap_browse.proofs.lines.add_lines.Given as goal
 
 -- the first lines were appended
 abbrev pub invariant-loop-line : goal.invariant-loop-line
