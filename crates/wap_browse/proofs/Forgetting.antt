@@ -133,7 +133,8 @@ module _ {S : Type 0} (seen : S → StoreSeen) where
 
   -- a cache that kept nothing at first
   pub browsed_over : {P : Type 0} (Are : P → Type 0) (play : P → List Key → Step)
-      (first last : CachedPages S) (store back : S) (capacity : ℕ) (source source_after : SourceSeen) (sink sink_after : SinkSeen) (status : Status)
+      (first last : CachedPages S) (store back : S) (capacity : ℕ)
+      (source source_after : SourceSeen) (sink sink_after : SinkSeen) (status : Status)
       → first.store ≡ store → first.kept ≡ [] → first.capacity ≡ capacity → back ≡ last.store
       → Browses Are play (outside_over first source sink)
       (outside_over last source_after sink_after) status

@@ -1,5 +1,6 @@
 -- What browsing comes to, sentence by sentence.
-use Rattle.std.proofs.Common.{◌≡◌, ◌≢◌, ℕ, Bool, true, false, List, [], refl, sym, ap, subst, ◌∙◌, inl, inr}
+use Rattle.std.proofs.Common.{◌≡◌, ◌≢◌, ℕ, Bool, true, false, List, [], refl, sym, ap, subst}
+use Rattle.std.proofs.Common.{◌∙◌, inl, inr}
 use Rattle.wap_input.specs.declared.key.Key.{Key}
 use Rattle.wap_keys.specs.declared.ending.Ending.{Ending}
 use Rattle.wap_keys.specs.declared.ending.Ending.TheVariants as way
@@ -81,7 +82,7 @@ complete_by Done is_open old new bytes taken rest given store read write ends op
     ∙ ap (λ (all : Keys). ended (is_open all.keys) all.ending) (sym ends.1))
 complete_by Usage is_open old new bytes taken rest given store read write ends opens none =
     absurd store
-complete_by (Refused fault) is_open old new bytes taken rest given store read write ends opens none =
+complete_by (Refused why) is_open old new bytes taken rest given store read write ends opens none =
     absurd store
 complete_by StoreFault is_open old new bytes taken rest given store read write ends opens none =
     absurd (none.store store)
@@ -204,7 +205,8 @@ browses_by play old new status so =
     λ other is. subst (λ (s : Status). StoreMoves s old.pages.faults new.pages.faults) is
     so.store in
     record {
-      known = if_some old.source.left (λ bytes. Reads (ArePagesOf old.pages) play bytes old new status)
+      known = if_some old.source.left
+          (λ bytes. Reads (ArePagesOf old.pages) play bytes old new status)
           (λ bytes is. reads_by play bytes old new status so
           (some_fact old.source.left (λ b. Gives play b old new status) bytes is so.known));
       store_fault = λ is. store StoreFault is;

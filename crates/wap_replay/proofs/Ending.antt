@@ -1,9 +1,8 @@
 -- How replaying ends.
-use Rattle.std.proofs.Common.{◌≡◌, ◌≢◌, ℕ, ◌+◌, ◌≤◌, List, Option, Some, None, Result, Ok, Err, inl, inr}
-use Rattle.std.proofs.Common.{◌⊎◌, refl, sym, ap, subst, ◌∙◌, arith}
+use Rattle.std.proofs.Common.{◌≡◌, ◌≢◌, ℕ, ◌+◌, ◌≤◌, List, Option, Some, None, Ok, Err}
+use Rattle.std.proofs.Common.{inl, inr, refl, sym, ap, subst, ◌∙◌, arith}
 use Rattle.std.specs.Prelude.{IfSome, length}
 use Rattle.wap_base.specs.Contents.{Contents}
-use Rattle.wap_base.specs.Count.{Rose}
 use Rattle.wap_base.specs.declared.fault.NoMemory.{NoMemory as OutOfMemory}
 use Rattle.wap_devices.specs.Stores.{StoreSeen}
 use Rattle.wap_devices.specs.Sources.{SourceSeen}
@@ -32,7 +31,7 @@ use Rattle.wap_prepare.specs.Working.{WorksOnAll, IsOfFolder, AsksWithin}
 use Rattle.wap_prepare.specs.Writing.{PutsTo}
 use Rattle.wap_replay.specs.Outside.{Outside}
 use Rattle.wap_replay.specs.Texts.{replayed, site_over}
-use Rattle.wap_replay.specs.Headline.{ended, NothingFails, IsSiteOf, ReplaysSeen}
+use Rattle.wap_replay.specs.Headline.{ended, IsSiteOf, ReplaysSeen}
 use Rattle.wap_replay.specs.inside.Jobs.{TellsOf}
 
 -- ---- a text that was written

@@ -1,20 +1,19 @@
 -- Pages that a store answered for names, and that are judged.
 use Rattle.std.proofs.Common.{◌≡◌, ℕ, Bool, true, false, cond, List, [], ◌∷◌, map, Option, Some}
 use Rattle.std.proofs.Common.{None, Result, Ok, refl, sym, ap, ap₂, subst, ◌∙◌}
-use Rattle.std.specs.Prelude.{All, IfOk, IfSome, filter}
+use Rattle.std.specs.Prelude.{All, IfOk, IfSome}
 use Rattle.std.specs.List.{AllZip, AllByRecursion}
 use Rattle.std.specs.Map.{keys_of}
 use Rattle.std.proofs.lemmas.List.Elements.{recursion_from_All, All-from_recursion}
-use Rattle.std.proofs.lemmas.Map.Keys.{sorted_head, sorted_tail}
 use Rattle.std.specs.List.Sorted.{IsStrictlySortedBy}
-use Rattle.wap_base.specs.Contents.{Contents, page_named}
+use Rattle.wap_base.specs.Contents.{Contents}
 use Rattle.wap_base.specs.Texts.{byte_cmp, AreAscending}
 use Rattle.wap_base.specs.declared.fault.NoMemory.{NoMemory}
 use Rattle.wap_site.specs.Pages.{Pages, IsThere}
 use Rattle.wap_site.specs.declared.page.Page.{Page}
 use Rattle.wap_site.specs.declared.page.Page.TheVariants as page
 use Rattle.wap_pages.specs.Judged.{page_where}
-use Rattle.wap_prepare.specs.Fetching.{Job, page_of, IsAnswered}
+use Rattle.wap_prepare.specs.Fetching.{Job, IsAnswered}
 use Rattle.wap_prepared.specs.Prepared.{ArePrepared}
 use Rattle.wap_replay.specs.inside.Jobs.{IsJudged, is_there, present, judged_name, pages_named}
 

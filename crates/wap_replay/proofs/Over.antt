@@ -1,6 +1,6 @@
 -- What is said of lists of keys over the sites of a store is said of them over others that are such
 -- sites; and where nothing was done, memory ran out.
-use Rattle.std.proofs.Common.{◌≡◌, ℕ, ◌+◌, Option, Some, None, List, [], refl, inl, arith}
+use Rattle.std.proofs.Common.{ℕ, ◌+◌, Option, Some, None, List, [], refl, inl, arith}
 use Rattle.wap_devices.specs.Transfer.{TakesFrom}
 use Rattle.wap_devices.specs.Sources.{SourceSeen}
 use Rattle.wap_keys.specs.declared.limits.TheConstants.{KEYS_LIMIT}

@@ -1,5 +1,5 @@
 -- What a list comes to that is played by a session of its own.
-use Rattle.std.proofs.Common.{◌≡◌, ℕ, Bool, List, [], ◌∷◌, ◌++◌, map, Option, Some, Ok, refl, sym}
+use Rattle.std.proofs.Common.{◌≡◌, ℕ, List, [], ◌∷◌, ◌++◌, Option, Some, refl, sym}
 use Rattle.std.proofs.Common.{◌+◌, length, ap, ap₂, subst, ◌∙◌, append_assoc, arith, Vec}
 use Rattle.std.specs.Prelude.{is_some}
 use Rattle.std.specs.List.{AllZip, flat_map, enumerate_from}
@@ -14,7 +14,7 @@ use Rattle.wap_world.specs.Steps.{Step}
 use Rattle.wap_world.specs.Sessions.{Begun, shown_by}
 use Rattle.wap_scripting.specs.UnitSites.{unit_pages}
 use Rattle.wap_context.specs.Sites.{site_of, IfOver}
-use Rattle.wap_handset.specs.Feeding.{State, beginning, Leads, ShowsOn, step_of}
+use Rattle.wap_handset.specs.Feeding.{State, beginning, Leads, ShowsOn}
 use Rattle.wap_replay.specs.Texts.{alone}
 
 module _ (pages : Pages) (begun : Begun) (keys : List Key) (first last : State)

@@ -36,14 +36,14 @@ pub record NothingFails (old new : Outside) : Type 0 where
   pub source : ¬ Rose old.source.faults new.source.faults
   pub sink : ¬ Rose old.sink.faults new.sink.faults
 
--- what there is to be written, by whatever the site of the store is, where the bytes of the keys are
--- known
+-- what there is to be written, by whatever the site of the store is, where the bytes of the keys
+-- are known
 abbrev pub Tells : (Site → Type 0) → Begun → Outside → (List ℕ → Type 0) → Type 0
 Tells IsSite begun old Wrote = (site : Site) → IsSite site
     → IfSome old.source.left (λ bytes. Wrote (replayed site begun (all_of (lists_of bytes))))
 
--- sessions that are begun so, one for each list, over the site of the store, from the outside before
--- to the outside after, and the status; by however many workers
+-- sessions that are begun so, one for each list, over the site of the store, from the outside
+-- before to the outside after, and the status; by however many workers
 pub record Replays (IsSite : Site → Type 0) (begun : Begun) (old new : Outside) (status : Status)
     : Type 0 where
   -- on Done all was written, for each list its header and its transcript, in order; and where the

@@ -1,6 +1,6 @@
 -- What browsing comes to, status by status. This project's own.
-use Rattle.std.specs.Prelude.{◌≡◌, ◌≢◌, ℕ, ◌+◌, ◌≤◌, Bool, true, false, List, [], ◌++◌, length, Some}
-use Rattle.std.specs.Prelude.{IfSome}
+use Rattle.std.specs.Prelude.{◌≡◌, ◌≢◌, ℕ, ◌+◌, ◌≤◌, Bool, true, false, List, [], ◌++◌, length}
+use Rattle.std.specs.Prelude.{Some, IfSome}
 use Rattle.wap_base.specs.Count.{Rose}
 use Rattle.wap_devices.specs.Transfer.{AppendsPrefix}
 use Rattle.wap_input.specs.declared.key.Key.{Key}

@@ -75,7 +75,8 @@ returns-in-Err-play_read-clause-browses g c play from began =
 
 pub returns-in-Err-play_read-clause-rests : goal.returns-in-Err-play_read-clause-rests
 returns-in-Err-play_read-clause-rests g c play from began done =
-    absurd (stop_undone c.in-Err-play_read.status c.in-Ok-Key.key _ _ c.in-Err-play_read.ensures done)
+    absurd
+    (stop_undone c.in-Err-play_read.status c.in-Ok-Key.key _ _ c.in-Err-play_read.ensures done)
 
 -- the keys came to their end
 pub returns-in-Ok-Ended-clause-browses : goal.returns-in-Ok-Ended-clause-browses

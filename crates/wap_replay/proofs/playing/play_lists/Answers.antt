@@ -1,8 +1,7 @@
-use Rattle.std.proofs.Common.{ℕ, List, Vec, ◌≡◌, ap, subst, ◌∙◌}
-use Rattle.std.specs.List.{AllZip, enumerate_from, flat_map}
+use Rattle.std.proofs.Common.{ℕ, Vec, ◌≡◌, ap, ◌∙◌}
+use Rattle.std.specs.List.{flat_map}
 use Rattle.std.specs.declared.alloc.Global.{Global}
 use Rattle.std.proofs.lemmas.Result.{IfOk-weaker}
-use Rattle.wap_input.specs.declared.key.Key.{Key}
 use Rattle.wap_scripting.specs.UnitSites.{unit_pages}
 use Rattle.wap_context.specs.Sites.{site_of}
 use Rattle.wap_browse.specs.Beginning.{begun_with}

@@ -1,4 +1,4 @@
-use Rattle.std.proofs.Common.{ℕ, List, Vec, ap, ◌∙◌}
+use Rattle.std.proofs.Common.{ℕ, Vec, ap, ◌∙◌}
 use Rattle.std.specs.List.{flat_map}
 use Rattle.std.specs.declared.alloc.Global.{Global}
 use Rattle.wap_replay.proofs.Ending.{put_whole, put_part}

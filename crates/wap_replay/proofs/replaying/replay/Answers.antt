@@ -1,4 +1,4 @@
-use Rattle.std.proofs.Common.{List, Vec, Result, Ok, ap, subst}
+use Rattle.std.proofs.Common.{List, Vec, Ok, ap, subst}
 use Rattle.std.specs.declared.alloc.Global.{Global}
 use Rattle.wap_input.specs.declared.key.Key.{Key}
 use Rattle.wap_keys.specs.declared.ending.Ending.{Ending}

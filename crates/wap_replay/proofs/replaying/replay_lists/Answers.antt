@@ -1,4 +1,4 @@
-use Rattle.std.proofs.Common.{ℕ, List, Vec, Option, Some, None, Ok, Err, subst}
+use Rattle.std.proofs.Common.{ℕ, List, Vec, Ok, Err}
 use Rattle.std.specs.declared.alloc.Global.{Global}
 use Rattle.wap_devices.specs.declared.store.StoreErr.TheVariants.{Failed, NoMemory}
 use Rattle.wap_prepare.proofs.Asking.{asks_over}

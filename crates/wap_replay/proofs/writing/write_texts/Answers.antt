@@ -1,4 +1,4 @@
-use Rattle.std.proofs.Common.{ℕ, ◌<◌, length, Vec, Result, Ok, Err, subst, arith}
+use Rattle.std.proofs.Common.{ℕ, ◌<◌, length, Vec, Ok, Err, subst, arith}
 use Rattle.std.specs.declared.alloc.Global.{Global}
 use Rattle.wap_devices.specs.Sinks.{Puts}
 use Rattle.wap_devices.proofs.Putting.{has_put_nothing, puts_next, puts_next_fails, puts_all}
