@@ -1,5 +1,5 @@
 //! How calls begin: what is called, and the arguments.
-ghost use Rattle.std.specs.Prelude.{◌≡◌, ◌+◌, ◌<◌, ◌≤◌, IfOk};
+ghost use Rattle.std.specs.Prelude.{◌≡◌, ◌+◌, ◌<◌, ◌≤◌, IfOk, OnErr};
 ghost use Rattle.wap_execution.specs.Effects.{calls, with_arguments, effect_of};
 ghost use Rattle.wap_execution.specs.declared.action.Action.TheVariants as action;
 ghost use Rattle.wap_frames.specs.Seen.{called_of};
@@ -18,7 +18,8 @@ use wap_code::Instr;
 fn call(frame: &mut Frame, callee: Callee, count: usize, place: usize) -> Result<Next, NoMemory>
     requires few { AreFew callee count }
     requires fits { Fits frame.old (calling callee count place frame.old) }
-    ensures { IfOk result (IsDone frame.old (calling callee count place frame.old) frame.new) }
+    ensures done { IfOk result (IsDone frame.old (calling callee count place frame.old) frame.new) }
+    ensures kept { OnErr result (frame.new ≡ frame.old) }
 {
     let arguments = frame.take_arguments(count)?;
     frame.go(place);
@@ -30,8 +31,9 @@ fn call(frame: &mut Frame, callee: Callee, count: usize, place: usize) -> Result
 pub(crate) fn call_local(frame: &mut Frame, instr: Instr) -> Result<Next, NoMemory>
     requires small { instr.a < 256 }
     requires fits { Fits frame.old (effect_of 0 frame.old action.CallLocal instr) }
-    ensures { IfOk result
+    ensures done { IfOk result
         (IsDone frame.old (effect_of 0 frame.old action.CallLocal instr) frame.new) }
+    ensures kept { OnErr result (frame.new ≡ frame.old) }
 {
     let count = match frame.unit().unit().functions.get(instr.a as usize) {
         Some(function) => function.args,
@@ -51,8 +53,9 @@ pub(crate) fn call_library(frame: &mut Frame, instr: Instr) -> Result<Next, NoMe
     requires index { instr.a < 256 }
     requires library { instr.b < 65536 }
     requires fits { Fits frame.old (effect_of 0 frame.old action.CallLibrary instr) }
-    ensures { IfOk result
+    ensures done { IfOk result
         (IsDone frame.old (effect_of 0 frame.old action.CallLibrary instr) frame.new) }
+    ensures kept { OnErr result (frame.new ≡ frame.old) }
 {
     let Some(count) = args_of(instr.b, instr.a) else {
         unreachable!()
@@ -70,8 +73,9 @@ pub(crate) fn call_external(
 ) -> Result<Next, NoMemory>
     requires few { instr.c < 256 }
     requires fits { Fits frame.old (effect_of 0 frame.old action.CallExternal instr) }
-    ensures { IfOk result
+    ensures done { IfOk result
         (IsDone frame.old (effect_of 0 frame.old action.CallExternal instr) frame.new) }
+    ensures kept { OnErr result (frame.new ≡ frame.old) }
 {
     let unit = frame.unit();
     let Some(url) = unit.string(instr.a) else {

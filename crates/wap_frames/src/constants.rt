@@ -1,5 +1,5 @@
 //! Constants as values.
-ghost use Rattle.std.specs.Prelude.{◌≡◌, ◌∷◌, Some, IfOk};
+ghost use Rattle.std.specs.Prelude.{◌≡◌, ◌∷◌, Some, IfOk, OnErr};
 ghost use Rattle.std.specs.Str.{chars};
 ghost use Rattle.wap_base.specs.Outcome.{Meets};
 ghost use Rattle.wap_value.specs.declared.value.Value.{Value as TheValue};
@@ -74,8 +74,9 @@ pub(crate) fn load_constant(
     string: u32,
 ) -> Result<Next, NoMemory>
     requires { Fits frame.old (effect_of string frame.old action.LoadConstant instr) }
-    ensures { IfOk result
+    ensures done { IfOk result
         (IsDone frame.old (effect_of string frame.old action.LoadConstant instr) frame.new) }
+    ensures kept { OnErr result (frame.new ≡ frame.old) }
 {
     match constant(alloc, frame.unit(), instr.a, string) {
         Ok(value) => Ok(give(frame, value, instr.next)),

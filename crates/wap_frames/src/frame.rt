@@ -1,6 +1,7 @@
 //! Functions at work.
 ghost use Rattle.std.specs.Prelude.{◌≡◌, [], ◌++◌, replicate, ◌+◌, ◌<◌, ◌≤◌, length, take, drop};
-ghost use Rattle.std.specs.Prelude.{reverse, slice_get, Some, IsTrue, ◌↔◌, IfOk, OnOk, MatchOption};
+ghost use Rattle.std.specs.Prelude.{reverse, slice_get, Some, IsTrue, ◌↔◌, IfOk, OnOk, OnErr};
+ghost use Rattle.std.specs.Prelude.{MatchOption};
 ghost use Rattle.wap_execution.specs.Frames.{code_of, pushed};
 ghost use Rattle.wap_base.specs.Limits.{IsStringLimit};
 ghost use Rattle.wap_base.specs.Outcome.{Meets};
@@ -176,6 +177,7 @@ impl Frame {
             (λ arguments. arguments.items ≡ reverse (take count self.old.operands)) }
         ensures rest { OnOk result
             (self.new ≡ with_operands (drop count self.old.operands) self.old) }
+        ensures kept { OnErr result (self.new ≡ self.old) }
     {
         let rest = self.operands.len() - count;
         Ok(self.operands.split_off(rest)?)

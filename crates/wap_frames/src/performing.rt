@@ -1,8 +1,9 @@
 //! One instruction.
-ghost use Rattle.std.specs.Prelude.{◌≡◌, ◌<◌, ◌≤◌, ◌^◌, length, IfOk};
+ghost use Rattle.std.specs.Prelude.{◌≡◌, ◌<◌, ◌≤◌, ◌^◌, length, IfOk, OnErr};
 ghost use Rattle.wap_base.specs.Limits.{IsStringLimit};
 ghost use Rattle.wap_execution.specs.Frames.{code_of};
 ghost use Rattle.wap_execution.specs.Effects.{effect_read};
+ghost use Rattle.wap_frames.specs.Seen.{with_operands};
 ghost use Rattle.wap_frames.specs.Standing.{Stands, Fits};
 ghost use Rattle.wap_frames.specs.Doing.{Acts};
 ghost use Rattle.wap_frames.specs.inside.Parts.{IsSmall, IsDone};
@@ -39,7 +40,9 @@ fn perform(
     requires next { instr.next ≤ length (code_of frame.old.function) }
     requires small { IsSmall action instr }
     requires fits { Fits frame.old (effect_read string frame.old action instr) }
-    ensures { IfOk result (IsDone frame.old (effect_read string frame.old action instr) frame.new) }
+    ensures done { IfOk result
+        (IsDone frame.old (effect_read string frame.old action instr) frame.new) }
+    ensures left { OnErr result (frame.new ≡ with_operands frame.new.operands frame.old) }
 {
     match action {
         Action::Jump => Ok(pass_on(frame, instr.next + instr.a as usize)),
@@ -68,12 +71,14 @@ fn perform(
     }
 }
 
-/// Does the instruction where a frame goes on.
+/// Does the instruction where a frame goes on. When out of memory operands may be gone, and the
+/// rest of the frame stays.
 pub fn act(alloc: Global, frame: &mut Frame, string: u32) -> Result<Next, NoMemory>
     requires limit { IsStringLimit string }
     requires stands { Stands frame.old 0 }
     requires within { frame.old.place < length (code_of frame.old.function) }
-    ensures { IfOk result (Acts string frame.old frame.new) }
+    ensures acts { IfOk result (Acts string frame.old frame.new) }
+    ensures left { OnErr result (frame.new ≡ with_operands frame.new.operands frame.old) }
 {
     let (action, instr) = instruction(frame);
     perform(alloc, frame, action, instr, string)

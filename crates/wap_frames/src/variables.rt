@@ -1,5 +1,5 @@
 //! What actions on variables, and those that may give a String, do to their frame.
-ghost use Rattle.std.specs.Prelude.{◌≡◌, ◌∷◌, ◌<◌, length, Some, IfOk, slice_get};
+ghost use Rattle.std.specs.Prelude.{◌≡◌, ◌∷◌, ◌<◌, length, Some, IfOk, OnErr, slice_get};
 ghost use Rattle.wap_base.specs.Limits.{IsStringLimit};
 ghost use Rattle.wap_base.specs.Outcome.{Meets};
 ghost use Rattle.wap_value.specs.declared.value.Value.{Value as TheValue};
@@ -8,6 +8,7 @@ ghost use Rattle.wap_value.specs.TooLong.{kept_within};
 ghost use Rattle.wap_execution.specs.Frames.{constant_at};
 ghost use Rattle.wap_execution.specs.Effects.{effect_of, stored};
 ghost use Rattle.wap_execution.specs.declared.action.Action.TheVariants as action;
+ghost use Rattle.wap_frames.specs.Seen.{with_operands};
 ghost use Rattle.wap_frames.specs.Standing.{Fits};
 ghost use Rattle.wap_frames.specs.inside.Parts.{storing, IsDone};
 
@@ -37,8 +38,9 @@ pub(crate) fn load_variable(
     instr: Instr,
 ) -> Result<Next, NoMemory>
     requires { Fits frame.old (effect_of 0 frame.old action.LoadVariable instr) }
-    ensures { IfOk result
+    ensures done { IfOk result
         (IsDone frame.old (effect_of 0 frame.old action.LoadVariable instr) frame.new) }
+    ensures kept { OnErr result (frame.new ≡ frame.old) }
 {
     let value = frame.variable(alloc, instr.a)?;
     Ok(give(frame, value, instr.next))
@@ -79,8 +81,9 @@ pub(crate) fn assign_variable(
     requires operator { TakesBoth op }
     requires limit { IsStringLimit string }
     requires fits { Fits frame.old (effect_of string frame.old (action.AssignVariable op) instr) }
-    ensures { IfOk result
+    ensures done { IfOk result
         (IsDone frame.old (effect_of string frame.old (action.AssignVariable op) instr) frame.new) }
+    ensures left { OnErr result (frame.new ≡ with_operands frame.new.operands frame.old) }
 {
     match frame.pop() {
         Some(value) => match frame.combine(alloc, op, instr.a, &value, string) {
@@ -104,8 +107,9 @@ pub(crate) fn apply_binary(
     requires operator { TakesBoth op }
     requires limit { IsStringLimit string }
     requires fits { Fits frame.old (effect_of string frame.old (action.Binary op) instr) }
-    ensures { IfOk result
+    ensures done { IfOk result
         (IsDone frame.old (effect_of string frame.old (action.Binary op) instr) frame.new) }
+    ensures left { OnErr result (frame.new ≡ with_operands frame.new.operands frame.old) }
 {
     let Some(right) = frame.pop() else {
         unreachable!()

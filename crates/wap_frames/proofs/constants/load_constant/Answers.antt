@@ -46,8 +46,8 @@ give-requires c =
     subst (Fits frame) (loads c.args.string frame c.args.instr value.0 value.1
     ∙ ap (kept_effect c.args.string frame c.args.instr) made) c.requires
 
-pub returns-in-Ok : goal.returns-in-Ok
-returns-in-Ok c =
+pub returns-in-Ok-clause-done : goal.returns-in-Ok-clause-done
+returns-in-Ok-clause-done c =
     let frame : Frame = c.args.frame.now in
     let value =
     there c.args.string frame c.args.instr c.unit.result.now c.unit.ensures c.requires in
@@ -57,8 +57,8 @@ returns-in-Ok c =
     (sym (loads c.args.string frame c.args.instr value.0 value.1
     ∙ ap (kept_effect c.args.string frame c.args.instr) made)) c.give.ensures
 
-pub returns-in-Err-TooLong : goal.returns-in-Err-TooLong
-returns-in-Err-TooLong c =
+pub returns-in-Err-TooLong-clause-done : goal.returns-in-Err-TooLong-clause-done
+returns-in-Err-TooLong-clause-done c =
     let frame : Frame = c.args.frame.now in
     let value =
     there c.args.string frame c.args.instr c.unit.result.now c.unit.ensures c.requires in

@@ -12,8 +12,8 @@ perform-requires-clause-fits c =
     subst (Fits c.args.frame.now) (c.instruction-action.ensures.effect c.args.string)
     (fits_here c.args.string c.args.frame.now c.requires.stands c.requires.within)
 
-pub returns : goal.returns
-returns c =
+pub returns-clause-acts : goal.returns-clause-acts
+returns-clause-acts c =
     let before : Frame = c.args.frame.now in
     let after : Frame = c.perform.new.frame in
     IfOk-weaker c.perform.result (Does (effect_read c.args.string before
@@ -22,4 +22,4 @@ returns c =
     (λ next does.
     acts c.args.string before after next c.instruction-action.result.0 c.instruction-action.result.1
     c.instruction-action.ensures c.requires.stands c.requires.within does)
-    c.perform.ensures
+    c.perform.ensures.done

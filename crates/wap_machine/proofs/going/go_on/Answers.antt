@@ -27,7 +27,7 @@ loop-alloc-preserved c =
     let within = inside_of now 0 c.loop-alloc.invariant.stands apart in
     let acts =
     subst (λ (n : Next). Acts c.args.string now c.act.new.frame n)
-    c.in-Onward.is c.in_ok-next.ensures in
+    c.in-Onward.is c.in_ok-next.ensures.acts in
     passed_more c.args.string c.args.frame.now now c.act.new.frame
     c.loop-alloc.invariant within acts
 
@@ -39,7 +39,7 @@ loop-alloc-smaller c =
     let within = inside_of now 0 c.loop-alloc.invariant.stands apart in
     let acts =
     subst (λ (n : Next). Acts c.args.string now c.act.new.frame n)
-    c.in-Onward.is c.in_ok-next.ensures in
+    c.in-Onward.is c.in_ok-next.ensures.acts in
     on_falls c.args.string now c.act.new.frame acts within
 
 pub returns-then-is_at_end-clause-gone : goal.returns-then-is_at_end-clause-gone
@@ -59,8 +59,13 @@ returns-in_default-clause-gone c =
     let apart : now.place ≢ length (code_of now.function) =
     λ e. let yes = c.is_at_end.ensures.1 e in cc (yes, c.if-is_at_end.false) in
     let within = inside_of now 0 c.loop-alloc.invariant.stands apart in
-    record { now = now; passed = c.loop-alloc.invariant; last = does within c.in_ok-next.ensures }
+    record {
+      now = now;
+      passed = c.loop-alloc.invariant;
+      last = does within c.in_ok-next.ensures.acts;
+    }
 
 pub returns-in_default-clause-stands : goal.returns-in_default-clause-stands
 returns-in_default-clause-stands c =
-    stands_for c.args.string c.loop-alloc.frame c.act.new.frame c.in_ok-next.next c.in_ok-next.ensures
+    stands_for c.args.string c.loop-alloc.frame c.act.new.frame c.in_ok-next.next
+    c.in_ok-next.ensures.acts
