@@ -1,5 +1,5 @@
 //! What the names in a function mean, and the constants of its unit, by their numbers.
-ghost use Rattle.std.specs.Prelude.{◌≡◌, IfOk, OnOk, [], length, map};
+ghost use Rattle.std.specs.Prelude.{◌≡◌, IfOk, OnOk, OnErr, [], length, map};
 ghost use Rattle.wap_program.specs.declared.expression.Literal.TheVariants as literal;
 ghost use Rattle.wap_scope.specs.Scoped.{IsScoped};
 ghost use Rattle.wap_scope_laws.specs.Known.{variables};
@@ -75,13 +75,15 @@ impl Numbering {
         })
     }
 
-    /// Goes on to a function: its variables are known, and those of no other.
+    /// Goes on to a function: its variables are known, and those of no other. When out of memory
+    /// those of the function before stay known.
     pub fn enter(&mut self, alloc: Global, function: &Function) -> Result<(), NoMemory>
         requires { AreOnce (variables function.now) }
         ensures variables { OnOk result (self.new.names.variables ≡ variables function.now) }
         ensures functions { self.new.names.functions ≡ self.old.names.functions }
         ensures urls { self.new.names.urls ≡ self.old.names.urls }
         ensures pool { self.new.pool ≡ self.old.pool }
+        ensures kept { OnErr result (self.new ≡ self.old) }
     {
         self.variables = variables_of(alloc, function)?;
         Ok(())
