@@ -75,6 +75,10 @@ pub record HasGiven (start now : SourceSeen) (taken : List ℕ) (keys : List Key
   -- the source gives its end once at most
   pub end_once : AtMostOnce start.ends now.ends
 
+-- some bytes were taken, and some keys were given of them
+abbrev pub GivesSome : SourceSeen → SourceSeen → Type 0
+GivesSome start now = (taken : List ℕ) × (keys : List Key) × HasGiven start now taken keys
+
 -- ---- keys that were read to their end
 
 -- a line among the bytes is no key line, whatever follows; or the source gave its end, and the last

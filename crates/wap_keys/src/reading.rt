@@ -1,10 +1,11 @@
 //! Reading keys to their end.
-ghost use Rattle.std.specs.Prelude.{◌≡◌, ◌≢◌, ◌+◌, ◌≤◌, IfOk, IfSome};
+ghost use Rattle.std.specs.Prelude.{◌≡◌, ◌≢◌, ◌+◌, ◌≤◌, IfOk, IfSome, OnErr};
 ghost use Rattle.wap_base.specs.Count.{Rose};
 ghost use Rattle.wap_keys.specs.declared.ending.Ending.TheVariants.{ReadFault};
 ghost use Rattle.wap_keys.specs.declared.limits.TheConstants.{KEYS_LIMIT};
 ghost use Rattle.wap_keys.specs.Lines.{keys_of};
 ghost use Rattle.wap_keys.specs.Read.{AtMostOnce, IsReadBefore, AreFirst, TakesAtMost, ReadsTo};
+ghost use Rattle.wap_keys.specs.Read.{GivesSome};
 
 use crate::{Ending, Key, Next, Reader};
 use std::alloc::Global;
@@ -31,6 +32,9 @@ pub fn read_keys<I: Source>(alloc: Global, source: &mut I) -> Result<(Vec<Key>, 
     ensures faults { (I.seen source.old).faults ≤ (I.seen source.new).faults }
     // The source gives its end once at most.
     ensures ends { AtMostOnce (I.seen source.old).ends (I.seen source.new).ends }
+    // When out of memory the keys that were read are lost; no more was taken than they needed.
+    ensures left { OnErr result (GivesSome (I.seen source.old) (I.seen source.new)) }
+    ensures unread { OnErr result ((I.seen source.new).faults ≡ (I.seen source.old).faults) }
 {
     let mut reader = Reader::new(alloc);
     let mut keys = Vec::new(alloc);

@@ -3,7 +3,8 @@ use Rattle.std.proofs.Common.{List, [], ◌++◌, ◌∷◌, sym, subst}
 use Rattle.wap_input.specs.declared.key.Key.{Key}
 use Rattle.wap_keys.specs.Reading.{HasRead, Answers}
 use Rattle.wap_keys.proofs.ReaderLaws.{given_of}
-use Rattle.wap_keys.proofs.ReaderSteps.{then_read, then_ended, then_lost}
+use Rattle.wap_keys.proofs.ReaderSteps.{on_err, then_read, then_ended, then_lost}
+use Rattle.wap_keys.specs.Read.{GivesSome}
 use Rattle.wap_keys.proofs.WholeLaws.{known_of, before_of, few_of}
 use Rattle.wap_keys.proofs.reading.read_keys.Goals as goal
 
@@ -152,3 +153,28 @@ returns-in_err-push-in-Key-clause-ends g c =
     c.loop-keys.invariant (subst (Answers now last c.loop-keys.reader c.next.new.self)
     c.in-Key.is c.in_ok-key.ensures.answers) in
     (given_of start last taken (keys ++ c.in-Key.key ∷ []) c.next.new.self has).end_once
+
+pub returns-in_err-key-clause-left : goal.returns-in_err-key-clause-left
+returns-in_err-key-clause-left g c =
+    let start = g.I.Source.seen c.args.source.now in
+    let now = g.I.Source.seen c.loop-keys.source in
+    let last = g.I.Source.seen c.next.new.source in
+    let keys = c.loop-keys.keys.items in
+    let (taken, has) =
+    then_lost start now last keys c.loop-keys.reader c.loop-keys.invariant
+    c.in_err-key.ensures.gives_up in
+    on_err c.from_residual.result (GivesSome start last) (taken, keys, has)
+
+pub returns-in_err-push-in-Key-clause-left : goal.returns-in_err-push-in-Key-clause-left
+returns-in_err-push-in-Key-clause-left g c =
+    let start = g.I.Source.seen c.args.source.now in
+    let now = g.I.Source.seen c.loop-keys.source in
+    let last = g.I.Source.seen c.next.new.source in
+    let keys = c.loop-keys.keys.items in
+    let (taken, has) =
+    then_read start now last keys c.loop-keys.reader c.next.new.self c.in-Key.key
+    c.loop-keys.invariant (subst (Answers now last c.loop-keys.reader c.next.new.self)
+    c.in-Key.is c.in_ok-key.ensures.answers) in
+    let said = keys ++ c.in-Key.key ∷ [] in
+    on_err c.from_residual-in_err-push-in-Key.result (GivesSome start last)
+    (taken, said, given_of start last taken said c.next.new.self has)
