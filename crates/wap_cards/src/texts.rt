@@ -1,5 +1,5 @@
 //! Texts that are looked for.
-ghost use Rattle.std.specs.Prelude.{◌≡◌, ◌||◌, [], List, ℕ, OnOk};
+ghost use Rattle.std.specs.Prelude.{◌≡◌, ◌||◌, [], List, ℕ, OnOk, OnErr};
 ghost use Rattle.std.specs.List.{list_any};
 ghost use Rattle.wap_base.specs.Texts.{is_same_text};
 
@@ -32,10 +32,11 @@ impl Texts {
         }
     }
 
-    /// Adds a text.
+    /// Adds a text. When out of memory nothing is added.
     pub fn add(&mut self, text: Text) -> Result<(), NoMemory>
-        ensures { OnOk result ((one : List ℕ) → list_any (is_same_text one) self.new
+        ensures ok { OnOk result ((one : List ℕ) → list_any (is_same_text one) self.new
             ≡ (is_same_text one text || list_any (is_same_text one) self.old)) }
+        ensures kept { OnErr result (self.new ≡ self.old) }
     {
         self.texts.insert(text)?;
         Ok(())

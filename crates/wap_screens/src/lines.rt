@@ -1,7 +1,8 @@
 //! Lines that are shown.
-ghost use Rattle.std.specs.Prelude.{◌≡◌, ◌++◌, ◌∷◌, [], codes, IfOk, OnOk};
+ghost use Rattle.std.specs.Prelude.{◌≡◌, ◌++◌, ◌∷◌, [], codes, IfOk, OnOk, OnErr};
 ghost use Rattle.std.specs.Str.{chars};
 ghost use Rattle.std.specs.List.{flat_map};
+ghost use Rattle.wap_url.specs.Segments.{IsPrefix};
 ghost use Rattle.wap_world.specs.Lines.{refusal_line, marked, title_line, do_line};
 ghost use Rattle.wap_world.specs.Setting.{fault_lines};
 
@@ -37,16 +38,18 @@ pub fn refusal_line(alloc: Global, refusal: Refusal) -> Result<Text, NoMemory>
     Text::of(alloc, text_of(refusal))
 }
 
-/// Appends the line of a refusal.
+/// Appends the line of a refusal. When out of memory nothing is added.
 pub fn add_refusal(alloc: Global, refusal: Refusal, lines: &mut Rows<Text>) -> Result<(), NoMemory>
-    ensures { OnOk result (lines.new ≡ lines.old ++ refusal_line refusal ∷ []) }
+    ensures ok { OnOk result (lines.new ≡ lines.old ++ refusal_line refusal ∷ []) }
+    ensures kept { OnErr result (lines.new ≡ lines.old) }
 {
     lines.add(refusal_line(alloc, refusal)?)
 }
 
 /// Appends the line of a set that was refused; a name that is none of a variable is passed over.
 fn add_fault_line(alloc: Global, fault: VarFault, lines: &mut Rows<Text>) -> Result<(), NoMemory>
-    ensures { OnOk result (lines.new ≡ lines.old ++ fault_lines fault) }
+    ensures ok { OnOk result (lines.new ≡ lines.old ++ fault_lines fault) }
+    ensures kept { OnErr result (lines.new ≡ lines.old) }
 {
     match fault {
         VarFault::TooLong { bytes: _ } => add_refusal(alloc, Refusal::Long, lines),
@@ -55,13 +58,14 @@ fn add_fault_line(alloc: Global, fault: VarFault, lines: &mut Rows<Text>) -> Res
     }
 }
 
-/// Appends a line for each set that was refused.
+/// Appends a line for each set that was refused. When out of memory some of them may be added.
 pub fn add_fault_lines(
     alloc: Global,
     faults: &[VarFault],
     lines: &mut Rows<Text>,
 ) -> Result<(), NoMemory>
-    ensures { OnOk result (lines.new ≡ lines.old ++ flat_map fault_lines faults.now) }
+    ensures ok { OnOk result (lines.new ≡ lines.old ++ flat_map fault_lines faults.now) }
+    ensures left { OnErr result (IsPrefix lines.old lines.new) }
 {
     for fault in faults {
         add_fault_line(alloc, *fault, lines)?;

@@ -1,5 +1,6 @@
 //! The screen of a card (WAP-191, section 11.5).
-ghost use Rattle.std.specs.Prelude.{◌≡◌, ◌++◌, ◌∷◌, [], map, OnOk};
+ghost use Rattle.std.specs.Prelude.{◌≡◌, ◌++◌, ◌∷◌, [], map, OnOk, OnErr};
+ghost use Rattle.wap_url.specs.Segments.{IsPrefix};
 ghost use Rattle.wap_layout.specs.Calculation.{lines_of};
 ghost use Rattle.wap_cardrules.specs.Flow.{flow_of, title_of};
 ghost use Rattle.wap_cardrules.specs.Dos.{do_labels};
@@ -24,8 +25,9 @@ fn add_title(
     vars: &Vars,
     lines: &mut Rows<Text>,
 ) -> Result<(), NoMemory>
-    ensures { OnOk result
+    ensures ok { OnOk result
         (lines.new ≡ lines.old ++ title_line (title_of vars.now card.now) ∷ []) }
+    ensures kept { OnErr result (lines.new ≡ lines.old) }
 {
     let title = title(alloc, card, vars)?;
     lines.add(title_line(alloc, &title)?)
@@ -38,8 +40,9 @@ fn add_content(
     vars: &Vars,
     lines: &mut Rows<Text>,
 ) -> Result<(), NoMemory>
-    ensures { OnOk result
+    ensures ok { OnOk result
         (lines.new ≡ lines.old ++ lines_of COLUMNS (flow_of vars.now card.now)) }
+    ensures left { OnErr result (IsPrefix lines.old lines.new) }
 {
     let flow = flow(alloc, card, vars)?;
     for line in laid_lines(alloc, flow.as_slice(), COLUMNS)? {
@@ -56,8 +59,9 @@ fn add_dos(
     vars: &Vars,
     lines: &mut Rows<Text>,
 ) -> Result<(), NoMemory>
-    ensures { OnOk result
+    ensures ok { OnOk result
         (lines.new ≡ lines.old ++ map do_line (do_labels vars.now deck.now card.now)) }
+    ensures left { OnErr result (IsPrefix lines.old lines.new) }
 {
     let dos = active_dos(alloc, deck, card, vars)?;
     for one in dos.as_slice() {
@@ -66,7 +70,8 @@ fn add_dos(
     Ok(())
 }
 
-/// Appends the screen of a card, which is one of the deck.
+/// Appends the screen of a card, which is one of the deck. When out of memory some of its lines may
+/// be added.
 pub fn add_screen(
     alloc: Global,
     deck: &GoodDeck,
@@ -74,7 +79,8 @@ pub fn add_screen(
     vars: &Vars,
     lines: &mut Rows<Text>,
 ) -> Result<(), NoMemory>
-    ensures { OnOk result (lines.new ≡ lines.old ++ screen_of vars.now deck.now card.now) }
+    ensures ok { OnOk result (lines.new ≡ lines.old ++ screen_of vars.now deck.now card.now) }
+    ensures left { OnErr result (IsPrefix lines.old lines.new) }
 {
     add_title(alloc, card, vars, lines)?;
     add_content(alloc, card, vars, lines)?;
