@@ -19,7 +19,7 @@ use Rattle.wap_meaning.specs.Names.{Names, variable_at}
 use Rattle.wap_coding.specs.Coded.{Exits, Coded, empty, one, ◌⨾◌, all_code, instr, plain}
 use Rattle.wap_coding.specs.Coded.{with_operand, label, jump_over, jump_before, within}
 use Rattle.wap_coding.specs.Constants.{Numbers}
-use Rattle.wap_coding.specs.Expressions.{store_code, cond_code, expr_code}
+use Rattle.wap_coding.specs.Expressions.{store_code, change_name, cond_code, expr_code}
 
 -- ---- expressions as statements
 
@@ -51,12 +51,17 @@ changed_code numbers index name e whole =
     if writes numbers.names e index then dropped_code whole
     else expr_code numbers e ⨾ with_operand name index
 
--- an expression as a statement, by what it is and by its own code
+-- an expression as a statement, by what it is and by its own code: after `=`, `++` and `--` the
+-- variable isn't loaded again
 abbrev pub effect_code : Numbers → Expr-F Expr → Coded → Coded
+effect_code numbers (Expr-F.Assign v None e) whole =
+    expr_code numbers e ⨾ store_code (variable_at numbers.names v)
 effect_code numbers (Expr-F.Assign v (Some bin.Add) e) whole =
     changed_code numbers (variable_at numbers.names v) op.AddAsg e whole
 effect_code numbers (Expr-F.Assign v (Some bin.Sub) e) whole =
     changed_code numbers (variable_at numbers.names v) op.SubAsg e whole
+effect_code numbers (Expr-F.Step v up prefix) whole =
+    with_operand (change_name up) (variable_at numbers.names v)
 effect_code numbers _ whole = dropped_code whole
 
 -- a variable takes the value of its initialiser, or `""`

@@ -30,7 +30,7 @@ use Rattle.wap_depths.proofs.Flow.{flow_of}
 use Rattle.wap_depths.proofs.Shapes.{shape_branches, shape_branch, shape_empty, TestShape}
 use Rattle.wap_depths.proofs.Shapes.{no_test, one_test, shape_loop, shape_exit, shape_leaves}
 use Rattle.wap_depths.proofs.Trees.{Goes, Met, met_front, met_back, both, gives, takes_one}
-use Rattle.wap_depths.proofs.Trees.{store_takes, gives_one}
+use Rattle.wap_depths.proofs.Trees.{store_takes, gives_one, stays}
 use Rattle.wap_value.specs.declared.operator.BinOp.TheVariants as bin
 use Rattle.wap_code.specs.declared.row.OpName.TheVariants as op
 
@@ -105,15 +105,33 @@ module _ (unit : CodeUnit) (numbers : Numbers) (forms : List Form) where
       let met' : IsMet (Variable v ∷ Operator binop ∷ expr_needs right) = subst IsMet needs met in
       met'.1.1
 
+  -- and so it is without an operator
+  taken_met : (v : Id) (right e : Expr) → roll-Expr (Expr-F.Assign v None right) ≡ e
+      → IsMet (expr_needs e) → IsMet (expr_needs right)
+  unfolding expr_needs
+  taken_met v right e is met =
+      let needs : expr_needs e ≡ Variable v ∷ expr_needs right =
+      ap expr_needs (sym is)
+      ∙ fold-roll-Expr (List Need) expr_needs_by (Expr-F.Assign v None right) in
+      let met' : IsMet (Variable v ∷ expr_needs right) = subst IsMet needs met in
+      met'.1
+
   -- an expression as a statement
   effect_rests : (x : Expr-F Expr) (e : Expr) → roll-Expr x ≡ e → IsMet (expr_needs e)
       → Rests (effect_code numbers x (expr_code numbers e))
+  effect_rests (Expr-F.Assign v None right) e is met =
+      rests_stored (expr_code numbers right) (variable_at numbers.names v)
+      (expr_gives right (taken_met v right e is met))
   effect_rests (Expr-F.Assign v (Some bin.Add) right) e is met =
       changed_rests (variable_at numbers.names v) op.AddAsg right (expr_code numbers e) refl
       (right_met v bin.Add right e is met) (rests_dropped (expr_code numbers e) (expr_gives e met))
   effect_rests (Expr-F.Assign v (Some bin.Sub) right) e is met =
       changed_rests (variable_at numbers.names v) op.SubAsg right (expr_code numbers e) refl
       (right_met v bin.Sub right e is met) (rests_dropped (expr_code numbers e) (expr_gives e met))
+  effect_rests (Expr-F.Step v true prefix) e is met =
+      stays unit numbers forms (instr op.IncrVar (variable_at numbers.names v) 0 0) refl 0
+  effect_rests (Expr-F.Step v false prefix) e is met =
+      stays unit numbers forms (instr op.DecrVar (variable_at numbers.names v) 0 0) refl 0
   effect_rests _ e is met = rests_dropped (expr_code numbers e) (expr_gives e met)
 
   -- ---- statements

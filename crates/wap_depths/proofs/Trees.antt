@@ -92,7 +92,7 @@ module _ (unit : CodeUnit) (numbers : Numbers) (forms : List Form) where
       (omega arith) (op_goes form 2 1 x is)
 
   -- an operation that takes and gives none
-  stays : (form : Instr) → flow_of unit form ≡ goes 0 0 → (x : ℕ)
+  pub stays : (form : Instr) → flow_of unit form ≡ goes 0 0 → (x : ℕ)
       → Goes (one (λ exits at. Op form)) x x
   stays form is x =
       from_to (one (λ exits at. Op form)) (x + 0) (x + 0) x x (omega arith) (omega arith)

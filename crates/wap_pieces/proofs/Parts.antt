@@ -67,7 +67,7 @@ loaded index v variables turns state =
     loaded_by (ltb index (length variables)) index v variables turns state refl
 
 -- parts that come to the same may follow each other's place
-from_same : {A B S : Type 0} (came : Came A S) (some other : A → Does B S)
+pub from_same : {A B S : Type 0} (came : Came A S) (some other : A → Does B S)
     → ((a : A) (variables : List Value) (turns : ℕ) (state : S)
     → some a variables turns state ≡ other a variables turns state)
     → from came some ≡ from came other
@@ -178,7 +178,7 @@ module _ {S : Type 0} (site : Site S) where
   -- ---- steps
 
   -- a step of a variable
-  change_piece : (index : ℕ) (name : OpName) (unop : UnOp) → action_of name ≡ ChangeVariable unop
+  pub change_piece : (index : ℕ) (name : OpName) (unop : UnOp) → action_of name ≡ ChangeVariable unop
       → Piece site (load index >>= λ old. store index (unary_of unop old))
       (with_operand name index) as_is (onto site nothing)
   unfolding effect_of

@@ -15,7 +15,7 @@ use Rattle.wap_execution.specs.Actions.{action_of}
 use Rattle.wap_coding.specs.Needs.{Variable, Operator, expr_needs_by, Need, expr_needs}
 use Rattle.wap_coding.specs.Needs.{declared_needs, optional_needs, stmt_needs_by}
 use Rattle.wap_coding.specs.Needs.{stmt_needs}
-use Rattle.wap_meaning.specs.Expressions.{assigned, eval_by, Around, eval}
+use Rattle.wap_meaning.specs.Expressions.{assigned, stepped, step_of, eval_by, Around, eval}
 use Rattle.wap_meaning.specs.Statements.{dropped, Ending, goes_on, declared, run_by_part}
 use Rattle.wap_meaning.specs.Statements.{run, test_of, update_of, loop}
 use Rattle.wap_coding.specs.Statements.{writes, changed_code, effect_code, stmt_code_by, stmt_code}
@@ -25,6 +25,7 @@ use Rattle.wap_coding.specs.Coded.{Exits, with_operand, Coded, ◌⨾◌, empty,
 use Rattle.wap_statements.proofs.Adding.{adding_piece, spares}
 use Rattle.wap_statements.proofs.Statements.{leaves, Runs, empty_runs, runs_both, AllRun, all_run}
 use Rattle.wap_statements.proofs.Statements.{dropped_runs, declared_runs, empty_agrees}
+use Rattle.wap_statements.proofs.Statements.{assigned_runs, stepped_runs}
 use Rattle.wap_statements.proofs.Statements.{returned_runs, ended_runs, break_runs, continue_runs}
 use Rattle.wap_statements.proofs.Statements.{choice_runs}
 use Rattle.wap_program.specs.declared.statement.Stmt.{Stmt, roll-Stmt, map-Stmt}
@@ -34,7 +35,7 @@ use Rattle.wap_meaning.specs.Parts.{Came, gave, over, Does, from, give, done}
 use Rattle.wap_meaning.specs.Names.{variable_at}
 use Rattle.std.specs.Prelude.{if◌then◌else◌}
 use Rattle.wap_coding.specs.Constants.{Numbers}
-use Rattle.wap_coding.specs.Expressions.{expr_code}
+use Rattle.wap_coding.specs.Expressions.{store_code, change_name, expr_code}
 use Rattle.wap_meaning.proofs.Following.{keeps_both}
 use Rattle.wap_pieces.proofs.Pieces.{sized_both, Site, spot, onto, Piece}
 use Rattle.wap_pieces.proofs.Instructions.{as_is, nothing}
@@ -136,13 +137,48 @@ module _ {S : Type 0} (site : Site S) (numbers : Numbers)
       by true writes = dropped_runs site (eval here e) (expr_code numbers e) (expr_agrees e met)
       by false writes = adding_agrees v binop name right e acts is writes met
 
+  -- `x = e`
+  taken_runs : (v : Id) (right e : Expr) → roll-Expr (Expr-F.Assign v None right) ≡ e
+      → IsMet (expr_needs e)
+      → Runs site (dropped (eval here e))
+      (expr_code numbers right ⨾ store_code (variable_at numbers.names v))
+  unfolding eval expr_needs
+  taken_runs v right e is met =
+      let index = variable_at numbers.names v in
+      let needs : expr_needs e ≡ Variable v ∷ expr_needs right =
+      ap expr_needs (sym is)
+      ∙ fold-roll-Expr (List Need) expr_needs_by (Expr-F.Assign v None right) in
+      let met' : IsMet (Variable v ∷ expr_needs right) = subst IsMet needs met in
+      let evals : assigned site.string index None (eval here right) ≡ eval here e =
+      sym (fold-roll-Expr (Does Value S) (eval_by here) (Expr-F.Assign v None right))
+      ∙ ap (eval here) is in
+      subst (λ (does : Does Value S). Runs site (dropped does)
+      (expr_code numbers right ⨾ store_code index)) evals
+      (assigned_runs site index (eval here right) (expr_code numbers right)
+      (expr_agrees right met'.1))
+
+  -- `x++`, `++x`, `x--` and `--x`
+  step_runs : (v : Id) (up prefix : Bool) (e : Expr) → roll-Expr (Expr-F.Step v up prefix) ≡ e
+      → Runs site (dropped (eval here e))
+      (with_operand (change_name up) (variable_at numbers.names v))
+  unfolding eval
+  step_runs v up prefix e is =
+      let index = variable_at numbers.names v in
+      let evals : stepped index (step_of up) prefix ≡ eval here e =
+      sym (fold-roll-Expr (Does Value S) (eval_by here) (Expr-F.Step v up prefix))
+      ∙ ap (eval here) is in
+      subst (λ (does : Does Value S). Runs site (dropped does)
+      (with_operand (change_name up) index)) evals (stepped_runs site index up prefix)
+
   -- an expression as a statement
   effect_runs : (x : Expr-F Expr) (e : Expr) → roll-Expr x ≡ e → IsMet (expr_needs e)
       → Runs site (dropped (eval here e)) (effect_code numbers x (expr_code numbers e))
+  effect_runs (Expr-F.Assign v None right) e is met = taken_runs v right e is met
   effect_runs (Expr-F.Assign v (Some bin.Add) right) e is met =
       changed_runs v bin.Add op.AddAsg right e refl is met
   effect_runs (Expr-F.Assign v (Some bin.Sub) right) e is met =
       changed_runs v bin.Sub op.SubAsg right e refl is met
+  effect_runs (Expr-F.Step v up prefix) e is met = step_runs v up prefix e is
   effect_runs _ e is met =
       dropped_runs site (eval here e) (expr_code numbers e) (expr_agrees e met)
 

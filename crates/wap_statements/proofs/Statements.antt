@@ -1,26 +1,35 @@
 -- Statements and their code agree, by the ways in which they are made.
-use Rattle.std.proofs.Common.{◌≡◌, ℕ, ◌+◌, ◌<◌, ◌≤◌, List, [], ◌∷◌, length, Some, None, refl, sym}
-use Rattle.std.proofs.Common.{ap, ◌∙◌, subst, arith, slice_get}
+use Rattle.std.proofs.Common.{◌≡◌, ℕ, ◌+◌, ◌<◌, ◌≤◌, Bool, true, false, List, [], ◌∷◌, length, Some}
+use Rattle.std.proofs.Common.{None, refl, sym, ap, ◌∙◌, subst, arith, slice_get}
 use Rattle.std.specs.Prelude.{if◌then◌else◌}
 use Rattle.wap_value.specs.declared.value.Value.{Value}
 use Rattle.wap_value.specs.declared.value.Value.TheVariants.{Str}
+use Rattle.wap_value.specs.declared.operator.UnOp.{UnOp}
+use Rattle.wap_value.specs.declared.operator.UnOp.TheVariants as un
+use Rattle.wap_value.specs.Unary.{unary_of}
+use Rattle.wap_code.specs.declared.row.OpName.{OpName}
+use Rattle.wap_execution.specs.declared.action.Action.TheVariants.{ChangeVariable}
+use Rattle.wap_execution.specs.Actions.{action_of}
 use Rattle.wap_execution.specs.Effects.{jumps_at, effect_of}
 use Rattle.wap_execution.specs.Outcomes.{value, Ended}
 use Rattle.wap_execution.specs.Running.{ended}
-use Rattle.wap_meaning.specs.Parts.{Does, ◌>>=◌, done, give, store}
+use Rattle.wap_meaning.specs.Parts.{Came, Does, ◌>>=◌, done, give, load, store}
+use Rattle.wap_meaning.specs.Expressions.{assigned, stepped, step_of}
 use Rattle.wap_meaning.specs.Statements.{Ending, goes_on, breaks, continues, returns, if_goes_on}
 use Rattle.wap_meaning.specs.Statements.{and_then, in_order, dropped}
-use Rattle.wap_coding.specs.Coded.{Exits, Coded, empty, one, ◌⨾◌, instr, plain, all_code}
-use Rattle.wap_coding.specs.Expressions.{store_code}
+use Rattle.wap_coding.specs.Coded.{Exits, Coded, empty, one, ◌⨾◌, instr, plain, with_operand}
+use Rattle.wap_coding.specs.Coded.{all_code}
+use Rattle.wap_coding.specs.Expressions.{store_code, change_name}
 use Rattle.wap_coding.specs.Statements.{exit_form, dropped_code}
 use Rattle.wap_meaning.proofs.Following.{from_done, from_done_where, keeps_both, lessened}
-use Rattle.wap_meaning.specs.Keeping.{Keeps}
+use Rattle.wap_meaning.specs.Keeping.{Lessens, Keeps}
 use Rattle.wap_pieces.proofs.Pieces.{front, behind, Sized, sized_both, Site, spot, After, onto}
 use Rattle.wap_pieces.proofs.Pieces.{Reaches, nearer, Piece, both, op_here, op_piece}
 use Rattle.wap_pieces.proofs.Instructions.{as_is, pushed, nothing, store_piece}
+use Rattle.wap_pieces.proofs.Parts.{from_same, from_from, piece_same, change_piece}
 use Rattle.wap_pieces.proofs.Jumps.{HasLabel, jump_here, Shifts, branches, branches_piece}
 use Rattle.wap_agreement.proofs.Agreeing.{Agrees, choice_keeps, sized_branches}
-use Rattle.wap_meaning.proofs.Steps.{give_keeps, store_keeps}
+use Rattle.wap_meaning.proofs.Steps.{give_keeps, load_keeps, store_keeps}
 use Rattle.wap_code.specs.declared.row.OpName.TheVariants as op
 
 module _ {S : Type 0} (site : Site S) where
@@ -173,6 +182,87 @@ module _ {S : Type 0} (site : Site S) where
     piece = both site does (λ v. store index v >>= λ _. give goes_on) coded (store_code index)
         as_is pushed leaves agrees.sized agrees.falls agrees.piece (stored_piece index);
   }
+
+  -- a part that comes to the same
+  runs_same : (does other : Does Ending S) (coded : Coded)
+      → ((variables : List Value) (turns : ℕ) (state : S)
+      → does variables turns state ≡ other variables turns state)
+      → Runs does coded → Runs other coded
+  runs_same does other coded same runs = record {
+    sized = runs.sized;
+    falls = λ variables turns state.
+        subst (λ (came : Came Ending S). Lessens variables turns came) (same variables turns state)
+        (runs.falls variables turns state);
+    piece = piece_same site does other coded as_is leaves same runs.piece;
+  }
+
+  -- an assignment whose value is dropped: it is stored, and not loaded again
+  pub assigned_runs : (index : ℕ) (right : Does Value S) (coded : Coded) → Agrees site right coded
+      → Runs (dropped (assigned site.string index None right)) (coded ⨾ store_code index)
+  assigned_runs index right coded agrees =
+      runs_same (right >>= λ v. store index v >>= λ _. give goes_on)
+      (dropped (assigned site.string index None right)) (coded ⨾ store_code index)
+      (λ variables turns state. sym
+      (from_from (right variables turns state) (λ v. store index v >>= λ _. give v)
+      (λ _. give goes_on)
+      ∙ from_same (right variables turns state)
+      (λ v. (store index v >>= λ _. give v) >>= λ _. give goes_on)
+      (λ v. store index v >>= λ _. give goes_on)
+      (λ v vs left later. from_from (store index v vs left later) (λ _. give v)
+      (λ _. give goes_on))))
+      (declared_runs index right coded agrees)
+
+  -- a step, and the next statement follows
+  change_runs : (index : ℕ) (name : OpName) (unop : UnOp)
+      → action_of name ≡ ChangeVariable unop
+      → Runs ((load index >>= λ old. store index (unary_of unop old)) >>= λ _. give goes_on)
+      (with_operand name index)
+  change_runs index name unop acts = record {
+    sized = λ exits i. refl;
+    falls = keeps_both (load index >>= λ old. store index (unary_of unop old)) (λ _. give goes_on)
+        (keeps_both (load index) (λ old. store index (unary_of unop old)) (load_keeps index)
+        (λ old. store_keeps index (unary_of unop old))) (λ _. give_keeps goes_on);
+    piece = record {
+      follows = λ exits i reach holds variables fits operands turns state.
+          (change_piece site index name unop acts).follows exits i reach holds variables fits
+          operands turns state
+          ∙ from_done ((load index >>= λ old. store index (unary_of unop old)) variables turns
+          state) (λ _. give goes_on) (onto site nothing exits (i + 1) operands)
+          (leaves exits (i + 1) operands) (λ _ vs left later. refl);
+    };
+  }
+
+  -- a step whose value is dropped: it isn't loaded
+  stepped_same : (index : ℕ) (unop : UnOp) (prefix : Bool) (variables : List Value) (turns : ℕ)
+      (state : S)
+      → ((load index >>= λ old. store index (unary_of unop old)) >>= λ _. give goes_on) variables
+      turns state
+      ≡ dropped (stepped index unop prefix) variables turns state
+  stepped_same index unop prefix variables turns state =
+      let which : Value → Value = λ old. if prefix then unary_of unop old else old in
+      from_from (load index variables turns state) (λ old. store index (unary_of unop old))
+      (λ _. give goes_on)
+      ∙ from_same (load index variables turns state)
+      (λ old. store index (unary_of unop old) >>= λ _. give goes_on)
+      (λ old. (store index (unary_of unop old) >>= λ _. give (which old)) >>= λ _. give goes_on)
+      (λ old vs left later. sym (from_from (store index (unary_of unop old) vs left later)
+      (λ _. give (which old)) (λ _. give goes_on)))
+      ∙ sym (from_from (load index variables turns state)
+      (λ old. store index (unary_of unop old) >>= λ _. give (which old)) (λ _. give goes_on))
+
+  -- up or down
+  pub stepped_runs : (index : ℕ) (up prefix : Bool)
+      → Runs (dropped (stepped index (step_of up) prefix)) (with_operand (change_name up) index)
+  stepped_runs index true prefix =
+      runs_same
+      ((load index >>= λ old. store index (unary_of un.Incr old)) >>= λ _. give goes_on)
+      (dropped (stepped index un.Incr prefix)) (with_operand op.IncrVar index)
+      (stepped_same index un.Incr prefix) (change_runs index op.IncrVar un.Incr refl)
+  stepped_runs index false prefix =
+      runs_same
+      ((load index >>= λ old. store index (unary_of un.Decr old)) >>= λ _. give goes_on)
+      (dropped (stepped index un.Decr prefix)) (with_operand op.DecrVar index)
+      (stepped_same index un.Decr prefix) (change_runs index op.DecrVar un.Decr refl)
 
   -- the empty text
   pub empty_agrees : Agrees site (give (Str [])) (plain op.ConstEs)

@@ -349,10 +349,35 @@ module _ (unit : CodeUnit) (numbers : Numbers) (forms : List Form) where
       ∙ fold-roll-Expr (List Need) expr_needs_by (Expr-F.Assign v (Some binop) right) in
       subst Met needs met
 
+  -- and so it is without an operator
+  taken_met : (v : Id) (right e : Expr) → roll-Expr (Expr-F.Assign v None right) ≡ e
+      → Met (expr_needs e) → Met (Variable v ∷ expr_needs right)
+  unfolding expr_needs
+  taken_met v right e is met =
+      let needs : expr_needs e ≡ Variable v ∷ expr_needs right =
+      ap expr_needs (sym is)
+      ∙ fold-roll-Expr (List Need) expr_needs_by (Expr-F.Assign v None right) in
+      subst Met needs met
+
+  -- what meets the needs of a step meets that of its variable
+  step_met : (v : Id) (up prefix : Bool) (e : Expr) → roll-Expr (Expr-F.Step v up prefix) ≡ e
+      → Met (expr_needs e) → Met (Variable v ∷ [])
+  unfolding expr_needs
+  step_met v up prefix e is met =
+      let needs : expr_needs e ≡ Variable v ∷ [] =
+      ap expr_needs (sym is)
+      ∙ fold-roll-Expr (List Need) expr_needs_by (Expr-F.Step v up prefix) in
+      subst Met needs met
+
   -- an expression as a statement
   effect_tied : (x : Expr-F Expr) (e : Expr) → roll-Expr x ≡ e → Met (expr_needs e)
       → Tied (effect_code numbers x (expr_code numbers e))
   unfolding operation_of
+  effect_tied (Expr-F.Assign v None right) e is met =
+      let index = variable_at numbers.names v in
+      let parts = taken_met v right e is met in
+      both (expr_code numbers right) (store_code index) (expr_tied right parts.1)
+      (store_tied index parts.0)
   effect_tied (Expr-F.Assign v (Some bin.Add) right) e is met =
       let parts = parts_met v bin.Add right e is met in
       changed_tied (variable_at numbers.names v) op.AddAsg right (expr_code numbers e) (refl, refl)
@@ -361,6 +386,8 @@ module _ (unit : CodeUnit) (numbers : Numbers) (forms : List Form) where
       let parts = parts_met v bin.Sub right e is met in
       changed_tied (variable_at numbers.names v) op.SubAsg right (expr_code numbers e) (refl, refl)
       parts.0 (expr_tied right parts.1.1) (expr_tied e met)
+  effect_tied (Expr-F.Step v up prefix) e is met =
+      change_tied up (variable_at numbers.names v) (step_met v up prefix e is met).0
   effect_tied _ e is met = dropped_tied (expr_code numbers e) (expr_tied e met)
 
   -- where its needs are met, it is so of a statement
