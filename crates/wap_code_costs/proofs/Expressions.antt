@@ -249,7 +249,7 @@ module _ (here : Place) where
       (costs_both false (store_code a) (load_code a) 2 2 (store_costs a less)
       (load_costs a less)))))
 
-  change_costs : (up : Bool) (a : ℕ) → a < 256
+  pub change_costs : (up : Bool) (a : ℕ) → a < 256
       → Costs false (with_operand (change_name up) a) 2
   unfolding wide_size operation_of longest
   change_costs true a less = costs_op false (instr op.IncrVar a 0 0) 2 (byte_fits a less) refl

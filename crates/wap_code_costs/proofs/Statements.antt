@@ -1,5 +1,5 @@
 -- A statement of a program whose names are known: the unit has what it needs, and its code costs
--- what the wide size says. By induction on trees.
+-- what the wide size says but for what it saves. By induction on trees.
 use Rattle.std.proofs.Common.{◌≡◌, ℕ, ◌+◌, ◌<◌, Bool, true, false, cond, List, [], ◌∷◌}
 use Rattle.std.proofs.Common.{Option, Some, None, map, refl, sym, ap, ◌∙◌, subst, arith}
 use Rattle.std.specs.List.{AllByRecursion, flat_map, sum, sum_by}
@@ -30,15 +30,17 @@ use Rattle.wap_coding.specs.Expressions.{store_code, expr_code}
 use Rattle.wap_coding.specs.Statements.{writes, dropped_code, changed_code, effect_code}
 use Rattle.wap_coding.specs.Statements.{declared_code, branch_code, if_code, exit_form, test_code}
 use Rattle.wap_coding.specs.Statements.{loop_code, update_code, stmt_code_by, stmt_code}
-use Rattle.wap_compiled.specs.Wide.{expr_wide_by, expr_wide, effect_wide, effect_wide_if}
-use Rattle.wap_compiled.specs.Wide.{declared_wide, loop_wide, stmt_wide_by, stmt_wide}
+use Rattle.wap_compiled.specs.Wide.{expr_wide_by, expr_wide, declared_wide, loop_wide}
 use Rattle.wap_code_costs.proofs.Each.{each_front, each_back, each_of}
 use Rattle.wap_code_costs.proofs.Costs.{Fits, cost, Allowed, Costs, costs_both, costs_same}
 use Rattle.wap_code_costs.proofs.Costs.{costs_one}
 use Rattle.wap_code_costs.proofs.Costs.{costs_op, costs_empty, costs_label, costs_test}
 use Rattle.wap_code_costs.proofs.Costs.{costs_before, costs_anywhere, costs_within, byte_fits}
 use Rattle.wap_code_costs.proofs.Expressions.{Place, numbers, Known, Given, Good, met_both}
-use Rattle.wap_code_costs.proofs.Expressions.{store_costs, variable_fits, cond_costs, expr_good}
+use Rattle.wap_code_costs.proofs.Expressions.{store_costs, change_costs, variable_fits, cond_costs}
+use Rattle.wap_code_costs.proofs.Expressions.{expr_good}
+use Rattle.wap_code_costs.proofs.Saving.{effect_cost_by, effect_cost, effect_cost_if, stmt_cost_by}
+use Rattle.wap_code_costs.proofs.Saving.{stmt_cost}
 
 module _ (here : Place) where
   -- what is said can be coded
@@ -95,12 +97,12 @@ module _ (here : Place) where
   sub_costs a less = costs_op false (instr op.SubAsg a 0 0) 8 (byte_fits a less) refl
 
   -- what an assignment names and needs, and its size, are those of its variable and its right side
-  named_parts : (v : Id) (o : BinOp) (right e : Expr)
-      → roll-Expr (Expr-F.Assign v (Some o) right) ≡ e → references e ≡ named v ∷ references right
+  named_parts : (v : Id) (o : Option BinOp) (right e : Expr)
+      → roll-Expr (Expr-F.Assign v o right) ≡ e → references e ≡ named v ∷ references right
   unfolding references
   named_parts v o right e is =
       ap references (sym is)
-      ∙ fold-roll-Expr (List Reference) references_by (Expr-F.Assign v (Some o) right)
+      ∙ fold-roll-Expr (List Reference) references_by (Expr-F.Assign v o right)
 
   needed_parts : (v : Id) (o : BinOp) (right e : Expr)
       → roll-Expr (Expr-F.Assign v (Some o) right) ≡ e
@@ -123,9 +125,9 @@ module _ (here : Place) where
       → ((a : ℕ) → a < 256 → Costs false (with_operand name a) 8)
       → Costs false (expr_code (numbers here) e) (expr_wide e)
       → Costs false (changed_code (numbers here) (variable_at (numbers here).names v) name right
-      (expr_code (numbers here) e)) (effect_wide e)
+      (expr_code (numbers here) e)) (expr_wide e + 1)
   assign_costs name v o right e is known given own costs =
-      let names = subst (AllByRecursion (Known here)) (named_parts v o right e is) known in
+      let names = subst (AllByRecursion (Known here)) (named_parts v (Some o) right e is) known in
       let needs = subst (AllByRecursion (Given here)) (needed_parts v o right e is) given in
       let size = sized_parts v o right e is in
       let a = variable_at (numbers here).names v in
@@ -136,26 +138,60 @@ module _ (here : Place) where
       (changed_costs name a right whole (expr_wide right) (own a (variable_fits here v names.0))
       rights.1 (costs_same false whole (expr_wide e) (expr_wide right + 7) size costs))
 
+  -- an assignment without operator needs its variable, and what its right side needs
+  taken_needs : (v : Id) (right e : Expr) → roll-Expr (Expr-F.Assign v None right) ≡ e
+      → expr_needs e ≡ Variable v ∷ expr_needs right
+  unfolding expr_needs
+  taken_needs v right e is =
+      ap expr_needs (sym is)
+      ∙ fold-roll-Expr (List Need) expr_needs_by (Expr-F.Assign v None right)
+
+  -- such an assignment
+  taken_costs : (v : Id) (right e : Expr) → roll-Expr (Expr-F.Assign v None right) ≡ e
+      → AllByRecursion (Known here) (references e) → AllByRecursion (Given here) (expr_needs e)
+      → Costs false (expr_code (numbers here) right
+      ⨾ store_code (variable_at (numbers here).names v)) (expr_wide right + 2)
+  taken_costs v right e is known given =
+      let names = subst (AllByRecursion (Known here)) (named_parts v None right e is) known in
+      let needs = subst (AllByRecursion (Given here)) (taken_needs v right e is) given in
+      let a = variable_at (numbers here).names v in
+      costs_both false (expr_code (numbers here) right) (store_code a) (expr_wide right) 2
+      (expr_good here right names.1 needs.1).1 (store_costs here a (variable_fits here v names.0))
+
+  -- a step names its variable
+  stepped_names : (v : Id) (up prefix : Bool) (e : Expr) → roll-Expr (Expr-F.Step v up prefix) ≡ e
+      → references e ≡ named v ∷ []
+  unfolding references
+  stepped_names v up prefix e is =
+      ap references (sym is)
+      ∙ fold-roll-Expr (List Reference) references_by (Expr-F.Step v up prefix)
+
   effect_costs : (x : Expr-F Expr) (e : Expr) → roll-Expr x ≡ e
       → AllByRecursion (Known here) (references e) → AllByRecursion (Given here) (expr_needs e)
       → Costs false (expr_code (numbers here) e) (expr_wide e)
-      → Costs false (effect_code (numbers here) x (expr_code (numbers here) e)) (effect_wide e)
+      → Costs false (effect_code (numbers here) x (expr_code (numbers here) e))
+      (effect_cost_by x (expr_wide e))
+  effect_costs (Expr-F.Assign v None right) e is known given costs =
+      taken_costs v right e is known given
   effect_costs (Expr-F.Assign v (Some bin.Add) right) e is known given costs =
       assign_costs op.AddAsg v bin.Add right e is known given add_costs costs
   effect_costs (Expr-F.Assign v (Some bin.Sub) right) e is known given costs =
       assign_costs op.SubAsg v bin.Sub right e is known given sub_costs costs
+  effect_costs (Expr-F.Step v up prefix) e is known given costs =
+      let names = subst (AllByRecursion (Known here)) (stepped_names v up prefix e is) known in
+      change_costs here up (variable_at (numbers here).names v) (variable_fits here v names.0)
   effect_costs _ e is known given costs =
       dropped_costs (expr_code (numbers here) e) (expr_wide e) costs
 
   effect_good : (inside : Bool) (e : Expr) → AllByRecursion Codable (refers e)
       → AllByRecursion (Given here) (expr_needs e)
       → Good here inside (expr_needs e)
-      (effect_code (numbers here) (out-Expr e) (expr_code (numbers here) e)) (effect_wide e)
+      (effect_code (numbers here) (out-Expr e) (expr_code (numbers here) e)) (effect_cost e)
   effect_good inside e known given =
       let good = part_good e known given in (
         good.0,
         costs_anywhere inside
-            (effect_code (numbers here) (out-Expr e) (expr_code (numbers here) e)) (effect_wide e)
+            (effect_code (numbers here) (out-Expr e) (expr_code (numbers here) e)) (effect_cost e)
             (effect_costs (out-Expr e) e (roll-out-Expr e)
             (each_of Codable Refers (references e) known) given good.1),
       )
@@ -262,7 +298,7 @@ module _ (here : Place) where
   update_good : (inside : Bool) (update : Option Expr) → AllByRecursion Codable (refers_if update)
       → AllByRecursion (Given here) (optional_needs update)
       → Good here inside (optional_needs update) (update_code (numbers here) update)
-      (effect_wide_if update)
+      (effect_cost_if update)
   update_good inside None known given = (tt, costs_empty inside)
   update_good inside (Some e) known given = effect_good inside e known given
 
@@ -288,7 +324,7 @@ module _ (here : Place) where
   abbrev Claim : Stmt → Type 0
   Claim s = (inside : Bool) → AllByRecursion Codable (mentions s inside)
       → AllByRecursion (Given here) (stmt_needs s)
-      → Good here inside (stmt_needs s) (stmt_code (numbers here) s) (stmt_wide s)
+      → Good here inside (stmt_needs s) (stmt_code (numbers here) s) (stmt_cost s)
 
   -- a statement of which it is so
   abbrev Part : Type 0
@@ -302,7 +338,7 @@ module _ (here : Place) where
       (map mentions (trees ss)))
       → AllByRecursion (Given here) (flat_map (λ (ns : List Need). ns) (map stmt_needs (trees ss)))
       → Good here inside (flat_map (λ (ns : List Need). ns) (map stmt_needs (trees ss)))
-      (all_code (map (stmt_code (numbers here)) (trees ss))) (sum (map stmt_wide (trees ss)))
+      (all_code (map (stmt_code (numbers here)) (trees ss))) (sum (map stmt_cost (trees ss)))
   block_good inside [] known given = (tt, costs_empty inside)
   block_good inside (s ∷ ss) known given =
       let good = s.1 inside (each_front Codable (mentions s.0 inside) _ known)
@@ -312,10 +348,10 @@ module _ (here : Place) where
       let codes = all_code (map (stmt_code (numbers here)) (trees ss)) in (
         met_both here (stmt_needs s.0) _ good.0 more.0,
         costs_same inside (stmt_code (numbers here) s.0 ⨾ codes)
-            (stmt_wide s.0 + sum (map stmt_wide (trees ss))) (sum (map stmt_wide (trees (s ∷ ss))))
-            (sym (sum_by-cons (λ (n : ℕ). n) (stmt_wide s.0) (map stmt_wide (trees ss))))
-            (costs_both inside (stmt_code (numbers here) s.0) codes (stmt_wide s.0)
-            (sum (map stmt_wide (trees ss))) good.1 more.1),
+            (stmt_cost s.0 + sum (map stmt_cost (trees ss))) (sum (map stmt_cost (trees (s ∷ ss))))
+            (sym (sum_by-cons (λ (n : ℕ). n) (stmt_cost s.0) (map stmt_cost (trees ss))))
+            (costs_both inside (stmt_code (numbers here) s.0) codes (stmt_cost s.0)
+            (sum (map stmt_cost (trees ss))) good.1 more.1),
       )
 
   -- it is so of a statement by its parts
@@ -325,11 +361,11 @@ module _ (here : Place) where
       → AllByRecursion (Given here) (stmt_needs_by (map-Stmt Stmt (List Need) stmt_needs x))
       → Good here inside (stmt_needs_by (map-Stmt Stmt (List Need) stmt_needs x))
       (stmt_code_by (numbers here) (map-Stmt Stmt Coded (stmt_code (numbers here)) x))
-      (stmt_wide_by (map-Stmt Stmt ℕ stmt_wide x))
+      (stmt_cost_by (map-Stmt Stmt ℕ stmt_cost x))
 
   -- a statement of which it is so by its parts
   rolled : (x : Stmt-F Stmt) → Layer x → Claim (roll-Stmt x)
-  unfolding stmt_code stmt_needs mentions stmt_wide
+  unfolding stmt_code stmt_needs mentions stmt_cost
   rolled x layer inside known given =
       let needs = fold-roll-Stmt (List Need) stmt_needs_by x in
       let said = ap (λ (m : Bool → List Mention). m inside)
@@ -337,12 +373,12 @@ module _ (here : Place) where
       let good = layer inside (subst (AllByRecursion Codable) said known)
       (subst (AllByRecursion (Given here)) needs given) in (
         subst (AreMet here.unit (numbers here)) (sym needs) good.0,
-        subst (λ (coded : Coded). Costs inside coded (stmt_wide (roll-Stmt x)))
+        subst (λ (coded : Coded). Costs inside coded (stmt_cost (roll-Stmt x)))
             (sym (fold-roll-Stmt Coded (stmt_code_by (numbers here)) x))
             (costs_same inside
             (stmt_code_by (numbers here) (map-Stmt Stmt Coded (stmt_code (numbers here)) x))
-            (stmt_wide_by (map-Stmt Stmt ℕ stmt_wide x)) (stmt_wide (roll-Stmt x))
-            (sym (fold-roll-Stmt ℕ stmt_wide_by x)) good.1),
+            (stmt_cost_by (map-Stmt Stmt ℕ stmt_cost x)) (stmt_cost (roll-Stmt x))
+            (sym (fold-roll-Stmt ℕ stmt_cost_by x)) good.1),
       )
 
   -- every construct
@@ -365,8 +401,8 @@ module _ (here : Place) where
       (each_back (Given here) (expr_needs c) _ given)) in (
         met_both here (expr_needs c) _ cs.0 (met_both here (stmt_needs s.0) [] first.0 tt),
         costs_both inside (expr_code (numbers here) c) (branch_code (stmt_code (numbers here) s.0))
-            (expr_wide c) (stmt_wide s.0 + 3) cs.1
-            (branch_costs inside (stmt_code (numbers here) s.0) (stmt_wide s.0) first.1),
+            (expr_wide c) (stmt_cost s.0 + 3) cs.1
+            (branch_costs inside (stmt_code (numbers here) s.0) (stmt_cost s.0) first.1),
       )
   layers (Stmt-F.If c s (Some other)) inside known given =
       let rest_known = each_back Codable (refers c) _ known in
@@ -381,11 +417,11 @@ module _ (here : Place) where
             (met_both here (stmt_needs s.0) (stmt_needs other.0) first.0 second.0),
         costs_same inside (if_code (expr_code (numbers here) c) (stmt_code (numbers here) s.0)
             (Some (stmt_code (numbers here) other.0)))
-            (expr_wide c + stmt_wide s.0 + stmt_wide other.0 + 6)
-            (expr_wide c + (stmt_wide s.0 + stmt_wide other.0 + 6)) (omega arith)
+            (expr_wide c + stmt_cost s.0 + stmt_cost other.0 + 6)
+            (expr_wide c + (stmt_cost s.0 + stmt_cost other.0 + 6)) (omega arith)
             (cond_costs here inside (expr_code (numbers here) c) (stmt_code (numbers here) s.0)
-            (stmt_code (numbers here) other.0) (expr_wide c) (stmt_wide s.0)
-            (stmt_wide other.0) cs.1
+            (stmt_code (numbers here) other.0) (expr_wide c) (stmt_cost s.0)
+            (stmt_cost other.0) cs.1
             first.1 second.1),
       )
   layers (Stmt-F.While c s) inside known given =
@@ -395,11 +431,11 @@ module _ (here : Place) where
       (each_back (Given here) (expr_needs c) _ given) in (
         met_both here (expr_needs c) _ test.0 body.0,
         costs_same inside (loop_code (test_code (numbers here) (Some c))
-            (stmt_code (numbers here) s.0) empty) (expr_wide c + 3 + stmt_wide s.0 + 0 + 3)
-            (stmt_wide s.0 + (expr_wide c + 6)) (omega arith)
+            (stmt_code (numbers here) s.0) empty) (expr_wide c + 3 + stmt_cost s.0 + 0 + 3)
+            (stmt_cost s.0 + (expr_wide c + 6)) (omega arith)
             (loop_costs inside (test_code (numbers here) (Some c))
             (stmt_code (numbers here) s.0) empty
-            (expr_wide c + 3) (stmt_wide s.0) 0 test.1 body.1 (costs_empty inside)),
+            (expr_wide c + 3) (stmt_cost s.0) 0 test.1 body.1 (costs_empty inside)),
       )
   layers (Stmt-F.For first c update s) inside known given =
       let known_1 = each_back Codable (mentions first.0 inside) _ known in
@@ -420,14 +456,14 @@ module _ (here : Place) where
             (met_both here (optional_needs c) _ test.0
             (met_both here (optional_needs update) _ updates.0 body.0)),
         costs_same inside (stmt_code (numbers here) first.0 ⨾ loop)
-            (stmt_wide first.0 + (test_wide c + stmt_wide s.0 + effect_wide_if update + 3))
-            (stmt_wide first.0 + stmt_wide s.0 + effect_wide_if update + loop_wide c)
-            (for_size c (stmt_wide first.0) (stmt_wide s.0) (effect_wide_if update))
-            (costs_both inside (stmt_code (numbers here) first.0) loop (stmt_wide first.0)
-            (test_wide c + stmt_wide s.0 + effect_wide_if update + 3) firsts.1
+            (stmt_cost first.0 + (test_wide c + stmt_cost s.0 + effect_cost_if update + 3))
+            (stmt_cost first.0 + stmt_cost s.0 + effect_cost_if update + loop_wide c)
+            (for_size c (stmt_cost first.0) (stmt_cost s.0) (effect_cost_if update))
+            (costs_both inside (stmt_code (numbers here) first.0) loop (stmt_cost first.0)
+            (test_wide c + stmt_cost s.0 + effect_cost_if update + 3) firsts.1
             (loop_costs inside (test_code (numbers here) c) (stmt_code (numbers here) s.0)
-            (update_code (numbers here) update) (test_wide c) (stmt_wide s.0)
-            (effect_wide_if update)
+            (update_code (numbers here) update) (test_wide c) (stmt_cost s.0)
+            (effect_cost_if update)
             test.1 body.1 updates.1)),
       )
   layers (Stmt-F.Break word) true known given = (tt, exit_costs (λ labels. labels.0))
@@ -453,7 +489,7 @@ module _ (here : Place) where
       → AllByRecursion Codable (flat_map (λ (s : Stmt). mentions s false) ss)
       → AllByRecursion (Given here) (flat_map stmt_needs ss)
       → Good here false (flat_map stmt_needs ss)
-      (all_code (map (stmt_code (numbers here)) ss)) (sum_by stmt_wide ss)
+      (all_code (map (stmt_code (numbers here)) ss)) (sum_by stmt_cost ss)
   body_good [] known given = (tt, costs_empty false)
   body_good (s ∷ ss) known given =
       let good = stmt_good s false (each_front Codable (mentions s false) _ known)
@@ -463,8 +499,8 @@ module _ (here : Place) where
       let codes = all_code (map (stmt_code (numbers here)) ss) in (
         met_both here (stmt_needs s) _ good.0 more.0,
         costs_same false (stmt_code (numbers here) s ⨾ codes)
-            (stmt_wide s + sum_by stmt_wide ss) (sum_by stmt_wide (s ∷ ss))
-            (sym (sum_by-cons stmt_wide s ss))
-            (costs_both false (stmt_code (numbers here) s) codes (stmt_wide s) (sum_by stmt_wide ss)
+            (stmt_cost s + sum_by stmt_cost ss) (sum_by stmt_cost (s ∷ ss))
+            (sym (sum_by-cons stmt_cost s ss))
+            (costs_both false (stmt_code (numbers here) s) codes (stmt_cost s) (sum_by stmt_cost ss)
             good.1 more.1),
       )

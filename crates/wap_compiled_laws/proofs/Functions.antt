@@ -1,11 +1,11 @@
 -- The functions of a program: what they need is there, their code may be placed and has the wide
 -- size but for what is saved, and so the unit is one that the program is compiled to.
-use Rattle.std.proofs.Common.{◌≡◌, ℕ, zero, suc, inl, inr, ◌+◌, ◌≤◌, ◌<◌, true, false, List, []}
-use Rattle.std.proofs.Common.{◌∷◌, ◌++◌}
+use Rattle.std.proofs.Common.{◌≡◌, ℕ, zero, suc, inl, inr, ◌+◌, ◌*◌, ◌≤◌, ◌<◌, true, false, List}
+use Rattle.std.proofs.Common.{[], ◌∷◌, ◌++◌}
 use Rattle.std.proofs.Common.{length, Option, Some, None, IsSomeAnd, IsTrue, map, refl, sym, ap}
 use Rattle.std.proofs.Common.{◌∙◌}
 use Rattle.std.proofs.Common.{subst, arith, slice_get, length-append, append_assoc}
-use Rattle.std.specs.List.{All, AllByRecursion, flat_map}
+use Rattle.std.specs.List.{All, AllByRecursion, flat_map, sum_by}
 use Rattle.std.specs.Option.{option_map, option_map_or}
 use Rattle.std.proofs.lemmas.List.{append-nil}
 use Rattle.std.proofs.lemmas.List.Elements.{recursion_from_All, filter_map-append}
@@ -44,10 +44,11 @@ use Rattle.wap_compiled.specs.Pool.{use_literals, function_literals, literals_ne
 use Rattle.wap_compiled.specs.Units.{forms_of, compiled_function, compiled}
 use Rattle.wap_compiled.specs.Wide.{function_wide}
 use Rattle.wap_compiled.specs.Accepted.{HasRoom}
-use Rattle.wap_compiled.specs.Savings.{saved}
+use Rattle.wap_compiled.specs.Savings.{saved, function_saves}
 use Rattle.wap_code_costs.proofs.Each.{each_front, each_back}
 use Rattle.wap_code_costs.proofs.Costs.{Fits, has_room, cost, both_costs, Costs}
 use Rattle.wap_code_costs.proofs.Expressions.{Place, numbers, Given}
+use Rattle.wap_code_costs.proofs.Saving.{stmt_cost, body_less}
 use Rattle.wap_code_costs.proofs.Statements.{body_good}
 
 -- ---- how many functions and variables there are
@@ -222,9 +223,9 @@ module _ (p : Program) (scoped : IsScoped p) (takes : AllTake p)
       (each_back P among.earlier (f ∷ among.later)
       (subst (AllByRecursion P) among.functions (recursion_from_All P p.functions all))).0
 
-  -- what its statements need is met, and they cost what the wide size says
+  -- what its statements need is met, and they cost what the wide size says but for what they save
   good : AreMet (compiled p) (numbers place) (flat_map stmt_needs f.body)
-      × Costs false (function_code (numbers_in p (pool p) f) f) (function_wide f)
+      × Costs false (function_code (numbers_in p (pool p) f) f) (sum_by stmt_cost f.body)
   unfolding place
   good =
       let said_all =
@@ -236,10 +237,20 @@ module _ (p : Program) (scoped : IsScoped p) (takes : AllTake p)
       (given place (flat_map stmt_needs f.body) (in_pool p f among)
       (one_of (λ (f : Function). AllByRecursion HasOperator (function_needs f)) takes))
 
-  -- the wide size is that of its forms, and what these save
-  pub wide_exact : function_wide f ≡ wide (forms_of p f) + saved (forms_of p f)
+  -- they cost the bytes of its forms, and what these save
+  forms_cost : sum_by stmt_cost f.body ≡ wide (forms_of p f) + saved (forms_of p f)
   unfolding forms_of
-  wide_exact = sym (good.1.costs None 0 tt) ∙ both_costs (forms_of p f)
+  forms_cost = sym (good.1.costs None 0 tt) ∙ both_costs (forms_of p f)
+
+  -- the wide size is that of its forms, with what these and its statements save
+  pub wide_exact : function_wide f ≡ wide (forms_of p f) + saved (forms_of p f) + function_saves f
+  wide_exact =
+      (body_less f.body).whole ∙ ap (λ (n : ℕ). n + function_saves f) forms_cost
+
+  -- its statements save no more than three bytes for two that are left
+  pub saves_few : function_saves f * 2 ≤ (wide (forms_of p f) + saved (forms_of p f)) * 3
+  saves_few =
+      subst (λ (n : ℕ). function_saves f * 2 ≤ n * 3) forms_cost (body_less f.body).few
 
   -- ---- its forms may be placed
 

@@ -17,7 +17,7 @@ use Rattle.wap_compiled.specs.Wide.{function_wide}
 use Rattle.wap_compiled.specs.Accepted.{IsSourceOf, IsAccepted}
 use Rattle.wap_compiled_laws.specs.Laws.{HasForms, HasCode, AgreeWithSources}
 use Rattle.wap_compiled_laws.proofs.Functions.{AllTake, Among, wide_exact, placeable, one_of}
-use Rattle.wap_compiled_laws.proofs.Functions.{compiled_is}
+use Rattle.wap_compiled_laws.proofs.Functions.{saves_few, compiled_is}
 use Rattle.wap_compiled_laws.proofs.Verified.{verified}
 
 -- the operators of a source's assignments take both values
@@ -37,6 +37,7 @@ forms source p is scoped few =
     all_functions p (HasForms p) (λ f among. record {
       placeable = placeable p scoped (all_take source p is) few f among;
       size = wide_exact p scoped (all_take source p is) few f among;
+      few = saves_few p scoped (all_take source p is) few f among;
     })
 
 pub code : (source : List ℕ) (p : Program) → IsAccepted source p → All (HasCode p) p.functions

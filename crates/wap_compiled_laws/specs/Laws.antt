@@ -1,5 +1,5 @@
 -- What holds of the units that programs are compiled to. This project's own.
-use Rattle.std.specs.Prelude.{◌≡◌, ℕ, ◌+◌, ◌≤◌, List, length, Option}
+use Rattle.std.specs.Prelude.{◌≡◌, ℕ, ◌+◌, ◌*◌, ◌≤◌, List, length, Option}
 use Rattle.wap_url.specs.declared.url.Url.{Url}
 use Rattle.wap_value.specs.declared.value.Value.{Value}
 use Rattle.wap_asm.specs.Placing.{wide}
@@ -12,15 +12,17 @@ use Rattle.wap_meaning.specs.Keeping.{GiveNoTurns}
 use Rattle.wap_compiled.specs.Units.{forms_of, compiled_function, compiled}
 use Rattle.wap_compiled.specs.Wide.{function_wide}
 use Rattle.wap_compiled.specs.Accepted.{IsAccepted}
-use Rattle.wap_compiled.specs.Savings.{saved}
+use Rattle.wap_compiled.specs.Savings.{saved, function_saves}
 
 -- the forms of a function
 pub record HasForms (p : Program) (f : Function) : Type 0 where
   -- they may be placed
   pub placeable : ArePlaceable (forms_of p f)
-  -- in their longest spellings, and with the bytes that ADD_ASG and SUB_ASG save, they have as many
-  -- bytes as the wide size of the function
-  pub size : function_wide f ≡ wide (forms_of p f) + saved (forms_of p f)
+  -- in their longest spellings, and with the bytes that ADD_ASG and SUB_ASG save and those that
+  -- statements save, they have as many bytes as the wide size of the function
+  pub size : function_wide f ≡ wide (forms_of p f) + saved (forms_of p f) + function_saves f
+  -- the statements save no more than three bytes for two that are left
+  pub few : function_saves f * 2 ≤ (wide (forms_of p f) + saved (forms_of p f)) * 3
 
 -- the code of a function
 pub record HasCode (p : Program) (f : Function) : Type 0 where

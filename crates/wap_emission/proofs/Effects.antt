@@ -21,17 +21,17 @@ use Rattle.wap_program.specs.declared.expression.Expr.TheVariants.{
   rolls-Library,
 }
 use Rattle.wap_program.specs.declared.statement.Stmt.TheVariants as stmt
-use Rattle.wap_coding.specs.Coded.{Coded}
+use Rattle.wap_coding.specs.Coded.{Coded, with_operand}
 use Rattle.wap_coding.specs.Constants.{Numbers}
-use Rattle.wap_coding.specs.Expressions.{expr_code}
+use Rattle.wap_coding.specs.Expressions.{change_name, expr_code}
 use Rattle.wap_coding.specs.Statements.{stmt_code, effect_code, dropped_code}
 use Rattle.wap_meaning.specs.Names.{variable_at}
-use Rattle.wap_emission.specs.inside.Loops.{change_of, named_code}
+use Rattle.wap_emission.specs.inside.Loops.{assignment_code}
 use Rattle.wap_emission.proofs.StatementParts.{of_value}
 
--- the operation of an assignment is chosen by its operator
+-- the code of an assignment is chosen by its operator
 named : (numbers : Numbers) (v : Id) (o : Option BinOp) (e : Expr) (whole : Coded)
-    → named_code numbers (variable_at numbers.names v) (change_of o) e whole
+    → assignment_code numbers (variable_at numbers.names v) o e whole
     ≡ effect_code numbers (Expr-F.Assign v o e) whole
 named numbers v None e whole = refl
 named numbers v (Some bin.Add) e whole = refl
@@ -73,7 +73,7 @@ module _ (numbers : Numbers) (e : Expr) where
       ∙ sym (of_value numbers e)
 
   pub of_assignment : (v : Id) (o : Option BinOp) (right : Expr) → e ≡ expr.Assign v o right
-      → named_code numbers (variable_at numbers.names v) (change_of o) right whole ≡ effect
+      → assignment_code numbers (variable_at numbers.names v) o right whole ≡ effect
   of_assignment v o right is =
       named numbers v o right whole
       ∙ by_form (expr.Assign v o right) (Expr-F.Assign v o right) is
@@ -88,7 +88,7 @@ module _ (numbers : Numbers) (e : Expr) where
       (ap out-Expr (sym (rolls-Var v)) ∙ out-roll-Expr (Expr-F.Var v))
 
   pub of_step : (v : Id) (up before : Bool) → e ≡ expr.Step v up before
-      → dropped_code whole ≡ effect
+      → with_operand (change_name up) (variable_at numbers.names v) ≡ effect
   of_step v up before is = by_form (expr.Step v up before) (Expr-F.Step v up before) is
       (ap out-Expr (sym (rolls-Step v up before)) ∙ out-roll-Expr (Expr-F.Step v up before))
 

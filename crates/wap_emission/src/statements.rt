@@ -1,20 +1,22 @@
 //! The code of statements.
 ghost use Rattle.std.specs.Prelude.{◌≡◌, ◌++◌, [], ◌∷◌, map, IfOk, OnOk, None};
 ghost use Rattle.std.specs.Option.{option_copied};
-ghost use Rattle.wap_coding.specs.Coded.{all_code};
+ghost use Rattle.wap_coding.specs.Coded.{all_code, ◌⨾◌};
 ghost use Rattle.wap_coding.specs.Statements.{stmt_code, declared_code};
 ghost use Rattle.wap_coding.specs.Statements.{dropped_code, changed_code, test_code, loop_code};
 ghost use Rattle.wap_coding.specs.Statements.{update_code};
 ghost use Rattle.wap_coding.specs.Compiled.{function_code};
 ghost use Rattle.wap_emission.specs.inside.Adding.{Adds, Extends};
 ghost use Rattle.wap_program.specs.declared.statement.Stmt.TheVariants as stmt;
-ghost use Rattle.wap_coding.specs.Expressions.{expr_code};
+ghost use Rattle.wap_coding.specs.Expressions.{expr_code, store_code};
 ghost use Rattle.wap_emission.specs.inside.Exits.{exits_in};
 ghost use Rattle.wap_emission.specs.inside.Loops.{Tests, closed, change_of, named_code, exit_at};
+ghost use Rattle.wap_emission.specs.inside.Loops.{assignment_code};
 
 use crate::exits::{BREAK, CONTINUE, redirect};
 use crate::expressions::add_expression;
 use crate::forms::{add, add_label, add_plain, add_with, close, open};
+use crate::operators::change_name;
 use crate::writing::writes;
 use std::alloc::Global;
 use wap_asm::Form;
@@ -109,8 +111,8 @@ fn add_changed(
     add_with(forms, name, place)
 }
 
-/// Adds the code of an assignment that is a statement.
-fn add_assigned(
+/// Adds the code of an assignment that is a statement and has an operator.
+fn add_operated(
     alloc: Global,
     numbering: &Numbering,
     forms: &mut Vec<Form>,
@@ -128,6 +130,43 @@ fn add_assigned(
     }
 }
 
+/// Adds the code of a value that a variable takes.
+fn add_taken(
+    alloc: Global,
+    numbering: &Numbering,
+    forms: &mut Vec<Form>,
+    place: usize,
+    value: &Expr,
+) -> Result<(), NoMemory>
+    ensures { OnOk result (Extends (expr_code numbering.now value.now ⨾ store_code place)
+        forms.old.items forms.new.items) }
+{
+    add_expression(alloc, numbering, forms, value)?;
+    add_with(forms, OpName::StoreVar, place)
+}
+
+/// Adds the code of an assignment that is a statement.
+fn add_assigned(
+    alloc: Global,
+    numbering: &Numbering,
+    forms: &mut Vec<Form>,
+    place: usize,
+    operator: Option<BinOp>,
+    value: &Expr,
+    whole: &Expr,
+) -> Result<(), NoMemory>
+    ensures { OnOk result (Extends (assignment_code numbering.now place operator value.now
+        (expr_code numbering.now whole.now)) forms.old.items forms.new.items) }
+{
+    match operator {
+        None => add_taken(alloc, numbering, forms, place, value),
+        Some(operator) => {
+            let name = change_of(Some(operator));
+            add_operated(alloc, numbering, forms, place, name, value, whole)
+        }
+    }
+}
+
 /// Adds the code of an expression that is a statement.
 fn add_effect(
     alloc: Global,
@@ -141,20 +180,19 @@ fn add_effect(
     match expression {
         Expr::Assign(variable, operator, value) => {
             let place = numbering.variable(variable);
-            let name = change_of(*operator);
             add_assigned(
                 alloc,
                 numbering,
                 forms,
                 place,
-                name,
+                *operator,
                 value.get(),
                 expression,
             )
         }
         Expr::Lit(_) => add_dropped(alloc, numbering, forms, expression),
         Expr::Var(_) => add_dropped(alloc, numbering, forms, expression),
-        Expr::Step { .. } => add_dropped(alloc, numbering, forms, expression),
+        Expr::Step { id, up, .. } => add_with(forms, change_name(*up), numbering.variable(id)),
         Expr::Unary(..) => add_dropped(alloc, numbering, forms, expression),
         Expr::Chain(..) => add_dropped(alloc, numbering, forms, expression),
         Expr::Cond(..) => add_dropped(alloc, numbering, forms, expression),

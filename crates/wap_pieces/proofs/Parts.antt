@@ -178,7 +178,8 @@ module _ {S : Type 0} (site : Site S) where
   -- ---- steps
 
   -- a step of a variable
-  pub change_piece : (index : ℕ) (name : OpName) (unop : UnOp) → action_of name ≡ ChangeVariable unop
+  pub change_piece : (index : ℕ) (name : OpName) (unop : UnOp)
+      → action_of name ≡ ChangeVariable unop
       → Piece site (load index >>= λ old. store index (unary_of unop old))
       (with_operand name index) as_is (onto site nothing)
   unfolding effect_of

@@ -8,9 +8,9 @@ use Rattle.wap_code.specs.declared.row.OpName.TheVariants as op
 use Rattle.wap_asm.specs.declared.form.Form.{Form}
 use Rattle.wap_asm.specs.declared.form.Form.TheVariants.{Op, Jump}
 use Rattle.wap_program.specs.declared.expression.Expr.{Expr}
-use Rattle.wap_coding.specs.Coded.{Coded, instr}
+use Rattle.wap_coding.specs.Coded.{Coded, ◌⨾◌, instr}
 use Rattle.wap_coding.specs.Constants.{Numbers}
-use Rattle.wap_coding.specs.Expressions.{expr_code}
+use Rattle.wap_coding.specs.Expressions.{store_code, expr_code}
 use Rattle.wap_coding.specs.Statements.{dropped_code, changed_code}
 use Rattle.wap_emission.specs.inside.Adding.{Extends}
 
@@ -21,10 +21,16 @@ change_of (Some bin.Add) = Some op.AddAsg
 change_of (Some bin.Sub) = Some op.SubAsg
 change_of (Some _) = None
 
--- an assignment that is a statement, by that operation if there is one
+-- an assignment that is a statement and has an operator, by that operation if there is one
 abbrev pub named_code : Numbers → ℕ → Option OpName → Expr → Coded → Coded
 named_code numbers index None e whole = dropped_code whole
 named_code numbers index (Some name) e whole = changed_code numbers index name e whole
+
+-- an assignment that is a statement, by its operator if it has one
+abbrev pub assignment_code : Numbers → ℕ → Option BinOp → Expr → Coded → Coded
+assignment_code numbers index None e whole = expr_code numbers e ⨾ store_code index
+assignment_code numbers index (Some binop) e whole =
+    named_code numbers index (change_of (Some binop)) e whole
 
 -- the form of a `break` or `continue` in a loop, whose label isn't known yet, or outside of loops
 abbrev pub exit_at : Bool → ℕ → Form

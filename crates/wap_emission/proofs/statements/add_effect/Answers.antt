@@ -1,9 +1,9 @@
-use Rattle.std.proofs.Common.{◌∙◌, ap, Option}
-use Rattle.wap_code.specs.declared.row.OpName.{OpName}
+use Rattle.std.proofs.Common.{◌∙◌, ap}
 use Rattle.wap_program.specs.declared.expression.Expr.{Expr}
 use Rattle.wap_meaning.specs.Names.{variable_at}
-use Rattle.wap_coding.specs.Expressions.{expr_code}
-use Rattle.wap_emission.specs.inside.Loops.{change_of, named_code}
+use Rattle.wap_coding.specs.Coded.{with_operand}
+use Rattle.wap_coding.specs.Expressions.{change_name, expr_code}
+use Rattle.wap_emission.specs.inside.Loops.{assignment_code}
 use Rattle.wap_emission.proofs.Chaining.{after_same}
 use Rattle.wap_emission.proofs.Effects.{of_assignment, of_literal, of_variable, of_step, of_unary}
 use Rattle.wap_emission.proofs.Effects.{of_chain, of_choice, of_local, of_external, of_library}
@@ -12,14 +12,11 @@ use Rattle.wap_emission.proofs.statements.add_effect.Goals as goal
 pub returns-in-Assign : goal.returns-in-Assign
 returns-in-Assign c =
     after_same _ _ _ _ c.add_assigned.result
-    (ap (λ place. named_code c.args.numbering.now place c.change_of-name.result c.get.result.now
-    (expr_code c.args.numbering.now c.args.expression.now)) c.variable-place.ensures
-    ∙ ap (λ (name : Option OpName). named_code c.args.numbering.now
-    (variable_at c.args.numbering.now.names c.in-Assign.variable) name c.get.result.now
-    (expr_code c.args.numbering.now c.args.expression.now)) c.change_of-name.ensures
-    ∙ ap (λ (right : Expr). named_code c.args.numbering.now
-    (variable_at c.args.numbering.now.names c.in-Assign.variable)
-    (change_of c.in-Assign.operator) right
+    (ap (λ place. assignment_code c.args.numbering.now place c.in-Assign.operator
+    c.get.result.now (expr_code c.args.numbering.now c.args.expression.now))
+    c.variable-place.ensures
+    ∙ ap (λ (right : Expr). assignment_code c.args.numbering.now
+    (variable_at c.args.numbering.now.names c.in-Assign.variable) c.in-Assign.operator right
     (expr_code c.args.numbering.now c.args.expression.now)) c.get.ensures
     ∙ of_assignment c.args.numbering.now c.args.expression.now c.in-Assign.variable
     c.in-Assign.operator c.in-Assign.value c.in-Assign.is)
@@ -41,10 +38,12 @@ returns-in-Var c =
 
 pub returns-in-Step : goal.returns-in-Step
 returns-in-Step c =
-    after_same _ _ _ _ c.add_dropped-in-Step.result
-    (of_step c.args.numbering.now c.args.expression.now
+    after_same _ _ _ _ c.add_with.result
+    (ap (λ name. with_operand name c.variable.result) c.change_name.ensures
+    ∙ ap (λ place. with_operand (change_name c.in-Step.up) place) c.variable.ensures
+    ∙ of_step c.args.numbering.now c.args.expression.now
     c.in-Step.id c.in-Step.up c.in-Step.prefix c.in-Step.is)
-    c.add_dropped-in-Step.ensures
+    c.add_with.ensures
 
 pub returns-in-Unary : goal.returns-in-Unary
 returns-in-Unary c =
