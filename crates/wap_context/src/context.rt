@@ -124,7 +124,7 @@ impl Context {
         ensures { Acts (answer waiting v)
             (P.seen pages.old) (P.seen pages.new) self.old self.new result }
     {
-        let Waiting { machine, base } = waiting;
+        let (machine, base) = waiting.into_parts();
         let first = Rows::new(alloc);
         let mut lines = Rows::new(alloc);
         let went = self.go_on(alloc, pages, machine.answer(v), base, first, &mut lines)?;
@@ -141,7 +141,7 @@ impl Context {
         ensures { Acts (stop waiting)
             (P.seen pages.old) (P.seen pages.new) self.old self.new result }
     {
-        let Waiting { machine: _, base } = waiting;
+        let (_, base) = waiting.into_parts();
         let mut lines = Rows::new(alloc);
         let went = self.end_script(alloc, base, Outcome::Fatal(Fatal::Stopped), &mut lines)?;
         self.follow(alloc, pages, went, lines)
@@ -193,7 +193,7 @@ impl Context {
         ensures deck { result ≡ is_some self.now.deck }
     {
         self.keep_deck();
-        self.card().is_some()
+        self.deck.is_some()
     }
 
     /// The timer of the current card.

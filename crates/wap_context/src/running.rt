@@ -150,7 +150,9 @@ impl Context {
             Outcome::Done(_) => self.end_done(alloc, base, lines),
             Outcome::Exited(_) => self.end_done(alloc, base, lines),
             Outcome::Fatal(why) => self.end_failed(alloc, &why, lines),
-            Outcome::Asks(dialog, machine) => Ok(Went::Asks(dialog, Waiting { machine, base })),
+            Outcome::Asks(dialog, machine) => {
+                Ok(Went::Asks(dialog, Waiting::of(alloc, machine, base)?))
+            }
         }
     }
 

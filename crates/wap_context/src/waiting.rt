@@ -1,22 +1,31 @@
 //! What calls leave to do.
-ghost use Rattle.std.specs.Prelude.{◌≡◌, None};
+ghost use Rattle.std.specs.Prelude.{◌≡◌, None, IfOk};
 ghost use Rattle.std.specs.Option.{option_map};
 ghost use Rattle.wap_world.specs.Steps.{then_task};
+ghost use Rattle.wap_machine.specs.Stacks.{stack};
 ghost use Rattle.wap_context.specs.inside.Moving.{next_in, waits_in};
 
+use std::alloc::Global;
 use std::marker::Model;
-use wap_base::{Rows, Text};
+use wap_base::{NoMemory, Rows, Text};
 use wap_cardrules::Task;
 use wap_execution::Dialog;
 use wap_machine::Waiting as Machine;
 use wap_page_urls::PageUrl;
 
-/// A script that waits for the answer to its dialog. A contract sees its limits, its frames and the
-/// URL of the script that was started.
+/// What is held of a script that waits.
+#[derive(Drop)]
+struct Held {
+    machine: Machine,
+    base: PageUrl,
+}
+
+/// A script that waits for the answer to its dialog, which stands in memory of its own, so that
+/// what a key comes to stays small. A contract sees its limits, its frames and the URL of the
+/// script that was started.
 #[derive(Drop)]
 pub struct Waiting {
-    pub(crate) machine: Machine,
-    pub(crate) base: PageUrl,
+    held: Box<Held>,
 }
 
 impl Model for Waiting {
@@ -25,10 +34,30 @@ impl Model for Waiting {
     ghost Value = { Paused };
 
     ghost view = { λ waiting. record {
-      limits = waiting.machine.limits;
-      frames = waiting.machine.frames;
-      base = waiting.base;
+      limits = waiting.held.value.machine.limits;
+      frames = waiting.held.value.machine.frames;
+      base = waiting.held.value.base;
     } };
+}
+
+impl Waiting {
+    /// A machine that waits, with the URL of the script that was started.
+    pub(crate) fn of(alloc: Global, machine: Machine, base: PageUrl) -> Result<Waiting, NoMemory>
+        ensures { IfOk result (λ waiting. waiting
+            ≡ record { limits = machine.limits; frames = machine.frames; base = base }) }
+    {
+        let held = Box::new(alloc, Held { machine, base })?;
+        Ok(Waiting { held })
+    }
+
+    /// The machine that waits, and the URL of the script that was started.
+    pub(crate) fn into_parts(self) -> (Machine, PageUrl)
+        ensures machine { result.0 ≡ stack self.limits self.frames }
+        ensures base { result.1 ≡ self.base }
+    {
+        let Held { machine, base } = Box::into_inner(self.held);
+        (machine, base)
+    }
 }
 
 /// What a call comes to, with the lines that it shows.

@@ -1,7 +1,6 @@
-use Rattle.std.proofs.Common.{ap, refl, []}
+use Rattle.std.proofs.Common.{refl, []}
 use Rattle.wap_site.proofs.Asking.{Stays-same}
 use Rattle.wap_context.specs.Acting.{stop}
-use Rattle.wap_context.specs.Pausing.{Paused}
 use Rattle.wap_context.proofs.Beginning.{stop_takes}
 use Rattle.wap_context.proofs.Calling.{stop_ok}
 use Rattle.wap_context.proofs.Pursuing.{acts}
@@ -15,8 +14,8 @@ returns g c =
     c.end_script.new.self c.follow.new.self c.new-lines.result c.end_script.new.lines
     c.in_ok-went.went c.follow.result c.new-lines.ensures
     (stop_takes seen c.args.self.now c.end_script.new.self c.new-lines.result
-    c.end_script.new.lines c.args.waiting.base c.waiting.inside.base c.in_ok-went.went
-    (ap (λ (p : Paused). p.base) c.waiting.view_is) c.in_ok-went.ensures.moves
+    c.end_script.new.lines c.args.waiting.base c.into_parts-base.result.1 c.in_ok-went.went
+    c.into_parts-base.ensures.base c.in_ok-went.ensures.moves
     c.in_ok-went.ensures.asks)
     c.follow.ensures
 
