@@ -4,4 +4,5 @@ mod Firsts
 mod Limits
 mod Looping
 mod Making
+mod Saving
 mod Whole

@@ -1,5 +1,5 @@
 -- What the code of a function is made from.
-use Rattle.std.proofs.Common.{◌≡◌, ℕ, suc, ◌+◌, ◌≤◌, List, [], ◌∷◌, length, map, sym, ap}
+use Rattle.std.proofs.Common.{◌≡◌, ℕ, suc, ◌+◌, ◌*◌, ◌≤◌, List, [], ◌∷◌, length, map, sym, ap}
 use Rattle.std.proofs.Common.{◌∙◌, subst, None, refl}
 use Rattle.std.proofs.lemmas.List.{length-append}
 use Rattle.wap_asm.specs.declared.form.Form.{Form}
@@ -21,7 +21,7 @@ use Rattle.wap_codegen.specs.declared.fault.CompileFault.{CompileFault}
 use Rattle.wap_codegen.specs.declared.fault.CompileFault.TheVariants.{Lex, Parse, Scope}
 use Rattle.wap_codegen.specs.declared.fault.CompileFault.TheVariants.{TooManyConstants, CodeTooLong}
 use Rattle.wap_codegen.specs.declared.fault.CompileFault.TheVariants.{NoMemory}
-use Rattle.wap_compiled.specs.Savings.{saved}
+use Rattle.wap_compiled.specs.Savings.{saved, function_saves}
 use Rattle.wap_compiled.specs.Accepted.{most_code}
 use Rattle.wap_compiled_laws.specs.Laws.{HasForms}
 use Rattle.wap_codegen.specs.inside.Units.{AreNumbersOf}
@@ -97,17 +97,28 @@ code_is p f args count bytes params rest code =
 
 -- it isn't too long
 pub is_short : (p : Program) (f : Function) (forms : List Form) → forms ≡ forms_of p f
-    → HasForms p f → wide forms + saved forms ≤ most_code → function_wide f ≤ most_code
+    → HasForms p f → wide forms + saved forms + function_saves f ≤ most_code
+    → function_wide f ≤ most_code
 is_short p f forms same has short =
     subst (λ (n : ℕ). n ≤ most_code)
-    (ap (λ (fs : List Form). wide fs + saved fs) same ∙ sym has.size) short
+    (ap (λ (fs : List Form). wide fs + saved fs + function_saves f) same ∙ sym has.size) short
+
+-- its statements save no more than three bytes for two that are left
+pub saves_few : (p : Program) (f : Function) (forms : List Form) → forms ≡ forms_of p f
+    → HasForms p f → function_saves f * 2 ≤ (wide forms + saved forms) * 3
+saves_few p f forms same has =
+    subst (λ (fs : List Form). function_saves f * 2 ≤ (wide fs + saved fs) * 3) (sym same) has.few
 
 -- why it has none
 pub function_cause : (p : Program) (index : ℕ) (f : Function) (forms : List Form)
     → forms ≡ forms_of p f → HasForms p f → (fault : CompileFault)
-    → IsFormsCause index forms fault → IsFunctionCause index f fault
-function_cause p index f forms same has (CodeTooLong function bytes) (there, size, long) =
-    (there, size ∙ ap (λ (forms : List Form). wide forms + saved forms) same ∙ sym has.size, long)
+    → IsFormsCause index f forms fault → IsFunctionCause index f fault
+function_cause p index f forms same has (CodeTooLong function bytes) (there, size, long) = (
+  there,
+  size ∙ ap (λ (forms : List Form). wide forms + saved forms + function_saves f) same
+      ∙ sym has.size,
+  long,
+)
 function_cause p index f forms same has NoMemory is = tt
 function_cause p index f forms same has (Lex fault) is = absurd is
 function_cause p index f forms same has (Parse fault) is = absurd is

@@ -1,11 +1,11 @@
 //! The code of functions.
-ghost use Rattle.std.specs.Prelude.{◌≡◌, ◌+◌, ◌≤◌, length, map, IfOk, IfErr};
+ghost use Rattle.std.specs.Prelude.{◌≡◌, ◌+◌, ◌*◌, ◌≤◌, length, map, IfOk, IfErr};
 ghost use Rattle.std.specs.List.{All};
 ghost use Rattle.wap_asm.specs.Placing.{wide, placed};
 ghost use Rattle.wap_asm.specs.Placed.{ArePlaceable};
 ghost use Rattle.wap_compiled.specs.Units.{compiled_function};
 ghost use Rattle.wap_compiled.specs.Wide.{function_wide};
-ghost use Rattle.wap_compiled.specs.Savings.{saved};
+ghost use Rattle.wap_compiled.specs.Savings.{saved, function_saves};
 ghost use Rattle.wap_compiled.specs.Accepted.{most_code};
 ghost use Rattle.wap_codegen.specs.inside.Units.{AreNumbersOf, CanBeMade};
 ghost use Rattle.wap_codegen.specs.inside.Units.{IsFormsCause, IsFunctionCause, IsFunctionsCause};
@@ -23,14 +23,21 @@ use wap_program::{Function, Program};
 /// How many bytes of wide code a function may have.
 const CODE_LIMIT: u64 = 65535;
 
-/// The code of forms, unless their wide code is too long.
-fn bytes_of(alloc: Global, index: u8, forms: &[Form]) -> Result<Bytes, CompileFault>
-    requires { ArePlaceable forms.now }
+/// The code of the forms of a function, unless their wide code is too long.
+fn bytes_of(
+    alloc: Global,
+    index: u8,
+    function: &Function,
+    forms: &[Form],
+) -> Result<Bytes, CompileFault>
+    requires placeable { ArePlaceable forms.now }
+    requires few { function_saves function.now * 2 ≤ (wide forms.now + saved forms.now) * 3 }
     ensures found { IfOk result (λ code. code ≡ placed forms.now) }
-    ensures short { IfOk result (λ code. wide forms.now + saved forms.now ≤ most_code) }
-    ensures fault { IfErr result (IsFormsCause index forms.now) }
+    ensures short { IfOk result (λ code.
+        wide forms.now + saved forms.now + function_saves function.now ≤ most_code) }
+    ensures fault { IfErr result (IsFormsCause index function.now forms.now) }
 {
-    let wide = wide_size(forms);
+    let wide = wide_size(function, forms);
     if wide > CODE_LIMIT {
         return Err(CompileFault::CodeTooLong {
             function: index,
@@ -61,7 +68,7 @@ fn code_of(
 {
     numbering.enter(alloc, function)?;
     let forms = forms_of(alloc, numbering, function)?;
-    let code = bytes_of(alloc, index, forms.as_slice())?;
+    let code = bytes_of(alloc, index, function, forms.as_slice())?;
     let args = function.params.len();
     let locals = numbering.variable_count() - args;
     Ok(Code {

@@ -6,6 +6,7 @@ mod fault;
 mod functions;
 mod names;
 mod pragmas;
+mod savings;
 mod sources;
 mod units;
 mod wide;

@@ -1,10 +1,12 @@
 //! How many bytes functions have where each operation has its longest spelling.
 ghost use Rattle.std.specs.Prelude.{◌≡◌, ◌+◌, ◌*◌, ◌≤◌, length};
 ghost use Rattle.wap_asm.specs.Placing.{wide};
-ghost use Rattle.wap_compiled.specs.Savings.{operation_saves, form_saves, saved};
+ghost use Rattle.wap_compiled.specs.Savings.{operation_saves, form_saves, saved, function_saves};
 
+use crate::savings::statements_save;
 use wap_asm::{Form, wide_bytes};
 use wap_code::OpName;
+use wap_program::Function;
 
 /// How many bytes an operation of its own saves an assignment that is a statement.
 fn operation_saves(name: OpName) -> u64
@@ -42,11 +44,13 @@ fn saved_bytes(forms: &[Form]) -> u64
     bytes
 }
 
-/// How many bytes the wide code has, in which each operation has its longest spelling, and no
-/// assignment an operation of its own.
-#[tactic(auto, using(crate::proofs::Bounds::wide_few))]
-pub(crate) fn wide_size(forms: &[Form]) -> u64
-    ensures { result ≡ wide forms.now + saved forms.now }
+/// How many bytes the wide code of a function's forms has, in which each operation has its longest
+/// spelling, no assignment an operation of its own, and no statement saves anything.
+#[tactic(auto, using(crate::proofs::Bounds::wide_few, crate::proofs::Bounds::saved_few))]
+pub(crate) fn wide_size(function: &Function, forms: &[Form]) -> u64
+    requires few { function_saves function.now * 2 ≤ (wide forms.now + saved forms.now) * 3 }
+    ensures { result ≡ wide forms.now + saved forms.now + function_saves function.now }
 {
-    wide_bytes(forms) + saved_bytes(forms)
+    let bytes = wide_bytes(forms) + saved_bytes(forms);
+    bytes + statements_save(function.body.as_slice())
 }

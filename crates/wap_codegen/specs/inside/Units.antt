@@ -12,7 +12,7 @@ use Rattle.wap_coding.specs.Constants.{Numbers}
 use Rattle.wap_pool.specs.Names.{AreOnce}
 use Rattle.wap_compiled.specs.Pool.{pool}
 use Rattle.wap_compiled.specs.Wide.{function_wide}
-use Rattle.wap_compiled.specs.Savings.{saved}
+use Rattle.wap_compiled.specs.Savings.{saved, function_saves}
 use Rattle.wap_compiled.specs.Accepted.{most_constants, most_code}
 use Rattle.wap_compiled_laws.specs.Laws.{HasForms}
 use Rattle.wap_codegen.specs.Faults.{IsFirstLong}
@@ -42,12 +42,14 @@ AllHaveForms p = length (pool p) ≤ most_constants → All (HasForms p) p.funct
 
 -- ---- why there is no code
 
--- why forms have no code: with what operations of their own save, their wide code is too long
-abbrev pub IsFormsCause : ℕ → List Form → CompileFault → Type 0
-IsFormsCause index forms (CodeTooLong function bytes) =
-    (function ≡ index) × (bytes ≡ wide forms + saved forms) × (most_code < bytes)
-IsFormsCause index forms NoMemory = Unit {0}
-IsFormsCause index forms _ = ⊥
+-- why the forms of a function have no code: with what operations of their own and statements save,
+-- their wide code is too long
+abbrev pub IsFormsCause : ℕ → Function → List Form → CompileFault → Type 0
+IsFormsCause index f forms (CodeTooLong function bytes) =
+    (function ≡ index) × (bytes ≡ wide forms + saved forms + function_saves f)
+    × (most_code < bytes)
+IsFormsCause index f forms NoMemory = Unit {0}
+IsFormsCause index f forms _ = ⊥
 
 -- why a function has no code
 abbrev pub IsFunctionCause : ℕ → Function → CompileFault → Type 0

@@ -5,17 +5,27 @@ use Rattle.wap_asm.specs.Placed.{ArePlaceable}
 use Rattle.wap_code.specs.declared.unit.Code.{Code}
 use Rattle.wap_codegen.specs.declared.fault.CompileFault.{CompileFault}
 use Rattle.wap_codegen.specs.inside.Units.{IsFunctionCause}
-use Rattle.wap_codegen.proofs.Making.{forms_now, locals_counted, code_is, is_short, function_cause}
+use Rattle.wap_codegen.proofs.Making.{forms_now, locals_counted, code_is, is_short, saves_few}
+use Rattle.wap_codegen.proofs.Making.{function_cause}
 use Rattle.wap_codegen.proofs.functions.code_of.Goals as goal
 
-pub bytes_of-requires : goal.bytes_of-requires
-bytes_of-requires c =
+pub bytes_of-requires-clause-placeable : goal.bytes_of-requires-clause-placeable
+bytes_of-requires-clause-placeable c =
     subst ArePlaceable
     (sym (forms_now c.args.program.now c.args.function.now c.args.numbering.now c.enter.new.self
     c.requires.numbers c.enter.ensures.functions c.enter.ensures.urls c.enter.ensures.pool
     c.in_ok-enter.ensures.variables c.in_ok-forms.forms.items c.as_slice.result.now
     c.in_ok-forms.ensures c.as_slice.ensures.value))
     c.requires.made.forms.placeable
+
+pub bytes_of-requires-clause-few : goal.bytes_of-requires-clause-few
+bytes_of-requires-clause-few c =
+    saves_few c.args.program.now c.args.function.now c.as_slice.result.now
+    (forms_now c.args.program.now c.args.function.now c.args.numbering.now c.enter.new.self
+    c.requires.numbers c.enter.ensures.functions c.enter.ensures.urls c.enter.ensures.pool
+    c.in_ok-enter.ensures.variables c.in_ok-forms.forms.items c.as_slice.result.now
+    c.in_ok-forms.ensures c.as_slice.ensures.value)
+    c.requires.made.forms
 
 pub returns-in_err-code-clause-fault : goal.returns-in_err-code-clause-fault
 returns-in_err-code-clause-fault c =

@@ -1,0 +1,87 @@
+use Rattle.std.proofs.Common.{List, Option, sym, ap, ◌∙◌, arith}
+use Rattle.std.specs.List.{sum_by}
+use Rattle.wap_program.specs.declared.statement.Stmt.{Stmt}
+use Rattle.wap_program.specs.declared.statement.Stmt.TheVariants as stmt
+use Rattle.wap_compiled.specs.Savings.{stmt_saves}
+use Rattle.wap_codegen.proofs.Saving.{of_empty, of_value, of_block, of_variables, of_if, of_else}
+use Rattle.wap_codegen.proofs.Saving.{of_while, of_for, of_break, of_continue, of_return}
+use Rattle.wap_codegen.proofs.savings.+savings.Goals as goal
+
+pub statement_saves-returns-in-Empty : goal.statement_saves-returns-in-Empty
+statement_saves-returns-in-Empty t c = λ few. sym (of_empty c.args.statement.now c.in-Empty.is)
+
+pub statement_saves-returns-in-Expr : goal.statement_saves-returns-in-Expr
+statement_saves-returns-in-Expr t c = λ few.
+    c.effect_saves.ensures ∙ sym (of_value c.args.statement.now c.in-Expr.value c.in-Expr.is)
+
+pub statement_saves-returns-in-Block : goal.statement_saves-returns-in-Block
+statement_saves-returns-in-Block t c = λ few.
+    omega (
+      arith,
+      c.statements_save.ensures,
+      ap (λ (ss : List Stmt). sum_by stmt_saves ss) c.as_slice.ensures,
+      of_block c.args.statement.now c.in-Block.inner c.in-Block.is,
+    )
+
+pub statement_saves-returns-in-Vars : goal.statement_saves-returns-in-Vars
+statement_saves-returns-in-Vars t c = λ few.
+    sym (of_variables c.args.statement.now c.in-Vars.field-0 c.in-Vars.is)
+
+pub statement_saves-returns-in-None : goal.statement_saves-returns-in-None
+statement_saves-returns-in-None t c = λ few.
+    omega (
+      arith,
+      of_if c.args.statement.now c.in-If.field-0 c.in-If.body (c.in-If.is
+          ∙ ap (λ (o : Option Stmt). stmt.If c.in-If.field-0 c.in-If.body o) c.in-None.is),
+      c.statement_saves.ensures,
+      ap stmt_saves c.get.ensures,
+    )
+
+pub statement_saves-returns-in-Some : goal.statement_saves-returns-in-Some
+statement_saves-returns-in-Some t c = λ few.
+    omega (
+      arith,
+      of_else c.args.statement.now c.in-If.field-0 c.in-If.body c.in-Some.other (c.in-If.is
+          ∙ ap (λ (o : Option Stmt). stmt.If c.in-If.field-0 c.in-If.body o) c.in-Some.is),
+      c.statement_saves-first.ensures,
+      ap stmt_saves c.get-in-Some.ensures,
+      c.statement_saves-in-Some.ensures,
+      ap stmt_saves c.get-in-Some-2.ensures,
+      c.saturating_add.ensures,
+    )
+
+pub statement_saves-returns-in-While : goal.statement_saves-returns-in-While
+statement_saves-returns-in-While t c = λ few.
+    omega (
+      arith,
+      of_while c.args.statement.now c.in-While.field-0 c.in-While.body c.in-While.is,
+      c.statement_saves-in-While.ensures,
+      ap stmt_saves c.get-in-While.ensures,
+    )
+
+pub statement_saves-returns-in-For : goal.statement_saves-returns-in-For
+statement_saves-returns-in-For t c = λ few.
+    omega (
+      arith,
+      of_for c.args.statement.now c.in-For.first c.in-For.field-1 c.in-For.update c.in-For.body
+          c.in-For.is,
+      c.statement_saves-in-For.ensures,
+      ap stmt_saves c.get-in-For.ensures,
+      c.update_saves.ensures,
+      c.statement_saves-in-For-2.ensures,
+      ap stmt_saves c.get-in-For-2.ensures,
+      c.saturating_add-begins.ensures,
+      c.saturating_add-in-For.ensures,
+    )
+
+pub statement_saves-returns-in-Break : goal.statement_saves-returns-in-Break
+statement_saves-returns-in-Break t c = λ few.
+    sym (of_break c.args.statement.now c.in-Break.field-0 c.in-Break.is)
+
+pub statement_saves-returns-in-Continue : goal.statement_saves-returns-in-Continue
+statement_saves-returns-in-Continue t c = λ few.
+    sym (of_continue c.args.statement.now c.in-Continue.field-0 c.in-Continue.is)
+
+pub statement_saves-returns-in-Return : goal.statement_saves-returns-in-Return
+statement_saves-returns-in-Return t c = λ few.
+    sym (of_return c.args.statement.now c.in-Return.field-0 c.in-Return.is)
