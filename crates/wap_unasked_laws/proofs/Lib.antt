@@ -1,0 +1,5 @@
+pub mod Beside
+pub mod Hosts
+pub mod Rules
+pub mod Sites
+pub mod Inboxes
