@@ -26,9 +26,9 @@ use Rattle.wap_browse.specs.Handling.{bytes_of}
 use Rattle.wap_browse.specs.Plays.{opened, HaveNoPush}
 use Rattle.wap_browse.proofs.Stepping.{bytes_joined}
 use Rattle.wap_resume.specs.Saving.{played_in, EndsIn, IsWhole}
-use Rattle.wap_resume.specs.Resuming.{resumed}
+use Rattle.wap_resume.specs.Resuming.{resumed, world_with, world_over}
 use Rattle.wap_resume.proofs.Budgets.{keeps_budget}
-use Rattle.wap_resume.proofs.Leading.{leads_back}
+use Rattle.wap_resume.proofs.Leading.{over_same, made_again}
 use Rattle.wap_resume.proofs.Walking.{plays_keep}
 
 -- each key has its turns, so how many are left before it doesn't matter
@@ -66,6 +66,7 @@ module _ (site : Site) (keys : List Key) (world : World) (turns : ℕ) where
   same_react key.Stop = refl
   same_react key.Vars = refl
 
+-- so keys show the same
 same_lines : (pages : Pages) (keys : List Key) (world : World) (turns : ℕ)
     → (played_in (record world { turns = turns }) pages keys).lines
     ≡ (played_in world pages keys).lines
@@ -74,6 +75,17 @@ same_lines pages [] world turns = refl
 same_lines pages (one ∷ keys) world turns =
     ap (λ (first : Stepped).
     (followed_with first (played_with_in push_at (length keys) (site_of pages))).step.lines)
+    (same_react (site_of pages) keys world turns one)
+
+-- and ask for the same
+pub same_asked : (pages : Pages) (keys : List Key) (world : World) (turns : ℕ)
+    → (played_in (record world { turns = turns }) pages keys).asked
+    ≡ (played_in world pages keys).asked
+unfolding played_with
+same_asked pages [] world turns = refl
+same_asked pages (one ∷ keys) world turns =
+    ap (λ (first : Stepped).
+    (followed_with first (played_with_in push_at (length keys) (site_of pages))).step.asked)
     (same_react (site_of pages) keys world turns one)
 
 -- ---- where keys lead
@@ -113,6 +125,25 @@ module _ (begun : Begun) (pages : Pages) (cards : HaveCards (shelf_of pages)) wh
         settled = record { none = refl; settled = λ is. cc is };
       }) shut
 
+-- what was saved there leads back to it, with the turns of a key
+pub leads_back : (begun : Begun) (pages : Pages) (first : List Key) (parts : ContextParts)
+    → EndsIn begun pages first parts → IsWhole parts (opened begun pages first).world
+    → HaveCards (shelf_of pages)
+    → let again : World = record (opened begun pages first).world { turns = begun.budget } in
+    (world_with parts begun.budget ≡ again) × (world_over (shelf_of pages) again ≡ again)
+leads_back begun pages first parts ends whole cards =
+    let world = (opened begun pages first).world in
+    let holds = holds_there begun pages cards first ends.outside in
+    let all = whole (record {
+      none = holds.settled.none;
+      settled = holds.settled.settled;
+      unstarted = holds.stands.timer;
+    }) in (
+      made_again parts begun.budget world all holds.budget,
+      over_same (shelf_of pages) (record world { turns = begun.budget })
+          (record { card = holds.stands.card; timer = holds.stands.timer }),
+    )
+
 pub goes_on : (begun : Begun) (pages : Pages) (first others : List Key) (parts : ContextParts)
     → EndsIn begun pages first parts → IsWhole parts (opened begun pages first).world
     → HaveNoPush first → HaveCards (shelf_of pages)
@@ -121,15 +152,10 @@ pub goes_on : (begun : Begun) (pages : Pages) (first others : List Key) (parts :
 goes_on begun pages first others parts ends whole none cards =
     let step = opened begun pages first in
     let more = played_in step.world pages others in
-    let holds = holds_there begun pages cards first ends.outside in
-    let back = leads_back (shelf_of pages) parts begun.budget step.world
-    (whole (record {
-      none = holds.settled.none;
-      settled = holds.settled.settled;
-      unstarted = holds.stands.timer;
-    })) holds.budget holds.stands in
+    let back = leads_back begun pages first parts ends whole cards in
     ap bytes_of (ends.on none others)
     ∙ bytes_joined (joined (left_open step) more) step more refl
     ∙ ap (λ (lines : List (List ℕ)). bytes_of step ++ lines_bytes (map shown_line lines))
     (sym (same_lines pages others step.world begun.budget)
-    ∙ ap (λ (w : World). (played_in w pages others).lines) (sym back))
+    ∙ ap (λ (w : World). (played_in w pages others).lines)
+    (sym (ap (world_over (shelf_of pages)) back.0 ∙ back.1)))

@@ -78,7 +78,7 @@ in_same world entry deck last some =
     (all_and_last world.history entry last)
 
 -- over a shelf on which a world stands on a card, it is the same
-over_same : (shelf : Shelf) (world : World) → StandsOnCard shelf world
+pub over_same : (shelf : Shelf) (world : World) → StandsOnCard shelf world
     → world_over shelf world ≡ world
 over_same shelf world stands = by (last_entry world) refl stands.card
   where
@@ -98,14 +98,9 @@ over_same shelf world stands = by (last_entry world) refl stands.card
 -- ---- all of it
 
 -- where all of the world was saved but for the turns of a key, which are these
-pub leads_back : (shelf : Shelf) (parts : ContextParts) (turns : ℕ) (world : World)
+pub made_again : (parts : ContextParts) (turns : ℕ) (world : World)
     → saved_world parts ≡ record world { budget = 0; turns = 0 } → world.budget ≡ turns
-    → StandsOnCard shelf world
-    → world_over shelf (world_with parts turns) ≡ record world { turns = turns }
-leads_back shelf parts turns world whole budget stands =
-    let begun : World = record world { turns = turns } in
-    let made : world_with parts turns ≡ begun =
+    → world_with parts turns ≡ record world { turns = turns }
+made_again parts turns world whole budget =
     ap (λ (w : World). record w { budget = turns; turns = turns }) whole
-    ∙ ap (λ (n : ℕ). record world { budget = n; turns = turns }) (sym budget) in
-    ap (world_over shelf) made
-    ∙ over_same shelf begun (record { card = stands.card; timer = stands.timer })
+    ∙ ap (λ (n : ℕ). record world { budget = n; turns = turns }) (sym budget)
