@@ -1,6 +1,7 @@
 //! The fields of the current card (WAP-191, section 11.6).
-ghost use Rattle.std.specs.Prelude.{◌≡◌, IfOk, OnOk};
+ghost use Rattle.std.specs.Prelude.{◌≡◌, IfOk, OnOk, OnErr};
 ghost use Rattle.wap_cardrules.specs.Entering.{enter_text, choose};
+ghost use Rattle.wap_fields.specs.Stopped.{ChoiceStands};
 
 use crate::hand::Current;
 use crate::state::State;
@@ -24,6 +25,7 @@ impl State {
         ensures answer { IfOk result (λ answer. answer
             ≡ (enter_text self.old.vars here.now.card number text.now).answer) }
         ensures history { self.new.history ≡ self.old.history }
+        ensures kept { OnErr result (self.new ≡ self.old) }
     {
         enter_text(alloc, &here.card, number, text, &mut self.vars)
     }
@@ -42,6 +44,9 @@ impl State {
         ensures answer { IfOk result (λ answer. answer
             ≡ (choose self.old.vars here.now.card field option).answer) }
         ensures history { self.new.history ≡ self.old.history }
+        ensures left { OnErr result (self.new ≡ record self.old { vars = self.new.vars }) }
+        ensures stopped { OnErr result
+            (ChoiceStands self.old.vars here.now.card field option self.new.vars) }
     {
         choose(alloc, &here.card, field, option, &mut self.vars)
     }

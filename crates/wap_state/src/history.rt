@@ -338,9 +338,10 @@ impl State {
 
     /// Puts an entry in place of the last one.
     pub fn set_last(&mut self, last: PageEntry) -> Result<(), NoMemory>
-        ensures { OnOk result (self.new ≡ record self.old {
+        ensures last { OnOk result (self.new ≡ record self.old {
           history = all_but_last self.old.history ++ last ∷ [];
         }) }
+        ensures same { OnErr result (self.new ≡ self.old) }
     {
         self.history.set_last(last)
     }

@@ -1,9 +1,10 @@
 //! The screen of the current card (WAP-191, section 11.5).
-ghost use Rattle.std.specs.Prelude.{◌≡◌, OnOk};
+ghost use Rattle.std.specs.Prelude.{◌≡◌, OnOk, OnErr};
+ghost use Rattle.wap_url.specs.Segments.{IsPrefix};
 ghost use Rattle.wap_cardrules.specs.Setting.{defaults};
 ghost use Rattle.wap_world.specs.Setting.{with_set};
 ghost use Rattle.wap_state.specs.Held.{screen_held, show_held, restart_held};
-ghost use Rattle.wap_state.specs.Scenes.{Plays};
+ghost use Rattle.wap_state.specs.Scenes.{Plays, Leaves};
 
 use crate::hand::Current;
 use crate::state::State;
@@ -21,8 +22,9 @@ impl State {
         here: &Current<'_>,
         lines: &mut Rows<Text>,
     ) -> Result<(), NoMemory>
-        ensures { OnOk result (Plays (screen_held here.now self.now)
+        ensures plays { OnOk result (Plays (screen_held here.now self.now)
             self.now self.now lines.old lines.new) }
+        ensures left { OnErr result (IsPrefix lines.old lines.new) }
     {
         add_screen(alloc, here.deck, &here.card, &self.vars, lines)
     }
@@ -38,6 +40,7 @@ impl State {
             (Plays (with_set self.old (defaults self.old.vars card.now))
             self.old self.new lines.old lines.new) }
         ensures history { self.new.history ≡ self.old.history }
+        ensures left { OnErr result (Leaves self.old self.new lines.old lines.new) }
     {
         let refused = apply_defaults(alloc, card, &mut self.vars)?;
         add_fault_lines(alloc, refused.as_slice(), lines)
@@ -54,6 +57,7 @@ impl State {
         ensures plays { OnOk result (Plays (show_held here.now self.old)
             self.old self.new lines.old lines.new) }
         ensures history { self.new.history ≡ self.old.history }
+        ensures left { OnErr result (Leaves self.old self.new lines.old lines.new) }
     {
         self.apply_defaults(alloc, &here.card, lines)?;
         self.start(alloc, &here.card)?;
@@ -70,6 +74,7 @@ impl State {
         ensures plays { OnOk result (Plays (restart_held here.now self.old)
             self.old self.new lines.old lines.new) }
         ensures history { self.new.history ≡ self.old.history }
+        ensures left { OnErr result (Leaves self.old self.new lines.old lines.new) }
     {
         self.start_timer(alloc, &here.card)?;
         self.add_screen(alloc, here, lines)

@@ -1,8 +1,8 @@
 //! Setting variables (WAP-191, sections 9.4 and 10.3.4).
-ghost use Rattle.std.specs.Prelude.{◌≡◌, IfOk, OnOk};
+ghost use Rattle.std.specs.Prelude.{◌≡◌, IfOk, OnOk, OnErr};
 ghost use Rattle.wap_cardrules.specs.Setting.{set_all};
 ghost use Rattle.wap_world.specs.Setting.{set_variables};
-ghost use Rattle.wap_state.specs.Scenes.{Plays};
+ghost use Rattle.wap_state.specs.Scenes.{Plays, Leaves};
 
 use crate::state::State;
 use std::alloc::Global;
@@ -38,6 +38,7 @@ impl State {
         ensures plays { OnOk result
             (Plays (set_variables pairs self.old) self.old self.new lines.old lines.new) }
         ensures history { self.new.history ≡ self.old.history }
+        ensures left { OnErr result (Leaves self.old self.new lines.old lines.new) }
     {
         let refused = set_all(alloc, pairs, &mut self.vars)?;
         add_fault_lines(alloc, refused.as_slice(), lines)

@@ -1,12 +1,12 @@
 //! The timer of the current card (WAP-191, section 11.7).
-ghost use Rattle.std.specs.Prelude.{◌≡◌, IfOk, OnOk};
+ghost use Rattle.std.specs.Prelude.{◌≡◌, IfOk, OnOk, OnErr};
 ghost use Rattle.std.specs.Option.{option_and_then};
 ghost use Rattle.std.specs.Fmt.{decimal};
 ghost use Rattle.wap_cardrules.specs.Timers.{timer_in, timer_variable, timer_of};
 ghost use Rattle.wap_world.specs.declared.timer.Timer.TheVariants.{Expired};
 ghost use Rattle.wap_world.specs.Timers.{timer_from, start_timer, started, store_under};
 ghost use Rattle.wap_world.specs.Timers.{store_time, store_left, end_timer};
-ghost use Rattle.wap_state.specs.Scenes.{Plays};
+ghost use Rattle.wap_state.specs.Scenes.{Plays, Leaves};
 ghost use Rattle.wap_state.specs.Held.{store_pairs};
 
 use crate::state::State;
@@ -62,6 +62,7 @@ impl State {
     pub fn start_timer(&mut self, alloc: Global, card: &View<'_>) -> Result<(), NoMemory>
         ensures starts { OnOk result (self.new ≡ start_timer card.now self.old) }
         ensures history { self.new.history ≡ self.old.history }
+        ensures kept { OnErr result (self.new ≡ self.old) }
     {
         self.timer = timer_from(timer_of(alloc, card, &self.vars)?);
         Ok(())
@@ -71,6 +72,7 @@ impl State {
     pub fn start(&mut self, alloc: Global, card: &View<'_>) -> Result<(), NoMemory>
         ensures starts { OnOk result (self.new ≡ started self.old.timer card.now self.old) }
         ensures history { self.new.history ≡ self.old.history }
+        ensures kept { OnErr result (self.new ≡ self.old) }
     {
         match self.timer {
             Timer::NotStarted => self.start_timer(alloc, card),
@@ -89,6 +91,7 @@ impl State {
         ensures plays { OnOk result (Plays (store_time card.now time self.old)
             self.old self.new lines.old lines.new) }
         ensures history { self.new.history ≡ self.old.history }
+        ensures left { OnErr result (Leaves self.old self.new lines.old lines.new) }
     {
         let pairs = pair_of(alloc, timer_name(alloc, card)?, time)?;
         self.set_variables(alloc, pairs, lines)
@@ -104,6 +107,7 @@ impl State {
         ensures plays { OnOk result (Plays (store_left self.old.timer card.now self.old)
             self.old self.new lines.old lines.new) }
         ensures history { self.new.history ≡ self.old.history }
+        ensures left { OnErr result (Leaves self.old self.new lines.old lines.new) }
     {
         match self.timer {
             Timer::Running(time) => self.store_time(alloc, card, time, lines),
@@ -122,6 +126,7 @@ impl State {
         ensures plays { OnOk result (Plays (end_timer card.now self.old)
             self.old self.new lines.old lines.new) }
         ensures history { self.new.history ≡ self.old.history }
+        ensures left { OnErr result (Leaves self.old self.new lines.old lines.new) }
     {
         self.timer = Timer::Off;
         self.store_time(alloc, card, 0, lines)
@@ -139,6 +144,7 @@ impl State {
             (Plays (store_time card.now 0 (record self.old { timer = Expired }))
             self.old self.new lines.old lines.new) }
         ensures history { self.new.history ≡ self.old.history }
+        ensures left { OnErr result (Leaves self.old self.new lines.old lines.new) }
     {
         self.timer = Timer::Expired;
         self.store_time(alloc, card, 0, lines)

@@ -64,7 +64,7 @@ returns-in_ok-behind-in-Set g c =
     (g.P.Pages.seen c.args.pages.now) (g.P.Pages.seen c.act_or_show.new.pages)
     c.choose.new.self c.args.context.now c.act_or_show.new.context leads did further
     (subst (λ (lines : List (List ℕ)). IsBehind lines did further)
-    (c.in_ok-add_fault_lines-in-Set.ensures
+    (c.in_ok-add_fault_lines-in-Set.ensures.ok
     ∙ ap (λ (front : List (List ℕ)). front ++ flat_map fault_lines c.as_slice.result.now)
     c.new-lines.ensures
     ∙ ap (flat_map fault_lines) c.as_slice.ensures)

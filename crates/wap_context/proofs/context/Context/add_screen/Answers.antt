@@ -9,7 +9,7 @@ returns-in-Some c =
     plays_seen screen_lines screen_held
     (λ entry one w. refl) c.self.inside.state c.self.inside.deck c.args.self.now c.self.view_is
     c.in-Some.here (sym c.here.ensures ∙ c.in-Some.is)
-    c.args.lines.now c.add_screen.new.lines c.add_screen.result c.add_screen.ensures
+    c.args.lines.now c.add_screen.new.lines c.add_screen.result c.add_screen.ensures.plays
 
 pub returns-in-None : goal.returns-in-None
 returns-in-None c =

@@ -31,7 +31,7 @@ pub returns-in_default : goal.returns-in_default
 returns-in_default g c =
     let old : Browser = c.args.self.now in
     is_scene (tick c.args.time) (g.P.Pages.seen c.args.pages.now) old old c.args.lines
-    c.add_refusal.new.lines (ignored old.world) refl c.in_ok-add_refusal.ensures
+    c.add_refusal.new.lines (ignored old.world) refl c.in_ok-add_refusal.ensures.ok
     (λ shelf over. over)
     (λ pages over keys. tick_none c.args.time pages keys old over
     (sym c.time_left.ensures ∙ c.in_default.is))
