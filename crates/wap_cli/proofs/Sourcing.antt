@@ -20,8 +20,7 @@ use Rattle.wap_scripting.specs.UnitSites.{Pages, unit_pages}
 use Rattle.wap_scripting.specs.Sources.{AllPages}
 use Rattle.wap_context.specs.Sites.{fragment_call}
 use Rattle.wap_exchange_laws.proofs.Inboxes.{denied_sources_with}
-use Rattle.wap_source_sites.specs.Programs.{Accepted, programs, unit_of}
-use Rattle.wap_source_sites.proofs.Agreed.{unit_agrees}
+use Rattle.wap_source_sites.specs.Programs.{Accepted, programs}
 use Rattle.wap_source_pages.proofs.Judging.{site_judged}
 use Rattle.wap_pages.specs.Judged.{judged}
 use Rattle.wap_pages.specs.Caches.{CachedPages, cache_of, seen_over}
@@ -145,7 +144,7 @@ module _ (begun : Begun) (capacity : ℕ) (old new : Devices) (status : Status) 
       let given : keys ≡ so.given = ap (λ (k : Keys). k.keys) (so.done is_open is).1 in
       let same : opened_over begun pages keys ≡ opened_over begun other keys =
       ap (λ (stepped : Stepped). stepped.step)
-      (denied_sources_with programs unit_of unit_agrees fragment_call among pages other
+      (denied_sources_with programs differ.compiler differ.agrees fragment_call among pages other
       differ.differ push_at (Open begun.url ∷ keys)
       (record { world = world_of begun; pushes = [] }) differ.denied) in
       subst (λ (step : Step). Appends old.sink.written new.sink.written (bytes_of step))

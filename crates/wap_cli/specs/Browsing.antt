@@ -5,6 +5,7 @@ use Rattle.std.specs.Prelude.{◌≡◌, ℕ, Bool, false, List, Some, IfSome}
 use Rattle.wap_base.specs.Contents.{Contents}
 use Rattle.wap_devices.specs.Stores.{StoreSeen}
 use Rattle.wap_devices.specs.Transfer.{Appends}
+use Rattle.wap_code.specs.declared.unit.Unit.{Unit}
 use Rattle.wap_input.specs.declared.key.Key.{Key}
 use Rattle.wap_keys.specs.Lines.{keys_of}
 use Rattle.wap_world.specs.Sites.{Site}
@@ -12,9 +13,9 @@ use Rattle.wap_world.specs.Steps.{Step}
 use Rattle.wap_world.specs.Sessions.{Begun}
 use Rattle.wap_push.specs.Pushes.{push_at}
 use Rattle.wap_inboxes.specs.Sessions.{session_with}
-use Rattle.wap_scripting.specs.Sources.{AllPages, site_of, compiled_pages}
+use Rattle.wap_scripting.specs.Sources.{AllPages, Agrees, site_of, compiled_pages}
 use Rattle.wap_exchange_laws.specs.Denial.{is_entered, DifferWithin}
-use Rattle.wap_source_sites.specs.Programs.{Accepted, programs, unit_of}
+use Rattle.wap_source_sites.specs.Programs.{Accepted, programs}
 use Rattle.wap_source_pages.specs.SourcePages.{ArePages}
 use Rattle.wap_context.specs.Sites.{fragment_call}
 use Rattle.wap_status.specs.declared.status.Status.{Status}
@@ -42,12 +43,16 @@ opened_over begun pages keys = (session_with push_at (site_over pages) begun key
 
 -- ---- scripts to which nobody was let in
 
--- other pages than these: what the rules see of all names is the same, and but for scripts under
--- some names, of which each access test of a step was a denial, so are the pages
+-- other pages than these: with the units of some compiler in place of sources, what the rules see
+-- of all names is the same, and but for scripts under some names, of which each access test of a
+-- step was a denial, so are the pages
 pub record DifferWhereDenied (among : List ℕ → Bool) (pages other : AllPages Accepted)
     (step : Step) : Type 0 where
-  pub differ : DifferWithin among (compiled_pages programs unit_of pages)
-      (compiled_pages programs unit_of other)
+  -- any whose units come to what the sources mean
+  pub compiler : Accepted → Unit
+  pub agrees : (one : Accepted) → Agrees programs one (compiler one)
+  pub differ : DifferWithin among (compiled_pages programs compiler pages)
+      (compiled_pages programs compiler other)
   pub denied : is_entered among step.tests ≡ false
 
 -- what was written for these bytes of keys is what they come to over such pages
