@@ -11,7 +11,7 @@ use Rattle.wap_source_sites.specs.Programs.{Accepted, programs, unit_of}
 use Rattle.wap_source_sites.proofs.Agreed.{unit_agrees}
 use Rattle.wap_pages.specs.Judged.{page_of_bytes, judged}
 use Rattle.wap_pages.proofs.Judgements.{deck_page, unit_page as unit_judged, source_page}
-use Rattle.wap_pages.proofs.Judgements.{text_page, refused_is}
+use Rattle.wap_pages.proofs.Judgements.{text_page, neither_page}
 use Rattle.wap_source_pages.specs.SourcePages.{IsPage, ArePages}
 
 -- a judged page is the page, with a unit in place of its source
@@ -21,7 +21,9 @@ page_judged name bytes _ (IsPage.a_deck one is) = ap unit_page (deck_page name b
 page_judged name bytes _ (IsPage.a_unit one is) = ap unit_page (unit_judged name bytes one is)
 page_judged name bytes _ (IsPage.a_source p is) = ap unit_page (source_page name bytes p is)
 page_judged name bytes _ (IsPage.a_text text is) = ap unit_page (text_page name bytes text is)
-page_judged name bytes _ (IsPage.none why is) = ap unit_page (refused_is name bytes why is)
+page_judged name bytes _ (IsPage.none is) =
+    ap unit_page ((neither_page name bytes is.are).1
+    (is.no_deck, is.no_unit, is.no_source, is.no_text))
 
 -- so are all of them
 pub pages_judged : (contents : Contents) (pages : AllPages Accepted) → ArePages contents pages

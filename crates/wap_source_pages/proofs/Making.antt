@@ -1,5 +1,5 @@
 -- Whatever a store holds, it has pages.
-use Rattle.std.proofs.Common.{◌≡◌, ℕ, ◌<◌, ◌^◌, List, [], ◌∷◌, length, refl, inl, inr, ◌⊎◌, All}
+use Rattle.std.proofs.Common.{◌≡◌, ℕ, List, [], ◌∷◌, refl, inl, inr, All}
 use Rattle.std.proofs.lemmas.List.Elements.{recursion_from_All}
 use Rattle.std.specs.List.{AllByRecursion}
 use Rattle.wap_base.specs.Contents.{Contents}
@@ -10,7 +10,7 @@ use Rattle.wap_scripting.specs.ScriptPages.{PageOf, deck, script, words, refused
 use Rattle.wap_scripting.specs.Sources.{Script, of_unit, AllPages}
 use Rattle.wap_source_sites.specs.Programs.{Accepted}
 use Rattle.wap_pages.specs.Judged.{page_of_bytes, AreBytes, IsScriptPage}
-use Rattle.wap_pages.proofs.Judgements.{page_deck, page_script, page_text_is, some_fault}
+use Rattle.wap_pages.proofs.Judgements.{page_deck, page_script, page_text_is, neither_page}
 use Rattle.wap_pages.proofs.Judgements.{page_there}
 use Rattle.wap_source_pages.specs.SourcePages.{source_of, IsPage, ArePages, IsStored}
 
@@ -25,23 +25,30 @@ module _ (name bytes : List ℕ) where
       (script (source_of bytes p is.accepted), IsPage.a_source p is)
 
   -- the page, by what it is judged
-  made_by : AreBytes bytes → length bytes < 2 ^ 31 → (one : Page)
-      → page_of_bytes name bytes ≡ one → Made
-  made_by are few (page.Deck one) is = (deck one, IsPage.a_deck one (page_deck name bytes one is))
-  made_by are few (page.Script unit) is = of_script unit (page_script name bytes are unit is)
-  made_by are few (page.Words text) is =
+  made_by : AreBytes bytes → (one : Page) → page_of_bytes name bytes ≡ one → Made
+  made_by are (page.Deck one) is = (deck one, IsPage.a_deck one (page_deck name bytes one is))
+  made_by are (page.Script unit) is = of_script unit (page_script name bytes are unit is)
+  made_by are (page.Words text) is =
       (words text, IsPage.a_text text (page_text_is name bytes text is))
-  made_by are few page.Refused is =
-      let found = some_fault name bytes are few is in
-      (refused, IsPage.none found.0 found.1)
-  made_by are few page.Missing is = absurd (page_there name bytes is)
+  made_by are page.Refused is =
+      let none = (neither_page name bytes are).0 is in (
+        refused,
+        IsPage.none (record {
+          are = are;
+          no_deck = none.0;
+          no_unit = none.1;
+          no_source = none.2;
+          no_text = none.3;
+        }),
+      )
+  made_by are page.Missing is = absurd (page_there name bytes is)
 
 -- the pages, entry by entry
 made : (contents : Contents) → AllByRecursion IsStored contents
     → (pages : AllPages Accepted) × ArePages contents pages
 made [] are = ([], tt)
 made (entry ∷ contents) are =
-    let here = made_by entry.0 entry.1 are.0.0 are.0.1 (page_of_bytes entry.0 entry.1) refl in
+    let here = made_by entry.0 entry.1 are.0.0 (page_of_bytes entry.0 entry.1) refl in
     let rest = made contents are.1 in
     ((entry.0, here.0) ∷ rest.0, ((refl, here.1), rest.1))
 

@@ -10,23 +10,29 @@ use Rattle.wap_compiled.specs.Accepted.{IsAccepted}
 use Rattle.wap_scripting.specs.ScriptPages.{PageOf, deck, script, words, refused}
 use Rattle.wap_scripting.specs.Sources.{Script, of_unit, of_source, AllPages}
 use Rattle.wap_source_sites.specs.Programs.{Accepted}
-use Rattle.wap_pages.specs.declared.fault.PageFault.{PageFault}
 use Rattle.wap_pages.specs.Judged.{AreBytes, IsDeckPage, IsUnitPage, IsSourcePage, IsTextPage}
-use Rattle.wap_pages.specs.Judged.{Refuses}
 
 -- a source with its program, which it is accepted for
 abbrev pub source_of : (bytes : List ℕ) (p : Program) → IsAccepted bytes p → Script Accepted
 source_of bytes p accepted = of_source (record { source = bytes; program = p; is = accepted })
 
+-- bytes that under this name are no page of the four kinds
+pub record IsNone (name bytes : List ℕ) : Type 0 where
+  pub are : AreBytes bytes
+  pub no_deck : (one : Deck) → ¬ IsDeckPage name bytes one
+  pub no_unit : (one : Unit) → ¬ IsUnitPage name bytes one
+  pub no_source : (p : Program) → ¬ IsSourcePage name bytes p
+  pub no_text : (text : List ℕ) → ¬ IsTextPage name bytes text
+
 -- the page of a name with these bytes: a good deck, a unit that may be run, the program of a
--- source, a text; or it is refused, where there is a fault for which it is
+-- source, a text; or it is refused, where there is none of these
 pub data IsPage (name bytes : List ℕ) : PageOf (Script Accepted) → Type 0 where
   a_deck : (one : Deck) → IsDeckPage name bytes one → IsPage name bytes (deck one)
   a_unit : (one : Unit) → IsUnitPage name bytes one → IsPage name bytes (script (of_unit one))
   a_source : (p : Program) (is : IsSourcePage name bytes p)
       → IsPage name bytes (script (source_of bytes p is.accepted))
   a_text : (text : List ℕ) → IsTextPage name bytes text → IsPage name bytes (words text)
-  none : (why : PageFault) → Refuses name bytes why → IsPage name bytes refused
+  none : IsNone name bytes → IsPage name bytes refused
 
 -- a page under its name
 abbrev pub IsEntry : List ℕ × List ℕ → List ℕ × PageOf (Script Accepted) → Type 0
