@@ -31,8 +31,9 @@ use Rattle.wap_browse.specs.Handling.{bytes_of}
 use Rattle.wap_browse.specs.Plays.{ArePagesOf as AreSeen, opened}
 use Rattle.wap_browse.specs.Headline.{Shows, Reads, Browses, BrowsesSeen}
 use Rattle.wap_browse.proofs.Optional.{if_some, some_fact}
-use Rattle.wap_cli.specs.Devices.{Devices, browsed}
+use Rattle.wap_cli.specs.Devices.{Devices, browsed, unjudged}
 use Rattle.wap_cli.specs.Browsing.{ArePagesOf, opened_over, WritesOver, BrowsesOver}
+use Rattle.wap_cli.proofs.Unjudging.{browses_unjudged}
 
 -- ---- keys that come to the same over other pages
 
@@ -132,12 +133,14 @@ module _ (begun : Begun) (capacity : ℕ) (old new : Devices) (status : Status) 
   after = browsed capacity new
 
   abbrev Over : Type 0
-  Over = Browses (ArePagesOf old.store) (opened_over begun) before after status
+  Over = Browses (ArePagesOf old.store) (opened_over begun) (unjudged capacity old)
+      (unjudged capacity new) status
 
   -- where all keys were played, what was written is what they come to over other pages that differ
   -- where nobody was let in
   writes_over : (bytes : List ℕ)
-      → Reads (ArePagesOf old.store) (opened_over begun) bytes before after status
+      → Reads (ArePagesOf old.store) (opened_over begun) bytes (unjudged capacity old)
+      (unjudged capacity new) status
       → (is_open : Bool) → status ≡ at_end is_open → WritesOver begun old new bytes
   writes_over bytes so is_open is pages other are among differ =
       let keys = (keys_of bytes).keys in
@@ -156,14 +159,15 @@ module _ (begun : Begun) (capacity : ℕ) (old new : Devices) (status : Status) 
   denied_over so is_open is =
       if_some old.source.left (WritesOver begun old new) (λ bytes said. writes_over bytes
       (some_fact old.source.left
-      (λ b. Reads (ArePagesOf old.store) (opened_over begun) b before after status) bytes said
-      so.known) is_open is)
+      (λ b. Reads (ArePagesOf old.store) (opened_over begun) b (unjudged capacity old)
+      (unjudged capacity new) status) bytes said so.known) is_open is)
 
   -- browsing over units is browsing over sources
   pub browses_over : BrowsesSeen (opened begun) before after status
       → BrowsesOver begun capacity old new status
   browses_over so =
       let over : Over =
-      browses_too (AreSeen before.pages) (opened begun) (ArePagesOf old.store) (opened_over begun)
-      (units_of old.store before.pages refl begun) before after status so in
+      browses_unjudged (ArePagesOf old.store) (opened_over begun) before after status
+      (browses_too (AreSeen before.pages) (opened begun) (ArePagesOf old.store)
+      (opened_over begun) (units_of old.store before.pages refl begun) before after status so) in
       record { browses = over; denied = denied_over over }

@@ -22,7 +22,7 @@ use Rattle.wap_status.specs.declared.status.Status.{Status}
 use Rattle.wap_browse.specs.Endings.{at_end}
 use Rattle.wap_browse.specs.Handling.{bytes_of}
 use Rattle.wap_browse.specs.Headline.{Browses}
-use Rattle.wap_cli.specs.Devices.{Devices, browsed}
+use Rattle.wap_cli.specs.Devices.{Devices, unjudged}
 
 -- ---- pages, and what keys come to over them
 
@@ -70,9 +70,9 @@ WritesOver begun old new bytes =
 pub record BrowsesOver (begun : Begun) (capacity : ℕ) (old new : Devices) (status : Status)
     : Type 0 where
   -- what was read and written, what was asked for, and how it ended, over all pages that the
-  -- contents are
-  pub browses : Browses (ArePagesOf old.store) (opened_over begun) (browsed capacity old)
-      (browsed capacity new) status
+  -- contents are; and the contents stay
+  pub browses : Browses (ArePagesOf old.store) (opened_over begun) (unjudged capacity old)
+      (unjudged capacity new) status
   -- where all keys were played, scripts to which nobody was let in might have been any others
   pub denied : (is_open : Bool) → status ≡ at_end is_open
       → IfSome old.source.left (WritesOver begun old new)

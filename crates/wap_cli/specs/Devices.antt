@@ -1,5 +1,5 @@
 -- The store, the source and the sink of a run at a moment. This project's own.
-use Rattle.std.specs.Prelude.{ℕ, []}
+use Rattle.std.specs.Prelude.{ℕ, [], Some, None}
 use Rattle.wap_devices.specs.Stores.{StoreSeen}
 use Rattle.wap_devices.specs.Sources.{SourceSeen}
 use Rattle.wap_devices.specs.Sinks.{SinkSeen}
@@ -17,6 +17,21 @@ pub record Devices : Type 0 where
 abbrev pub browsed : ℕ → Devices → Outside
 browsed capacity devices = record {
   pages = seen_over devices.store (record { names = []; capacity = capacity });
+  source = devices.source;
+  sink = devices.sink;
+}
+
+-- as its headline sees them: of the pages there are the bytes, and not what they are judged
+abbrev pub unjudged : ℕ → Devices → Outside
+unjudged capacity devices = record {
+  pages = record {
+    contents = None;
+    behind = devices.store.contents;
+    cache = Some (record { names = []; capacity = capacity });
+    faults = devices.store.faults;
+    fetches = devices.store.fetches;
+    listings = devices.store.listings;
+  };
   source = devices.source;
   sink = devices.sink;
 }
