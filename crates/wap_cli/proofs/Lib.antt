@@ -1,5 +1,6 @@
 pub mod Answering
 pub mod Serving
 pub mod Unjudging
+pub mod Calling
 pub mod Sourcing
 pub mod SourcedLists

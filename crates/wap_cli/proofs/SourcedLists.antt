@@ -4,18 +4,17 @@ use Rattle.std.proofs.Common.{◌∙◌}
 use Rattle.wap_devices.specs.Stores.{StoreSeen}
 use Rattle.wap_world.specs.Sites.{Site}
 use Rattle.wap_world.specs.Sessions.{Begun}
-use Rattle.wap_context.specs.Sites.{fragment_call}
-use Rattle.wap_source_pages.proofs.Judging.{site_judged}
 use Rattle.wap_status.specs.declared.status.Status.{Status}
 use Rattle.wap_replay.specs.Headline.{IsSiteOf, ReplaysSeen}
 use Rattle.wap_replay.proofs.Over.{replays_too}
 use Rattle.wap_cli.specs.Devices.{Devices, around}
 use Rattle.wap_cli.specs.Replaying.{IsSiteOver, ReplaysOver}
+use Rattle.wap_cli.proofs.Calling.{site_units}
 
 -- the site of a store's pages is that of the judged pages
 site_of_units : (store : StoreSeen) (site : Site) → IsSiteOver store site → IsSiteOf store site
-site_of_units store site (pages, (contents, known, are), is) =
-    (contents, known, is ∙ site_judged fragment_call contents pages are)
+site_of_units store site (one, (contents, known, are, reads), is) =
+    (contents, known, is ∙ site_units one contents are reads)
 
 -- replaying over units is replaying over sources
 pub replays_over : (begun : Begun) (old new : Devices) (status : Status)

@@ -17,11 +17,8 @@ use Rattle.wap_push.specs.Pushes.{push_at}
 use Rattle.wap_inboxes.specs.Inboxes.{Stepped}
 use Rattle.wap_inboxes.specs.Sessions.{session_with}
 use Rattle.wap_scripting.specs.UnitSites.{Pages, unit_pages}
-use Rattle.wap_scripting.specs.Sources.{AllPages}
-use Rattle.wap_context.specs.Sites.{fragment_call}
 use Rattle.wap_exchange_laws.proofs.Inboxes.{denied_sources_with}
-use Rattle.wap_source_sites.specs.Programs.{Accepted, programs}
-use Rattle.wap_source_pages.proofs.Judging.{site_judged}
+use Rattle.wap_source_sites.specs.Programs.{programs}
 use Rattle.wap_pages.specs.Judged.{judged}
 use Rattle.wap_pages.specs.Caches.{CachedPages, cache_of, seen_over}
 use Rattle.wap_status.specs.declared.status.Status.{Status}
@@ -32,7 +29,9 @@ use Rattle.wap_browse.specs.Plays.{ArePagesOf as AreSeen, opened}
 use Rattle.wap_browse.specs.Headline.{Shows, Reads, Browses, BrowsesSeen}
 use Rattle.wap_browse.proofs.Optional.{if_some, some_fact}
 use Rattle.wap_cli.specs.Devices.{Devices, browsed, unjudged}
-use Rattle.wap_cli.specs.Browsing.{ArePagesOf, opened_over, WritesOver, BrowsesOver}
+use Rattle.wap_cli.specs.Browsing.{PagesAndCalls, ArePagesOf, opened_over, WritesOver}
+use Rattle.wap_cli.specs.Browsing.{BrowsesOver}
+use Rattle.wap_cli.proofs.Calling.{site_units}
 use Rattle.wap_cli.proofs.Unjudging.{browses_unjudged}
 
 -- ---- keys that come to the same over other pages
@@ -111,9 +110,9 @@ module _ {S : Type 0} (seen : S → StoreSeen) where
 
 -- what is seen of judged pages, where it is what the contents of a store are judged to
 units_of : (store : StoreSeen) (seen : Seen) → seen.contents ≡ option_map judged store.contents
-    → (begun : Begun) (pages : AllPages Accepted) → ArePagesOf store pages
-    → (units : Pages) × AreSeen seen units × (opened begun units ≡ opened_over begun pages)
-units_of store seen is begun pages (contents, known, are) = (
+    → (begun : Begun) (one : PagesAndCalls) → ArePagesOf store one
+    → (units : Pages) × AreSeen seen units × (opened begun units ≡ opened_over begun one)
+units_of store seen is begun one (contents, known, are, reads) = (
   unit_pages (judged contents),
   (
     judged contents,
@@ -122,7 +121,7 @@ units_of store seen is begun pages (contents, known, are) = (
   ),
   ap {B = List Key → Step}
       (λ (site : Site) (keys : List Key). (session_with push_at site begun keys).step)
-      (sym (site_judged fragment_call contents pages are)),
+      (sym (site_units one contents are reads)),
 )
 
 module _ (begun : Begun) (capacity : ℕ) (old new : Devices) (status : Status) where
@@ -142,17 +141,18 @@ module _ (begun : Begun) (capacity : ℕ) (old new : Devices) (status : Status) 
       → Reads (ArePagesOf old.store) (opened_over begun) bytes (unjudged capacity old)
       (unjudged capacity new) status
       → (is_open : Bool) → status ≡ at_end is_open → WritesOver begun old new bytes
-  writes_over bytes so is_open is pages other are among differ =
+  writes_over bytes so is_open is one other are among differ =
       let keys = (keys_of bytes).keys in
       let given : keys ≡ so.given = ap (λ (k : Keys). k.keys) (so.done is_open is).1 in
-      let same : opened_over begun pages keys ≡ opened_over begun other keys =
+      let instead : PagesAndCalls = record one { pages = other } in
+      let same : opened_over begun one keys ≡ opened_over begun instead keys =
       ap (λ (stepped : Stepped). stepped.step)
-      (denied_sources_with programs differ.compiler differ.agrees fragment_call among pages other
+      (denied_sources_with programs differ.compiler differ.agrees one.call among one.pages other
       differ.differ push_at (Open begun.url ∷ keys)
       (record { world = world_of begun; pushes = [] }) differ.denied) in
       subst (λ (step : Step). Appends old.sink.written new.sink.written (bytes_of step))
-      (ap (opened_over begun pages) (sym given) ∙ same)
-      ((so.shows pages are).played is_open End is).wrote
+      (ap (opened_over begun one) (sym given) ∙ same)
+      ((so.shows one are).played is_open End is).wrote
 
   denied_over : Over → (is_open : Bool) → status ≡ at_end is_open
       → IfSome old.source.left (WritesOver begun old new)

@@ -1,14 +1,14 @@
 -- The headline: what browsing over a store comes to, where its pages are those that its contents
 -- are by the relations of bytes, and a source of a script means what its program means. This
 -- project's own.
-use Rattle.std.specs.Prelude.{◌≡◌, ℕ, Bool, false, List, Some, IfSome}
+use Rattle.std.specs.Prelude.{◌≡◌, ℕ, Bool, false, List, Option, Some, IfSome}
 use Rattle.wap_base.specs.Contents.{Contents}
 use Rattle.wap_devices.specs.Stores.{StoreSeen}
 use Rattle.wap_devices.specs.Transfer.{Appends}
 use Rattle.wap_code.specs.declared.unit.Unit.{Unit}
 use Rattle.wap_input.specs.declared.key.Key.{Key}
 use Rattle.wap_keys.specs.Lines.{keys_of}
-use Rattle.wap_world.specs.Sites.{Site}
+use Rattle.wap_world.specs.Sites.{Call, Site}
 use Rattle.wap_world.specs.Steps.{Step}
 use Rattle.wap_world.specs.Sessions.{Begun}
 use Rattle.wap_push.specs.Pushes.{push_at}
@@ -17,29 +17,35 @@ use Rattle.wap_scripting.specs.Sources.{AllPages, Agrees, site_of, compiled_page
 use Rattle.wap_exchange_laws.specs.Denial.{is_entered, DifferWithin}
 use Rattle.wap_source_sites.specs.Programs.{Accepted, programs}
 use Rattle.wap_source_pages.specs.SourcePages.{ArePages}
-use Rattle.wap_context.specs.Sites.{fragment_call}
 use Rattle.wap_status.specs.declared.status.Status.{Status}
 use Rattle.wap_browse.specs.Endings.{at_end}
 use Rattle.wap_browse.specs.Handling.{bytes_of}
 use Rattle.wap_browse.specs.Headline.{Browses}
+use Rattle.wap_cli.specs.Calls.{ReadsCalls}
 use Rattle.wap_cli.specs.Devices.{Devices, unjudged}
 
 -- ---- pages, and what keys come to over them
 
--- the contents of a store are these pages, where they are known
-abbrev pub ArePagesOf : StoreSeen → AllPages Accepted → Type 0
-ArePagesOf store pages =
-    (contents : Contents) × (store.contents ≡ Some contents) × ArePages contents pages
+-- what is browsed over a store: its pages, and what fragments of URLs call
+pub record PagesAndCalls : Type 0 where
+  pub pages : AllPages Accepted
+  pub call : List ℕ → Option Call
+
+-- the contents of a store are these pages, where they are known, and fragments call what they spell
+abbrev pub ArePagesOf : StoreSeen → PagesAndCalls → Type 0
+ArePagesOf store one =
+    (contents : Contents) × (store.contents ≡ Some contents) × ArePages contents one.pages
+    × ReadsCalls one.call
 
 -- the site of these pages: a source comes to what its program means, and a unit to what its
 -- instructions mean
-abbrev pub site_over : AllPages Accepted → Site
-site_over pages = site_of programs fragment_call pages
+abbrev pub site_over : PagesAndCalls → Site
+site_over one = site_of programs one.call one.pages
 
 -- what keys come to where a session with an inbox begins so: its URL is opened before they are
 -- played
-abbrev pub opened_over : Begun → AllPages Accepted → List Key → Step
-opened_over begun pages keys = (session_with push_at (site_over pages) begun keys).step
+abbrev pub opened_over : Begun → PagesAndCalls → List Key → Step
+opened_over begun one keys = (session_with push_at (site_over one) begun keys).step
 
 -- ---- scripts to which nobody was let in
 
@@ -59,9 +65,11 @@ pub record DifferWhereDenied (among : List ℕ → Bool) (pages other : AllPages
 abbrev pub WritesOver : Begun → Devices → Devices → List ℕ → Type 0
 WritesOver begun old new bytes =
     let keys = (keys_of bytes).keys in
-    (pages other : AllPages Accepted) → ArePagesOf old.store pages → (among : List ℕ → Bool)
-    → DifferWhereDenied among pages other (opened_over begun pages keys)
-    → Appends old.sink.written new.sink.written (bytes_of (opened_over begun other keys))
+    (one : PagesAndCalls) (other : AllPages Accepted) → ArePagesOf old.store one
+    → (among : List ℕ → Bool)
+    → DifferWhereDenied among one.pages other (opened_over begun one keys)
+    → Appends old.sink.written new.sink.written
+    (bytes_of (opened_over begun (record one { pages = other }) keys))
 
 -- ---- the headline
 

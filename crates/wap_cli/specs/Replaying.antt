@@ -5,17 +5,15 @@ use Rattle.std.specs.Prelude.{◌≡◌}
 use Rattle.wap_devices.specs.Stores.{StoreSeen}
 use Rattle.wap_world.specs.Sites.{Site}
 use Rattle.wap_world.specs.Sessions.{Begun}
-use Rattle.wap_scripting.specs.Sources.{AllPages}
-use Rattle.wap_source_sites.specs.Programs.{Accepted}
 use Rattle.wap_status.specs.declared.status.Status.{Status}
 use Rattle.wap_replay.specs.Headline.{Replays}
-use Rattle.wap_cli.specs.Browsing.{ArePagesOf, site_over}
+use Rattle.wap_cli.specs.Browsing.{PagesAndCalls, ArePagesOf, site_over}
 use Rattle.wap_cli.specs.Devices.{Devices, around}
 
 -- the site of pages that the contents of a store are
 abbrev pub IsSiteOver : StoreSeen → Site → Type 0
 IsSiteOver store site =
-    (pages : AllPages Accepted) × ArePagesOf store pages × (site ≡ site_over pages)
+    (one : PagesAndCalls) × ArePagesOf store one × (site ≡ site_over one)
 
 -- sessions that begin so, one for each list of keys: the store, the keys and what was written before
 -- and after, and the status

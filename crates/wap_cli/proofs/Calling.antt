@@ -1,0 +1,66 @@
+-- Whatever reads calls is what the code reads them by, and so the sites of a store's pages are that
+-- of the judged pages.
+use Rattle.std.proofs.Common.{◌≡◌, ℕ, List, Option, Some, None, refl, sym, ap, ◌∙◌}
+use Rattle.std.specs.Option.{option_map}
+use Rattle.wap_base.specs.Contents.{Contents}
+use Rattle.wap_invocation.specs.declared.invocation.Invocation.{Invocation}
+use Rattle.wap_invocation.specs.Calls.{IsCall}
+use Rattle.wap_invocation.specs.Reading.{call_of}
+use Rattle.wap_invocation.proofs.CallReading.{is_call, is_read}
+use Rattle.wap_world.specs.Sites.{Call}
+use Rattle.wap_scripting.specs.UnitSites.{unit_pages, units_site}
+use Rattle.wap_context.specs.Sites.{fragment_call}
+use Rattle.wap_pages.specs.Judged.{judged}
+use Rattle.wap_source_pages.specs.SourcePages.{ArePages}
+use Rattle.wap_source_pages.proofs.Judging.{site_judged}
+use Rattle.wap_cli.specs.Calls.{as_call, ReadsCalls}
+use Rattle.wap_cli.specs.Browsing.{PagesAndCalls, site_over}
+
+-- ---- calls
+
+-- nothing is read of a fragment that isn't a call
+none_read : (fragment : List ℕ) (read : Option Invocation) → call_of fragment ≡ read
+    → ((one : Invocation) → ¬ IsCall fragment one) → option_map as_call read ≡ None
+none_read fragment (Some one) is none = absurd (none one (is_call fragment one is))
+none_read fragment None is none = refl
+
+-- the calls that the code reads are those that there are
+pub calls_read : ReadsCalls fragment_call
+calls_read = record {
+  some = λ fragment one is. ap (option_map as_call) (is_read fragment one is);
+  none = λ fragment none. none_read fragment (call_of fragment) refl none;
+}
+
+-- no call is read of a fragment of which none is
+no_call : (fragment : List ℕ) → call_of fragment ≡ None → (one : Invocation)
+    → ¬ IsCall fragment one
+no_call fragment none one is = cc (sym none ∙ is_read fragment one is)
+
+-- a fragment is read as the code reads it
+read_so : (call : List ℕ → Option Call) → ReadsCalls call → (fragment : List ℕ)
+    (read : Option Invocation) → call_of fragment ≡ read
+    → option_map as_call read ≡ call fragment
+read_so call reads fragment (Some one) is =
+    sym (reads.some fragment one (is_call fragment one is))
+read_so call reads fragment None is = sym (reads.none fragment (no_call fragment is))
+
+-- and so are all
+pub same_calls : (call : List ℕ → Option Call) → ReadsCalls call → fragment_call ≡ call
+same_calls call reads = λ i fragment. read_so call reads fragment (call_of fragment) refl i
+
+-- so two that read calls are the same
+pub one_reading : (call other : List ℕ → Option Call) → ReadsCalls call → ReadsCalls other
+    → call ≡ other
+one_reading call other reads reads_too =
+    sym (same_calls call reads) ∙ same_calls other reads_too
+
+-- ---- sites
+
+-- the site of a store's pages is that of the judged pages
+pub site_units : (one : PagesAndCalls) (contents : Contents) → ArePages contents one.pages
+    → ReadsCalls one.call
+    → site_over one ≡ units_site fragment_call (unit_pages (judged contents))
+site_units one contents are reads =
+    site_judged one.call contents one.pages are
+    ∙ ap (λ (call : List ℕ → Option Call). units_site call (unit_pages (judged contents)))
+    (sym (same_calls one.call reads))
