@@ -27,6 +27,7 @@ use Rattle.wap_cli.specs.Answers.{IsPageOf, IsOfPage, Answers, page_of}
 use Rattle.wap_cli.specs.Devices.{Devices, browsed, around}
 use Rattle.wap_cli.specs.Headline.{begun_by, each_begun_by, IsAnswer, Serves, ServesUnread, Runs}
 use Rattle.wap_cli.proofs.Sourcing.{browses_over}
+use Rattle.wap_cli.proofs.SourcedSessions.{images_over, resumes_over}
 use Rattle.wap_cli.proofs.SourcedLists.{replays_over}
 
 pub nothing_answered : (command : PageCommand) (page : Option (List ℕ)) (sink : SinkSeen)
@@ -87,8 +88,12 @@ nothing_runs (Some (Browse one)) old =
     browses_over (begun_by one) one.cache old old NoMemory
     (browses_by (opened (begun_by one)) (browsed one.cache old) (browsed one.cache old) NoMemory
     (nothing_browses (opened (begun_by one)) (browsed one.cache old)))
-nothing_runs (Some (Image one)) old = nothing_imaged (begun_by one) (browsed one.cache old)
-nothing_runs (Some (Resume one)) old = nothing_resumed one.name (browsed one.cache old)
+nothing_runs (Some (Image one)) old =
+    images_over one.cache old old NoMemory (begun_by one)
+    (nothing_imaged (begun_by one) (browsed one.cache old))
+nothing_runs (Some (Resume one)) old =
+    resumes_over one.cache old old NoMemory one.name
+    (nothing_resumed one.name (browsed one.cache old))
 nothing_runs (Some (Page command name)) old = nothing_served command name old
 nothing_runs (Some (Prepare workers)) old =
     record {

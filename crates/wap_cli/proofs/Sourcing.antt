@@ -17,6 +17,7 @@ use Rattle.wap_push.specs.Pushes.{push_at}
 use Rattle.wap_inboxes.specs.Inboxes.{Stepped}
 use Rattle.wap_inboxes.specs.Sessions.{session_with}
 use Rattle.wap_scripting.specs.UnitSites.{Pages, unit_pages}
+use Rattle.wap_context.specs.Sites.{site_of as units_over}
 use Rattle.wap_exchange_laws.proofs.Inboxes.{denied_sources_with}
 use Rattle.wap_source_sites.specs.Programs.{programs}
 use Rattle.wap_pages.specs.Judged.{judged}
@@ -29,8 +30,8 @@ use Rattle.wap_browse.specs.Plays.{ArePagesOf as AreSeen, opened}
 use Rattle.wap_browse.specs.Headline.{Shows, Reads, Browses, BrowsesSeen}
 use Rattle.wap_browse.proofs.Optional.{if_some, some_fact}
 use Rattle.wap_cli.specs.Devices.{Devices, browsed, unjudged}
-use Rattle.wap_cli.specs.Browsing.{PagesAndCalls, ArePagesOf, opened_over, WritesOver}
-use Rattle.wap_cli.specs.Browsing.{BrowsesOver}
+use Rattle.wap_cli.specs.Browsing.{PagesAndCalls, ArePagesOf, site_over, opened_over}
+use Rattle.wap_cli.specs.Browsing.{WritesOver, BrowsesOver}
 use Rattle.wap_cli.proofs.Calling.{site_units}
 use Rattle.wap_cli.proofs.Unjudging.{browses_unjudged}
 
@@ -109,20 +110,30 @@ module _ {S : Type 0} (seen : S → StoreSeen) where
 -- ---- sources, and the units that they are judged to
 
 -- what is seen of judged pages, where it is what the contents of a store are judged to
-units_of : (store : StoreSeen) (seen : Seen) → seen.contents ≡ option_map judged store.contents
-    → (begun : Begun) (one : PagesAndCalls) → ArePagesOf store one
-    → (units : Pages) × AreSeen seen units × (opened begun units ≡ opened_over begun one)
-units_of store seen is begun one (contents, known, are, reads) = (
+pub units_of : (store : StoreSeen) (seen : Seen) → seen.contents ≡ option_map judged store.contents
+    → (one : PagesAndCalls) → ArePagesOf store one
+    → (units : Pages) × AreSeen seen units × (units_over units ≡ site_over one)
+units_of store seen is one (contents, known, are, reads) = (
   unit_pages (judged contents),
   (
     judged contents,
     is ∙ ap (λ (some : Option Contents). option_map judged some) known,
     refl,
   ),
-  ap {B = List Key → Step}
-      (λ (site : Site) (keys : List Key). (session_with push_at site begun keys).step)
-      (sym (site_units one contents are reads)),
+  sym (site_units one contents are reads),
 )
+
+-- so keys come to the same over both
+opened_same : (store : StoreSeen) (seen : Seen) → seen.contents ≡ option_map judged store.contents
+    → (begun : Begun) (one : PagesAndCalls) → ArePagesOf store one
+    → (units : Pages) × AreSeen seen units × (opened begun units ≡ opened_over begun one)
+opened_same store seen is begun one are =
+    let found = units_of store seen is one are in (
+      found.0,
+      found.1,
+      ap {B = List Key → Step}
+          (λ (site : Site) (keys : List Key). (session_with push_at site begun keys).step) found.2,
+    )
 
 module _ (begun : Begun) (capacity : ℕ) (old new : Devices) (status : Status) where
   abbrev before : Outside
@@ -169,5 +180,6 @@ module _ (begun : Begun) (capacity : ℕ) (old new : Devices) (status : Status) 
       let over : Over =
       browses_unjudged (ArePagesOf old.store) (opened_over begun) before after status
       (browses_too (AreSeen before.pages) (opened begun) (ArePagesOf old.store)
-      (opened_over begun) (units_of old.store before.pages refl begun) before after status so) in
+      (opened_over begun) (opened_same old.store before.pages refl begun) before after status
+      so) in
       record { browses = over; denied = denied_over over }

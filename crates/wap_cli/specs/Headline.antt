@@ -15,12 +15,11 @@ use Rattle.wap_status.specs.declared.status.Status.{Status}
 use Rattle.wap_status.specs.declared.status.Status.TheVariants.{Done, Usage, Refused, StoreFault}
 use Rattle.wap_status.specs.declared.status.Status.TheVariants.{WriteFault, NoMemory}
 use Rattle.wap_status.specs.Statuses.{IsOrWants}
-use Rattle.wap_resume.specs.Saving.{Images}
-use Rattle.wap_resume.specs.Resuming.{Resumes}
 use Rattle.wap_cli.specs.Answers.{IsOfPage, IsPageOf, Answers}
 use Rattle.wap_cli.specs.Browsing.{BrowsesOver}
-use Rattle.wap_cli.specs.Devices.{Devices, browsed}
+use Rattle.wap_cli.specs.Devices.{Devices}
 use Rattle.wap_cli.specs.Replaying.{ReplaysOver}
+use Rattle.wap_cli.specs.SavedSessions.{ImagesOver, ResumesOver}
 use Rattle.wap_cli.specs.Folders.{PreparesUnread, MakesAlone}
 
 -- what a command browses
@@ -85,10 +84,8 @@ pub record Misused (old new : Devices) (status : Status) : Type 0 where
 abbrev pub Runs : Option Command → Devices → Devices → Status → Type 0
 Runs (Some (Browse one)) old new status =
     BrowsesOver (begun_by one) one.cache old new status
-Runs (Some (Image one)) old new status =
-    Images (begun_by one) (browsed one.cache old) (browsed one.cache new) status
-Runs (Some (Resume one)) old new status =
-    Resumes one.name (browsed one.cache old) (browsed one.cache new) status
+Runs (Some (Image one)) old new status = ImagesOver (begun_by one) one.cache old new status
+Runs (Some (Resume one)) old new status = ResumesOver one.name one.cache old new status
 Runs (Some (Page command name)) old new status = ServesUnread command name old new status
 Runs (Some (Prepare workers)) old new status = PreparesUnread old new status
 Runs (Some (Make n)) old new status = MakesAlone n old new status

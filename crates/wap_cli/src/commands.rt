@@ -6,14 +6,13 @@ use crate::Status;
 use crate::browsing::browse;
 use crate::pages::answer;
 use crate::replaying::replay;
-use crate::saved::image;
+use crate::saved::{image, resume};
 use std::alloc::Global;
 use std::thread::Threads;
 use wap_base::{NoMemory, Text};
 use wap_devices::{Gate, Sink, Source, Store};
 use wap_made::make;
 use wap_prepare::prepare;
-use wap_resume::resume;
 use wap_words::{Command, read_words};
 
 /// Runs the command that the words are, over the pages of the store and the key lines of the
@@ -35,7 +34,7 @@ pub fn run<R: Threads + Sync, S: Store, I: Source, O: Sink, G: Gate + Sync>(
     match read_words(alloc, words) {
         Ok(Some(Command::Browse(begun))) => browse(alloc, begun, store, keys, out),
         Ok(Some(Command::Image(begun))) => image(alloc, begun, store, keys, out),
-        Ok(Some(Command::Resume(one))) => resume(alloc, &one.name, one.cache, store, keys, out),
+        Ok(Some(Command::Resume(one))) => resume(alloc, &one, store, keys, out),
         Ok(Some(Command::Page(command, name))) => {
             (answer(alloc, command, &name, &mut store, out), store)
         }

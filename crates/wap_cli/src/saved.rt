@@ -1,10 +1,9 @@
 //! Saving a session, and going on with one that was saved, over a store.
 ghost use Rattle.std.specs.Prelude.{◌≤◌};
 ghost use Rattle.wap_pages.specs.declared.cached.TheConstants.{LEAST_CAPACITY, MOST_CAPACITY};
-ghost use Rattle.wap_words.specs.Ranges.{BrowsesInRange};
-ghost use Rattle.wap_resume.specs.Saving.{Images};
-ghost use Rattle.wap_cli.specs.Devices.{browsed};
+ghost use Rattle.wap_words.specs.Ranges.{BrowsesInRange, ResumesInRange};
 ghost use Rattle.wap_cli.specs.Headline.{begun_by};
+ghost use Rattle.wap_cli.specs.SavedSessions.{ImagesOver, ResumesOver};
 
 use crate::Status;
 use std::alloc::Global;
@@ -12,7 +11,7 @@ use wap_base::NoMemory;
 use wap_browse::Beginning;
 use wap_devices::{Sink, Source, Store};
 use wap_pages::Cached;
-use wap_words::Browse;
+use wap_words::{Browse, Resume};
 
 /// Browses as the words say, over the pages of the store, and saves the context in which that ends;
 /// gives the store back.
@@ -24,17 +23,9 @@ pub(crate) fn image<S: Store, I: Source, O: Sink>(
     out: &mut O,
 ) -> (Status, S)
     requires ranges { BrowsesInRange begun }
-    ensures { Images (begun_by begun)
-        (browsed begun.cache (record {
-          store = S.seen store;
-          source = I.seen keys.old;
-          sink = O.seen out.old;
-        }))
-        (browsed begun.cache (record {
-          store = S.seen result.1;
-          source = I.seen keys.new;
-          sink = O.seen out.new;
-        }))
+    ensures { ImagesOver (begun_by begun) begun.cache
+        (record { store = S.seen store; source = I.seen keys.old; sink = O.seen out.old })
+        (record { store = S.seen result.1; source = I.seen keys.new; sink = O.seen out.new })
         result.0 }
 {
     let mut pages = match Cached::new(alloc, store, begun.cache as usize) {
@@ -49,4 +40,22 @@ pub(crate) fn image<S: Store, I: Source, O: Sink>(
     };
     let status = wap_resume::image(alloc, begun, &mut pages, keys, out);
     (status, pages.into_store())
+}
+
+/// Goes on with what was saved as the words say, over the pages of the store, and gives the store
+/// back.
+pub(crate) fn resume<S: Store, I: Source, O: Sink>(
+    alloc: Global,
+    begun: &Resume,
+    store: S,
+    keys: &mut I,
+    out: &mut O,
+) -> (Status, S)
+    requires ranges { ResumesInRange begun.now }
+    ensures { ResumesOver begun.now.name begun.now.cache
+        (record { store = S.seen store; source = I.seen keys.old; sink = O.seen out.old })
+        (record { store = S.seen result.1; source = I.seen keys.new; sink = O.seen out.new })
+        result.0 }
+{
+    wap_resume::resume(alloc, &begun.name, begun.cache, store, keys, out)
 }

@@ -26,9 +26,9 @@ use Rattle.wap_browse.proofs.Optional.{if_some, some_fact}
 use Rattle.wap_browse.proofs.Exits.{nothing_browses}
 use Rattle.wap_browse.proofs.Summary.{browses_by}
 use Rattle.wap_browse.proofs.Forgetting.{fresh_over, outside_over, forget_cache}
-use Rattle.wap_resume.specs.Saving.{Images, unshown}
+use Rattle.wap_resume.specs.Saving.{ImagesSeen, unshown}
 use Rattle.wap_resume.specs.Resuming.{resumed, HasDeck, LacksDeck, Hinders, IsThere, Unbegun}
-use Rattle.wap_resume.specs.Resuming.{asked_once, Resumes}
+use Rattle.wap_resume.specs.Resuming.{asked_once, ResumesSeen}
 use Rattle.wap_resume.specs.inside.Loading.{IsFetched, GivesNone, Loads, Continues}
 
 -- nothing that was saved
@@ -38,7 +38,7 @@ none_saved = None
 -- ---- nothing was done
 
 -- where memory ran out before a session was begun
-pub nothing_imaged : (begun : Begun) (old : Outside) → Images begun old old NoMemory
+pub nothing_imaged : (begun : Begun) (old : Outside) → ImagesSeen begun old old NoMemory
 nothing_imaged begun old = record {
   end = NoMemory;
   plays = browses_by (opened begun) (unshown old) (unshown old) NoMemory
@@ -63,7 +63,7 @@ unbegun_same Cause old = record {
   unwritten = refl;
 }
 
-pub nothing_resumed : (name : List ℕ) (old : Outside) → Resumes name old old NoMemory
+pub nothing_resumed : (name : List ℕ) (old : Outside) → ResumesSeen name old old NoMemory
 nothing_resumed name old = record {
   saved = None;
   is = if_some old.pages.behind (λ contents. IfSome none_saved (IsThere contents name))
@@ -120,7 +120,7 @@ module _ (name : List ℕ) (before mid after : StoreSeen) (capacity : ℕ)
 
   -- nothing was loaded
   pub resumes_none : GivesNone (λ contents. Hinders contents name) before mid status
-      → IsFetched before mid → Resumes name old now status
+      → IsFetched before mid → ResumesSeen name old now status
   resumes_none none fetched = record {
     saved = None;
     is = if_some before.contents (λ contents. IfSome none_saved (IsThere contents name))
@@ -142,8 +142,8 @@ module _ (name : List ℕ) (before mid after : StoreSeen) (capacity : ℕ)
 
   -- what was saved went on
   resumes_on : (saved : Saved) → Loads name before mid (Ok saved)
-      → IfSome now.pages.contents (λ pages. HasDeck pages saved.0)
-      → BrowsesSeen (resumed saved.0 saved.1) now new status → Resumes name old new status
+      → IfSome now.pages.behind (λ contents. HasDeck contents saved.0)
+      → BrowsesSeen (resumed saved.0 saved.1) now new status → ResumesSeen name old new status
   resumes_on saved loads deck plays = record {
     saved = Some saved;
     is = if_some before.contents (λ contents. IsThere contents name saved)
@@ -154,8 +154,8 @@ module _ (name : List ℕ) (before mid after : StoreSeen) (capacity : ℕ)
           bytes = bytes;
           page = page;
           image = image;
-          deck = some_fact now.pages.contents (λ pages. HasDeck pages saved.0) (judged contents)
-              (ap (option_map judged) (loads.fetched.contents ∙ known)) deck;
+          deck = some_fact now.pages.behind (λ c. HasDeck c saved.0) contents
+              (loads.fetched.contents ∙ known) deck;
         });
     goes_on = subst (λ (o : Outside). BrowsesSeen (resumed saved.0 saved.1) o new status)
         (fetched_is loads.fetched loads.steady) plays;
@@ -165,7 +165,7 @@ module _ (name : List ℕ) (before mid after : StoreSeen) (capacity : ℕ)
   -- its deck isn't there
   resumes_not : (saved : Saved) → Loads name before mid (Ok saved)
       → Unbegun (λ contents. LacksDeck contents saved.0) now new status
-      → Resumes name old new status
+      → ResumesSeen name old new status
   resumes_not saved loads unbegun = record {
     saved = None;
     is = if_some before.contents (λ contents. IfSome none_saved (IsThere contents name))
@@ -191,7 +191,7 @@ module _ (name : List ℕ) (before mid after : StoreSeen) (capacity : ℕ)
   }
 
   pub resumes_by : (saved : Saved) → Loads name before mid (Ok saved)
-      → Continues saved now new status → Resumes name old new status
+      → Continues saved now new status → ResumesSeen name old new status
   resumes_by saved loads (inl (deck, plays)) = resumes_on saved loads deck plays
   resumes_by saved loads (inr unbegun) = resumes_not saved loads unbegun
 
@@ -201,8 +201,8 @@ module _ (name : List ℕ) (before mid after : StoreSeen) (capacity : ℕ)
 forget_images : (begun : Begun) (old new : Outside) (status : Status) (cache : Option Cache)
     → option_map (λ kept. kept.capacity) cache
     ≡ option_map (λ kept. kept.capacity) old.pages.cache
-    → Images begun old new status
-    → Images begun old (record new { pages = record new.pages { cache = cache } }) status
+    → ImagesSeen begun old new status
+    → ImagesSeen begun old (record new { pages = record new.pages { cache = cache } }) status
 forget_images begun old new status cache same so = record {
   end = so.end;
   plays = forget_cache (ArePagesOf old.pages) (opened begun) (unshown old) (unshown new) so.end
@@ -219,9 +219,9 @@ module _ {S : Type 0} (seen : S → StoreSeen) where
   pub imaged_over : (begun : Begun) (first last : CachedPages S) (store back : S) (capacity : ℕ)
       (source source_after : SourceSeen) (sink sink_after : SinkSeen) (status : Status)
       → first.store ≡ store → first.kept ≡ [] → first.capacity ≡ capacity → back ≡ last.store
-      → Images begun (outside_over seen first source sink)
+      → ImagesSeen begun (outside_over seen first source sink)
       (outside_over seen last source_after sink_after) status
-      → Images begun (fresh_over (seen store) capacity source sink)
+      → ImagesSeen begun (fresh_over (seen store) capacity source sink)
       (fresh_over (seen back) capacity source_after sink_after) status
   imaged_over begun first last store back capacity source source_after sink sink_after status of
       none many is so =
@@ -229,10 +229,10 @@ module _ {S : Type 0} (seen : S → StoreSeen) where
       let after : Outside = outside_over seen last source_after sink_after in
       let from : first ≡ record { store = store; kept = []; capacity = capacity } =
       λ i. record { store = of i; kept = none i; capacity = many i } in
-      let new : Images begun before after status =
+      let new : ImagesSeen begun before after status =
       subst (λ (cached : CachedPages S).
-      Images begun (outside_over seen cached source sink) after status) from so in
-      subst (λ (s : S). Images begun before (fresh_over (seen s) capacity source_after sink_after)
+      ImagesSeen begun (outside_over seen cached source sink) after status) from so in
+      subst (λ (s : S). ImagesSeen begun before (fresh_over (seen s) capacity source_after sink_after)
       status) (sym is)
       (forget_images begun before after status
       (Some (record { names = []; capacity = capacity })) refl new)

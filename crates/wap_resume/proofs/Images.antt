@@ -12,6 +12,7 @@ use Rattle.wap_pages.specs.declared.fault.PageFault.TheVariants.{Save}
 use Rattle.wap_world.specs.World.{World}
 use Rattle.wap_world.specs.Steps.{joined}
 use Rattle.wap_world.specs.Sessions.{Begun, world_of}
+use Rattle.wap_site.specs.Pages.{Pages as JudgedPages}
 use Rattle.wap_scripting.specs.UnitSites.{Pages, unit_pages}
 use Rattle.wap_scripting.specs.Waiting.{Waits}
 use Rattle.wap_context.specs.Sites.{site_of}
@@ -27,11 +28,11 @@ use Rattle.wap_saving.specs.Saving.{image_of}
 use Rattle.wap_status.specs.declared.status.Status.{Status}
 use Rattle.wap_status.specs.declared.status.Status.TheVariants.{Done, Refused, WriteFault, NoMemory}
 use Rattle.wap_browse.specs.Outside.{Outside}
-use Rattle.wap_browse.specs.Plays.{opened}
+use Rattle.wap_browse.specs.Plays.{ArePagesOf, opened}
 use Rattle.wap_browse.specs.Resting.{StandsAfter, Rests}
 use Rattle.wap_browse.proofs.Optional.{if_some, some_fact}
 use Rattle.wap_browse.specs.Headline.{BrowsesSeen}
-use Rattle.wap_resume.specs.Saving.{WritesImage, played_in, EndsIn, Images, IsWhole, unshown}
+use Rattle.wap_resume.specs.Saving.{WritesImage, played_in, EndsIn, ImagesSeen, IsWhole, unshown}
 
 -- ---- an image
 
@@ -121,24 +122,30 @@ step_closed pages others state is none =
     ∙ ap (λ (pushes : List Indication). (played_with push_at (site_of pages) others
     (record { world = state.browser.world; pushes = pushes })).step) none
 
+-- it stands where these keys lead over the pages that are seen
+stands_there : (begun : Begun) (old : Outside) (state : State) → Rests (opened begun) old state
+    → (bytes : List ℕ) → old.source.left ≡ Some bytes → (pages : Pages) → ArePagesOf old.pages pages
+    → StandsAfter pages (opened begun pages) (keys_of bytes).keys state
+stands_there begun old state rests bytes known pages (judged, there, are) =
+    let keys = (keys_of bytes).keys in
+    subst (λ (p : Pages). StandsAfter p (opened begun p) keys state) (sym are)
+    (some_fact old.pages.contents
+    (λ (j : JudgedPages). StandsAfter (unit_pages j) (opened begun (unit_pages j)) keys state) judged
+    there
+    (some_fact old.source.left (λ b. IfSome old.pages.contents (λ j.
+    StandsAfter (unit_pages j) (opened begun (unit_pages j)) (keys_of b).keys state)) bytes known
+    rests.stands))
+
 -- the parts of the session are those of the world in which the keys end
 pub ends_in : (begun : Begun) (old : Outside) (state : State) → Rests (opened begun) old state
-    → IfSome old.source.left (λ bytes. IfSome old.pages.contents (λ judged.
-    EndsIn begun (unit_pages judged) (keys_of bytes).keys (parts_of state.browser.world)))
+    → IfSome old.source.left (λ bytes. (pages : Pages) → ArePagesOf old.pages pages
+    → EndsIn begun pages (keys_of bytes).keys (parts_of state.browser.world))
 ends_in begun old state rests = if_some old.source.left
-    (λ bytes. IfSome old.pages.contents (λ judged.
-    EndsIn begun (unit_pages judged) (keys_of bytes).keys (parts_of state.browser.world)))
-    (λ bytes known. if_some old.pages.contents
-    (λ judged. EndsIn begun (unit_pages judged) (keys_of bytes).keys
-    (parts_of state.browser.world))
-    (λ judged is.
-    let pages = unit_pages judged in
+    (λ bytes. (pages : Pages) → ArePagesOf old.pages pages
+    → EndsIn begun pages (keys_of bytes).keys (parts_of state.browser.world))
+    (λ bytes known pages are.
     let keys = (keys_of bytes).keys in
-    let given = some_fact old.source.left (λ b. IfSome old.pages.contents (λ p.
-    StandsAfter (unit_pages p) (opened begun (unit_pages p)) (keys_of b).keys state)) bytes known
-    rests.stands in
-    let stands = some_fact old.pages.contents
-    (λ p. StandsAfter (unit_pages p) (opened begun (unit_pages p)) keys state) judged is given in
+    let stands = stands_there begun old state rests bytes known pages are in
     record {
       parts_are = ap (λ (w : World). parts_of w) stands.world;
       outside = stands.outside;
@@ -146,28 +153,19 @@ ends_in begun old state rests = if_some old.source.left
           ∙ ap (joined (opened begun pages keys))
           (step_closed pages others state rests.waiting (stands.unpushed none)
           ∙ ap (λ (w : World). played_in w pages others) stands.world);
-    }))
+    })
 
 -- and are all of that world
 whole_in : (begun : Begun) (old : Outside) (state : State) → Rests (opened begun) old state
     → IsWhole (parts_of state.browser.world) state.browser.world
-    → IfSome old.source.left (λ bytes. IfSome old.pages.contents (λ judged.
-    IsWhole (parts_of state.browser.world)
-    (opened begun (unit_pages judged) (keys_of bytes).keys).world))
+    → IfSome old.source.left (λ bytes. (pages : Pages) → ArePagesOf old.pages pages
+    → IsWhole (parts_of state.browser.world) (opened begun pages (keys_of bytes).keys).world)
 whole_in begun old state rests whole = if_some old.source.left
-    (λ bytes. IfSome old.pages.contents (λ judged. IsWhole (parts_of state.browser.world)
-    (opened begun (unit_pages judged) (keys_of bytes).keys).world))
-    (λ bytes known. if_some old.pages.contents
-    (λ judged. IsWhole (parts_of state.browser.world)
-    (opened begun (unit_pages judged) (keys_of bytes).keys).world)
-    (λ judged is.
-    let keys = (keys_of bytes).keys in
-    let given = some_fact old.source.left (λ b. IfSome old.pages.contents (λ p.
-    StandsAfter (unit_pages p) (opened begun (unit_pages p)) (keys_of b).keys state)) bytes known
-    rests.stands in
-    let stands = some_fact old.pages.contents
-    (λ p. StandsAfter (unit_pages p) (opened begun (unit_pages p)) keys state) judged is given in
-    subst (λ (w : World). IsWhole (parts_of state.browser.world) w) stands.world whole))
+    (λ bytes. (pages : Pages) → ArePagesOf old.pages pages
+    → IsWhole (parts_of state.browser.world) (opened begun pages (keys_of bytes).keys).world)
+    (λ bytes known pages are.
+    subst (λ (w : World). IsWhole (parts_of state.browser.world) w)
+    (stands_there begun old state rests bytes known pages are).world whole)
 
 -- ---- the command
 
@@ -194,7 +192,7 @@ context_there state session context alone ready lent taken =
 -- the keys didn't end outside a dialog
 pub images_undone : (begun : Begun) (old new : Outside) (status : Status) → status ≢ Done
     → BrowsesSeen (opened begun) (unshown old) (unshown new) status → new.sink ≡ old.sink
-    → Images begun old new status
+    → ImagesSeen begun old new status
 images_undone begun old new status undone plays same = record {
   end = status;
   plays = plays;
@@ -212,7 +210,7 @@ pub images_done : (begun : Begun) (old new : Outside) (state : State) (context :
     → Rests (opened begun) (unshown old) state → context ≡ state.browser
     → WritesImage (image_of (parts_of context.world) begun.budget) old.sink new.sink status
     → (status ≡ Done → IsWhole (parts_of context.world) context.world)
-    → Images begun old new status
+    → ImagesSeen begun old new status
 images_done begun old new state context end status done plays rests is writes whole = record {
   end = Done;
   plays = subst (λ (s : Status). BrowsesSeen (opened begun) (unshown old) (unshown new) s) done

@@ -7,6 +7,7 @@ use Rattle.wap_push.specs.declared.indication.Indication.{Indication}
 use Rattle.wap_push.specs.declared.fault.PushFault.{PushFault}
 use Rattle.wap_push.specs.Pushes.{push_at}
 use Rattle.wap_parts.specs.declared.parts.ContextParts.{ContextParts}
+use Rattle.wap_world.specs.Shelves.{Shelf}
 use Rattle.wap_world.specs.World.{World}
 use Rattle.wap_world.specs.Lines.{shown_line, lines_bytes}
 use Rattle.wap_world.specs.Steps.{joined}
@@ -27,6 +28,7 @@ use Rattle.wap_browse.specs.Plays.{opened, HaveNoPush}
 use Rattle.wap_browse.proofs.Stepping.{bytes_joined}
 use Rattle.wap_resume.specs.Saving.{played_in, EndsIn, IsWhole}
 use Rattle.wap_resume.specs.Resuming.{resumed, world_with, world_over}
+use Rattle.wap_resume.proofs.Reviving.{site_shelf}
 use Rattle.wap_resume.proofs.Budgets.{keeps_budget}
 use Rattle.wap_resume.proofs.Leading.{over_same, made_again}
 use Rattle.wap_resume.proofs.Walking.{plays_keep}
@@ -158,4 +160,5 @@ goes_on begun pages first others parts ends whole none cards =
     ∙ ap (λ (lines : List (List ℕ)). bytes_of step ++ lines_bytes (map shown_line lines))
     (sym (same_lines pages others step.world begun.budget)
     ∙ ap (λ (w : World). (played_in w pages others).lines)
-    (sym (ap (world_over (shelf_of pages)) back.0 ∙ back.1)))
+    (sym (ap (λ (s : Shelf). world_over s (world_with parts begun.budget)) (site_shelf pages)
+    ∙ ap (world_over (shelf_of pages)) back.0 ∙ back.1)))

@@ -114,7 +114,7 @@ module _ {S : Type 0} (seen : S → StoreSeen) (saved : Saved) (first : CachedPa
       (browsed_by saved.0 saved.1 from now browser are there.is there.asks there.stays refl) in
       subst (λ (s : S). Comes s source_after sink_after status) (sym is)
       (inl (
-        has_deck saved.0 saved.1 before.contents browser are there.is,
+        has_deck saved.0 saved.1 (seen store).contents browser are there.is,
         forget_cache (ArePagesOf before) play old
             (outside_over seen last source_after sink_after) status (Some (fresh capacity)) refl
             (plays play from browsed),

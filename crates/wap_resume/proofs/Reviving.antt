@@ -3,7 +3,7 @@ use Rattle.std.proofs.Common.{◌≡◌, ◌≢◌, ℕ, false, List, [], ◌∷
 use Rattle.std.proofs.Common.{None, refl, sym, ap, subst, ◌∙◌, map}
 use Rattle.std.proofs.lemmas.List.{append-nil}
 use Rattle.std.specs.Prelude.{IfSome}
-use Rattle.std.specs.Option.{option_map_or, option_and_then, option_to_list}
+use Rattle.std.specs.Option.{option_map, option_map_or, option_and_then, option_to_list}
 use Rattle.wap_base.specs.Contents.{Contents, page_named}
 use Rattle.wap_url.specs.Printing.{name_for}
 use Rattle.wap_markup.specs.declared.deck.Deck.{Deck}
@@ -21,15 +21,16 @@ use Rattle.wap_site.specs.Asking.{Stays, Asks}
 use Rattle.wap_pages.specs.declared.fault.PageFault.{PageFault}
 use Rattle.wap_pages.specs.declared.fault.PageFault.TheVariants as page_fault
 use Rattle.wap_pages.specs.Judged.{judged, page_where}
-use Rattle.wap_pages.proofs.Judgements.{page_of-judged, page_there}
+use Rattle.wap_pages.proofs.Judgements.{page_of-judged, page_there, page_deck, deck_page}
 use Rattle.wap_world.specs.declared.history.Entry.{Entry}
 use Rattle.wap_world.specs.Shelves.{Shelf}
 use Rattle.wap_world.specs.World.{World, last_entry, deck_at, deck_in}
 use Rattle.wap_world.specs.Steps.{Step, joined, quiet, still}
-use Rattle.wap_scripting.specs.UnitSites.{Pages, shelf_of, unit_pages}
+use Rattle.wap_scripting.specs.UnitSites.{Pages, shelf_of, unit_pages, units_site}
 use Rattle.wap_host.specs.Finding.{shelved_page}
 use Rattle.wap_host.proofs.Shelves.{shelved_is}
 use Rattle.wap_context.specs.Browsers.{Browser, IsOver}
+use Rattle.wap_context.specs.Sites.{site_of}
 use Rattle.wap_context.specs.declared.saved.Revived.TheVariants.{Context, Missing, Refused}
 use Rattle.wap_state.specs.Saved.{saved_world}
 use Rattle.wap_context.specs.Saved.{with_last_in, revived_on, asked_for}
@@ -41,7 +42,7 @@ use Rattle.wap_browse.specs.Standing.{Moved, Stands, Browsed}
 use Rattle.wap_browse.proofs.Optional.{if_some, some_fact}
 use Rattle.wap_resume.proofs.Images.{step_closed}
 use Rattle.wap_resume.specs.Saving.{played_in}
-use Rattle.wap_resume.specs.Resuming.{world_with, world_over, resumed, HasDeck}
+use Rattle.wap_resume.specs.Resuming.{world_with, world_over, resumed, IsDeckThere, HasDeck}
 use Rattle.wap_resume.specs.Resuming.{IsDeckless, LacksDeck}
 use Rattle.wap_resume.specs.inside.Loading.{IsCause}
 
@@ -109,11 +110,16 @@ pub deck_there : (pages : JudgedPages) (name : List ℕ) (deck : Deck) → AreSi
 deck_there pages name deck are is =
     ap deck_in (shelved_is name pages are ∙ ap shelved_page is)
 
+-- the page of the last entry, if there is one, is judged as a deck
+abbrev HasPage : JudgedPages → ContextParts → Type 0
+HasPage pages parts = IfSome (last_entry (saved_world parts))
+    (λ entry. (deck : Deck) × (page_of (name_for entry.url) pages ≡ page.Deck deck))
+
 -- it has its deck, and stands in the world over the pages
-pub made_by : (parts : ContextParts) (turns : ℕ) (pages : JudgedPages) (browser : Browser)
+made_by : (parts : ContextParts) (turns : ℕ) (pages : JudgedPages) (browser : Browser)
     → AreSitePages pages → IsRevived parts (Some pages) (Context browser)
     → ((going_on browser turns).browser.world
-    ≡ world_over (shelf_of (unit_pages pages)) (world_with parts turns)) × HasDeck pages parts
+    ≡ world_over (shelf_of (unit_pages pages)) (world_with parts turns)) × HasPage pages parts
 made_by parts turns pages browser are made =
     let shelf = shelf_of (unit_pages pages) in
     let last = last_entry (saved_world parts) in
@@ -139,10 +145,16 @@ none_whole : (pages : Pages) (world : World)
 unfolding played_with
 none_whole pages world = refl
 
+-- the shelf of a site is that of its pages
+pub site_shelf : (pages : Pages) → (site_of pages).shelf ≡ shelf_of pages
+unfolding units_site
+site_shelf pages = refl
+
 -- and keys go on from there
 pub stands_by : (parts : ContextParts) (turns : ℕ) (pages : Pages) (old now : Moved)
     (state : State) → IsOver (shelf_of pages) state.browser → state.waiting ≡ None
-    → state.winners ≡ [] → state.browser.world ≡ world_over (shelf_of pages) (world_with parts turns)
+    → state.winners ≡ []
+    → state.browser.world ≡ world_over (site_of pages).shelf (world_with parts turns)
     → Asks (asked_for parts) old.pages now.pages → now.sink ≡ old.sink
     → Stands pages (resumed parts turns pages) [] old now state
 stands_by parts turns pages old now state over alone empty world asks unwritten =
@@ -193,8 +205,10 @@ browsed_by parts turns old now browser are made asks stays unwritten = record {
       subst (λ (c : Option JudgedPages). IsRevived parts c (Context browser)) known made in
       stands_by parts turns (unit_pages pages) old now (with_session (going_on browser turns))
       made_there.over refl refl
-      (made_by parts turns pages browser
+      ((made_by parts turns pages browser
       (some_fact old.pages.contents AreSitePages pages known are) made_there).0
+      ∙ ap (λ (shelf : Shelf). world_over shelf (world_with parts turns))
+      (sym (site_shelf (unit_pages pages))))
       asks unwritten);
   ready = refl;
   stays = stays;
@@ -202,15 +216,38 @@ browsed_by parts turns old now browser are made asks stays unwritten = record {
   write_steady = ap (λ (s : SinkSeen). s.faults) unwritten;
 }
 
--- and its deck is there
-pub has_deck : (parts : ContextParts) (turns : ℕ) (contents : Option JudgedPages)
-    (browser : Browser) → IfSome contents AreSitePages
-    → IsRevived parts contents (Context browser)
-    → IfSome contents (λ pages. HasDeck pages parts)
-has_deck parts turns contents browser are made = if_some contents (λ pages. HasDeck pages parts)
-    (λ pages known.
-    (made_by parts turns pages browser (some_fact contents AreSitePages pages known are)
-    (subst (λ (c : Option JudgedPages). IsRevived parts c (Context browser)) known made)).1)
+-- a page that is judged as a deck has bytes that are one
+deck_where : (contents : Contents) (name : List ℕ) (deck : Deck) (found : Option (List ℕ))
+    → page_named name contents ≡ found → page_where name found ≡ page.Deck deck
+    → IsDeckThere contents name
+deck_where contents name deck (Some bytes) named is =
+    record { bytes = bytes; page = named; deck = deck; is = page_deck name bytes deck is }
+deck_where contents name deck None named is = absurd cc
+
+-- so the deck is there
+deck_in_contents : (parts : ContextParts) (contents : Contents)
+    → HasPage (judged contents) parts → HasDeck contents parts
+deck_in_contents parts contents has =
+    let last = last_entry (saved_world parts) in
+    if_some last (λ entry. IsDeckThere contents (name_for entry.url))
+    (λ entry is.
+    let name = name_for entry.url in
+    let (deck, answer) = some_fact last
+    (λ e. (d : Deck) × (page_of (name_for e.url) (judged contents) ≡ page.Deck d)) entry is has in
+    deck_where contents name deck (page_named name contents) refl
+    (sym (page_of-judged name contents) ∙ answer))
+
+pub has_deck : (parts : ContextParts) (turns : ℕ) (contents : Option Contents)
+    (browser : Browser) → IfSome (option_map judged contents) AreSitePages
+    → IsRevived parts (option_map judged contents) (Context browser)
+    → IfSome contents (λ known. HasDeck known parts)
+has_deck parts turns contents browser are made = if_some contents (λ known. HasDeck known parts)
+    (λ known is.
+    let there : option_map judged contents ≡ Some (judged known) = ap (option_map judged) is in
+    deck_in_contents parts known
+    (made_by parts turns (judged known) browser
+    (some_fact (option_map judged contents) AreSitePages (judged known) there are)
+    (subst (λ (c : Option JudgedPages). IsRevived parts c (Context browser)) there made)).1)
 
 -- ---- no session
 
@@ -292,5 +329,5 @@ lacks_deck parts contents name why made asked cause =
           accepted = accepted;
           other = λ deck so.
               undecked deck (sym is ∙ page_of-judged name contents
-              ∙ ap (page_where name) there ∙ so);
+              ∙ ap (page_where name) there ∙ deck_page name bytes deck so);
         })

@@ -11,25 +11,26 @@ use Rattle.wap_parts.specs.declared.parts.ContextParts.{ContextParts}
 use Rattle.wap_parts.specs.declared.fault.ImageFault.{ImageFault}
 use Rattle.wap_image.specs.Images.{Saved, IsImage}
 use Rattle.wap_image.specs.Refusal.{IsRefused}
-use Rattle.wap_site.specs.declared.page.Page.TheVariants as page
-use Rattle.wap_site.specs.Pages.{Pages as JudgedPages, page_of}
+use Rattle.wap_input.specs.declared.key.Key.{Key}
 use Rattle.wap_site.specs.Asking.{Stays}
 use Rattle.wap_pages.specs.declared.fault.PageFault.{PageFault}
 use Rattle.wap_pages.specs.declared.fault.PageFault.TheVariants.{Missing, Image, NotDeck}
-use Rattle.wap_pages.specs.Judged.{judged, page_of_bytes, Refuses}
+use Rattle.wap_pages.specs.Judged.{IsDeckPage, Refuses}
 use Rattle.wap_world.specs.Shelves.{Shelf}
 use Rattle.wap_world.specs.World.{World, last_entry, deck_at}
-use Rattle.wap_scripting.specs.UnitSites.{shelf_of}
+use Rattle.wap_world.specs.Sites.{Site}
+use Rattle.wap_world.specs.Steps.{Step}
 use Rattle.wap_state.specs.Saved.{saved_world}
 use Rattle.wap_context.specs.Saved.{with_last_in, asked_for}
+use Rattle.wap_context.specs.Sites.{site_of}
 use Rattle.wap_status.specs.declared.status.Status.{Status}
 use Rattle.wap_status.specs.declared.status.Status.TheVariants.{Done, Usage, Refused, StoreFault}
 use Rattle.wap_status.specs.declared.status.Status.TheVariants.{KeyReadFault, WriteFault, NoMemory}
 use Rattle.wap_status.specs.declared.status.Status.TheVariants.{BadKey, OpenDialog, TooManyKeys}
 use Rattle.wap_browse.specs.Outside.{Outside}
-use Rattle.wap_browse.specs.Plays.{Play}
-use Rattle.wap_browse.specs.Headline.{BrowsesSeen}
-use Rattle.wap_resume.specs.Saving.{played_in}
+use Rattle.wap_browse.specs.Plays.{Play, ArePagesOf}
+use Rattle.wap_browse.specs.Headline.{Browses}
+use Rattle.wap_resume.specs.Saving.{played_at}
 
 -- ---- what keys come to
 
@@ -37,29 +38,40 @@ use Rattle.wap_resume.specs.Saving.{played_in}
 abbrev pub world_with : ContextParts → ℕ → World
 world_with parts turns = record (saved_world parts) { budget = turns; turns = turns }
 
--- over pages: where the current card is past the end of its deck there, it is the first card
+-- over a shelf: where the current card is past the end of its deck there, it is the first card
 abbrev pub world_over : Shelf → World → World
 world_over shelf world = option_map_or (λ deck. with_last_in deck world)
     (option_and_then (λ entry. deck_at shelf entry.url) (last_entry world)) world
 
--- the page of the current card is asked for, and then keys are played from this world; of an inbox
--- nothing was saved
-abbrev pub resumed : ContextParts → ℕ → Play
-resumed parts turns pages keys =
-    let step = played_in (world_over (shelf_of pages) (world_with parts turns)) pages keys in
+-- over a site the page of the current card is asked for, and then keys are played from this world;
+-- of an inbox nothing was saved
+abbrev pub resumed_at : ContextParts → ℕ → Site → List Key → Step
+resumed_at parts turns site keys =
+    let step = played_at (world_over site.shelf (world_with parts turns)) site keys in
     record step { asked = asked_for parts ++ step.asked }
+
+-- the same over pages
+abbrev pub resumed : ContextParts → ℕ → Play
+resumed parts turns pages keys = resumed_at parts turns (site_of pages) keys
 
 -- ---- decks that are there, and why one isn't
 
--- the current card, if there is one, has its deck among these pages
-abbrev pub HasDeck : JudgedPages → ContextParts → Type 0
-HasDeck pages parts = IfSome (last_entry (saved_world parts))
-    (λ entry. (deck : Deck) × (page_of (name_for entry.url) pages ≡ page.Deck deck))
+-- there is a deck under this name
+pub record IsDeckThere (contents : Contents) (name : List ℕ) : Type 0 where
+  pub bytes : List ℕ
+  pub page : page_named name contents ≡ Some bytes
+  pub deck : Deck
+  pub is : IsDeckPage name bytes deck
+
+-- the current card, if there is one, has its deck there
+abbrev pub HasDeck : Contents → ContextParts → Type 0
+HasDeck contents parts =
+    IfSome (last_entry (saved_world parts)) (λ entry. IsDeckThere contents (name_for entry.url))
 
 -- a page with these bytes is accepted, and no deck
 pub record IsNoDeck (name bytes : List ℕ) : Type 0 where
   pub accepted : (why : PageFault) → ¬ Refuses name bytes why
-  pub other : (deck : Deck) → page_of_bytes name bytes ≢ page.Deck deck
+  pub other : (deck : Deck) → ¬ IsDeckPage name bytes deck
 
 -- there is no deck under this name, for this cause
 pub data IsDeckless (contents : Contents) (name : List ℕ) : PageFault → Type 0 where
@@ -82,7 +94,7 @@ pub record IsThere (contents : Contents) (name : List ℕ) (saved : Saved) : Typ
   pub bytes : List ℕ
   pub page : page_named name contents ≡ Some bytes
   pub image : IsImage bytes saved
-  pub deck : HasDeck (judged contents) saved.0
+  pub deck : HasDeck contents saved.0
 
 -- nothing is begun with what is there, for this cause
 pub data Hinders (contents : Contents) (name : List ℕ) : PageFault → Type 0 where
@@ -129,14 +141,19 @@ abbrev pub asked_once : Outside → Outside
 asked_once outside =
     record outside { pages = record outside.pages { fetches = raised outside.pages.fetches } }
 
--- a session goes on with what was saved under a name: from the outside before to the outside
--- after, and the status
-pub record Resumes (name : List ℕ) (old new : Outside) (status : Status) : Type 0 where
+-- a session goes on over these pages, which have this site, with what was saved under a name: from
+-- the outside before to the outside after, and the status
+pub record Resumes {P : Type 0} (Are : P → Type 0) (site : P → Site) (name : List ℕ)
+    (old new : Outside) (status : Status) : Type 0 where
   -- with this it goes on, if it does: with what is there under the name
   pub saved : Option Saved
   pub is : IfSome old.pages.behind (λ contents. IfSome saved (IsThere contents name))
   -- then its keys are read and played, once the image was fetched
-  pub goes_on : IfSome saved
-      (λ one. BrowsesSeen (resumed one.0 one.1) (asked_once old) new status)
+  pub goes_on : IfSome saved (λ one. Browses Are
+      (λ pages. resumed_at one.0 one.1 (site pages)) (asked_once old) new status)
   -- else nothing is begun
   pub stops : saved ≡ None → Unbegun (λ contents. Hinders contents name) old new status
+
+-- the same over the pages that are seen
+abbrev pub ResumesSeen : List ℕ → Outside → Outside → Status → Type 0
+ResumesSeen name old new status = Resumes (ArePagesOf old.pages) site_of name old new status

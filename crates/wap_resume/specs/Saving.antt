@@ -7,15 +7,16 @@ use Rattle.wap_devices.specs.Sinks.{SinkSeen}
 use Rattle.wap_devices.specs.Transfer.{Appends, AppendsPrefix}
 use Rattle.wap_input.specs.declared.key.Key.{Key}
 use Rattle.wap_push.specs.Pushes.{push_at}
-use Rattle.wap_inboxes.specs.Sessions.{played_with}
+use Rattle.wap_inboxes.specs.Sessions.{session_with, played_with}
 use Rattle.wap_keys.specs.Lines.{keys_of}
 use Rattle.wap_parts.specs.declared.fault.SaveFault.{SaveFault}
 use Rattle.wap_parts.specs.declared.parts.ContextParts.{ContextParts}
 use Rattle.wap_pages.specs.declared.fault.PageFault.TheVariants.{Save}
 use Rattle.wap_world.specs.World.{World}
-use Rattle.wap_world.specs.Steps.{joined}
+use Rattle.wap_world.specs.Steps.{Step, joined}
+use Rattle.wap_world.specs.Sites.{Site}
 use Rattle.wap_world.specs.Sessions.{Begun}
-use Rattle.wap_scripting.specs.UnitSites.{Pages, unit_pages}
+use Rattle.wap_scripting.specs.UnitSites.{Pages}
 use Rattle.wap_context.specs.Sites.{site_of}
 use Rattle.wap_state.specs.Saved.{parts_of, saved_world, IsAtRest}
 use Rattle.wap_saving.specs.Saving.{image_of}
@@ -23,8 +24,8 @@ use Rattle.wap_status.specs.declared.status.Status.{Status}
 use Rattle.wap_status.specs.declared.status.Status.TheVariants.{Done, Refused, WriteFault, NoMemory}
 use Rattle.wap_status.specs.Statuses.{IsOrWants}
 use Rattle.wap_browse.specs.Outside.{Outside}
-use Rattle.wap_browse.specs.Plays.{Play, opened, HaveNoPush}
-use Rattle.wap_browse.specs.Headline.{BrowsesSeen}
+use Rattle.wap_browse.specs.Plays.{Play, ArePagesOf, HaveNoPush}
+use Rattle.wap_browse.specs.Headline.{Browses}
 
 -- ---- an image
 
@@ -54,6 +55,35 @@ pub record WritesImage (image : Result (List ℕ) SaveFault) (before after : Sin
 abbrev pub IsWhole : ContextParts → World → Type 0
 IsWhole parts world = IsAtRest world → saved_world parts ≡ record world { budget = 0; turns = 0 }
 
+-- ---- what keys come to over a site
+
+-- where a session with an inbox begins so: its URL is opened before they are played
+abbrev pub opened_at : Begun → Site → List Key → Step
+opened_at begun site keys = (session_with push_at site begun keys).step
+
+-- where it goes on in this world, with an empty inbox
+abbrev pub played_at : World → Site → List Key → Step
+played_at world site keys =
+    (played_with push_at site keys (record { world = world; pushes = [] })).step
+
+-- the same over pages
+abbrev pub played_in : World → Play
+played_in world pages keys = played_at world (site_of pages) keys
+
+-- a context has the parts of the world to which these keys lead over a site
+pub record EndsAt (begun : Begun) (site : Site) (keys : List Key) (parts : ContextParts)
+    : Type 0 where
+  pub parts_are : parts ≡ parts_of (opened_at begun site keys).world
+  pub outside : (opened_at begun site keys).is_open ≡ false
+  -- and where none of them is a push, further keys go on from there with an empty inbox
+  pub on : HaveNoPush keys → (others : List Key) → opened_at begun site (keys ++ others)
+      ≡ joined (opened_at begun site keys)
+      (played_at (opened_at begun site keys).world site others)
+
+-- the same over pages
+abbrev pub EndsIn : Begun → Pages → List Key → ContextParts → Type 0
+EndsIn begun pages keys parts = EndsAt begun (site_of pages) keys parts
+
 -- ---- the command
 
 -- a sink of which nothing is seen, and which never fails
@@ -64,34 +94,25 @@ nowhere = record { written = None; writes = greatest_count; faults = 0 }
 abbrev pub unshown : Outside → Outside
 unshown outside = record outside { sink = nowhere }
 
--- what keys come to in a world with an empty inbox
-abbrev pub played_in : World → Play
-played_in world pages keys = (played_with push_at (site_of pages) keys
-    (record { world = world; pushes = [] })).step
-
--- a context has the parts of the world to which these keys lead
-pub record EndsIn (begun : Begun) (pages : Pages) (keys : List Key) (parts : ContextParts)
-    : Type 0 where
-  pub parts_are : parts ≡ parts_of (opened begun pages keys).world
-  pub outside : (opened begun pages keys).is_open ≡ false
-  -- and where none of them is a push, further keys go on from there with an empty inbox
-  pub on : HaveNoPush keys → (others : List Key) → opened begun pages (keys ++ others)
-      ≡ joined (opened begun pages keys)
-      (played_in (opened begun pages keys).world pages others)
-
--- a session that begins so is played, and saved where its keys end
-pub record Images (begun : Begun) (old new : Outside) (status : Status) : Type 0 where
+-- a session that begins so is played over these pages, which have this site, and saved where its
+-- keys end
+pub record Images {P : Type 0} (Are : P → Type 0) (site : P → Site) (begun : Begun)
+    (old new : Outside) (status : Status) : Type 0 where
   -- its keys are played as in browsing, but what they show is dropped; they come to this end
   pub end : Status
-  pub plays : BrowsesSeen (opened begun) (unshown old) (unshown new) end
+  pub plays : Browses Are (λ pages. opened_at begun (site pages)) (unshown old) (unshown new) end
   -- where that isn't Done the command ends so too, and nothing is written
   pub stops : end ≢ Done → (status ≡ end) × (new.sink ≡ old.sink)
   -- where it is, the context in which they end is saved: its parts are those of their world, where
   -- bytes and pages are known
   pub parts : ContextParts
-  pub ends_in : end ≡ Done → IfSome old.source.left (λ bytes. IfSome old.pages.contents
-      (λ judged. EndsIn begun (unit_pages judged) (keys_of bytes).keys parts))
+  pub ends_in : end ≡ Done → IfSome old.source.left (λ bytes. (pages : P) → Are pages
+      → EndsAt begun (site pages) (keys_of bytes).keys parts)
   pub saves : end ≡ Done → WritesImage (image_of parts begun.budget) old.sink new.sink status
   -- and once they are written, these are all of that world
-  pub whole : status ≡ Done → IfSome old.source.left (λ bytes. IfSome old.pages.contents
-      (λ judged. IsWhole parts (opened begun (unit_pages judged) (keys_of bytes).keys).world))
+  pub whole : status ≡ Done → IfSome old.source.left (λ bytes. (pages : P) → Are pages
+      → IsWhole parts (opened_at begun (site pages) (keys_of bytes).keys).world)
+
+-- the same over the pages that are seen
+abbrev pub ImagesSeen : Begun → Outside → Outside → Status → Type 0
+ImagesSeen begun old new status = Images (ArePagesOf old.pages) site_of begun old new status

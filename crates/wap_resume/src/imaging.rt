@@ -2,7 +2,7 @@
 ghost use Rattle.std.specs.Prelude.{◌<◌};
 ghost use Rattle.wap_base.specs.Limits.{AreInRange};
 ghost use Rattle.wap_browse.specs.Beginning.{begun_with};
-ghost use Rattle.wap_resume.specs.Saving.{Images};
+ghost use Rattle.wap_resume.specs.Saving.{ImagesSeen};
 
 use crate::nowhere::Nowhere;
 use crate::saving::save_context;
@@ -23,7 +23,7 @@ pub fn image<P: Pages, I: Source, O: Sink>(
 ) -> Status
     requires limits { AreInRange begun.limits }
     requires turns { 0 < begun.budget }
-    ensures { Images (begun_with begun)
+    ensures { ImagesSeen (begun_with begun)
         (record { pages = P.seen pages.old; source = I.seen keys.old; sink = O.seen out.old })
         (record { pages = P.seen pages.new; source = I.seen keys.new; sink = O.seen out.new })
         result }

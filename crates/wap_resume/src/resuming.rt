@@ -3,7 +3,7 @@ ghost use Rattle.std.specs.Prelude.{◌≡◌, ◌≤◌, ◌<◌, true, []};
 ghost use Rattle.wap_image.specs.Rules.{MayBeSaved};
 ghost use Rattle.wap_pages.specs.Caches.{seen_over};
 ghost use Rattle.wap_pages.specs.declared.cached.TheConstants.{LEAST_CAPACITY, MOST_CAPACITY};
-ghost use Rattle.wap_resume.specs.Resuming.{Resumes};
+ghost use Rattle.wap_resume.specs.Resuming.{ResumesSeen};
 ghost use Rattle.wap_resume.specs.inside.Loading.{HasDistinctNames, Continues};
 
 use crate::decks::{deck_name, refuse_deck};
@@ -85,7 +85,7 @@ pub fn resume<S: Store, I: Source, O: Sink>(
 ) -> (Status, S)
     requires some { LEAST_CAPACITY ≤ cache }
     requires few { cache ≤ MOST_CAPACITY }
-    ensures { Resumes name.now
+    ensures { ResumesSeen name.now
         (record {
           pages = seen_over (S.seen store) (record { names = []; capacity = cache });
           source = I.seen keys.old;

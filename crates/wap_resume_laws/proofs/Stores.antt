@@ -24,6 +24,7 @@ use Rattle.wap_site.specs.Pages.{IsThere, page_under as judged_under}
 use Rattle.wap_pages.specs.Judged.{judged}
 use Rattle.wap_pages.proofs.Judgements.{page_there}
 use Rattle.wap_world.specs.declared.history.Entry.{Entry}
+use Rattle.wap_world.specs.Shelves.{Shelf}
 use Rattle.wap_world.specs.World.{World, deck_in, deck_at, last_entry}
 use Rattle.wap_world.specs.Lines.{shown_line, lines_bytes}
 use Rattle.wap_world.specs.Steps.{Step}
@@ -35,12 +36,13 @@ use Rattle.wap_scripting.specs.UnitSites.{Pages, units, shelf_of, unit_page, uni
 use Rattle.wap_unasked_laws.specs.Unasked.{is_asked, is_on, AgreeBeside}
 use Rattle.wap_unasked_laws.proofs.Inboxes.{unasked_with, ends_beside}
 use Rattle.wap_host.proofs.Shelves.{under_is}
-use Rattle.wap_context.specs.Sites.{fragment_call}
+use Rattle.wap_context.specs.Sites.{fragment_call, site_of}
 use Rattle.wap_context.specs.Saved.{with_last_in}
 use Rattle.wap_browse.specs.Handling.{bytes_of}
 use Rattle.wap_browse.specs.Plays.{opened, HaveNoPush}
 use Rattle.wap_resume.specs.Saving.{played_in, EndsIn, IsWhole}
 use Rattle.wap_resume.specs.Resuming.{resumed, world_with, world_over}
+use Rattle.wap_resume.proofs.Reviving.{site_shelf}
 use Rattle.wap_resume.proofs.Lasting.{goes_on, leads_back, same_asked}
 use Rattle.wap_resume_laws.specs.Stores.{AgreeBut}
 
@@ -54,6 +56,7 @@ judged_there (entry ∷ contents) =
     All-cons (λ (one : List ℕ × Page). IsThere one.1) _ (judged contents)
     (page_there entry.0 entry.1) (judged_there contents)
 
+-- nor is the page of a name
 there : (name : List ℕ) (contents : Contents) → IfSome (judged_under name (judged contents)) IsThere
 there name contents =
     All-lookup IsThere (λ other. is_same_text other name) (judged contents) (judged_there contents)
@@ -75,6 +78,7 @@ apart_are name page apart is =
     let not = ap (is_same_text name) (sym is) ∙ apart in
     absurd cc
 
+-- so pages of units agree beside a name where judged pages do
 pub agree_beside : (name : List ℕ) (one other : Contents) → AgreeBut name one other
     → AgreeBeside (is_same_text name) (unit_pages (judged one)) (unit_pages (judged other))
 agree_beside name one other agree page off =
@@ -100,6 +104,8 @@ module _ (among : List ℕ → Bool) (one other : Pages) (agree : AgreeBeside am
       by None none = refl
       by (Some e) none = ap (λ page. deck_in (shelved units page)) (agree (name_for e.url) none)
 
+  -- what first keys show over the one pages and then others over the other pages is what all of
+  -- them show over the one
   pub goes_on_over : (begun : Begun) (first others : List Key) (parts : ContextParts)
       → EndsIn begun one first parts → IsWhole parts (opened begun one first).world
       → HaveNoPush first → HaveCards (shelf_of one)
@@ -118,10 +124,12 @@ module _ (among : List ℕ → Bool) (one other : Pages) (agree : AgreeBeside am
       let beside : is_on among again ≡ false =
       ends_beside push_at fragment_call among one (Open begun.url ∷ first)
       (record { world = world_of begun; pushes = [] }) refl split.0 in
-      let over_one : world_over (shelf_of one) saved ≡ again =
-      ap (world_over (shelf_of one)) back.0 ∙ back.1 in
-      let over_other : world_over (shelf_of other) saved ≡ again =
-      ap (world_over (shelf_of other)) back.0 ∙ over_both again beside ∙ back.1 in
+      let over_one : world_over (site_of one).shelf saved ≡ again =
+      ap (λ (s : Shelf). world_over s saved) (site_shelf one)
+      ∙ ap (world_over (shelf_of one)) back.0 ∙ back.1 in
+      let over_other : world_over (site_of other).shelf saved ≡ again =
+      ap (λ (s : Shelf). world_over s saved) (site_shelf other)
+      ∙ ap (world_over (shelf_of other)) back.0 ∙ over_both again beside ∙ back.1 in
       let same : played_in again one others ≡ played_in again other others =
       ap (λ (s : Stepped). s.step)
       (unasked_with push_at fragment_call among one other agree others

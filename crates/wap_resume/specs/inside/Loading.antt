@@ -84,6 +84,6 @@ pub record RefusesDeck (name : List ℕ) (before after : StoreSeen) (status : St
 -- a session goes on with what was saved, or nothing is begun
 abbrev pub Continues : Saved → Outside → Outside → Status → Type 0
 Continues saved old new status =
-    (IfSome old.pages.contents (λ pages. HasDeck pages saved.0)
+    (IfSome old.pages.behind (λ contents. HasDeck contents saved.0)
     × BrowsesSeen (resumed saved.0 saved.1) old new status)
     ⊎ Unbegun (λ contents. LacksDeck contents saved.0) old new status
