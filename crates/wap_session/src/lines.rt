@@ -1,5 +1,6 @@
 //! The lines of keys.
-ghost use Rattle.std.specs.Prelude.{◌≡◌, ◌++◌, ◌∷◌, [], map, IfOk, OnOk};
+ghost use Rattle.std.specs.Prelude.{◌≡◌, ◌++◌, ◌∷◌, [], map, IfOk, OnOk, OnErr};
+ghost use Rattle.wap_url.specs.Segments.{IsPrefix};
 ghost use Rattle.wap_world.specs.Lines.{refusal_line, variable_line};
 
 use std::alloc::Global;
@@ -8,9 +9,10 @@ use wap_screens::refusal_line;
 use wap_vars::Vars;
 use wap_world::Refusal;
 
-/// Appends lines.
+/// Appends lines. When out of memory some of them may be added.
 pub fn add_lines(lines: &mut Rows<Text>, more: Rows<Text>) -> Result<(), NoMemory>
-    ensures { OnOk result (lines.new ≡ lines.old ++ more) }
+    ensures ok { OnOk result (lines.new ≡ lines.old ++ more) }
+    ensures left { OnErr result (IsPrefix lines.old lines.new) }
 {
     for line in more.into_vec() {
         lines.add(line)?;
