@@ -1,8 +1,10 @@
 -- What is said of sessions that are saved and gone on with over the units that a store's pages are
 -- judged to is said of them over the sources that its pages are.
 use Rattle.std.proofs.Common.{◌≡◌, ℕ, List, refl, ap, subst}
+use Rattle.wap_base.specs.Contents.{Contents}
 use Rattle.wap_input.specs.declared.key.Key.{Key}
 use Rattle.wap_keys.specs.Lines.{keys_of}
+use Rattle.wap_pages.specs.declared.fault.PageFault.{PageFault}
 use Rattle.wap_world.specs.Sites.{Site}
 use Rattle.wap_world.specs.Steps.{Step}
 use Rattle.wap_world.specs.Sessions.{Begun}
@@ -13,11 +15,13 @@ use Rattle.wap_browse.specs.Plays.{ArePagesOf as AreSeen}
 use Rattle.wap_browse.specs.Headline.{Browses}
 use Rattle.wap_browse.proofs.Optional.{if_some, some_fact}
 use Rattle.wap_resume.specs.Saving.{opened_at, unshown, EndsAt, IsWhole, Images, ImagesSeen}
-use Rattle.wap_resume.specs.Resuming.{resumed_at, asked_once, Resumes, ResumesSeen}
+use Rattle.wap_resume.specs.Resuming.{resumed_at, asked_once, Hinders, Unbegun, Resumes}
+use Rattle.wap_resume.specs.Resuming.{ResumesSeen}
 use Rattle.wap_cli.specs.Devices.{Devices, browsed}
 use Rattle.wap_cli.specs.Browsing.{ArePagesOf, site_over}
 use Rattle.wap_cli.specs.SavedSessions.{ImagesOver, ResumesOver}
 use Rattle.wap_cli.proofs.Sourcing.{browses_too, units_of}
+use Rattle.wap_cli.proofs.Unjudging.{without_pages, browses_unjudged}
 
 -- ---- other pages with the same site
 
@@ -78,6 +82,61 @@ module _ {P Q : Type 0} (Are : P → Type 0) (site : P → Site) (AreToo : Q →
     stops = so.stops;
   }
 
+-- ---- where what pages are judged isn't seen
+
+module _ {P : Type 0} (Are : P → Type 0) (site : P → Site) (old new : Outside) (status : Status)
+    where
+  -- a session that is saved
+  images_unjudged : (begun : Begun) → Images Are site begun old new status
+      → Images Are site begun (without_pages old) (without_pages new) status
+  images_unjudged begun so = record {
+    end = so.end;
+    plays = browses_unjudged Are (λ pages. opened_at begun (site pages)) (unshown old)
+        (unshown new) so.end so.plays;
+    stops = so.stops;
+    parts = so.parts;
+    ends_in = so.ends_in;
+    saves = so.saves;
+    whole = so.whole;
+  }
+
+  -- one that isn't begun
+  unbegun_unjudged : (Cause : Contents → PageFault → Type 0) → Unbegun Cause old new status
+      → Unbegun Cause (without_pages old) (without_pages new) status
+  unbegun_unjudged Cause so = record {
+    ends = so.ends;
+    refused = so.refused;
+    store_fault = so.store_fault;
+    steady = so.steady;
+    stays = record {
+      contents = refl;
+      behind = so.stays.behind;
+      capacity = so.stays.capacity;
+      listings = so.stays.listings;
+      faults = so.stays.faults;
+      fetches = so.stays.fetches;
+    };
+    unread = so.unread;
+    unwritten = so.unwritten;
+  }
+
+  -- and one that goes on
+  resumes_unjudged : (name : List ℕ) → Resumes Are site name old new status
+      → Resumes Are site name (without_pages old) (without_pages new) status
+  resumes_unjudged name so = record {
+    saved = so.saved;
+    is = so.is;
+    goes_on = if_some so.saved
+        (λ one. Browses Are (λ pages. resumed_at one.0 one.1 (site pages))
+        (asked_once (without_pages old)) (without_pages new) status)
+        (λ one is. browses_unjudged Are (λ pages. resumed_at one.0 one.1 (site pages))
+        (asked_once old) new status
+        (some_fact so.saved
+        (λ it. Browses Are (λ pages. resumed_at it.0 it.1 (site pages)) (asked_once old) new
+        status) one is so.goes_on));
+    stops = λ none. unbegun_unjudged (λ contents. Hinders contents name) (so.stops none);
+  }
+
 -- ---- over the pages of a store
 
 module _ (capacity : ℕ) (old new : Devices) (status : Status) where
@@ -91,12 +150,14 @@ module _ (capacity : ℕ) (old new : Devices) (status : Status) where
   pub images_over : (begun : Begun) → ImagesSeen begun before after status
       → ImagesOver begun capacity old new status
   images_over begun so =
-      images_too (AreSeen before.pages) units_over (ArePagesOf old.store) site_over
-      (units_of old.store before.pages refl) begun before after status so
+      images_unjudged (ArePagesOf old.store) site_over before after status begun
+      (images_too (AreSeen before.pages) units_over (ArePagesOf old.store) site_over
+      (units_of old.store before.pages refl) begun before after status so)
 
   -- and so is going on
   pub resumes_over : (name : List ℕ) → ResumesSeen name before after status
       → ResumesOver name capacity old new status
   resumes_over name so =
-      resumes_too (AreSeen before.pages) units_over (ArePagesOf old.store) site_over
-      (units_of old.store before.pages refl) name before after status so
+      resumes_unjudged (ArePagesOf old.store) site_over before after status name
+      (resumes_too (AreSeen before.pages) units_over (ArePagesOf old.store) site_over
+      (units_of old.store before.pages refl) name before after status so)

@@ -7,16 +7,16 @@ use Rattle.wap_status.specs.declared.status.Status.{Status}
 use Rattle.wap_resume.specs.Saving.{Images}
 use Rattle.wap_resume.specs.Resuming.{Resumes}
 use Rattle.wap_cli.specs.Browsing.{ArePagesOf, site_over}
-use Rattle.wap_cli.specs.Devices.{Devices, browsed}
+use Rattle.wap_cli.specs.Devices.{Devices, unjudged}
 
 -- a session that begins so is played, with room for so many pages in the cache, and saved where its
 -- keys end: the store, the keys and what was written before and after, and the status
 abbrev pub ImagesOver : Begun → ℕ → Devices → Devices → Status → Type 0
 ImagesOver begun capacity old new status = Images (ArePagesOf old.store) site_over begun
-    (browsed capacity old) (browsed capacity new) status
+    (unjudged capacity old) (unjudged capacity new) status
 
 -- a session goes on with what was saved under a name, with room for so many pages in the cache: the
 -- same before and after, and the status
 abbrev pub ResumesOver : List ℕ → ℕ → Devices → Devices → Status → Type 0
 ResumesOver name capacity old new status = Resumes (ArePagesOf old.store) site_over name
-    (browsed capacity old) (browsed capacity new) status
+    (unjudged capacity old) (unjudged capacity new) status
