@@ -85,57 +85,57 @@ module _ {P Q : Type 0} (Are : P → Type 0) (site : P → Site) (AreToo : Q →
 -- ---- where what pages are judged isn't seen
 
 module _ {P : Type 0} (Are : P → Type 0) (site : P → Site) (old new : Outside) (status : Status)
-    where
-  -- a session that is saved
-  images_unjudged : (begun : Begun) → Images Are site begun old new status
-      → Images Are site begun (without_pages old) (without_pages new) status
-  images_unjudged begun so = record {
-    end = so.end;
-    plays = browses_unjudged Are (λ pages. opened_at begun (site pages)) (unshown old)
-        (unshown new) so.end so.plays;
-    stops = so.stops;
-    parts = so.parts;
-    ends_in = so.ends_in;
-    saves = so.saves;
-    whole = so.whole;
-  }
+  where
+    -- a session that is saved
+    images_unjudged : (begun : Begun) → Images Are site begun old new status
+        → Images Are site begun (without_pages old) (without_pages new) status
+    images_unjudged begun so = record {
+      end = so.end;
+      plays = browses_unjudged Are (λ pages. opened_at begun (site pages)) (unshown old)
+          (unshown new) so.end so.plays;
+      stops = so.stops;
+      parts = so.parts;
+      ends_in = so.ends_in;
+      saves = so.saves;
+      whole = so.whole;
+    }
 
-  -- one that isn't begun
-  unbegun_unjudged : (Cause : Contents → PageFault → Type 0) → Unbegun Cause old new status
-      → Unbegun Cause (without_pages old) (without_pages new) status
-  unbegun_unjudged Cause so = record {
-    ends = so.ends;
-    refused = so.refused;
-    store_fault = so.store_fault;
-    steady = so.steady;
-    stays = record {
-      contents = refl;
-      behind = so.stays.behind;
-      capacity = so.stays.capacity;
-      listings = so.stays.listings;
-      faults = so.stays.faults;
-      fetches = so.stays.fetches;
-    };
-    unread = so.unread;
-    unwritten = so.unwritten;
-  }
+    -- one that isn't begun
+    unbegun_unjudged : (Cause : Contents → PageFault → Type 0) → Unbegun Cause old new status
+        → Unbegun Cause (without_pages old) (without_pages new) status
+    unbegun_unjudged Cause so = record {
+      ends = so.ends;
+      refused = so.refused;
+      store_fault = so.store_fault;
+      steady = so.steady;
+      stays = record {
+        contents = refl;
+        behind = so.stays.behind;
+        capacity = so.stays.capacity;
+        listings = so.stays.listings;
+        faults = so.stays.faults;
+        fetches = so.stays.fetches;
+      };
+      unread = so.unread;
+      unwritten = so.unwritten;
+    }
 
-  -- and one that goes on
-  resumes_unjudged : (name : List ℕ) → Resumes Are site name old new status
-      → Resumes Are site name (without_pages old) (without_pages new) status
-  resumes_unjudged name so = record {
-    saved = so.saved;
-    is = so.is;
-    goes_on = if_some so.saved
-        (λ one. Browses Are (λ pages. resumed_at one.0 one.1 (site pages))
-        (asked_once (without_pages old)) (without_pages new) status)
-        (λ one is. browses_unjudged Are (λ pages. resumed_at one.0 one.1 (site pages))
-        (asked_once old) new status
-        (some_fact so.saved
-        (λ it. Browses Are (λ pages. resumed_at it.0 it.1 (site pages)) (asked_once old) new
-        status) one is so.goes_on));
-    stops = λ none. unbegun_unjudged (λ contents. Hinders contents name) (so.stops none);
-  }
+    -- and one that goes on
+    resumes_unjudged : (name : List ℕ) → Resumes Are site name old new status
+        → Resumes Are site name (without_pages old) (without_pages new) status
+    resumes_unjudged name so = record {
+      saved = so.saved;
+      is = so.is;
+      goes_on = if_some so.saved
+          (λ one. Browses Are (λ pages. resumed_at one.0 one.1 (site pages))
+          (asked_once (without_pages old)) (without_pages new) status)
+          (λ one is. browses_unjudged Are (λ pages. resumed_at one.0 one.1 (site pages))
+          (asked_once old) new status
+          (some_fact so.saved
+          (λ it. Browses Are (λ pages. resumed_at it.0 it.1 (site pages)) (asked_once old) new
+          status) one is so.goes_on));
+      stops = λ none. unbegun_unjudged (λ contents. Hinders contents name) (so.stops none);
+    }
 
 -- ---- over the pages of a store
 

@@ -33,6 +33,12 @@ pub record Shows (old new : Browser) (lines : List (List ℕ)) (rule : Shelf →
     pub tells : (shelf : Shelf) → IsOver shelf old → lines ≡ (rule shelf old.world).lines
     pub over : (shelf : Shelf) → IsOver shelf old → IsOver shelf new
 
+-- only the variables and the timer are others
+abbrev pub ChangesVarsAndTimer : Browser → Browser → Type 0
+ChangesVarsAndTimer old new = new ≡ record old {
+  world = record old.world { vars = new.world.vars; timer = new.world.timer };
+}
+
 -- ---- variables
 
 -- a browser with other variables

@@ -1,5 +1,5 @@
 //! The context of a browser.
-ghost use Rattle.std.specs.Prelude.{◌≡◌, ◌↔◌, [], None, is_some, IfOk, OnOk};
+ghost use Rattle.std.specs.Prelude.{◌≡◌, ◌↔◌, [], None, is_some, IfOk, OnOk, OnErr};
 ghost use Rattle.std.specs.Option.{option_map, option_copied};
 ghost use Rattle.wap_world.specs.World.{first_world};
 ghost use Rattle.wap_world.specs.Steps.{then_task};
@@ -7,6 +7,7 @@ ghost use Rattle.wap_world.specs.Screens.{show, show_screen};
 ghost use Rattle.wap_world.specs.Tasks.{act, visit};
 ghost use Rattle.wap_base.specs.Limits.{AreInRange};
 ghost use Rattle.wap_context.specs.Browsers.{place_held, Shows, with_vars, typed_in, chosen_in};
+ghost use Rattle.wap_context.specs.Browsers.{ChangesVarsAndTimer};
 ghost use Rattle.wap_context.specs.Sites.{site_of};
 ghost use Rattle.wap_context.specs.Acting.{Acts, tick, answer, stop, Ticks};
 
@@ -150,7 +151,8 @@ impl Context {
     /// Lets so many tenths of a second pass while a script waits: where its timer runs out, the task
     /// of that event waits for the end of the script.
     pub fn tick_waiting(&mut self, alloc: Global, time: u32) -> Result<Ticked, NoMemory>
-        ensures { IfOk result (Ticks time self.old self.new) }
+        ensures ticks { IfOk result (Ticks time self.old self.new) }
+        ensures left { OnErr result (ChangesVarsAndTimer self.old self.new) }
     {
         let mut lines = Rows::new(alloc);
         let Timer::Running(left) = self.state.timer else {
@@ -163,7 +165,8 @@ impl Context {
     /// Shows the current card, if there is one: its fields get their defaults, its timer starts,
     /// unless it has since the card was entered, and its screen is drawn.
     pub fn show(&mut self, alloc: Global) -> Result<Rows<Text>, NoMemory>
-        ensures { IfOk result (λ lines. Shows self.old self.new lines show) }
+        ensures shows { IfOk result (λ lines. Shows self.old self.new lines show) }
+        ensures left { OnErr result (ChangesVarsAndTimer self.old self.new) }
     {
         let mut lines = Rows::new(alloc);
         self.add_show(alloc, &mut lines)?;
@@ -253,6 +256,7 @@ impl Context {
             (self.new ≡ with_vars (typed_in self.old number text.now).vars self.old) }
         ensures answer { IfOk result
             (λ answer. answer ≡ (typed_in self.old number text.now).answer) }
+        ensures kept { OnErr result (self.new ≡ self.old) }
     {
         let current = self.state.card_number();
         match here(&self.deck, current) {
@@ -267,6 +271,7 @@ impl Context {
         ensures vars { OnOk result
             (self.new ≡ with_vars (chosen_in self.old field option).vars self.old) }
         ensures answer { IfOk result (λ answer. answer ≡ (chosen_in self.old field option).answer) }
+        ensures left { OnErr result (self.new ≡ with_vars self.new.world.vars self.old) }
     {
         let current = self.state.card_number();
         match here(&self.deck, current) {

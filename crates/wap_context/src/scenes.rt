@@ -1,7 +1,8 @@
 //! What a browser shows of its current card, and what it sets.
-ghost use Rattle.std.specs.Prelude.{◌≡◌, OnOk};
+ghost use Rattle.std.specs.Prelude.{◌≡◌, OnOk, OnErr};
 ghost use Rattle.wap_world.specs.Screens.{at_place};
 ghost use Rattle.wap_world.specs.Entering.{leave_place};
+ghost use Rattle.wap_context.specs.Browsers.{ChangesVarsAndTimer};
 ghost use Rattle.wap_context.specs.inside.Held.{held, show_at, screen_at, refuse_at};
 ghost use Rattle.wap_context.specs.inside.Held.{leave_and_set_at, refresh_at, restart_place};
 ghost use Rattle.wap_context.specs.inside.Moving.{PlaysAt};
@@ -25,7 +26,8 @@ impl Context {
     /// Shows the current card, if there is one.
     #[tactic(auto, using(wap_state::proofs::Standing::stands_same))]
     pub(crate) fn add_show(&mut self, alloc: Global, lines: &mut Rows<Text>) -> Result<(), NoMemory>
-        ensures { OnOk result (PlaysAt show_at self.old self.new lines.old lines.new) }
+        ensures plays { OnOk result (PlaysAt show_at self.old self.new lines.old lines.new) }
+        ensures left { OnErr result (ChangesVarsAndTimer self.old self.new) }
     {
         let number = self.state.card_number();
         match here(&self.deck, number) {

@@ -1,8 +1,8 @@
 //! Time that passes on a card (WAP-191, section 11.7), and in a dialog.
-ghost use Rattle.std.specs.Prelude.{◌≡◌, OnOk};
+ghost use Rattle.std.specs.Prelude.{◌≡◌, OnOk, OnErr};
 ghost use Rattle.wap_world.specs.Screens.{at_place};
 ghost use Rattle.wap_context.specs.Acting.{tick};
-ghost use Rattle.wap_context.specs.Browsers.{place_held};
+ghost use Rattle.wap_context.specs.Browsers.{place_held, ChangesVarsAndTimer};
 ghost use Rattle.wap_context.specs.inside.Moving.{PlaysAt, Pursues};
 ghost use Rattle.wap_context.specs.inside.Ticking.{left_at, end_place, run_out, expire_place};
 ghost use Rattle.wap_context.specs.inside.Ticking.{count_down_at};
@@ -88,8 +88,9 @@ impl Context {
     /// waits for the end of the script.
     #[tactic(auto, using(wap_state::proofs::Standing::stands_same))]
     fn expire(&mut self, alloc: Global, lines: &mut Rows<Text>) -> Result<(), NoMemory>
-        ensures { OnOk result
+        ensures plays { OnOk result
             (PlaysAt (at_place expire_place) self.old self.new lines.old lines.new) }
+        ensures left { OnErr result (ChangesVarsAndTimer self.old self.new) }
     {
         let number = self.state.card_number();
         match here(&self.deck, number) {
@@ -107,8 +108,9 @@ impl Context {
         left: u32,
         lines: &mut Rows<Text>,
     ) -> Result<(), NoMemory>
-        ensures { OnOk result
+        ensures plays { OnOk result
             (PlaysAt (count_down_at time left) self.old self.new lines.old lines.new) }
+        ensures left { OnErr result (ChangesVarsAndTimer self.old self.new) }
     {
         if time < left {
             self.state.timer = Timer::Running(left - time);

@@ -26,4 +26,4 @@ returns-in-Set c =
     (λ lines so. enters c.args.context.now c.enter_text.new.self c.show.new.self c.args.number
     c.args.text.now entered.Set lines
     c.in_ok-enter_text.ensures.vars (sym c.in-Set.is ∙ c.in_ok-enter_text.ensures.answer) so)
-    c.show.ensures
+    c.show.ensures.shows

@@ -8,4 +8,4 @@ returns c =
     on_ok c.add_show.result
     (plays_behind (refusal_line c.args.refusal) show_at c.args.self.now c.add_show.new.self
     c.args.lines.now c.add_refusal.new.lines c.add_show.new.lines c.in_ok-add_refusal.ensures.ok)
-    c.add_show.ensures
+    c.add_show.ensures.plays

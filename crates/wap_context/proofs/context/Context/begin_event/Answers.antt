@@ -10,4 +10,4 @@ pub returns-in_ok-add_show-in-None : goal.returns-in_ok-add_show-in-None
 returns-in_ok-add_show-in-None c =
     begin_none c.args.event c.args.self.now c.add_show.new.self c.args.lines.now
     c.add_show.new.lines c.in_ok-task.field-0 c.in_ok-task.ensures c.in-None.is
-    c.in_ok-add_show-in-None.ensures
+    c.in_ok-add_show-in-None.ensures.plays
