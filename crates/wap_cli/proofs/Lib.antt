@@ -1,5 +1,6 @@
 pub mod Answering
 pub mod Serving
+pub mod Seeing
 pub mod Unjudging
 pub mod Calling
 pub mod Sourcing

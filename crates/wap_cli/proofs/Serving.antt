@@ -24,8 +24,9 @@ use Rattle.wap_prepare.proofs.Ending.{nothing_done}
 use Rattle.wap_made.proofs.Ending.{nothing_made}
 use Rattle.wap_replay.proofs.Over.{nothing_replayed}
 use Rattle.wap_cli.specs.Answers.{IsPageOf, IsOfPage, Answers, page_of}
-use Rattle.wap_cli.specs.Devices.{Devices, browsed, around}
+use Rattle.wap_cli.specs.Devices.{Devices, around}
 use Rattle.wap_cli.specs.Headline.{begun_by, each_begun_by, IsAnswer, Serves, ServesUnread, Runs}
+use Rattle.wap_cli.proofs.Seeing.{browsed}
 use Rattle.wap_cli.proofs.Sourcing.{browses_over}
 use Rattle.wap_cli.proofs.SourcedSessions.{images_over, resumes_over}
 use Rattle.wap_cli.proofs.SourcedLists.{replays_over}

@@ -17,9 +17,10 @@ use Rattle.wap_browse.proofs.Optional.{if_some, some_fact}
 use Rattle.wap_resume.specs.Saving.{opened_at, unshown, EndsAt, IsWhole, Images, ImagesSeen}
 use Rattle.wap_resume.specs.Resuming.{resumed_at, asked_once, Hinders, Unbegun, Resumes}
 use Rattle.wap_resume.specs.Resuming.{ResumesSeen}
-use Rattle.wap_cli.specs.Devices.{Devices, browsed}
+use Rattle.wap_cli.specs.Devices.{Devices}
 use Rattle.wap_cli.specs.Browsing.{ArePagesOf, site_over}
 use Rattle.wap_cli.specs.SavedSessions.{ImagesOver, ResumesOver}
+use Rattle.wap_cli.proofs.Seeing.{browsed}
 use Rattle.wap_cli.proofs.Sourcing.{browses_too, units_of}
 use Rattle.wap_cli.proofs.Unjudging.{without_pages, browses_unjudged}
 

@@ -29,9 +29,10 @@ use Rattle.wap_browse.specs.Handling.{bytes_of}
 use Rattle.wap_browse.specs.Plays.{ArePagesOf as AreSeen, opened}
 use Rattle.wap_browse.specs.Headline.{Shows, Reads, Browses, BrowsesSeen}
 use Rattle.wap_browse.proofs.Optional.{if_some, some_fact}
-use Rattle.wap_cli.specs.Devices.{Devices, browsed, unjudged}
+use Rattle.wap_cli.specs.Devices.{Devices, unjudged}
 use Rattle.wap_cli.specs.Browsing.{PagesAndCalls, ArePagesOf, site_over, opened_over}
 use Rattle.wap_cli.specs.Browsing.{WritesOver, BrowsesOver}
+use Rattle.wap_cli.proofs.Seeing.{browsed}
 use Rattle.wap_cli.proofs.Calling.{site_units}
 use Rattle.wap_cli.proofs.Unjudging.{browses_unjudged}
 

@@ -3,7 +3,6 @@ use Rattle.std.specs.Prelude.{ℕ, [], Some, None}
 use Rattle.wap_devices.specs.Stores.{StoreSeen}
 use Rattle.wap_devices.specs.Sources.{SourceSeen}
 use Rattle.wap_devices.specs.Sinks.{SinkSeen}
-use Rattle.wap_pages.specs.Caches.{seen_over}
 use Rattle.wap_browse.specs.Outside.{Outside}
 use Rattle.wap_replay.specs.Outside.{Outside as Around}
 
@@ -13,15 +12,8 @@ pub record Devices : Type 0 where
   pub source : SourceSeen
   pub sink : SinkSeen
 
--- as a browser sees them: the pages are judged by their bytes, and none of so many is kept yet
-abbrev pub browsed : ℕ → Devices → Outside
-browsed capacity devices = record {
-  pages = seen_over devices.store (record { names = []; capacity = capacity });
-  source = devices.source;
-  sink = devices.sink;
-}
-
--- as its headline sees them: of the pages there are the bytes, and not what they are judged
+-- as a browser sees them: of the pages there are the bytes, and not what they are judged, and none
+-- of so many is kept yet
 abbrev pub unjudged : ℕ → Devices → Outside
 unjudged capacity devices = record {
   pages = record {

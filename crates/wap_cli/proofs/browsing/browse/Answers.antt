@@ -5,8 +5,9 @@ use Rattle.wap_browse.proofs.Exits.{nothing_browses}
 use Rattle.wap_browse.proofs.Summary.{browses_by}
 use Rattle.wap_browse.proofs.Forgetting.{browsed_over, outside_over}
 use Rattle.wap_cli.specs.Browsing.{BrowsesOver}
-use Rattle.wap_cli.specs.Devices.{Devices, browsed}
+use Rattle.wap_cli.specs.Devices.{Devices}
 use Rattle.wap_cli.specs.Headline.{begun_by}
+use Rattle.wap_cli.proofs.Seeing.{browsed}
 use Rattle.wap_cli.proofs.Sourcing.{browses_over, fresh_pages}
 use Rattle.wap_cli.proofs.browsing.browse.Goals as goal
 

@@ -1,9 +1,10 @@
 use Rattle.std.proofs.Common.{sym, subst}
 use Rattle.wap_status.specs.declared.status.Status.TheVariants.{NoMemory}
 use Rattle.wap_resume.proofs.Going.{nothing_imaged, imaged_over}
-use Rattle.wap_cli.specs.Devices.{Devices, browsed}
+use Rattle.wap_cli.specs.Devices.{Devices}
 use Rattle.wap_cli.specs.Headline.{begun_by}
 use Rattle.wap_cli.specs.SavedSessions.{ImagesOver}
+use Rattle.wap_cli.proofs.Seeing.{browsed}
 use Rattle.wap_cli.proofs.SourcedSessions.{images_over}
 use Rattle.wap_cli.proofs.saved.image.Goals as goal
 
