@@ -1,5 +1,5 @@
 -- Parts and marks that are added at the end give what they give all together.
-use Rattle.std.proofs.Common.{◌≡◌, ℕ, ◌+◌, ◌<◌, length, get_or, take, List, [], ◌∷◌, ◌++◌}
+use Rattle.std.proofs.Common.{◌≡◌, ℕ, List, [], ◌∷◌, ◌++◌}
 use Rattle.std.proofs.Common.{Option, Some, None, refl, sym, ap, ◌∙◌, append_assoc}
 use Rattle.std.specs.List.{filter_map, cons_option}
 use Rattle.std.proofs.lemmas.List.{append-nil}
@@ -11,7 +11,6 @@ use Rattle.wap_markup.specs.declared.deck.Node.{Node}
 use Rattle.wap_markup.specs.declared.deck.Item.{Item}
 use Rattle.wap_markup.specs.declared.deck.Item.TheVariants as item
 use Rattle.wap_markup.specs.Trees.{words_of}
-use Rattle.wap_deck.proofs.Kept.{take_to}
 use Rattle.wap_deck.proofs.Items.{words_of-Text, words_of-Node}
 use Rattle.wap_markup.specs.Decks.{literal, piece_part, value_after, before, joined, Mark, part}
 use Rattle.wap_markup.specs.Decks.{node, text_before, part_before, mark_before, items_of}
@@ -66,7 +65,7 @@ cons_option-append None parts more = refl
 cons_option-append (Some first) parts more = refl
 
 -- one more piece of a value
-value_after_added : (text : List ℕ) (pieces : List Piece) (piece : Piece)
+pub value_after_added : (text : List ℕ) (pieces : List Piece) (piece : Piece)
     → value_after text (pieces ++ piece ∷ [])
     ≡ any_added (value_after text pieces) (piece_part piece)
 value_after_added text pieces piece =
@@ -74,17 +73,6 @@ value_after_added text pieces piece =
     ap (λ parts. joined (cons_option (literal text) parts)) (filter_map-last pieces piece)
     ∙ ap joined (cons_option-append (literal text) (filter_map piece_part pieces)
     (cons_option (piece_part piece) [])) ∙ any-added begun (piece_part piece)
-
-pub value_after_more : (text : List ℕ) (pieces : List Piece) (i : ℕ) (piece : Piece)
-    (value more : List Part) (one : Option Part) → i < length pieces
-    → piece ≡ get_or pieces i piece →
-    value ≡ value_after text (take i pieces) → one ≡ piece_part piece → more ≡ any_added value one
-    → more ≡ value_after text (take (i + 1) pieces)
-value_after_more text pieces i piece value more one within is so gives added =
-    added ∙ ap (λ value. any_added value one) so
-    ∙ ap (any_added (value_after text (take i pieces))) gives
-    ∙ sym (value_after_added text (take i pieces) piece)
-    ∙ ap (value_after text) (sym (take_to pieces i piece within is))
 
 -- ---- items
 

@@ -2,17 +2,17 @@
 ghost use Rattle.std.specs.Prelude.{◌≡◌, [], ◌∷◌, ◌++◌, IfOk, OnOk};
 ghost use Rattle.wap_markup.specs.Decks.{literal, character, reference, before};
 ghost use Rattle.wap_markup.specs.Decks.{piece_part, value_after};
+ghost use Rattle.wap_markup.specs.declared.document.Piece.TheVariants.{Code};
 ghost use Rattle.wap_deck.specs.inside.Adding.{part_added, any_added};
 ghost use Rattle.std.specs.Str.{chars};
 
 use crate::room::rows_for;
 use std::alloc::Global;
 use wap_base::{Conv, Name, NameFault, NoMemory, Part, Rows, Text};
-use wap_markup::Piece;
 use wap_tokens::attr_value;
 
 /// A literal, if it has a character.
-pub(crate) fn literal(text: Text) -> Option<Part>
+pub fn literal(text: Text) -> Option<Part>
     ensures { result ≡ literal text }
 {
     if text.is_empty() {
@@ -23,7 +23,7 @@ pub(crate) fn literal(text: Text) -> Option<Part>
 }
 
 /// A character by its number.
-pub(crate) fn character(alloc: Global, number: u32) -> Result<Option<Part>, NoMemory>
+pub fn character(alloc: Global, number: u32) -> Result<Option<Part>, NoMemory>
     ensures { IfOk result (λ part. part ≡ character number) }
 {
     let Some(character) = char::from_u32(number) else {
@@ -35,7 +35,7 @@ pub(crate) fn character(alloc: Global, number: u32) -> Result<Option<Part>, NoMe
 }
 
 /// A reference to a variable, if its name is one.
-pub(crate) fn reference(alloc: Global, name: &Text, conv: Conv) -> Result<Option<Part>, NoMemory>
+pub fn reference(alloc: Global, name: &Text, conv: Conv) -> Result<Option<Part>, NoMemory>
     ensures { IfOk result (λ part. part ≡ reference name.now conv) }
 {
     match Name::of(alloc, name) {
@@ -46,25 +46,12 @@ pub(crate) fn reference(alloc: Global, name: &Text, conv: Conv) -> Result<Option
 }
 
 /// A part that a code stands for, if it has a text.
-fn decode_part(alloc: Global, page: u8, code: u8) -> Result<Option<Part>, NoMemory>
-    ensures { IfOk result (λ part. part ≡ piece_part (Piece.Code page code)) }
+pub fn decode_part(alloc: Global, page: u8, code: u8) -> Result<Option<Part>, NoMemory>
+    ensures { IfOk result (λ part. part ≡ piece_part (Code page code)) }
 {
     match attr_value(page, code) {
         Some(text) => Ok(literal(Text::of(alloc, text)?)),
         None => Ok(None),
-    }
-}
-
-/// What a part of an attribute's value gives.
-fn part_of(alloc: Global, piece: &Piece) -> Result<Option<Part>, NoMemory>
-    ensures { IfOk result (λ part. part ≡ piece_part piece.now) }
-{
-    match piece {
-        Piece::Code(page, code) => decode_part(alloc, *page, *code),
-        Piece::Str(text) => Ok(literal(text.copy(alloc)?)),
-        Piece::Entity(number) => character(alloc, *number),
-        Piece::Var(name, conv) => reference(alloc, name, *conv),
-        Piece::Ext(_) | Piece::Opaque(_) => Ok(None),
     }
 }
 
@@ -102,7 +89,7 @@ pub(crate) fn add_part(parts: &mut Rows<Part>, part: Part) -> Result<(), NoMemor
 }
 
 /// Adds a part at the end, if there is one.
-fn add_any(parts: &mut Rows<Part>, part: Option<Part>) -> Result<(), NoMemory>
+pub fn add_any(parts: &mut Rows<Part>, part: Option<Part>) -> Result<(), NoMemory>
     ensures { OnOk result (parts.new ≡ any_added parts.old part) }
 {
     match part {
@@ -111,24 +98,13 @@ fn add_any(parts: &mut Rows<Part>, part: Option<Part>) -> Result<(), NoMemory>
     }
 }
 
-/// The beginning of a value, with this text, and room for so many parts.
-fn begin_value(alloc: Global, text: &str, room: usize) -> Result<Rows<Part>, NoMemory>
+/// The beginning of a value, with this text, and room for a part.
+pub fn begin_value(alloc: Global, text: &str) -> Result<Rows<Part>, NoMemory>
     ensures { IfOk result (λ value. value ≡ value_after (chars text.now) []) }
 {
-    let mut value = rows_for(alloc, room)?;
+    let mut value = rows_for(alloc, 1)?;
     if let Some(part) = literal(Text::of(alloc, text)?) {
         value.add(part)?;
-    }
-    Ok(value)
-}
-
-/// The value of an attribute, after the text of its start.
-pub(crate) fn value(alloc: Global, text: &str, pieces: &[Piece]) -> Result<Rows<Part>, NoMemory>
-    ensures { IfOk result (λ value. value ≡ value_after (chars text.now) pieces.now) }
-{
-    let mut value = begin_value(alloc, text, pieces.len())?;
-    for piece in pieces {
-        add_any(&mut value, part_of(alloc, piece)?)?;
     }
     Ok(value)
 }

@@ -5,7 +5,7 @@ use std::alloc::Global;
 use wap_base::{NoMemory, Rows};
 
 /// No items yet, and room for so many.
-pub(crate) fn rows_for<T>(alloc: Global, count: usize) -> Result<Rows<T>, NoMemory>
+pub fn rows_for<T>(alloc: Global, count: usize) -> Result<Rows<T>, NoMemory>
     ensures { IfOk result (λ rows. rows ≡ []) }
 {
     Ok(Rows::from_vec(Vec::with_capacity(alloc, count)?))

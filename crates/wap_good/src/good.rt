@@ -18,10 +18,10 @@ use crate::view::View;
 use std::alloc::Global;
 use std::marker::Model;
 use wap_base::{Bytes, NoMemory, Rows, Text, read_mb};
-use wap_deck::deck_of;
 use wap_markup::{AttrName, Deck, LEVEL_LIMIT, Tag};
+use wap_reading::read_deck;
 use wap_spelling::{decks_are_spellable, spelling_is_read};
-use wap_wbxml::{DocFault, decode};
+use wap_wbxml::DocFault;
 use wap_writing::spell;
 
 /// A good deck (WAP-191, section 11), kept as the bytes that spell its document. A contract sees
@@ -132,11 +132,8 @@ impl GoodDeck {
     {
         decks_are_spellable();
         spelling_is_read();
-        match decode(alloc, self.bytes.as_slice()) {
-            Ok(document) => {
-                let deck = deck_of(alloc, &document)?;
-                Ok(deck)
-            }
+        match read_deck(alloc, self.bytes.as_slice()) {
+            Ok(deck) => Ok(deck),
             Err(fault) => match fault {
                 DocFault::NoMemory => Err(NoMemory),
                 _ => unreachable!(),

@@ -1,10 +1,11 @@
 //! Commands on a document.
-ghost use Rattle.std.specs.Prelude.{◌≡◌, ℕ, List, IfOk, Ok, Err};
+ghost use Rattle.std.specs.Prelude.{◌≡◌, ℕ, List, IfOk, OnOk, Ok, Err};
 ghost use Rattle.wap_base.specs.Outcome.{Meets};
 ghost use Rattle.wap_markup.specs.declared.document.Document.{Document};
 ghost use Rattle.wap_markup.specs.Documents.{IsDocument};
 ghost use Rattle.wap_markup.specs.Decks.{deck_of};
 ghost use Rattle.wap_markup.specs.Good.{IsGood};
+ghost use Rattle.wap_markup.specs.Normal.{IsNormal};
 ghost use Rattle.wap_inspect.specs.Documents.{IsCanonical, deck_line, IsDeckOf, IsCheckLine};
 ghost use Rattle.wap_pages.specs.Refusals.{RefusesDocument, IsDeckRefused, RefusesCheck};
 ghost use Rattle.wap_pages.specs.declared.fault.PageErr.TheVariants as error;
@@ -13,10 +14,9 @@ ghost use Rattle.wap_pages.specs.declared.fault.PageFault.{PageFault};
 use itoa::Buffer;
 use std::alloc::Global;
 use wap_base::{Bytes, NoMemory};
-use wap_deck::deck_of;
 use wap_deckcheck::{card_count, judge_deck};
-use wap_markup::{Deck, Document};
-use wap_pages::{PageErr, document_in};
+use wap_markup::Deck;
+use wap_pages::{PageErr, deck_in, document_in};
 use wap_spelling::{documents_are_spellable, encode};
 
 /// The one spelling of a page that is a document.
@@ -32,21 +32,20 @@ pub fn canonical(alloc: Global, bytes: &[u8]) -> Result<Bytes, PageErr>
     Ok(encode(alloc, &document)?)
 }
 
-/// The deck that a document means, if it is good.
-fn good_deck_of(alloc: Global, document: &Document) -> Result<Deck, PageErr>
-    ensures found { IfOk result (λ deck. deck ≡ deck_of document.now × IsGood deck) }
-    ensures only { IsGood (deck_of document.now)
-        → Meets error.NoMemory (λ deck. deck) result (Ok (deck_of document.now)) }
+/// Nothing, where a deck is good.
+fn judge(alloc: Global, deck: &Deck) -> Result<(), PageErr>
+    requires { IsNormal deck.now }
+    ensures good { OnOk result (IsGood deck.now) }
+    ensures only { IsGood deck.now → Meets error.NoMemory (λ none. none) result (Ok tt) }
     ensures refused { (fault : PageFault) → result ≡ Err (error.Refused fault)
-        → IsDeckRefused document.now fault }
+        → IsDeckRefused deck.now fault }
 {
-    let deck = deck_of(alloc, document)?;
-    judge_deck(alloc, &deck)?;
-    Ok(deck)
+    judge_deck(alloc, deck)?;
+    Ok(())
 }
 
 /// The deck of a page, if it is good.
-fn deck_in(alloc: Global, bytes: &[u8]) -> Result<Deck, PageErr>
+fn good_deck_in(alloc: Global, bytes: &[u8]) -> Result<Deck, PageErr>
     ensures found { IfOk result (λ deck. IsDeckOf bytes.now deck) }
     ensures only { (document : Document) → IsDocument bytes.now document
         → IsGood (deck_of document)
@@ -54,8 +53,9 @@ fn deck_in(alloc: Global, bytes: &[u8]) -> Result<Deck, PageErr>
     ensures refused { (fault : PageFault) → result ≡ Err (error.Refused fault)
         → RefusesCheck bytes.now fault }
 {
-    let document = document_in(alloc, bytes)?;
-    good_deck_of(alloc, &document)
+    let deck = deck_in(alloc, bytes)?;
+    judge(alloc, &deck)?;
+    Ok(deck)
 }
 
 /// The line of a page that is a document with a good deck.
@@ -66,7 +66,7 @@ pub fn check_line(alloc: Global, bytes: &[u8]) -> Result<Bytes, PageErr>
     ensures refused { (fault : PageFault) → result ≡ Err (error.Refused fault)
         → RefusesCheck bytes.now fault }
 {
-    let deck = deck_in(alloc, bytes)?;
+    let deck = good_deck_in(alloc, bytes)?;
     Ok(line_of(alloc, &deck)?)
 }
 

@@ -643,9 +643,10 @@ pub document_unread : (bytes : List ℕ) (why : PageErr)
 document_unread bytes (error.Refused found) is = is found refl
 document_unread bytes error.NoMemory is = tt
 
--- what a document is judged, its bytes are
+-- what the deck of a document is judged, its bytes are
 pub document_read : (bytes : List ℕ) (document : Document) → IsDocument bytes document
-    → (answer : Result Page PageErr) → JudgesDeck document answer → Judges kind.Deck bytes answer
+    → (answer : Result Page PageErr) → JudgesDeck (deck_of document) answer
+    → Judges kind.Deck bytes answer
 document_read bytes document spells (Ok one) is =
     record { document = document; spells = spells; deck = is }
 document_read bytes document spells (Err (error.Refused why)) is =
@@ -666,10 +667,10 @@ pub source_unread : (bytes : List ℕ) (why : PageErr)
 source_unread bytes (error.Refused found) is = is found refl
 source_unread bytes error.NoMemory is = tt
 
--- a document whose deck isn't good is refused for the first fault
-pub deck_refused_for : (document : Document) (why : DeckFault)
-    → (why ≢ deck_fault.NoMemory → first_fault (faults (deck_of document)) ≡ Some why)
-    → JudgesDeck document (Err (deck_error why))
-deck_refused_for document why is =
-    deck_cases (λ (e : PageErr). JudgesDeck document (Err e)) why (λ none. tt)
+-- a deck that isn't good is refused for the first fault
+pub deck_refused_for : (deck : Deck) (why : DeckFault)
+    → (why ≢ deck_fault.NoMemory → first_fault (faults deck) ≡ Some why)
+    → JudgesDeck deck (Err (deck_error why))
+deck_refused_for deck why is =
+    deck_cases (λ (e : PageErr). JudgesDeck deck (Err e)) why (λ none. tt)
     (λ some. IsDeckRefused.deck why (is some))

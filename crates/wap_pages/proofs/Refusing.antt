@@ -3,6 +3,7 @@
 use Rattle.std.proofs.Common.{◌≡◌, ◌≢◌, ℕ, List, Result, Ok, Err, refl, subst}
 use Rattle.std.specs.Prelude.{Some}
 use Rattle.wap_markup.specs.declared.document.Document.{Document}
+use Rattle.wap_markup.specs.declared.deck.Deck.{Deck}
 use Rattle.wap_markup.specs.Documents.{IsDocument}
 use Rattle.wap_markup.specs.Decks.{deck_of}
 use Rattle.wap_wbxml.specs.Refusal as documents
@@ -110,10 +111,10 @@ module _ (bytes : List ℕ) (fault : DocFault) where
 
 -- ---- the deck isn't good
 
-module _ (one : Document) (fault : DeckFault) where
-  -- a document that is refused has a deck with this fault first
+module _ (one : Deck) (fault : DeckFault) where
+  -- a deck that is refused has this fault first
   pub deck_refused : (why : PageFault)
-      → (fault ≢ deck.NoMemory → first_fault (faults (deck_of one)) ≡ Some fault)
+      → (fault ≢ deck.NoMemory → first_fault (faults one) ≡ Some fault)
       → deck_error fault ≡ Refused why → IsDeckRefused one why
   deck_refused why is = deck_cases (λ error. error ≡ Refused why → IsDeckRefused one why) fault
       (λ none e. absurd cc)
@@ -128,9 +129,9 @@ pub by_document : (bytes : List ℕ) (why : PageFault) → RefusesDocument bytes
     → RefusesCheck bytes why
 by_document bytes why (RefusesDocument.document fault is) = RefusesCheck.document fault is
 
--- and so does what refuses their document
+-- and so does what refuses the deck of their document
 pub by_deck : (bytes : List ℕ) (one : Document) (why : PageFault) → IsDocument bytes one
-    → IsDeckRefused one why → RefusesCheck bytes why
+    → IsDeckRefused (deck_of one) why → RefusesCheck bytes why
 by_deck bytes one why spells (IsDeckRefused.deck fault is) = RefusesCheck.deck one fault spells is
 
 -- ---- the unit may not be run

@@ -2,6 +2,7 @@
 -- document whose deck is good. This project's own.
 use Rattle.std.specs.Prelude.{◌≡◌, ℕ, List, Some}
 use Rattle.wap_markup.specs.declared.document.Document.{Document}
+use Rattle.wap_markup.specs.declared.deck.Deck.{Deck}
 use Rattle.wap_markup.specs.Documents.{IsDocument}
 use Rattle.wap_markup.specs.Decks.{deck_of}
 use Rattle.wap_deckcheck.specs.Faults.{faults, first_fault}
@@ -32,10 +33,9 @@ pub data RefusesVerify (bytes : List ℕ) : PageFault → Type 0 where
 pub data RefusesDocument (bytes : List ℕ) : PageFault → Type 0 where
   document : (why : _) → documents.IsRefused bytes why → RefusesDocument bytes (page.Document why)
 
--- the document's deck isn't good, for the first of its faults
-pub data IsDeckRefused (document : Document) : PageFault → Type 0 where
-  deck : (why : _) → first_fault (faults (deck_of document)) ≡ Some why
-      → IsDeckRefused document (page.Deck why)
+-- the deck isn't good, for the first of its faults
+pub data IsDeckRefused (one : Deck) : PageFault → Type 0 where
+  deck : (why : _) → first_fault (faults one) ≡ Some why → IsDeckRefused one (page.Deck why)
 
 -- the bytes are no document, or one whose deck isn't good
 pub data RefusesCheck (bytes : List ℕ) : PageFault → Type 0 where

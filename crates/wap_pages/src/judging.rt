@@ -1,17 +1,17 @@
 //! Judging a page by its name and bytes.
 ghost use Rattle.std.specs.Prelude.{◌≡◌, ◌<◌, ◌^◌, false, length, IfOk, Err};
 ghost use Rattle.wap_base.specs.Outcome.{Meets};
+ghost use Rattle.wap_markup.specs.Normal.{IsNormal};
 ghost use Rattle.wap_pages.specs.Judged.{page_of_bytes, Refuses, may_differ};
 ghost use Rattle.wap_pages.specs.inside.Judging.{Judges, JudgesDeck};
 ghost use Rattle.wap_pages.specs.declared.fault.PageErr.TheVariants as error;
 
-use crate::reading::{compiled_in, document_in, verified_in};
+use crate::reading::{compiled_in, deck_in, verified_in};
 use crate::{Kind, PageErr, PageFault};
 use std::alloc::Global;
 use wap_base::{Charset, Text};
-use wap_deck::deck_of;
 use wap_deckcheck::check;
-use wap_markup::Document;
+use wap_markup::Deck;
 use wap_site::{Page, Shared};
 
 /// The page of a name with these bytes. It is never `Missing` or `Refused`: where a page is
@@ -46,15 +46,15 @@ fn judge_by_kind(alloc: Global, kind: Kind, bytes: &[u8]) -> Result<Page, PageEr
 fn judge_deck(alloc: Global, bytes: &[u8]) -> Result<Page, PageErr>
     ensures { Judges Kind.Deck bytes.now result }
 {
-    let document = document_in(alloc, bytes)?;
-    judge_document(alloc, &document)
+    let deck = deck_in(alloc, bytes)?;
+    judge_read(alloc, deck)
 }
 
-/// The deck that a document means, if it is good.
-fn judge_document(alloc: Global, document: &Document) -> Result<Page, PageErr>
-    ensures { JudgesDeck document.now result }
+/// A deck that was read, if it is good.
+fn judge_read(alloc: Global, deck: Deck) -> Result<Page, PageErr>
+    requires { IsNormal deck }
+    ensures { JudgesDeck deck result }
 {
-    let deck = deck_of(alloc, document)?;
     match check(alloc, deck) {
         Ok(good) => Ok(Page::Deck(Shared::new(alloc, good)?)),
         Err((_, fault)) => Err(PageErr::from(fault)),

@@ -18,5 +18,5 @@ pub use fault::{PageErr, PageFault};
 pub use judging::judge;
 pub use kind::Kind;
 pub use law::{pages_are_judged, refused_pages_have_faults};
-pub use reading::{compiled_in, document_in, unit_in, verified_in};
+pub use reading::{compiled_in, deck_in, document_in, unit_in, verified_in};
 pub use threads::all_cross;

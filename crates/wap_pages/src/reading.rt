@@ -3,6 +3,8 @@ ghost use Rattle.std.specs.Prelude.{◌≡◌, ◌<◌, ◌^◌, length, IfOk, O
 ghost use Rattle.wap_base.specs.Outcome.{Meets};
 ghost use Rattle.wap_markup.specs.declared.document.Document.{Document};
 ghost use Rattle.wap_markup.specs.Documents.{IsDocument};
+ghost use Rattle.wap_markup.specs.Decks.{deck_of};
+ghost use Rattle.wap_markup.specs.Normal.{IsNormal};
 ghost use Rattle.wap_code.specs.declared.unit.Unit.{Unit};
 ghost use Rattle.wap_unit.specs.Units.{IsUnit};
 ghost use Rattle.wap_verify.specs.Sound.{IsVerified};
@@ -17,7 +19,8 @@ ghost use Rattle.wap_pages.specs.declared.fault.PageFault.{PageFault};
 use crate::PageErr;
 use std::alloc::Global;
 use wap_codegen::compile;
-use wap_markup::Document;
+use wap_markup::{Deck, Document};
+use wap_reading::read_deck;
 use wap_unit::Unit;
 use wap_verify::{Verified, verify};
 
@@ -30,6 +33,19 @@ pub fn document_in(alloc: Global, bytes: &[u8]) -> Result<Document, PageErr>
         → RefusesDocument bytes.now fault }
 {
     Ok(wap_wbxml::decode(alloc, bytes)?)
+}
+
+/// The deck of the document that the bytes are. It needn't be good.
+pub fn deck_in(alloc: Global, bytes: &[u8]) -> Result<Deck, PageErr>
+    ensures found { IfOk result (λ deck.
+        (document : Document) × IsDocument bytes.now document × (deck ≡ deck_of document)) }
+    ensures only { (document : Document) → IsDocument bytes.now document
+        → Meets error.NoMemory (λ deck. deck) result (Ok (deck_of document)) }
+    ensures normal { IfOk result IsNormal }
+    ensures refused { (fault : PageFault) → result ≡ Err (error.Refused fault)
+        → RefusesDocument bytes.now fault }
+{
+    Ok(read_deck(alloc, bytes)?)
 }
 
 /// The unit that the bytes are.

@@ -20,7 +20,7 @@ use wap_markup::{Attr, AttributeMark, Lead, Piece, Token};
 
 /// A processing instruction after its byte: one attribute and an end.
 #[tactic(auto, unfolding(crate::specs::reading::Parts::instruction_at))]
-pub(crate) fn read_instruction<'a>(
+pub fn read_instruction<'a>(
     alloc: Global,
     input: &Input<'_>,
     state: &mut State,
@@ -51,7 +51,7 @@ fn read_end<'a>(input: &Input<'_>, state: &State, bytes: &'a [u8]) -> Result<&'a
 }
 
 /// Attributes up to their end, where there are any.
-pub(crate) fn read_attributes_when<'a>(
+pub fn read_attributes_when<'a>(
     alloc: Global,
     input: &Input<'_>,
     state: &mut State,
@@ -109,7 +109,8 @@ fn next_attribute<'a>(
     Ok((Some(attribute), rest))
 }
 
-fn is_end(mark: AttributeMark) -> bool
+/// Whether a byte ends attributes.
+pub fn is_end(mark: AttributeMark) -> bool
     ensures { result ≡ is_end mark }
 {
     matches!(mark, AttributeMark::End)
@@ -140,7 +141,7 @@ fn read_attribute<'a>(
 
 /// An attribute's start after the byte that it begins with.
 #[tactic(auto, unfolding(crate::specs::reading::Parts::start_at))]
-fn read_start<'a>(
+pub fn read_start<'a>(
     alloc: Global,
     input: &Input<'_>,
     state: &mut State,
@@ -166,7 +167,7 @@ fn read_start<'a>(
 }
 
 /// The parts of a value.
-fn read_pieces<'a>(
+pub fn read_pieces<'a>(
     alloc: Global,
     input: &Input<'_>,
     state: &mut State,

@@ -148,7 +148,7 @@ fn read_root<'a>(
 }
 
 /// Processing instructions outside the root.
-fn read_outers<'a>(
+pub fn read_outers<'a>(
     alloc: Global,
     input: &Input<'_>,
     state: &mut State,

@@ -70,7 +70,7 @@ fn read_parts<'a>(
 
 /// A tag after its byte.
 #[tactic(auto, unfolding(crate::specs::reading::Parts::tag_at))]
-fn read_tag<'a>(
+pub fn read_tag<'a>(
     alloc: Global,
     input: &Input<'_>,
     state: &mut State,

@@ -12,6 +12,14 @@ mod leaves;
 mod marks;
 mod state;
 
-pub use documents::{decode, decode_with, no_two_documents};
+pub use attributes::{is_end, read_attributes_when, read_instruction, read_pieces, read_start};
+pub use documents::{decode, decode_with, no_two_documents, read_outers};
+pub use elements::read_tag;
 pub use fault::DocFault;
+pub use fronts::{find_lead, read_lead, read_opaque};
+pub use header::{find_public, read_charset, read_identifier, read_version};
+pub use input::Input;
+pub use leaves::read_leaf;
+pub use marks::{attribute_mark, content_mark, has_attributes, has_content};
+pub use state::State;
 pub use wap_markup::{Attr, Document, Element, Kid, Piece, Token};

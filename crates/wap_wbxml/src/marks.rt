@@ -11,7 +11,7 @@ use wap_markup::{
 
 /// What a byte says in content.
 #[tactic(auto, unfolding(wap_markup::specs::Codes::content_mark))]
-pub(crate) fn content_mark(lead: Lead) -> ContentMark
+pub fn content_mark(lead: Lead) -> ContentMark
     ensures { result ≡ content_mark lead }
 {
     if lead.byte % 64 >= LITERAL {
@@ -31,7 +31,7 @@ pub(crate) fn content_mark(lead: Lead) -> ContentMark
 
 /// What a byte says in attributes.
 #[tactic(auto, unfolding(wap_markup::specs::Codes::attribute_mark))]
-pub(crate) fn attribute_mark(lead: Lead) -> AttributeMark
+pub fn attribute_mark(lead: Lead) -> AttributeMark
     ensures { result ≡ attribute_mark lead }
 {
     if lead.byte % 64 > LITERAL {
@@ -104,14 +104,14 @@ pub(crate) fn is_named(tag: u8) -> bool
 }
 
 /// Whether attributes stand after a tag.
-pub(crate) fn has_attributes(tag: u8) -> bool
+pub fn has_attributes(tag: u8) -> bool
     ensures { result ≡ has_attributes tag }
 {
     tag >= 128
 }
 
 /// Whether content stands after a tag, and after its attributes if it has them.
-pub(crate) fn has_content(tag: u8) -> bool
+pub fn has_content(tag: u8) -> bool
     ensures { result ≡ has_content tag }
 {
     tag % 128 >= 64

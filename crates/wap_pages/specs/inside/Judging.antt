@@ -3,6 +3,7 @@ use Rattle.std.specs.Prelude.{⊤, ◌≡◌, ℕ, List, Some, Result, Ok, Err}
 use Rattle.wap_base.specs.Charsets.{text_in}
 use Rattle.wap_base.specs.declared.charset.Charset.TheVariants.{Utf8}
 use Rattle.wap_markup.specs.declared.document.Document.{Document}
+use Rattle.wap_markup.specs.declared.deck.Deck.{Deck}
 use Rattle.wap_markup.specs.Documents.{IsDocument}
 use Rattle.wap_markup.specs.Decks.{deck_of}
 use Rattle.wap_markup.specs.Good.{IsGood}
@@ -21,16 +22,16 @@ use Rattle.wap_pages.specs.declared.fault.PageErr.TheVariants.{Refused, NoMemory
 use Rattle.wap_pages.specs.Refusals.{IsDeckRefused}
 use Rattle.wap_pages.specs.Judged.{RefusesAs}
 
--- the page is the deck of a document, and it is good
-pub record IsDeckOf (document : Document) (one : Page) : Type 0 where
-  pub is : one ≡ page.Deck (deck_of document)
-  pub good : IsGood (deck_of document)
+-- the page is a deck, and it is good
+pub record IsDeck (deck : Deck) (one : Page) : Type 0 where
+  pub is : one ≡ page.Deck deck
+  pub good : IsGood deck
 
--- so it is of the bytes
+-- it is the deck of the document that the bytes are
 pub record IsDeckIn (bytes : List ℕ) (one : Page) : Type 0 where
   pub document : Document
   pub spells : IsDocument bytes document
-  pub deck : IsDeckOf document one
+  pub deck : IsDeck (deck_of document) one
 
 -- the page is the unit that the bytes are, and it may be run
 pub record IsUnitIn (bytes : List ℕ) (one : Page) : Type 0 where
@@ -64,8 +65,8 @@ Judges kind bytes (Ok one) = IsPageAs kind bytes one
 Judges kind bytes (Err (Refused why)) = RefusesAs kind bytes why
 Judges kind bytes (Err NoMemory) = ⊤
 
--- so is the answer on a document that is read as a deck
-abbrev pub JudgesDeck : Document → Result Page PageErr → Type 0
-JudgesDeck document (Ok one) = IsDeckOf document one
-JudgesDeck document (Err (Refused why)) = IsDeckRefused document why
-JudgesDeck document (Err NoMemory) = ⊤
+-- so is the answer on a deck
+abbrev pub JudgesDeck : Deck → Result Page PageErr → Type 0
+JudgesDeck deck (Ok one) = IsDeck deck one
+JudgesDeck deck (Err (Refused why)) = IsDeckRefused deck why
+JudgesDeck deck (Err NoMemory) = ⊤

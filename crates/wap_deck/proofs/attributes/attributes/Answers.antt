@@ -1,7 +1,0 @@
-use Rattle.std.proofs.Common.{arith}
-use Rattle.std.proofs.lemmas.Grind.{common_steps}
-use Rattle.std.proofs.lemmas.List.Elements.{filter_map-append}
-use Rattle.wap_deck.proofs.attributes.attributes.Goals as goal
-
-pub loop-attr-preserved : goal.loop-attr-preserved
-loop-attr-preserved c = grind (arith, common_steps, filter_map-append)

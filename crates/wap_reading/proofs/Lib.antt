@@ -1,0 +1,7 @@
+pub mod Loops
+pub mod ValuePieces
+pub mod KnownAttributes
+pub mod Contents
+pub mod Elements
+pub mod Bodies
+pub mod Answering
