@@ -4,6 +4,8 @@ pub mod Joining
 pub mod Slices
 pub mod Filling
 pub mod Placing
+pub mod Plain
+pub mod Feeds
 pub mod Unique
 pub mod Laying
 pub mod Unwrapped

@@ -10,7 +10,7 @@ ghost use Rattle.wap_layout.specs.inside.Endings.{is_hard};
 
 use crate::fill::add_filled;
 use crate::flow::Ending;
-use crate::words::add_unless_empty;
+use crate::words::{add_unless_empty, cut_at_feed};
 use crate::{Flow, Mode};
 use std::alloc::Global;
 use wap_base::{NoMemory, Rows, Text};
@@ -68,7 +68,7 @@ fn add_kept(
         (kept (slice_split is_line_feed (chars text.now)) (is_hard ending))) }
 {
     let mut rest = text;
-    while let Some((line, after)) = rest.split_once('\n') {
+    while let Some((line, after)) = cut_at_feed(rest) {
         add_piece(alloc, lines, Mode::Preformatted, line, Ending::Hard, width)?;
         rest = after;
     }

@@ -1,9 +1,11 @@
-use Rattle.std.proofs.Common.{rules}
-use Rattle.std.proofs.lemmas.List.Sorted.{answers_always}
-use Rattle.wap_layout.proofs.Slices.{blank_cut}
+use Rattle.std.proofs.Common.{sym, ap, ◌∙◌}
+use Rattle.std.specs.List.{position}
+use Rattle.wap_layout.specs.inside.Slices.{ends_word}
+use Rattle.wap_layout.proofs.Plain.{plain_whole}
 use Rattle.wap_layout.proofs.words.cut_at_blank.Goals as goal
 
-pub returns : goal.returns
-returns c =
-    blank_cut _ c.args.text.now c.split_once.result c.utf8.text c.split_once.ensures.cases
-    (answers_always _ _ _ (λ f a r g h. search rules))
+pub returns-in-None-clause-cut : goal.returns-in-None-clause-cut
+returns-in-None-clause-cut c =
+    plain_whole c.args.text.now
+    (ap (position ends_word) (sym c.as_bytes-bytes.ensures.value)
+    ∙ sym c.word_end.ensures.place ∙ c.in-None.is)

@@ -1,7 +1,7 @@
 use Rattle.std.proofs.Common.{◌≡◌, ◌++◌, ◌≤◌, [], List, ℕ, length, drop}
 use Rattle.std.specs.Str.{chars}
 use Rattle.wap_layout.specs.Calculation.{cut_word, fill}
-use Rattle.wap_layout.proofs.fill.add_cut.Given as goal
+use Rattle.wap_layout.proofs.fill.add_characters.Given as goal
 
 abbrev pub invariant-loop-character : goal.invariant-loop-character
 invariant-loop-character l =
