@@ -22,6 +22,9 @@ use wap_devices::{Fetched, PAGE_LIMIT, Store, StoreErr};
 /// The deepest level of a folder below the store's own, whose folders have level 1.
 const DEEPEST: u32 = 64;
 
+/// The most bytes of a file that are read at once.
+const PIECE: usize = 4096;
+
 /// The regular files below a folder, as pages named `host/path`.
 ///
 /// Below the folder a symbolic link to a file counts as that file, and one to a folder as nothing,
@@ -220,21 +223,30 @@ fn page_at<R: Files + AllocGlobal>(rt: &R, path: &str) -> Result<Fetched, StoreE
         return Ok(Fetched::Missing);
     }
     // The length is compared before anything is read.
-    if metadata.len() >= PAGE_LIMIT as u64 {
+    let length = metadata.len();
+    if length >= PAGE_LIMIT as u64 {
         return Err(StoreErr::Failed);
     }
-    match if_there(read_front(rt, path))? {
+    match if_there(read_front(rt, path, length as usize))? {
         Some(bytes) => page_of(bytes),
         None => Ok(Fetched::Missing),
     }
 }
 
-/// The first bytes of a file, at most as many as are too many for a page.
-fn read_front<R: Files + AllocGlobal>(rt: &R, path: &str) -> io::Result<Vec<u8>> {
-    let mut bytes = Vec::new(rt.alloc());
-    fs::open(rt, path)?
-        .take(PAGE_LIMIT as u64)
-        .read_to_end(&mut bytes)?;
+/// The first bytes of a file, at most as many as are too many for a page. They are read in pieces
+/// into one buffer, and room for so many as the file had is made at once.
+fn read_front<R: Files + AllocGlobal>(rt: &R, path: &str, length: usize) -> io::Result<Vec<u8>> {
+    let mut file = fs::open(rt, path)?.take(PAGE_LIMIT as u64);
+    let mut bytes = Vec::with_capacity(rt.alloc(), length)?;
+    let mut piece = [0u8; PIECE];
+    for _ in 0..u64::MAX {
+        match file.read(&mut piece) {
+            Ok(0) => break,
+            Ok(count) => bytes.extend_from_slice(&piece[..count])?,
+            Err(error) if matches!(error.kind(), ErrorKind::Interrupted) => {}
+            Err(error) => return Err(error),
+        }
+    }
     Ok(bytes)
 }
 
