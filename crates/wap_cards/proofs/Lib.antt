@@ -7,3 +7,5 @@ pub mod Digits
 pub mod Sets
 pub mod Names
 pub mod Goes
+pub mod Found
+pub mod Firsts

@@ -4,7 +4,7 @@ ghost use Rattle.std.specs.Map.{lookup};
 ghost use Rattle.wap_markup.specs.Good.{is_among, rule_of};
 ghost use Rattle.wap_markup.specs.Tables.{is_same_tag};
 ghost use Rattle.wap_cardrules.specs.Content.{shown_tags, kids_marks, marks_in};
-ghost use Rattle.wap_cardrules.specs.Content.{begun_by, content_of, elements_of};
+ghost use Rattle.wap_cardrules.specs.Content.{content_of};
 ghost use Rattle.wap_cards.specs.Lent.{mark_of};
 ghost use Rattle.wap_cards.specs.inside.Rows.{has_text, rule_rows};
 
@@ -51,7 +51,7 @@ pub(crate) fn is_among(group: &[Tag], tag: Tag) -> bool
 }
 
 /// Whether the content of an element shows.
-fn is_open(tag: Tag) -> bool
+pub(crate) fn is_open(tag: Tag) -> bool
     ensures { result ≡ is_among shown_tags tag }
 {
     is_among(OPEN_TAGS, tag)
@@ -135,28 +135,4 @@ pub fn content_of<'a>(alloc: Global, view: &View<'a>) -> Result<Rows<Mark<'a>>, 
     let mut marks = Rows::new(alloc);
     add_kids(LEVEL_LIMIT, view, &mut marks)?;
     Ok(marks)
-}
-
-/// The element that begins, if one does.
-fn begun_element<'a>(mark: &Mark<'a>) -> Option<View<'a>>
-    ensures { result ≡ begun_by (mark_of mark.now) }
-{
-    match mark {
-        Mark::Begins(node) => Some(node.again()),
-        Mark::Words(_) | Mark::Ends(_) => None,
-    }
-}
-
-/// The elements that a card or a template holds.
-pub(crate) fn elements_of<'a>(alloc: Global, view: &View<'a>) -> Result<Rows<View<'a>>, NoMemory>
-    ensures { IfOk result (λ elements. elements ≡ elements_of view.now) }
-{
-    let marks = content_of(alloc, view)?;
-    let mut elements = Rows::new(alloc);
-    for mark in marks.as_slice() {
-        if let Some(node) = begun_element(mark) {
-            elements.add(node)?;
-        }
-    }
-    Ok(elements)
 }

@@ -10,7 +10,7 @@ ghost use Rattle.wap_cardrules.specs.Events.{template_of};
 ghost use Rattle.wap_cardrules.specs.Dos.{dos_in, do_name, active_dos};
 ghost use Rattle.wap_cardrules.specs.Dos.{label_of, do_labels, do_task};
 
-use crate::content::elements_of;
+use crate::elements::{Sought, elements_of};
 use crate::events::template_of;
 use crate::filling::fill_value;
 use crate::tasks::{task_in, task_of};
@@ -19,7 +19,7 @@ use crate::values::plain_text;
 use std::alloc::Global;
 use wap_base::{NoMemory, Rows, Text};
 use wap_cardrules::Task;
-use wap_good::{AttrName, GoodDeck, Run, Tag, View};
+use wap_good::{AttrName, GoodDeck, Run, View};
 use wap_vars::Vars;
 
 /// The value of a do's name, or else of its type.
@@ -57,14 +57,7 @@ fn do_name(alloc: Global, view: &View<'_>) -> Result<Text, NoMemory>
 fn dos_in<'a>(alloc: Global, view: &View<'a>) -> Result<Rows<View<'a>>, NoMemory>
     ensures { IfOk result (λ dos. dos ≡ dos_in view.now) }
 {
-    let elements = elements_of(alloc, view)?;
-    let mut dos = Rows::new(alloc);
-    for element in elements.as_slice() {
-        if element.tag() == Tag::Do {
-            dos.add(element.again())?;
-        }
-    }
-    Ok(dos)
+    elements_of(alloc, Sought::Dos, view)
 }
 
 /// The names of dos.
@@ -102,20 +95,21 @@ fn others<'a>(alloc: Global, dos: &[View<'a>], names: &Texts) -> Result<Rows<Vie
     Ok(others)
 }
 
-/// The dos of the template whose name is none of some.
+/// The dos of the template whose name none of some other dos has.
 fn template_dos<'a>(
     alloc: Global,
     deck: &'a GoodDeck,
-    names: &Texts,
+    own: &[View<'_>],
 ) -> Result<Rows<View<'a>>, NoMemory>
-    ensures { IfOk result (λ others. others
-        ≡ filter (λ one. not (list_any (is_same_text (do_name one)) names.now))
+    ensures { IfOk result (λ others. others ≡ filter
+        (λ one. not (list_any (λ known. is_same_text (do_name one) (do_name known)) own.now))
         (option_map_or dos_in (template_of deck.now) [])) }
 {
     match template_of(deck) {
         Some(template) => {
+            let names = names_of(alloc, own)?;
             let dos = dos_in(alloc, &template)?;
-            others(alloc, dos.as_slice(), names)
+            others(alloc, dos.as_slice(), &names)
         }
         None => Ok(Rows::new(alloc)),
     }
@@ -144,8 +138,7 @@ fn active<'a>(
     ensures { IfOk result (λ dos. dos ≡ active_dos deck.now card.now) }
 {
     let own = dos_in(alloc, card)?;
-    let names = names_of(alloc, own.as_slice())?;
-    let others = template_dos(alloc, deck, &names)?;
+    let others = template_dos(alloc, deck, own.as_slice())?;
     let mut active = Rows::new(alloc);
     add_active(own.as_slice(), &mut active)?;
     add_active(others.as_slice(), &mut active)?;
@@ -177,17 +170,54 @@ pub fn active_dos(
     Ok(labels)
 }
 
-/// The first do of a name.
-fn find_do<'a>(alloc: Global, dos: &[View<'a>], name: &Text) -> Result<Option<View<'a>>, NoMemory>
-    ensures { IfOk result (λ found. found
-        ≡ find (λ one. is_same_text name.now (do_name one)) dos.now) }
+/// Whether a do has a name.
+fn is_named(alloc: Global, one: &View<'_>, name: &Text) -> Result<bool, NoMemory>
+    ensures { IfOk result (λ is_so. is_so ≡ is_same_text name.now (do_name one.now)) }
+{
+    if name.is_empty() {
+        return Ok(*name == do_name(alloc, one)?);
+    }
+    match named_value(one) {
+        Some(value) => Ok(value.is_text(name)),
+        None => Ok(false),
+    }
+}
+
+/// The first do of a name that is no noop.
+fn find_active<'a>(
+    alloc: Global,
+    dos: &[View<'a>],
+    name: &Text,
+) -> Result<Option<View<'a>>, NoMemory>
+    ensures { IfOk result (λ found. found ≡ find (λ one. is_same_text name.now (do_name one))
+        (filter (λ one. is_some (task_of one)) dos.now)) }
 {
     for one in dos {
-        if *name == do_name(alloc, one)? {
+        let is_named = is_named(alloc, one, name)?;
+        if is_named && task_of(one).is_some() {
             return Ok(Some(one.again()));
         }
     }
     Ok(None)
+}
+
+/// The first active do of a name: one of the card's, or else one of the template's.
+#[tactic(auto, using(crate::proofs::Firsts::found_own, crate::proofs::Firsts::found_later))]
+fn find_do<'a>(
+    alloc: Global,
+    deck: &'a GoodDeck,
+    card: &View<'a>,
+    name: &Text,
+) -> Result<Option<View<'a>>, NoMemory>
+    ensures { IfOk result (λ found. found ≡ find
+        (λ one. is_same_text name.now (do_name one)) (active_dos deck.now card.now)) }
+{
+    let own = dos_in(alloc, card)?;
+    if let Some(found) = find_active(alloc, own.as_slice(), name)? {
+        return Ok(Some(found));
+    }
+    let others = template_dos(alloc, deck, own.as_slice())?;
+    find_active(alloc, others.as_slice(), name)
 }
 
 /// The task of the active do of a name, filled. There is none where no active do has the name.
@@ -200,8 +230,7 @@ pub fn do_task(
 ) -> Result<Option<Task>, NoMemory>
     ensures { IfOk result (λ task. task ≡ do_task vars.now deck.now card.now name.now) }
 {
-    let dos = active(alloc, deck, card)?;
-    match find_do(alloc, dos.as_slice(), name)? {
+    match find_do(alloc, deck, card, name)? {
         Some(found) => task_in(alloc, vars, &found),
         None => Ok(None),
     }

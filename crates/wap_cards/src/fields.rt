@@ -1,9 +1,10 @@
 //! The fields of a card (WAP-191, sections 9.8, 9.9 and 11.6).
-ghost use Rattle.std.specs.Prelude.{◌≡◌, filter, IfOk};
+ghost use Rattle.std.specs.Prelude.{◌≡◌, IfOk};
 ghost use Rattle.wap_cardrules.specs.Fields.{is_field, fields_of, numbered};
 ghost use Rattle.wap_cardrules.specs.Fields.{task_of_link, link_task};
 
-use crate::content::{elements_of, is_among};
+use crate::content::is_among;
+use crate::elements::{Sought, elements_of};
 use crate::filling::fill_value;
 use crate::tasks::{go_to, task_in};
 use std::alloc::Global;
@@ -25,14 +26,7 @@ pub fn is_field(tag: Tag) -> bool
 pub fn fields_of<'a>(alloc: Global, card: &View<'a>) -> Result<Rows<View<'a>>, NoMemory>
     ensures { IfOk result (λ fields. fields ≡ fields_of card.now) }
 {
-    let elements = elements_of(alloc, card)?;
-    let mut fields = Rows::new(alloc);
-    for element in elements.as_slice() {
-        if is_field(element.tag()) {
-            fields.add(element.again())?;
-        }
-    }
-    Ok(fields)
+    elements_of(alloc, Sought::Fields, card)
 }
 
 /// The view of a number, from 1.

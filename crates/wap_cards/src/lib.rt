@@ -4,6 +4,7 @@
 
 mod content;
 mod dos;
+mod elements;
 mod events;
 mod fields;
 mod filling;
