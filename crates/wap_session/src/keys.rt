@@ -216,6 +216,8 @@ fn refuse(context: &mut Context, alloc: Global, refusal: Refusal) -> Result<Rows
 }
 
 /// Enters a text into the field of a number.
+// A call, as is `choose_option`, so that other keys take no room for it.
+#[inline(never)]
 fn enter_text(
     context: &mut Context,
     alloc: Global,
@@ -233,6 +235,7 @@ fn enter_text(
 }
 
 /// Chooses in the field of a number the option of another.
+#[inline(never)]
 fn choose_option<P: Pages>(
     context: &mut Context,
     alloc: Global,

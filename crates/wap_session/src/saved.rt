@@ -14,7 +14,7 @@ impl Session {
     {
         match &self.standing {
             Standing::Rest => Some(&self.context),
-            Standing::Waits(_, _) | Standing::Over => None,
+            Standing::Waits(_) | Standing::Over => None,
         }
     }
 

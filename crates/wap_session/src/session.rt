@@ -59,7 +59,7 @@ impl Session {
     {
         match &self.standing {
             Standing::Over => true,
-            Standing::Rest | Standing::Waits(_, _) => false,
+            Standing::Rest | Standing::Waits(_) => false,
         }
     }
 
@@ -146,7 +146,7 @@ impl Session {
         ensures { result ≡ is_some self.now.waiting }
     {
         match &self.standing {
-            Standing::Waits(_, _) => true,
+            Standing::Waits(_) => true,
             Standing::Rest | Standing::Over => false,
         }
     }

@@ -21,12 +21,12 @@ use Rattle.wap_session.specs.Feeding.{State}
 -- the script that waits, if one does
 abbrev pub waiting_of : Standing → Option Waits
 waiting_of Rest = None
-waiting_of (Asking dialog paused) = Some (waits_of dialog paused)
+waiting_of (Asking asked) = Some (waits_of asked.value.dialog asked.value.waiting)
 waiting_of Over = None
 
 abbrev pub is_over : Standing → Bool
 is_over Rest = false
-is_over (Asking dialog paused) = false
+is_over (Asking asked) = false
 is_over Over = true
 
 -- the session with this browser

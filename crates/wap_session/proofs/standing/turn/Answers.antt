@@ -19,4 +19,4 @@ returns-in-Rest g c =
     c.press.result c.press.ensures)
 
 pub returns-in-Waits : goal.returns-in-Waits
-returns-in-Waits g c = rw c.in-Waits.is c.play_in_dialog.ensures
+returns-in-Waits g c = rw c.in-Waits.is c.play_asked.ensures
