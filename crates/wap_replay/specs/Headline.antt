@@ -1,6 +1,6 @@
 -- What the replaying of lists of keys comes to: what is written, what is asked for, and how it
 -- ends. This project's own.
-use Rattle.std.specs.Prelude.{◌≡◌, ◌≢◌, ◌⊎◌, ℕ, ◌+◌, ◌≤◌, List, Some, IfSome}
+use Rattle.std.specs.Prelude.{◌≡◌, ◌≢◌, ◌⊎◌, ℕ, ◌+◌, ◌≤◌, false, List, Some, IfSome}
 use Rattle.wap_base.specs.Contents.{Contents}
 use Rattle.wap_base.specs.Count.{raised, Rose}
 use Rattle.wap_devices.specs.Stores.{StoreSeen}
@@ -17,18 +17,16 @@ use Rattle.wap_world.specs.Sessions.{Begun}
 use Rattle.wap_status.specs.declared.status.Status.{Status}
 use Rattle.wap_status.specs.declared.status.Status.TheVariants.{Done, Usage, Refused, StoreFault}
 use Rattle.wap_status.specs.declared.status.Status.TheVariants.{KeyReadFault, WriteFault, NoMemory}
-use Rattle.wap_status.specs.declared.status.Status.TheVariants.{BadKey, OpenDialog, TooManyKeys}
+use Rattle.wap_status.specs.declared.status.Status.TheVariants.{BadKey, OpenDialog}
 use Rattle.wap_status.specs.Statuses.{IsOrWants}
 use Rattle.wap_prepare.specs.Working.{AsksWithin}
+use Rattle.wap_browse.specs.Endings as endings
 use Rattle.wap_replay.specs.Outside.{Outside}
 use Rattle.wap_replay.specs.Texts.{replayed, site_over}
 
 -- the status where keys came to this end: a dialog that is open then is no fault
 abbrev pub ended : Ending → Status
-ended ending.End = Done
-ended (ending.BadKey line fault) = BadKey line fault
-ended ending.TooManyKeys = TooManyKeys
-ended ending.ReadFault = KeyReadFault
+ended by = endings.ended false by
 
 -- no count of faults rose
 pub record NothingFails (old new : Outside) : Type 0 where
