@@ -1,7 +1,7 @@
 //! Calls of texts, rows, names and numbers.
 use wap_base::{
-    Bytes, Limits, Name, NameFault, ReadFault, Rows, Text, are_ascending, are_distinct, is_name,
-    read_mb, read_u8, write_mb,
+    Bytes, Limits, Name, Rows, Text, are_ascending, are_distinct, is_name, read_mb, read_u8,
+    write_mb,
 };
 use wap_casebook::{Call, CaseFault, meaning_of};
 
@@ -190,23 +190,12 @@ fn give_numbered(call: &mut Call) -> Result<(), CaseFault> {
     Ok(())
 }
 
-/// The next argument, a number of 8 bits.
-fn number8(call: &mut Call) -> u8 {
-    match u8::try_from(call.number()) {
-        Ok(number) => number,
-        Err(_) => {
-            call.fail(CaseFault::Argument);
-            0
-        }
-    }
-}
-
 /// Gives whether limits may be chosen.
 fn give_limits(call: &mut Call) {
     let limits = Limits {
         string: call.number32(),
-        history: number8(call),
-        depth: number8(call),
+        history: call.number8(),
+        depth: call.number8(),
     };
     call.give_truth(limits.are_in_range());
 }
@@ -230,9 +219,8 @@ fn give_copied(call: &mut Call, name: &Name) -> Result<(), CaseFault> {
 fn give_name(call: &mut Call) -> Result<(), CaseFault> {
     let text = call.text();
     match Name::of(call.alloc(), &text) {
-        Ok(name) => return give_copied(call, &name),
-        Err(NameFault::BadName) => call.give_word("BadName"),
-        Err(NameFault::NoMemory) => return Err(CaseFault::NoMemory),
+        Ok(name) => give_copied(call, &name)?,
+        Err(fault) => call.give_named(&fault),
     }
     Ok(())
 }
@@ -241,20 +229,6 @@ fn give_name(call: &mut Call) -> Result<(), CaseFault> {
 fn give_place(call: &mut Call, number: u32, next: usize) {
     call.give_number(i64::from(number));
     call.give_count(next);
-}
-
-/// Gives why bytes have no number.
-fn give_fault(call: &mut Call, fault: ReadFault) {
-    match fault {
-        ReadFault::Short { at } => {
-            call.give_word("Short");
-            call.give_count(at);
-        }
-        ReadFault::TooLong { at } => {
-            call.give_word("TooLong");
-            call.give_count(at);
-        }
-    }
 }
 
 /// Gives the number of one byte at a place.
@@ -266,7 +240,7 @@ fn give_byte(call: &mut Call) -> Result<(), CaseFault> {
     }
     match read_u8(bytes.as_slice(), at) {
         Ok((number, next)) => give_place(call, u32::from(number), next),
-        Err(fault) => give_fault(call, fault),
+        Err(fault) => call.give_named(&fault),
     }
     Ok(())
 }
@@ -280,7 +254,7 @@ fn give_bytes_number(call: &mut Call) -> Result<(), CaseFault> {
     }
     match read_mb(bytes.as_slice(), at) {
         Ok((number, next)) => give_place(call, number, next),
-        Err(fault) => give_fault(call, fault),
+        Err(fault) => call.give_named(&fault),
     }
     Ok(())
 }

@@ -88,14 +88,12 @@ fn give_are_pages(call: &mut Call) -> Result<(), CaseFault> {
 }
 
 /// Gives what a store answers.
-fn give_fetched(call: &mut Call, fetched: Result<Fetched, StoreErr>) -> Result<(), CaseFault> {
+fn give_fetched(call: &mut Call, fetched: Result<Fetched, StoreErr>) {
     match fetched {
         Ok(Fetched::Found(bytes)) => call.give_bytes(bytes.as_slice()),
-        Ok(Fetched::Missing) => call.give_word("Missing"),
-        Err(StoreErr::Failed) => call.give_word("Failed"),
-        Err(StoreErr::NoMemory) => return Err(CaseFault::NoMemory),
+        Ok(missing) => call.give_named(&missing),
+        Err(fault) => call.give_named(&fault),
     }
-    Ok(())
 }
 
 /// Gives a page of a store, and the same once more.
@@ -103,8 +101,9 @@ fn fetch(call: &mut Call) -> Result<(), CaseFault> {
     let fails = failing_calls(call)?;
     let name = call.text();
     let mut store = store(call, fails)?;
-    give_fetched(call, store.fetch(&name))?;
-    give_fetched(call, store.fetch(&name))
+    give_fetched(call, store.fetch(&name));
+    give_fetched(call, store.fetch(&name));
+    Ok(())
 }
 
 /// Gives names.
@@ -120,8 +119,7 @@ fn list(call: &mut Call) -> Result<(), CaseFault> {
     let mut store = store(call, fails)?;
     match store.list() {
         Ok(names) => give_names(call, &names),
-        Err(StoreErr::Failed) => call.give_word("Failed"),
-        Err(StoreErr::NoMemory) => return Err(CaseFault::NoMemory),
+        Err(fault) => call.give_named(&fault),
     }
     Ok(())
 }

@@ -54,48 +54,15 @@ fn give_key(call: &mut Call, key: &Key) {
             give_numbered(call, "Choose", u32::from(*number));
             call.give_number(i64::from(*option));
         }
-        Key::Back => call.give_word("Back"),
         Key::Tick(tenths) => give_numbered(call, "Tick", *tenths),
-        Key::Ok => call.give_word("Ok"),
-        Key::Cancel => call.give_word("Cancel"),
         Key::Answer(text) => give_named(call, "Answer", text),
-        Key::Stop => call.give_word("Stop"),
-        Key::Vars => call.give_word("Vars"),
         Key::Push(bytes) => {
             call.give_word("Push");
             call.give_bytes(bytes.as_slice());
         }
-        Key::Inbox => call.give_word("Inbox"),
         Key::Follow(number) => give_numbered(call, "Follow", u32::from(*number)),
+        key => call.give_named(key),
     }
-}
-
-/// Gives why a line is no key line.
-fn give_fault(call: &mut Call, fault: KeyFault) -> Result<(), CaseFault> {
-    match fault {
-        KeyFault::TooLong => call.give_word("TooLong"),
-        KeyFault::NotText => call.give_word("NotText"),
-        KeyFault::UnknownWord => call.give_word("UnknownWord"),
-        KeyFault::Missing => call.give_word("Missing"),
-        KeyFault::BadNumber => call.give_word("BadNumber"),
-        KeyFault::Surplus => call.give_word("Surplus"),
-        KeyFault::NoMemory => return Err(CaseFault::NoMemory),
-    }
-    Ok(())
-}
-
-/// Gives how keys come to their end.
-fn give_ending(call: &mut Call, ending: Ending) -> Result<(), CaseFault> {
-    match ending {
-        Ending::End => call.give_word("End"),
-        Ending::TooManyKeys => call.give_word("TooManyKeys"),
-        Ending::ReadFault => call.give_word("ReadFault"),
-        Ending::BadKey { line, fault } => {
-            give_numbered(call, "BadKey", line);
-            return give_fault(call, fault);
-        }
-    }
-    Ok(())
 }
 
 /// The key of the next argument, a line, or why there is none.
@@ -105,13 +72,10 @@ fn key(call: &mut Call) -> Result<Key, KeyFault> {
 }
 
 /// Gives the key of a line.
-fn give_read(call: &mut Call) -> Result<(), CaseFault> {
+fn give_read(call: &mut Call) {
     match key(call) {
-        Ok(key) => {
-            give_key(call, &key);
-            Ok(())
-        }
-        Err(fault) => give_fault(call, fault),
+        Ok(key) => give_key(call, &key),
+        Err(fault) => call.give_named(&fault),
     }
 }
 
@@ -158,13 +122,13 @@ fn keys(
 }
 
 /// Gives keys, each with a bar after it, and how they end.
-fn give_keys(call: &mut Call, read: &(Vec<Key>, Ending)) -> Result<(), CaseFault> {
+fn give_keys(call: &mut Call, read: &(Vec<Key>, Ending)) {
     let (keys, ending) = read;
     for key in keys {
         give_key(call, key);
         call.give_word("|");
     }
-    give_ending(call, *ending)
+    call.give_named(ending);
 }
 
 /// Gives the keys of bytes, and a word where a source gives them by pieces of sizes at which they
@@ -177,7 +141,8 @@ fn give_by_pieces(call: &mut Call) -> Result<(), CaseFault> {
             call.give_word("by_pieces");
         }
     }
-    give_keys(call, &first)
+    give_keys(call, &first);
+    Ok(())
 }
 
 /// Gives the keys of bytes, by pieces of one size, where a call fails.
@@ -185,7 +150,8 @@ fn give_failing(call: &mut Call, piece: usize) -> Result<(), CaseFault> {
     let fail = call.count();
     let bytes = call.bytes();
     let read = keys(call, &bytes, piece, fail)?;
-    give_keys(call, &read)
+    give_keys(call, &read);
+    Ok(())
 }
 
 /// The same, by pieces of the size that comes next.
@@ -198,9 +164,10 @@ fn give_failing_by(call: &mut Call) -> Result<(), CaseFault> {
 pub fn make(known: KeysCall, call: &mut Call) -> Result<(), CaseFault> {
     match known {
         KeysCall::Key => give_read(call),
-        KeysCall::KeyTold => give_told(call),
-        KeysCall::Keys => give_by_pieces(call),
-        KeysCall::KeysFailing => give_failing(call, 1),
-        KeysCall::KeysBy => give_failing_by(call),
+        KeysCall::KeyTold => give_told(call)?,
+        KeysCall::Keys => give_by_pieces(call)?,
+        KeysCall::KeysFailing => give_failing(call, 1)?,
+        KeysCall::KeysBy => give_failing_by(call)?,
     }
+    Ok(())
 }

@@ -8,7 +8,6 @@ mod layout;
 mod mask;
 mod threads;
 mod url;
-mod vars;
 
 use std::process::ExitCode;
 use wap_casebook::{Call, Calls, CaseFault, play_calls};
@@ -24,8 +23,6 @@ impl Calls for Layers {
             devices::make(known, call)
         } else if let Some(known) = url::find(name) {
             url::make(known, call)
-        } else if let Some(known) = vars::find(name) {
-            vars::make(known, call)
         } else if let Some(known) = keys::find(name) {
             keys::make(known, call)
         } else {

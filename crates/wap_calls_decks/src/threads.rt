@@ -6,7 +6,6 @@ use wap_keys::{Ending, Key, KeyFault};
 use wap_layout::{Flow, Mode};
 use wap_mask::{Class, Mask, Symbol};
 use wap_url::{Access, Url, UrlFault};
-use wap_vars::{VarFault, Vars};
 
 fn crosses<T: Send + Sync>() {}
 
@@ -33,13 +32,11 @@ fn faults_cross() {
     crosses::<StoreErr>();
     crosses::<KeyFault>();
     crosses::<UrlFault>();
-    crosses::<VarFault>();
 }
 
 fn values_cross() {
     crosses::<Url>();
     crosses::<Access>();
-    crosses::<Vars>();
     crosses::<Mask>();
     crosses::<Symbol>();
     crosses::<Class>();

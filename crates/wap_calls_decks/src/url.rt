@@ -48,21 +48,6 @@ fn url(call: &mut Call) -> Result<Url, CaseFault> {
     }
 }
 
-/// Gives a fault, and its place where it has one.
-fn give_fault(call: &mut Call, fault: UrlFault) -> Result<(), CaseFault> {
-    match fault {
-        UrlFault::BadChar { at } => {
-            call.give_word("BadChar");
-            call.give_count(at);
-        }
-        UrlFault::BadScheme => call.give_word("BadScheme"),
-        UrlFault::BadHost => call.give_word("BadHost"),
-        UrlFault::BadPort => call.give_word("BadPort"),
-        UrlFault::NoMemory => return Err(CaseFault::NoMemory),
-    }
-    Ok(())
-}
-
 /// Gives what a URL prints as.
 fn give_url(call: &mut Call, url: &Url) -> Result<(), CaseFault> {
     call.give_text(&print(call.alloc(), url)?);
@@ -72,9 +57,10 @@ fn give_url(call: &mut Call, url: &Url) -> Result<(), CaseFault> {
 /// Gives what the URL that a text spells prints as, or why it is none.
 fn give_read(call: &mut Call) -> Result<(), CaseFault> {
     match read(call) {
-        Ok(url) => give_url(call, &url),
-        Err(fault) => give_fault(call, fault),
+        Ok(url) => give_url(call, &url)?,
+        Err(fault) => call.give_named(&fault),
     }
+    Ok(())
 }
 
 /// Why a text is no URL, or the fault that is named.

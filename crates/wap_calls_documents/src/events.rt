@@ -1,6 +1,6 @@
 //! Dos, links, events and timers.
 use crate::tasks::give_task;
-use crate::variables::vars;
+use crate::vars::vars;
 use wap_base::Text;
 use wap_cardrules::Event;
 use wap_cards::{active_dos, binding, do_task, link_task, timer_of};

@@ -1,5 +1,5 @@
-//! Plays calls of documents and decks, and calls on the cards of good decks: files of lines
-//! `CALL ARGUMENTS = RESULT`.
+//! Plays calls of variables, of documents and decks, and calls on the cards of good decks: files of
+//! lines `CALL ARGUMENTS = RESULT`.
 #![tactic(auto)]
 
 mod cards;
@@ -14,12 +14,12 @@ mod screens;
 mod tasks;
 mod threads;
 mod trees;
-mod variables;
+mod vars;
 
 use std::process::ExitCode;
 use wap_casebook::{Call, Calls, CaseFault, play_calls};
 
-/// The calls of documents, decks and cards.
+/// The calls of variables, documents, decks and cards.
 struct Layers;
 
 impl Calls for Layers {
@@ -28,6 +28,8 @@ impl Calls for Layers {
             trees::make(known, call)
         } else if let Some(known) = cards::find(name) {
             cards::make(known, call)
+        } else if let Some(known) = vars::find(name) {
+            vars::make(known, call)
         } else {
             Err(CaseFault::Line)
         }

@@ -9,10 +9,5 @@ pub fn add_string(out: &mut String, text: &str) -> Result<(), AllocError> {
 
 /// Appends a reference to a variable.
 pub fn add_reference(out: &mut String, name: &str, conv: Conv) -> Result<(), AllocError> {
-    let word = match conv {
-        Conv::Escape => "Escape",
-        Conv::Unescape => "Unescape",
-        Conv::Plain => "Plain",
-    };
-    write!(out, "${word}'{name}'")
+    write!(out, "${conv:?}'{name}'")
 }

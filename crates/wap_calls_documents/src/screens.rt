@@ -1,5 +1,5 @@
 //! What a card shows.
-use crate::variables::vars;
+use crate::vars::vars;
 use wap_cards::title;
 use wap_casebook::{Call, CaseFault};
 use wap_flow::flow;
@@ -10,11 +10,7 @@ use wap_layout::{Flow, lines};
 fn give_part(call: &mut Call, part: &Flow) {
     match part {
         Flow::Words(text) => call.give_text(text),
-        Flow::Hard => call.give_word("Hard"),
-        Flow::Soft => call.give_word("Soft"),
-        Flow::Wrap => call.give_word("Wrap"),
-        Flow::NoWrap => call.give_word("NoWrap"),
-        Flow::Pre => call.give_word("Pre"),
+        part => call.give_named(part),
     }
 }
 

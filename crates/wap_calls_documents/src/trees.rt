@@ -4,7 +4,7 @@ use crate::{decks, documents};
 use wap_casebook::{Call, CaseFault, meaning_of};
 use wap_deck::document_of;
 use wap_markup::{Deck, Document};
-use wap_wbxml::{DocFault, decode};
+use wap_wbxml::decode;
 
 /// A call of a document or a deck.
 #[derive(Clone, Copy)]
@@ -28,31 +28,6 @@ pub fn find(name: &[u8]) -> Option<TreeCall> {
     meaning_of(&CALLS, name)
 }
 
-/// Gives a fault and its place.
-fn give_fault(call: &mut Call, fault: DocFault) -> Result<(), CaseFault> {
-    match fault {
-        DocFault::Version => call.give_word("Version"),
-        DocFault::PublicId => call.give_word("PublicId"),
-        DocFault::Charset => call.give_word("Charset"),
-        DocFault::Short { at } => give_place(call, "Short", at),
-        DocFault::Number { at } => give_place(call, "Number", at),
-        DocFault::Token { at } => give_place(call, "Token", at),
-        DocFault::Index { at } => give_place(call, "Index", at),
-        DocFault::Text { at } => give_place(call, "Text", at),
-        DocFault::Depth { at } => give_place(call, "Depth", at),
-        DocFault::Table { at } => give_place(call, "Table", at),
-        DocFault::Rest { at } => give_place(call, "Rest", at),
-        DocFault::NoMemory => return Err(CaseFault::NoMemory),
-    }
-    Ok(())
-}
-
-/// Gives a word and a place.
-fn give_place(call: &mut Call, word: &str, at: usize) {
-    call.give_word(word);
-    call.give_count(at);
-}
-
 /// Gives a document's numbers and its root.
 fn give_document(call: &mut Call, document: &Document) -> Result<(), CaseFault> {
     call.give_number(i64::from(document.version));
@@ -66,9 +41,10 @@ fn give_document(call: &mut Call, document: &Document) -> Result<(), CaseFault> 
 fn give_decoded(call: &mut Call) -> Result<(), CaseFault> {
     let bytes = call.bytes();
     match decode(call.alloc(), bytes.as_slice()) {
-        Ok(document) => give_document(call, &document),
-        Err(fault) => give_fault(call, fault),
+        Ok(document) => give_document(call, &document)?,
+        Err(fault) => call.give_named(&fault),
     }
+    Ok(())
 }
 
 /// Gives the deck of a document.

@@ -1,32 +1,11 @@
-//! Pages in memory, by the calls that a session is played over them with.
+//! Sessions over pages in memory.
 use crate::sessions::{feed, play};
 use std::alloc::Global;
 use wap_base::Text;
-use wap_casebook::{Call, CaseFault, meaning_of};
+use wap_casebook::{Call, CaseFault};
 use wap_fakes::{FailingPages, MemPages, UntoldPages, are_site_pages};
 use wap_pages::{PageErr, judge};
 use wap_site::Page;
-
-/// What is played over which pages.
-#[derive(Clone, Copy)]
-enum SessionCall {
-    /// Over pages of which all is told.
-    Told,
-    /// Over pages of which nothing is told.
-    Untold,
-    /// Over pages that fail at a call.
-    Failing,
-    /// Over pages that fail at a call, all keys at once.
-    FailingPlay,
-}
-
-/// The calls, by their names.
-static CALLS: [(&str, SessionCall); 4] = [
-    ("told", SessionCall::Told),
-    ("untold", SessionCall::Untold),
-    ("failing", SessionCall::Failing),
-    ("failing_play", SessionCall::FailingPlay),
-];
 
 /// The page of a name with these bytes.
 fn page_of(alloc: Global, name: &Text, bytes: &[u8]) -> Result<Page, CaseFault> {
@@ -58,7 +37,8 @@ fn named_pages(call: &mut Call) -> Result<Vec<(Text, Page)>, CaseFault> {
     Ok(pages)
 }
 
-fn make_told(call: &mut Call) -> Result<(), CaseFault> {
+/// Feeds a handset the keys, over pages of which all is told.
+pub fn feed_told(call: &mut Call) -> Result<(), CaseFault> {
     let capacity = call.count();
     let pages = named_pages(call)?;
     if !are_site_pages(call.alloc(), pages.as_slice())? {
@@ -67,7 +47,8 @@ fn make_told(call: &mut Call) -> Result<(), CaseFault> {
     feed(call, &mut MemPages::new(call.alloc(), pages, capacity))
 }
 
-fn make_untold(call: &mut Call) -> Result<(), CaseFault> {
+/// Feeds a handset the keys, over pages of which nothing is told.
+pub fn feed_untold(call: &mut Call) -> Result<(), CaseFault> {
     let pages = named_pages(call)?;
     if !are_site_pages(call.alloc(), pages.as_slice())? {
         return Err(CaseFault::Argument);
@@ -87,19 +68,14 @@ fn failing_pages(call: &mut Call) -> Result<FailingPages, CaseFault> {
     Ok(FailingPages::new(alloc, pages, fail))
 }
 
-/// Makes the call of this name.
-pub fn make(name: &[u8], call: &mut Call) -> Result<(), CaseFault> {
-    let known = meaning_of(&CALLS, name).ok_or(CaseFault::Line)?;
-    match known {
-        SessionCall::Told => make_told(call),
-        SessionCall::Untold => make_untold(call),
-        SessionCall::Failing => {
-            let mut pages = failing_pages(call)?;
-            feed(call, &mut pages)
-        }
-        SessionCall::FailingPlay => {
-            let mut pages = failing_pages(call)?;
-            play(call, &mut pages)
-        }
-    }
+/// Feeds a handset the keys, over pages that fail at a call.
+pub fn feed_failing(call: &mut Call) -> Result<(), CaseFault> {
+    let mut pages = failing_pages(call)?;
+    feed(call, &mut pages)
+}
+
+/// Plays the keys in a handset all at once, over pages that fail at a call.
+pub fn play_failing(call: &mut Call) -> Result<(), CaseFault> {
+    let mut pages = failing_pages(call)?;
+    play(call, &mut pages)
 }

@@ -14,18 +14,15 @@ fn new_handset(alloc: Global) -> Handset {
 }
 
 /// Gives the lines that keys show, or why they show none.
-fn give(call: &mut Call, shown: Result<Rows<Text>, SessionFault>) -> Result<(), CaseFault> {
+fn give(call: &mut Call, shown: Result<Rows<Text>, SessionFault>) {
     match shown {
         Ok(lines) => {
             for line in lines.as_slice() {
                 call.give_text(line);
             }
         }
-        Err(SessionFault::Store) => call.give_word("Store"),
-        Err(SessionFault::Ended) => call.give_word("Ended"),
-        Err(SessionFault::NoMemory) => return Err(CaseFault::NoMemory),
+        Err(fault) => call.give_named(&fault),
     }
-    Ok(())
 }
 
 /// Says where a script waits for the answer to a dialog.
@@ -40,7 +37,7 @@ pub fn feed<P: Pages>(call: &mut Call, pages: &mut P) -> Result<(), CaseFault> {
     let alloc = call.alloc();
     let mut handset = new_handset(alloc);
     for key in &keys(call)? {
-        give(call, handset.feed(alloc, key, pages))?;
+        give(call, handset.feed(alloc, key, pages));
         give_dialog(call, &handset);
     }
     Ok(())
@@ -51,7 +48,8 @@ pub fn play<P: Pages>(call: &mut Call, pages: &mut P) -> Result<(), CaseFault> {
     let alloc = call.alloc();
     let keys = keys(call)?;
     let mut handset = new_handset(alloc);
-    give(call, handset.play(alloc, keys.as_slice(), pages))?;
+    give(call, handset.play(alloc, keys.as_slice(), pages));
     give_dialog(call, &handset);
-    give(call, handset.play(alloc, &[], pages))
+    give(call, handset.play(alloc, &[], pages));
+    Ok(())
 }

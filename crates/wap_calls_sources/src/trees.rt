@@ -4,7 +4,7 @@ use crate::statements::add_block;
 use crate::tokens::tokens_of;
 use wap_base::{Rows, Text};
 use wap_casebook::{Call, CaseFault};
-use wap_parse::{Function, Id, ParseFault, Program, Use, parse};
+use wap_parse::{Function, Id, Program, Use, parse};
 
 /// The most levels of a tree that are shown: those of a program, each with all precedences.
 const LEVELS: u32 = 1024;
@@ -73,18 +73,6 @@ fn add_program(shown: &mut Shown, program: &Program) {
     }
 }
 
-/// Gives a fault and its place.
-fn give_parse_fault(call: &mut Call, fault: ParseFault) -> Result<(), CaseFault> {
-    let (word, at) = match fault {
-        ParseFault::NoMemory => return Err(CaseFault::NoMemory),
-        ParseFault::Syntax { at } => ("Syntax", at),
-        ParseFault::Nested { at } => ("Nested", at),
-    };
-    call.give_word(word);
-    call.give_count(at);
-    Ok(())
-}
-
 /// The program of the source that is the next argument, or nothing where why there is none was
 /// given.
 pub fn program_of(call: &mut Call) -> Result<Option<Program>, CaseFault> {
@@ -95,7 +83,7 @@ pub fn program_of(call: &mut Call) -> Result<Option<Program>, CaseFault> {
     match parse(call.alloc(), source.as_slice(), &tokens) {
         Ok(program) => Ok(Some(program)),
         Err(fault) => {
-            give_parse_fault(call, fault)?;
+            call.give_named(&fault);
             Ok(None)
         }
     }

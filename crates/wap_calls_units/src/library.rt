@@ -2,7 +2,7 @@
 use crate::names::numbers_of;
 use crate::values::{give_value, value};
 use wap_casebook::{Call, CaseFault, meaning_of};
-use wap_libs::{Gen, LibFault, LibOut, arguments_of, call_pure};
+use wap_libs::{Gen, LibOut, arguments_of, call_pure};
 use wap_value::Value;
 
 /// The seed of a session that nothing is said of.
@@ -60,18 +60,6 @@ fn give_outcome(call: &mut Call, outcome: &LibOut) {
     }
 }
 
-/// Gives why a function comes to nothing: `too-long` and a number.
-fn give_fault(call: &mut Call, fault: LibFault) -> Result<(), CaseFault> {
-    match fault {
-        LibFault::TooLong { bytes } => {
-            call.give_word("too-long");
-            call.give_count(bytes);
-            Ok(())
-        }
-        LibFault::NoMemory => Err(CaseFault::NoMemory),
-    }
-}
-
 /// Calls a function, and gives what that comes to.
 fn give_call(
     call: &mut Call,
@@ -87,7 +75,7 @@ fn give_call(
     }
     match call_pure(call.alloc(), lib, f, values, generator, limit) {
         Ok(outcome) => give_outcome(call, &outcome),
-        Err(fault) => give_fault(call, fault)?,
+        Err(fault) => call.give_named(&fault),
     }
     Ok(())
 }

@@ -71,16 +71,11 @@ static OPERATORS_OF_ONE: [(&str, UnOp); 9] = [
 ];
 
 /// Gives the value that an operator makes, or why it makes none.
-fn give_made(call: &mut Call, made: Result<Value, ValueFault>) -> Result<(), CaseFault> {
+fn give_made(call: &mut Call, made: Result<Value, ValueFault>) {
     match made {
         Ok(value) => give_value(call, &value),
-        Err(ValueFault::TooLong { bytes }) => {
-            call.give_word("TooLong");
-            call.give_count(bytes);
-        }
-        Err(ValueFault::NoMemory) => return Err(CaseFault::NoMemory),
+        Err(fault) => call.give_named(&fault),
     }
-    Ok(())
 }
 
 /// What an operator makes of two values; `none` where it may not look at both.
@@ -96,7 +91,8 @@ fn of_two(call: &mut Call, string: u32) -> Result<(), CaseFault> {
         return Err(CaseFault::Argument);
     }
     let made = binary(call.alloc(), op, &left, &right, string);
-    give_made(call, made)
+    give_made(call, made);
+    Ok(())
 }
 
 /// The same, under a limit of Strings.

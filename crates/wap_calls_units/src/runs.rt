@@ -12,27 +12,14 @@ use wap_url::Url;
 use wap_value::Value;
 use wap_verify::Verified;
 
-/// The word of why a script ended.
-fn word_of(why: &Fatal) -> &'static str {
-    match why {
-        Fatal::Budget => "Budget",
-        Fatal::Depth => "Depth",
-        Fatal::NoUnit => "NoUnit",
-        Fatal::UnitRefused => "UnitRefused",
-        Fatal::NoFunction => "NoFunction",
-        Fatal::Arguments => "Arguments",
-        Fatal::Denied => "Denied",
-        Fatal::TooLong => "TooLong",
-        Fatal::Stopped => "Stopped",
-        Fatal::Aborted(_) => "Aborted",
-    }
-}
-
 /// Gives why a script ended.
 fn give_fatal(call: &mut Call, why: Fatal) {
-    call.give_word(word_of(&why));
-    if let Fatal::Aborted(text) = why {
-        call.give_text(&text);
+    match why {
+        Fatal::Aborted(text) => {
+            call.give_word("Aborted");
+            call.give_text(&text);
+        }
+        why => call.give_named(&why),
     }
 }
 
@@ -70,25 +57,17 @@ fn give_outcome(call: &mut Call, outcome: Outcome) {
     }
 }
 
-/// Gives why a run failed.
-fn give_fault(call: &mut Call, fault: RunErr) -> Result<(), CaseFault> {
-    match fault {
-        RunErr::Store => {
-            call.give_word("Store");
-            Ok(())
-        }
-        RunErr::NoMemory => Err(CaseFault::NoMemory),
+/// Gives what a run came to, or why it failed.
+fn give_end(call: &mut Call, end: Result<Outcome, RunErr>) {
+    match end {
+        Ok(outcome) => give_outcome(call, outcome),
+        Err(fault) => call.give_named(&fault),
     }
 }
 
 /// Runs a machine, with an answer for each dialog until there is none, and gives what was asked and
 /// what it came to.
-fn play(
-    machine: Machine,
-    host: &mut SmallHost,
-    answers: Vec<Value>,
-    call: &mut Call,
-) -> Result<(), CaseFault> {
+fn play(machine: Machine, host: &mut SmallHost, answers: Vec<Value>, call: &mut Call) {
     let mut machine = machine;
     let mut pages = FailingPages { asked: 0 };
     for value in answers {
@@ -97,20 +76,10 @@ fn play(
                 give_dialog(call, dialog);
                 machine = waiting.answer(value);
             }
-            Ok(outcome) => {
-                give_outcome(call, outcome);
-                return Ok(());
-            }
-            Err(fault) => return give_fault(call, fault),
+            end => return give_end(call, end),
         }
     }
-    match machine.run(host, &mut pages) {
-        Ok(outcome) => {
-            give_outcome(call, outcome);
-            Ok(())
-        }
-        Err(fault) => give_fault(call, fault),
-    }
+    give_end(call, machine.run(host, &mut pages));
 }
 
 /// The URL of each unit.
@@ -150,17 +119,6 @@ fn start(
     Ok(Machine::start(alloc, unit, base, None, function, arguments, limits)?)
 }
 
-/// The next argument, a number of a byte.
-fn byte(call: &mut Call) -> u8 {
-    match u8::try_from(call.number()) {
-        Ok(number) => number,
-        Err(_) => {
-            call.fail(CaseFault::Argument);
-            0
-        }
-    }
-}
-
 /// The unit of the next argument, or none where that is empty.
 fn next_unit(call: &mut Call) -> Result<Option<Shared<Verified>>, CaseFault> {
     let bytes = call.bytes();
@@ -190,9 +148,9 @@ pub fn run(call: &mut Call) -> Result<(), CaseFault> {
         return Err(CaseFault::Argument);
     };
     let second = next_unit(call)?;
-    let depth = byte(call);
+    let depth = call.number8();
     let turns = call.count() as u64;
-    let function = byte(call);
+    let function = call.number8();
     let arguments = values(call)?;
     let answers = values(call)?;
     let machine = start(alloc, first.share()?, function, arguments, depth)?;
@@ -202,7 +160,7 @@ pub fn run(call: &mut Call) -> Result<(), CaseFault> {
         first,
         second,
     };
-    play(machine, &mut host, answers, call)?;
+    play(machine, &mut host, answers, call);
     call.give_number(i64::try_from(host.turns).unwrap_or(i64::MAX));
     Ok(())
 }

@@ -1,7 +1,9 @@
 //! What may be sent to threads and shared by them.
 use std::marker::{Send, Sync};
+use wap_asm::{Form, PlaceFault};
 use wap_code::{Code, Constant, Instr, InstrFault, OpName, Pragma, Row, Unit};
 use wap_execution::{Dialog, Fatal, HostOut};
+use wap_invocation::Invocation;
 use wap_libs::{Gen, LibFault, LibOut};
 use wap_machine::{Machine, Outcome, Waiting};
 use wap_unit::UnitFault;
@@ -12,6 +14,7 @@ fn crosses<T: Send + Sync>() {}
 
 fn values_cross() {
     crosses::<Value>();
+    crosses::<Invocation>();
     crosses::<UnOp>();
     crosses::<BinOp>();
     crosses::<ValueFault>();
@@ -22,6 +25,8 @@ fn values_cross() {
 
 fn units_cross() {
     crosses::<Unit>();
+    crosses::<Form>();
+    crosses::<PlaceFault>();
     crosses::<Constant>();
     crosses::<Pragma>();
     crosses::<Code>();

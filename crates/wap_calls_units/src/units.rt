@@ -8,30 +8,6 @@ use wap_casebook::{Call, CaseFault};
 use wap_code::Unit;
 use wap_unit::{UnitFault, decode, encode};
 
-/// Gives a fault and its place.
-fn give_fault(call: &mut Call, fault: UnitFault) -> Result<(), CaseFault> {
-    match fault {
-        UnitFault::Version { at } => give_place(call, "Version", at),
-        UnitFault::Short { at } => give_place(call, "Short", at),
-        UnitFault::Number { at } => give_place(call, "Number", at),
-        UnitFault::Size { at } => give_place(call, "Size", at),
-        UnitFault::ConstantKind { at } => give_place(call, "ConstantKind", at),
-        UnitFault::PragmaKind { at } => give_place(call, "PragmaKind", at),
-        UnitFault::Text { at } => give_place(call, "Text", at),
-        UnitFault::Charset { at } => give_place(call, "Charset", at),
-        UnitFault::NoFunction { at } => give_place(call, "NoFunction", at),
-        UnitFault::NameIndex { at } => give_place(call, "NameIndex", at),
-        UnitFault::NoMemory => return Err(CaseFault::NoMemory),
-    }
-    Ok(())
-}
-
-/// Gives a word and a place.
-fn give_place(call: &mut Call, word: &str, at: usize) {
-    call.give_word(word);
-    call.give_count(at);
-}
-
 /// The unit that bytes spell. Where they spell none, it gives why.
 pub fn read_unit(call: &mut Call, bytes: &Bytes) -> Result<Option<Unit>, CaseFault>
     ensures { IfOk result (λ read. IfSome read (λ unit. HasSpelling unit)) }
@@ -42,7 +18,7 @@ pub fn read_unit(call: &mut Call, bytes: &Bytes) -> Result<Option<Unit>, CaseFau
     match decode(call.alloc(), bytes.as_slice()) {
         Ok(unit) => Ok(Some(unit)),
         Err(fault) => {
-            give_fault(call, fault)?;
+            call.give_named(&fault);
             Ok(None)
         }
     }

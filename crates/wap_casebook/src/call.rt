@@ -5,6 +5,7 @@ use crate::words::{number, split_value, text};
 use crate::{CaseFault, Pieces};
 use std::alloc::{AllocError, Global};
 use std::collections::VecDeque;
+use std::fmt::Debug;
 use wap_base::{Bytes, Text};
 
 /// A call that a line has: its arguments, which are taken one after the other, and what it gives,
@@ -182,6 +183,17 @@ impl Call {
         }
     }
 
+    /// The next argument, a number of 8 bits.
+    pub fn number8(&mut self) -> u8 {
+        match u8::try_from(self.number()) {
+            Ok(number) => number,
+            Err(_) => {
+                self.fail(CaseFault::Argument);
+                0
+            }
+        }
+    }
+
     /// The next argument, a number of 32 bits.
     pub fn number32(&mut self) -> u32 {
         match u32::try_from(self.number()) {
@@ -228,6 +240,11 @@ pub fn meaning_of<T: Copy>(meanings: &[(&str, T)], word: &[u8]) -> Option<T> {
     None
 }
 
+/// Whether what `Debug` writes is a brace or the name of a field.
+fn is_around(word: &str) -> bool {
+    word == "{" || word == "}" || word.ends_with(':')
+}
+
 /// How a call gives results.
 impl Call {
     /// Gives a word.
@@ -243,6 +260,28 @@ impl Call {
     /// Gives `yes` or `no`.
     pub fn give_truth(&mut self, is_so: bool) {
         self.give_word(if is_so { "yes" } else { "no" });
+    }
+
+    /// Gives the name of a value and what it holds, as `Debug` writes them without the names of
+    /// fields.
+    pub fn give_named<T: Debug>(&mut self, value: &T) {
+        match format!(in self.alloc; "{value:?}") {
+            Ok(shown) => self.give_words(shown.as_str()),
+            Err(_) => self.fail(CaseFault::NoMemory),
+        }
+    }
+
+    /// Gives the words of a value as `Debug` writes it.
+    fn give_words(&mut self, shown: &str) {
+        for word in shown.split_whitespace() {
+            let word = match word.split_once(',') {
+                Some((before, _)) => before,
+                None => word,
+            };
+            if !is_around(word) {
+                self.give_word(word);
+            }
+        }
     }
 
     /// Gives a number.

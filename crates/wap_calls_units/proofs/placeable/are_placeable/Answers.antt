@@ -1,6 +1,6 @@
 use Rattle.std.proofs.Common.{arith}
-use Rattle.wap_calls_code.proofs.Standing.{placeable}
-use Rattle.wap_calls_code.proofs.placeable.are_placeable.Goals as goal
+use Rattle.wap_calls_units.proofs.Standing.{placeable}
+use Rattle.wap_calls_units.proofs.placeable.are_placeable.Goals as goal
 
 pub returns : goal.returns
 returns c = λ is.

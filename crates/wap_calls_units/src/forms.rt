@@ -1,10 +1,9 @@
 //! Forms as lines have them.
 use crate::chains::{add_chain, add_pops, instruction};
-use crate::names::NAMES;
+use crate::instructions::NAMES;
 use crate::numbering::numbered;
 use wap_asm::Form;
 use wap_casebook::{Call, CaseFault};
-use wap_code::OpName;
 
 /// What stands in a list of forms.
 #[derive(Clone, Copy)]

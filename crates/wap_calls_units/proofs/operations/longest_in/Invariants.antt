@@ -1,7 +1,7 @@
 use Rattle.std.proofs.Common.{◌≡◌, drop, filter, None}
 use Rattle.std.specs.List.{last_or}
 use Rattle.wap_asm.specs.Spellings.{is_of}
-use Rattle.wap_calls_code.proofs.operations.longest_in.Given as goal
+use Rattle.wap_calls_units.proofs.operations.longest_in.Given as goal
 
 -- what is left has the last that all have
 abbrev pub invariant-loop-row : goal.invariant-loop-row

@@ -1,6 +1,6 @@
 //! Calls of variables.
 use std::str;
-use wap_base::{Conv, Name, NameFault, Part, Text};
+use wap_base::{Conv, Name, NameFault, Part, Rows, Text};
 use wap_casebook::{Call, CaseFault, meaning_of};
 use wap_vars::{VarFault, Vars};
 
@@ -46,7 +46,7 @@ fn set_next(call: &mut Call, vars: &mut Vars) -> Result<(), CaseFault> {
 }
 
 /// The variables that the names and texts which are left give.
-fn vars(call: &mut Call) -> Result<Vars, CaseFault> {
+pub fn vars(call: &mut Call) -> Result<Vars, CaseFault> {
     let mut vars = Vars::new(call.alloc());
     for _ in 0..u64::MAX {
         if !call.has_more() {
@@ -73,7 +73,7 @@ fn name(call: &mut Call) -> Result<Name, CaseFault> {
 }
 
 /// Gives names and texts in order.
-fn give_entries(call: &mut Call, vars: &Vars) -> Result<(), CaseFault> {
+pub fn give_entries(call: &mut Call, vars: &Vars) -> Result<(), CaseFault> {
     for (name, text) in &vars.entries(call.alloc())? {
         call.give_text(name);
         call.give_text(text);
@@ -132,18 +132,14 @@ fn numbered_variables(call: &mut Call) -> Result<Vars, CaseFault> {
     Ok(vars)
 }
 
-/// Gives a fault, and the length where there is one.
-fn give_fault(call: &mut Call, fault: VarFault) -> Result<(), CaseFault> {
-    match fault {
-        VarFault::BadName => call.give_word("BadName"),
-        VarFault::TooLong { bytes } => {
-            call.give_word("TooLong");
-            call.give_count(bytes);
+/// Gives why variables aren't set, without their lengths.
+pub fn give_faults(call: &mut Call, faults: &Rows<VarFault>) {
+    for fault in faults.as_slice() {
+        match fault {
+            VarFault::TooLong { bytes: _ } => call.give_word("TooLong"),
+            fault => call.give_named(fault),
         }
-        VarFault::Full => call.give_word("Full"),
-        VarFault::NoMemory => return Err(CaseFault::NoMemory),
     }
-    Ok(())
 }
 
 /// Sets a variable, gives whether it is set or why it isn't, and how many there are then.
@@ -152,7 +148,7 @@ fn set_among(call: &mut Call, vars: &mut Vars) -> Result<(), CaseFault> {
     let text = call.text();
     match vars.set(&name, text) {
         Ok(()) => call.give_word("set"),
-        Err(fault) => give_fault(call, fault)?,
+        Err(fault) => call.give_named(&fault),
     }
     call.give_count(vars.entries(call.alloc())?.len());
     Ok(())

@@ -1,8 +1,8 @@
 //! Calls that read an instruction, or the table of libraries.
-use crate::names::word_of;
+use crate::instructions::word_of;
 use wap_asm::{lib_args, next_instr};
 use wap_casebook::{Call, CaseFault};
-use wap_code::{Instr, InstrFault};
+use wap_code::Instr;
 
 /// Gives an instruction: its name, its operands and where it ends.
 fn give_instr(call: &mut Call, instr: Instr) {
@@ -22,8 +22,7 @@ pub fn read_next(call: &mut Call) -> Result<(), CaseFault> {
     }
     match next_instr(code.as_slice(), at) {
         Ok(instr) => give_instr(call, instr),
-        Err(InstrFault::Opcode) => call.give_word("Opcode"),
-        Err(InstrFault::Operand) => call.give_word("Operand"),
+        Err(fault) => call.give_named(&fault),
     }
     Ok(())
 }

@@ -1,5 +1,5 @@
 //! Pushes into an inbox.
-use crate::reading::{give_fault, give_time, read_next};
+use crate::indications::{give_fault, give_time, read_next};
 use wap_casebook::{Call, CaseFault};
 use wap_inbox::Inbox;
 use wap_push::Indication;

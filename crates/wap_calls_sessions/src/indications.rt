@@ -2,7 +2,7 @@
 use wap_base::Text;
 use wap_casebook::{Call, CaseFault};
 use wap_faults::push_fault_text;
-use wap_push::{Action, Indication, PushFault, read_push};
+use wap_push::{Indication, PushFault, read_push};
 
 /// The indication that the next argument is, or why it is none.
 pub fn read_next(call: &mut Call) -> Result<Result<Indication, PushFault>, CaseFault> {
@@ -20,17 +20,6 @@ pub fn give_fault(call: &mut Call, fault: PushFault) -> Result<(), CaseFault> {
     };
     call.give_text(&text);
     Ok(())
-}
-
-/// The word for how an indication is to be met.
-fn action_word(action: Action) -> &'static str {
-    match action {
-        Action::Quiet => "Quiet",
-        Action::Low => "Low",
-        Action::Medium => "Medium",
-        Action::High => "High",
-        Action::Delete => "Delete",
-    }
 }
 
 /// Gives a time.
@@ -55,7 +44,7 @@ fn give_indication(call: &mut Call, indication: &Indication) -> Result<(), CaseF
     call.give_text(&indication.id);
     give_href(call, &indication.href);
     give_time(call, indication.created)?;
-    call.give_word(action_word(indication.action));
+    call.give_named(&indication.action);
     call.give_text(&indication.text);
     Ok(())
 }
