@@ -5,8 +5,8 @@ ghost use Rattle.std.specs.Str.{is_utf8};
 ghost use Rattle.wap_base.specs.Charsets.{charset_of, is_ascii, is_text, text_in};
 
 use crate::{NoMemory, Text};
+use simdutf8::basic::from_utf8;
 use std::alloc::Global;
-use std::str;
 
 /// A character set in which strings are read.
 #[derive(Clone, Copy, Debug, PartialEq, Eq)]
@@ -64,7 +64,7 @@ fn is_ascii(bytes: &[u8]) -> bool
 fn is_utf8(bytes: &[u8]) -> bool
     ensures { result ≡ is_utf8 bytes.now }
 {
-    match str::from_utf8(bytes) {
+    match from_utf8(bytes) {
         Ok(_) => true,
         Err(_) => false,
     }
@@ -73,7 +73,7 @@ fn is_utf8(bytes: &[u8]) -> bool
 fn utf8_text(alloc: Global, bytes: &[u8]) -> Result<Option<Text>, NoMemory>
     ensures { IfOk result (λ text. text ≡ text_in Charset.Utf8 bytes.now) }
 {
-    match str::from_utf8(bytes) {
+    match from_utf8(bytes) {
         Ok(text) => Ok(Some(Text::of(alloc, text)?)),
         Err(_) => Ok(None),
     }

@@ -4,7 +4,7 @@ use Rattle.wap_base.proofs.CharsetLaws.{is_utf8-no}
 use Rattle.wap_base.proofs.charset.is_utf8.Goals as goal
 
 pub returns-in-Ok : goal.returns-in-Ok
-returns-in-Ok c = sym (is_utf8-from_IsUtf8 c.args.bytes.now c.in-Ok.ensures.cases.1)
+returns-in-Ok c = sym (is_utf8-from_IsUtf8 c.args.bytes.now c.in-Ok.ensures.1)
 
 pub returns-in-Err : goal.returns-in-Err
-returns-in-Err c = sym (is_utf8-no c.args.bytes.now c.in-Err.ensures.cases.0)
+returns-in-Err c = sym (is_utf8-no c.args.bytes.now c.in-Err.ensures)
