@@ -1,7 +1,9 @@
 //! Reading an instruction.
 ghost use Rattle.std.specs.Prelude.{◌≡◌, ◌+◌, ◌<◌, ◌≤◌, length, slice_index};
-ghost use Rattle.std.specs.Prelude.{slice_get, IfOk, IfSome};
+ghost use Rattle.std.specs.Prelude.{slice_get, IfOk, IfSome, ⊤};
+ghost use Rattle.std.specs.Bool.{MatchBool};
 ghost use Rattle.wap_code.specs.Instructions.{width, size, row_of, value, read_row, instr_at};
+ghost use Rattle.wap_code.specs.declared.row.Slot.TheVariants as slot;
 ghost use Rattle.wap_asm.specs.Spelling.{limit};
 ghost use Rattle.wap_asm.specs.Operands.{Holds};
 
@@ -41,7 +43,15 @@ fn operand(code: &[u8], at: usize, slot: Slot, low: u8) -> u32
     }
 }
 
-/// The instruction of a row at a place, where the byte is a code of the row.
+/// Whether a row has no operand but the first.
+fn has_one(row: Row) -> bool
+    ensures { MatchBool result ((row.b ≡ slot.Absent) × (row.c ≡ slot.Absent)) ⊤ }
+{
+    matches!(row.b, Slot::Absent) && matches!(row.c, Slot::Absent)
+}
+
+/// The instruction of a row at a place, where the byte is a code of the row. Most have one operand
+/// at most.
 #[inline(always)]
 pub fn read_row(row: Row, code: &[u8], at: usize) -> Result<Instr, InstrFault>
     requires here { at < length code.now }
@@ -54,11 +64,21 @@ pub fn read_row(row: Row, code: &[u8], at: usize) -> Result<Instr, InstrFault>
         return Err(InstrFault::Operand);
     }
     let low = code[at] - row.first;
+    let a = operand(code, at + 1, row.a, low);
     let b_at = at + 1 + width(row.a);
+    if has_one(row) {
+        return Ok(Instr {
+            name: row.name,
+            a,
+            b: 0,
+            c: 0,
+            next: b_at,
+        });
+    }
     let c_at = b_at + width(row.b);
     Ok(Instr {
         name: row.name,
-        a: operand(code, at + 1, row.a, low),
+        a,
         b: operand(code, b_at, row.b, low),
         c: operand(code, c_at, row.c, low),
         next: c_at + width(row.c),
