@@ -227,7 +227,7 @@ fn page_at<R: Files + AllocGlobal>(rt: &R, path: &str) -> Result<Fetched, StoreE
     if length >= PAGE_LIMIT as u64 {
         return Err(StoreErr::Failed);
     }
-    match if_there(read_front(rt, path, length as usize))? {
+    match if_there(read_prefix(rt, path, length as usize))? {
         Some(bytes) => page_of(bytes),
         None => Ok(Fetched::Missing),
     }
@@ -235,7 +235,7 @@ fn page_at<R: Files + AllocGlobal>(rt: &R, path: &str) -> Result<Fetched, StoreE
 
 /// The first bytes of a file, at most as many as are too many for a page. They are read in pieces
 /// into one buffer, and room for so many as the file had is made at once.
-fn read_front<R: Files + AllocGlobal>(rt: &R, path: &str, length: usize) -> io::Result<Vec<u8>> {
+fn read_prefix<R: Files + AllocGlobal>(rt: &R, path: &str, length: usize) -> io::Result<Vec<u8>> {
     let mut file = fs::open(rt, path)?.take(PAGE_LIMIT as u64);
     let mut bytes = Vec::with_capacity(rt.alloc(), length)?;
     let mut piece = [0u8; PIECE];
