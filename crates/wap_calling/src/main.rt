@@ -1,22 +1,25 @@
 //! A program that calls the browser: it has pages of its own in memory, plays the keys of a user in
-//! a session over them, answers the dialog of a script, and shows the lines. docs/CALLING.md goes
-//! through it.
+//! a session over them, answers the dialog of a script, and shows the lines; and it follows an
+//! indication that is pushed. docs/CALLING.md goes through it.
 #![tactic(auto)]
 
 ghost use Rattle.std.specs.Prelude.{◌≡◌};
 ghost use Rattle.wap_session.specs.Feeding.{beginning};
 ghost use Rattle.wap_calling.specs.Calling.{begun};
 
+mod inbox;
 mod shelf;
+mod site;
 mod terminal;
 
+use inbox::{new_handset, visit_with_inbox};
 use shelf::Shelf;
+use site::are_site_pages;
 use std::alloc::Global;
 use std::io;
 use std::process::ExitCode;
 use terminal::{accept_dialog, new_session, visit};
-use wap_base::{NoMemory, Rows, Text};
-use wap_fakes::are_site_pages;
+use wap_base::{Bytes, NoMemory, Rows, Text};
 use wap_pages::{PageErr, judge};
 use wap_session::{Key, Session, SessionFault};
 use wap_site::Page;
@@ -34,6 +37,13 @@ static HELLO: &[u8] = b"\x01\x0a\x6a\x04who\x00\x7f\xe7\x36\x03Hello\x00\x01\xe8
 ///     extern function ask() { WMLBrowser.setVar("who", Dialogs.prompt("Who?", "Ann")); }
 static ASK: &[u8] = b"\x01\x25\x03\x6a\x04\x03who\x04\x04Who?\x04\x03Ann\x00\x01\x01\x00\x03ask\
     \x00\x00\x08\x50\x51\x52\x68\x05\x69\x04\x37";
+
+/// A service indication of the card that greets, as it is pushed:
+///
+///     <si><indication href="http://h/hello.wmlc"
+///     created="1999-06-25T00:00:00Z">New</indication></si>
+static PUSHED: &[u8] = b"\x02\x05\x6a\x00\x45\xc6\x0c\x03h/hello.wmlc\x00\x0a\xc3\x04\x19\x99\x06\
+    \x25\x01\x03New\x00\x01\x01";
 
 /// The page of a name with these bytes. One that is none counts as refused, as in a folder.
 fn page_of(alloc: Global, name: &Text, bytes: &[u8]) -> Result<Page, NoMemory> {
@@ -66,6 +76,15 @@ fn first_keys(alloc: Global) -> Result<Vec<Key>, NoMemory> {
     let mut keys = Vec::new(alloc);
     keys.push(Key::Open(Text::of(alloc, "http://h/hello.wmlc")?))?;
     keys.push(Key::Do(Text::of(alloc, "ask")?))?;
+    Ok(keys)
+}
+
+/// An indication is pushed, and the user looks into the inbox and follows it.
+fn inbox_keys(alloc: Global) -> Result<Vec<Key>, NoMemory> {
+    let mut keys = Vec::new(alloc);
+    keys.push(Key::Push(Bytes::of(alloc, PUSHED)?))?;
+    keys.push(Key::Inbox)?;
+    keys.push(Key::Follow(1))?;
     Ok(keys)
 }
 
@@ -160,6 +179,14 @@ fn own_lines(alloc: Global) -> Result<(Rows<Text>, Rows<Text>), Stopped> {
     lines_over(alloc, &mut shelf)
 }
 
+/// The lines of the keys of an inbox over the program's own pages.
+fn inbox_lines(alloc: Global) -> Result<Rows<Text>, Stopped> {
+    let mut shelf = own_shelf(alloc)?;
+    let mut handset = new_handset(alloc);
+    let keys = inbox_keys(alloc)?;
+    Ok(visit_with_inbox(alloc, &mut handset, keys.as_slice(), &mut shelf)?)
+}
+
 /// Plays a session, and shows its lines.
 fn play<R: Print + AllocGlobal>(rt: &R) -> Result<(), Stopped> {
     let (first, last) = own_lines(rt.alloc())?;
@@ -168,8 +195,21 @@ fn play<R: Print + AllocGlobal>(rt: &R) -> Result<(), Stopped> {
     Ok(())
 }
 
+/// Plays the keys of an inbox, and shows their lines.
+fn play_inbox<R: Print + AllocGlobal>(rt: &R) -> Result<(), Stopped> {
+    let lines = inbox_lines(rt.alloc())?;
+    show(rt, lines.as_slice())?;
+    Ok(())
+}
+
+/// Plays the session and the keys of the inbox, and shows their lines.
+fn play_all<R: Print + AllocGlobal>(rt: &R) -> Result<(), Stopped> {
+    play(rt)?;
+    play_inbox(rt)
+}
+
 fn main(rt: HostRuntime) -> ExitCode {
-    match play(&rt) {
+    match play_all(&rt) {
         Ok(()) => ExitCode::from(0),
         Err(Stopped::NoSite | Stopped::Session | Stopped::Output) => ExitCode::from(1),
     }

@@ -1,5 +1,5 @@
-//! Plays calls of the layers that units rest on, of units and machines, of code and of fragments:
-//! files of lines `CALL ARGUMENTS = RESULT`.
+//! Plays calls of the layers that units rest on, of machines, of code and of fragments: files of
+//! lines `CALL ARGUMENTS = RESULT`.
 #![tactic(auto)]
 
 mod chains;
@@ -8,7 +8,6 @@ mod forms;
 mod fragments;
 mod instructions;
 mod library;
-mod listing;
 mod names;
 mod numbering;
 mod operations;
@@ -24,40 +23,9 @@ mod split;
 mod threads;
 mod units;
 mod values;
-mod verifier;
 
 use std::process::ExitCode;
-use wap_casebook::{Call, Calls, CaseFault, meaning_of, play_calls};
-
-/// A call of units, of machines or of fragments.
-#[derive(Clone, Copy)]
-enum UnitCall {
-    Decode,
-    Verify,
-    List,
-    Run,
-    Called,
-}
-
-/// These calls, by their names.
-static CALLS: [(&str, UnitCall); 5] = [
-    ("decode", UnitCall::Decode),
-    ("verify", UnitCall::Verify),
-    ("list", UnitCall::List),
-    ("run", UnitCall::Run),
-    ("called", UnitCall::Called),
-];
-
-/// Makes such a call.
-fn make_unit_call(known: UnitCall, call: &mut Call) -> Result<(), CaseFault> {
-    match known {
-        UnitCall::Decode => units::read_and_write(call),
-        UnitCall::Verify => verifier::read_and_verify(call),
-        UnitCall::List => listing::list(call),
-        UnitCall::Run => runs::run(call),
-        UnitCall::Called => fragments::read(call),
-    }
-}
+use wap_casebook::{Call, Calls, CaseFault, play_calls};
 
 /// The calls of the layers.
 struct Layers;
@@ -66,13 +34,22 @@ impl Calls for Layers {
     fn make(&self, name: &[u8], call: &mut Call) -> Result<(), CaseFault> {
         if let Some(known) = operators::find(name) {
             operators::make(known, call)
-        } else if let Some(known) = meaning_of(&CALLS, name) {
-            make_unit_call(known, call)
         } else if let Some(known) = code::find(name) {
             code::make(known, call)
         } else {
-            library::make(name, call)
+            make_other(name, call)
         }
+    }
+}
+
+/// Makes the call of a machine, of fragments or of libraries.
+fn make_other(name: &[u8], call: &mut Call) -> Result<(), CaseFault> {
+    if name == b"run".as_slice() {
+        runs::run(call)
+    } else if name == b"called".as_slice() {
+        fragments::read(call)
+    } else {
+        library::make(name, call)
     }
 }
 

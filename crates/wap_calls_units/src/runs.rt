@@ -1,7 +1,7 @@
 //! Runs of machines.
 use crate::small_host::{FailingPages, SmallHost};
+use crate::units::verified_of;
 use crate::values::{give_value, value};
-use crate::verifier::verified_of;
 use std::alloc::Global;
 use wap_base::{Limits, RunErr, Text};
 use wap_casebook::{Call, CaseFault};

@@ -7,7 +7,7 @@ pub fn add_quoted(out: &mut String, text: &str) -> Result<(), AllocError> {
 }
 
 /// Appends bytes, two hexadecimal digits each.
-pub fn add_hex(out: &mut String, bytes: &[u8]) -> Result<(), AllocError> {
+fn add_hex(out: &mut String, bytes: &[u8]) -> Result<(), AllocError> {
     for byte in bytes {
         write!(out, "{byte:02X}")?;
     }

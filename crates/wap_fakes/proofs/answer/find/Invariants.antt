@@ -1,8 +1,0 @@
-use Rattle.std.proofs.Common.{◌≡◌, drop}
-use Rattle.wap_site.specs.Pages.{page_under}
-use Rattle.wap_fakes.proofs.answer.find.Given as goal
-
--- the pages passed have other names
-abbrev pub invariant-loop-page_name : goal.invariant-loop-page_name
-invariant-loop-page_name l =
-    page_under l.name (drop l.page_name-index l.pages) ≡ page_under l.name l.pages
