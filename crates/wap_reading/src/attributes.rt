@@ -10,6 +10,7 @@ ghost use Rattle.wap_wbxml.specs.reading.Parts.{next_attribute, attributes_at, w
 ghost use Rattle.wap_reading.specs.inside.Gathering.{read_as, with_next};
 ghost use Rattle.wap_reading.specs.inside.Parts.{attribute_added};
 
+use crate::rows::add_to_few;
 use crate::values::read_value;
 use std::alloc::Global;
 use wap_base::{Part, Rows};
@@ -120,6 +121,6 @@ fn add_known<'a>(
         (read_as (value_after (chars text.now)) (pieces_at input.now state.old bytes.now))) }
 {
     let (value, rest) = read_value(alloc, input, state, text, bytes)?;
-    attributes.add((name, value))?;
+    add_to_few(alloc, attributes, (name, value))?;
     Ok(rest)
 }

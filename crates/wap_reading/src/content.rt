@@ -10,6 +10,7 @@ ghost use Rattle.wap_reading.specs.inside.Parts.{element_added, kid_added, kids_
 ghost use Rattle.wap_reading.specs.inside.Parts.{node_at, content_at};
 
 use crate::attributes::read_attributes_when;
+use crate::rows::add_to_few;
 use crate::values::part_of;
 use std::alloc::Global;
 use wap_base::Rows;
@@ -86,7 +87,7 @@ fn add_node<'a>(
         (node_at input.now levels tag lead state.old bytes.now)) }
 {
     let (node, rest) = read_node(alloc, input, state, levels, tag, lead, bytes)?;
-    items.add(Item::Node(node))?;
+    add_to_few(alloc, items, Item::Node(node))?;
     Ok(rest)
 }
 

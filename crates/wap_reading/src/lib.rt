@@ -4,6 +4,7 @@
 mod attributes;
 mod content;
 mod decks;
+mod rows;
 mod values;
 
 pub use decks::read_deck;
