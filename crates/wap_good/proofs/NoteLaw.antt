@@ -1,7 +1,9 @@
--- Notes are true of what is left of the bytes that they are true of.
+-- Notes are true of what is left of the bytes that they are true of, and stay true where others are
+-- added.
 use Rattle.std.proofs.Common.{◌≡◌, ◌≢◌, ℕ, ◌+◌, ◌-◌, ◌%◌, ◌<◌, ◌≤◌, false, eqb, List}
-use Rattle.std.proofs.Common.{[], ◌∷◌, ◌++◌, length, drop, Option, Some, None, refl, sym, ap}
+use Rattle.std.proofs.Common.{[], ◌∷◌, zero, suc, length, drop, Option, Some, None, refl, sym, ap}
 use Rattle.std.proofs.Common.{subst, ◌∙◌, arith}
+use Rattle.std.specs.List.{insert}
 use Rattle.std.proofs.lemmas.List.{drop-drop}
 use Rattle.std.proofs.lemmas.Bool.Decides.{nat_tests}
 use Rattle.wap_markup.specs.declared.codes.TheConstants.{END, ENTITY, STR_I}
@@ -11,9 +13,10 @@ use Rattle.wap_markup.specs.Tables.{tag_of, tag_rows}
 use Rattle.wap_good.specs.declared.notes.Note.{Note}
 use Rattle.wap_good.specs.Readers.{IsBehind, first_at, is_end}
 use Rattle.wap_good.specs.Texts.{part_at}
-use Rattle.wap_good.specs.inside.Notes.{last_bytes, IsOwn, IsNote, AreNotes}
+use Rattle.wap_good.specs.inside.Notes.{last_bytes, IsOwn, IsNote, AreNotes, AreMore}
 use Rattle.wap_good.proofs.AttrLaw.{no_part}
-use Rattle.wap_good.proofs.Ending.{behind_left, behind_place, behind_drop, drop_behind, first_is}
+use Rattle.wap_good.proofs.Ending.{behind_on, behind_left, behind_place, behind_drop}
+use Rattle.wap_good.proofs.Ending.{drop_behind, first_is}
 
 drop_none : (bytes : List ℕ) → drop 0 bytes ≡ bytes
 drop_none [] = refl
@@ -55,11 +58,44 @@ module _ (rest whole : List ℕ) (is : IsBehind rest whole) where
 
 -- ---- lists of notes
 
-module _ (whole : List ℕ) where
-  pub notes_more : (notes : List Note) (note : Note) → AreNotes whole notes → IsNote whole note
-      → AreNotes whole (notes ++ note ∷ [])
-  notes_more [] note are is = (is, tt)
-  notes_more (first ∷ notes) note are is = (are.0, notes_more notes note are.1 is)
+-- true notes and a true one among them at any place
+notes_put : (whole : List ℕ) (notes : List Note) (place : ℕ) (note : Note) → AreNotes whole notes
+    → IsNote whole note → AreNotes whole (insert notes place note)
+notes_put whole [] zero note are is = (is, tt)
+notes_put whole [] (suc place) note are is = (is, tt)
+notes_put whole (first ∷ notes) zero note are is = (is, are)
+notes_put whole (first ∷ notes) (suc place) note are is =
+    (are.0, notes_put whole notes place note are.1 is)
+
+longer_put : (notes : List Note) (place : ℕ) (note : Note)
+    → length notes ≤ length (insert notes place note)
+longer_put [] zero note = omega arith
+longer_put [] (suc place) note = omega arith
+longer_put (first ∷ notes) zero note = omega arith
+longer_put (first ∷ notes) (suc place) note =
+    let fewer = longer_put notes place note in omega arith
+
+-- none was added
+pub more_none : (bytes : List ℕ) (notes : List Note) → AreMore bytes notes notes
+more_none bytes notes = record { longer = omega arith; noted = λ whole is are. are }
+
+-- one was added that is true of the bytes
+pub more_put : (bytes : List ℕ) (notes : List Note) (place : ℕ) (note : Note)
+    → note.begin ≤ length bytes → IsNote bytes note → AreMore bytes notes (insert notes place note)
+more_put bytes notes place note within is = record {
+  longer = longer_put notes place note;
+  noted = λ whole behind are.
+      notes_put whole notes place note are (note_whole bytes whole behind note within is);
+}
+
+-- some were added, and then more for what is left of the bytes
+pub more_on : (bytes rest : List ℕ) (notes more most : List Note) → IsBehind rest bytes
+    → AreMore bytes notes more → AreMore rest more most → AreMore bytes notes most
+more_on bytes rest notes more most behind one two = record {
+  longer = let first = one.longer in let second = two.longer in omega arith;
+  noted = λ whole is are.
+      two.noted whole (behind_on rest bytes whole behind is) (one.noted whole is are);
+}
 
 -- ---- one note
 
@@ -80,20 +116,6 @@ note_here bytes note begin shorter own = record {
 pub last_here : (bytes rest : List ℕ) → IsBehind rest (drop 1 bytes)
     → last_bytes (length rest) bytes ≡ rest
 last_here bytes rest behind = behind_place rest bytes (drop_behind rest bytes behind)
-
--- a note is as true whatever it tells of those inside
-pub note_again : (bytes : List ℕ) (note : Note) (inside : ℕ) → IsNote bytes note
-    → IsNote bytes (record {
-      begin = note.begin;
-      end = note.end;
-      known = record { names = note.known.names; head = note.known.head; inside = inside };
-    })
-note_again bytes note inside is = record {
-  order = is.order;
-  own = λ within.
-      let own = is.own within in
-      record { more = own.more; none = own.none; follows = own.follows; head = own.head };
-}
 
 pub last_behind : (bytes : List ℕ) (count : ℕ) → count < length bytes
     → IsBehind (last_bytes count bytes) (drop 1 bytes)

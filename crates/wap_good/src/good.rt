@@ -3,6 +3,7 @@ ghost use Rattle.std.specs.Prelude.{◌≡◌, ◌≤◌, ◌-◌, length, slice
 ghost use Rattle.wap_base.specs.Numbers.{mb_at};
 ghost use Rattle.wap_markup.specs.Writing.{document_of};
 ghost use Rattle.wap_spelling.specs.Spelling.{spelling};
+ghost use Rattle.wap_spelling.specs.Spellable.{IsSpellable};
 ghost use Rattle.wap_markup.specs.Cards.{cards_of, id_of, card_numbered};
 ghost use Rattle.wap_markup.specs.Trees.{is_text, first_with};
 ghost use Rattle.wap_markup.specs.Good.{IsGood};
@@ -68,6 +69,16 @@ fn places(bytes: &[u8]) -> (usize, usize)
     }
 }
 
+/// The bytes that spell a deck's document, in no more memory than they take.
+fn spelled(alloc: Global, deck: &Deck) -> Result<Bytes, NoMemory>
+    requires { IsSpellable (document_of deck.now) }
+    ensures { IfOk result (λ bytes. bytes ≡ spelling (document_of deck.now)) }
+{
+    let mut bytes = spell(alloc, deck)?.into_vec();
+    bytes.shrink_to_fit();
+    Ok(Bytes::from_vec(bytes))
+}
+
 /// Keeps the deck as bytes.
 fn keep(alloc: Global, deck: &Deck) -> Result<GoodDeck, NoMemory>
     requires good { IsGood deck.now }
@@ -78,9 +89,7 @@ fn keep(alloc: Global, deck: &Deck) -> Result<GoodDeck, NoMemory>
     tell_node(LEVEL_LIMIT, &deck.root);
     decks_are_spellable();
     decks_are_read();
-    let spelled = spell(alloc, deck)?;
-    // The copy takes as much memory as it has bytes; what was written has grown beyond that.
-    let bytes = Bytes::of(alloc, spelled.as_slice())?;
+    let bytes = spelled(alloc, deck)?;
     let whole = bytes.as_slice();
     let (table, root) = places(whole);
     let names = Bytes::of(alloc, &whole[table..root])?;

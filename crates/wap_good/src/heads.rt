@@ -2,15 +2,16 @@
 ghost use Rattle.std.specs.Prelude.{◌≡◌, ℕ, List, ◌∷◌, ◌^◌, ◌<◌, ◌≤◌, length, drop, true, IfSome};
 ghost use Rattle.wap_base.specs.declared.name.Part.{Part};
 ghost use Rattle.wap_markup.specs.declared.name.AttrName.{AttrName};
-ghost use Rattle.wap_good.specs.Readers.{Ends, IsBehind};
+ghost use Rattle.wap_markup.specs.Codes.{has_attributes, has_content};
+ghost use Rattle.wap_good.specs.Readers.{Ends, Leaves, IsBehind, first_at, closed, closed_if};
 ghost use Rattle.wap_good.specs.inside.Nodes.{attr_at, IsContent};
 ghost use Rattle.wap_good.specs.inside.Notes.{mark_place, lacks, HaveNames, LacksName, IsHead};
 
 use crate::bits::after_bits;
-use crate::front::{first, is_end};
+use crate::front::{after_first, first, is_end};
 use crate::head::{has_attributes, has_content, kids_begin};
 use crate::notes::Known;
-use crate::skip::after_head;
+use crate::skip::after_attrs;
 use wap_markup::{AttrName, LITERAL};
 use wap_tokens::attr_start;
 
@@ -34,6 +35,7 @@ pub(crate) fn lacks(names: u16, name: AttrName) -> bool
 fn next_name(bytes: &[u8]) -> Option<(AttrName, &[u8])>
     ensures named { (table : List ℕ) → Ends (attr_at table) bytes.now → IfSome result (λ read.
         (parts : List Part) × (attr_at table bytes.now ≡ Some ((read.0, parts), read.1.now))) }
+    ensures behind { IfSome result (λ read. IsBehind read.1.now bytes.now) }
     ensures shorter { IfSome result (λ read. length read.1.now < length bytes.now) }
 {
     let (mark, rest) = first(bytes)?;
@@ -44,9 +46,12 @@ fn next_name(bytes: &[u8]) -> Option<(AttrName, &[u8])>
     Some((start.0, after_bits(rest)))
 }
 
-/// The marks of the names of attributes, all marks where one has no code.
-fn names_in(bytes: &[u8]) -> u16
-    ensures { HaveNames bytes.now result }
+/// The marks of the names of attributes, all marks where one has no code, and what follows the
+/// attributes and their end.
+fn names_in(bytes: &[u8]) -> (u16, &[u8])
+    ensures names { HaveNames bytes.now result.0 }
+    ensures exact { (table : List ℕ) → Leaves (closed (attr_at table)) bytes.now result.1.now }
+    ensures behind { IsBehind result.1.now bytes.now }
 {
     let mut names = 0;
     let mut rest = bytes;
@@ -54,22 +59,26 @@ fn names_in(bytes: &[u8]) -> u16
         names |= name_mark(name);
         rest = behind;
     }
-    if is_end(rest) { names } else { u16::MAX }
+    if is_end(rest) {
+        (names, after_first(rest))
+    } else {
+        (u16::MAX, after_attrs(bytes))
+    }
 }
 
-/// The marks of the names that the attributes have of the node that bytes begin with.
-pub(crate) fn names_of(bytes: &[u8]) -> u16
-    ensures { (name : AttrName) → lacks result name ≡ true → LacksName bytes.now name }
+/// The marks of the names that the attributes after a mark have, if it says that there are any, and
+/// what follows them.
+fn names_of(mark: u8, bytes: &[u8]) -> (u16, &[u8])
+    ensures names { (name : AttrName) → lacks result.0 name ≡ true
+        → LacksName (mark ∷ bytes.now) name }
+    ensures exact { (table : List ℕ) →
+        Leaves (closed_if (has_attributes mark) (attr_at table)) bytes.now result.1.now }
+    ensures behind { IsBehind result.1.now bytes.now }
 {
-    match first(bytes) {
-        Some((mark, rest)) => {
-            if has_attributes(mark) {
-                names_in(rest)
-            } else {
-                0
-            }
-        }
-        None => 0,
+    if has_attributes(mark) {
+        names_in(bytes)
+    } else {
+        (0, bytes)
     }
 }
 
@@ -112,18 +121,32 @@ fn known_by_mark(mark: u8) -> Known
     known_with(0, 0)
 }
 
-/// How many bytes stand before the content of the node that bytes begin with; 0 where it has none,
-/// or 8 bits can't count them.
-pub(crate) fn head_of(bytes: &[u8]) -> u8
+/// How many bytes stand before the content of the node that bytes begin with, by its mark and what
+/// follows its attributes; 0 where it has none, or 8 bits can't count them.
+fn head_of(mark: u8, bytes: &[u8], content: &[u8]) -> u8
+    requires content { has_content mark ≡ true → IsContent bytes.now content.now }
+    requires behind { IsBehind content.now bytes.now }
     ensures content { 0 < result → IsContent bytes.now (drop result bytes.now) }
     ensures within { result ≤ length bytes.now }
 {
-    let content = kids_begin(bytes);
     let size = bytes.len().saturating_sub(content.len());
-    if size > u8::MAX as usize {
+    if !has_content(mark) || size > u8::MAX as usize {
         return 0;
     }
     size as u8
+}
+
+/// What is known of the node that bytes begin with, by its mark and what follows that, and what
+/// follows its attributes.
+pub(crate) fn known_of<'a>(bytes: &[u8], mark: u8, rest: &'a [u8]) -> (Known, &'a [u8])
+    requires { first_at bytes.now ≡ Some (mark, rest.now) }
+    ensures head { IsHead bytes.now result.0.names result.0.head }
+    ensures exact { (table : List ℕ) →
+        Leaves (closed_if (has_attributes mark) (attr_at table)) rest.now result.1.now }
+    ensures behind { IsBehind result.1.now rest.now }
+{
+    let (names, content) = names_of(mark, rest);
+    (known_with(names, head_of(mark, bytes, content)), content)
 }
 
 /// The content of the node that bytes begin with, and what follows it, where so many bytes stand

@@ -1,13 +1,16 @@
 //! Notes of where nodes end and what they begin with, by which nodes are seen and skipped at once.
-ghost use Rattle.std.specs.Prelude.{◌≡◌, ℕ, ◌<◌, ◌≤◌, List, [], length, drop, IfOk, IfSome};
+ghost use Rattle.std.specs.Prelude.{◌≡◌, ℕ, ◌<◌, ◌≤◌, List, length, drop, IfOk, OnOk, IfSome};
 ghost use Rattle.wap_good.specs.Readers.{IsBehind};
-ghost use Rattle.wap_good.specs.inside.Notes.{IsNote, IsOwn, AreNotes, last_bytes};
+ghost use Rattle.wap_good.specs.inside.Nodes.{FollowsNode, FollowsContent};
+ghost use Rattle.wap_good.specs.inside.Nodes.{FollowsItems, FollowsItem};
+ghost use Rattle.wap_good.specs.inside.Notes.{IsHead, IsNote, IsOwn, AreNotes, AreMore};
+ghost use Rattle.wap_good.specs.inside.Notes.{last_bytes};
 
-use crate::bits::after_bit;
-use crate::front::first;
-use crate::head::has_attributes;
-use crate::heads::{head_of, names_of};
-use crate::skip::{after_head, after_node};
+use crate::bits::{after_bit, after_bits};
+use crate::front::{after_first, first, is_end};
+use crate::head::{has_attributes, has_content};
+use crate::heads::known_of;
+use crate::skip::after_kids;
 use std::alloc::Global;
 use wap_base::{NoMemory, Rows};
 use wap_markup::LEVEL_LIMIT;
@@ -36,96 +39,118 @@ pub struct Known {
 /// A node of fewer bytes and without attributes is read byte by byte.
 const NOTED: usize = 16;
 
-/// The note of the node that bytes begin with; none where they begin with no tag, the node is short
-/// and has no attributes, or 32 bits can't count the bytes.
-fn note_of(bytes: &[u8]) -> Option<Note>
+/// The note of the node that bytes begin with, by what follows it and what is known of it; none
+/// where the node is short and has no attributes, no tag begins it, or 32 bits can't count the
+/// bytes.
+fn note_of(bytes: &[u8], rest: &[u8], known: Known) -> Option<Note>
+    requires follows { FollowsNode LEVEL_LIMIT bytes.now rest.now }
+    requires behind { IsBehind rest.now (drop 1 bytes.now) }
+    requires head { IsHead bytes.now known.names known.head }
     ensures noted { IfSome result (IsNote bytes.now) }
     ensures begin { IfSome result (λ note. note.begin ≤ length bytes.now) }
 {
     let (mark, _) = first(bytes)?;
-    tag_of(0, mark % 64)?;
-    let rest = after_node(LEVEL_LIMIT, bytes);
-    if bytes.len() > u32::MAX as usize {
+    if !has_attributes(mark) && bytes.len() - rest.len() < NOTED {
         return None;
     }
-    if !has_attributes(mark) && bytes.len() - rest.len() < NOTED {
+    tag_of(0, mark % 64)?;
+    if bytes.len() > u32::MAX as usize {
         return None;
     }
     Some(Note {
         begin: bytes.len() as u32,
         end: rest.len() as u32,
-        known: Known {
-            names: names_of(bytes),
-            head: head_of(bytes),
-            inside: 0,
-        },
+        known,
     })
 }
 
-/// Where the next node, text or end may begin: after the first tag and its attributes, or after the
-/// first bit of a text.
-fn after_place(bytes: &[u8]) -> &[u8]
-    ensures { IsBehind result.now (drop 1 bytes.now) }
+/// Adds the note of the node that bytes begin with, by what follows it and what is known of it,
+/// before the notes of the nodes in it, which stand from a place on.
+fn add_note(
+    bytes: &[u8],
+    rest: &[u8],
+    known: Known,
+    place: usize,
+    notes: &mut Vec<Note>,
+) -> Result<(), NoMemory>
+    requires follows { FollowsNode LEVEL_LIMIT bytes.now rest.now }
+    requires behind { IsBehind rest.now (drop 1 bytes.now) }
+    requires head { IsHead bytes.now known.names known.head }
+    requires place { place ≤ length notes.old.items }
+    ensures { OnOk result (AreMore bytes.now notes.old.items notes.new.items) }
 {
-    if let Some(end) = after_bit(bytes) {
-        return end;
+    let inside = (notes.len() - place).min(u8::MAX as usize) as u8;
+    if let Some(note) = note_of(bytes, rest, Known { inside, ..known }) {
+        notes.insert(place, note)?;
     }
-    match first(bytes) {
-        Some((mark, rest)) => after_head(mark, rest),
-        None => &[],
-    }
+    Ok(())
 }
 
-/// The notes of the nodes in a document, in their order, by its bytes and where its root begins.
-/// They don't tell yet what is inside.
-fn notes_in(alloc: Global, bytes: &[u8], root: usize) -> Result<Rows<Note>, NoMemory>
-    requires { root ≤ length bytes.now }
-    ensures { IfOk result (AreNotes bytes.now) }
+/// Adds the notes of the node that bytes begin with and of the nodes in it, and gives what follows
+/// it. What is deeper than so many levels isn't noted.
+#[cycle(notes)]
+fn note_node<'a>(levels: u32, bytes: &'a [u8], notes: &mut Vec<Note>) -> Result<&'a [u8], NoMemory>
+    ensures exact { IfOk result (λ rest. FollowsNode LEVEL_LIMIT bytes.now rest.now) }
+    ensures behind { IfOk result (λ rest. IsBehind rest.now (drop 1 bytes.now)) }
+    ensures noted { OnOk result (AreMore bytes.now notes.old.items notes.new.items) }
 {
-    let mut notes = Rows::new(alloc);
-    let mut rest = &bytes[root..];
-    while !rest.is_empty() {
-        if let Some(note) = note_of(rest) {
-            notes.add(note)?;
-        }
-        rest = after_place(rest);
-    }
-    Ok(notes)
+    let Some((mark, rest)) = first(bytes) else {
+        return Ok(&[]);
+    };
+    let place = notes.len();
+    let (known, content) = known_of(bytes, mark, rest);
+    let behind = note_content(levels, mark, content, notes)?;
+    add_note(bytes, behind, known, place, notes)?;
+    Ok(behind)
 }
 
-/// How many of the notes are of nodes in one that ends where so many bytes are left, 255 at most.
-fn count_inside(notes: &[Note], end: u32) -> u8 {
-    let mut count: u8 = 0;
-    while count < u8::MAX && (count as usize) < notes.len() && notes[count as usize].begin > end {
-        count += 1;
+/// Adds the notes of the nodes in the content after a mark, if it says that there is any, and gives
+/// what follows it.
+#[cycle(notes)]
+fn note_content<'a>(
+    levels: u32,
+    mark: u8,
+    bytes: &'a [u8],
+    notes: &mut Vec<Note>,
+) -> Result<&'a [u8], NoMemory>
+    ensures exact { IfOk result (λ rest. FollowsContent LEVEL_LIMIT mark bytes.now rest.now) }
+    ensures behind { IfOk result (λ rest. IsBehind rest.now bytes.now) }
+    ensures noted { OnOk result (AreMore bytes.now notes.old.items notes.new.items) }
+{
+    if !has_content(mark) {
+        return Ok(bytes);
     }
-    count
+    if levels == 0 {
+        return Ok(after_kids(LEVEL_LIMIT, bytes));
+    }
+    note_kids(levels - 1, bytes, notes)
 }
 
-/// No notes yet, and room for so many.
-fn notes_for(alloc: Global, count: usize) -> Result<Rows<Note>, NoMemory>
-    ensures { IfOk result (λ notes. notes ≡ []) }
+/// Adds the notes of the nodes among items, and gives what follows the items and their end.
+#[cycle(notes)]
+fn note_kids<'a>(levels: u32, bytes: &'a [u8], notes: &mut Vec<Note>) -> Result<&'a [u8], NoMemory>
+    ensures exact { IfOk result (λ rest. FollowsItems LEVEL_LIMIT bytes.now rest.now) }
+    ensures behind { IfOk result (λ rest. IsBehind rest.now bytes.now) }
+    ensures noted { OnOk result (AreMore bytes.now notes.old.items notes.new.items) }
 {
-    Ok(Rows::from_vec(Vec::with_capacity(alloc, count)?))
+    let mut rest = bytes;
+    while !is_end(rest) {
+        rest = note_item(levels, rest, notes)?;
+    }
+    Ok(after_first(rest))
 }
 
-/// The same notes, each with the number of those inside.
-fn with_inside(alloc: Global, bytes: &[u8], notes: &[Note]) -> Result<Rows<Note>, NoMemory>
-    requires { AreNotes bytes.now notes.now }
-    ensures { IfOk result (AreNotes bytes.now) }
+/// Adds the notes of a node and of the nodes in it, none for a text, and gives what follows it.
+#[cycle(notes)]
+fn note_item<'a>(levels: u32, bytes: &'a [u8], notes: &mut Vec<Note>) -> Result<&'a [u8], NoMemory>
+    ensures exact { IfOk result (λ rest. FollowsItem LEVEL_LIMIT bytes.now rest.now) }
+    ensures behind { IfOk result (λ rest. IsBehind rest.now (drop 1 bytes.now)) }
+    ensures noted { OnOk result (AreMore bytes.now notes.old.items notes.new.items) }
 {
-    let mut counted = notes_for(alloc, notes.len())?;
-    let mut left = notes;
-    while let Some((note, behind)) = first_note(left) {
-        let inside = count_inside(behind, note.end);
-        let known = Known {
-            inside,
-            ..note.known
-        };
-        counted.add(Note { known, ..note })?;
-        left = behind;
+    match after_bit(bytes) {
+        Some(rest) => Ok(after_bits(rest)),
+        None => note_node(levels, bytes, notes),
     }
-    Ok(counted)
 }
 
 /// The notes of the nodes in a document, in their order, by its bytes and where its root begins.
@@ -133,8 +158,10 @@ pub(crate) fn notes_of(alloc: Global, bytes: &[u8], root: usize) -> Result<Rows<
     requires { root ≤ length bytes.now }
     ensures { IfOk result (AreNotes bytes.now) }
 {
-    let notes = notes_in(alloc, bytes, root)?;
-    with_inside(alloc, bytes, notes.as_slice())
+    let mut notes = Vec::new(alloc);
+    note_node(LEVEL_LIMIT, &bytes[root..], &mut notes)?;
+    notes.shrink_to_fit();
+    Ok(Rows::from_vec(notes))
 }
 
 /// The notes from a place on.
@@ -168,18 +195,6 @@ fn notes_past<'a>(inside: u8, notes: &'a [Note], rest: &[u8]) -> &'a [Note]
         notes_from(notes, inside as usize)
     } else {
         notes_left(notes, rest)
-    }
-}
-
-/// The first note, and those after it.
-fn first_note(notes: &[Note]) -> Option<(Note, &[Note])>
-    ensures notes { (whole : List ℕ) → AreNotes whole notes.now
-        → IfSome result (λ read. IsNote whole read.0 × AreNotes whole read.1.now) }
-    ensures fewer { IfSome result (λ read. length read.1.now < length notes.now) }
-{
-    match notes {
-        [note, rest @ ..] => Some((*note, rest)),
-        [] => None,
     }
 }
 

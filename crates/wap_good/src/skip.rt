@@ -38,7 +38,7 @@ fn after_attr(mark: u8, bytes: &[u8]) -> &[u8]
 /// What follows attributes and their end.
 // A call, so that a node without attributes takes none.
 #[inline(never)]
-fn after_attrs(bytes: &[u8]) -> &[u8]
+pub(crate) fn after_attrs(bytes: &[u8]) -> &[u8]
     ensures exact { (table : List ℕ) → Leaves (closed (attr_at table)) bytes.now result.now }
     ensures behind { IsBehind result.now bytes.now }
 {
@@ -95,7 +95,7 @@ fn after_content(levels: u32, mark: u8, bytes: &[u8]) -> &[u8]
 
 /// What follows items of so many levels at most and their end.
 #[cycle(skip)]
-fn after_kids(levels: u32, bytes: &[u8]) -> &[u8]
+pub(crate) fn after_kids(levels: u32, bytes: &[u8]) -> &[u8]
     ensures exact { FollowsItems levels bytes.now result.now }
     ensures behind { IsBehind result.now bytes.now }
 {

@@ -9,7 +9,7 @@ use Rattle.wap_markup.specs.declared.document.TheConstants.{LEVEL_LIMIT}
 use Rattle.wap_markup.specs.declared.name.AttrName.{AttrName}
 use Rattle.wap_markup.specs.contracts.name.AttrName as attr_names
 use Rattle.wap_good.specs.declared.notes.Note.{Note}
-use Rattle.wap_good.specs.Readers.{is_end, Ends, all_of}
+use Rattle.wap_good.specs.Readers.{IsBehind, is_end, Ends, all_of}
 use Rattle.wap_good.specs.Texts.{part_at}
 use Rattle.wap_good.specs.inside.Nodes.{FollowsNode, IsRead, IsContent}
 use Rattle.wap_good.specs.inside.Nodes.{attrs_begin, attr_at, item_at}
@@ -61,6 +61,12 @@ pub record IsNote (bytes : List ℕ) (note : Note) : Type 0 where
 
 abbrev pub AreNotes : List ℕ → List Note → Type 0
 AreNotes bytes notes = AllByRecursion (IsNote bytes) notes
+
+-- there are no fewer notes than before, and they are true of any bytes that end with these and of
+-- which those before are true
+pub record AreMore (bytes : List ℕ) (notes more : List Note) : Type 0 where
+  pub longer : length notes ≤ length more
+  pub noted : (whole : List ℕ) → IsBehind bytes whole → AreNotes whole notes → AreNotes whole more
 
 -- bytes begin with a node of at most so many levels, and notes are true of them
 pub record IsLent (table : List ℕ) (levels : ℕ) (bytes : List ℕ) (notes : List Note) : Type 0 where

@@ -5,8 +5,8 @@ use Rattle.wap_good.specs.inside.Held.{table_in, deck_in, IsHeld, IsKept}
 use Rattle.wap_good.proofs.DeckLaw.{root_known}
 use Rattle.wap_good.proofs.good.keep.Goals as goal
 
-pub spell-requires : goal.spell-requires
-spell-requires c =
+pub spelled-requires : goal.spelled-requires
+spelled-requires c =
     c.decks_are_spellable.ensures.spellable c.args.deck.now c.requires.normal
     (root_known c.args.deck.now c.requires.good)
 
@@ -16,7 +16,7 @@ card_places-requires-clause-held c =
     c.decks_are_spellable.ensures.spellable c.args.deck.now c.requires.normal
     (root_known c.args.deck.now c.requires.good) in
     let are =
-    c.in_ok-bytes.ensures ∙ c.as_slice.ensures ∙ c.in_ok-spelled.ensures in
+    c.in_ok-bytes.ensures in
     let found =
     ap (λ (l : List ℕ). mb_at l 3) (sym c.as_slice-whole.ensures) ∙ c.places-table.ensures.exact in
     let within =
@@ -35,16 +35,16 @@ card_places-requires-clause-held c =
 
 pub card_places-requires-clause-noted : goal.card_places-requires-clause-noted
 card_places-requires-clause-noted c =
-    subst (AreNotes c.as_slice-whole.result.now) (sym c.as_slice-2.ensures) c.in_ok-notes.ensures
+    subst (AreNotes c.as_slice-whole.result.now) (sym c.as_slice.ensures) c.in_ok-notes.ensures
 
 pub invariant_of-result : goal.invariant_of-result
 invariant_of-result c =
     let kept =
     subst (λ (l : List ℕ).
-    IsKept c.in_ok-names.names c.places-table.result.1 l c.in_ok-cards.cards c.as_slice-2.result.now)
+    IsKept c.in_ok-names.names c.places-table.result.1 l c.in_ok-cards.cards c.as_slice.result.now)
     c.as_slice-whole.ensures c.in_ok-cards.ensures in
     subst (IsKept c.in_ok-names.names c.places-table.result.1 c.in_ok-bytes.bytes c.in_ok-cards.cards)
-    c.as_slice-2.ensures kept
+    c.as_slice.ensures kept
 
 pub returns : goal.returns
 returns c =
@@ -52,7 +52,7 @@ returns c =
     c.decks_are_spellable.ensures.spellable c.args.deck.now c.requires.normal
     (root_known c.args.deck.now c.requires.good) in
     let are =
-    c.in_ok-bytes.ensures ∙ c.as_slice.ensures ∙ c.in_ok-spelled.ensures in
+    c.in_ok-bytes.ensures in
     let found =
     ap (λ (l : List ℕ). mb_at l 3) (sym c.as_slice-whole.ensures) ∙ c.places-table.ensures.exact in
     let within =

@@ -2,7 +2,8 @@ use Rattle.std.proofs.Common.{◌∙◌, sym, ap, length, List, ℕ, Some, arith
 use Rattle.wap_base.specs.declared.name.Part.{Part}
 use Rattle.wap_markup.specs.declared.name.AttrName.{AttrName}
 use Rattle.wap_good.specs.Texts.{value_at, behind_value}
-use Rattle.wap_good.proofs.Ending.{attr_read, attr_followed, behind_left, first_is}
+use Rattle.wap_good.proofs.Ending.{attr_read, attr_followed, behind_on, behind_first}
+use Rattle.wap_good.proofs.Ending.{behind_left, first_is}
 use Rattle.wap_good.proofs.HeadLaw.{coded_start}
 use Rattle.wap_good.proofs.heads.next_name.Goals as goal
 
@@ -30,3 +31,9 @@ returns-clause-shorter c =
     let left =
     behind_left c.after_bits.result.now c.in_ok-mark.rest.now c.after_bits.ensures.behind in
     omega arith
+
+pub returns-clause-behind : goal.returns-clause-behind
+returns-clause-behind c =
+    behind_on c.after_bits.result.now c.in_ok-mark.rest.now c.args.bytes.now
+    c.after_bits.ensures.behind
+    (behind_first c.args.bytes.now c.in_ok-mark.mark c.in_ok-mark.rest.now c.in_ok-mark.ensures)

@@ -10,11 +10,11 @@ use Rattle.wap_good.proofs.notes.note_of.Goals as goal
 pub returns-clause-noted : goal.returns-clause-noted
 returns-clause-noted c =
     let bytes = c.args.bytes.now in
-    let rest = c.after_node-rest.result.now in
+    let rest = c.args.rest.now in
     let note : Note = record {
       begin = length bytes;
       end = length rest;
-      known = record { names = c.names_of.result; head = c.head_of.result; inside = 0 };
+      known = c.args.known;
     } in
     let found = sym c.in_ok-tag_of.ensures in
     let own : IsOwn bytes note = record {
@@ -24,13 +24,9 @@ returns-clause-noted c =
           found;
       follows =
           subst (FollowsNode LEVEL_LIMIT bytes)
-          (sym (last_here bytes rest c.after_node-rest.ensures.behind))
-          c.after_node-rest.ensures.exact;
-      head = record {
-        names = c.names_of.ensures;
-        content = c.head_of.ensures.content;
-        within = c.head_of.ensures.within;
-      };
+          (sym (last_here bytes rest c.requires.behind))
+          c.requires.follows;
+      head = c.requires.head;
     } in
-    let shorter = rest_shorter bytes rest own.more c.after_node-rest.ensures.behind in
+    let shorter = rest_shorter bytes rest own.more c.requires.behind in
     note_here bytes note refl shorter own
