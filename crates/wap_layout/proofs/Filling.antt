@@ -30,7 +30,7 @@ room_none : (width needed : ℕ) → has_room width 0 needed ≡ false
 room_none width needed = grind (arith, nat_tests)
 
 -- a line that has room takes the word
-fill-room : (width : ℕ) (begun word : List ℕ) (words : List (List ℕ)) → 1 ≤ length begun
+pub fill-room : (width : ℕ) (begun word : List ℕ) (words : List (List ℕ)) → 1 ≤ length begun
     → length begun + 1 + length word ≤ width
     → fill width begun (word ∷ words) ≡ fill width (begun ++ 32 ∷ word) words
 fill-room width begun word words some fits =

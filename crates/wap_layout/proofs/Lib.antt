@@ -6,6 +6,7 @@ pub mod Filling
 pub mod Placing
 pub mod Plain
 pub mod Feeds
+pub mod Begun
 pub mod Unique
 pub mod Laying
 pub mod Unwrapped

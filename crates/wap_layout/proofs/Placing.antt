@@ -1,53 +1,43 @@
 -- One more word after the lines so far, and the parts of a word that is longer than the width.
-use Rattle.std.proofs.Common.{◌≡◌, ℕ, ◌+◌, ◌≤◌, ◌<◌, List, [], ◌∷◌, ◌++◌, length}
-use Rattle.std.proofs.Common.{false, refl, sym, ap, ◌∙◌, append_assoc, arith}
+use Rattle.std.proofs.Common.{◌≡◌, ℕ, ◌≤◌, List, [], ◌∷◌, ◌++◌, length}
+use Rattle.std.proofs.Common.{sym, ap, ◌∙◌, append_assoc, arith}
 use Rattle.std.specs.List.{flat_map}
-use Rattle.std.proofs.lemmas.Bool.Decides.{nat_tests}
 use Rattle.std.proofs.lemmas.List.{append-nil}
 use Rattle.wap_layout.specs.Words.{unless_empty}
-use Rattle.wap_layout.specs.Calculation.{cut_word, fill, has_room}
+use Rattle.wap_layout.specs.Calculation.{cut_word, fill}
 use Rattle.wap_layout.proofs.Cutting.{cut_word-short, cut_word-at_width}
 use Rattle.wap_layout.proofs.Filling.{fill-first, fill-before}
 
 -- ---- a word
-
-room-over : (width columns needed : ℕ) → 1 ≤ columns → has_room width columns needed ≡ false
-    → width < columns + 1 + needed
-room-over width columns needed some room = grind (arith, nat_tests)
 
 pub some_parts : (width : ℕ) (word : List ℕ) → 1 ≤ length word
     → flat_map (cut_word width) (unless_empty word) ≡ cut_word width word
 some_parts width [] some = absurd (omega arith)
 some_parts width (c ∷ word) some = append-nil (cut_word width (c ∷ word))
 
--- or ends it
-pub word-begins : (width : ℕ) (line word : List ℕ) (more : List (List ℕ)) → 1 ≤ width
-    → has_room width (length line) (length word) ≡ false
-    → fill width line (cut_word width word ++ more)
-    ≡ unless_empty line ++ fill width [] (cut_word width word ++ more)
-word-begins width [] word more one room = refl
-word-begins width (c ∷ line) word more one room =
-    fill-before width (c ∷ line) word more one (omega arith)
-    (room-over width (length (c ∷ line)) (length word) (omega arith) room)
-
--- and begins another
+-- a word begins a line
 pub word-alone : (width : ℕ) (word : List ℕ) (more : List (List ℕ)) → length word ≤ width
     → fill width [] (cut_word width word ++ more) ≡ fill width word more
 word-alone width word more short =
     ap (λ parts. fill width [] (parts ++ more)) (cut_word-short width word short)
     ∙ fill-first width word more
 
--- what it comes to where the line ended
-pub on_next_line : (width : ℕ) (lines new : List (List ℕ)) (line word : List ℕ)
-    (more rest : List (List ℕ)) → 1 ≤ width → 1 ≤ length word
-    → has_room width (length line) (length word) ≡ false
-    → new ++ rest ≡ (lines ++ unless_empty line) ++ fill width [] (cut_word width word ++ more)
-    → new ++ rest ≡ lines ++ fill width line (flat_map (cut_word width) (unless_empty word) ++ more)
-on_next_line width lines new line word more rest one some room is =
-    is
-    ∙ append_assoc lines (unless_empty line) (fill width [] (cut_word width word ++ more))
-    ∙ ap (λ ls. lines ++ ls) (sym (word-begins width line word more one room))
-    ∙ ap (λ parts. lines ++ fill width line (parts ++ more)) (sym (some_parts width word some))
+-- what it comes to where it is cut
+pub begun-cut : (width : ℕ) (lines : List (List ℕ)) (word : List ℕ) (more rest : List (List ℕ))
+    → 1 ≤ length word → rest ≡ lines ++ fill width [] (cut_word width word ++ more)
+    → rest ≡ lines ++ fill width [] (flat_map (cut_word width) (unless_empty word) ++ more)
+begun-cut width lines word more rest some is =
+    is ∙ ap (λ parts. lines ++ fill width [] (parts ++ more)) (sym (some_parts width word some))
+
+-- and where it isn't
+pub begun-word : (width : ℕ) (lines : List (List ℕ)) (word line : List ℕ) (more : List (List ℕ))
+    → 1 ≤ length word → length word ≤ width → line ≡ word
+    → lines ++ fill width line more
+    ≡ lines ++ fill width [] (flat_map (cut_word width) (unless_empty word) ++ more)
+begun-word width lines word line more some short is =
+    begun-cut width lines word more (lines ++ fill width line more) some
+    (ap (λ l. lines ++ fill width l more) is
+    ∙ ap (λ ls. lines ++ ls) (sym (word-alone width word more short)))
 
 -- ---- the parts of a word
 

@@ -1,16 +1,21 @@
 -- A text's first word, found by its bytes: a blank's byte ends it, or one past US-ASCII.
-use Rattle.std.proofs.Common.{◌≡◌, ℕ, zero, suc, ◌+◌, ◌<◌, ◌≤◌, ◌-◌, Bool, true, false, not, List, []}
-use Rattle.std.proofs.Common.{◌∷◌, ◌++◌, length, take, drop, get_or, Some, None, cond, Result, Ok, Err}
+use Rattle.std.proofs.Common.{◌≡◌, ℕ, zero, suc, ◌+◌, ◌<◌, ◌≤◌, ◌-◌, Bool, true, false, not}
+use Rattle.std.proofs.Common.{List, [], ◌∷◌, ◌++◌, length, take, drop, get_or, Some, None, cond}
+use Rattle.std.proofs.Common.{Result, Ok, Err}
 use Rattle.std.proofs.Common.{refl, ap, ap₂, sym, ◌∙◌, inl, inr, subst, append_assoc, arith}
 use Rattle.std.specs.Prelude.{nat_le, nat_lt, IfOk}
 use Rattle.std.specs.List.{list_any, position, position_or_len}
 use Rattle.std.specs.Str.{chars, IsUtf8, IsAscii, IsCharBoundary}
 use Rattle.std.proofs.lemmas.Bool.{cases_Bool, cases_lt, or_parts, or_from}
 use Rattle.std.proofs.lemmas.Bool.Decides.{nat_tests}
-use Rattle.std.proofs.lemmas.List.{length-take-le, take-append-drop, drop_more}
+use Rattle.std.proofs.lemmas.List.{length-append, length-take-le, take-append-drop, drop_more}
 use Rattle.std.proofs.lemmas.List.Quantifiers.{position-Some}
 use Rattle.std.proofs.lemmas.List.Sums.{prefix_len_passes}
+use Rattle.std.proofs.Common.{encode_utf8, encode_utf8_all}
+use Rattle.std.specs.Char.{len_utf8}
 use Rattle.std.proofs.lemmas.Str.{chars-IsAscii, IsAscii-take, IsAscii-drop}
+use Rattle.std.proofs.lemmas.Str.{encode_ascii, encodes-chars, length-encode, length-le-encodes}
+use Rattle.std.proofs.lemmas.Str.{len_utf8_bounds}
 use Rattle.std.proofs.lemmas.Str.{IsCharBoundary-before_ascii, IsCharBoundary-after_ascii}
 use Rattle.std.proofs.lemmas.Str.Ascii.{IsAscii-cons, IsAscii-nil}
 use Rattle.wap_layout.specs.Words.{is_blank, words_of, unless_empty}
@@ -80,6 +85,7 @@ blank_at b ends low = elim (cases_Bool (is_blank b)) [
 pub record PlainCut (bytes : List ℕ) (at : ℕ) : Type 0 where
   pub within : at < length bytes
   pub cut : IsCutAtBlank bytes (take at bytes) (drop (at + 1) bytes)
+  pub ascii : IsAscii (take at bytes)
   pub columns : length (chars (take at bytes)) ≡ at
   pub before : IsCharBoundary bytes at
   pub after : IsCharBoundary bytes (at + 1)
@@ -99,6 +105,7 @@ plain_cut bytes at text found low =
           (cut_at is_blank bytes (take at bytes) (drop (at + 1) bytes) (get_or bytes at 0) text is
           low (blank_at (get_or bytes at 0) place.1 low)
           (λ part. no_blank_character (take at bytes) plain));
+      ascii = plain_ascii (take at bytes) plain;
       columns = ap length (chars-IsAscii (take at bytes) (plain_ascii (take at bytes) plain))
           ∙ length-take-le at bytes (omega (arith, place.0));
       before = IsCharBoundary-before_ascii bytes at place.0 low;
@@ -140,6 +147,30 @@ pub plain_whole : (bytes : List ℕ) → position ends_word bytes ≡ None
 plain_whole bytes none = words_none bytes (no_blank_character bytes (plain_none bytes none))
 
 -- ---- the parts of a word of US-ASCII
+
+-- a character that takes one byte is US-ASCII
+one_byte : (c : ℕ) → len_utf8 c ≡ 1 → c < 128
+one_byte c e = grind (arith, nat_tests)
+
+-- so characters of one byte each are
+even_ascii : (cs : List ℕ) → length (encode_utf8_all cs) ≡ length cs → IsAscii (encode_utf8_all cs)
+even_ascii [] even = IsAscii-nil
+even_ascii (c ∷ cs) even =
+    let whole = length-append (encode_utf8 c) (encode_utf8_all cs) in
+    let long = length-encode c in
+    let bounds = len_utf8_bounds c in
+    let few = length-le-encodes cs in
+    let low : c < 128 = one_byte c (omega (arith, whole, long, bounds.0, few, even)) in
+    subst IsAscii (sym (ap (λ bs. bs ++ encode_utf8_all cs) (encode_ascii c low)))
+    (IsAscii-cons c (encode_utf8_all cs) low
+    (even_ascii cs (omega (arith, whole, long, bounds.0, few, even))))
+
+-- a text with as many bytes as characters is US-ASCII
+pub ascii_even : (bytes : List ℕ) → IsUtf8 bytes → length bytes ≡ length (chars bytes)
+    → IsAscii bytes
+ascii_even bytes text even =
+    let is = encodes-chars bytes text in
+    subst IsAscii is (even_ascii (chars bytes) (ap length is ∙ even))
 
 -- a part as long as the width
 pub parts-step : (width : ℕ) (lines new : List (List ℕ)) (rest part after : List ℕ)

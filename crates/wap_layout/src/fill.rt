@@ -1,11 +1,13 @@
 //! Words on lines of a width.
-ghost use Rattle.std.specs.Prelude.{◌≡◌, ◌≤◌, ◌++◌, List, ℕ, IfOk, OnOk, [], length};
+ghost use Rattle.std.specs.Prelude.{◌≡◌, ◌≤◌, ◌<◌, ◌++◌, List, ℕ, IfOk, OnOk, [], length};
 ghost use Rattle.std.specs.List.{flat_map};
-ghost use Rattle.std.specs.Str.{chars, IsAscii};
+ghost use Rattle.std.specs.Str.{chars, IsAscii, IsUtf8};
 ghost use Rattle.wap_layout.specs.Words.{words_of, unless_empty};
 ghost use Rattle.wap_layout.specs.Calculation.{cut_word, fill, filled, has_room};
+ghost use Rattle.wap_layout.specs.inside.Slices.{fill_text};
 
-use crate::words::{add_unless_empty, columns_of, cut_at_blank, is_plain};
+use crate::first::first_line;
+use crate::words::{add_unless_empty, columns_of, first_word};
 use std::alloc::Global;
 use std::mem;
 use wap_base::{NoMemory, Rows, Text};
@@ -77,19 +79,21 @@ fn add_characters(
     Ok(part)
 }
 
-/// Adds the parts of a word that are as long as the width, and gives what is left of it, which
-/// begins the next line.
+/// Adds the parts of a word of so many columns that are as long as the width, and gives what is
+/// left of it, which begins the next line.
 fn add_cut(
     alloc: Global,
     lines: &mut Rows<Text>,
     word: &str,
+    columns: usize,
     width: usize,
 ) -> Result<Text, NoMemory>
-    requires { 1 ≤ width }
+    requires width { 1 ≤ width }
+    requires columns { columns ≡ length (chars word.now) }
     ensures { IfOk result (λ last. (more : List (List ℕ)) → lines.new ++ fill width last more
         ≡ lines.old ++ fill width [] (cut_word width (chars word.now) ++ more)) }
 {
-    if is_plain(word) {
+    if columns == word.len() {
         let rest = add_parts(alloc, lines, word, width)?;
         return begin_line(alloc, rest, width);
     }
@@ -110,41 +114,106 @@ struct Frame {
     room: usize,
 }
 
-/// Adds a word of so many columns to a line, or begins another line, and gives the columns of the
-/// line that the word ends on. No word is added where there is none.
-fn add_word(
+/// Begins a line with a word of so many columns, where there is one, and gives the columns of the
+/// line.
+fn begin_word(
     alloc: Global,
     lines: &mut Rows<Text>,
     line: &mut Text,
-    columns: usize,
     word: &str,
     needed: usize,
     frame: Frame,
 ) -> Result<usize, NoMemory>
     requires width { 1 ≤ frame.width }
-    requires columns { columns ≡ length line.old }
+    requires empty { line.old ≡ [] }
     requires needed { needed ≡ length (chars word.now) }
     ensures columns { IfOk result (λ columns. columns ≡ length line.new) }
-    ensures added { OnOk result ((more : List (List ℕ)) → lines.new ++ fill frame.width line.new more
-        ≡ lines.old ++ fill frame.width line.old
+    ensures added { OnOk result ((more : List (List ℕ)) →
+        lines.new ++ fill frame.width line.new more
+        ≡ lines.old ++ fill frame.width []
         (flat_map (cut_word frame.width) (unless_empty (chars word.now)) ++ more)) }
 {
     if needed == 0 {
-        return Ok(columns);
+        return Ok(0);
     }
-    if has_room(frame.width, columns, needed) {
-        line.push(' ')?;
-        line.add(word)?;
-        return Ok(columns + 1 + needed);
-    }
-    add_unless_empty(lines, mem::replace(line, Text::new(alloc)))?;
     if needed <= frame.width {
         let begun = begin_line(alloc, word, frame.room)?;
         *line = begun;
         return Ok(needed);
     }
-    *line = add_cut(alloc, lines, word, frame.width)?;
+    *line = add_cut(alloc, lines, word, needed, frame.width)?;
     Ok(columns_of(line.as_str()))
+}
+
+/// Adds the first line of a text, or begins a line with the words that are found at once, and gives
+/// the columns of the line so far and what of the text is left.
+fn begin<'a>(
+    alloc: Global,
+    lines: &mut Rows<Text>,
+    line: &mut Text,
+    text: &'a str,
+    frame: Frame,
+) -> Result<(usize, &'a str), NoMemory>
+    requires width { 1 ≤ frame.width }
+    requires empty { line.old ≡ [] }
+    requires some { 1 ≤ length text.now }
+    ensures columns { IfOk result (λ left. left.0 ≡ length line.new) }
+    ensures text { IfOk result (λ left. IsUtf8 left.1.now) }
+    ensures shorter { IfOk result (λ left. length left.1.now < length text.now) }
+    ensures added { IfOk result (λ left. lines.new ++ fill_text frame.width line.new left.1.now
+        ≡ lines.old ++ fill_text frame.width [] text.now) }
+{
+    if let Some((front, rest, is_whole)) = first_line(text, frame.width) {
+        if is_whole {
+            lines.add(Text::of(alloc, front)?)?;
+            return Ok((0, rest));
+        }
+        *line = begin_line(alloc, front, frame.room)?;
+        return Ok((front.len(), rest));
+    }
+    let (word, needed, rest) = first_word(text);
+    let columns = begin_word(alloc, lines, line, word, needed, frame)?;
+    Ok((columns, rest))
+}
+
+/// Adds the first word of a text to a line of so many columns, or ends the line and begins another,
+/// and gives the columns of the line so far and what of the text is left.
+fn go_on<'a>(
+    alloc: Global,
+    lines: &mut Rows<Text>,
+    line: &mut Text,
+    columns: usize,
+    text: &'a str,
+    frame: Frame,
+) -> Result<(usize, &'a str), NoMemory>
+    requires width { 1 ≤ frame.width }
+    requires columns { columns ≡ length line.old }
+    requires some { 1 ≤ length text.now }
+    ensures columns { IfOk result (λ left. left.0 ≡ length line.new) }
+    ensures text { IfOk result (λ left. IsUtf8 left.1.now) }
+    ensures shorter { IfOk result (λ left. length left.1.now < length text.now) }
+    ensures added { IfOk result (λ left. lines.new ++ fill_text frame.width line.new left.1.now
+        ≡ lines.old ++ fill_text frame.width line.old text.now) }
+{
+    if columns == 0 {
+        return begin(alloc, lines, line, text, frame);
+    }
+    let (word, needed, rest) = first_word(text);
+    if needed == 0 {
+        return Ok((columns, rest));
+    }
+    if has_room(frame.width, columns, needed) {
+        line.push(' ')?;
+        line.add(word)?;
+        return Ok((columns + 1 + needed, rest));
+    }
+    lines.add(mem::replace(line, Text::new(alloc)))?;
+    // Only a plain word can be one of several that are taken as a slice.
+    if needed == word.len() {
+        return begin(alloc, lines, line, text, frame);
+    }
+    let columns = begin_word(alloc, lines, line, word, needed, frame)?;
+    Ok((columns, rest))
 }
 
 /// Adds the lines of a text's words, each cut where it is longer than the width.
@@ -164,11 +233,10 @@ pub(crate) fn add_filled(
     let mut line = Text::new(alloc);
     let mut columns = 0;
     let mut rest = text;
-    while let Some((word, needed, after)) = cut_at_blank(rest) {
-        columns = add_word(alloc, lines, &mut line, columns, word, needed, frame)?;
+    while !rest.is_empty() {
+        let (begun, after) = go_on(alloc, lines, &mut line, columns, rest, frame)?;
+        columns = begun;
         rest = after;
     }
-    let needed = columns_of(rest);
-    add_word(alloc, lines, &mut line, columns, rest, needed, frame)?;
     add_unless_empty(lines, line)
 }

@@ -5,6 +5,7 @@
 #![tactic(auto)]
 
 mod fill;
+mod first;
 mod flow;
 pub mod laws;
 mod layout;

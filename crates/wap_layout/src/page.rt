@@ -105,7 +105,7 @@ pub struct Page {
 }
 
 impl Page {
-    ghost use Rattle.std.specs.Prelude.{◌≡◌, ◌≤◌, ◌∷◌, ◌++◌, [], List, IfOk, OnOk};
+    ghost use Rattle.std.specs.Prelude.{◌≡◌, ◌≤◌, ◌∷◌, ◌++◌, [], List, OnOk};
     ghost use Rattle.std.specs.List.{flat_map, slice_split};
     ghost use Rattle.wap_layout.specs.declared.flow.Flow.{Flow};
     ghost use Rattle.wap_layout.specs.declared.flow.Mode.TheVariants.{Wrapped};
@@ -154,16 +154,29 @@ impl Page {
         Ok(())
     }
 
+    /// Goes on with a text.
+    fn add(&mut self, text: Text) -> Result<(), NoMemory>
+        ensures lines { self.new.lines ≡ self.old.lines }
+        ensures mode { self.new.mode ≡ self.old.mode }
+        ensures text { OnOk result (self.new.text ≡ self.old.text ++ text) }
+    {
+        if self.text.is_empty() {
+            self.text = text;
+            return Ok(());
+        }
+        self.text.add(text.as_str())
+    }
+
     /// Takes a part of the flow.
-    pub fn take(&mut self, alloc: Global, part: &Flow, width: usize) -> Result<(), NoMemory>
+    pub fn take(&mut self, alloc: Global, part: Flow, width: usize) -> Result<(), NoMemory>
         requires { 1 ≤ width }
         ensures { OnOk result ((flow : List Flow)
             → lines_behind width self.new.lines self.new.mode self.new.text flow
-            ≡ lines_behind width self.old.lines self.old.mode self.old.text (part.now ∷ flow)) }
+            ≡ lines_behind width self.old.lines self.old.mode self.old.text (part ∷ flow)) }
     {
         let mode = self.mode;
         match part {
-            Flow::Words(text) => self.text.add(text.as_str()),
+            Flow::Words(text) => self.add(text),
             Flow::Hard => self.end(alloc, Ending::Hard, mode, width),
             Flow::Soft => self.end(alloc, Ending::Soft, mode, width),
             Flow::Wrap => self.end(alloc, Ending::Soft, Mode::Wrapped, width),

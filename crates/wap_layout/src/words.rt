@@ -1,6 +1,6 @@
 //! Words, as slices of a text.
-ghost use Rattle.std.specs.Prelude.{◌≡◌, ◌++◌, ◌<◌, OnOk, MatchOption, length, slice_index, Some};
-ghost use Rattle.std.specs.Prelude.{IfSome, false, ⊤};
+ghost use Rattle.std.specs.Prelude.{◌≡◌, ◌++◌, ◌<◌, ◌≤◌, OnOk, MatchOption, length, slice_index};
+ghost use Rattle.std.specs.Prelude.{Some, IfSome, false, ⊤};
 ghost use Rattle.std.specs.Bool.{MatchBool};
 ghost use Rattle.std.specs.List.{list_any, position};
 ghost use Rattle.std.specs.Str.{chars, IsAscii};
@@ -34,7 +34,7 @@ fn ends_word(byte: u8) -> bool
 }
 
 /// The place of the first byte that is a blank's, or of a character past US-ASCII.
-fn word_end(bytes: &[u8]) -> Option<usize>
+pub(crate) fn word_end(bytes: &[u8]) -> Option<usize>
     ensures place { result ≡ position ends_word bytes.now }
     ensures within { IfSome result (λ at. at < length bytes.now) }
 {
@@ -42,7 +42,7 @@ fn word_end(bytes: &[u8]) -> Option<usize>
 }
 
 /// Whether a text is known to be US-ASCII, since no byte of it ends a word.
-pub(crate) fn is_plain(text: &str) -> bool
+fn is_plain(text: &str) -> bool
     ensures { MatchBool result (IsAscii text.now) ⊤ }
 {
     match word_end(text.as_bytes()) {
@@ -94,7 +94,7 @@ fn cut_by_characters(text: &str) -> Option<(&str, usize, &str)>
 }
 
 /// What stands before the first blank of a text, its columns, and what follows that blank.
-pub(crate) fn cut_at_blank(text: &str) -> Option<(&str, usize, &str)>
+fn cut_at_blank(text: &str) -> Option<(&str, usize, &str)>
     ensures cut { MatchOption result (words_of (chars text.now) ≡ unless_empty (chars text.now))
         (λ cut. IsCutAtBlank text.now cut.0.now cut.2.now) }
     ensures columns { IfSome result (λ cut. cut.1 ≡ length (chars cut.0.now)) }
@@ -104,6 +104,19 @@ pub(crate) fn cut_at_blank(text: &str) -> Option<(&str, usize, &str)>
         None => None,
         Some(at) if bytes[at] < 128 => Some(cut_at(text, at)),
         Some(_) => cut_by_characters(text),
+    }
+}
+
+/// What stands before the first blank of a text, its columns, and what follows that blank; all of
+/// the text where it has no blank.
+pub(crate) fn first_word(text: &str) -> (&str, usize, &str)
+    requires { 1 ≤ length text.now }
+    ensures cut { IsCutAtBlank text.now result.0.now result.2.now }
+    ensures columns { result.1 ≡ length (chars result.0.now) }
+{
+    match cut_at_blank(text) {
+        None => (text, columns_of(text), ""),
+        Some(cut) => cut,
     }
 }
 

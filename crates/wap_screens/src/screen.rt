@@ -45,7 +45,7 @@ fn add_content(
     ensures left { OnErr result (IsPrefix lines.old lines.new) }
 {
     let flow = flow(alloc, card, vars)?;
-    for line in laid_lines(alloc, flow.as_slice(), COLUMNS)? {
+    for line in laid_lines(alloc, flow, COLUMNS)? {
         lines.add(line)?;
     }
     Ok(())

@@ -1,9 +1,12 @@
--- A text's UTF-8, cut at a blank. This project's own.
-use Rattle.std.specs.Prelude.{◌≡◌, ℕ, ◌<◌, List, ◌++◌, length, Bool, ◌||◌, nat_le, true, ◌∷◌}
-use Rattle.std.specs.List.{slice_split}
-use Rattle.std.specs.Str.{chars, IsUtf8}
+-- A text's UTF-8, cut at a blank, at a line feed or after a line. This project's own.
+use Rattle.std.specs.Prelude.{◌≡◌, ℕ, ◌<◌, ◌≤◌, List, [], ◌++◌, length}
+use Rattle.std.specs.Prelude.{Bool, ◌||◌, nat_le, true, false, ◌∷◌}
+use Rattle.std.specs.List.{flat_map, slice_split}
+use Rattle.std.specs.Str.{chars, IsAscii, IsUtf8}
+use Rattle.wap_base.specs.Ascii.{space}
 use Rattle.wap_layout.specs.Words.{is_blank, is_line_feed, words_of, unless_empty}
 use Rattle.wap_layout.specs.Pieces.{kept}
+use Rattle.wap_layout.specs.Calculation.{cut_word, fill}
 use Rattle.wap_layout.specs.declared.flow.Mode.TheVariants.{Preformatted}
 
 -- a blank's byte, or one of a character past US-ASCII
@@ -22,5 +25,32 @@ pub record IsCutAtFeed (bytes front back : List ℕ) : Type 0 where
       → kept (slice_split is_line_feed (chars bytes)) hard
       ≡ record { mode = Preformatted; text = chars front; is_hard = true }
       ∷ kept (slice_split is_line_feed (chars back)) hard
+  pub back_text : IsUtf8 back
+  pub shorter : length back < length bytes
+
+-- The first word is of US-ASCII, and follows no blank; the other words follow the space after it.
+-- Where nothing is left, that space may be missing.
+pub record IsPlainWord (bytes front back : List ℕ) : Type 0 where
+  pub ascii : IsAscii front
+  pub some : 1 ≤ length front
+  pub tail : List ℕ
+  pub divides : bytes ≡ front ++ tail
+  pub tail_text : IsUtf8 tail
+  pub spaced : 1 ≤ length back → tail ≡ space ∷ back
+  pub words_are : words_of (chars bytes) ≡ front ∷ words_of (chars back)
+  pub back_text : IsUtf8 back
+  pub shorter : length back < length bytes
+
+-- the lines of a text's words that go on after a line
+abbrev pub fill_text : ℕ → List ℕ → List ℕ → List (List ℕ)
+fill_text width line bytes = fill width line (flat_map (cut_word width) (words_of (chars bytes)))
+
+-- The words at the start of the text are the first line, all of it or as far as they go, and the
+-- others follow them.
+pub record IsFirstLine (width : ℕ) (bytes front back : List ℕ) (is_whole : Bool) : Type 0 where
+  pub whole : is_whole ≡ true
+      → fill_text width [] bytes ≡ chars front ∷ fill_text width [] back
+  pub begun : is_whole ≡ false → fill_text width [] bytes ≡ fill_text width (chars front) back
+  pub columns : length (chars front) ≡ length front
   pub back_text : IsUtf8 back
   pub shorter : length back < length bytes

@@ -1,0 +1,11 @@
+use Rattle.std.proofs.Common.{length}
+use denote.Text.{Utf8}
+use denote.Shadow.{shadow}
+use Rattle.wap_layout.proofs.Begun.{IsBegun}
+use Rattle.wap_layout.proofs.first.first_line.Given as goal
+
+abbrev pub invariant-loop-word : goal.invariant-loop-word
+invariant-loop-word l = shadow (Utf8 l.line) × IsBegun l.width l.text l.line l.rest
+
+abbrev pub decreases-loop-word : goal.decreases-loop-word
+decreases-loop-word l = length l.rest
