@@ -3,6 +3,7 @@ ghost use Rattle.std.specs.Prelude.{◌≡◌, ◌++◌, [], not, filter, find, 
 ghost use Rattle.std.specs.List.{list_any};
 ghost use Rattle.std.specs.Option.{option_map_or};
 ghost use Rattle.wap_base.specs.Texts.{is_same_text};
+ghost use Rattle.wap_markup.specs.declared.deck.Node.{Node};
 ghost use Rattle.wap_markup.specs.Trees.{value_of};
 ghost use Rattle.wap_markup.specs.Tasks.{task_of};
 ghost use Rattle.wap_markup.specs.Good.{first_of, name_of_do};
@@ -133,14 +134,14 @@ fn add_active<'a>(dos: &[View<'a>], active: &mut Rows<View<'a>>) -> Result<(), N
 fn active<'a>(
     alloc: Global,
     deck: &'a GoodDeck,
-    card: &View<'a>,
+    own: &[View<'a>],
 ) -> Result<Rows<View<'a>>, NoMemory>
-    ensures { IfOk result (λ dos. dos ≡ active_dos deck.now card.now) }
+    ensures { IfOk result (λ dos.
+        (card : Node) → own.now ≡ dos_in card → dos ≡ active_dos deck.now card) }
 {
-    let own = dos_in(alloc, card)?;
-    let others = template_dos(alloc, deck, own.as_slice())?;
+    let others = template_dos(alloc, deck, own)?;
     let mut active = Rows::new(alloc);
-    add_active(own.as_slice(), &mut active)?;
+    add_active(own, &mut active)?;
     add_active(others.as_slice(), &mut active)?;
     Ok(active)
 }
@@ -153,16 +154,18 @@ fn label_in(alloc: Global, vars: &Vars, view: &View<'_>) -> Result<(Text, Text),
     Ok((name, fill_value(alloc, vars, view, AttrName::Label)?))
 }
 
-/// The names and labels of the active dos of a card, which is one of the deck.
+/// The names and labels of the active dos of the card that has these dos of its own, and is one of
+/// the deck.
 pub fn active_dos(
     alloc: Global,
     deck: &GoodDeck,
-    card: &View<'_>,
+    own: &[View<'_>],
     vars: &Vars,
 ) -> Result<Rows<(Text, Text)>, NoMemory>
-    ensures { IfOk result (λ dos. dos ≡ do_labels vars.now deck.now card.now) }
+    ensures { IfOk result (λ dos.
+        (card : Node) → own.now ≡ dos_in card → dos ≡ do_labels vars.now deck.now card) }
 {
-    let dos = active(alloc, deck, card)?;
+    let dos = active(alloc, deck, own)?;
     let mut labels = Rows::new(alloc);
     for one in dos.as_slice() {
         labels.add(label_in(alloc, vars, one)?)?;

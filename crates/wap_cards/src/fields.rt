@@ -3,7 +3,6 @@ ghost use Rattle.std.specs.Prelude.{◌≡◌, IfOk};
 ghost use Rattle.wap_cardrules.specs.Fields.{is_field, fields_of, numbered};
 ghost use Rattle.wap_cardrules.specs.Fields.{task_of_link, link_task};
 
-use crate::content::is_among;
 use crate::elements::{Sought, elements_of};
 use crate::filling::fill_value;
 use crate::tasks::{go_to, task_in};
@@ -13,13 +12,11 @@ use wap_cardrules::Task;
 use wap_good::{AttrName, Tag, View};
 use wap_vars::Vars;
 
-const FIELDS: &[Tag] = &[Tag::A, Tag::Anchor, Tag::Input, Tag::Select];
-
 /// Whether an element is a link, an input or a select.
 pub fn is_field(tag: Tag) -> bool
     ensures { result ≡ is_field tag }
 {
-    is_among(FIELDS, tag)
+    matches!(tag, Tag::A | Tag::Anchor | Tag::Input | Tag::Select)
 }
 
 /// The fields of a card, in the order of the document.

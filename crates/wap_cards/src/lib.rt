@@ -15,7 +15,7 @@ mod timers;
 mod titles;
 mod values;
 
-pub use content::{Mark, content_of};
+pub use content::{is_open, may_have_text};
 pub use dos::{active_dos, do_task};
 pub use events::{binding, onpick};
 pub use fields::{fields_of, is_field, link_task, numbered_view};

@@ -1,3 +1,3 @@
-pub mod Numbers
 pub mod Options
 pub mod Texts
+pub mod Walks

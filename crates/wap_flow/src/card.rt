@@ -1,24 +1,32 @@
-//! The content of a card, mark after mark.
+//! What a card shows and its dos, taken in one walk.
 ghost use Rattle.std.specs.Prelude.{◌≡◌, IfOk};
 ghost use Rattle.wap_cardrules.specs.Flow.{flow_of};
+ghost use Rattle.wap_cardrules.specs.Dos.{dos_in};
 
 use crate::shown::Shown;
+use crate::walk::{Walk, take_kids};
 use std::alloc::Global;
 use wap_base::{NoMemory, Rows};
-use wap_cards::content_of;
 use wap_good::View;
 use wap_layout::Flow;
+use wap_markup::LEVEL_LIMIT;
 use wap_vars::Vars;
 
-/// What a card shows: its words, with those of its fields, and the breaks and modes between them.
-#[tactic(auto, unfolding(wap_cardrules::specs::Flow::flow_of), using(crate::proofs::Numbers::fields_next))]
-pub fn flow(alloc: Global, card: &View<'_>, vars: &Vars) -> Result<Rows<Flow>, NoMemory>
-    ensures { IfOk result (λ flow. flow ≡ flow_of vars.now card.now) }
+/// What a card shows: its words, with those of its fields, and the breaks and modes between them;
+/// and beside that the card's own dos.
+pub fn flow_and_dos<'a>(
+    alloc: Global,
+    card: &View<'a>,
+    vars: &Vars,
+) -> Result<(Rows<Flow>, Rows<View<'a>>), NoMemory>
+    ensures flow { IfOk result (λ both. both.0 ≡ flow_of vars.now card.now) }
+    ensures dos { IfOk result (λ both. both.1 ≡ dos_in card.now) }
 {
-    let marks = content_of(alloc, card)?;
-    let mut shown = Shown::new(alloc);
-    for mark in marks.as_slice() {
-        shown.take(alloc, vars, mark)?;
-    }
-    Ok(shown.into_flow())
+    let mut walk = Walk {
+        shown: Shown::new(alloc),
+        dos: Rows::new(alloc),
+    };
+    take_kids(alloc, vars, LEVEL_LIMIT, card, &mut walk)?;
+    let Walk { shown, dos } = walk;
+    Ok((shown.into_flow(), dos))
 }

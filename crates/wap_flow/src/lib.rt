@@ -1,5 +1,5 @@
-//! What a card of a good deck shows, as one flow of words, breaks and modes. What that is stands in
-//! `wap_cardrules`.
+//! What a card of a good deck shows, as one flow of words, breaks and modes, and its dos, which the
+//! same walk finds. What these are stands in `wap_cardrules`.
 #![tactic(auto)]
 
 mod card;
@@ -7,5 +7,6 @@ mod elements;
 mod fields;
 mod selects;
 mod shown;
+mod walk;
 
-pub use card::flow;
+pub use card::flow_and_dos;

@@ -1,8 +1,8 @@
 //! What shows so far.
-ghost use Rattle.std.specs.Prelude.{◌≡◌, ◌∷◌, [], ◌+◌, ◌<◌, IfOk, OnOk};
+ghost use Rattle.std.specs.Prelude.{◌≡◌, ◌∷◌, [], ◌+◌, IfOk, OnOk};
+ghost use Rattle.wap_cardrules.specs.Content.{words};
 ghost use Rattle.wap_cardrules.specs.Flow.{followed_by, with_field, with_mode, mode_of};
-ghost use Rattle.wap_cardrules.specs.Flow.{begun, shown_with, nothing_shown};
-ghost use Rattle.wap_cards.specs.Lent.{mark_of};
+ghost use Rattle.wap_cardrules.specs.Flow.{flow_behind, begun, shown_with, nothing_shown};
 ghost use Rattle.wap_flow.specs.inside.Modes.{paragraph_mode};
 
 use crate::elements::{add_before, add_edge};
@@ -10,8 +10,8 @@ use crate::fields::add_field;
 use std::alloc::Global;
 use std::marker::Model;
 use wap_base::{NoMemory, Rows};
-use wap_cards::{Mark, fill, is_field, is_word, plain_value};
-use wap_good::{AttrName, Tag, View};
+use wap_cards::{fill, is_field, is_word, plain_value};
+use wap_good::{AttrName, Run, Tag, View};
 use wap_layout::Flow;
 use wap_vars::Vars;
 
@@ -75,13 +75,16 @@ impl Shown {
         flow
     }
 
-    /// Takes a field, for which a number is left.
+    /// Takes a field.
     fn take_field(&mut self, alloc: Global, vars: &Vars, field: &View<'_>) -> Result<(), NoMemory>
-        requires { self.old.fields < u64.MAX }
         ensures { OnOk result (self.new ≡ with_field vars.now self.old field.now) }
     {
-        self.fields += 1;
-        add_field(alloc, vars, self.fields, field, &mut self.flow)
+        // More fields than this counts don't fit in memory.
+        let Some(number) = self.fields.checked_add(1) else {
+            return Err(NoMemory);
+        };
+        self.fields = number;
+        add_field(alloc, vars, number, field, &mut self.flow)
     }
 
     /// Takes the mode of a paragraph.
@@ -93,9 +96,15 @@ impl Shown {
         self.flow.add(paragraph_mode(self.is_nowrap))
     }
 
+    /// Takes a text.
+    pub fn add_words(&mut self, alloc: Global, vars: &Vars, text: Run<'_>) -> Result<(), NoMemory>
+        ensures { OnOk result (self.new ≡ shown_with vars.now self.old (words text.entry)) }
+    {
+        self.flow.add(Flow::Words(fill(alloc, vars, text)?))
+    }
+
     /// Takes an element that begins.
-    fn begin(&mut self, alloc: Global, vars: &Vars, node: &View<'_>) -> Result<(), NoMemory>
-        requires { self.old.fields < u64.MAX }
+    pub fn begin(&mut self, alloc: Global, vars: &Vars, node: &View<'_>) -> Result<(), NoMemory>
         ensures { OnOk result (self.new ≡ begun vars.now self.old node.now) }
     {
         if is_field(node.tag()) {
@@ -107,18 +116,10 @@ impl Shown {
         add_before(alloc, vars, node, &mut self.flow)
     }
 
-    /// Takes what comes next in the document, where a number is left for a field.
-    pub fn take(&mut self, alloc: Global, vars: &Vars, mark: &Mark<'_>) -> Result<(), NoMemory>
-        requires { self.old.fields < u64.MAX }
-        ensures { OnOk result (self.new ≡ shown_with vars.now self.old (mark_of mark.now)) }
+    /// Takes an element that ends.
+    pub fn end(&mut self, alloc: Global, tag: Tag) -> Result<(), NoMemory>
+        ensures { OnOk result (self.new ≡ followed_by self.old (flow_behind tag)) }
     {
-        match mark {
-            Mark::Words(words) => {
-                let text = fill(alloc, vars, words.again())?;
-                self.flow.add(Flow::Words(text))
-            }
-            Mark::Begins(node) => self.begin(alloc, vars, node),
-            Mark::Ends(node) => add_edge(alloc, node.tag(), &mut self.flow),
-        }
+        add_edge(alloc, tag, &mut self.flow)
     }
 }

@@ -10,11 +10,12 @@ ghost use Rattle.wap_screens.specs.Screens.{screen_of};
 
 use crate::lines::{do_line, title_line};
 use std::alloc::Global;
+use std::mem;
 use wap_base::{NoMemory, Rows, Text};
 use wap_cards::{active_dos, title};
-use wap_flow::flow;
+use wap_flow::flow_and_dos;
 use wap_good::{GoodDeck, View};
-use wap_layout::lines as laid_lines;
+use wap_layout::{Flow, lines as laid_lines};
 use wap_vars::Vars;
 use wap_world::COLUMNS;
 
@@ -33,41 +34,53 @@ fn add_title(
     lines.add(title_line(alloc, &title)?)
 }
 
+/// Appends lines, all at once.
+fn append(alloc: Global, lines: &mut Rows<Text>, more: Vec<Text>) -> Result<(), NoMemory>
+    ensures ok { OnOk result (lines.new ≡ lines.old ++ more.items) }
+    ensures kept { OnErr result (lines.new ≡ lines.old) }
+{
+    let mut all = mem::replace(lines, Rows::new(alloc)).into_vec();
+    let mut more = more;
+    let appended = all.append(&mut more);
+    *lines = Rows::from_vec(all);
+    Ok(appended?)
+}
+
 /// Appends what a card shows.
-fn add_content(
-    alloc: Global,
-    card: &View<'_>,
-    vars: &Vars,
-    lines: &mut Rows<Text>,
-) -> Result<(), NoMemory>
-    ensures ok { OnOk result
-        (lines.new ≡ lines.old ++ lines_of COLUMNS (flow_of vars.now card.now)) }
+fn add_content(alloc: Global, flow: Rows<Flow>, lines: &mut Rows<Text>) -> Result<(), NoMemory>
+    ensures ok { OnOk result (lines.new ≡ lines.old ++ lines_of COLUMNS flow) }
+    ensures kept { OnErr result (lines.new ≡ lines.old) }
+{
+    append(alloc, lines, laid_lines(alloc, flow, COLUMNS)?)
+}
+
+/// Appends the lines of dos, of each by its name and its label.
+fn add_dos(alloc: Global, dos: &[(Text, Text)], lines: &mut Rows<Text>) -> Result<(), NoMemory>
+    ensures ok { OnOk result (lines.new ≡ lines.old ++ map do_line dos.now) }
     ensures left { OnErr result (IsPrefix lines.old lines.new) }
 {
-    let flow = flow(alloc, card, vars)?;
-    for line in laid_lines(alloc, flow, COLUMNS)? {
-        lines.add(line)?;
+    for one in dos {
+        lines.add(do_line(alloc, one)?)?;
     }
     Ok(())
 }
 
-/// Appends the lines of a card's active dos.
-fn add_dos(
+/// Appends what a card shows, and the lines of its active dos.
+fn add_card(
     alloc: Global,
     deck: &GoodDeck,
     card: &View<'_>,
     vars: &Vars,
     lines: &mut Rows<Text>,
 ) -> Result<(), NoMemory>
-    ensures ok { OnOk result
-        (lines.new ≡ lines.old ++ map do_line (do_labels vars.now deck.now card.now)) }
+    ensures ok { OnOk result (lines.new ≡ lines.old ++ lines_of COLUMNS (flow_of vars.now card.now)
+        ++ map do_line (do_labels vars.now deck.now card.now)) }
     ensures left { OnErr result (IsPrefix lines.old lines.new) }
 {
-    let dos = active_dos(alloc, deck, card, vars)?;
-    for one in dos.as_slice() {
-        lines.add(do_line(alloc, one)?)?;
-    }
-    Ok(())
+    let (flow, own) = flow_and_dos(alloc, card, vars)?;
+    add_content(alloc, flow, lines)?;
+    let dos = active_dos(alloc, deck, own.as_slice(), vars)?;
+    add_dos(alloc, dos.as_slice(), lines)
 }
 
 /// Appends the screen of a card, which is one of the deck. When out of memory some of its lines may
@@ -83,6 +96,5 @@ pub fn add_screen(
     ensures left { OnErr result (IsPrefix lines.old lines.new) }
 {
     add_title(alloc, card, vars, lines)?;
-    add_content(alloc, card, vars, lines)?;
-    add_dos(alloc, deck, card, vars, lines)
+    add_card(alloc, deck, card, vars, lines)
 }

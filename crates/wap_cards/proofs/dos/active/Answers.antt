@@ -2,22 +2,19 @@ use Rattle.std.proofs.Common.{List, ◌++◌, is_some, filter, sym, ap, ◌∙�
 use Rattle.std.proofs.lemmas.List.Elements.{filter-append}
 use Rattle.wap_markup.specs.declared.deck.Node.{Node}
 use Rattle.wap_markup.specs.Tasks.{task_of}
-use Rattle.wap_cardrules.specs.Dos.{dos_in}
 use Rattle.wap_cards.proofs.Firsts.{others_beside}
 use Rattle.wap_cards.proofs.dos.active.Goals as goal
 
 pub returns : goal.returns
-returns c =
+returns c card is =
     let active = λ (one : Node). is_some (task_of one) in
-    let own = c.as_slice-2.result.now in
-    let others = c.as_slice-3.result.now in
+    let own = c.args.own.now in
+    let others = c.as_slice.result.now in
     c.in_ok-add_active-2.ensures
     ∙ ap (λ (l : List Node). l ++ filter active others)
     (c.in_ok-add_active.ensures
     ∙ ap (λ (l : List Node). l ++ filter active own) c.new-active.ensures)
     ∙ sym (filter-append active own others)
-    ∙ ap (λ (l : List Node). filter active (l ++ others))
-    (c.as_slice-2.ensures ∙ c.in_ok-own.ensures)
-    ∙ ap (λ (l : List Node). filter active (dos_in c.args.card.now ++ l))
-    (c.as_slice-3.ensures ∙ c.in_ok-others.ensures
-    ∙ ap (others_beside c.args.deck.now) (c.as_slice.ensures ∙ c.in_ok-own.ensures))
+    ∙ ap (λ (l : List Node). filter active (own ++ l))
+    (c.as_slice.ensures ∙ c.in_ok-others.ensures)
+    ∙ ap (λ (l : List Node). filter active (l ++ others_beside c.args.deck.now l)) is

@@ -16,7 +16,8 @@ returns c =
     let others = others_beside c.args.deck.now own in
     let none : None ≡ find same (filter active own) =
     sym c.in_default.is ∙ c.in_ok-found.ensures
-    ∙ ap (λ (l : List Node). find same (filter active l)) (c.as_slice.ensures ∙ c.in_ok-own.ensures) in
+    ∙ ap (λ (l : List Node). find same (filter active l))
+    (c.as_slice.ensures ∙ c.in_ok-own.ensures) in
     subst (λ (o : Option Node). IfOk c.find_active-2.result (λ found. found ≡ o))
     (ap (λ (l : List Node). find same (filter active l))
     (c.as_slice-3.ensures ∙ c.in_ok-others.ensures

@@ -4,4 +4,4 @@ use Rattle.wap_screens.proofs.screen.add_dos.Given as goal
 
 abbrev pub invariant-loop-one : goal.invariant-loop-one
 invariant-loop-one l =
-    l.lines ≡ l.initial.lines ++ map do_line (take l.one-index l.one-items)
+    l.lines ≡ l.initial.lines ++ map do_line (take l.one-index l.dos)
