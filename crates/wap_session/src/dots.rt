@@ -14,11 +14,16 @@ fn is_control(character: char) -> bool
     character < ' ' || character == '\x7f'
 }
 
-/// Whether one of the bytes is that of a control character.
+/// Whether one of the bytes is that of a control character. All are looked at, since that is many
+/// in one step.
 fn have_control_byte(bytes: &[u8]) -> bool
     ensures { result ≡ list_any is_control bytes.now }
 {
-    bytes.iter().any(|byte| is_control(char::from(*byte)))
+    let mut found = false;
+    for byte in bytes {
+        found |= is_control(char::from(*byte));
+    }
+    found
 }
 
 /// Whether a line has a control character. Its bytes tell, since those of other characters are
