@@ -1,9 +1,27 @@
 -- The test of UTF-8, both ways, and the text that bytes spell in it.
-use Rattle.std.proofs.Common.{◌≡◌, ℕ, Bool, true, false, cond, List, Some, None, refl, sym, ap, ◌∙◌}
-use Rattle.std.specs.Str.{IsUtf8, is_utf8, chars}
-use Rattle.std.proofs.lemmas.Str.{IsUtf8-from_is_utf8, is_utf8-from_IsUtf8}
+use Rattle.std.proofs.Common.{◌≡◌, ℕ, ◌<◌, arith, Bool, true, false, cond, List, [], ◌∷◌, Some, None, refl, sym, ap, ◌∙◌}
+use Rattle.std.specs.List.{list_all}
+use Rattle.std.specs.Str.{IsAscii, IsUtf8, is_utf8, chars}
+use Rattle.std.proofs.lemmas.Bool.{and_parts}
+use Rattle.std.proofs.lemmas.Bool.Decides.{nat_tests}
+use Rattle.std.proofs.lemmas.Str.Ascii.{IsAscii-cons, IsAscii-nil}
+use Rattle.std.proofs.lemmas.Str.{IsUtf8-from_is_utf8, is_utf8-from_IsUtf8, IsUtf8-from_ascii}
 use Rattle.wap_base.specs.declared.charset.Charset.TheVariants.{Utf8}
-use Rattle.wap_base.specs.Charsets.{text_in}
+use Rattle.wap_base.specs.Charsets.{is_ascii, text_in}
+
+below : (byte : ℕ) → is_ascii byte ≡ true → byte < 128
+below byte is = grind (arith, nat_tests)
+
+-- bytes that are all below 128, each at its place
+all_ascii : (bytes : List ℕ) → list_all is_ascii bytes ≡ true → IsAscii bytes
+all_ascii [] all = IsAscii-nil
+all_ascii (byte ∷ bytes) all =
+    let both = and_parts (is_ascii byte) (list_all is_ascii bytes) all in
+    IsAscii-cons byte bytes (below byte both.0) (all_ascii bytes both.1)
+
+-- US-ASCII is UTF-8
+pub ascii_is_utf8 : (bytes : List ℕ) → list_all is_ascii bytes ≡ true → IsUtf8 bytes
+ascii_is_utf8 bytes all = IsUtf8-from_ascii bytes (all_ascii bytes all)
 
 not_utf8 : (bytes : List ℕ) (b : Bool) → is_utf8 bytes ≡ b → ¬ (IsUtf8 bytes) → b ≡ false
 not_utf8 bytes true is none = absurd (none (IsUtf8-from_is_utf8 bytes is))

@@ -1,7 +1,7 @@
 //! The character sets in which strings are read.
-ghost use Rattle.std.specs.Prelude.{◌≡◌, nat_lt, IfOk};
+ghost use Rattle.std.specs.Prelude.{◌≡◌, IfOk, MatchOption};
 ghost use Rattle.std.specs.List.{list_all};
-ghost use Rattle.std.specs.Str.{is_utf8};
+ghost use Rattle.std.specs.Str.{is_utf8, IsUtf8};
 ghost use Rattle.wap_base.specs.Charsets.{charset_of, is_ascii, is_text, text_in};
 
 use crate::{NoMemory, Text};
@@ -55,26 +55,45 @@ impl Charset {
     }
 }
 
+/// Whether all bytes are of US-ASCII. None ends the loop, so that many are looked at in one step.
 fn is_ascii(bytes: &[u8]) -> bool
     ensures { result ≡ list_all is_ascii bytes.now }
 {
-    bytes.iter().all(|byte| *byte < 128)
+    let mut all = true;
+    for byte in bytes {
+        all &= *byte < 128;
+    }
+    all
+}
+
+/// The bytes as UTF-8, where they are that. Most are of US-ASCII, which is tested first.
+fn as_utf8(bytes: &[u8]) -> Option<&str>
+    ensures { MatchOption result (¬ (IsUtf8 bytes.now))
+        (λ text. (text.now ≡ bytes.now) × IsUtf8 bytes.now) }
+{
+    if is_ascii(bytes) {
+        return Some(unsafe { str::from_utf8_unchecked(bytes) });
+    }
+    match from_utf8(bytes) {
+        Ok(text) => Some(text),
+        Err(_) => None,
+    }
 }
 
 fn is_utf8(bytes: &[u8]) -> bool
     ensures { result ≡ is_utf8 bytes.now }
 {
-    match from_utf8(bytes) {
-        Ok(_) => true,
-        Err(_) => false,
+    match as_utf8(bytes) {
+        Some(_) => true,
+        None => false,
     }
 }
 
 fn utf8_text(alloc: Global, bytes: &[u8]) -> Result<Option<Text>, NoMemory>
     ensures { IfOk result (λ text. text ≡ text_in Charset.Utf8 bytes.now) }
 {
-    match from_utf8(bytes) {
-        Ok(text) => Ok(Some(Text::of(alloc, text)?)),
-        Err(_) => Ok(None),
+    match as_utf8(bytes) {
+        Some(text) => Ok(Some(Text::of(alloc, text)?)),
+        None => Ok(None),
     }
 }
