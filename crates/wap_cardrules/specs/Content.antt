@@ -26,10 +26,14 @@ shown_tags =
     tags.P ∷ tags.Pre ∷ tags.Fieldset ∷ tags.Table ∷ tags.Tr ∷ tags.Td ∷ tags.A ∷ tags.Anchor ∷
     tags.Em ∷ tags.Strong ∷ tags.B ∷ tags.I ∷ tags.U ∷ tags.Big ∷ tags.Small ∷ []
 
--- the marks of an item: of a text where one may stand, of a node with what shows in it between them
+-- the marks of an element, with those of what shows in it between its beginning and its end
+abbrev pub element_marks : (Node → List Mark) → Node → List Mark
+element_marks inner node = begins node ∷ (inner node ++ ends node ∷ [])
+
+-- the marks of an item: of a text where one may stand, of an element
 abbrev pub marks_from : (Node → List Mark) → Bool → ItemLevel → List Mark
 marks_from inner may_have_text (Item-F.Text parts) = if may_have_text then words parts ∷ [] else []
-marks_from inner may_have_text (Item-F.Node node) = begins node ∷ (inner node ++ ends node ∷ [])
+marks_from inner may_have_text (Item-F.Node node) = element_marks inner node
 
 -- the marks of a node's content, by what shows in the nodes there
 abbrev pub kids_marks : (Node → List Mark) → Node → List Mark

@@ -28,27 +28,35 @@ dos_in node = filter (λ one. is_same_tag one.tag tags.Do) (elements_of node)
 abbrev pub do_name : Node → List ℕ
 do_name node = unwrap_or (name_of_do node) []
 
--- whether a do of the card has this name
-abbrev pub has_do : List ℕ → Node → Bool
-has_do name card = list_any (λ one. is_same_text name (do_name one)) (dos_in card)
+-- whether one of the dos has this name
+abbrev pub has_do : List ℕ → List Node → Bool
+has_do name dos = list_any (λ one. is_same_text name (do_name one)) dos
 
--- the card's dos, and then those of the template whose name no do of the card has
-abbrev pub dos_for : Deck → Node → List Node
-dos_for deck card =
-    dos_in card
-    ++ filter (λ one. not (has_do (do_name one) card)) (option_map_or dos_in (template_of deck) [])
+-- the dos of the template whose name none of a card's own dos has
+abbrev pub others_beside : Deck → List Node → List Node
+others_beside deck own =
+    filter (λ one. not (has_do (do_name one) own)) (option_map_or dos_in (template_of deck) [])
 
--- those that are no noop
+-- a card's own dos and then those others, but no noop
+abbrev pub active_beside : Deck → List Node → List Node
+active_beside deck own = filter (λ one. is_some (task_of one)) (own ++ others_beside deck own)
+
+-- the active dos of a card
 abbrev pub active_dos : Deck → Node → List Node
-active_dos deck card = filter (λ one. is_some (task_of one)) (dos_for deck card)
+active_dos deck card = active_beside deck (dos_in card)
 
 -- the label of a do, filled; without one, nothing
 abbrev pub label_of : Variables → Node → List ℕ
 label_of vars node = value_text vars (value_of attrs.Label node)
 
--- their names and labels
+-- the names and labels of the active dos of a card that has these dos of its own
+abbrev pub labels_beside : Variables → Deck → List Node → Pairs
+labels_beside vars deck own =
+    map (λ one. (do_name one, label_of vars one)) (active_beside deck own)
+
+-- those of a card
 abbrev pub do_labels : Variables → Deck → Node → Pairs
-do_labels vars deck card = map (λ one. (do_name one, label_of vars one)) (active_dos deck card)
+do_labels vars deck card = labels_beside vars deck (dos_in card)
 
 -- the task of the active do of this name
 abbrev pub do_task : Variables → Deck → Node → List ℕ → Option Task

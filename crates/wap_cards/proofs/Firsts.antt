@@ -1,16 +1,11 @@
 -- The active dos of a card, and the first of a name.
-use Rattle.std.proofs.Common.{◌≡◌, Bool, cond, not, List, [], ◌∷◌, ◌++◌, filter, Option, Some, None}
+use Rattle.std.proofs.Common.{◌≡◌, Bool, cond, List, [], ◌∷◌, ◌++◌, filter, Option, Some, None}
 use Rattle.std.proofs.Common.{refl, sym, ap, ◌∙◌}
 use Rattle.std.specs.Prelude.{find}
-use Rattle.std.specs.List.{list_any}
-use Rattle.std.specs.Option.{option_or, option_map_or}
+use Rattle.std.specs.Option.{option_or}
 use Rattle.std.proofs.lemmas.List.Elements.{filter-append}
 use Rattle.std.proofs.lemmas.List.Folds.{find-append}
-use Rattle.wap_base.specs.Texts.{is_same_text}
-use Rattle.wap_markup.specs.declared.deck.Deck.{Deck}
 use Rattle.wap_markup.specs.declared.deck.Node.{Node}
-use Rattle.wap_cardrules.specs.Dos.{dos_in, do_name}
-use Rattle.wap_cardrules.specs.Events.{template_of}
 
 module _ (same active : Node → Bool) (own others : List Node) where
   both : find same (filter active (own ++ others))
@@ -32,12 +27,6 @@ module _ (same active : Node → Bool) (own others : List Node) where
   found_later is =
       ap (λ (first : Option Node). option_or first (find same (filter active others))) is
       ∙ sym both
-
--- the dos of the template whose name none of these has
-abbrev pub others_beside : Deck → List Node → List Node
-others_beside deck own =
-    filter (λ one. not (list_any (λ known. is_same_text (do_name one) (do_name known)) own))
-    (option_map_or dos_in (template_of deck) [])
 
 -- tests that say the same leave the same
 pub filter_same : (one other : Node → Bool) → ((node : Node) → one node ≡ other node)

@@ -1,15 +1,12 @@
 //! The dos of a card (WAP-191, sections 9.6 and 9.7).
-ghost use Rattle.std.specs.Prelude.{◌≡◌, ◌++◌, [], not, filter, find, is_some, IfOk, OnOk, ℕ, List};
+ghost use Rattle.std.specs.Prelude.{◌≡◌, ◌++◌, not, filter, find, is_some, IfOk, OnOk, ℕ, List};
 ghost use Rattle.std.specs.List.{list_any};
-ghost use Rattle.std.specs.Option.{option_map_or};
 ghost use Rattle.wap_base.specs.Texts.{is_same_text};
-ghost use Rattle.wap_markup.specs.declared.deck.Node.{Node};
 ghost use Rattle.wap_markup.specs.Trees.{value_of};
 ghost use Rattle.wap_markup.specs.Tasks.{task_of};
 ghost use Rattle.wap_markup.specs.Good.{first_of, name_of_do};
-ghost use Rattle.wap_cardrules.specs.Events.{template_of};
-ghost use Rattle.wap_cardrules.specs.Dos.{dos_in, do_name, active_dos};
-ghost use Rattle.wap_cardrules.specs.Dos.{label_of, do_labels, do_task};
+ghost use Rattle.wap_cardrules.specs.Dos.{dos_in, do_name, has_do, others_beside, active_beside};
+ghost use Rattle.wap_cardrules.specs.Dos.{active_dos, label_of, labels_beside, do_task};
 
 use crate::elements::{Sought, elements_of};
 use crate::events::template_of;
@@ -63,8 +60,8 @@ fn dos_in<'a>(alloc: Global, view: &View<'a>) -> Result<Rows<View<'a>>, NoMemory
 
 /// The names of dos.
 fn names_of(alloc: Global, dos: &[View<'_>]) -> Result<Texts, NoMemory>
-    ensures { IfOk result (λ names. (name : List ℕ) → list_any (is_same_text name) names
-        ≡ list_any (λ one. is_same_text name (do_name one)) dos.now) }
+    ensures { IfOk result (λ names. (name : List ℕ) →
+        list_any (is_same_text name) names ≡ has_do name dos.now) }
 {
     let mut names = Texts::new(alloc);
     for one in dos {
@@ -102,9 +99,7 @@ fn template_dos<'a>(
     deck: &'a GoodDeck,
     own: &[View<'_>],
 ) -> Result<Rows<View<'a>>, NoMemory>
-    ensures { IfOk result (λ others. others ≡ filter
-        (λ one. not (list_any (λ known. is_same_text (do_name one) (do_name known)) own.now))
-        (option_map_or dos_in (template_of deck.now) [])) }
+    ensures { IfOk result (λ others. others ≡ others_beside deck.now own.now) }
 {
     match template_of(deck) {
         Some(template) => {
@@ -129,15 +124,13 @@ fn add_active<'a>(dos: &[View<'a>], active: &mut Rows<View<'a>>) -> Result<(), N
     Ok(())
 }
 
-/// The dos of a card that are no noop: its own, and those of the template whose name none of its
-/// own has.
-fn active<'a>(
+/// These dos, and then those of the template whose name none of them has, without noops.
+fn active_beside<'a>(
     alloc: Global,
     deck: &'a GoodDeck,
     own: &[View<'a>],
 ) -> Result<Rows<View<'a>>, NoMemory>
-    ensures { IfOk result (λ dos.
-        (card : Node) → own.now ≡ dos_in card → dos ≡ active_dos deck.now card) }
+    ensures { IfOk result (λ dos. dos ≡ active_beside deck.now own.now) }
 {
     let others = template_dos(alloc, deck, own)?;
     let mut active = Rows::new(alloc);
@@ -154,18 +147,16 @@ fn label_in(alloc: Global, vars: &Vars, view: &View<'_>) -> Result<(Text, Text),
     Ok((name, fill_value(alloc, vars, view, AttrName::Label)?))
 }
 
-/// The names and labels of the active dos of the card that has these dos of its own, and is one of
-/// the deck.
+/// The names and labels of the active dos of a card of the deck that has these dos of its own.
 pub fn active_dos(
     alloc: Global,
     deck: &GoodDeck,
     own: &[View<'_>],
     vars: &Vars,
 ) -> Result<Rows<(Text, Text)>, NoMemory>
-    ensures { IfOk result (λ dos.
-        (card : Node) → own.now ≡ dos_in card → dos ≡ do_labels vars.now deck.now card) }
+    ensures { IfOk result (λ dos. dos ≡ labels_beside vars.now deck.now own.now) }
 {
-    let dos = active(alloc, deck, own)?;
+    let dos = active_beside(alloc, deck, own)?;
     let mut labels = Rows::new(alloc);
     for one in dos.as_slice() {
         labels.add(label_in(alloc, vars, one)?)?;

@@ -1,5 +1,5 @@
-//! The cards of a good deck, read through views: what they hold, their tasks, dos, events and
-//! timers. What these mean stands in `wap_cardrules`.
+//! The cards of a good deck, read through views: their tasks, dos, links, fields, events, timers
+//! and titles, and which elements show. What these mean stands in `wap_cardrules`.
 #![tactic(auto)]
 
 mod content;

@@ -12,17 +12,13 @@ use Rattle.wap_markup.specs.declared.deck.Item.TheVariants as item
 use Rattle.wap_markup.specs.declared.name.Tag.TheVariants as tags
 use Rattle.wap_markup.specs.Tables.{is_same_tag}
 use Rattle.wap_filling.specs.Variables.{Variables}
-use Rattle.wap_cardrules.specs.Content.{Mark, words, begins, ends, begun_by}
+use Rattle.wap_cardrules.specs.Content.{Mark, words, begins, ends, element_marks, begun_by}
 use Rattle.wap_cardrules.specs.Flow.{shown_with}
 use Rattle.wap_cards.proofs.Marks.{left_marks, marks_text, marks_no_text, marks_node}
 use Rattle.wap_flow.specs.declared.walk.Walk.{Walk}
 use Rattle.wap_flow.specs.inside.Walks.{walked}
 
 -- ---- child by child
-
--- the marks of an element, with those of what shows in it
-abbrev pub element_marks : (Node → List Mark) → Node → List Mark
-element_marks inner node = begins node ∷ (inner node ++ ends node ∷ [])
 
 module _ (vars : Variables) (inner : Node → List Mark) (kids rest : List Item)
     (walk whole : Walk) where

@@ -1,7 +1,7 @@
 //! The walk over a card, in the order of the document.
-ghost use Rattle.std.specs.Prelude.{◌≡◌, ◌∷◌, [], ◌++◌, OnOk};
+ghost use Rattle.std.specs.Prelude.{◌≡◌, OnOk};
 ghost use Rattle.std.specs.List.{fold};
-ghost use Rattle.wap_cardrules.specs.Content.{words, begins, ends, kids_marks, marks_in};
+ghost use Rattle.wap_cardrules.specs.Content.{words, begins, ends, element_marks, kids_marks, marks_in};
 ghost use Rattle.wap_flow.specs.inside.Walks.{walked};
 
 use crate::shown::Shown;
@@ -67,7 +67,7 @@ fn take_content<'a>(
     }
 }
 
-/// Takes an element, with what shows in it, of so many levels, between its beginning and its end.
+/// Takes an element and what shows in it, of so many levels.
 #[cycle(content)]
 fn take_element<'a>(
     alloc: Global,
@@ -77,7 +77,7 @@ fn take_element<'a>(
     walk: &mut Walk<'a>,
 ) -> Result<(), NoMemory>
     ensures { OnOk result (walk.new ≡ fold (walked vars.now) walk.old
-        (begins node.now ∷ (marks_in levels node.now ++ ends node.now ∷ []))) }
+        (element_marks (marks_in levels) node.now)) }
 {
     walk.begin(alloc, vars, node)?;
     take_content(alloc, vars, levels, node, walk)?;

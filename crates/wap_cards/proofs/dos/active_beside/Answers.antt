@@ -2,11 +2,10 @@ use Rattle.std.proofs.Common.{List, ◌++◌, is_some, filter, sym, ap, ◌∙�
 use Rattle.std.proofs.lemmas.List.Elements.{filter-append}
 use Rattle.wap_markup.specs.declared.deck.Node.{Node}
 use Rattle.wap_markup.specs.Tasks.{task_of}
-use Rattle.wap_cards.proofs.Firsts.{others_beside}
-use Rattle.wap_cards.proofs.dos.active.Goals as goal
+use Rattle.wap_cards.proofs.dos.active_beside.Goals as goal
 
 pub returns : goal.returns
-returns c card is =
+returns c =
     let active = λ (one : Node). is_some (task_of one) in
     let own = c.args.own.now in
     let others = c.as_slice.result.now in
@@ -17,4 +16,3 @@ returns c card is =
     ∙ sym (filter-append active own others)
     ∙ ap (λ (l : List Node). filter active (own ++ l))
     (c.as_slice.ensures ∙ c.in_ok-others.ensures)
-    ∙ ap (λ (l : List Node). filter active (l ++ others_beside c.args.deck.now l)) is
