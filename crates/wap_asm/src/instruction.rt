@@ -44,7 +44,7 @@ fn operand(code: &[u8], at: usize, slot: Slot, low: u8) -> u32
 }
 
 /// Whether a row has no operand but the first.
-fn has_one(row: Row) -> bool
+fn has_one_at_most(row: Row) -> bool
     ensures { MatchBool result ((row.b ≡ slot.Absent) × (row.c ≡ slot.Absent)) ⊤ }
 {
     matches!(row.b, Slot::Absent) && matches!(row.c, Slot::Absent)
@@ -66,7 +66,7 @@ pub fn read_row(row: Row, code: &[u8], at: usize) -> Result<Instr, InstrFault>
     let low = code[at] - row.first;
     let a = operand(code, at + 1, row.a, low);
     let b_at = at + 1 + width(row.a);
-    if has_one(row) {
+    if has_one_at_most(row) {
         return Ok(Instr {
             name: row.name,
             a,

@@ -7,7 +7,7 @@ use Rattle.wap_push.specs.declared.indication.Indication.{Indication}
 use Rattle.wap_push.specs.Pushes.{push_at}
 use Rattle.wap_site.specs.Pages.{Pages as JudgedPages}
 use Rattle.wap_site.specs.Asking.{Asks}
-use Rattle.wap_world.specs.Lines.{lines_bytes}
+use Rattle.wap_lines.specs.Written.{lines_bytes}
 use Rattle.wap_world.specs.Sites.{Site}
 use Rattle.wap_scripting.specs.UnitSites.{Pages, unit_pages}
 use Rattle.wap_scripting.specs.Waiting.{Waits}

@@ -35,8 +35,7 @@ pub fn browse_session<P: Pages, I: Source, O: Sink>(
 {
     let mut handset = Handset::new(alloc, begun.seed, begun.budget, begun.limits);
     let first = Key::Open(begun.url);
-    let mut buffer = Vec::new(alloc);
-    if let Err(status) = play_read(alloc, &mut handset, first, pages, out, &mut buffer) {
+    if let Err(status) = play_read(alloc, &mut handset, first, pages, out) {
         return (status, handset);
     }
     let status = play_keys(alloc, &mut handset, pages, keys, out);

@@ -2,22 +2,19 @@
 ghost use Rattle.std.specs.Prelude.{◌≡◌, false};
 ghost use Rattle.wap_browse.specs.inside.Played.{Plays};
 
-use crate::lines::put_lines;
 use std::alloc::Global;
 use wap_devices::{Failed, Sink, write_all};
 use wap_handset::{Handset, Key, SessionFault};
 use wap_site::Pages;
 use wap_status::Status;
 
-/// Plays a key, and writes the lines that it shows, by a buffer of their bytes; or answers how the
-/// session ends.
+/// Plays a key, and writes the lines that it shows; or answers how the session ends.
 pub(crate) fn play<P: Pages, O: Sink>(
     alloc: Global,
     handset: &mut Handset,
     key: &Key,
     pages: &mut P,
     out: &mut O,
-    buffer: &mut Vec<u8>,
 ) -> Result<(), Status>
     requires { handset.old.is_over ≡ false }
     ensures { Plays key.now
@@ -31,10 +28,7 @@ pub(crate) fn play<P: Pages, O: Sink>(
         Err(SessionFault::NoMemory) => return Err(Status::NoMemory),
         Err(SessionFault::Ended) => unreachable!(),
     };
-    let Ok(()) = put_lines(buffer, lines.as_slice()) else {
-        return Err(Status::NoMemory);
-    };
-    match write_all(out, buffer.as_slice()) {
+    match write_all(out, lines.as_written()) {
         Ok(()) => Ok(()),
         Err(Failed) => Err(Status::WriteFault),
     }
@@ -47,7 +41,6 @@ pub(crate) fn play_read<P: Pages, O: Sink>(
     key: Key,
     pages: &mut P,
     out: &mut O,
-    buffer: &mut Vec<u8>,
 ) -> Result<(), Status>
     requires { handset.old.is_over ≡ false }
     ensures { Plays key
@@ -55,5 +48,5 @@ pub(crate) fn play_read<P: Pages, O: Sink>(
         (record { pages = P.seen pages.new; state = handset.new; sink = O.seen out.new })
         result }
 {
-    play(alloc, handset, &key, pages, out, buffer)
+    play(alloc, handset, &key, pages, out)
 }

@@ -37,14 +37,13 @@ pub fn play_keys<P: Pages, I: Source, O: Sink>(
         → Rests play (outside_of from (I.seen keys.old)) handset.new }
 {
     let mut reader = Reader::new(alloc);
-    let mut buffer = Vec::new(alloc);
     loop {
         let key = match reader.next(alloc, keys) {
             Ok(Next::Key(key)) => key,
             Ok(Next::Ended(ending)) => return status_of(handset.in_dialog(), ending),
             Err(NoMemory) => return Status::NoMemory,
         };
-        if let Err(status) = play_read(alloc, handset, key, pages, out, &mut buffer) {
+        if let Err(status) = play_read(alloc, handset, key, pages, out) {
             return status;
         }
     }

@@ -6,8 +6,9 @@ ghost use Rattle.wap_calling.specs.Calling.{begun};
 
 use crate::terminal::{BUDGET, SEED};
 use std::alloc::Global;
-use wap_base::{Limits, Rows, Text};
+use wap_base::Limits;
 use wap_handset::{Handset, Key, SessionFault};
+use wap_lines::Lines;
 use wap_site::Pages;
 
 /// A browser in which nothing was done, and whose inbox is empty.
@@ -26,7 +27,7 @@ pub fn visit_with_inbox<P: Pages>(
     handset: &mut Handset,
     keys: &[Key],
     pages: &mut P,
-) -> Result<Rows<Text>, SessionFault>
+) -> Result<Lines, SessionFault>
     ensures shown { IfOk result (λ lines.
         IfOver (P.seen pages.old).contents handset.old.browser (λ of.
         ShowsOn keys.now of handset.old handset.new lines)) }

@@ -19,7 +19,8 @@ use std::alloc::Global;
 use std::io;
 use std::process::ExitCode;
 use terminal::{accept_dialog, new_session, visit};
-use wap_base::{Bytes, NoMemory, Rows, Text};
+use wap_base::{Bytes, NoMemory, Text};
+use wap_lines::Lines;
 use wap_pages::{PageErr, judge};
 use wap_session::{Key, Session, SessionFault};
 use wap_site::Page;
@@ -88,9 +89,9 @@ fn inbox_keys(alloc: Global) -> Result<Vec<Key>, NoMemory> {
     Ok(keys)
 }
 
-fn show<R: Print>(rt: &R, lines: &[Text]) -> io::Result<()> {
-    for line in lines {
-        println!(rt; "{}", line.as_str())?;
+fn show<R: Print>(rt: &R, lines: &Lines) -> io::Result<()> {
+    for line in lines.each() {
+        println!(rt; "{}", line)?;
     }
     Ok(())
 }
@@ -133,11 +134,7 @@ fn own_shelf(alloc: Global) -> Result<Shelf, Stopped> {
 }
 
 /// The lines of the first keys, which end in a dialog.
-fn first_lines(
-    alloc: Global,
-    session: &mut Session,
-    shelf: &mut Shelf,
-) -> Result<Rows<Text>, Stopped>
+fn first_lines(alloc: Global, session: &mut Session, shelf: &mut Shelf) -> Result<Lines, Stopped>
     requires { session.now ≡ beginning begun }
 {
     let keys = first_keys(alloc)?;
@@ -145,11 +142,7 @@ fn first_lines(
 }
 
 /// The lines that follow the answer to the dialog.
-fn last_lines(
-    alloc: Global,
-    session: &mut Session,
-    shelf: &mut Shelf,
-) -> Result<Rows<Text>, Stopped> {
+fn last_lines(alloc: Global, session: &mut Session, shelf: &mut Shelf) -> Result<Lines, Stopped> {
     let answer = Text::of(alloc, "Bob")?;
     Ok(accept_dialog(alloc, session, answer, shelf)?)
 }
@@ -159,7 +152,7 @@ fn both_lines(
     alloc: Global,
     session: &mut Session,
     shelf: &mut Shelf,
-) -> Result<(Rows<Text>, Rows<Text>), Stopped>
+) -> Result<(Lines, Lines), Stopped>
     requires { session.now ≡ beginning begun }
 {
     let first = first_lines(alloc, session, shelf)?;
@@ -168,19 +161,19 @@ fn both_lines(
 }
 
 /// The lines of a session over these pages.
-fn lines_over(alloc: Global, shelf: &mut Shelf) -> Result<(Rows<Text>, Rows<Text>), Stopped> {
+fn lines_over(alloc: Global, shelf: &mut Shelf) -> Result<(Lines, Lines), Stopped> {
     let mut session = new_session(alloc);
     both_lines(alloc, &mut session, shelf)
 }
 
 /// The lines of a session over the program's own pages.
-fn own_lines(alloc: Global) -> Result<(Rows<Text>, Rows<Text>), Stopped> {
+fn own_lines(alloc: Global) -> Result<(Lines, Lines), Stopped> {
     let mut shelf = own_shelf(alloc)?;
     lines_over(alloc, &mut shelf)
 }
 
 /// The lines of the keys of an inbox over the program's own pages.
-fn inbox_lines(alloc: Global) -> Result<Rows<Text>, Stopped> {
+fn inbox_lines(alloc: Global) -> Result<Lines, Stopped> {
     let mut shelf = own_shelf(alloc)?;
     let mut handset = new_handset(alloc);
     let keys = inbox_keys(alloc)?;
@@ -190,15 +183,15 @@ fn inbox_lines(alloc: Global) -> Result<Rows<Text>, Stopped> {
 /// Plays a session, and shows its lines.
 fn play<R: Print + AllocGlobal>(rt: &R) -> Result<(), Stopped> {
     let (first, last) = own_lines(rt.alloc())?;
-    show(rt, first.as_slice())?;
-    show(rt, last.as_slice())?;
+    show(rt, &first)?;
+    show(rt, &last)?;
     Ok(())
 }
 
 /// Plays the keys of an inbox, and shows their lines.
 fn play_inbox<R: Print + AllocGlobal>(rt: &R) -> Result<(), Stopped> {
     let lines = inbox_lines(rt.alloc())?;
-    show(rt, lines.as_slice())?;
+    show(rt, &lines)?;
     Ok(())
 }
 

@@ -8,7 +8,8 @@ ghost use Rattle.wap_session.specs.Feeding.{beginning, shown_of};
 ghost use Rattle.wap_calling.specs.Calling.{begun};
 
 use std::alloc::Global;
-use wap_base::{Limits, Rows, Text};
+use wap_base::{Limits, Text};
+use wap_lines::Lines;
 use wap_session::{Key, Session, SessionFault};
 use wap_site::Pages;
 
@@ -34,7 +35,7 @@ pub fn visit<P: Pages>(
     session: &mut Session,
     keys: &[Key],
     pages: &mut P,
-) -> Result<Rows<Text>, SessionFault>
+) -> Result<Lines, SessionFault>
     requires new { session.now ≡ beginning begun }
     ensures shown { IfOk result (λ lines. IfSome (P.seen pages.old).contents (λ judged.
         lines ≡ shown (site_of (unit_pages judged)) keys.now (world_of begun))) }
@@ -55,7 +56,7 @@ pub fn accept_dialog<P: Pages>(
     session: &mut Session,
     text: Text,
     pages: &mut P,
-) -> Result<Rows<Text>, SessionFault>
+) -> Result<Lines, SessionFault>
     ensures answered { IfOk result (λ lines. is_some session.old.waiting ≡ true
         → IfOver (P.seen pages.old).contents session.old.browser
         (λ of. lines ≡ shown_of of (Answer text ∷ []) session.old)) }
@@ -63,7 +64,7 @@ pub fn accept_dialog<P: Pages>(
         → (session.new ≡ session.old) × (pages.new ≡ pages.old) × (result ≡ Ok []) }
 {
     if !session.in_dialog() {
-        return Ok(Rows::new(alloc));
+        return Ok(Lines::new(alloc));
     }
     session.feed(alloc, &Key::Answer(text), pages)
 }

@@ -5,8 +5,9 @@ ghost use Rattle.wap_world.specs.Requests.{plain_get};
 ghost use Rattle.wap_context.specs.inside.Moving.{Asked, deck_answer, page_answer};
 
 use std::alloc::Global;
-use wap_base::{NoMemory, Rows, RunErr, Text};
+use wap_base::{NoMemory, RunErr};
 use wap_good::GoodDeck;
+use wap_lines::Lines;
 use wap_page_urls::{PageEntry, PageRequest, PageUrl};
 use wap_requests::{Entrance, may_enter as may_be_entered, request_line};
 use wap_site::{Page, Pages, Shared};
@@ -54,12 +55,12 @@ pub(crate) fn ask<P: Pages>(
     alloc: Global,
     pages: &mut P,
     request: &PageRequest,
-    lines: &mut Rows<Text>,
+    lines: &mut Lines,
 ) -> Result<Page, RunErr>
     ensures { Asked request.now (P.seen pages.old) (P.seen pages.new) lines.old lines.new result }
 {
     let asked = request.as_request();
-    lines.add(request_line(alloc, asked)?)?;
+    lines.add(request_line(alloc, asked)?.as_str())?;
     let name = name_of(alloc, &asked.url)?;
     pages.page(alloc, &name, asked.fresh)
 }
@@ -69,7 +70,7 @@ pub(crate) fn ask_for<P: Pages>(
     alloc: Global,
     pages: &mut P,
     entry: &PageEntry,
-    lines: &mut Rows<Text>,
+    lines: &mut Lines,
 ) -> Result<Page, RunErr>
     ensures { Asked (plain_get entry.now.url) (P.seen pages.old)
         (P.seen pages.new) lines.old lines.new result }

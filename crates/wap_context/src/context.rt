@@ -14,10 +14,11 @@ ghost use Rattle.wap_context.specs.Acting.{Acts, tick, answer, stop, Ticks};
 use crate::waiting::{Step, Ticked, Waiting, Went};
 use std::alloc::Global;
 use std::marker::Model;
-use wap_base::{Limits, NoMemory, Rows, RunErr, Text};
+use wap_base::{Limits, NoMemory, RunErr, Text};
 use wap_cardrules::{Chosen, Entered, Task};
 use wap_execution::Fatal;
 use wap_good::{GoodDeck, View};
+use wap_lines::Lines;
 use wap_machine::Outcome;
 use wap_site::{Pages, Shared};
 use wap_state::{State, here};
@@ -82,7 +83,7 @@ impl Context {
         ensures { Acts (λ pages keys world. visit (site_of pages) keys world url.now)
             (P.seen pages.old) (P.seen pages.new) self.old self.new result }
     {
-        let mut lines = Rows::new(alloc);
+        let mut lines = Lines::new(alloc);
         let went = self.visit_once(alloc, pages, url, &mut lines)?;
         self.follow(alloc, pages, went, lines)
     }
@@ -97,7 +98,7 @@ impl Context {
         ensures { Acts (λ pages keys world. act (site_of pages) keys world (then_task task))
             (P.seen pages.old) (P.seen pages.new) self.old self.new result }
     {
-        let lines = Rows::new(alloc);
+        let lines = Lines::new(alloc);
         self.follow(alloc, pages, Went::Leads(task, None), lines)
     }
 
@@ -110,7 +111,7 @@ impl Context {
     ) -> Result<Step, RunErr>
         ensures { Acts (tick time) (P.seen pages.old) (P.seen pages.new) self.old self.new result }
     {
-        let lines = Rows::new(alloc);
+        let lines = Lines::new(alloc);
         self.pass_time(alloc, pages, time, lines)
     }
 
@@ -126,8 +127,8 @@ impl Context {
             (P.seen pages.old) (P.seen pages.new) self.old self.new result }
     {
         let (machine, base) = waiting.into_parts();
-        let first = Rows::new(alloc);
-        let mut lines = Rows::new(alloc);
+        let first = Lines::new(alloc);
+        let mut lines = Lines::new(alloc);
         let went = self.go_on(alloc, pages, machine.answer(v), base, first, &mut lines)?;
         self.follow(alloc, pages, went, lines)
     }
@@ -143,7 +144,7 @@ impl Context {
             (P.seen pages.old) (P.seen pages.new) self.old self.new result }
     {
         let (_, base) = waiting.into_parts();
-        let mut lines = Rows::new(alloc);
+        let mut lines = Lines::new(alloc);
         let went = self.end_script(alloc, base, Outcome::Fatal(Fatal::Stopped), &mut lines)?;
         self.follow(alloc, pages, went, lines)
     }
@@ -154,7 +155,7 @@ impl Context {
         ensures ticks { IfOk result (Ticks time self.old self.new) }
         ensures left { OnErr result (ChangesVarsAndTimer self.old self.new) }
     {
-        let mut lines = Rows::new(alloc);
+        let mut lines = Lines::new(alloc);
         let Timer::Running(left) = self.state.timer else {
             return Ok(Ticked::NotRunning);
         };
@@ -164,20 +165,20 @@ impl Context {
 
     /// Shows the current card, if there is one: its fields get their defaults, its timer starts,
     /// unless it has since the card was entered, and its screen is drawn.
-    pub fn show(&mut self, alloc: Global) -> Result<Rows<Text>, NoMemory>
+    pub fn show(&mut self, alloc: Global) -> Result<Lines, NoMemory>
         ensures shows { IfOk result (λ lines. Shows self.old self.new lines show) }
         ensures left { OnErr result (ChangesVarsAndTimer self.old self.new) }
     {
-        let mut lines = Rows::new(alloc);
+        let mut lines = Lines::new(alloc);
         self.add_show(alloc, &mut lines)?;
         Ok(lines)
     }
 
     /// The screen of the current card alone, if there is one.
-    pub fn screen(&self, alloc: Global) -> Result<Rows<Text>, NoMemory>
+    pub fn screen(&self, alloc: Global) -> Result<Lines, NoMemory>
         ensures { IfOk result (λ lines. Shows self.now self.now lines show_screen) }
     {
-        let mut lines = Rows::new(alloc);
+        let mut lines = Lines::new(alloc);
         self.add_screen(alloc, &mut lines)?;
         Ok(lines)
     }

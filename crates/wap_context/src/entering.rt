@@ -18,6 +18,7 @@ use wap_base::{NoMemory, Rows, Text};
 use wap_cardrules::{Event, Task};
 use wap_cards::{binding, is_true};
 use wap_good::{AttrName, GoodDeck};
+use wap_lines::Lines;
 use wap_page_urls::{PageEntry, PageUrl};
 use wap_requests::entrance_of;
 use wap_site::Shared;
@@ -89,7 +90,7 @@ impl Context {
         &mut self,
         alloc: Global,
         event: Event,
-        lines: &mut Rows<Text>,
+        lines: &mut Lines,
     ) -> Result<Option<Task>, NoMemory>
         ensures { IfOk result (λ next. Moves (begun_at event (place_held self.old) self.old.world)
             (λ shelf. IsOver shelf self.old) self.old self.new lines.old lines.new
@@ -110,7 +111,7 @@ impl Context {
         &mut self,
         alloc: Global,
         event: Event,
-        lines: &mut Rows<Text>,
+        lines: &mut Lines,
     ) -> Result<Option<Task>, NoMemory>
         ensures { IfOk result (λ next. Moves (enter_at event (place_held self.old) self.old.world)
             (λ shelf. IsOver shelf self.old) self.old self.new lines.old lines.new
@@ -125,7 +126,7 @@ impl Context {
         &mut self,
         alloc: Global,
         refusal: Refusal,
-        lines: &mut Rows<Text>,
+        lines: &mut Lines,
     ) -> Result<Option<Task>, NoMemory>
         ensures { IfOk result (λ next.
             Moves (refused_at refusal (place_held self.old) self.old.world)
@@ -167,7 +168,7 @@ impl Context {
         sets: Rows<(Text, Text)>,
         url: PageUrl,
         deck: Shared<GoodDeck>,
-        lines: &mut Rows<Text>,
+        lines: &mut Lines,
     ) -> Result<Option<Task>, NoMemory>
         ensures { IfOk result (λ next. Moves
             (arrive_at sets url (place_held self.old) self.old.world deck)
@@ -187,7 +188,7 @@ impl Context {
         caller: &Option<Url>,
         url: PageUrl,
         deck: Shared<GoodDeck>,
-        lines: &mut Rows<Text>,
+        lines: &mut Lines,
     ) -> Result<Option<Task>, NoMemory>
         ensures { IfOk result (λ next. Moves
             (try_deck_at sets caller.now url (place_held self.old) self.old.world deck)
@@ -212,7 +213,7 @@ impl Context {
         caller: &Option<Url>,
         url: PageUrl,
         answer: Result<Shared<GoodDeck>, Refusal>,
-        lines: &mut Rows<Text>,
+        lines: &mut Lines,
     ) -> Result<Option<Task>, NoMemory>
         ensures { IfOk result (λ next. Moves
             (answered_at sets caller.now url (place_held self.old) self.old.world answer)
@@ -245,7 +246,7 @@ impl Context {
         sets: Rows<(Text, Text)>,
         earlier: PageEntry,
         deck: Shared<GoodDeck>,
-        lines: &mut Rows<Text>,
+        lines: &mut Lines,
     ) -> Result<Option<Task>, NoMemory>
         ensures { IfOk result (λ next. Moves
             (return_at sets earlier (place_held self.old) self.old.world deck)
@@ -264,7 +265,7 @@ impl Context {
         sets: Rows<(Text, Text)>,
         earlier: PageEntry,
         answer: Result<Shared<GoodDeck>, Refusal>,
-        lines: &mut Rows<Text>,
+        lines: &mut Lines,
     ) -> Result<Option<Task>, NoMemory>
         ensures { IfOk result (λ next. Moves
             (returned_at sets earlier (place_held self.old) self.old.world answer)

@@ -5,7 +5,8 @@ ghost use Rattle.wap_context.specs.inside.Moving.{Pursues, pursued};
 use crate::context::Context;
 use crate::waiting::{Step, Went};
 use std::alloc::Global;
-use wap_base::{Rows, RunErr, Text};
+use wap_base::RunErr;
+use wap_lines::Lines;
 use wap_site::Pages;
 
 impl Context {
@@ -16,7 +17,7 @@ impl Context {
         alloc: Global,
         pages: &mut P,
         first: Went,
-        lines: Rows<Text>,
+        lines: Lines,
     ) -> Result<Step, RunErr>
         ensures { Pursues (pursued first)
             (P.seen pages.old) (P.seen pages.new) self.old self.new lines result }

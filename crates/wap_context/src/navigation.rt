@@ -18,6 +18,7 @@ use std::alloc::Global;
 use wap_base::{NoMemory, Rows, RunErr, Text};
 use wap_cardrules::{Go, Task};
 use wap_good::GoodDeck;
+use wap_lines::Lines;
 use wap_page_urls::{PageEntry, PageRequest, PageUrl, plain, target};
 use wap_requests::is_same_page;
 use wap_site::{Pages, Shared};
@@ -79,7 +80,7 @@ impl Context {
         sets: Rows<(Text, Text)>,
         caller: &Option<Url>,
         one: PageRequest,
-        lines: &mut Rows<Text>,
+        lines: &mut Lines,
     ) -> Result<Went, RunErr>
         ensures { Takes (λ pages keys world. request (site_of pages) keys sets caller.now one world)
             (P.seen pages.old) (P.seen pages.new) self.old self.new lines.old lines.new result }
@@ -103,7 +104,7 @@ impl Context {
         sets: Rows<(Text, Text)>,
         caller: &Option<Url>,
         one: PageRequest,
-        lines: &mut Rows<Text>,
+        lines: &mut Lines,
     ) -> Result<Went, RunErr>
         ensures { Takes (λ pages keys world. stay_or_ask (site_of pages) keys sets caller.now one world
             (place_now (shelf_of pages) world))
@@ -137,7 +138,7 @@ impl Context {
         pages: &mut P,
         one: Go,
         from: Option<PageUrl>,
-        lines: &mut Rows<Text>,
+        lines: &mut Lines,
     ) -> Result<Went, RunErr>
         ensures { Takes (λ pages keys world.
             go (site_of pages) keys (base_now (shelf_of pages) world from) one world)
@@ -159,7 +160,7 @@ impl Context {
         alloc: Global,
         pages: &mut P,
         url: &Text,
-        lines: &mut Rows<Text>,
+        lines: &mut Lines,
     ) -> Result<Went, RunErr>
         ensures { Takes (λ pages keys world. open_url (site_of pages) keys url.now world)
             (P.seen pages.old) (P.seen pages.new) self.old self.new lines.old lines.new result }
@@ -181,7 +182,7 @@ impl Context {
         pages: &mut P,
         sets: Rows<(Text, Text)>,
         earlier: PageEntry,
-        lines: &mut Rows<Text>,
+        lines: &mut Lines,
     ) -> Result<Went, RunErr>
         ensures { Takes (λ pages keys world. ask_back (shelf_of pages) keys sets earlier world)
             (P.seen pages.old) (P.seen pages.new) self.old self.new lines.old lines.new result }
@@ -197,7 +198,7 @@ impl Context {
         pages: &mut P,
         sets: Rows<(Text, Text)>,
         earlier: PageEntry,
-        lines: &mut Rows<Text>,
+        lines: &mut Lines,
     ) -> Result<Went, RunErr>
         ensures { Takes (λ pages keys world. back_from (shelf_of pages) keys sets earlier world
             (place_now (shelf_of pages) world))
@@ -218,7 +219,7 @@ impl Context {
         alloc: Global,
         pages: &mut P,
         sets: Rows<(Text, Text)>,
-        lines: &mut Rows<Text>,
+        lines: &mut Lines,
     ) -> Result<Went, RunErr>
         ensures { Takes (λ pages keys world. prev (shelf_of pages) keys sets world)
             (P.seen pages.old) (P.seen pages.new) self.old self.new lines.old lines.new result }
@@ -247,7 +248,7 @@ impl Context {
         alloc: Global,
         pages: &mut P,
         url: &Text,
-        lines: &mut Rows<Text>,
+        lines: &mut Lines,
     ) -> Result<Went, RunErr>
         ensures { Onces (λ pages keys world. with_turn (shelf_of pages) keys world world.turns
             (open_url (site_of pages) keys url.now))
@@ -267,7 +268,7 @@ impl Context {
         pages: &mut P,
         task: Task,
         from: Option<PageUrl>,
-        lines: &mut Rows<Text>,
+        lines: &mut Lines,
     ) -> Result<Went, RunErr>
         ensures { Onces (λ pages keys world.
             task_once (site_of pages) keys world (record { task = task; from = from }))

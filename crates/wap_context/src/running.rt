@@ -10,14 +10,15 @@ ghost use Rattle.wap_context.specs.inside.Starting.{RunsTo, run_with, rest_at, d
 ghost use Rattle.wap_context.specs.inside.Starting.{is_expired, end_at, waits_by};
 
 use crate::context::Context;
-use crate::script_lines::{add_all, add_script_line};
+use crate::script_lines::add_script_line;
 use crate::waiting::{Waiting, Went, went_to};
 use std::alloc::Global;
 use std::mem::replace;
-use wap_base::{Limits, NoMemory, Rows, RunErr, Text};
+use wap_base::{Limits, NoMemory, RunErr};
 use wap_cardrules::{Event, Task};
 use wap_execution::Fatal;
 use wap_host::Running;
+use wap_lines::Lines;
 use wap_machine::{Machine, Outcome};
 use wap_page_urls::PageUrl;
 use wap_site::Pages;
@@ -61,8 +62,8 @@ impl Context {
         alloc: Global,
         pages: &mut P,
         machine: Machine,
-        first: Rows<Text>,
-    ) -> Result<(Outcome, Rows<Text>), RunErr>
+        first: Lines,
+    ) -> Result<(Outcome, Lines), RunErr>
         ensures { RunsTo machine first (P.seen pages.old) (P.seen pages.new) self.old self.new
             result }
     {
@@ -80,7 +81,7 @@ impl Context {
     /// No navigation is done: where the timer ran out meanwhile, its task is next, else the card is
     /// shown.
     #[tactic(auto, using(wap_state::proofs::Keeping::keeps_off))]
-    fn rest(&mut self, alloc: Global, lines: &mut Rows<Text>) -> Result<Option<Task>, NoMemory>
+    fn rest(&mut self, alloc: Global, lines: &mut Lines) -> Result<Option<Task>, NoMemory>
         ensures { IfOk result (λ next.
             Moves (rest_at self.old.world.timer (place_held self.old) self.old.world)
             (λ shelf. IsOver shelf self.old) self.old self.new lines.old lines.new
@@ -100,7 +101,7 @@ impl Context {
         &mut self,
         alloc: Global,
         base: PageUrl,
-        lines: &mut Rows<Text>,
+        lines: &mut Lines,
     ) -> Result<Went, NoMemory>
         ensures moves { IfOk result (λ went.
             Moves (done_at base self.old.world.pending (place_held self.old) self.old.world)
@@ -121,7 +122,7 @@ impl Context {
         &mut self,
         alloc: Global,
         why: &Fatal,
-        lines: &mut Rows<Text>,
+        lines: &mut Lines,
     ) -> Result<Went, NoMemory>
         ensures moves { IfOk result (λ went.
             Moves (failed_at why.now (place_held self.old) self.old.world)
@@ -139,7 +140,7 @@ impl Context {
         alloc: Global,
         base: PageUrl,
         outcome: Outcome,
-        lines: &mut Rows<Text>,
+        lines: &mut Lines,
     ) -> Result<Went, NoMemory>
         ensures moves { IfOk result (λ went.
             Moves (end_at base outcome (place_held self.old) self.old.world)
@@ -163,14 +164,14 @@ impl Context {
         pages: &mut P,
         machine: Machine,
         base: PageUrl,
-        first: Rows<Text>,
-        lines: &mut Rows<Text>,
+        first: Lines,
+        lines: &mut Lines,
     ) -> Result<Went, RunErr>
         ensures { Takes (run_with machine base first)
             (P.seen pages.old) (P.seen pages.new) self.old self.new lines.old lines.new result }
     {
         let (outcome, more) = self.run(alloc, pages, machine, first)?;
-        add_all(more, lines)?;
+        lines.append(&more)?;
         Ok(self.end_script(alloc, base, outcome, lines)?)
     }
 }

@@ -11,6 +11,7 @@ ghost use Rattle.wap_world.specs.Setting.{set_variables};
 use crate::context::Context;
 use std::alloc::Global;
 use wap_base::{NoMemory, Rows, Text};
+use wap_lines::Lines;
 use wap_screens::add_refusal;
 use wap_state::{Current, here};
 use wap_world::Refusal;
@@ -25,7 +26,7 @@ impl Context {
 
     /// Shows the current card, if there is one.
     #[tactic(auto, using(wap_state::proofs::Standing::stands_same))]
-    pub(crate) fn add_show(&mut self, alloc: Global, lines: &mut Rows<Text>) -> Result<(), NoMemory>
+    pub(crate) fn add_show(&mut self, alloc: Global, lines: &mut Lines) -> Result<(), NoMemory>
         ensures plays { OnOk result (PlaysAt show_at self.old self.new lines.old lines.new) }
         ensures left { OnErr result (ChangesVarsAndTimer self.old self.new) }
     {
@@ -37,7 +38,7 @@ impl Context {
     }
 
     /// Adds the screen of the current card, if there is one.
-    pub(crate) fn add_screen(&self, alloc: Global, lines: &mut Rows<Text>) -> Result<(), NoMemory>
+    pub(crate) fn add_screen(&self, alloc: Global, lines: &mut Lines) -> Result<(), NoMemory>
         ensures { OnOk result (PlaysAt screen_at self.now self.now lines.old lines.new) }
     {
         match self.here() {
@@ -51,17 +52,17 @@ impl Context {
         &mut self,
         alloc: Global,
         refusal: Refusal,
-        lines: &mut Rows<Text>,
+        lines: &mut Lines,
     ) -> Result<(), NoMemory>
         ensures { OnOk result (PlaysAt (refuse_at refusal) self.old self.new lines.old lines.new) }
     {
-        add_refusal(alloc, refusal, lines)?;
+        add_refusal(refusal, lines)?;
         self.add_show(alloc, lines)
     }
 
     /// Leaves the current card, if there is one: a timer that runs stores what remains.
     #[tactic(auto, using(wap_state::proofs::Standing::stands_same))]
-    fn leave(&mut self, alloc: Global, lines: &mut Rows<Text>) -> Result<(), NoMemory>
+    fn leave(&mut self, alloc: Global, lines: &mut Lines) -> Result<(), NoMemory>
         ensures { OnOk result
             (PlaysAt (at_place leave_place) self.old self.new lines.old lines.new) }
     {
@@ -78,7 +79,7 @@ impl Context {
         &mut self,
         alloc: Global,
         sets: Rows<(Text, Text)>,
-        lines: &mut Rows<Text>,
+        lines: &mut Lines,
     ) -> Result<(), NoMemory>
         ensures { OnOk result
             (PlaysAt (λ place. set_variables sets) self.old self.new lines.old lines.new) }
@@ -91,7 +92,7 @@ impl Context {
         &mut self,
         alloc: Global,
         sets: Rows<(Text, Text)>,
-        lines: &mut Rows<Text>,
+        lines: &mut Lines,
     ) -> Result<(), NoMemory>
         ensures { OnOk result
             (PlaysAt (leave_and_set_at sets) self.old self.new lines.old lines.new) }
@@ -102,7 +103,7 @@ impl Context {
 
     /// Starts the timer of the current card anew, and draws its screen.
     #[tactic(auto, using(wap_state::proofs::Standing::stands_same))]
-    fn restart(&mut self, alloc: Global, lines: &mut Rows<Text>) -> Result<(), NoMemory>
+    fn restart(&mut self, alloc: Global, lines: &mut Lines) -> Result<(), NoMemory>
         ensures { OnOk result
             (PlaysAt (at_place restart_place) self.old self.new lines.old lines.new) }
     {
@@ -119,7 +120,7 @@ impl Context {
         &mut self,
         alloc: Global,
         sets: Rows<(Text, Text)>,
-        lines: &mut Rows<Text>,
+        lines: &mut Lines,
     ) -> Result<(), NoMemory>
         ensures { OnOk result (PlaysAt (refresh_at sets) self.old self.new lines.old lines.new) }
     {

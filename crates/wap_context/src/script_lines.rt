@@ -3,8 +3,9 @@ ghost use Rattle.std.specs.Prelude.{◌≡◌, IfOk, OnOk, ◌++◌, ◌∷◌, 
 ghost use Rattle.wap_world.specs.Starting.{script_line};
 
 use std::alloc::Global;
-use wap_base::{NoMemory, Rows, Text};
+use wap_base::{NoMemory, Text};
 use wap_execution::Fatal;
+use wap_lines::Lines;
 
 /// The line of a script that ends for a reason.
 #[tactic(auto, using(crate::proofs::Words::words))]
@@ -31,22 +32,8 @@ fn script_line(alloc: Global, why: &Fatal) -> Result<Text, NoMemory>
 }
 
 /// Adds that line.
-pub(crate) fn add_script_line(
-    alloc: Global,
-    why: &Fatal,
-    lines: &mut Rows<Text>,
-) -> Result<(), NoMemory>
+pub(crate) fn add_script_line(alloc: Global, why: &Fatal, lines: &mut Lines) -> Result<(), NoMemory>
     ensures { OnOk result (lines.new ≡ lines.old ++ script_line why.now ∷ []) }
 {
-    lines.add(script_line(alloc, why)?)
-}
-
-/// Adds lines at the end.
-pub(crate) fn add_all(more: Rows<Text>, lines: &mut Rows<Text>) -> Result<(), NoMemory>
-    ensures { OnOk result (lines.new ≡ lines.old ++ more) }
-{
-    for line in more.into_vec() {
-        lines.add(line)?;
-    }
-    Ok(())
+    lines.add(script_line(alloc, why)?.as_str())
 }

@@ -25,6 +25,7 @@ use wap_base::{NoMemory, Rows, RunErr, Text};
 use wap_execution::Fatal;
 use wap_host::{entrance_in, external_in};
 use wap_invocation::{Invocation, read_call};
+use wap_lines::Lines;
 use wap_machine::Machine;
 use wap_page_urls::PageUrl;
 use wap_site::{Pages, Shared};
@@ -112,12 +113,7 @@ fn copy_of(alloc: Global, url: &Option<Url>) -> Result<Option<Url>, NoMemory>
 
 impl Context {
     /// A script isn't started: its line is added, and the current card is shown again.
-    fn reject(
-        &mut self,
-        alloc: Global,
-        why: &Fatal,
-        lines: &mut Rows<Text>,
-    ) -> Result<Went, NoMemory>
+    fn reject(&mut self, alloc: Global, why: &Fatal, lines: &mut Lines) -> Result<Went, NoMemory>
         ensures moves { IfOk result (λ went.
             Moves (not_started_at why.now (place_held self.old) self.old.world)
             (λ shelf. IsOver shelf self.old) self.old self.new lines.old lines.new (next_in went)) }
@@ -148,13 +144,13 @@ impl Context {
         unit: Shared<Verified>,
         index: u8,
         arguments: Rows<Value>,
-        lines: &mut Rows<Text>,
+        lines: &mut Lines,
     ) -> Result<Went, RunErr>
         requires { CanEnter (function_in unit (without_fragment url) caller.now index) arguments }
         ensures { Takes (begun_with unit sets caller.now url index arguments)
             (P.seen pages.old) (P.seen pages.new) self.old self.new lines.old lines.new result }
     {
-        let mut first = Rows::new(alloc);
+        let mut first = Lines::new(alloc);
         self.set_variables(alloc, sets, &mut first)?;
         self.clear_pending();
         let base = url.without_fragment();
@@ -180,7 +176,7 @@ impl Context {
         caller: &Option<Url>,
         url: PageUrl,
         unit: Shared<Verified>,
-        lines: &mut Rows<Text>,
+        lines: &mut Lines,
     ) -> Result<Went, RunErr>
         ensures { Takes (λ pages keys world. started_with unit sets caller.now url
             (start_of unit world.limits.string url) pages keys world)
@@ -206,7 +202,7 @@ impl Context {
         caller: &Option<Url>,
         url: PageUrl,
         unit: Shared<Verified>,
-        lines: &mut Rows<Text>,
+        lines: &mut Lines,
     ) -> Result<Went, RunErr>
         ensures { Takes (script_with unit sets caller.now url)
             (P.seen pages.old) (P.seen pages.new) self.old self.new lines.old lines.new result }

@@ -10,8 +10,9 @@ ghost use Rattle.wap_context.specs.inside.Ticking.{count_down_at};
 use crate::context::Context;
 use crate::waiting::{Step, went_to};
 use std::alloc::Global;
-use wap_base::{NoMemory, Rows, RunErr, Text};
+use wap_base::{NoMemory, RunErr};
 use wap_cardrules::Event;
+use wap_lines::Lines;
 use wap_screens::add_refusal;
 use wap_site::Pages;
 use wap_state::here;
@@ -33,7 +34,7 @@ impl Context {
 
     /// The timer of the current card, if there is one, has run out.
     #[tactic(auto, using(wap_state::proofs::Standing::stands_same))]
-    fn end_timer(&mut self, alloc: Global, lines: &mut Rows<Text>) -> Result<(), NoMemory>
+    fn end_timer(&mut self, alloc: Global, lines: &mut Lines) -> Result<(), NoMemory>
         ensures { OnOk result
             (PlaysAt (at_place end_place) self.old self.new lines.old lines.new) }
     {
@@ -49,7 +50,7 @@ impl Context {
         &mut self,
         alloc: Global,
         pages: &mut P,
-        lines: Rows<Text>,
+        lines: Lines,
     ) -> Result<Step, RunErr>
         ensures { Pursues run_out
             (P.seen pages.old) (P.seen pages.new) self.old self.new lines result }
@@ -67,14 +68,14 @@ impl Context {
         alloc: Global,
         pages: &mut P,
         time: u32,
-        lines: Rows<Text>,
+        lines: Lines,
     ) -> Result<Step, RunErr>
         ensures { Pursues (tick time)
             (P.seen pages.old) (P.seen pages.new) self.old self.new lines result }
     {
         let Some(left) = self.time_left() else {
             let mut shown = lines;
-            add_refusal(alloc, Refusal::Ignored, &mut shown)?;
+            add_refusal(Refusal::Ignored, &mut shown)?;
             return Ok(Step::Settled(shown));
         };
         if time < left {
@@ -87,7 +88,7 @@ impl Context {
     /// The timer of the current card, if there is one, has run out while a script waits: its task
     /// waits for the end of the script.
     #[tactic(auto, using(wap_state::proofs::Standing::stands_same))]
-    fn expire(&mut self, alloc: Global, lines: &mut Rows<Text>) -> Result<(), NoMemory>
+    fn expire(&mut self, alloc: Global, lines: &mut Lines) -> Result<(), NoMemory>
         ensures plays { OnOk result
             (PlaysAt (at_place expire_place) self.old self.new lines.old lines.new) }
         ensures left { OnErr result (ChangesVarsAndTimer self.old self.new) }
@@ -106,7 +107,7 @@ impl Context {
         alloc: Global,
         time: u32,
         left: u32,
-        lines: &mut Rows<Text>,
+        lines: &mut Lines,
     ) -> Result<(), NoMemory>
         ensures plays { OnOk result
             (PlaysAt (count_down_at time left) self.old self.new lines.old lines.new) }

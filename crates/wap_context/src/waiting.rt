@@ -7,9 +7,10 @@ ghost use Rattle.wap_context.specs.inside.Moving.{next_in, waits_in};
 
 use std::alloc::Global;
 use std::marker::Model;
-use wap_base::{NoMemory, Rows, Text};
+use wap_base::NoMemory;
 use wap_cardrules::Task;
 use wap_execution::Dialog;
+use wap_lines::Lines;
 use wap_machine::Waiting as Machine;
 use wap_page_urls::PageUrl;
 
@@ -64,9 +65,9 @@ impl Waiting {
 #[derive(Drop)]
 pub enum Step {
     /// Nothing is left to do.
-    Settled(Rows<Text>),
+    Settled(Lines),
     /// A script asks its user, and goes on with the answer.
-    Asks(Rows<Text>, Dialog, Waiting),
+    Asks(Lines, Dialog, Waiting),
 }
 
 /// What time that passes in a dialog comes to.
@@ -75,7 +76,7 @@ pub enum Ticked {
     /// No timer runs, and nothing is changed.
     NotRunning,
     /// The timer counted it, with the lines that this shows.
-    Counted(Rows<Text>),
+    Counted(Lines),
 }
 
 /// What one navigation leaves to do.

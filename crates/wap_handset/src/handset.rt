@@ -12,9 +12,10 @@ ghost use Rattle.wap_handset.specs.Feeding.{beginning, step_of, Plays, MissedAt,
 use crate::keys::turn;
 use std::alloc::Global;
 use std::marker::Model;
-use wap_base::{Limits, NoMemory, Rows, Text};
+use wap_base::{Limits, NoMemory};
 use wap_inbox::Inbox;
-use wap_session::{Key, Session, SessionFault, add_lines};
+use wap_lines::Lines;
+use wap_session::{Key, Session, SessionFault};
 use wap_site::Pages;
 
 /// A session with an inbox. A contract sees its state between two keys.
@@ -94,7 +95,7 @@ impl Handset {
         alloc: Global,
         key: &Key,
         pages: &mut P,
-    ) -> Result<Rows<Text>, SessionFault>
+    ) -> Result<Lines, SessionFault>
         ensures plays { Plays (key.now ∷ []) (P.seen pages.old) (P.seen pages.new)
             self.old self.new result }
         ensures missed { IsErrOf result SessionFault.Store
@@ -115,13 +116,13 @@ impl Handset {
     }
 
     /// Appends lines; where memory runs out, the handset is over.
-    fn keep_lines(&mut self, lines: &mut Rows<Text>, more: Rows<Text>) -> Result<(), SessionFault>
-        ensures kept { OnOk result (lines.new ≡ lines.old ++ more) }
+    fn keep_lines(&mut self, lines: &mut Lines, more: &Lines) -> Result<(), SessionFault>
+        ensures kept { OnOk result (lines.new ≡ lines.old ++ more.now) }
         ensures same { OnOk result (self.new ≡ self.old) }
         ensures over { OnErr result (self.new.is_over ≡ true) }
         ensures wanting { IfErr result (λ fault. fault ≡ SessionFault.NoMemory) }
     {
-        match add_lines(lines, more) {
+        match lines.append(more) {
             Ok(()) => Ok(()),
             Err(NoMemory) => {
                 self.is_over = true;
@@ -139,7 +140,7 @@ impl Handset {
         alloc: Global,
         keys: &[Key],
         pages: &mut P,
-    ) -> Result<Rows<Text>, SessionFault>
+    ) -> Result<Lines, SessionFault>
         ensures plays { Plays keys.now (P.seen pages.old) (P.seen pages.new)
             self.old self.new result }
         ensures missed { IsErrOf result SessionFault.Store
@@ -152,10 +153,10 @@ impl Handset {
         if self.is_over() {
             return Err(SessionFault::Ended);
         }
-        let mut lines = Rows::new(alloc);
+        let mut lines = Lines::new(alloc);
         for key in keys {
             let more = self.feed(alloc, key, pages)?;
-            self.keep_lines(&mut lines, more)?;
+            self.keep_lines(&mut lines, &more)?;
         }
         Ok(lines)
     }

@@ -10,8 +10,9 @@ ghost use Rattle.wap_handset.specs.Feeding.{step_of, Plays};
 ghost use Rattle.wap_handset.specs.inside.Turns.{state_of, followed_url, inbox_lines, pushes_after};
 
 use std::alloc::Global;
-use wap_base::{NoMemory, Rows, Text};
+use wap_base::{NoMemory, Text};
 use wap_inbox::Inbox;
+use wap_lines::Lines;
 use wap_notices::{entry_lines, take_push, url_in};
 use wap_session::{Key, Session, SessionFault, shown_lines};
 use wap_site::Pages;
@@ -40,7 +41,7 @@ fn followed_url(inbox: &Inbox, alloc: Global, key: &Key) -> Result<Option<Text>,
 }
 
 /// Lines as they are shown.
-fn some_shown(alloc: Global, lines: Rows<Text>) -> Result<Option<Rows<Text>>, NoMemory>
+fn some_shown(alloc: Global, lines: Lines) -> Result<Option<Lines>, NoMemory>
     ensures { IfOk result (λ shown. shown ≡ Some (map shown_line lines)) }
 {
     Ok(Some(shown_lines(alloc, lines)?))
@@ -48,7 +49,7 @@ fn some_shown(alloc: Global, lines: Rows<Text>) -> Result<Option<Rows<Text>>, No
 
 /// Takes what a key pushes, and gives the lines that an inbox shows in place of the session's, if
 /// it does.
-fn inbox_lines(inbox: &mut Inbox, alloc: Global, key: &Key) -> Result<Option<Rows<Text>>, NoMemory>
+fn inbox_lines(inbox: &mut Inbox, alloc: Global, key: &Key) -> Result<Option<Lines>, NoMemory>
     requires own { HaveWinners inbox.old inbox.old }
     ensures lines { IfOk result (λ shown. shown
         ≡ option_map (map shown_line) (inbox_lines inbox.old key.now)) }
@@ -88,7 +89,7 @@ pub(crate) fn turn<P: Pages>(
     alloc: Global,
     key: &Key,
     pages: &mut P,
-) -> Result<Rows<Text>, SessionFault>
+) -> Result<Lines, SessionFault>
     requires going { session.old.is_over ≡ false }
     requires own { HaveWinners inbox.old inbox.old }
     ensures plays { Plays (key.now ∷ []) (P.seen pages.old) (P.seen pages.new)

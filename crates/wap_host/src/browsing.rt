@@ -25,6 +25,7 @@ use wap_cardrules::{Go, Task};
 use wap_cards::value_if;
 use wap_execution::HostOut;
 use wap_good::AttrName;
+use wap_lines::Lines;
 use wap_screens::add_screen;
 use wap_state::State;
 use wap_url::{Url, relative};
@@ -209,7 +210,7 @@ impl Sight {
     }
 
     /// Appends the screen of the current card, if there is one, and says whether there is.
-    fn draw(&self, lines: &mut Rows<Text>) -> Result<bool, NoMemory>
+    fn draw(&self, lines: &mut Lines) -> Result<bool, NoMemory>
         ensures is { IfOk result
             (λ is_drawn. is_drawn ≡ is_some (place_with self.now.deck self.now.world)) }
         ensures lines { OnOk result (lines.new ≡ lines.old
@@ -230,7 +231,7 @@ impl Sight {
         ensures { IfOk result (λ value. Gave (browser_refresh (place_with self.old.deck))
             self.old self.new (out.Value value)) }
     {
-        let mut lines = mem::replace(&mut self.lines, Rows::new(self.alloc));
+        let mut lines = mem::replace(&mut self.lines, Lines::new(self.alloc));
         let is_drawn = self.draw(&mut lines)?;
         self.lines = lines;
         if is_drawn {

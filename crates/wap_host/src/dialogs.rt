@@ -71,7 +71,7 @@ impl Sight {
         ensures { IfOk result (Gave (asks dialog) self.old self.new) }
     {
         let line = dialog_line(self.alloc, &dialog)?;
-        self.lines.add(line)?;
+        self.lines.add(line.as_str())?;
         Ok(HostOut::Asks(dialog))
     }
 

@@ -7,9 +7,10 @@ ghost use Rattle.wap_state.specs.Standing.{StandsIn};
 use crate::sight::Sight;
 use std::alloc::Global;
 use std::marker::Model;
-use wap_base::{Rows, RunErr, Text};
+use wap_base::{RunErr, Text};
 use wap_execution::{Found, HostOut};
 use wap_good::GoodDeck;
+use wap_lines::Lines;
 use wap_machine::Host;
 use wap_site::{Pages, Shared};
 use wap_state::State;
@@ -46,12 +47,7 @@ impl Model for Running {
 impl Running {
     /// A script begins, or goes on, with these lines before its own. The turns that are left to the
     /// key are counted apart from now on.
-    pub fn new(
-        alloc: Global,
-        state: State,
-        deck: Option<Shared<GoodDeck>>,
-        lines: Rows<Text>,
-    ) -> Running
+    pub fn new(alloc: Global, state: State, deck: Option<Shared<GoodDeck>>, lines: Lines) -> Running
         requires { StandsIn (last_entry state) deck }
         ensures { result ≡ record {
           world = inside state;
@@ -73,7 +69,7 @@ impl Running {
     }
 
     /// The script has ended, or waits: the browser's parts, whose turns are those that are left.
-    pub fn into_parts(self) -> (State, Option<Shared<GoodDeck>>, Rows<Text>)
+    pub fn into_parts(self) -> (State, Option<Shared<GoodDeck>>, Lines)
         ensures state { result.0 ≡ record self.world { turns = self.turns } }
         ensures deck { result.1 ≡ self.deck }
         ensures lines { result.2 ≡ self.lines }

@@ -7,9 +7,10 @@ ghost use Rattle.wap_host.specs.Serving.{AsksFor};
 
 use std::alloc::Global;
 use std::marker::Model;
-use wap_base::{NoMemory, Rows, RunErr, Text};
+use wap_base::{NoMemory, RunErr};
 use wap_execution::{Fatal, HostOut};
 use wap_good::GoodDeck;
+use wap_lines::Lines;
 use wap_requests::{plain_get, request_line};
 use wap_site::{Page, Pages, Shared};
 use wap_state::State;
@@ -23,7 +24,7 @@ pub(crate) struct Sight {
     pub(crate) alloc: Global,
     pub(crate) state: State,
     pub(crate) deck: Option<Shared<GoodDeck>>,
-    pub(crate) lines: Rows<Text>,
+    pub(crate) lines: Lines,
 }
 
 impl Model for Sight {
@@ -50,7 +51,7 @@ impl Sight {
     {
         let request = plain_get(url.copy(self.alloc)?);
         let line = request_line(self.alloc, &request)?;
-        self.lines.add(line)
+        self.lines.add(line.as_str())
     }
 
     /// Adds that line, and asks for the page.

@@ -53,7 +53,7 @@ space_cut bytes at text found is some =
           (chars-IsAscii (take at bytes) plain.ascii)
           ∙ ap (λ ws. ws ++ words_of (chars (drop (at + 1) bytes)))
           (some_alone (take at bytes) (omega (arith, long, some)));
-      back_text = plain.cut.back_text;
+      rest_text = plain.cut.rest_text;
       shorter = plain.cut.shorter;
     }
 
@@ -76,7 +76,7 @@ pub whole_cut : (bytes : List ℕ) → words_of (chars bytes) ≡ unless_empty (
 whole_cut bytes is some = record {
   words_are = is ∙ sym (ap (λ ws. unless_empty (chars bytes) ++ ws) (no_words [] refl)
       ∙ append-nil (unless_empty (chars bytes)));
-  back_text = nil_text;
+  rest_text = nil_text;
   shorter = some;
 }
 
@@ -93,7 +93,7 @@ whole_word bytes none some = record {
   words_are = plain_whole bytes none
       ∙ ap unless_empty (chars-IsAscii bytes (ascii_whole bytes none))
       ∙ some_alone bytes some ∙ ap (λ ws. bytes ∷ ws) (sym (no_words [] refl));
-  back_text = nil_text;
+  rest_text = nil_text;
   shorter = some;
 }
 
@@ -119,7 +119,7 @@ begun width bytes word rest w fits = record {
   fits = fits;
   lines_are = ap (filled width) w.words_are
       ∙ word-alone width word (parts_of width (words_of (chars rest))) fits;
-  rest_text = w.back_text;
+  rest_text = w.rest_text;
   shorter = w.shorter;
 }
 
@@ -170,7 +170,7 @@ begun-more width bytes line rest word after next b w fits is =
           ∙ ap (λ parts. fill width line (parts ++ more))
           (cut_word-short width word (omega (arith, fits)))
           ∙ fill-room width line word more b.some fits ∙ ap (λ l. fill width l more) (sym is);
-      rest_text = w.back_text;
+      rest_text = w.rest_text;
       shorter = omega (arith, b.shorter, w.shorter);
     }
 
@@ -185,7 +185,7 @@ line_before width bytes line rest word after one b w over = record {
       ∙ ap (λ l. l ∷ fill_text width [] rest) (sym (chars-IsAscii line b.ascii));
   begun = λ no. cc;
   columns = ap length (chars-IsAscii line b.ascii);
-  back_text = b.rest_text;
+  rest_text = b.rest_text;
   shorter = b.shorter;
 }
 
@@ -201,7 +201,7 @@ last_line width bytes line rest true b is =
           ∙ ap (λ l. l ∷ fill_text width [] rest) (sym (chars-IsAscii line b.ascii));
       begun = λ no. cc;
       columns = ap length (chars-IsAscii line b.ascii);
-      back_text = b.rest_text;
+      rest_text = b.rest_text;
       shorter = b.shorter;
     }
 last_line width bytes line rest false b is = record {
@@ -209,7 +209,7 @@ last_line width bytes line rest false b is = record {
   begun = λ no. b.lines_are
       ∙ ap (λ l. fill_text width l rest) (sym (chars-IsAscii line b.ascii));
   columns = ap length (chars-IsAscii line b.ascii);
-  back_text = b.rest_text;
+  rest_text = b.rest_text;
   shorter = b.shorter;
 }
 

@@ -2,7 +2,7 @@
 use Rattle.std.proofs.Common.{◌≡◌, ℕ, ◌+◌, ◌<◌, Bool, true, false, List, [], ◌∷◌, ◌++◌}
 use Rattle.std.proofs.Common.{length, take, drop, get_or, Option, Some, None, refl, ap, ap₂}
 use Rattle.std.proofs.Common.{sym, ◌∙◌, subst, append_assoc, arith, Bor, inl, inr}
-use Rattle.std.proofs.Common.{encode_utf8, encode_utf8_all}
+use Rattle.std.proofs.Common.{encode_utf8, encode_utf8_all, ◌≢◌}
 use Rattle.std.specs.Prelude.{filter}
 use Rattle.std.specs.List.{slice_split, list_any, flat_map}
 use Rattle.std.specs.Option.{MatchOption}
@@ -16,9 +16,10 @@ use Rattle.std.proofs.lemmas.List.{drop_at, get_or_at, take-append-drop}
 use Rattle.std.proofs.lemmas.Str.{chars-append, chars_past_char, IsUtf8-append}
 use Rattle.std.proofs.lemmas.Str.{IsUtf8-from_ascii, encode_ascii, IsUtf8-take, IsUtf8-drop}
 use Rattle.std.proofs.lemmas.Str.{IsCharBoundary-before_ascii, IsCharBoundary-after_ascii}
-use Rattle.std.proofs.lemmas.Str.{encodes-chars, encodes_same}
+use Rattle.std.proofs.lemmas.Str.{encodes-chars, encodes_same, chars-nil}
 use Rattle.std.proofs.lemmas.Str.Ascii.{IsAscii-cons, IsAscii-nil}
 use Rattle.std.proofs.lemmas.Str.Pattern.{drop_at_char}
+use Rattle.wap_base.proofs.TextLaws.{nil-from_chars}
 use Rattle.wap_base.proofs.Splits.{HasFirst, HasFirst-split, split-append, split-none}
 use Rattle.wap_layout.specs.declared.flow.Mode.TheVariants.{Preformatted}
 use Rattle.wap_layout.specs.Words.{is_blank, is_line_feed, words_of, unless_empty}
@@ -28,13 +29,13 @@ use Rattle.wap_layout.specs.inside.Slices.{IsCutAtBlank, IsCutAtFeed}
 use Rattle.wap_layout.proofs.Splitting.{is_word, filter-word}
 
 -- the first character that passes a test, what stands before it, and what follows it
-pub record Cut (test : ℕ → Bool) (bytes front back : List ℕ) : Type 0 where
+pub record Cut (test : ℕ → Bool) (bytes before rest : List ℕ) : Type 0 where
   pub at : ℕ
   pub passes : test at ≡ true
-  pub none : list_any test (chars front) ≡ false
-  pub chars_are : chars bytes ≡ chars front ++ at ∷ chars back
-  pub back_text : IsUtf8 back
-  pub shorter : length back < length bytes
+  pub none : list_any test (chars before) ≡ false
+  pub chars_are : chars bytes ≡ chars before ++ at ∷ chars rest
+  pub rest_text : IsUtf8 rest
+  pub shorter : length rest < length bytes
 
 none_any : (test : ℕ → Bool) (cs : List ℕ) → NonePass test cs → list_any test cs ≡ false
 none_any test [] none = refl
@@ -48,66 +49,66 @@ none_passes test bytes text none =
     ∙ none_any test none.0 none.2
 
 -- a text that is cut at a character of US-ASCII, before which none passes
-pub cut_at : (test : ℕ → Bool) (bytes front back : List ℕ) (c : ℕ) → IsUtf8 bytes
+pub cut_at : (test : ℕ → Bool) (bytes before rest : List ℕ) (c : ℕ) → IsUtf8 bytes
     → bytes
-    ≡ front ++ c ∷ back
-    → c < 128 → test c ≡ true → (IsUtf8 front → list_any test (chars front) ≡ false)
-    → Cut test bytes front back
-cut_at test bytes front back c text is ascii passes none =
-    let within : length front < length bytes =
-    omega (arith, ap length is, length-append front (c ∷ back)) in
-    let at : get_or bytes (length front) 0 ≡ c =
-    ap (λ bs. get_or bs (length front) 0) is ∙ get_or_at front c back 0 (length front) refl in
-    let front_text : IsUtf8 front =
-    subst IsUtf8 (ap (take (length front)) is ∙ take_at front (c ∷ back) (length front) refl)
-    (IsUtf8-take bytes (length front) text
-    (IsCharBoundary-before_ascii bytes (length front) within (omega arith))) in
-    let back_text : IsUtf8 back =
-    subst IsUtf8 (ap (drop (length front + 1)) (is ∙ sym (append_assoc front (c ∷ []) back))
-    ∙ drop_at (front ++ c ∷ []) back (length front + 1) (length-append front (c ∷ [])))
-    (IsUtf8-drop bytes (length front + 1) text
-    (IsCharBoundary-after_ascii bytes (length front) text within (omega arith))) in
+    ≡ before ++ c ∷ rest
+    → c < 128 → test c ≡ true → (IsUtf8 before → list_any test (chars before) ≡ false)
+    → Cut test bytes before rest
+cut_at test bytes before rest c text is ascii passes none =
+    let within : length before < length bytes =
+    omega (arith, ap length is, length-append before (c ∷ rest)) in
+    let at : get_or bytes (length before) 0 ≡ c =
+    ap (λ bs. get_or bs (length before) 0) is ∙ get_or_at before c rest 0 (length before) refl in
+    let before_text : IsUtf8 before =
+    subst IsUtf8 (ap (take (length before)) is ∙ take_at before (c ∷ rest) (length before) refl)
+    (IsUtf8-take bytes (length before) text
+    (IsCharBoundary-before_ascii bytes (length before) within (omega arith))) in
+    let rest_text : IsUtf8 rest =
+    subst IsUtf8 (ap (drop (length before + 1)) (is ∙ sym (append_assoc before (c ∷ []) rest))
+    ∙ drop_at (before ++ c ∷ []) rest (length before + 1) (length-append before (c ∷ [])))
+    (IsUtf8-drop bytes (length before + 1) text
+    (IsCharBoundary-after_ascii bytes (length before) text within (omega arith))) in
     record {
       at = c;
       passes = passes;
-      none = none front_text;
+      none = none before_text;
       chars_are =
-          ap chars is ∙ chars-append front (c ∷ back) front_text ∙ ap (λ cs. chars front ++ cs)
-          (chars_past_char (c ∷ back) back c (IsUtf8-append (c ∷ []) back
-          (IsUtf8-from_ascii (c ∷ []) (IsAscii-cons c [] ascii IsAscii-nil)) back_text)
-          (sym (ap (λ bs. bs ++ back) (encode_ascii c ascii))));
-      back_text = back_text;
-      shorter = omega (arith, ap length is, length-append front (c ∷ back));
+          ap chars is ∙ chars-append before (c ∷ rest) before_text ∙ ap (λ cs. chars before ++ cs)
+          (chars_past_char (c ∷ rest) rest c (IsUtf8-append (c ∷ []) rest
+          (IsUtf8-from_ascii (c ∷ []) (IsAscii-cons c [] ascii IsAscii-nil)) rest_text)
+          (sym (ap (λ bs. bs ++ rest) (encode_ascii c ascii))));
+      rest_text = rest_text;
+      shorter = omega (arith, ap length is, length-append before (c ∷ rest));
     }
 
 -- `split_once` cuts there
-cut_first : (test : ℕ → Bool) (bytes front back : List ℕ) → ((c : ℕ) → test c ≡ true → c < 128)
-    → IsUtf8 bytes → SplitsAroundMatch (FindsBy test) bytes front back → Cut test bytes front back
-cut_first test bytes front back ascii text found =
+cut_first : (test : ℕ → Bool) (bytes before rest : List ℕ) → ((c : ℕ) → test c ≡ true → c < 128)
+    → IsUtf8 bytes → SplitsAroundMatch (FindsBy test) bytes before rest → Cut test bytes before rest
+cut_first test bytes before rest ascii text found =
     let c = found.2.1.0 in
     let small : c < 128 = ascii c found.2.1.1 in
-    let is : bytes ≡ front ++ c ∷ back =
+    let is : bytes ≡ before ++ c ∷ rest =
     sym (take-append-drop found.0 bytes) ∙ ap (λ rest. take found.0 bytes ++ rest)
     (drop_at_char c bytes found.0 found.1 found.2.1.2 small)
     ∙ ap₂ (λ (before after : List ℕ). before ++ c ∷ after) (sym found.3) (sym found.4) in
-    cut_at test bytes front back c text is small found.2.1.1
-    (λ front_text.
-    none_passes test front front_text (subst (NoCharPasses test) (sym found.3) found.2.0))
+    cut_at test bytes before rest c text is small found.2.1.1
+    (λ before_text.
+    none_passes test before before_text (subst (NoCharPasses test) (sym found.3) found.2.0))
 
 -- ---- words
 
 blank_ascii : (c : ℕ) → is_blank c ≡ true → c < 128
 blank_ascii c blank = grind (arith, nat_tests)
 
-pub words_cut : (bytes front back : List ℕ) → Cut is_blank bytes front back
-    → IsCutAtBlank bytes front back
-words_cut bytes front back cut = record {
+pub words_cut : (bytes before rest : List ℕ) → Cut is_blank bytes before rest
+    → IsCutAtBlank bytes before rest
+words_cut bytes before rest cut = record {
   words_are = ap words_of cut.chars_are
-      ∙ ap (filter is_word) (split-append is_blank (chars front) cut.at (chars back) cut.passes
-      ∙ ap (λ parts. parts ++ slice_split is_blank (chars back))
-      (split-none is_blank (chars front) cut.none))
-      ∙ filter-word (chars front) (slice_split is_blank (chars back));
-  back_text = cut.back_text;
+      ∙ ap (filter is_word) (split-append is_blank (chars before) cut.at (chars rest) cut.passes
+      ∙ ap (λ parts. parts ++ slice_split is_blank (chars rest))
+      (split-none is_blank (chars before) cut.none))
+      ∙ filter-word (chars before) (slice_split is_blank (chars rest));
+  rest_text = cut.rest_text;
   shorter = cut.shorter;
 }
 
@@ -173,21 +174,21 @@ no_feed bytes text none =
     none_of_bytes (chars bytes) (ap (list_any is_line_feed) (encodes-chars bytes text) ∙ none)
 
 -- a text that is cut at its first line feed
-pub feed_cut : (bytes front back : List ℕ) → IsUtf8 bytes → bytes ≡ front ++ 10 ∷ back
-    → list_any is_line_feed front ≡ false → IsCutAtFeed bytes front back
-feed_cut bytes front back text is none =
+pub feed_cut : (bytes before rest : List ℕ) → IsUtf8 bytes → bytes ≡ before ++ 10 ∷ rest
+    → list_any is_line_feed before ≡ false → IsCutAtFeed bytes before rest
+feed_cut bytes before rest text is none =
     let cut =
-    cut_at is_line_feed bytes front back 10 text is (omega arith) refl
-    (λ front_text. no_feed front front_text none) in
+    cut_at is_line_feed bytes before rest 10 text is (omega arith) refl
+    (λ before_text. no_feed before before_text none) in
     record {
       lines_are = λ hard. ap (λ cs. kept (slice_split is_line_feed cs) hard) cut.chars_are
           ∙ ap (λ parts. kept parts hard)
-          (split-append is_line_feed (chars front) cut.at (chars back) cut.passes
-          ∙ ap (λ parts. parts ++ slice_split is_line_feed (chars back))
-          (split-none is_line_feed (chars front) cut.none))
-          ∙ kept-first (chars front) (slice_split is_line_feed (chars back)) hard
-          (HasFirst-split is_line_feed (chars back));
-      back_text = cut.back_text;
+          (split-append is_line_feed (chars before) cut.at (chars rest) cut.passes
+          ∙ ap (λ parts. parts ++ slice_split is_line_feed (chars rest))
+          (split-none is_line_feed (chars before) cut.none))
+          ∙ kept-first (chars before) (slice_split is_line_feed (chars rest)) hard
+          (HasFirst-split is_line_feed (chars rest));
+      rest_text = cut.rest_text;
       shorter = cut.shorter;
     }
 
@@ -196,14 +197,14 @@ abbrev lines_of_kept : ℕ → List ℕ → Bool → List (List ℕ)
 lines_of_kept width bytes hard =
     flat_map (piece_lines width) (kept (slice_split is_line_feed (chars bytes)) hard)
 
-pub kept-step : (width : ℕ) (hard : Bool) (lines new : List (List ℕ)) (bytes front back : List ℕ)
-    (whole : List (List ℕ)) → new ≡ lines ++ piece_lines width (kept_piece (chars front) true)
-    → IsCutAtFeed bytes front back
-    → lines ++ lines_of_kept width bytes hard ≡ whole → new ++ lines_of_kept width back hard ≡ whole
-kept-step width hard lines new bytes front back whole is cut was =
-    ap (λ ls. ls ++ lines_of_kept width back hard) is
-    ∙ append_assoc lines (piece_lines width (kept_piece (chars front) true))
-    (lines_of_kept width back hard)
+pub kept-step : (width : ℕ) (hard : Bool) (lines new : List (List ℕ)) (bytes before rest : List ℕ)
+    (whole : List (List ℕ)) → new ≡ lines ++ piece_lines width (kept_piece (chars before) true)
+    → IsCutAtFeed bytes before rest
+    → lines ++ lines_of_kept width bytes hard ≡ whole → new ++ lines_of_kept width rest hard ≡ whole
+kept-step width hard lines new bytes before rest whole is cut was =
+    ap (λ ls. ls ++ lines_of_kept width rest hard) is
+    ∙ append_assoc lines (piece_lines width (kept_piece (chars before) true))
+    (lines_of_kept width rest hard)
     ∙ ap (λ pieces. lines ++ flat_map (piece_lines width) pieces) (sym (cut.lines_are hard))
     ∙ was
 
@@ -217,3 +218,20 @@ kept-end width hard lines bytes whole none was =
     (sym (ap (λ parts. kept parts hard)
     (split-none is_line_feed (chars bytes) none)))
     ∙ was
+
+-- ---- lines that are empty
+
+-- no byte spells no character
+pub none_shown : (bytes : List ℕ) → length bytes ≡ 0 → unless_empty (chars bytes) ≡ []
+none_shown [] none = ap unless_empty chars-nil
+none_shown (b ∷ bytes) none = absurd (omega arith)
+
+-- and some bytes spell some
+pub some_shown : (bytes : List ℕ) → IsUtf8 bytes → bytes ≢ []
+    → unless_empty (chars bytes) ≡ chars bytes ∷ []
+some_shown bytes text some = by (chars bytes) refl
+  where
+    by : (characters : List ℕ) → chars bytes ≡ characters
+        → unless_empty characters ≡ characters ∷ []
+    by [] is = absurd (some (nil-from_chars bytes text is))
+    by (c ∷ characters) is = refl

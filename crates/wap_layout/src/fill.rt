@@ -9,8 +9,8 @@ ghost use Rattle.wap_layout.specs.inside.Slices.{fill_text};
 use crate::first::first_line;
 use crate::words::{add_unless_empty, columns_of, first_word};
 use std::alloc::Global;
-use std::mem;
-use wap_base::{NoMemory, Rows, Text};
+use wap_base::{NoMemory, Text};
+use wap_lines::Lines;
 
 /// An empty line, with room for so many characters of US-ASCII.
 fn empty_line(alloc: Global, columns: usize) -> Result<Text, NoMemory>
@@ -30,12 +30,7 @@ fn begin_line(alloc: Global, word: &str, columns: usize) -> Result<Text, NoMemor
 
 /// Adds the parts of a word of US-ASCII that are as long as the width, and gives what is left of
 /// it.
-fn add_parts<'a>(
-    alloc: Global,
-    lines: &mut Rows<Text>,
-    word: &'a str,
-    width: usize,
-) -> Result<&'a str, NoMemory>
+fn add_parts<'a>(lines: &mut Lines, word: &'a str, width: usize) -> Result<&'a str, NoMemory>
     requires width { 1 ≤ width }
     requires ascii { IsAscii word.now }
     ensures parts { IfOk result (λ rest. (more : List (List ℕ)) →
@@ -46,7 +41,7 @@ fn add_parts<'a>(
     let mut rest = word;
     while width < rest.len() {
         let (part, after) = rest.split_at(width);
-        lines.add(Text::of(alloc, part)?)?;
+        lines.add(part)?;
         rest = after;
     }
     Ok(rest)
@@ -57,7 +52,7 @@ fn add_parts<'a>(
 /// line.
 fn add_characters(
     alloc: Global,
-    lines: &mut Rows<Text>,
+    lines: &mut Lines,
     word: &str,
     width: usize,
 ) -> Result<Text, NoMemory>
@@ -69,7 +64,7 @@ fn add_characters(
     let mut columns = 0;
     for character in word.chars() {
         if columns == width {
-            lines.add(part)?;
+            lines.add(part.as_str())?;
             part = empty_line(alloc, width)?;
             columns = 0;
         }
@@ -83,7 +78,7 @@ fn add_characters(
 /// left of it, which begins the next line.
 fn add_cut(
     alloc: Global,
-    lines: &mut Rows<Text>,
+    lines: &mut Lines,
     word: &str,
     columns: usize,
     width: usize,
@@ -94,7 +89,7 @@ fn add_cut(
         ≡ lines.old ++ fill width [] (cut_word width (chars word.now) ++ more)) }
 {
     if columns == word.len() {
-        let rest = add_parts(alloc, lines, word, width)?;
+        let rest = add_parts(lines, word, width)?;
         return begin_line(alloc, rest, width);
     }
     add_characters(alloc, lines, word, width)
@@ -114,11 +109,11 @@ struct Frame {
     room: usize,
 }
 
-/// Begins a line with a word of so many columns, where there is one, and gives the columns of the
-/// line.
+/// Begins a line with a word of so many columns, where there is one, after adding the parts of the
+/// word that are lines of their own, and gives the columns of the line.
 fn begin_word(
     alloc: Global,
-    lines: &mut Rows<Text>,
+    lines: &mut Lines,
     line: &mut Text,
     word: &str,
     needed: usize,
@@ -149,7 +144,7 @@ fn begin_word(
 /// the columns of the line so far and what of the text is left.
 fn begin<'a>(
     alloc: Global,
-    lines: &mut Rows<Text>,
+    lines: &mut Lines,
     line: &mut Text,
     text: &'a str,
     frame: Frame,
@@ -163,13 +158,13 @@ fn begin<'a>(
     ensures added { IfOk result (λ left. lines.new ++ fill_text frame.width line.new left.1.now
         ≡ lines.old ++ fill_text frame.width [] text.now) }
 {
-    if let Some((front, rest, is_whole)) = first_line(text, frame.width) {
+    if let Some((begun, rest, is_whole)) = first_line(text, frame.width) {
         if is_whole {
-            lines.add(Text::of(alloc, front)?)?;
+            lines.add(begun)?;
             return Ok((0, rest));
         }
-        *line = begin_line(alloc, front, frame.room)?;
-        return Ok((front.len(), rest));
+        *line = begin_line(alloc, begun, frame.room)?;
+        return Ok((begun.len(), rest));
     }
     let (word, needed, rest) = first_word(text);
     let columns = begin_word(alloc, lines, line, word, needed, frame)?;
@@ -180,7 +175,7 @@ fn begin<'a>(
 /// and gives the columns of the line so far and what of the text is left.
 fn go_on<'a>(
     alloc: Global,
-    lines: &mut Rows<Text>,
+    lines: &mut Lines,
     line: &mut Text,
     columns: usize,
     text: &'a str,
@@ -207,7 +202,8 @@ fn go_on<'a>(
         line.add(word)?;
         return Ok((columns + 1 + needed, rest));
     }
-    lines.add(mem::replace(line, Text::new(alloc)))?;
+    lines.add(line.as_str())?;
+    *line = Text::new(alloc);
     // Only a plain word can be one of several that are taken as a slice.
     if needed == word.len() {
         return begin(alloc, lines, line, text, frame);
@@ -219,7 +215,7 @@ fn go_on<'a>(
 /// Adds the lines of a text's words, each cut where it is longer than the width.
 pub(crate) fn add_filled(
     alloc: Global,
-    lines: &mut Rows<Text>,
+    lines: &mut Lines,
     text: &str,
     width: usize,
 ) -> Result<(), NoMemory>
@@ -238,5 +234,5 @@ pub(crate) fn add_filled(
         columns = begun;
         rest = after;
     }
-    add_unless_empty(lines, line)
+    add_unless_empty(lines, line.as_str())
 }

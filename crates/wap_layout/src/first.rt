@@ -30,7 +30,8 @@ fn plain_word(text: &str) -> Option<(&str, &str)>
 }
 
 /// The words that a text's first line begins with, what follows them, and whether they are all of
-/// that line, where at least one word is plain. They are plain, with one space between any two.
+/// that line. They are plain, with one space between any two; `None` where the text doesn't begin
+/// with a plain word that fits on a line.
 pub(crate) fn first_line(text: &str, width: usize) -> Option<(&str, &str, bool)>
     requires { 1 ≤ width }
     ensures { IfSome result (λ cut. IsFirstLine width text.now cut.0.now cut.1.now cut.2) }

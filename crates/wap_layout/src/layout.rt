@@ -11,32 +11,33 @@ use crate::Flow;
 use crate::flow::Ending;
 use crate::page::Page;
 use std::alloc::Global;
-use wap_base::{NoMemory, Rows, Text};
+use wap_base::{NoMemory, Rows};
+use wap_lines::Lines;
 
 /// The lines of a flow at a width of so many columns, of which each character takes one. Only text
 /// that is not wrapped, or is preformatted, may have longer lines.
 #[tactic(auto, using(crate::proofs::Laying::laid_of, crate::proofs::Laying::fits_of, crate::proofs::Visible::visible_of))]
-pub fn lines(alloc: Global, flow: Rows<Flow>, width: usize) -> Result<Vec<Text>, NoMemory>
+pub fn lines(alloc: Global, flow: Rows<Flow>, width: usize) -> Result<Lines, NoMemory>
     requires { 1 ≤ width }
     // Which words stand on which line, piece by piece, and that no other lines are so.
-    ensures laid { IfOk result (λ lines. AreLaid width (pieces_of flow) lines.items) }
+    ensures laid { IfOk result (λ lines. AreLaid width (pieces_of flow) lines) }
     ensures only { (page : List (List ℕ)) → AreLaid width (pieces_of flow) page
-        → IfOk result (λ lines. lines.items ≡ page) }
-    ensures exact { IfOk result (λ lines. lines.items ≡ lines_of width flow) }
+        → IfOk result (λ lines. lines ≡ page) }
+    ensures exact { IfOk result (λ lines. lines ≡ lines_of width flow) }
 
     // Where all is wrapped, no line is longer than the width.
     ensures fits { All (λ piece. piece.mode ≡ Wrapped) (pieces_of flow)
-        → IfOk result (λ lines. AllFit width lines.items) }
+        → IfOk result (λ lines. AllFit width lines) }
 
     // What is no blank comes out in order, none of it lost.
     ensures visible { IfOk result
-        (λ lines. visible (concat lines.items) ≡ visible (text_of flow)) }
+        (λ lines. visible (concat lines) ≡ visible (text_of flow)) }
 {
-    Ok(laid_out(alloc, flow, width)?.into_vec())
+    laid_out(alloc, flow, width)
 }
 
 /// The lines of a flow, part after part.
-fn laid_out(alloc: Global, flow: Rows<Flow>, width: usize) -> Result<Rows<Text>, NoMemory>
+fn laid_out(alloc: Global, flow: Rows<Flow>, width: usize) -> Result<Lines, NoMemory>
     requires { 1 ≤ width }
     ensures { IfOk result (λ lines. lines ≡ lines_of width flow) }
 {

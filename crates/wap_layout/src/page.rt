@@ -13,13 +13,14 @@ use crate::flow::Ending;
 use crate::words::{add_unless_empty, cut_at_feed};
 use crate::{Flow, Mode};
 use std::alloc::Global;
-use wap_base::{NoMemory, Rows, Text};
+use wap_base::{NoMemory, Text};
+use wap_lines::Lines;
 
 /// Adds the lines of a text, or none where nothing is to be seen. What is not wrapped stands on a
 /// line that is wide enough for all of it.
 fn add_laid(
     alloc: Global,
-    lines: &mut Rows<Text>,
+    lines: &mut Lines,
     mode: Mode,
     text: &str,
     width: usize,
@@ -30,14 +31,14 @@ fn add_laid(
     match mode {
         Mode::Wrapped => add_filled(alloc, lines, text, width),
         Mode::Unwrapped => add_filled(alloc, lines, text, text.len() + 1),
-        Mode::Preformatted => add_unless_empty(lines, Text::of(alloc, text)?),
+        Mode::Preformatted => add_unless_empty(lines, text),
     }
 }
 
 /// Adds the lines of a piece, which are one empty line where it has none and a hard break ends it.
 fn add_piece(
     alloc: Global,
-    lines: &mut Rows<Text>,
+    lines: &mut Lines,
     mode: Mode,
     text: &str,
     ending: Ending,
@@ -50,7 +51,7 @@ fn add_piece(
     let before = lines.len();
     add_laid(alloc, lines, mode, text, width)?;
     if matches!(ending, Ending::Hard) && lines.len() == before {
-        lines.add(Text::new(alloc))?;
+        lines.add(Text::new(alloc).as_str())?;
     }
     Ok(())
 }
@@ -58,7 +59,7 @@ fn add_piece(
 /// Adds the lines of a preformatted text, in which a line feed is a hard break.
 fn add_kept(
     alloc: Global,
-    lines: &mut Rows<Text>,
+    lines: &mut Lines,
     text: &str,
     ending: Ending,
     width: usize,
@@ -78,7 +79,7 @@ fn add_kept(
 /// Adds the lines of a text that ends.
 fn add_ended(
     alloc: Global,
-    lines: &mut Rows<Text>,
+    lines: &mut Lines,
     mode: Mode,
     text: &str,
     ending: Ending,
@@ -98,7 +99,7 @@ fn add_ended(
 #[derive(Debug, Drop)]
 pub struct Page {
     /// The lines that have ended.
-    pub lines: Rows<Text>,
+    pub lines: Lines,
     pub mode: Mode,
     /// What stands after them.
     pub text: Text,
@@ -121,7 +122,7 @@ impl Page {
         ensures text { result.text ≡ [] }
     {
         Page {
-            lines: Rows::new(alloc),
+            lines: Lines::new(alloc),
             mode: Mode::Wrapped,
             text: Text::new(alloc),
         }

@@ -7,7 +7,8 @@ ghost use Rattle.std.specs.Str.{chars, IsAscii};
 ghost use Rattle.wap_layout.specs.Words.{is_blank, is_line_feed, words_of, unless_empty};
 ghost use Rattle.wap_layout.specs.inside.Slices.{IsCutAtBlank, IsCutAtFeed, ends_word};
 
-use wap_base::{NoMemory, Rows, Text};
+use wap_base::NoMemory;
+use wap_lines::Lines;
 
 /// Whether a character separates words.
 pub(crate) fn is_blank(character: char) -> bool
@@ -16,12 +17,13 @@ pub(crate) fn is_blank(character: char) -> bool
     matches!(character, ' ' | '\t' | '\r' | '\n')
 }
 
-/// Adds a text that is not empty.
-pub(crate) fn add_unless_empty(texts: &mut Rows<Text>, text: Text) -> Result<(), NoMemory>
-    ensures { OnOk result (texts.new ≡ texts.old ++ unless_empty text) }
+/// Adds a line that is not empty.
+#[tactic(auto, using(crate::proofs::Slices::some_shown))]
+pub(crate) fn add_unless_empty(lines: &mut Lines, line: &str) -> Result<(), NoMemory>
+    ensures { OnOk result (lines.new ≡ lines.old ++ unless_empty (chars line.now)) }
 {
-    if !text.is_empty() {
-        texts.add(text)?;
+    if !line.is_empty() {
+        lines.add(line)?;
     }
     Ok(())
 }
@@ -80,30 +82,15 @@ fn split_at_blank(text: &str) -> Option<(&str, &str)>
     text.split_once(is_blank)
 }
 
-/// What stands before the first blank of a text, its columns, and what follows that blank, found
-/// character by character.
-fn cut_by_characters(text: &str) -> Option<(&str, usize, &str)>
-    ensures cut { MatchOption result (words_of (chars text.now) ≡ unless_empty (chars text.now))
-        (λ cut. IsCutAtBlank text.now cut.0.now cut.2.now) }
-    ensures columns { IfSome result (λ cut. cut.1 ≡ length (chars cut.0.now)) }
+/// The first word of a text, as `first_word` gives it, found character by character.
+fn word_by_characters(text: &str) -> (&str, usize, &str)
+    requires { 1 ≤ length text.now }
+    ensures cut { IsCutAtBlank text.now result.0.now result.2.now }
+    ensures columns { result.1 ≡ length (chars result.0.now) }
 {
     match split_at_blank(text) {
-        None => None,
-        Some((word, after)) => Some((word, columns_of(word), after)),
-    }
-}
-
-/// What stands before the first blank of a text, its columns, and what follows that blank.
-fn cut_at_blank(text: &str) -> Option<(&str, usize, &str)>
-    ensures cut { MatchOption result (words_of (chars text.now) ≡ unless_empty (chars text.now))
-        (λ cut. IsCutAtBlank text.now cut.0.now cut.2.now) }
-    ensures columns { IfSome result (λ cut. cut.1 ≡ length (chars cut.0.now)) }
-{
-    let bytes = text.as_bytes();
-    match word_end(bytes) {
-        None => None,
-        Some(at) if bytes[at] < 128 => Some(cut_at(text, at)),
-        Some(_) => cut_by_characters(text),
+        None => (text, columns_of(text), ""),
+        Some((word, after)) => (word, columns_of(word), after),
     }
 }
 
@@ -114,9 +101,11 @@ pub(crate) fn first_word(text: &str) -> (&str, usize, &str)
     ensures cut { IsCutAtBlank text.now result.0.now result.2.now }
     ensures columns { result.1 ≡ length (chars result.0.now) }
 {
-    match cut_at_blank(text) {
-        None => (text, columns_of(text), ""),
-        Some(cut) => cut,
+    let bytes = text.as_bytes();
+    match word_end(bytes) {
+        None => (text, text.len(), ""),
+        Some(at) if bytes[at] < 128 => cut_at(text, at),
+        Some(_) => word_by_characters(text),
     }
 }
 

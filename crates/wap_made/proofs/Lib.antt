@@ -1,3 +1,4 @@
+pub mod Finding
 pub mod Ending
 mod Counting
 mod Touring

@@ -6,8 +6,9 @@ ghost use Rattle.wap_made.specs.Making.{value_in};
 ghost use Rattle.wap_made.specs.inside.Tours.{IsPlayed};
 
 use std::alloc::Global;
-use wap_base::{Limits, NoMemory, RunErr, Text};
+use wap_base::{Limits, NoMemory, RunErr};
 use wap_input::Key;
+use wap_lines::Lines;
 use wap_session::{Session, SessionFault};
 use wap_site::Pages;
 use wap_words::{DEFAULT_BUDGET, DEFAULT_SEED};
@@ -22,11 +23,11 @@ pub(crate) struct Played {
 }
 
 /// The text of the variable `t` in the lines of variables, or nothing where it isn't among them.
-fn value_in(lines: &[Text]) -> &[u8]
+fn value_in(lines: &Lines) -> &[u8]
     ensures { result.now ≡ value_in lines.now }
 {
-    for line in lines {
-        let bytes = line.as_str().as_bytes();
+    for line in lines.each() {
+        let bytes = line.as_bytes();
         if bytes.starts_with(b"$ t=") {
             return &bytes[4..];
         }
@@ -64,5 +65,5 @@ pub(crate) fn play<P: Pages>(alloc: Global, pages: &mut P, keys: &[Key]) -> Resu
         Ok(variables) => variables,
         Err(fault) => return Err(fault_of(fault)),
     };
-    Ok(copied(alloc, lines.len(), value_in(variables.as_slice()))?)
+    Ok(copied(alloc, lines.len(), value_in(&variables))?)
 }

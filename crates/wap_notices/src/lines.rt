@@ -7,16 +7,19 @@ ghost use Rattle.wap_inboxes.specs.Notices.{entry_lines};
 
 use itoa::Buffer;
 use std::alloc::Global;
-use wap_base::{NoMemory, Rows, Text};
+use wap_base::{NoMemory, Text};
 use wap_faults::push_fault_text;
 use wap_inbox::Inbox;
+use wap_lines::Lines;
 use wap_push::{Indication, PushFault};
 
 /// One line.
-pub(crate) fn one_line(alloc: Global, line: Text) -> Result<Rows<Text>, NoMemory>
-    ensures { IfOk result (λ lines. lines ≡ line ∷ []) }
+pub(crate) fn one_line(alloc: Global, line: &Text) -> Result<Lines, NoMemory>
+    ensures { IfOk result (λ lines. lines ≡ line.now ∷ []) }
 {
-    Ok(Rows::from_vec(vec![in alloc; line]?))
+    let mut lines = Lines::new(alloc);
+    lines.add(line.as_str())?;
+    Ok(lines)
 }
 
 /// Why what was pushed is no indication.
@@ -72,13 +75,13 @@ fn entry_line(alloc: Global, number: usize, entry: &Indication) -> Result<Text, 
 }
 
 /// The lines of all entries.
-pub fn entry_lines(alloc: Global, inbox: &Inbox) -> Result<Rows<Text>, NoMemory>
+pub fn entry_lines(alloc: Global, inbox: &Inbox) -> Result<Lines, NoMemory>
     ensures { IfOk result (λ lines. lines ≡ entry_lines 1 (inbox_of inbox.now)) }
 {
     let entries = inbox.entries()?;
-    let mut lines = Rows::new(alloc);
+    let mut lines = Lines::new(alloc);
     for place in 0..entries.len() {
-        lines.add(entry_line(alloc, place + 1, entries[place])?)?;
+        lines.add(entry_line(alloc, place + 1, entries[place])?.as_str())?;
     }
     Ok(lines)
 }

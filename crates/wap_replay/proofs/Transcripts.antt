@@ -9,7 +9,7 @@ use Rattle.wap_input.specs.declared.key.Key.{Key}
 use Rattle.wap_input.specs.declared.key.Key.TheVariants.{Open}
 use Rattle.wap_devices.proofs.Putting.{flat_map-append}
 use Rattle.wap_site.specs.Pages.{Pages}
-use Rattle.wap_world.specs.Lines.{line_bytes, lines_bytes}
+use Rattle.wap_lines.specs.Written.{line_bytes, lines_bytes}
 use Rattle.wap_world.specs.Steps.{Step}
 use Rattle.wap_world.specs.Sessions.{Begun, shown_by}
 use Rattle.wap_scripting.specs.UnitSites.{unit_pages}
@@ -60,15 +60,14 @@ played_alone P after begun key keys state first last opened played begins opens 
     )
 
 -- the bytes of a header, and of lines that were appended after it in two parts
-pub bytes_are : (none begun some all first_line : List ℕ) (first more opened played : List (List ℕ))
-    → none ≡ [] → begun ≡ none ++ first_line → some ≡ begun ++ lines_bytes first
-    → all ≡ some ++ lines_bytes more → first ≡ opened → more ≡ played
-    → all ≡ first_line ++ lines_bytes (opened ++ played)
-bytes_are none begun some all first_line first more opened played empty headed one two same others =
+pub bytes_are : (none begun some all first_line : List ℕ) (opened played : List (List ℕ))
+    → none ≡ [] → begun ≡ none ++ first_line → some ≡ begun ++ lines_bytes opened
+    → all ≡ some ++ lines_bytes played → all ≡ first_line ++ lines_bytes (opened ++ played)
+bytes_are none begun some all first_line opened played empty headed one two =
     two
-    ∙ ap₂ (λ (l : List ℕ) (m : List (List ℕ)). l ++ lines_bytes m)
-    (one ∙ ap₂ (λ (l : List ℕ) (m : List (List ℕ)). l ++ lines_bytes m)
-    (headed ∙ ap (λ (l : List ℕ). l ++ first_line) empty) same) others
+    ∙ ap (λ (l : List ℕ). l ++ lines_bytes played)
+    (one ∙ ap (λ (l : List ℕ). l ++ lines_bytes opened)
+    (headed ∙ ap (λ (l : List ℕ). l ++ first_line) empty))
     ∙ append_assoc first_line (lines_bytes opened) (lines_bytes played)
     ∙ ap (λ (l : List ℕ). first_line ++ l) (sym (flat_map-append line_bytes opened played))
 

@@ -3,7 +3,7 @@ ghost use Rattle.std.specs.Prelude.{◌≡◌, ◌<◌, ◌++◌, IfOk, OnOk};
 ghost use Rattle.std.specs.List.{enumerate_from, flat_map};
 ghost use Rattle.wap_base.specs.Limits.{AreInRange};
 ghost use Rattle.wap_input.specs.declared.key.Key.TheVariants.{Open};
-ghost use Rattle.wap_world.specs.Lines.{lines_bytes};
+ghost use Rattle.wap_lines.specs.Written.{lines_bytes};
 ghost use Rattle.wap_world.specs.Sessions.{shown_by};
 ghost use Rattle.wap_scripting.specs.UnitSites.{unit_pages};
 ghost use Rattle.wap_context.specs.Sites.{site_of};
@@ -20,6 +20,7 @@ use wap_browse::{Beginning, add_lines, at_end};
 use wap_devices::Gate;
 use wap_folder::{Work, run_jobs};
 use wap_handset::{Handset, Key, SessionFault};
+use wap_lines::Lines;
 use wap_prepare::all_answers;
 use wap_prepared::Prepared;
 
@@ -46,9 +47,9 @@ fn opening(alloc: Global, url: &Text) -> Result<Key, NoMemory>
 #[derive(Drop)]
 struct Played {
     /// The lines of the URL that is opened.
-    opened: Rows<Text>,
+    opened: Lines,
     /// The lines of its keys.
-    played: Rows<Text>,
+    played: Lines,
     /// Whether it ends in a dialog.
     is_open: bool,
 }
@@ -96,8 +97,8 @@ fn text_of(alloc: Global, number: usize, list: &Played) -> Result<Vec<u8>, NoMem
 {
     let mut text = Vec::new(alloc);
     add_header(&mut text, number, list.is_open)?;
-    add_lines(&mut text, list.opened.as_slice())?;
-    add_lines(&mut text, list.played.as_slice())?;
+    add_lines(&mut text, &list.opened)?;
+    add_lines(&mut text, &list.played)?;
     Ok(text)
 }
 

@@ -4,5 +4,5 @@
 mod lines;
 mod screen;
 
-pub use lines::{add_fault_lines, add_refusal, refusal_line};
+pub use lines::{add_fault_lines, add_refusal};
 pub use screen::add_screen;

@@ -7,7 +7,8 @@ ghost use Rattle.wap_world.specs.Lines.{refusal_line, marked, title_line, do_lin
 ghost use Rattle.wap_world.specs.Setting.{fault_lines};
 
 use std::alloc::Global;
-use wap_base::{NoMemory, Rows, Text};
+use wap_base::{NoMemory, Text};
+use wap_lines::Lines;
 use wap_vars::VarFault;
 use wap_world::Refusal;
 
@@ -31,44 +32,33 @@ fn text_of(refusal: Refusal) -> &'static str
     }
 }
 
-/// The line of a refusal.
-pub fn refusal_line(alloc: Global, refusal: Refusal) -> Result<Text, NoMemory>
-    ensures { IfOk result (λ line. line ≡ refusal_line refusal) }
-{
-    Text::of(alloc, text_of(refusal))
-}
-
 /// Appends the line of a refusal. When out of memory nothing is added.
-pub fn add_refusal(alloc: Global, refusal: Refusal, lines: &mut Rows<Text>) -> Result<(), NoMemory>
+pub fn add_refusal(refusal: Refusal, lines: &mut Lines) -> Result<(), NoMemory>
     ensures ok { OnOk result (lines.new ≡ lines.old ++ refusal_line refusal ∷ []) }
     ensures kept { OnErr result (lines.new ≡ lines.old) }
 {
-    lines.add(refusal_line(alloc, refusal)?)
+    lines.add(text_of(refusal))
 }
 
 /// Appends the line of a set that was refused; a name that is none of a variable is passed over.
-fn add_fault_line(alloc: Global, fault: VarFault, lines: &mut Rows<Text>) -> Result<(), NoMemory>
+fn add_fault_line(fault: VarFault, lines: &mut Lines) -> Result<(), NoMemory>
     ensures ok { OnOk result (lines.new ≡ lines.old ++ fault_lines fault) }
     ensures kept { OnErr result (lines.new ≡ lines.old) }
 {
     match fault {
-        VarFault::TooLong { bytes: _ } => add_refusal(alloc, Refusal::Long, lines),
-        VarFault::Full => add_refusal(alloc, Refusal::Full, lines),
+        VarFault::TooLong { bytes: _ } => add_refusal(Refusal::Long, lines),
+        VarFault::Full => add_refusal(Refusal::Full, lines),
         VarFault::BadName | VarFault::NoMemory => Ok(()),
     }
 }
 
 /// Appends a line for each set that was refused. When out of memory some of them may be added.
-pub fn add_fault_lines(
-    alloc: Global,
-    faults: &[VarFault],
-    lines: &mut Rows<Text>,
-) -> Result<(), NoMemory>
+pub fn add_fault_lines(faults: &[VarFault], lines: &mut Lines) -> Result<(), NoMemory>
     ensures ok { OnOk result (lines.new ≡ lines.old ++ flat_map fault_lines faults.now) }
     ensures left { OnErr result (IsPrefix lines.old lines.new) }
 {
     for fault in faults {
-        add_fault_line(alloc, *fault, lines)?;
+        add_fault_line(*fault, lines)?;
     }
     Ok(())
 }

@@ -10,57 +10,40 @@ ghost use Rattle.wap_screens.specs.Screens.{screen_of};
 
 use crate::lines::{do_line, title_line};
 use std::alloc::Global;
-use std::mem;
 use wap_base::{NoMemory, Rows, Text};
 use wap_cards::{active_dos, title};
 use wap_flow::flow_and_dos;
 use wap_good::{GoodDeck, View};
 use wap_layout::{Flow, lines as laid_lines};
+use wap_lines::Lines;
 use wap_vars::Vars;
 use wap_world::COLUMNS;
 
 /// Appends the line of a card's title.
-fn add_title(
-    alloc: Global,
-    card: &View<'_>,
-    vars: &Vars,
-    lines: &mut Rows<Text>,
-) -> Result<(), NoMemory>
+fn add_title(alloc: Global, card: &View<'_>, vars: &Vars, lines: &mut Lines) -> Result<(), NoMemory>
     ensures ok { OnOk result
         (lines.new ≡ lines.old ++ title_line (title_of vars.now card.now) ∷ []) }
     ensures kept { OnErr result (lines.new ≡ lines.old) }
 {
     let title = title(alloc, card, vars)?;
-    lines.add(title_line(alloc, &title)?)
+    lines.add(title_line(alloc, &title)?.as_str())
 }
 
-/// Appends lines, all at once.
-fn append(alloc: Global, lines: &mut Rows<Text>, more: Vec<Text>) -> Result<(), NoMemory>
-    ensures ok { OnOk result (lines.new ≡ lines.old ++ more.items) }
-    ensures kept { OnErr result (lines.new ≡ lines.old) }
-{
-    let mut all = mem::replace(lines, Rows::new(alloc)).into_vec();
-    let mut more = more;
-    let appended = all.append(&mut more);
-    *lines = Rows::from_vec(all);
-    Ok(appended?)
-}
-
-/// Appends what a card shows.
-fn add_content(alloc: Global, flow: Rows<Flow>, lines: &mut Rows<Text>) -> Result<(), NoMemory>
+/// Appends the lines of a flow.
+fn add_flow(alloc: Global, flow: Rows<Flow>, lines: &mut Lines) -> Result<(), NoMemory>
     ensures ok { OnOk result (lines.new ≡ lines.old ++ lines_of COLUMNS flow) }
     ensures kept { OnErr result (lines.new ≡ lines.old) }
 {
-    append(alloc, lines, laid_lines(alloc, flow, COLUMNS)?)
+    lines.append(&laid_lines(alloc, flow, COLUMNS)?)
 }
 
 /// Appends the lines of dos, of each by its name and its label.
-fn add_dos(alloc: Global, dos: &[(Text, Text)], lines: &mut Rows<Text>) -> Result<(), NoMemory>
+fn add_dos(alloc: Global, dos: &[(Text, Text)], lines: &mut Lines) -> Result<(), NoMemory>
     ensures ok { OnOk result (lines.new ≡ lines.old ++ map do_line dos.now) }
     ensures left { OnErr result (IsPrefix lines.old lines.new) }
 {
     for one in dos {
-        lines.add(do_line(alloc, one)?)?;
+        lines.add(do_line(alloc, one)?.as_str())?;
     }
     Ok(())
 }
@@ -71,14 +54,14 @@ fn add_card(
     deck: &GoodDeck,
     card: &View<'_>,
     vars: &Vars,
-    lines: &mut Rows<Text>,
+    lines: &mut Lines,
 ) -> Result<(), NoMemory>
     ensures ok { OnOk result (lines.new ≡ lines.old ++ lines_of COLUMNS (flow_of vars.now card.now)
         ++ map do_line (do_labels vars.now deck.now card.now)) }
     ensures left { OnErr result (IsPrefix lines.old lines.new) }
 {
     let (flow, own) = flow_and_dos(alloc, card, vars)?;
-    add_content(alloc, flow, lines)?;
+    add_flow(alloc, flow, lines)?;
     let dos = active_dos(alloc, deck, own.as_slice(), vars)?;
     add_dos(alloc, dos.as_slice(), lines)
 }
@@ -90,7 +73,7 @@ pub fn add_screen(
     deck: &GoodDeck,
     card: &View<'_>,
     vars: &Vars,
-    lines: &mut Rows<Text>,
+    lines: &mut Lines,
 ) -> Result<(), NoMemory>
     ensures ok { OnOk result (lines.new ≡ lines.old ++ screen_of vars.now deck.now card.now) }
     ensures left { OnErr result (IsPrefix lines.old lines.new) }

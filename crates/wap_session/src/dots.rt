@@ -1,11 +1,13 @@
 //! Control characters are shown as dots.
-ghost use Rattle.std.specs.Prelude.{◌≡◌, map, IfOk};
-ghost use Rattle.std.specs.List.{list_any};
+ghost use Rattle.std.specs.Prelude.{◌≡◌, ◌≤◌, map, length, IfOk};
+ghost use Rattle.std.specs.List.{list_any, count_by};
+ghost use Rattle.std.specs.Str.{chars};
 ghost use Rattle.wap_world.specs.Lines.{shown_character, shown_line};
 ghost use Rattle.wap_session.specs.inside.Dots.{is_control};
 
 use std::alloc::Global;
-use wap_base::{NoMemory, Rows, Text};
+use wap_base::{NoMemory, Text};
+use wap_lines::Lines;
 
 /// Whether a character is a control character.
 fn is_control(character: char) -> bool
@@ -14,31 +16,40 @@ fn is_control(character: char) -> bool
     character < ' ' || character == '\x7f'
 }
 
-/// Whether one of the bytes is that of a control character. All are looked at, since that is many
-/// in one step.
-fn have_control_byte(bytes: &[u8]) -> bool
-    ensures { result ≡ list_any is_control bytes.now }
+/// How many bytes of a block are those of control characters. A count that is a byte lets many be
+/// looked at in one step.
+fn count_in_block(block: &[u8]) -> u8
+    requires { length block.now ≤ 255 }
+    ensures { result ≡ count_by is_control block.now }
 {
-    let mut found = false;
-    for byte in bytes {
-        found |= is_control(char::from(*byte));
+    let mut count = 0;
+    for byte in block {
+        count += u8::from(is_control(char::from(*byte)));
     }
-    found
+    count
 }
 
-/// Whether a line has a control character. Its bytes tell, since those of other characters are
-/// none.
-fn has_control(line: &Text) -> bool
-    ensures { result ≡ list_any is_control line.now }
+/// How many of the bytes are those of control characters, block by block.
+fn count_control(bytes: &[u8]) -> usize
+    ensures { result ≡ count_by is_control bytes.now }
 {
-    have_control_byte(line.as_str().as_bytes())
+    let mut count = 0;
+    let mut rest = bytes;
+    while 128 < rest.len() {
+        let (block, after) = rest.split_at(128);
+        count += usize::from(count_in_block(block));
+        rest = after;
+    }
+    count + usize::from(count_in_block(rest))
 }
 
-/// Whether one of the lines has a control character.
-fn have_control(lines: &[Text]) -> bool
+/// Whether one of the lines has a control character. In the lines as they are written, the line
+/// feed after each is one more, and bytes of other characters are none.
+#[tactic(auto, using(crate::proofs::Dotting::tells_control))]
+fn have_control(lines: &Lines) -> bool
     ensures { result ≡ list_any (list_any is_control) lines.now }
 {
-    lines.iter().any(|line| has_control(line))
+    count_control(lines.as_written()) != lines.len()
 }
 
 /// A character as it is shown.
@@ -51,44 +62,34 @@ fn shown_character(character: char) -> char
     character
 }
 
-/// A copy of a line as it is shown.
-fn with_dots(alloc: Global, line: &Text) -> Result<Text, NoMemory>
-    ensures { IfOk result (λ shown. shown ≡ shown_line line.now) }
+/// A line as it is shown.
+fn with_dots(alloc: Global, line: &str) -> Result<Text, NoMemory>
+    ensures { IfOk result (λ shown. shown ≡ shown_line (chars line.now)) }
 {
     let mut shown = Text::new(alloc);
-    for character in line.as_str().chars() {
+    for character in line.chars() {
         shown.push(shown_character(character))?;
     }
     Ok(shown)
 }
 
-/// A line as it is shown; one without control characters is kept.
-fn shown_line(alloc: Global, line: Text) -> Result<Text, NoMemory>
-    ensures { IfOk result (λ shown. shown ≡ shown_line line) }
-{
-    if has_control(&line) {
-        return with_dots(alloc, &line);
-    }
-    Ok(line)
-}
-
 /// Lines, each as it is shown.
-fn each_shown(alloc: Global, lines: Rows<Text>) -> Result<Rows<Text>, NoMemory>
-    ensures { IfOk result (λ shown. shown ≡ map shown_line lines) }
+fn each_shown(alloc: Global, lines: &Lines) -> Result<Lines, NoMemory>
+    ensures { IfOk result (λ shown. shown ≡ map shown_line lines.now) }
 {
-    let mut shown = Rows::new(alloc);
-    for line in lines.into_vec() {
-        shown.add(shown_line(alloc, line)?)?;
+    let mut shown = Lines::new(alloc);
+    for line in lines.each() {
+        shown.add(with_dots(alloc, line)?.as_str())?;
     }
     Ok(shown)
 }
 
 /// Lines as they are shown; where none has control characters, they are kept.
-pub fn shown_lines(alloc: Global, lines: Rows<Text>) -> Result<Rows<Text>, NoMemory>
+pub fn shown_lines(alloc: Global, lines: Lines) -> Result<Lines, NoMemory>
     ensures { IfOk result (λ shown. shown ≡ map shown_line lines) }
 {
-    if have_control(lines.as_slice()) {
-        return each_shown(alloc, lines);
+    if have_control(&lines) {
+        return each_shown(alloc, &lines);
     }
     Ok(lines)
 }

@@ -16,13 +16,14 @@ ghost use Rattle.wap_context.specs.Acting.{Acts};
 ghost use Rattle.wap_session.specs.inside.Turns.{IsBehind};
 ghost use Rattle.wap_session.specs.inside.Pressing.{typed};
 
-use crate::lines::{add_lines, refusal_lines, variable_lines};
+use crate::lines::{refusal_lines, variable_lines};
 use std::alloc::Global;
 use wap_base::{NoMemory, Rows, RunErr, Text};
 use wap_cardrules::{Chosen, Entered, Task};
 use wap_cards::{do_task, link_task};
 use wap_context::{Context, Step};
 use wap_input::Key;
+use wap_lines::Lines;
 use wap_screens::add_fault_lines;
 use wap_site::Pages;
 use wap_world::Refusal;
@@ -35,16 +36,16 @@ fn ignore(alloc: Global) -> Result<Step, NoMemory>
 }
 
 /// What was done, after further lines.
-fn behind(mut lines: Rows<Text>, did: Step) -> Result<Step, NoMemory>
+fn behind(mut lines: Lines, did: Step) -> Result<Step, NoMemory>
     ensures { IfOk result (IsBehind lines did) }
 {
     match did {
         Step::Settled(more) => {
-            add_lines(&mut lines, more)?;
+            lines.append(&more)?;
             Ok(Step::Settled(lines))
         }
         Step::Asks(more, dialog, waiting) => {
-            add_lines(&mut lines, more)?;
+            lines.append(&more)?;
             Ok(Step::Asks(lines, dialog, waiting))
         }
     }
@@ -196,22 +197,22 @@ fn go_back<P: Pages>(context: &mut Context, alloc: Global, pages: &mut P) -> Res
 }
 
 /// A refusal, and then the screen of the current card alone.
-fn then_screen(context: &Context, alloc: Global, refusal: Refusal) -> Result<Rows<Text>, NoMemory>
+fn then_screen(context: &Context, alloc: Global, refusal: Refusal) -> Result<Lines, NoMemory>
     ensures { IfOk result (λ lines. Shows context.now context.now lines
         (λ shelf world. behind (refusal_line refusal ∷ []) (show_screen shelf world))) }
 {
     let mut lines = refusal_lines(alloc, refusal)?;
-    add_lines(&mut lines, context.screen(alloc)?)?;
+    lines.append(&context.screen(alloc)?)?;
     Ok(lines)
 }
 
 /// A refusal, and then the current card.
-fn refuse(context: &mut Context, alloc: Global, refusal: Refusal) -> Result<Rows<Text>, NoMemory>
+fn refuse(context: &mut Context, alloc: Global, refusal: Refusal) -> Result<Lines, NoMemory>
     ensures { IfOk result (λ lines. Shows context.old context.new lines
         (λ shelf world. refuse shelf refusal world)) }
 {
     let mut lines = refusal_lines(alloc, refusal)?;
-    add_lines(&mut lines, context.show(alloc)?)?;
+    lines.append(&context.show(alloc)?)?;
     Ok(lines)
 }
 
@@ -223,7 +224,7 @@ fn enter_text(
     alloc: Global,
     number: u16,
     text: &Text,
-) -> Result<Rows<Text>, NoMemory>
+) -> Result<Lines, NoMemory>
     ensures { IfOk result (λ lines. Shows context.old context.new lines (typed number text.now)) }
 {
     match context.enter_text(alloc, number, text)? {
@@ -249,8 +250,8 @@ fn choose_option<P: Pages>(
     match context.choose(alloc, field, option)? {
         Chosen::NoOption => Ok(ignore(alloc)?),
         Chosen::Set(faults, task) => {
-            let mut lines = Rows::new(alloc);
-            add_fault_lines(alloc, faults.as_slice(), &mut lines)?;
+            let mut lines = Lines::new(alloc);
+            add_fault_lines(faults.as_slice(), &mut lines)?;
             let did = act_or_show(context, alloc, task, pages)?;
             Ok(behind(lines, did)?)
         }

@@ -12,6 +12,5 @@ mod standing;
 
 pub use dots::shown_lines;
 pub use fault::SessionFault;
-pub use lines::add_lines;
 pub use session::Session;
 pub use wap_input::Key;

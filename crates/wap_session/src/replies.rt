@@ -12,10 +12,11 @@ ghost use Rattle.wap_session.specs.inside.Turns.{meant};
 
 use crate::lines::{refusal_lines, variable_lines};
 use std::alloc::Global;
-use wap_base::{NoMemory, Rows, RunErr, Text};
+use wap_base::{NoMemory, RunErr, Text};
 use wap_context::{Context, Step, Ticked, Waiting};
 use wap_execution::Dialog;
 use wap_input::Key;
+use wap_lines::Lines;
 use wap_site::Pages;
 use wap_value::Value;
 use wap_world::Refusal;
@@ -100,7 +101,7 @@ fn reply_to(alloc: Global, dialog: &Dialog, key: &Key) -> Result<Reply, NoMemory
 }
 
 /// Lets so many tenths of a second pass in a dialog.
-fn pass_time(context: &mut Context, alloc: Global, time: u32) -> Result<Rows<Text>, NoMemory>
+fn pass_time(context: &mut Context, alloc: Global, time: u32) -> Result<Lines, NoMemory>
     ensures { IfOk result (λ lines. Shows context.old context.new lines
         (λ shelf world. meanwhile shelf (the_keys.Tick time) world)) }
 {
@@ -111,7 +112,7 @@ fn pass_time(context: &mut Context, alloc: Global, time: u32) -> Result<Rows<Tex
 }
 
 /// What a key does that leaves a dialog open.
-fn meanwhile(context: &mut Context, alloc: Global, key: &Key) -> Result<Rows<Text>, NoMemory>
+fn meanwhile(context: &mut Context, alloc: Global, key: &Key) -> Result<Lines, NoMemory>
     ensures { IfOk result (λ lines. Shows context.old context.new lines
         (λ shelf world. meanwhile shelf key.now world)) }
 {

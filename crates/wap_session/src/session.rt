@@ -7,14 +7,14 @@ ghost use Rattle.wap_context.specs.Sites.{IfOver};
 ghost use Rattle.wap_session.specs.Feeding.{beginning, step_of, TurnsTo, Plays, MissedAt, ShowsOn};
 
 use crate::SessionFault;
-use crate::lines::add_lines;
 use crate::standing::{Standing, after, turn};
 use std::alloc::Global;
 use std::marker::Model;
 use std::mem;
-use wap_base::{Limits, NoMemory, Rows, Text};
+use wap_base::{Limits, NoMemory};
 use wap_context::Context;
 use wap_input::Key;
+use wap_lines::Lines;
 use wap_site::Pages;
 
 /// A browser that is played by keys: it is at rest, waits for the answer to a dialog, or is over. A
@@ -72,7 +72,7 @@ impl Session {
         alloc: Global,
         key: &Key,
         pages: &mut P,
-    ) -> Result<Rows<Text>, SessionFault>
+    ) -> Result<Lines, SessionFault>
         ensures plays { Plays (key.now ∷ []) (P.seen pages.old) (P.seen pages.new)
             self.old self.new result }
         ensures missed { IsErrOf result SessionFault.Store
@@ -96,13 +96,13 @@ impl Session {
     }
 
     /// Appends lines; where memory runs out, the session is over.
-    fn keep_lines(&mut self, lines: &mut Rows<Text>, more: Rows<Text>) -> Result<(), SessionFault>
-        ensures kept { OnOk result (lines.new ≡ lines.old ++ more) }
+    fn keep_lines(&mut self, lines: &mut Lines, more: &Lines) -> Result<(), SessionFault>
+        ensures kept { OnOk result (lines.new ≡ lines.old ++ more.now) }
         ensures same { OnOk result (self.new ≡ self.old) }
         ensures over { OnErr result (self.new.is_over ≡ true) }
         ensures wanting { IfErr result (λ fault. fault ≡ SessionFault.NoMemory) }
     {
-        match add_lines(lines, more) {
+        match lines.append(more) {
             Ok(()) => Ok(()),
             Err(NoMemory) => {
                 self.standing = Standing::Over;
@@ -120,7 +120,7 @@ impl Session {
         alloc: Global,
         keys: &[Key],
         pages: &mut P,
-    ) -> Result<Rows<Text>, SessionFault>
+    ) -> Result<Lines, SessionFault>
         ensures plays { Plays keys.now (P.seen pages.old) (P.seen pages.new)
             self.old self.new result }
         ensures missed { IsErrOf result SessionFault.Store
@@ -133,10 +133,10 @@ impl Session {
         if self.is_over() {
             return Err(SessionFault::Ended);
         }
-        let mut lines = Rows::new(alloc);
+        let mut lines = Lines::new(alloc);
         for key in keys {
             let more = self.feed(alloc, key, pages)?;
-            self.keep_lines(&mut lines, more)?;
+            self.keep_lines(&mut lines, &more)?;
         }
         Ok(lines)
     }

@@ -11,10 +11,11 @@ use crate::dots::shown_lines;
 use crate::keys::press;
 use crate::replies::play_in_dialog;
 use std::alloc::Global;
-use wap_base::{NoMemory, Rows, RunErr, Text};
+use wap_base::{NoMemory, RunErr};
 use wap_context::{Context, Step, Waiting};
 use wap_execution::Dialog;
 use wap_input::Key;
+use wap_lines::Lines;
 use wap_site::Pages;
 
 /// A dialog, and the script that goes on with its answer.
@@ -78,7 +79,7 @@ pub(crate) fn turn<P: Pages>(
 }
 
 /// The lines of what a key did as they are shown, and how the session stands after it.
-pub(crate) fn after(alloc: Global, did: Step) -> Result<(Rows<Text>, Standing), NoMemory>
+pub(crate) fn after(alloc: Global, did: Step) -> Result<(Lines, Standing), NoMemory>
     ensures lines { IfOk result (λ it. it.0 ≡ map shown_line (lines_in did)) }
     ensures standing { IfOk result (λ it. IsAfter it.1 did) }
 {

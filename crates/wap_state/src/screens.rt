@@ -9,9 +9,10 @@ ghost use Rattle.wap_state.specs.Scenes.{Plays, Leaves};
 use crate::hand::Current;
 use crate::state::State;
 use std::alloc::Global;
-use wap_base::{NoMemory, Rows, Text};
+use wap_base::NoMemory;
 use wap_fields::apply_defaults;
 use wap_good::View;
+use wap_lines::Lines;
 use wap_screens::{add_fault_lines, add_screen};
 
 impl State {
@@ -20,7 +21,7 @@ impl State {
         &self,
         alloc: Global,
         here: &Current<'_>,
-        lines: &mut Rows<Text>,
+        lines: &mut Lines,
     ) -> Result<(), NoMemory>
         ensures plays { OnOk result (Plays (screen_held here.now self.now)
             self.now self.now lines.old lines.new) }
@@ -34,7 +35,7 @@ impl State {
         &mut self,
         alloc: Global,
         card: &View<'_>,
-        lines: &mut Rows<Text>,
+        lines: &mut Lines,
     ) -> Result<(), NoMemory>
         ensures plays { OnOk result
             (Plays (with_set self.old (defaults self.old.vars card.now))
@@ -43,7 +44,7 @@ impl State {
         ensures left { OnErr result (Leaves self.old self.new lines.old lines.new) }
     {
         let refused = apply_defaults(alloc, card, &mut self.vars)?;
-        add_fault_lines(alloc, refused.as_slice(), lines)
+        add_fault_lines(refused.as_slice(), lines)
     }
 
     /// Shows a card: its fields get their defaults, its timer starts unless it has since the card
@@ -52,7 +53,7 @@ impl State {
         &mut self,
         alloc: Global,
         here: &Current<'_>,
-        lines: &mut Rows<Text>,
+        lines: &mut Lines,
     ) -> Result<(), NoMemory>
         ensures plays { OnOk result (Plays (show_held here.now self.old)
             self.old self.new lines.old lines.new) }
@@ -69,7 +70,7 @@ impl State {
         &mut self,
         alloc: Global,
         here: &Current<'_>,
-        lines: &mut Rows<Text>,
+        lines: &mut Lines,
     ) -> Result<(), NoMemory>
         ensures plays { OnOk result (Plays (restart_held here.now self.old)
             self.old self.new lines.old lines.new) }

@@ -8,6 +8,7 @@ use crate::state::State;
 use std::alloc::Global;
 use wap_base::{NoMemory, Rows, Text};
 use wap_fields::set_one;
+use wap_lines::Lines;
 use wap_screens::add_fault_lines;
 use wap_vars::{VarFault, Vars};
 
@@ -33,7 +34,7 @@ impl State {
         &mut self,
         alloc: Global,
         pairs: Rows<(Text, Text)>,
-        lines: &mut Rows<Text>,
+        lines: &mut Lines,
     ) -> Result<(), NoMemory>
         ensures plays { OnOk result
             (Plays (set_variables pairs self.old) self.old self.new lines.old lines.new) }
@@ -41,6 +42,6 @@ impl State {
         ensures left { OnErr result (Leaves self.old self.new lines.old lines.new) }
     {
         let refused = set_all(alloc, pairs, &mut self.vars)?;
-        add_fault_lines(alloc, refused.as_slice(), lines)
+        add_fault_lines(refused.as_slice(), lines)
     }
 }

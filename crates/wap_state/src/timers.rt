@@ -14,6 +14,7 @@ use std::alloc::Global;
 use wap_base::{NoMemory, Rows, Text};
 use wap_cards::{first_with, timer_of, variable_in};
 use wap_good::{AttrName, Tag, View};
+use wap_lines::Lines;
 use wap_world::Timer;
 
 /// A timer that starts; 0 is no time.
@@ -86,7 +87,7 @@ impl State {
         alloc: Global,
         card: &View<'_>,
         time: u32,
-        lines: &mut Rows<Text>,
+        lines: &mut Lines,
     ) -> Result<(), NoMemory>
         ensures plays { OnOk result (Plays (store_time card.now time self.old)
             self.old self.new lines.old lines.new) }
@@ -102,7 +103,7 @@ impl State {
         &mut self,
         alloc: Global,
         card: &View<'_>,
-        lines: &mut Rows<Text>,
+        lines: &mut Lines,
     ) -> Result<(), NoMemory>
         ensures plays { OnOk result (Plays (store_left self.old.timer card.now self.old)
             self.old self.new lines.old lines.new) }
@@ -121,7 +122,7 @@ impl State {
         &mut self,
         alloc: Global,
         card: &View<'_>,
-        lines: &mut Rows<Text>,
+        lines: &mut Lines,
     ) -> Result<(), NoMemory>
         ensures plays { OnOk result (Plays (end_timer card.now self.old)
             self.old self.new lines.old lines.new) }
@@ -138,7 +139,7 @@ impl State {
         &mut self,
         alloc: Global,
         card: &View<'_>,
-        lines: &mut Rows<Text>,
+        lines: &mut Lines,
     ) -> Result<(), NoMemory>
         ensures plays { OnOk result
             (Plays (store_time card.now 0 (record self.old { timer = Expired }))

@@ -1,14 +1,11 @@
 -- Lines that are shown. This project's own.
 use Rattle.std.specs.Prelude.{ℕ, ◌||◌, ◌==◌, nat_lt, if◌then◌else◌, List, []}
-use Rattle.std.specs.Prelude.{◌∷◌, ◌++◌, map, encode_utf8_all, codes}
-use Rattle.std.specs.List.{flat_map}
-use Rattle.wap_base.specs.Ascii.{space, full_stop, delete, line_feed, equals_sign}
+use Rattle.std.specs.Prelude.{◌∷◌, ◌++◌, map, codes}
+use Rattle.wap_base.specs.Ascii.{space, full_stop, delete, equals_sign}
 use Rattle.wap_world.specs.declared.refusal.Refusal.{Refusal}
 use Rattle.wap_world.specs.declared.refusal.Refusal.TheVariants.{Budget, Url, Scheme, Missing}
 use Rattle.wap_world.specs.declared.refusal.Refusal.TheVariants.{Refused, Denied, First, Ignored}
 use Rattle.wap_world.specs.declared.refusal.Refusal.TheVariants.{Mask, Full, Long}
-
--- ---- bytes
 
 -- a control character is shown as a dot
 abbrev pub shown_character : ℕ → ℕ
@@ -17,14 +14,6 @@ shown_character c = if nat_lt c space || c == delete then full_stop else c
 -- a line as it is shown
 abbrev pub shown_line : List ℕ → List ℕ
 shown_line line = map shown_character line
-
--- a line that is shown as it is written: its characters in UTF-8, and a line feed
-abbrev pub line_bytes : List ℕ → List ℕ
-line_bytes line = encode_utf8_all line ++ line_feed ∷ []
-
--- such lines, one after the other
-abbrev pub lines_bytes : List (List ℕ) → List ℕ
-lines_bytes lines = flat_map line_bytes lines
 
 -- ---- refusals
 

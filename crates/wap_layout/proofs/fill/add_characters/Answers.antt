@@ -23,7 +23,8 @@ loop-character-preserved c =
             λ more. cut-full c.loop-character.lines c.if-columns-width.lines c.loop-character.part
                 c.push.new.self _ _ c.in-Some.character c.args.width more _ c.requires
                 (sym c.loop-character.invariant.1 ∙ w.if-columns-width.true)
-                (w.lines-is ∙ w.in_ok-add.ensures.ok)
+                (w.lines-is ∙ w.in_ok-add.ensures.ok
+                ∙ ap (λ l. c.loop-character.lines ++ l ∷ []) w.as_str.ensures.characters)
                 (c.in_ok-push.ensures.ok ∙ ap (λ p. p ++ c.in-Some.character ∷ []) starts) turn
                 (c.loop-character.invariant.0 more),
             omega (arith, w.columns-is, ap length starts),

@@ -1,4 +1,4 @@
-use Rattle.std.proofs.Common.{◌++◌, ◌∷◌, [], List, ℕ, ap, ◌∙◌, arith}
+use Rattle.std.proofs.Common.{arith}
 use Rattle.std.proofs.lemmas.Str.{IsUtf8-from_ascii}
 use Rattle.wap_layout.proofs.Plain.{parts-step, ascii_after, ascii_short}
 use Rattle.wap_layout.proofs.fill.add_parts.Goals as goal
@@ -15,8 +15,7 @@ loop-rest-preserved c =
           c.split_at.result.0.now c.split_at.result.1.now more _ c.requires.width
           (omega (arith, c.loop-rest-test.true)) ascii c.split_at.ensures.front
           c.split_at.ensures.back
-          (c.in_ok-add.ensures.ok
-          ∙ ap (λ (line : List ℕ). c.loop-rest.lines ++ line ∷ []) c.in_ok-of.ensures)
+          c.in_ok-add.ensures.ok
           (c.loop-rest.invariant.2 more),
     )
 

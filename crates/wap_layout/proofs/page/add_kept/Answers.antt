@@ -7,7 +7,7 @@ use Rattle.wap_layout.proofs.page.add_kept.Goals as goal
 pub loop-line-preserved : goal.loop-line-preserved
 loop-line-preserved c =
     let cut = c.in-Some.ensures in (
-      cut.back_text,
+      cut.rest_text,
       kept-step c.args.width (is_hard c.args.ending)
           c.loop-line.lines c.add_piece.new.lines c.loop-line.rest.now c.in-Some.line.now
           c.in-Some.after.now _ c.in_ok-add_piece.ensures cut c.loop-line.invariant.1,

@@ -2,7 +2,7 @@ use Rattle.std.proofs.Common.{ap, ◌∙◌}
 use Rattle.wap_base.specs.declared.limits.Limits.{Limits}
 use Rattle.wap_words.specs.declared.numbers.TheConstants.{DEFAULT_SEED, DEFAULT_BUDGET}
 use Rattle.wap_session.specs.Feeding.{beginning}
-use Rattle.wap_made.specs.Making.{first_url, value_in}
+use Rattle.wap_made.specs.Making.{first_url}
 use Rattle.wap_made.proofs.Touring.{is_played}
 use Rattle.wap_made.proofs.playing.play.Goals as goal
 
@@ -18,4 +18,4 @@ returns g c =
       limits = limits;
     })) c.default.ensures.0)
     c.in-Ok.ensures.plays c.in-Ok-feed.ensures.plays (c.in_ok-copied.ensures.0 ∙ c.len.ensures)
-    (c.in_ok-copied.ensures.1 ∙ c.value_in.ensures ∙ ap value_in c.as_slice.ensures)
+    (c.in_ok-copied.ensures.1 ∙ c.value_in.ensures)

@@ -1,6 +1,6 @@
 use Rattle.std.proofs.Common.{ℕ, Bool, List, ◌++◌, ap₂, ◌∙◌}
 use Rattle.std.proofs.lemmas.Result.{IfOk-weaker}
-use Rattle.wap_world.specs.Lines.{lines_bytes}
+use Rattle.wap_lines.specs.Written.{lines_bytes}
 use Rattle.wap_replay.specs.Texts.{header}
 use Rattle.wap_replay.proofs.playing.play_list.Goals as goal
 

@@ -6,8 +6,6 @@ pub returns : goal.returns
 returns c =
     let list = c.args.list.now in
     bytes_are c.new-text.result.items c.add_header.new.text.items c.add_lines.new.text.items
-    c.add_lines-2.new.text.items (header c.args.number list.is_open) c.as_slice.result.now
-    c.as_slice-2.result.now list.opened list.played c.new-text.ensures.items
-    c.in_ok-add_header.ensures c.in_ok-add_lines.ensures.ok
+    c.add_lines-2.new.text.items (header c.args.number list.is_open) list.opened list.played
+    c.new-text.ensures.items c.in_ok-add_header.ensures c.in_ok-add_lines.ensures.ok
     c.in_ok-add_lines-2.ensures.ok
-    c.as_slice.ensures c.as_slice-2.ensures

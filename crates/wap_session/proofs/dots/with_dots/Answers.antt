@@ -7,9 +7,8 @@ use Rattle.wap_session.proofs.dots.with_dots.Goals as goal
 
 pub returns : goal.returns
 returns c =
-    let all = YieldsList-end (YieldsList-from_chars c.as_str.result.now c.as_str.utf8 cc)
+    let all = YieldsList-end (YieldsList-from_chars c.args.line.now c.utf8.line cc)
     c.loop-character.yielded _ c.loop-character.yielded_by _ _ c.in-None.is
     c.next.ensures.steps in
     c.loop-character.invariant
-    ∙ ap (map shown_character)
-    (sym (map-id c.loop-character.yielded) ∙ all.0 ∙ c.as_str.ensures.characters)
+    ∙ ap (map shown_character) (sym (map-id c.loop-character.yielded) ∙ all.0)

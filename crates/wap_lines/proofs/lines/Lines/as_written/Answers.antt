@@ -1,0 +1,10 @@
+use Rattle.std.proofs.Common.{ap, ◌∙◌}
+use Rattle.wap_lines.specs.Written.{lines_bytes}
+use Rattle.wap_lines.proofs.CutLaws.{written_again}
+use Rattle.wap_lines.proofs.lines.Lines.as_written.Goals as goal
+
+pub returns : goal.returns
+returns c =
+    c.as_slice.ensures.value
+    ∙ written_again c.self.inside.written.items c.self.inside.lengths.items c.self.invariant
+    ∙ ap lines_bytes c.self.view_is
