@@ -21,22 +21,22 @@ enum Open {
 /// A case: what a run begins with, and what is wanted of it.
 #[derive(Drop)]
 pub struct Case {
-    pub name: Bytes,
+    pub(crate) name: Bytes,
     /// The number of its first line.
-    pub line: usize,
-    pub is_begun: bool,
-    pub pages: Vec<(Text, Bytes)>,
+    pub(crate) line: usize,
+    pub(crate) is_begun: bool,
+    pub(crate) pages: Vec<(Text, Bytes)>,
     /// The texts of decks.
     decks: Vec<(Text, Bytes)>,
     open: Open,
     pub words: Vec<Text>,
-    pub keys: Bytes,
-    pub devices: Devices,
-    pub wanted: Wanted,
+    pub(crate) keys: Bytes,
+    pub(crate) devices: Devices,
+    pub(crate) wanted: Wanted,
     /// No run is made, but memory is taken to have run out.
     pub is_without_memory: bool,
     /// The first line that can't be read, and why.
-    pub fault: Option<(usize, CaseFault)>,
+    pub(crate) fault: Option<(usize, CaseFault)>,
 }
 
 /// Appends a line and its end.
@@ -82,7 +82,7 @@ fn numbered_page(
 
 impl Case {
     /// A case of no lines.
-    pub fn new(alloc: Global) -> Case {
+    pub(crate) fn new(alloc: Global) -> Case {
         Case {
             name: Bytes::new(alloc),
             line: 0,
@@ -99,38 +99,26 @@ impl Case {
         }
     }
 
-    /// Notes that the case has a line of this number.
-    fn begin(&mut self, number: usize) {
+    /// Notes that the case has a line of this number, and why it can't be read, if it can't and is
+    /// the first such.
+    pub(crate) fn note(&mut self, number: usize, read: Result<(), CaseFault>) {
         if !self.is_begun {
             self.is_begun = true;
             self.line = number;
         }
-    }
-
-    /// Keeps why the line of a number can't be read, if it is the first.
-    fn fail(&mut self, number: usize, fault: CaseFault) {
-        if self.fault.is_none() {
+        if let (None, Err(fault)) = (self.fault, read) {
             self.fault = Some((number, fault));
         }
     }
 
-    /// Notes that the case has a line of this number, and why it can't be read, if it can't.
-    pub fn note(&mut self, number: usize, read: Result<(), CaseFault>) {
-        self.begin(number);
-        if let Err(fault) = read {
-            self.fail(number, fault);
-        }
-    }
-
-    /// Keeps why its decks can't be written, if they can't.
-    pub fn note_ending(&mut self, number: usize, written: Result<(), CaseFault>) {
-        if let Err(fault) = written {
-            self.fail(number, fault);
-        }
+    /// Ends it, with its decks as pages, and notes where these can't be written.
+    pub(crate) fn end(&mut self, alloc: Global) {
+        let written = self.write_decks(alloc);
+        self.note(self.line, written);
     }
 
     /// Reads the line of the name. An empty line ends a case, so that it has only one.
-    pub fn read_name(&mut self, alloc: Global, line: &[u8]) -> Result<(), CaseFault> {
+    pub(crate) fn read_name(&mut self, alloc: Global, line: &[u8]) -> Result<(), CaseFault> {
         if !self.name.is_empty() {
             return Err(CaseFault::Line);
         }
@@ -153,7 +141,7 @@ impl Case {
     }
 
     /// Reads a line `NAME TEXT`, of a deck.
-    pub fn read_deck(&mut self, alloc: Global, line: &[u8]) -> Result<(), CaseFault> {
+    pub(crate) fn read_deck(&mut self, alloc: Global, line: &[u8]) -> Result<(), CaseFault> {
         let (name, deck) = split_word(line);
         self.decks
             .push((text(alloc, name)?, Bytes::of(alloc, deck)?))?;
@@ -162,7 +150,7 @@ impl Case {
     }
 
     /// Reads a line `NAME TEXT`, of a source.
-    pub fn read_source(&mut self, alloc: Global, line: &[u8]) -> Result<(), CaseFault> {
+    pub(crate) fn read_source(&mut self, alloc: Global, line: &[u8]) -> Result<(), CaseFault> {
         let (name, source) = split_word(line);
         self.pages
             .push((text(alloc, name)?, Bytes::of(alloc, source)?))?;
@@ -171,7 +159,7 @@ impl Case {
     }
 
     /// Reads a further line of a deck, without the blanks before it, or of a source.
-    pub fn read_more(&mut self, line: &[u8]) -> Result<(), CaseFault> {
+    pub(crate) fn read_more(&mut self, line: &[u8]) -> Result<(), CaseFault> {
         match self.open {
             Open::Nothing => Err(CaseFault::Line),
             Open::Deck => add_to_last(&mut self.decks, b"", line.trim_ascii_start()),
@@ -180,7 +168,7 @@ impl Case {
     }
 
     /// Takes the texts of the decks as pages, by the bytes of their documents.
-    pub fn write_decks(&mut self, alloc: Global) -> Result<(), CaseFault> {
+    fn write_decks(&mut self, alloc: Global) -> Result<(), CaseFault> {
         for (name, deck) in &self.decks {
             self.pages
                 .push((name.copy(alloc)?, deck_bytes(alloc, deck.as_slice())?))?;
@@ -189,7 +177,7 @@ impl Case {
     }
 
     /// Reads a line `NAME BYTES`.
-    pub fn read_page(
+    pub(crate) fn read_page(
         &mut self,
         alloc: Global,
         pieces: &Pieces,
@@ -204,7 +192,7 @@ impl Case {
     }
 
     /// Reads a line `FROM..TO NAME BYTES`, of one page for each number.
-    pub fn read_pages(
+    pub(crate) fn read_pages(
         &mut self,
         alloc: Global,
         pieces: &Pieces,
@@ -220,13 +208,13 @@ impl Case {
     }
 
     /// Reads a word of the command.
-    pub fn read_word(&mut self, alloc: Global, line: &[u8]) -> Result<(), CaseFault> {
+    pub(crate) fn read_word(&mut self, alloc: Global, line: &[u8]) -> Result<(), CaseFault> {
         self.words.push(text(alloc, line)?)?;
         Ok(())
     }
 
     /// Reads a word of the command that is spelled.
-    pub fn read_argument(
+    pub(crate) fn read_argument(
         &mut self,
         alloc: Global,
         pieces: &Pieces,
@@ -237,7 +225,7 @@ impl Case {
     }
 
     /// Reads the line that says how it ends without a run, which is out of memory.
-    pub fn read_ended(&mut self, line: &[u8]) -> Result<(), CaseFault> {
+    pub(crate) fn read_ended(&mut self, line: &[u8]) -> Result<(), CaseFault> {
         if line != b"NoMemory".as_slice() {
             return Err(CaseFault::Line);
         }

@@ -41,15 +41,6 @@ pub struct Wanted {
     pub left: Option<u64>,
 }
 
-/// The line of a status with its end, or nothing where there is none.
-fn printed_line(alloc: Global, line: &[u8]) -> Result<Bytes, CaseFault> {
-    let mut printed = Bytes::new(alloc);
-    if !line.is_empty() {
-        add_line(&mut printed, line)?;
-    }
-    Ok(printed)
-}
-
 /// Reads the one number that a line has.
 fn read_count(read: &mut Option<u64>, line: &[u8]) -> Result<(), CaseFault> {
     *read = Some(one_number(line)?);
@@ -88,11 +79,14 @@ impl Wanted {
         }
     }
 
-    /// Reads the line of the status.
+    /// Reads the number of the status, and its line, where there is one.
     fn read_status(&mut self, alloc: Global, line: &[u8]) -> Result<(), CaseFault> {
         let (digits, rest) = split_word(line);
-        let number = number(digits)?;
-        self.status = Some((number, printed_line(alloc, rest)?));
+        let mut printed = Bytes::new(alloc);
+        if !rest.is_empty() {
+            add_line(&mut printed, rest)?;
+        }
+        self.status = Some((number(digits)?, printed));
         Ok(())
     }
 

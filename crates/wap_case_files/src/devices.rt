@@ -2,7 +2,6 @@
 use std::alloc::Global;
 use wap_base::NoMemory;
 use wap_casebook::{CaseFault, number, split_word};
-use wap_devices::MemSink;
 
 /// The one number that a line has, from 0 on.
 pub fn one_number(line: &[u8]) -> Result<u64, CaseFault> {
@@ -12,38 +11,26 @@ pub fn one_number(line: &[u8]) -> Result<u64, CaseFault> {
     }
 }
 
-/// The numbers that a line has, from 0 on.
-fn numbers(alloc: Global, line: &[u8]) -> Result<Vec<u64>, CaseFault> {
-    let mut numbers = Vec::new(alloc);
+/// Reads the numbers that a line has, from 0 on.
+fn read_numbers(read: &mut Vec<u64>, line: &[u8]) -> Result<(), CaseFault> {
     let mut rest = line;
     for _ in 0..line.len() {
         if rest.is_empty() {
             break;
         }
         let (word, others) = split_word(rest);
-        numbers.push(one_number(word)?)?;
+        read.push(one_number(word)?)?;
         rest = others;
     }
-    Ok(numbers)
-}
-
-/// The one number that a line has, which counts bytes.
-fn size(line: &[u8]) -> Result<usize, CaseFault> {
-    match usize::try_from(one_number(line)?) {
-        Ok(size) => Ok(size),
-        Err(_) => Err(CaseFault::Spelling),
-    }
-}
-
-/// Reads the numbers that a line has.
-fn read_numbers(read: &mut Vec<u64>, alloc: Global, line: &[u8]) -> Result<(), CaseFault> {
-    *read = numbers(alloc, line)?;
     Ok(())
 }
 
 /// Reads the one number that a line has, which counts bytes.
 fn read_size(read: &mut usize, line: &[u8]) -> Result<(), CaseFault> {
-    *read = size(line)?;
+    match usize::try_from(one_number(line)?) {
+        Ok(size) => *read = size,
+        Err(_) => return Err(CaseFault::Spelling),
+    }
     Ok(())
 }
 
@@ -108,21 +95,15 @@ impl Devices {
     }
 
     /// Reads what stands after the words of a line.
-    pub fn read(&mut self, alloc: Global, known: DeviceLine, line: &[u8]) -> Result<(), CaseFault> {
+    pub fn read(&mut self, known: DeviceLine, line: &[u8]) -> Result<(), CaseFault> {
         match known {
-            DeviceLine::StoreFails => read_numbers(&mut self.store_fails, alloc, line),
-            DeviceLine::SourceFails => read_numbers(&mut self.source_fails, alloc, line),
-            DeviceLine::SourceGives => read_numbers(&mut self.source_gives, alloc, line),
-            DeviceLine::SinkFails => read_numbers(&mut self.sink_fails, alloc, line),
+            DeviceLine::StoreFails => read_numbers(&mut self.store_fails, line),
+            DeviceLine::SourceFails => read_numbers(&mut self.source_fails, line),
+            DeviceLine::SourceGives => read_numbers(&mut self.source_gives, line),
+            DeviceLine::SinkFails => read_numbers(&mut self.sink_fails, line),
             DeviceLine::SinkTakes => read_size(&mut self.sink_takes, line),
             DeviceLine::SinkHolds => read_size(&mut self.sink_holds, line),
-            DeviceLine::ErrorFails => read_numbers(&mut self.error_fails, alloc, line),
+            DeviceLine::ErrorFails => read_numbers(&mut self.error_fails, line),
         }
-    }
-
-    /// The sink to which the line of the status is written.
-    pub fn error(&self, alloc: Global) -> Result<MemSink, CaseFault> {
-        let fails = Vec::from_slice(alloc, self.error_fails.as_slice())?;
-        Ok(MemSink::new(alloc, 4096, 4096, fails)?)
     }
 }

@@ -1,9 +1,8 @@
 //! In what a run differs from what is wanted.
-use crate::case::Case;
-use crate::outcome::Outcome;
 use crate::wanted::Wanted;
+use crate::{Case, Outcome};
 use std::alloc::{AllocError, Global};
-use wap_casebook::{CaseFault, add_quoted};
+use wap_casebook::CaseFault;
 
 /// The most bytes that are shown of what differs.
 const MOST: usize = 400;
@@ -27,7 +26,7 @@ fn add_bytes(out: &mut String, alloc: Global, bytes: &[u8], from: usize) -> Resu
     let rest = bytes.get(from..).unwrap_or(b"");
     let front = rest.get(..MOST).unwrap_or(rest);
     let front = String::from_utf8_lossy(alloc, front)?;
-    add_quoted(out, front.as_str())
+    write!(out, "{front:?}")
 }
 
 /// Appends in what two texts differ, if they do.

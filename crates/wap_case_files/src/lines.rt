@@ -1,9 +1,10 @@
 //! The lines of a case.
-use crate::case::{Case, add_line, add_spelled};
+use crate::Case;
+use crate::case::{add_line, add_spelled};
 use crate::devices::DeviceLine;
 use crate::wanted::WantedLine;
 use std::alloc::Global;
-use wap_casebook::{CaseFault, Pieces, split_word};
+use wap_casebook::{CaseFault, Pieces};
 
 /// What a line says.
 #[derive(Clone, Copy)]
@@ -89,7 +90,7 @@ fn read_rest(
         Line::Key => add_line(&mut case.keys, rest),
         Line::Keys => add_spelled(&mut case.keys, alloc, pieces, rest),
         Line::Ended => case.read_ended(rest),
-        Line::Device(known) => case.devices.read(alloc, known, rest),
+        Line::Device(known) => case.devices.read(known, rest),
         Line::Wanted(known) => case.wanted.read(alloc, pieces, known, rest),
     }
 }
@@ -108,42 +109,21 @@ fn read_line(
     read_rest(case, alloc, pieces, known, rest)
 }
 
-/// Reads a line that gives a name to bytes.
-fn read_piece(case: &mut Case, alloc: Global, pieces: &mut Pieces, line: &[u8], number: usize) {
-    if let Err(fault) = pieces.define(alloc, line) {
-        case.note(number, Err(fault));
-    }
-}
-
-/// Reads a line of a case, and notes it.
-fn read_noted(case: &mut Case, alloc: Global, pieces: &Pieces, line: &[u8], number: usize) {
-    let read = read_line(case, alloc, pieces, line);
-    case.note(number, read);
-}
-
-/// Whether a line is a comment.
-fn is_comment(line: &[u8]) -> bool {
-    line.starts_with(b"#")
-}
-
-/// What of a line stands after the word `piece`, where it begins with that.
-fn piece_in(line: &[u8]) -> Option<&[u8]> {
-    let (word, rest) = split_word(line);
-    if word == b"piece".as_slice() {
-        Some(rest)
-    } else {
-        None
-    }
-}
-
 /// Reads a line into the case that it belongs to, or a piece, or a comment. A line that can't be
 /// read is kept as the case's fault.
 pub fn read(case: &mut Case, alloc: Global, pieces: &mut Pieces, line: &[u8], number: usize) {
-    if is_comment(line) {
+    if line.starts_with(b"#") {
         return;
     }
-    match piece_in(line) {
-        Some(piece) => read_piece(case, alloc, pieces, piece, number),
-        None => read_noted(case, alloc, pieces, line, number),
+    match rest_behind("piece", line) {
+        Some(piece) => {
+            if let Err(fault) = pieces.define(alloc, piece) {
+                case.note(number, Err(fault));
+            }
+        }
+        None => {
+            let read = read_line(case, alloc, pieces, line);
+            case.note(number, read);
+        }
     }
 }

@@ -95,21 +95,13 @@ fn start_of(attribute: AttrName, value: &[u8]) -> Option<(u8, &[u8])> {
     found
 }
 
-/// The byte of a number.
-fn numbered(digits: &[u8]) -> Option<u8> {
-    match number(digits) {
-        Ok(byte) => u8::try_from(byte).ok(),
-        Err(_) => None,
-    }
-}
-
 /// The byte that stands in a text only so: `&amp;`, `&lt;`, `&quot;`, and by its number `&#10;`.
 fn entity(name: &[u8]) -> Option<u8> {
     match name {
         b"amp" => Some(b'&'),
         b"lt" => Some(b'<'),
         b"quot" => Some(b'"'),
-        [b'#', digits @ ..] => numbered(digits),
+        [b'#', digits @ ..] => u8::try_from(number(digits).ok()?).ok(),
         _ => None,
     }
 }

@@ -1,0 +1,20 @@
+//! Files of cases, for the program that plays them: blocks of lines that say what a run begins with
+//! and what is wanted of it, decks as texts of WML, the devices of a run in memory, and in what a
+//! run differs from what is wanted.
+#![tactic(auto)]
+
+mod case;
+mod devices;
+mod files;
+mod lines;
+mod memory;
+mod outcome;
+mod playing;
+mod telling;
+mod wanted;
+mod wml;
+
+pub use case::Case;
+pub use files::play_cases;
+pub use outcome::Outcome;
+pub use playing::Runs;
