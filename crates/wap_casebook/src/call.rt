@@ -1,5 +1,4 @@
 //! The call of a line.
-use crate::quoting::{add_bytes, add_number, add_text, add_word};
 use crate::spelling::spelled_bytes;
 use crate::words::{number, split_value, text};
 use crate::{CaseFault, Pieces};
@@ -90,12 +89,6 @@ impl Call {
     }
 }
 
-/// Adds a value as it stands.
-fn add_value(values: &mut VecDeque<Bytes>, alloc: Global, value: &[u8]) -> Result<(), CaseFault> {
-    values.push_back(Bytes::of(alloc, value)?)?;
-    Ok(())
-}
-
 /// Adds the values of a line before `=`, and gives what stands after that.
 fn add_values<'a>(
     values: &mut VecDeque<Bytes>,
@@ -109,7 +102,7 @@ fn add_values<'a>(
         if value.is_empty() || value == b"=".as_slice() {
             break;
         }
-        add_value(values, alloc, value)?;
+        values.push_back(Bytes::of(alloc, value)?)?;
     }
     Ok(rest)
 }
@@ -240,9 +233,23 @@ pub fn meaning_of<T: Copy>(meanings: &[(&str, T)], word: &[u8]) -> Option<T> {
     None
 }
 
-/// Whether what `Debug` writes is a brace or the name of a field.
-fn is_around(word: &str) -> bool {
-    word == "{" || word == "}" || word.ends_with(':')
+/// The word of a meaning, or an empty one where it has none.
+pub fn word_of<T: Copy + PartialEq>(meanings: &[(&'static str, T)], meaning: T) -> &'static str {
+    for (word, known) in meanings {
+        if *known == meaning {
+            return word;
+        }
+    }
+    ""
+}
+
+/// Appends bytes of a row, two hexadecimal digits each.
+fn add_bytes(out: &mut String, bytes: &[u8]) -> Result<(), AllocError> {
+    out.push_str(if bytes.is_empty() { " \"\"" } else { " " })?;
+    for byte in bytes {
+        write!(out, "{byte:02X}")?;
+    }
+    Ok(())
 }
 
 /// How a call gives results.
@@ -253,7 +260,7 @@ impl Call {
             Some(wanted) => wanted.as_slice() == word.as_bytes(),
             None => false,
         };
-        let told = add_word(&mut self.given, word);
+        let told = write!(self.given, " {word}");
         self.note(is_wanted, told);
     }
 
@@ -271,14 +278,14 @@ impl Call {
         }
     }
 
-    /// Gives the words of a value as `Debug` writes it.
+    /// Gives the words of a value as `Debug` writes it, but for braces and the names of fields.
     fn give_words(&mut self, shown: &str) {
         for word in shown.split_whitespace() {
             let word = match word.split_once(',') {
                 Some((before, _)) => before,
                 None => word,
             };
-            if !is_around(word) {
+            if word != "{" && word != "}" && !word.ends_with(':') {
                 self.give_word(word);
             }
         }
@@ -290,7 +297,7 @@ impl Call {
             Some(wanted) => matches!(number(wanted.as_slice()), Ok(wanted) if wanted == given),
             None => false,
         };
-        let told = add_number(&mut self.given, given);
+        let told = write!(self.given, " {given}");
         self.note(is_wanted, told);
     }
 
@@ -302,7 +309,8 @@ impl Call {
     /// Gives a text.
     pub fn give_text(&mut self, text: &Text) {
         let is_wanted = self.wants(text.as_str().as_bytes());
-        let told = add_text(&mut self.given, text.as_str());
+        let text = text.as_str();
+        let told = write!(self.given, " {text:?}");
         self.note(is_wanted, told);
     }
 

@@ -26,62 +26,14 @@ impl Tally {
             self.differing = self.differing.saturating_add(1);
         }
     }
-
-    /// Counts what counts as played only where it differs.
-    fn count_if(&mut self, differs: bool) {
-        if differs {
-            self.count(differs);
-        }
-    }
 }
 
-/// Whether a line that begins with this word gives a name to bytes.
-fn is_piece(name: &[u8]) -> bool {
-    name == b"piece".as_slice()
-}
-
-/// Notes why a line isn't played, if it isn't, and answers whether it differs.
-fn end_line(call: &mut Call, played: Result<(), CaseFault>) -> bool {
-    if let Err(fault) = played {
-        call.fail(fault);
-    }
-    call.differs()
-}
-
-/// Gives a name to bytes, and answers whether the line differs. Only then it counts as played.
-fn play_piece(call: &mut Call, tally: &mut Tally, line: &[u8]) -> bool {
-    let defined = call.define(line);
-    let differs = end_line(call, defined);
-    tally.count_if(differs);
-    differs
-}
-
-/// Makes the call of a name, and answers whether its line differs.
-fn play_call<C: Calls>(
-    calls: &C,
-    call: &mut Call,
-    tally: &mut Tally,
-    name: &[u8],
-    rest: &[u8],
-) -> bool {
-    let made = make(calls, call, name, rest);
-    let differs = end_line(call, made);
-    tally.count(differs);
-    differs
-}
-
-/// Plays a line, which gives a name to bytes or makes a call, and answers whether it differs.
-fn play_line<C: Calls>(calls: &C, call: &mut Call, tally: &mut Tally, line: &[u8]) -> bool {
+/// Plays a line, which gives a name to bytes or makes a call.
+fn play_line<C: Calls>(calls: &C, call: &mut Call, line: &[u8]) -> Result<(), CaseFault> {
     let (name, rest) = split_word(line);
-    if is_piece(name) {
-        play_piece(call, tally, rest)
-    } else {
-        play_call(calls, call, tally, name, rest)
+    if name == b"piece".as_slice() {
+        return call.define(rest);
     }
-}
-
-/// Makes the call of a name, with the arguments and the results after it.
-fn make<C: Calls>(calls: &C, call: &mut Call, name: &[u8], rest: &[u8]) -> Result<(), CaseFault> {
     call.begin(rest)?;
     calls.make(name, call)
 }
@@ -93,9 +45,17 @@ fn tell(out: &mut String, place: (&str, u64), line: &str, call: &Call) -> Result
     write!(out, "{file} {number}: {line}\n    {word}{came}\n")
 }
 
-/// Whether a line is empty or a comment.
-fn is_passed_over(line: &str) -> bool {
-    line.is_empty() || line.starts_with('#')
+/// Plays a line that is neither empty nor a comment, counts it, and answers whether it differs.
+/// One that gives a name to bytes counts only where it differs.
+fn count_line<C: Calls>(calls: &C, call: &mut Call, tally: &mut Tally, line: &str) -> bool {
+    if let Err(fault) = play_line(calls, call, line.as_bytes()) {
+        call.fail(fault);
+    }
+    let differs = call.differs();
+    if differs || !line.starts_with("piece ") {
+        tally.count(differs);
+    }
+    differs
 }
 
 /// Plays the lines of a file, counts them, and tells of those that differ.
@@ -111,10 +71,10 @@ fn play_lines<C: Calls>(
     let mut number: u64 = 0;
     for line in lines.lines() {
         number = number.saturating_add(1);
-        if is_passed_over(line) {
+        if line.is_empty() || line.starts_with('#') {
             continue;
         }
-        if play_line(calls, &mut call, &mut tally, line.as_bytes()) {
+        if count_line(calls, &mut call, &mut tally, line) {
             tell(told, (file, number), line, &call)?;
         }
     }

@@ -8,14 +8,12 @@ mod fault;
 mod items;
 mod pieces;
 mod quotes;
-mod quoting;
 mod spelling;
 mod words;
 
-pub use call::{Call, meaning_of};
+pub use call::{Call, meaning_of, word_of};
 pub use calls::{Calls, Tally, play_calls};
 pub use fault::CaseFault;
 pub use pieces::Pieces;
-pub use quoting::add_quoted;
 pub use spelling::{spelled_bytes, spelled_text};
 pub use words::{number, range, split_value, split_word, text};

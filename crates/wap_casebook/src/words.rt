@@ -70,19 +70,14 @@ pub fn number(digits: &[u8]) -> Result<i64, CaseFault> {
     }
 }
 
-/// The number from 0 on that digits spell.
-fn number_from_0(digits: &str) -> Result<u32, CaseFault> {
-    match digits.parse::<u32>() {
-        Ok(number) => Ok(number),
-        Err(_) => Err(CaseFault::Spelling),
-    }
-}
-
 /// The two numbers of `FROM..TO`.
 pub fn range(spelled: &[u8]) -> Result<(u32, u32), CaseFault> {
-    match str_of(spelled)?.split_once("..") {
-        Some((from, to)) => Ok((number_from_0(from)?, number_from_0(to)?)),
-        None => Err(CaseFault::Spelling),
+    let Some((from, to)) = str_of(spelled)?.split_once("..") else {
+        return Err(CaseFault::Spelling);
+    };
+    match (from.parse::<u32>(), to.parse::<u32>()) {
+        (Ok(from), Ok(to)) => Ok((from, to)),
+        _ => Err(CaseFault::Spelling),
     }
 }
 

@@ -1,0 +1,2 @@
+mod Crossing
+pub mod Standing

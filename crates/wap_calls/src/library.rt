@@ -1,0 +1,140 @@
+//! Calls of functions, alone or one after the other.
+use crate::values::{give_value, value, values};
+use std::str;
+use wap_asm::lib_args;
+use wap_casebook::{Call, CaseFault};
+use wap_code::LIBRARY;
+use wap_libs::{Gen, LibOut, arguments_of, call_pure};
+use wap_value::Value;
+
+/// The seed of a session that nothing is said of.
+const SEED: u32 = 7;
+
+/// The limit of Strings where nothing is said.
+const LIMIT: u32 = 65_535;
+
+/// The numbers of `Lang.random` and `Lang.seed`.
+const RANDOM: (u16, u8) = (0, 12);
+
+const RESTART: (u16, u8) = (0, 13);
+
+/// The numbers of a library and of a function in it, by a name as `Lang.abs`.
+fn numbers_of(name: &[u8]) -> Option<(u16, u8)> {
+    let (library, function) = str::from_utf8(name).ok()?.split_once('.')?;
+    for (lib, f, _, library_name, function_name) in &LIBRARY {
+        if *library_name == library && *function_name == function {
+            return Some((*lib, *f));
+        }
+    }
+    None
+}
+
+/// Gives what a function comes to: a value, `exit` and a value, or `abort` and a text.
+fn give_outcome(call: &mut Call, outcome: &LibOut) {
+    match outcome {
+        LibOut::Value(value) => give_value(call, value),
+        LibOut::Exit(value) => {
+            call.give_word("exit");
+            give_value(call, value);
+        }
+        LibOut::Abort(text) => {
+            call.give_word("abort");
+            call.give_text(text);
+        }
+    }
+}
+
+/// Calls a function, and gives what that comes to.
+fn give_call(
+    call: &mut Call,
+    numbers: (u16, u8),
+    values: Vec<Value>,
+    generator: &mut Gen,
+    limit: u32,
+) -> Result<(), CaseFault> {
+    let (lib, f) = numbers;
+    match arguments_of(lib, f) {
+        Some(count) if usize::from(count) == values.len() => {}
+        _ => return Err(CaseFault::Argument),
+    }
+    match call_pure(call.alloc(), lib, f, values, generator, limit) {
+        Ok(outcome) => give_outcome(call, &outcome),
+        Err(fault) => call.give_named(&fault),
+    }
+    Ok(())
+}
+
+/// Calls a function of a session that begins with the call.
+fn call_alone(call: &mut Call, numbers: (u16, u8), limit: u32) -> Result<(), CaseFault> {
+    let values = values(call)?;
+    give_call(call, numbers, values, &mut Gen::new(SEED), limit)
+}
+
+/// Calls a function by its name, as `Lang.abs`.
+pub fn call_named(name: &[u8], call: &mut Call) -> Result<(), CaseFault> {
+    match numbers_of(name) {
+        Some(numbers) => call_alone(call, numbers, LIMIT),
+        None => Err(CaseFault::Line),
+    }
+}
+
+/// Calls a function under a limit of Strings: `within LIMIT NAME VALUES`.
+pub fn call_within(call: &mut Call) -> Result<(), CaseFault> {
+    let limit = call.number32();
+    let numbers = numbers_of(call.word().as_slice()).ok_or(CaseFault::Argument)?;
+    call_alone(call, numbers, limit)
+}
+
+/// Calls a function of one argument, a value.
+fn call_with(
+    call: &mut Call,
+    numbers: (u16, u8),
+    value: Value,
+    generator: &mut Gen,
+) -> Result<(), CaseFault> {
+    let values = vec![in call.alloc(); value]?;
+    give_call(call, numbers, values, generator, LIMIT)
+}
+
+/// Draws random numbers one after the other, one up to each value that is left.
+fn draw_each(call: &mut Call, generator: &mut Gen) -> Result<(), CaseFault> {
+    for most in values(call)? {
+        call_with(call, RANDOM, most, generator)?;
+    }
+    Ok(())
+}
+
+/// Random numbers of a session with a seed: `random SEED VALUES`.
+pub fn draw(call: &mut Call) -> Result<(), CaseFault> {
+    let mut generator = Gen::new(call.number32());
+    draw_each(call, &mut generator)
+}
+
+/// One number, and the same after a start of the generator from another seed:
+/// `restarted SEED START VALUES`.
+pub fn draw_restarted(call: &mut Call) -> Result<(), CaseFault> {
+    let mut generator = Gen::new(call.number32());
+    let start = value(call);
+    call_with(call, RANDOM, Value::Int(9), &mut generator)?;
+    call_with(call, RESTART, start, &mut generator)?;
+    draw_each(call, &mut generator)
+}
+
+/// How many arguments a function takes, by the numbers of its library and of it, where it is one of
+/// those that ask no browser, or of all.
+pub fn count_arguments(call: &mut Call, is_pure: bool) -> Result<(), CaseFault> {
+    let (lib, f) = (call.count(), call.count());
+    let (Ok(lib), Ok(f)) = (u16::try_from(lib), u8::try_from(f)) else {
+        return Err(CaseFault::Argument);
+    };
+    let count = if is_pure {
+        arguments_of(lib, f)
+    } else {
+        lib_args(lib, f)
+    };
+    match count {
+        Some(count) => call.give_number(i64::from(count)),
+        None => call.give_word("none"),
+    }
+    Ok(())
+}
