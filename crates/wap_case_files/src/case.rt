@@ -58,6 +58,14 @@ pub fn add_spelled(
     Ok(())
 }
 
+/// Adds the name and the text of a line `NAME TEXT`.
+fn add_named(texts: &mut Vec<(Text, Bytes)>, alloc: Global, line: &[u8]) -> Result<(), CaseFault> {
+    let (name, rest) = split_word(line);
+    let name = text(alloc, name)?;
+    texts.push((name, Bytes::of(alloc, rest)?))?;
+    Ok(())
+}
+
 /// Appends to the last of these texts.
 fn add_to_last(texts: &mut Vec<(Text, Bytes)>, mark: &[u8], more: &[u8]) -> Result<(), CaseFault> {
     let Some((_, text)) = texts.last_mut() else {
@@ -142,20 +150,14 @@ impl Case {
 
     /// Reads a line `NAME TEXT`, of a deck.
     pub(crate) fn read_deck(&mut self, alloc: Global, line: &[u8]) -> Result<(), CaseFault> {
-        let (name, deck) = split_word(line);
-        self.decks
-            .push((text(alloc, name)?, Bytes::of(alloc, deck)?))?;
         self.open = Open::Deck;
-        Ok(())
+        add_named(&mut self.decks, alloc, line)
     }
 
     /// Reads a line `NAME TEXT`, of a source.
     pub(crate) fn read_source(&mut self, alloc: Global, line: &[u8]) -> Result<(), CaseFault> {
-        let (name, source) = split_word(line);
-        self.pages
-            .push((text(alloc, name)?, Bytes::of(alloc, source)?))?;
         self.open = Open::Source;
-        Ok(())
+        add_named(&mut self.pages, alloc, line)
     }
 
     /// Reads a further line of a deck, without the blanks before it, or of a source.

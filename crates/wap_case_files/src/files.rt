@@ -1,25 +1,33 @@
 //! How files of cases are played.
 use crate::Runs;
-use crate::playing::play_all;
+use crate::playing::{Played, play_all};
 use std::io::Read;
 use std::process::ExitCode;
 use std::rt::{Env, Files};
 use std::{env, fs};
 use wap_casebook::Tally;
 
-/// Plays the cases of these lines, tells of those that differ, counts them, and answers whether
-/// there are some; or nothing where memory runs out or what is to be told can't be printed.
+/// Tells of the cases of a file that differ, counts them, and answers whether there are some; or
+/// nothing where memory ran out or what is to be told can't be printed.
+fn tell<R: Print>(rt: &R, all: &Played, file: &str) -> Option<bool> {
+    let told = all.told.as_str();
+    let Tally { played, differing } = all.tally;
+    println!(rt; "{told}{file}: {played} cases, {differing} differ").ok()?;
+    if all.is_full {
+        None
+    } else {
+        Some(differing > 0)
+    }
+}
+
+/// Plays the cases of these lines, and tells of them.
 fn play_lines<R: Print + AllocGlobal, P: Runs<R>>(
     rt: &R,
     runs: &P,
     file: &str,
     lines: &[u8],
 ) -> Option<bool> {
-    let played = play_all(rt, rt.alloc(), runs, lines).ok()?;
-    let told = played.told.as_str();
-    let Tally { played, differing } = played.tally;
-    println!(rt; "{told}{file}: {played} cases, {differing} differ").ok()?;
-    Some(differing > 0)
+    tell(rt, &play_all(rt, rt.alloc(), runs, lines), file)
 }
 
 /// Plays the cases of standard input.
@@ -29,21 +37,39 @@ fn play_input<R: Input + Print + AllocGlobal, P: Runs<R>>(rt: &R, runs: &P) -> O
     play_lines(rt, runs, "standard input", lines.as_slice())
 }
 
-/// Plays the files that the words of the program name, if any is, or else standard input.
-fn play_files<R: Input + Files + Env + Print + AllocGlobal, P: Runs<R>>(
+/// Plays the cases of a file.
+fn play_file<R: Files + Print + AllocGlobal, P: Runs<R>>(
     rt: &R,
     runs: &P,
+    file: &str,
 ) -> Option<bool> {
-    let mut differs = None;
-    for file in env::args(rt).ok()?.skip(1) {
-        let lines = fs::read_to_string(rt, file.as_str()).ok()?;
-        let differing = play_lines(rt, runs, file.as_str(), lines.as_bytes())?;
-        differs = Some(differing || differs.unwrap_or(false));
-    }
+    let lines = fs::read_to_string(rt, file).ok()?;
+    play_lines(rt, runs, file, lines.as_bytes())
+}
+
+/// The status of what was played: 1 where cases differ, and 2 where not all could be played.
+fn status_of(differs: Option<bool>) -> u8 {
     match differs {
-        Some(differs) => Some(differs),
-        None => play_input(rt, runs),
+        Some(false) => 0,
+        Some(true) => 1,
+        None => 2,
     }
+}
+
+/// Plays the files that the words of the program name, if any is, and gives the greatest status.
+fn play_files<R: Files + Env + Print + AllocGlobal, P: Runs<R>>(rt: &R, runs: &P) -> Option<u8> {
+    let Ok(words) = env::args(rt) else {
+        return Some(2);
+    };
+    let mut greatest = None;
+    for file in words.skip(1) {
+        let status = status_of(play_file(rt, runs, file.as_str()));
+        greatest = Some(match greatest {
+            Some(before) if before > status => before,
+            _ => status,
+        });
+    }
+    greatest
 }
 
 /// Plays the cases of the files that the words of the program name, or without any of standard
@@ -54,8 +80,7 @@ pub fn play_cases<R: Input + Files + Env + Print + AllocGlobal, P: Runs<R>>(
     runs: &P,
 ) -> ExitCode {
     match play_files(rt, runs) {
-        Some(false) => ExitCode::from(0),
-        Some(true) => ExitCode::from(1),
-        None => ExitCode::from(2),
+        Some(status) => ExitCode::from(status),
+        None => ExitCode::from(status_of(play_input(rt, runs))),
     }
 }

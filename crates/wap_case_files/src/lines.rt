@@ -26,8 +26,8 @@ enum Line {
 /// What lines begin with.
 static LINES: [(&str, Line); 24] = [
     ("case", Line::Case),
-    ("page", Line::Page),
     ("pages", Line::Pages),
+    ("page", Line::Page),
     ("deck", Line::Deck),
     ("word", Line::Word),
     ("argument", Line::Argument),
@@ -54,11 +54,11 @@ static LINES: [(&str, Line); 24] = [
 
 /// What stands after the words that a line begins with, where they are these.
 fn rest_behind<'a>(words: &str, line: &'a [u8]) -> Option<&'a [u8]> {
-    match line.strip_prefix(words.as_bytes())? {
-        [] => Some(b""),
-        [b' ', rest @ ..] => Some(rest),
-        _ => None,
+    let rest = line.strip_prefix(words.as_bytes())?;
+    if rest.is_empty() {
+        return Some(rest);
     }
+    rest.strip_prefix(b" ")
 }
 
 /// What a line says, and what stands after the words that say it.

@@ -57,11 +57,12 @@ fn differences<R, P: Runs<R>>(
     Ok(differences)
 }
 
-/// What is told of the cases that were played, and how many they are.
+/// What is told of the cases that were played, how many they are, and whether memory ran out.
 #[derive(Drop)]
 pub struct Played {
     pub tally: Tally,
     pub told: String,
+    pub is_full: bool,
 }
 
 impl Played {
@@ -75,44 +76,76 @@ impl Played {
         self.told.push_str(differences)
     }
 
-    /// Plays a case whose lines are read, if it has any.
-    fn play<R, P: Runs<R>>(
+    /// Plays a case that has lines.
+    fn play_begun<R, P: Runs<R>>(
         &mut self,
         rt: &R,
         alloc: Global,
         runs: &P,
-        case: &mut Case,
+        case: &Case,
     ) -> Result<(), AllocError> {
-        if !case.is_begun {
-            return Ok(());
-        }
-        case.end(alloc);
         let differences = differences(rt, alloc, runs, case)?;
         self.add(alloc, case, differences.as_str())
+    }
+
+    /// Plays a case that was read, if it has lines, with its decks as pages.
+    fn play<R, P: Runs<R>>(&mut self, rt: &R, alloc: Global, runs: &P, case: &mut Case) {
+        if !case.is_begun {
+            return;
+        }
+        case.end(alloc);
+        if self.play_begun(rt, alloc, runs, case).is_err() {
+            self.is_full = true;
+        }
+    }
+}
+
+/// The case whose lines are read, and the pieces before it.
+#[derive(Drop)]
+struct Reading {
+    case: Case,
+    pieces: Pieces,
+}
+
+impl Reading {
+    /// Plays the case that was read, and begins with the next.
+    fn end<R, P: Runs<R>>(&mut self, played: &mut Played, rt: &R, alloc: Global, runs: &P) {
+        played.play(rt, alloc, runs, &mut self.case);
+        self.case = Case::new(alloc);
+    }
+
+    /// Takes the next line, an empty one as the end of a case.
+    fn take<R, P: Runs<R>>(
+        &mut self,
+        played: &mut Played,
+        rt: &R,
+        alloc: Global,
+        runs: &P,
+        line: (&[u8], usize),
+    ) {
+        let (line, number) = line;
+        if line.is_empty() {
+            self.end(played, rt, alloc, runs);
+        } else {
+            read(&mut self.case, alloc, &mut self.pieces, line, number);
+        }
     }
 }
 
 /// Plays the cases of these lines, counts them, and tells of those that differ.
-pub fn play_all<R, P: Runs<R>>(
-    rt: &R,
-    alloc: Global,
-    runs: &P,
-    lines: &[u8],
-) -> Result<Played, AllocError> {
+pub fn play_all<R, P: Runs<R>>(rt: &R, alloc: Global, runs: &P, lines: &[u8]) -> Played {
     let mut played = Played {
         tally: Tally::default(),
         told: String::new(alloc),
+        is_full: false,
     };
-    let mut case = Case::new(alloc);
-    let mut pieces = Pieces::new(alloc);
+    let mut reading = Reading {
+        case: Case::new(alloc),
+        pieces: Pieces::new(alloc),
+    };
     for (at, line) in lines.split(|byte| *byte == b'\n').enumerate() {
-        if !line.is_empty() {
-            read(&mut case, alloc, &mut pieces, line, at.saturating_add(1));
-            continue;
-        }
-        played.play(rt, alloc, runs, &mut case)?;
-        case = Case::new(alloc);
+        reading.take(&mut played, rt, alloc, runs, (line, at.saturating_add(1)));
     }
-    played.play(rt, alloc, runs, &mut case)?;
-    Ok(played)
+    reading.end(&mut played, rt, alloc, runs);
+    played
 }

@@ -311,6 +311,16 @@ impl Writer {
             Place::End => self.take_end(byte, &[END]),
         }
     }
+
+    /// Takes all bytes of a text, and ends the document.
+    fn write(&mut self, text: &[u8]) -> Result<(), CaseFault> {
+        for byte in text {
+            self.take(*byte)?;
+        }
+        self.write_text()?;
+        self.out.push(END)?;
+        Ok(())
+    }
 }
 
 /// The bytes of the document whose root has this content, as a text of WML: elements, attributes in
@@ -324,10 +334,6 @@ pub fn deck_bytes(alloc: Global, text: &[u8]) -> Result<Bytes, CaseFault> {
         read: Bytes::new(alloc),
         attribute: None,
     };
-    for byte in text {
-        writer.take(*byte)?;
-    }
-    writer.write_text()?;
-    writer.out.push(END)?;
+    writer.write(text)?;
     Ok(writer.out)
 }
