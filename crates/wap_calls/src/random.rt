@@ -114,20 +114,26 @@ fn any_forms(alloc: Global, numbers: &mut Numbers) -> Result<Vec<Form>, CaseFaul
     Ok(forms)
 }
 
+/// Places a list, and answers whether its code splits into it.
+fn is_read_back(alloc: Global, numbers: &mut Numbers) -> Result<bool, CaseFault> {
+    let forms = any_forms(alloc, numbers)?;
+    match code_of(alloc, forms.as_slice())? {
+        Ok(code) => splits(alloc, forms.as_slice(), code.as_slice()),
+        Err(_) => Ok(false),
+    }
+}
+
 /// Places so many lists, and gives how many of their codes split into them.
 pub fn play(call: &mut Call) -> Result<(), CaseFault> {
     let mut numbers = Numbers {
         last: call.number32(),
     };
-    let mut right = 0u64;
+    let mut right: usize = 0;
     for _ in 0..call.count() {
-        let forms = any_forms(call.alloc(), &mut numbers)?;
-        if let Ok(code) = code_of(call.alloc(), forms.as_slice())? {
-            if splits(call.alloc(), forms.as_slice(), code.as_slice())? {
-                right = right.saturating_add(1);
-            }
+        if is_read_back(call.alloc(), &mut numbers)? {
+            right = right.saturating_add(1);
         }
     }
-    call.give_number(i64::try_from(right).unwrap_or(i64::MAX));
+    call.give_count(right);
     Ok(())
 }

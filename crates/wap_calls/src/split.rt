@@ -15,31 +15,40 @@ struct Part {
     instr: Option<Instr>,
 }
 
+/// The part for a form at a place of code, if that has an instruction there or needs none.
+fn part_at(form: Form, code: &[u8], at: usize) -> Option<Part> {
+    if let Form::Label(_) = form {
+        return Some(Part {
+            form,
+            at,
+            instr: None,
+        });
+    }
+    if at >= code.len() {
+        return None;
+    }
+    match next_instr(code, at) {
+        Ok(instr) => Some(Part {
+            form,
+            at,
+            instr: Some(instr),
+        }),
+        Err(_) => None,
+    }
+}
+
 /// The parts of code, if it has as many instructions as the forms.
 fn parts(alloc: Global, forms: &[Form], code: &[u8]) -> Result<Option<Vec<Part>>, CaseFault> {
     let mut parts = Vec::new(alloc);
     let mut at = 0;
     for form in forms {
-        if let Form::Label(_) = form {
-            parts.push(Part {
-                form: *form,
-                at,
-                instr: None,
-            })?;
-            continue;
-        }
-        if at >= code.len() {
-            return Ok(None);
-        }
-        let Ok(instr) = next_instr(code, at) else {
+        let Some(part) = part_at(*form, code, at) else {
             return Ok(None);
         };
-        parts.push(Part {
-            form: *form,
-            at,
-            instr: Some(instr),
-        })?;
-        at = instr.next;
+        if let Some(instr) = part.instr {
+            at = instr.next;
+        }
+        parts.push(part)?;
     }
     Ok(if at == code.len() { Some(parts) } else { None })
 }
