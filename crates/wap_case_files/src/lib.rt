@@ -5,7 +5,6 @@
 
 mod case;
 mod devices;
-mod files;
 mod lines;
 mod memory;
 mod outcome;
@@ -15,6 +14,5 @@ mod wanted;
 mod wml;
 
 pub use case::Case;
-pub use files::play_cases;
 pub use outcome::Outcome;
-pub use playing::Runs;
+pub use playing::{Played, Reading};

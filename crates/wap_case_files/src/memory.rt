@@ -25,6 +25,14 @@ fn copy_pages(alloc: Global, pages: &[(Text, Bytes)]) -> Result<Vec<(Text, Bytes
 }
 
 impl Case {
+    /// How many bytes at a time its source gives, in one run each; or why it can't be played.
+    pub fn pieces(&self, alloc: Global) -> Result<Vec<u64>, CaseFault> {
+        match self.fault {
+            Some((_, fault)) => Err(fault),
+            None => Ok(self.devices.pieces(alloc)?),
+        }
+    }
+
     /// Its pages as a store.
     pub fn store(&self, alloc: Global) -> Result<MemStore, CaseFault> {
         let pages = copy_pages(alloc, self.pages.as_slice())?;

@@ -116,16 +116,19 @@ fn add_ending(
     }
 }
 
-/// Appends in what a run differs from what is wanted, in whole lines; nothing where it doesn't.
-pub fn add_differences(
-    out: &mut String,
-    alloc: Global,
-    wanted: &Wanted,
-    came: &Outcome,
-) -> Result<(), AllocError> {
-    add_ending(out, alloc, wanted, came)?;
-    add_shown(out, alloc, wanted.shown.as_slice(), came.shown.as_slice())?;
-    add_devices(out, wanted, came)
+impl Case {
+    /// Appends in what a run differs from what is wanted, in whole lines; nothing where it doesn't.
+    pub fn add_differences(
+        &self,
+        out: &mut String,
+        alloc: Global,
+        came: &Outcome,
+    ) -> Result<(), AllocError> {
+        let wanted = &self.wanted;
+        add_ending(out, alloc, wanted, came)?;
+        add_shown(out, alloc, wanted.shown.as_slice(), came.shown.as_slice())?;
+        add_devices(out, wanted, came)
+    }
 }
 
 /// Appends the name of a case and where it stands.

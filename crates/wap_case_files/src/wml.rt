@@ -106,7 +106,8 @@ fn entity(name: &[u8]) -> Option<u8> {
     }
 }
 
-/// The part that a text begins with, and what follows it.
+/// The part that a text begins with, and what follows it. A `&` that begins no character's name is
+/// a byte as any other.
 fn split_part(text: &[u8]) -> Option<(Part<'_>, &[u8])> {
     match text {
         [] => None,
@@ -116,8 +117,11 @@ fn split_part(text: &[u8]) -> Option<(Part<'_>, &[u8])> {
             Some((Part::Variable(variable), rest))
         }
         [b'&', rest @ ..] => {
-            let (name, rest) = split_by(b';', rest);
-            Some((Part::Byte(entity(name)?), rest))
+            let (name, after) = split_by(b';', rest);
+            match entity(name) {
+                Some(byte) => Some((Part::Byte(byte), after)),
+                None => Some((Part::Byte(b'&'), rest)),
+            }
         }
         [byte, rest @ ..] => Some((Part::Byte(*byte), rest)),
     }

@@ -3,14 +3,14 @@
 //! input.
 #![tactic(auto)]
 
+mod files;
 mod runs;
 mod threads;
 
-use runs::Program;
+use files::play_cases;
 use std::process::ExitCode;
-use wap_case_files::play_cases;
 
 fn main(rt: HostRuntime) -> ExitCode {
     threads::all_cross();
-    play_cases(&rt, &Program)
+    play_cases(&rt)
 }

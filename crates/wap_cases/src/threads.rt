@@ -5,6 +5,7 @@ use wap_cli::Status;
 use wap_good::GoodDeck;
 use wap_inbox::Inbox;
 use wap_layout::{Flow, Mode};
+use wap_lines::Lines;
 use wap_markup::{Attr, Deck, Document, Element, Kid, Piece, Token};
 use wap_mask::{Class, Mask, Symbol};
 use wap_push::{Indication, PushFault};
@@ -28,6 +29,7 @@ fn documents_cross() {
 
 fn cards_cross() {
     crosses::<Flow>();
+    crosses::<Lines>();
     crosses::<Mode>();
     crosses::<Mask>();
     crosses::<Symbol>();
