@@ -55,7 +55,7 @@ impl Charset {
     }
 }
 
-/// Whether all bytes are of US-ASCII. None ends the loop, so that many are looked at in one step.
+/// Whether all bytes are of US-ASCII. No byte ends the loop, so many are looked at in one step.
 fn is_ascii(bytes: &[u8]) -> bool
     ensures { result ≡ list_all is_ascii bytes.now }
 {

@@ -8,7 +8,7 @@ use Rattle.std.specs.Bool.{Decides, one_answer}
 use Rattle.std.specs.Cmp.Lexicographic.{bytes_decides}
 use Rattle.std.proofs.lemmas.Bool.{cases_Bool}
 use Rattle.std.proofs.lemmas.List.{append-nil, append_cancel_left, length-append}
-use Rattle.std.proofs.lemmas.Str.{chars-encodes, encode_same, encodes-append}
+use Rattle.std.proofs.lemmas.Str.{encodes-chars, encode_same, encodes-append}
 use Rattle.std.proofs.lemmas.Str.{length-encode, len_utf8_bounds}
 use lib.Utf8.{encode}
 use Rattle.wap_base.specs.Texts.{is_same_text}
@@ -96,10 +96,6 @@ variable_none name conv bytes parts = refl
 
 -- ---- what follows a part
 
-pub bytes_again : (bytes : List ℕ) → IsUtf8 bytes → encode_utf8_all (chars bytes) ≡ bytes
-bytes_again bytes of =
-    ap encode_utf8_all (ap chars (sym of.1.1) ∙ chars-encodes of.0 of.1.0) ∙ of.1.1
-
 strips : (part front bytes : List ℕ) (result : Option (Bor (List ℕ))) → encode_utf8_all part ≡ front
     → MatchOption result ((rest : List ℕ) → bytes ≢ front ++ rest) (λ x. bytes ≡ front ++ x.now)
     → TakesPart (Lit part) bytes result
@@ -111,7 +107,7 @@ pub slice_taken : (front bytes : List ℕ) (result : Option (Bor (List ℕ))) �
     → MatchOption result ((rest : List ℕ) → bytes ≢ front ++ rest) (λ x. bytes ≡ front ++ x.now)
     → TakesPart (Lit (chars front)) bytes result
 slice_taken front bytes result utf8 is =
-    strips (chars front) front bytes result (bytes_again front utf8) is
+    strips (chars front) front bytes result (encodes-chars front utf8) is
 
 -- ---- a turn
 
