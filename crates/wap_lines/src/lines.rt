@@ -5,17 +5,22 @@ ghost use Rattle.wap_base.specs.Ascii.{line_feed};
 ghost use Rattle.wap_lines.specs.Written.{lines_bytes};
 
 use crate::EachLine;
+use smallvec::SmallVec;
 use std::alloc::Global;
 use std::marker::Model;
 use wap_base::NoMemory;
+
+/// How many bytes are written without memory of their own, so that the line of a key that does
+/// nothing takes none.
+const FEW: usize = 24;
 
 /// Lines in order. A contract sees the list of them, each as the list of its characters; inside
 /// they are written one after the other in UTF-8, each with a line feed, and their lengths in bytes
 /// stand beside that.
 #[derive(Debug, Drop)]
 pub struct Lines {
-    written: Vec<u8>,
-    lengths: Vec<usize>,
+    written: SmallVec<u8, FEW>,
+    lengths: SmallVec<usize, 1>,
 }
 
 impl Model for Lines {
@@ -30,7 +35,7 @@ impl Model for Lines {
 }
 
 /// Writes a line and a line feed. When out of memory some of it may be written.
-fn write_line(written: &mut Vec<u8>, line: &str) -> Result<(), NoMemory>
+fn write_line(written: &mut SmallVec<u8, FEW>, line: &str) -> Result<(), NoMemory>
     ensures ok { OnOk result
         (written.new.items ≡ written.old.items ++ (line.now ++ line_feed ∷ [])) }
     ensures kept { take (length written.old.items) written.new.items ≡ written.old.items }
@@ -47,8 +52,8 @@ impl Lines {
         ensures { result ≡ [] }
     {
         Lines {
-            written: Vec::new(alloc),
-            lengths: Vec::new(alloc),
+            written: SmallVec::new(alloc),
+            lengths: SmallVec::new(alloc),
         }
     }
 

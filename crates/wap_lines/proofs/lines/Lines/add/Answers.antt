@@ -8,7 +8,7 @@ pub invariant_of-self-in-Ok : goal.invariant_of-self-in-Ok
 invariant_of-self-in-Ok c =
     let own = c.self.inside in
     let line = c.args.line.now in
-    subst₂ AreLines (sym c.in-Ok.ensures.ok) (sym c.in_ok-push.ensures.items)
+    subst₂ AreLines (sym c.in-Ok.ensures.ok) (sym c.in_ok-push.ensures.ok)
     (are_more_lines own.written.items (line ++ line_feed ∷ []) own.lengths.items
     (length line ∷ []) c.self.invariant (is_one line c.utf8.line))
 
@@ -16,7 +16,7 @@ pub returns-in-Ok-clause-ok : goal.returns-in-Ok-clause-ok
 returns-in-Ok-clause-ok c =
     let own = c.self.inside in
     let line = c.args.line.now in
-    ap₂ lines_at c.in-Ok.ensures.ok c.in_ok-push.ensures.items
+    ap₂ lines_at c.in-Ok.ensures.ok c.in_ok-push.ensures.ok
     ∙ more_lines own.written.items (line ++ line_feed ∷ []) own.lengths.items
     (length line ∷ []) c.self.invariant
     ∙ ap₂ (λ a b. a ++ b) c.self.view_is (line_at line)

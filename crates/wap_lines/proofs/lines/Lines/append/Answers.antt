@@ -8,10 +8,10 @@ invariant_of-self-in-Ok c =
     let own = c.self.inside in
     let more = c.more.inside in
     let written : c.extend_from_slice.new.self.items ≡ own.written.items ++ more.written.items =
-    c.in_ok-extend_from_slice.ensures.items
-    ∙ ap (λ l. own.written.items ++ l) c.as_slice.ensures.value in
+    c.in_ok-extend_from_slice.ensures.ok
+    ∙ ap (λ l. own.written.items ++ l) c.as_slice.ensures in
     let lengths : c.extend_from_slice-2.new.self.items ≡ own.lengths.items ++ more.lengths.items =
-    c.in-Ok.ensures.items ∙ ap (λ l. own.lengths.items ++ l) c.as_slice-2.ensures.value in
+    c.in-Ok.ensures.ok ∙ ap (λ l. own.lengths.items ++ l) c.as_slice-2.ensures in
     subst₂ AreLines (sym written) (sym lengths)
     (are_more_lines own.written.items more.written.items own.lengths.items more.lengths.items
     c.self.invariant c.more.invariant)
@@ -21,10 +21,10 @@ returns-in-Ok-clause-ok c =
     let own = c.self.inside in
     let more = c.more.inside in
     let written : c.extend_from_slice.new.self.items ≡ own.written.items ++ more.written.items =
-    c.in_ok-extend_from_slice.ensures.items
-    ∙ ap (λ l. own.written.items ++ l) c.as_slice.ensures.value in
+    c.in_ok-extend_from_slice.ensures.ok
+    ∙ ap (λ l. own.written.items ++ l) c.as_slice.ensures in
     let lengths : c.extend_from_slice-2.new.self.items ≡ own.lengths.items ++ more.lengths.items =
-    c.in-Ok.ensures.items ∙ ap (λ l. own.lengths.items ++ l) c.as_slice-2.ensures.value in
+    c.in-Ok.ensures.ok ∙ ap (λ l. own.lengths.items ++ l) c.as_slice-2.ensures in
     ap₂ lines_at written lengths
     ∙ more_lines own.written.items more.written.items own.lengths.items more.lengths.items
     c.self.invariant

@@ -5,6 +5,6 @@ use Rattle.wap_lines.proofs.lines.Lines.as_written.Goals as goal
 
 pub returns : goal.returns
 returns c =
-    c.as_slice.ensures.value
+    c.as_slice.ensures
     ∙ written_again c.self.inside.written.items c.self.inside.lengths.items c.self.invariant
     ∙ ap lines_bytes c.self.view_is
