@@ -12,6 +12,7 @@ use wap_base::{NoMemory, Text};
 
 /// The value as an Integer: 1 and 0 for the Booleans, and for a String the number that it spells,
 /// which is an optional sign and decimal digits and nothing else.
+#[inline(always)]
 pub fn to_int(value: &Value) -> Option<i32>
     ensures { result ≡ integer_of value.now }
 {
@@ -23,6 +24,8 @@ pub fn to_int(value: &Value) -> Option<i32>
     }
 }
 
+// A call, so that Integers are taken where they stand.
+#[inline(never)]
 #[tactic(auto, using(crate::proofs::Reading::spelled_is_read))]
 fn spelled_integer(text: &Text) -> Option<i32>
     ensures { result ≡ integer_of_text text.now }

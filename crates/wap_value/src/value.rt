@@ -16,6 +16,7 @@ pub enum Value {
 
 impl Value {
     /// A copy of the value.
+    #[inline(always)]
     pub fn copy(&self, alloc: Global) -> Result<Value, NoMemory>
         ensures { IfOk result (λ copy. copy ≡ self.now) }
     {
