@@ -86,33 +86,7 @@ use Rattle.wap_execution.specs.declared.action.Action.TheVariants.{
 }
 use Rattle.wap_execution.specs.Actions.{action_of}
 use Rattle.wap_execution.specs.Frames.{Function, Frame, code_at, code_of, constant_of, constant_at}
-use Rattle.wap_execution.specs.Effects.{
-  Called,
-  local,
-  library,
-  external,
-  Effect,
-  onward,
-  back,
-  calls,
-  stuck,
-  with_top,
-  with_kept,
-  with_arguments,
-  with_count,
-  jumps_at,
-  stored,
-  effect_of,
-  is_decided,
-  decided,
-  is_jump_unless,
-  pair_with,
-  pair_by,
-  effect_read,
-  effect_with,
-  effect_by,
-  effect_at,
-}
+use Rattle.wap_execution.specs.Effects.{Called, local, library, external, Effect, onward, back, calls, with_top, with_kept, with_arguments, with_count, jumps_at, stored, effect_of, is_decided, decided, is_jump_unless, pair_with, pair_by, effect_read, effect_with, effect_by, effect_at}
 use Rattle.wap_execution.specs.Running.{at_place}
 use Rattle.wap_frames.specs.declared.next.Next.{Next}
 use Rattle.wap_frames.specs.declared.next.Next.TheVariants.{Onward, Back, Call}

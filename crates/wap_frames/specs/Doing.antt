@@ -1,7 +1,8 @@
 -- What was done to a frame, by the effect of its instruction. This project's own.
-use Rattle.std.specs.Prelude.{⊤, ◌≡◌, ◌≢◌, ℕ, ◌<◌, length}
+use Rattle.std.specs.Prelude.{⊤, ◌≡◌, ◌≢◌, ℕ, ◌<◌, [], length}
+use Rattle.wap_value.specs.declared.value.Value.TheVariants.{Str}
 use Rattle.wap_execution.specs.declared.fatal.Fatal.TheVariants.{Budget}
-use Rattle.wap_execution.specs.Frames.{Function, Frame}
+use Rattle.wap_execution.specs.Frames.{Function, Frame, code_of}
 use Rattle.wap_execution.specs.Effects.{Effect, effect_at}
 use Rattle.wap_frames.specs.declared.next.Callee.{Callee}
 use Rattle.wap_frames.specs.declared.next.Callee.TheVariants.{Local, Library, External}
@@ -35,6 +36,13 @@ pub record Does (effect : Effect) (function : Function) (after : Frame) (next : 
 pub record Acts (string : ℕ) (before after : Frame) (next : Next) : Type 0 where
   pub does : Does (effect_at string before) before.function after next
   pub fits : Fits before (effect_after next after)
+
+-- at its end a function gives the empty String, and before it its instruction is done
+pub data EndsOrActs (string : ℕ) (before after : Frame) (next : Next) : Type 0 where
+  has_ended : before.place ≡ length (code_of before.function) → next ≡ Return (Str [])
+      → EndsOrActs string before after next
+  has_acted : before.place < length (code_of before.function) → Acts string before after next
+      → EndsOrActs string before after next
 
 -- where what is to be done goes on, the frame stands
 abbrev pub StandsFor : Frame → Next → Type 0

@@ -1,6 +1,6 @@
 //! Functions at work.
 ghost use Rattle.std.specs.Prelude.{◌≡◌, [], ◌++◌, replicate, ◌+◌, ◌<◌, ◌≤◌, length, take, drop};
-ghost use Rattle.std.specs.Prelude.{reverse, slice_get, Some, IsTrue, ◌↔◌, IfOk, OnOk, OnErr};
+ghost use Rattle.std.specs.Prelude.{reverse, slice_get, Some, IfOk, OnOk, OnErr};
 ghost use Rattle.std.specs.Prelude.{MatchOption};
 ghost use Rattle.wap_execution.specs.Frames.{code_of, pushed};
 ghost use Rattle.wap_base.specs.Limits.{IsStringLimit};
@@ -78,13 +78,6 @@ impl Frame {
         ensures { function_of result.now self.now.function.index ≡ self.now.function }
     {
         &self.script
-    }
-
-    /// Whether the function has come to its end.
-    pub fn is_at_end(&self) -> bool
-        ensures { IsTrue result ↔ (self.now.place ≡ length (code_of self.now.function)) }
-    {
-        self.place() == self.code().len()
     }
 
     /// Puts a value on top.

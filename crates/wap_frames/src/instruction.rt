@@ -72,13 +72,13 @@ pub(crate) fn action_of(operation: OpName) -> Action
     }
 }
 
-/// What stands where a frame goes on.
-pub(crate) fn instruction(frame: &Frame) -> (Action, Instr)
+/// What stands where a frame goes on in its code.
+pub(crate) fn instruction(frame: &Frame, code: &[u8]) -> (Action, Instr)
+    requires code { code.now ≡ code_of frame.now.function }
     requires stands { Stands frame.now 0 }
     requires within { frame.now.place < length (code_of frame.now.function) }
     ensures { IsInstruction frame.now result.0 result.1 }
 {
-    let code = frame.code();
     let place = frame.place();
     let Some(row) = row_of(code[place]) else {
         unreachable!()

@@ -5,7 +5,7 @@ ghost use Rattle.wap_execution.specs.Frames.{code_of};
 ghost use Rattle.wap_execution.specs.Effects.{effect_read};
 ghost use Rattle.wap_frames.specs.Seen.{with_operands};
 ghost use Rattle.wap_frames.specs.Standing.{Stands, Fits};
-ghost use Rattle.wap_frames.specs.Doing.{Acts};
+ghost use Rattle.wap_frames.specs.Doing.{EndsOrActs, StandsFor};
 ghost use Rattle.wap_frames.specs.inside.Parts.{IsSmall, IsDone};
 
 use crate::acting::{
@@ -71,15 +71,19 @@ fn perform(
     }
 }
 
-/// Does the instruction where a frame goes on. When out of memory operands may be gone, and the
-/// rest of the frame stays.
+/// Does the instruction where a frame goes on; at its end a function gives the empty String. When
+/// out of memory operands may be gone, and the rest of the frame stays.
 pub fn act(alloc: Global, frame: &mut Frame, string: u32) -> Result<Next, NoMemory>
     requires limit { IsStringLimit string }
     requires stands { Stands frame.old 0 }
-    requires within { frame.old.place < length (code_of frame.old.function) }
-    ensures acts { IfOk result (Acts string frame.old frame.new) }
+    ensures acts { IfOk result (EndsOrActs string frame.old frame.new) }
+    ensures stands { IfOk result (StandsFor frame.new) }
     ensures left { OnErr result (frame.new ≡ with_operands frame.new.operands frame.old) }
 {
-    let (action, instr) = instruction(frame);
+    let code = frame.code();
+    if frame.place() == code.len() {
+        return Ok(Next::Return(Value::Str(Text::new(alloc))));
+    }
+    let (action, instr) = instruction(frame, code);
     perform(alloc, frame, action, instr, string)
 }

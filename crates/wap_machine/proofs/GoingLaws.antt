@@ -14,7 +14,7 @@ use Rattle.wap_execution_laws.proofs.FrameLaws.{goes_onward}
 use Rattle.wap_frames.specs.declared.next.Callee.{Callee}
 use Rattle.wap_frames.specs.Seen.{called_of}
 use Rattle.wap_frames.specs.declared.next.Next.TheVariants.{Onward}
-use Rattle.wap_frames.specs.Doing.{Acts}
+use Rattle.wap_frames.specs.Doing.{Acts, EndsOrActs, has_ended, has_acted}
 use Rattle.wap_frames.proofs.Ready.{stands_for}
 use Rattle.wap_machine.specs.declared.machine.Step.{Step}
 use Rattle.wap_machine.specs.declared.machine.Step.TheVariants.{Goes, Ends}
@@ -25,7 +25,7 @@ use Rattle.wap_machine.specs.Stacks.{Stack}
 use Rattle.wap_machine.specs.Hosts.{Fetches}
 use Rattle.wap_machine.specs.inside.Weights.{weight}
 use Rattle.wap_machine.specs.inside.Efforts.{effort, GoesBelow}
-use Rattle.wap_machine.specs.inside.Goings.{HasPassed, Passed}
+use Rattle.wap_machine.specs.inside.Goings.{GoesOn, HasPassed, Passed}
 use Rattle.wap_machine.specs.inside.Advances.{IsAdvanced}
 use Rattle.wap_machine.specs.inside.Steps.{rest, Same, calls_from}
 use Rattle.wap_machine.proofs.StepLaws.{
@@ -42,6 +42,12 @@ use Rattle.wap_machine.proofs.StepLaws.{
   turn_kept as last_turn_kept,
   call_kept as last_call_kept,
 }
+
+-- where a frame goes on, an instruction was done
+pub went_on : (string : ℕ) (now after : Frame) → EndsOrActs string now after Onward
+    → GoesOn string now after
+went_on string now after (has_acted within acts) = record { within = within; acts = acts }
+went_on string now after (has_ended place gives_empty) = absurd (cc gives_empty)
 
 -- one more instruction
 pub passed_more : (string : ℕ) (first now after : Frame) → Passed string first now

@@ -6,9 +6,8 @@ ghost use Rattle.wap_frames.specs.Doing.{StandsFor};
 ghost use Rattle.wap_machine.specs.inside.Goings.{HasGone};
 
 use std::alloc::Global;
-use wap_base::{NoMemory, Text};
+use wap_base::NoMemory;
 use wap_frames::{Frame, Next, act};
-use wap_value::Value;
 
 /// Does instructions up to one after which the frame doesn't simply go on further on. A function
 /// that comes to its end gives the empty String.
@@ -19,9 +18,6 @@ pub(crate) fn go_on(alloc: Global, frame: &mut Frame, string: u32) -> Result<Nex
     ensures stands { IfOk result (StandsFor frame.new) }
 {
     loop {
-        if frame.is_at_end() {
-            return Ok(Next::Return(Value::Str(Text::new(alloc))));
-        }
         match act(alloc, frame, string)? {
             Next::Onward => {}
             next => return Ok(next),

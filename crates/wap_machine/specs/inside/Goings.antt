@@ -1,11 +1,10 @@
 -- Instructions of a frame, one after the other. This carries proofs alone.
 use Rattle.std.specs.Prelude.{◌≡◌, ℕ, ◌<◌, List, [], ◌∷◌, length}
-use Rattle.wap_value.specs.declared.value.Value.TheVariants.{Str}
 use Rattle.wap_execution.specs.Frames.{Frame, code_of}
 use Rattle.wap_frames.specs.declared.next.Next.{Next}
-use Rattle.wap_frames.specs.declared.next.Next.TheVariants.{Onward, Return}
+use Rattle.wap_frames.specs.declared.next.Next.TheVariants.{Onward}
 use Rattle.wap_frames.specs.Standing.{Stands}
-use Rattle.wap_frames.specs.Doing.{Acts}
+use Rattle.wap_frames.specs.Doing.{Acts, EndsOrActs}
 
 -- an instruction was done, after which the frame goes on further on
 pub record GoesOn (string : ℕ) (frame after : Frame) : Type 0 where
@@ -24,14 +23,8 @@ pub record Passed (string : ℕ) (first now : Frame) : Type 0 where
   pub are : HasPassed string first frames now
   pub stands : Stands now 0
 
--- at its end the function gives "", and else an instruction is done
-pub data IsLast (string : ℕ) (frame after : Frame) (next : Next) : Type 0 where
-  ends : frame.place ≡ length (code_of frame.function) → next ≡ Return (Str [])
-      → IsLast string frame after next
-  does : frame.place < length (code_of frame.function) → Acts string frame after next
-      → IsLast string frame after next
-
+-- after some such instructions the function ends, or another one is done
 pub record HasGone (string : ℕ) (before after : Frame) (next : Next) : Type 0 where
   pub now : Frame
   pub passed : Passed string before now
-  pub last : IsLast string now after next
+  pub last : EndsOrActs string now after next

@@ -2,20 +2,20 @@ use Rattle.std.proofs.Common.{◌≡◌, List, ◌∷◌, reverse, refl, ap, sub
 use Rattle.wap_base.specs.declared.limits.Limits.{Limits}
 use Rattle.wap_execution.specs.Frames.{Frame}
 use Rattle.wap_frames.specs.declared.next.Next.{Next}
+use Rattle.wap_frames.specs.Doing.{EndsOrActs, has_ended, has_acted}
 use Rattle.wap_machine.specs.declared.machine.Wanted.{Wanted}
 use Rattle.wap_machine.specs.Stacks.{Stack}
 use Rattle.wap_machine.specs.inside.Stacked.{AreStacked}
-use Rattle.wap_machine.specs.inside.Goings.{IsLast, ends, does}
 use Rattle.wap_machine.specs.inside.Advances.{wanted_for, HasStepped, at_end, done, IsAdvanced}
 use Rattle.wap_machine.proofs.machine.Machine.advance.Goals as goal
 
 last_step : (limits : Limits) (now new : Frame) (outer : List Frame) (next : Next) (wanted : Wanted)
-    → AreStacked limits now 0 outer → IsLast limits.string now new next
+    → AreStacked limits now 0 outer → EndsOrActs limits.string now new next
     → wanted ≡ wanted_for limits new outer next
     → HasStepped limits (now ∷ outer) wanted
-last_step limits now new outer next wanted stacked (ends place gives_empty) is =
+last_step limits now new outer next wanted stacked (has_ended place gives_empty) is =
     at_end now outer refl place (is ∙ ap (λ (n : Next). wanted_for limits new outer n) gives_empty)
-last_step limits now new outer next wanted stacked (does within acts) is =
+last_step limits now new outer next wanted stacked (has_acted within acts) is =
     done now new outer next refl stacked within acts is
 
 pub returns : goal.returns
