@@ -2,7 +2,7 @@
 ghost use Rattle.std.specs.Prelude.{◌≡◌, IfOk};
 ghost use Rattle.std.specs.Str.{chars};
 ghost use Rattle.std.specs.Option.{option_and_then, option_flatten};
-ghost use Rattle.wap_cardrules.specs.Events.{named, pick_event, bound_in};
+ghost use Rattle.wap_cardrules.specs.Events.{named, bound_in};
 ghost use Rattle.wap_cardrules.specs.Events.{template_of, binding, onpick};
 ghost use Rattle.wap_cards.specs.inside.Onevents.{is_onevent, onevent_in};
 

@@ -6,7 +6,7 @@ ghost use Rattle.wap_base.specs.Texts.{is_same_text};
 ghost use Rattle.wap_filling.specs.Filling.{value_text};
 ghost use Rattle.wap_markup.specs.Trees.{node_with, is_text, plain_value, value_of};
 ghost use Rattle.wap_markup.specs.Tasks.{is_task, task_of};
-ghost use Rattle.wap_cardrules.specs.Tasks.{pair_in, sets_in, posts_in, go_in};
+ghost use Rattle.wap_cardrules.specs.Tasks.{pair_in, sets_in, go_in};
 ghost use Rattle.wap_cardrules.specs.Tasks.{go_to, task_from, task_in};
 
 use crate::filling::fill_value;

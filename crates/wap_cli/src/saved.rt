@@ -1,6 +1,4 @@
 //! Saving a session, and going on with one that was saved, over a store.
-ghost use Rattle.std.specs.Prelude.{◌≤◌};
-ghost use Rattle.wap_pages.specs.declared.cached.TheConstants.{LEAST_CAPACITY, MOST_CAPACITY};
 ghost use Rattle.wap_words.specs.Ranges.{BrowsesInRange, ResumesInRange};
 ghost use Rattle.wap_cli.specs.Headline.{begun_by};
 ghost use Rattle.wap_cli.specs.SavedSessions.{ImagesOver, ResumesOver};

@@ -1,5 +1,4 @@
 //! Navigations, and all that they lead to.
-ghost use Rattle.std.specs.Prelude.{◌≡◌};
 ghost use Rattle.wap_context.specs.inside.Moving.{Pursues, pursued};
 
 use crate::context::Context;

@@ -1,5 +1,5 @@
 //! Scripts that run, and what follows their end (WAP-193, section 12).
-ghost use Rattle.std.specs.Prelude.{◌≡◌, None, Some, IfOk, OnOk};
+ghost use Rattle.std.specs.Prelude.{◌≡◌, None, Some, IfOk};
 ghost use Rattle.std.specs.Option.{option_map};
 ghost use Rattle.wap_base.specs.Limits.{AreInRange};
 ghost use Rattle.wap_world.specs.Steps.{then_task};

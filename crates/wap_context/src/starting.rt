@@ -1,19 +1,18 @@
 //! Starting a script (WAP-193, section 8.3).
-ghost use Rattle.std.specs.Prelude.{◌≡◌, IfOk, OnOk, ◌≤◌};
+ghost use Rattle.std.specs.Prelude.{◌≡◌, IfOk};
 ghost use Rattle.std.specs.Option.{option_and_then};
 ghost use Rattle.wap_url.specs.Printing.{without_fragment};
-ghost use Rattle.wap_world.specs.Starting.{is_too_long, not_started};
+ghost use Rattle.wap_world.specs.Starting.{is_too_long};
 ghost use Rattle.wap_frames.specs.Standing.{CanEnter};
 ghost use Rattle.wap_frames.specs.Seen.{function_in};
 ghost use Rattle.std.specs.List.{list_any};
 ghost use Rattle.wap_invocation.specs.Reading.{call_of};
 ghost use Rattle.wap_context.specs.Browsers.{IsOver, place_held};
-ghost use Rattle.wap_context.specs.inside.Starting.{start_of, start_found, CanStart, begun_with};
-ghost use Rattle.wap_context.specs.inside.Starting.{started_with, allowed_with, script_with};
+ghost use Rattle.wap_context.specs.inside.Starting.{start_of, start_found, begun_with};
+ghost use Rattle.wap_context.specs.inside.Starting.{started_with, script_with};
 ghost use Rattle.wap_context.specs.inside.Starting.{not_started_at};
 ghost use Rattle.wap_context.specs.inside.Moving.{Moves, Takes, next_in, waits_in};
 ghost use Rattle.wap_scripting.specs.Units.{external_in};
-ghost use Rattle.wap_scripting.specs.UnitSites.{shelf_of};
 ghost use Rattle.std.specs.Prelude.{None};
 
 use crate::asking::may_enter;

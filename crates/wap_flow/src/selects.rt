@@ -1,5 +1,5 @@
 //! Selects, option by option.
-ghost use Rattle.std.specs.Prelude.{◌≡◌, ◌∷◌, [], ◌++◌, map, IfOk, OnOk};
+ghost use Rattle.std.specs.Prelude.{◌≡◌, ◌∷◌, ◌++◌, map, IfOk, OnOk};
 ghost use Rattle.std.specs.List.{flat_map, filter_map, zip, enumerate_from};
 ghost use Rattle.wap_layout.specs.declared.flow.Flow.TheVariants as flows;
 ghost use Rattle.wap_markup.specs.Trees.{words_of};

@@ -1,5 +1,5 @@
 //! What shows so far.
-ghost use Rattle.std.specs.Prelude.{◌≡◌, ◌∷◌, [], ◌+◌, IfOk, OnOk};
+ghost use Rattle.std.specs.Prelude.{◌≡◌, IfOk, OnOk};
 ghost use Rattle.wap_cardrules.specs.Content.{words};
 ghost use Rattle.wap_cardrules.specs.Flow.{followed_by, with_field, with_mode, mode_of};
 ghost use Rattle.wap_cardrules.specs.Flow.{flow_behind, begun, shown_with, nothing_shown};

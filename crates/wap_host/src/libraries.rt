@@ -2,7 +2,6 @@
 ghost use Rattle.std.specs.Prelude.{◌≡◌, ◌≢◌, Some, length, IfOk};
 ghost use Rattle.std.specs.Option.{option_copied};
 ghost use Rattle.wap_code.specs.Libraries.{lib_args};
-ghost use Rattle.wap_library.specs.Outcome.{outcome};
 ghost use Rattle.wap_machine.specs.Hosts.{IsNoBudget};
 ghost use Rattle.wap_world.specs.Shelves.{Shelf};
 ghost use Rattle.wap_scripting.specs.Hosting.{pure_call, url_call, library_call, kept, within};

@@ -6,7 +6,7 @@ ghost use Rattle.wap_url.specs.Reading.{url_at};
 ghost use Rattle.wap_execution.specs.declared.library.HostOut.TheVariants as out;
 ghost use Rattle.wap_library.specs.Row.{argument};
 ghost use Rattle.wap_machine.specs.Hosts.{IsNoBudget};
-ghost use Rattle.wap_scripting.specs.Loading.{text_in, loaded, load_string};
+ghost use Rattle.wap_scripting.specs.Loading.{text_in, loaded};
 ghost use Rattle.wap_scripting.specs.Loading.{get_base, get_referer};
 ghost use Rattle.wap_scripting.specs.Hosting.{within, load_call};
 ghost use Rattle.wap_scripting.specs.UnitSites.{shelf_of};

@@ -1,5 +1,5 @@
 //! What stands around the tokens of a fragment.
-ghost use Rattle.std.specs.Prelude.{◌≡◌, ◌-◌, ℕ, take, drop};
+ghost use Rattle.std.specs.Prelude.{◌≡◌, ◌-◌, take, drop};
 ghost use Rattle.wap_invocation.specs.Calls.{are_blanks, is_spaced};
 
 use wap_lex::Token;

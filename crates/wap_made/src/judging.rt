@@ -2,7 +2,6 @@
 ghost use Rattle.std.specs.Prelude.{◌≡◌, ◌≤◌, ◌∷◌, [], if◌then◌else◌};
 ghost use Rattle.std.specs.Prelude.{IfOk, IfSome, OnOk, length};
 ghost use Rattle.wap_base.specs.Contents.{names_of};
-ghost use Rattle.wap_site.specs.Pages.{page_of};
 ghost use Rattle.wap_made.specs.Making.{is_accepted, accepted_in};
 
 use std::alloc::Global;

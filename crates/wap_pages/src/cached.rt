@@ -1,7 +1,7 @@
 //! A cache of judged pages.
 ghost use Rattle.std.specs.Prelude.{◌≡◌, ◌≤◌, [], ◌∷◌, IfOk, OnOk, IfErr, OnErr};
 ghost use Rattle.std.specs.Prelude.{IfSome, IsErrOf, IsSome, Option};
-ghost use Rattle.lru.specs.LruCache.{lru_cache, promoted, put_entries};
+ghost use Rattle.lru.specs.LruCache.{lru_cache, promoted};
 ghost use Rattle.std.specs.Map.{lookup};
 ghost use Rattle.wap_base.specs.Contents.{Contents};
 ghost use Rattle.wap_base.specs.Texts.{is_same_text};

@@ -1,5 +1,4 @@
 //! Statements (WAP-193, section 6.5).
-ghost use Rattle.std.specs.Prelude.{◌≡◌};
 ghost use Rattle.wap_base.specs.Outcome.{Meets};
 ghost use Rattle.wap_program.specs.declared.statement.Stmt.TheVariants as stmt;
 ghost use Rattle.wap_grammar.specs.declared.fault.ParseFault.TheVariants as faults;

@@ -1,5 +1,5 @@
 //! The constants that expressions need.
-ghost use Rattle.std.specs.Prelude.{◌≡◌, [], ◌∷◌, OnOk};
+ghost use Rattle.std.specs.Prelude.{[], ◌∷◌, OnOk};
 ghost use Rattle.std.specs.List.{flat_map};
 ghost use Rattle.wap_program.specs.declared.expression.Literal.TheVariants as literal;
 ghost use Rattle.wap_coding.specs.Needs.{expr_needs, literal_needs, Other};

@@ -1,5 +1,5 @@
 //! The constants that programs need.
-ghost use Rattle.std.specs.Prelude.{◌≡◌, OnOk};
+ghost use Rattle.std.specs.Prelude.{OnOk};
 ghost use Rattle.std.specs.List.{flat_map};
 ghost use Rattle.wap_pool.specs.inside.Pools.{Pools, text_needs, use_needs, function_needs, program_needs};
 

@@ -1,5 +1,5 @@
 //! The constants that statements need.
-ghost use Rattle.std.specs.Prelude.{◌≡◌, OnOk};
+ghost use Rattle.std.specs.Prelude.{OnOk};
 ghost use Rattle.std.specs.List.{flat_map};
 ghost use Rattle.wap_coding.specs.Needs.{optional_needs, declared_needs, stmt_needs};
 ghost use Rattle.wap_pool.specs.inside.Pools.{Pools};

@@ -1,5 +1,5 @@
 //! The variables that functions declare.
-ghost use Rattle.std.specs.Prelude.{◌≡◌, Bool, OnOk, IfOk, [], map};
+ghost use Rattle.std.specs.Prelude.{Bool, OnOk, IfOk, [], map};
 ghost use Rattle.std.specs.List.{flat_map};
 ghost use Rattle.wap_scope.specs.Names.{Declares, declares, mentions, said};
 ghost use Rattle.wap_pool.specs.inside.Declaring.{Declaring};

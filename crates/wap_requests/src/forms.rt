@@ -1,7 +1,5 @@
 //! Postfields as a form (WAP-191, section 9.3).
-ghost use Rattle.std.specs.Prelude.{◌≡◌, map, IfOk};
-ghost use Rattle.std.specs.List.{join_with_byte};
-ghost use Rattle.wap_base.specs.Ascii.{ampersand};
+ghost use Rattle.std.specs.Prelude.{◌≡◌, IfOk};
 ghost use Rattle.wap_world.specs.Requests.{field_text, form_text, query_before};
 
 use std::alloc::Global;

@@ -1,6 +1,5 @@
 //! The URL of a go or an open (WAP-191, section 9.5.1).
 ghost use Rattle.std.specs.Prelude.{◌≡◌, Ok, IfOk, unwrap_or};
-ghost use Rattle.std.specs.Option.{option_copied};
 ghost use Rattle.wap_url.specs.Joining.{joined};
 ghost use Rattle.wap_url.specs.Printing.{text_without_fragment};
 ghost use Rattle.wap_world.specs.Urls.{has_other_scheme, page_url, target_of, is_same_page};

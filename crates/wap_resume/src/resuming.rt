@@ -1,5 +1,5 @@
 //! The command `resume`.
-ghost use Rattle.std.specs.Prelude.{◌≡◌, ◌≤◌, ◌<◌, true, []};
+ghost use Rattle.std.specs.Prelude.{◌≤◌, ◌<◌, []};
 ghost use Rattle.wap_image.specs.Rules.{MayBeSaved};
 ghost use Rattle.wap_pages.specs.Caches.{seen_over};
 ghost use Rattle.wap_pages.specs.declared.cached.TheConstants.{LEAST_CAPACITY, MOST_CAPACITY};

@@ -1,5 +1,4 @@
 //! That the pages of a folder are judged side by side.
-ghost use Rattle.std.specs.Prelude.{◌≡◌};
 
 use crate::meeting::Meeting;
 use std::alloc::Global;

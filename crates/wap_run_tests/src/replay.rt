@@ -1,5 +1,4 @@
 //! That pages are judged, and lists of keys played, side by side.
-ghost use Rattle.std.specs.Prelude.{◌≡◌};
 
 use crate::meeting::Meeting;
 use std::alloc::Global;

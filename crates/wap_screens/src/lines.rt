@@ -1,5 +1,5 @@
 //! Lines that are shown.
-ghost use Rattle.std.specs.Prelude.{◌≡◌, ◌++◌, ◌∷◌, [], codes, IfOk, OnOk, OnErr};
+ghost use Rattle.std.specs.Prelude.{◌≡◌, ◌++◌, ◌∷◌, [], IfOk, OnOk, OnErr};
 ghost use Rattle.std.specs.Str.{chars};
 ghost use Rattle.std.specs.List.{flat_map};
 ghost use Rattle.wap_url.specs.Segments.{IsPrefix};

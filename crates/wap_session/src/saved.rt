@@ -1,5 +1,5 @@
 //! Sessions whose context is saved, and sessions that go on with one.
-ghost use Rattle.std.specs.Prelude.{◌≡◌, ◌<◌, not, ◌&&◌, is_none, None, false, if◌then◌else◌, Some};
+ghost use Rattle.std.specs.Prelude.{◌≡◌, ◌<◌, None, Some};
 ghost use Rattle.std.specs.Option.{option_copied};
 ghost use Rattle.wap_session.specs.Feeding.{going_on, context_at_rest};
 

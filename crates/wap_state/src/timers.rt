@@ -4,7 +4,7 @@ ghost use Rattle.std.specs.Option.{option_and_then};
 ghost use Rattle.std.specs.Fmt.{decimal};
 ghost use Rattle.wap_cardrules.specs.Timers.{timer_in, timer_variable, timer_of};
 ghost use Rattle.wap_world.specs.declared.timer.Timer.TheVariants.{Expired};
-ghost use Rattle.wap_world.specs.Timers.{timer_from, start_timer, started, store_under};
+ghost use Rattle.wap_world.specs.Timers.{timer_from, start_timer, started};
 ghost use Rattle.wap_world.specs.Timers.{store_time, store_left, end_timer};
 ghost use Rattle.wap_state.specs.Scenes.{Plays, Leaves};
 ghost use Rattle.wap_state.specs.Held.{store_pairs};
