@@ -51,7 +51,7 @@ fn add_piece(
     let before = lines.len();
     add_laid(alloc, lines, mode, text, width)?;
     if matches!(ending, Ending::Hard) && lines.len() == before {
-        lines.add("")?;
+        lines.add(Text::new(alloc).as_str())?;
     }
     Ok(())
 }
