@@ -50,28 +50,6 @@ fn has_one_at_most(row: Row) -> bool
     matches!(row.b, Slot::Absent) && matches!(row.c, Slot::Absent)
 }
 
-/// The instruction of a row at a place, with as many operands as it may have.
-fn read_operands(row: Row, code: &[u8], at: usize) -> Result<Instr, InstrFault>
-    requires here { at < length code.now }
-    requires within { row.first ≤ slice_index code.now at }
-    ensures instr { result ≡ read_row row code.now at }
-    ensures operands { IfOk result (Holds row) }
-{
-    if code.len() - at < size(row) {
-        return Err(InstrFault::Operand);
-    }
-    let low = code[at] - row.first;
-    let b_at = at + 1 + width(row.a);
-    let c_at = b_at + width(row.b);
-    Ok(Instr {
-        name: row.name,
-        a: operand(code, at + 1, row.a, low),
-        b: operand(code, b_at, row.b, low),
-        c: operand(code, c_at, row.c, low),
-        next: c_at + width(row.c),
-    })
-}
-
 /// The instruction of a row at a place, where the byte is a code of the row. Most have one operand
 /// at most.
 #[inline(always)]
@@ -82,19 +60,32 @@ pub fn read_row(row: Row, code: &[u8], at: usize) -> Result<Instr, InstrFault>
     // Each operand is as great as there is room for where it stands.
     ensures operands { IfOk result (Holds row) }
 {
-    if !has_one_at_most(row) {
-        return read_operands(row, code, at);
+    let left = code.len() - at;
+    let low = code[at] - row.first;
+    if has_one_at_most(row) {
+        let size = 1 + width(row.a);
+        if left < size {
+            return Err(InstrFault::Operand);
+        }
+        return Ok(Instr {
+            name: row.name,
+            a: operand(code, at + 1, row.a, low),
+            b: 0,
+            c: 0,
+            next: at + size,
+        });
     }
-    let size = 1 + width(row.a);
-    if code.len() - at < size {
+    if left < size(row) {
         return Err(InstrFault::Operand);
     }
+    let b_at = at + 1 + width(row.a);
+    let c_at = b_at + width(row.b);
     Ok(Instr {
         name: row.name,
-        a: operand(code, at + 1, row.a, code[at] - row.first),
-        b: 0,
-        c: 0,
-        next: at + size,
+        a: operand(code, at + 1, row.a, low),
+        b: operand(code, b_at, row.b, low),
+        c: operand(code, c_at, row.c, low),
+        next: c_at + width(row.c),
     })
 }
 
