@@ -1,6 +1,5 @@
 //! A case, as its lines say it.
-use crate::devices::Devices;
-use crate::wanted::Wanted;
+use crate::numbers::Numbers;
 use crate::wml::deck_bytes;
 use std::alloc::Global;
 use wap_base::{Bytes, Text};
@@ -31,18 +30,24 @@ pub struct Case {
     open: Open,
     pub words: Vec<Text>,
     pub(crate) keys: Bytes,
-    pub(crate) devices: Devices,
-    pub(crate) wanted: Wanted,
+    /// What is said of the devices, and how often they are called.
+    pub(crate) numbers: Numbers,
+    /// What is written.
+    pub(crate) shown: Bytes,
+    /// The number of the status and its line.
+    pub(crate) status: Bytes,
+    /// The line of the status can't be written.
+    pub(crate) is_unprinted: bool,
     /// No run is made, but memory is taken to have run out.
     pub is_without_memory: bool,
     /// The first line that can't be read, and why.
     pub(crate) fault: Option<(usize, CaseFault)>,
 }
 
-/// Appends a line and its end.
-pub fn add_line(out: &mut Bytes, line: &[u8]) -> Result<(), CaseFault> {
-    out.add(line)?;
-    out.add(b"\n")?;
+/// Appends bytes and others after them, as a line and its end.
+pub fn add_both(out: &mut Bytes, first: &[u8], second: &[u8]) -> Result<(), CaseFault> {
+    out.add(first)?;
+    out.add(second)?;
     Ok(())
 }
 
@@ -68,24 +73,10 @@ fn add_named(texts: &mut Vec<(Text, Bytes)>, alloc: Global, line: &[u8]) -> Resu
 
 /// Appends to the last of these texts.
 fn add_to_last(texts: &mut Vec<(Text, Bytes)>, mark: &[u8], more: &[u8]) -> Result<(), CaseFault> {
-    let Some((_, text)) = texts.last_mut() else {
-        return Err(CaseFault::Line);
-    };
-    text.add(mark)?;
-    text.add(more)?;
-    Ok(())
-}
-
-/// The page of a number, by its name and its bytes as they are spelled.
-fn numbered_page(
-    alloc: Global,
-    pieces: &Pieces,
-    name: &[u8],
-    bytes: &[u8],
-    number: u32,
-) -> Result<(Text, Bytes), CaseFault> {
-    let name = spelled_text(alloc, pieces, name, Some(number))?;
-    Ok((name, spelled_bytes(alloc, pieces, bytes, Some(number))?))
+    match texts.last_mut() {
+        Some((_, text)) => add_both(text, mark, more),
+        None => Err(CaseFault::Line),
+    }
 }
 
 impl Case {
@@ -100,8 +91,10 @@ impl Case {
             open: Open::Nothing,
             words: Vec::new(alloc),
             keys: Bytes::new(alloc),
-            devices: Devices::new(alloc),
-            wanted: Wanted::new(alloc),
+            numbers: Numbers::new(alloc),
+            shown: Bytes::new(alloc),
+            status: Bytes::new(alloc),
+            is_unprinted: false,
             is_without_memory: false,
             fault: None,
         }
@@ -143,8 +136,9 @@ impl Case {
         number: u32,
     ) -> Result<(), CaseFault> {
         let (name, bytes) = spelled;
-        self.pages
-            .push(numbered_page(alloc, pieces, name, bytes, number)?)?;
+        let name = spelled_text(alloc, pieces, name, Some(number))?;
+        let bytes = spelled_bytes(alloc, pieces, bytes, Some(number))?;
+        self.pages.push((name, bytes))?;
         Ok(())
     }
 
@@ -171,10 +165,10 @@ impl Case {
 
     /// Takes the texts of the decks as pages, by the bytes of their documents.
     fn write_decks(&mut self, alloc: Global) -> Result<(), CaseFault> {
-        for (name, deck) in &self.decks {
-            self.pages
-                .push((name.copy(alloc)?, deck_bytes(alloc, deck.as_slice())?))?;
+        for (_, deck) in &mut self.decks {
+            *deck = deck_bytes(alloc, deck.as_slice())?;
         }
+        self.pages.append(&mut self.decks)?;
         Ok(())
     }
 
@@ -226,12 +220,15 @@ impl Case {
         Ok(())
     }
 
-    /// Reads the line that says how it ends without a run, which is out of memory.
-    pub(crate) fn read_ended(&mut self, line: &[u8]) -> Result<(), CaseFault> {
-        if line != b"NoMemory".as_slice() {
-            return Err(CaseFault::Line);
-        }
+    /// Reads the line that says that it ends without a run, out of memory.
+    pub(crate) fn read_ended(&mut self) -> Result<(), CaseFault> {
         self.is_without_memory = true;
+        Ok(())
+    }
+
+    /// Reads the line that says that the line of the status can't be written.
+    pub(crate) fn read_unprinted(&mut self) -> Result<(), CaseFault> {
+        self.is_unprinted = true;
         Ok(())
     }
 }

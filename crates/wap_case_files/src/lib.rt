@@ -4,13 +4,12 @@
 #![tactic(auto)]
 
 mod case;
-mod devices;
 mod lines;
 mod memory;
+mod numbers;
 mod outcome;
 mod playing;
 mod telling;
-mod wanted;
 mod wml;
 
 pub use case::Case;

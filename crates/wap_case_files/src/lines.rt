@@ -1,8 +1,7 @@
 //! The lines of a case.
 use crate::Case;
-use crate::case::{add_line, add_spelled};
-use crate::devices::DeviceLine;
-use crate::wanted::WantedLine;
+use crate::case::{add_both, add_spelled};
+use crate::numbers::Subject;
 use std::alloc::Global;
 use wap_casebook::{CaseFault, Pieces};
 
@@ -19,8 +18,11 @@ enum Line {
     Key,
     Keys,
     Ended,
-    Device(DeviceLine),
-    Wanted(WantedLine),
+    Out,
+    Bytes,
+    Status,
+    Unprinted,
+    Numbers(Subject),
 }
 
 /// What lines begin with.
@@ -33,22 +35,22 @@ static LINES: [(&str, Line); 24] = [
     ("argument", Line::Argument),
     ("key", Line::Key),
     ("keys", Line::Keys),
-    ("ended", Line::Ended),
-    ("store fails", Line::Device(DeviceLine::StoreFails)),
-    ("source fails", Line::Device(DeviceLine::SourceFails)),
-    ("source gives", Line::Device(DeviceLine::SourceGives)),
-    ("sink fails", Line::Device(DeviceLine::SinkFails)),
-    ("sink takes", Line::Device(DeviceLine::SinkTakes)),
-    ("sink holds", Line::Device(DeviceLine::SinkHolds)),
-    ("error fails", Line::Device(DeviceLine::ErrorFails)),
-    ("out", Line::Wanted(WantedLine::Out)),
-    ("bytes", Line::Wanted(WantedLine::Bytes)),
-    ("status", Line::Wanted(WantedLine::Status)),
-    ("asked", Line::Wanted(WantedLine::Asked)),
-    ("reads", Line::Wanted(WantedLine::Reads)),
-    ("left", Line::Wanted(WantedLine::Left)),
-    ("unprinted", Line::Wanted(WantedLine::Unprinted)),
-    // After the lines of the device that begins so.
+    ("ended NoMemory", Line::Ended),
+    ("store fails", Line::Numbers(Subject::StoreFails)),
+    ("source fails", Line::Numbers(Subject::SourceFails)),
+    ("source gives", Line::Numbers(Subject::SourceGives)),
+    ("sink fails", Line::Numbers(Subject::SinkFails)),
+    ("sink takes", Line::Numbers(Subject::SinkTakes)),
+    ("sink holds", Line::Numbers(Subject::SinkHolds)),
+    ("error fails", Line::Numbers(Subject::ErrorFails)),
+    ("out", Line::Out),
+    ("bytes", Line::Bytes),
+    ("status", Line::Status),
+    ("asked", Line::Numbers(Subject::Asked)),
+    ("reads", Line::Numbers(Subject::Reads)),
+    ("left", Line::Numbers(Subject::Left)),
+    ("unprinted", Line::Unprinted),
+    // After the lines of numbers that begin so.
     ("source", Line::Source),
 ];
 
@@ -87,11 +89,14 @@ fn read_rest(
         Line::Source => case.read_source(alloc, rest),
         Line::Word => case.read_word(alloc, rest),
         Line::Argument => case.read_argument(alloc, pieces, rest),
-        Line::Key => add_line(&mut case.keys, rest),
+        Line::Key => add_both(&mut case.keys, rest, b"\n"),
         Line::Keys => add_spelled(&mut case.keys, alloc, pieces, rest),
-        Line::Ended => case.read_ended(rest),
-        Line::Device(known) => case.devices.read(known, rest),
-        Line::Wanted(known) => case.wanted.read(alloc, pieces, known, rest),
+        Line::Ended => case.read_ended(),
+        Line::Out => add_both(&mut case.shown, rest, b"\n"),
+        Line::Bytes => add_spelled(&mut case.shown, alloc, pieces, rest),
+        Line::Status => add_both(&mut case.status, rest, b"\n"),
+        Line::Unprinted => case.read_unprinted(),
+        Line::Numbers(subject) => case.numbers.read(subject, rest),
     }
 }
 

@@ -1,15 +1,27 @@
 //! The devices of a case in memory.
 use crate::Case;
+use crate::numbers::{Numbers, Subject};
 use std::alloc::Global;
 use wap_base::{Bytes, NoMemory, Text};
 use wap_casebook::CaseFault;
 use wap_devices::{MemSink, MemSource, MemStore, are_pages};
 
-/// The calls of a device that fail: those that a case names, and the one after those that are
+/// The most bytes that a call moves, where a case says nothing of it.
+const PIECE: u64 = 4096;
+
+/// How many bytes a sink holds, where a case says nothing of it.
+const ROOM: u64 = 1 << 24;
+
+/// The calls of a device that fail: those that a case says, and the one after those that are
 /// wanted, where it says how many are.
-fn failing_calls(alloc: Global, named: &[u64], wanted: Option<u64>) -> Result<Vec<u64>, CaseFault> {
-    let mut fails = Vec::from_slice(alloc, named)?;
-    if let Some(calls) = wanted {
+fn failing_calls(
+    alloc: Global,
+    numbers: &Numbers,
+    fails: Subject,
+    calls: Subject,
+) -> Result<Vec<u64>, NoMemory> {
+    let mut fails = numbers.all(alloc, fails)?;
+    if let Some(calls) = numbers.last(calls) {
         fails.push(calls.saturating_add(1))?;
     }
     Ok(fails)
@@ -27,10 +39,14 @@ fn copy_pages(alloc: Global, pages: &[(Text, Bytes)]) -> Result<Vec<(Text, Bytes
 impl Case {
     /// How many bytes at a time its source gives, in one run each; or why it can't be played.
     pub fn pieces(&self, alloc: Global) -> Result<Vec<u64>, CaseFault> {
-        match self.fault {
-            Some((_, fault)) => Err(fault),
-            None => Ok(self.devices.pieces(alloc)?),
+        if let Some((_, fault)) = self.fault {
+            return Err(fault);
         }
+        let mut pieces = self.numbers.all(alloc, Subject::SourceGives)?;
+        if pieces.is_empty() {
+            pieces.push(PIECE)?;
+        }
+        Ok(pieces)
     }
 
     /// Its pages as a store.
@@ -39,8 +55,8 @@ impl Case {
         if !are_pages(alloc, &pages)? {
             return Err(CaseFault::Argument);
         }
-        let fails = self.devices.store_fails.as_slice();
-        Ok(MemStore::new(pages, failing_calls(alloc, fails, self.wanted.asked)?))
+        let fails = failing_calls(alloc, &self.numbers, Subject::StoreFails, Subject::Asked)?;
+        Ok(MemStore::new(pages, fails))
     }
 
     /// Its keys as a source that gives so many bytes at a time.
@@ -49,24 +65,24 @@ impl Case {
         if piece == 0 {
             return Err(CaseFault::Argument);
         }
-        let fails = self.devices.source_fails.as_slice();
-        let fails = failing_calls(alloc, fails, self.wanted.reads)?;
+        let fails = failing_calls(alloc, &self.numbers, Subject::SourceFails, Subject::Reads)?;
         Ok(MemSource::new(Bytes::of(alloc, self.keys.as_slice())?, piece, fails))
     }
 
     /// The sink to which its run writes.
     pub fn sink(&self, alloc: Global) -> Result<MemSink, CaseFault> {
-        let devices = &self.devices;
-        if devices.sink_takes == 0 {
+        let takes = self.numbers.last(Subject::SinkTakes).unwrap_or(PIECE) as usize;
+        let holds = self.numbers.last(Subject::SinkHolds).unwrap_or(ROOM) as usize;
+        if takes == 0 {
             return Err(CaseFault::Argument);
         }
-        let fails = Vec::from_slice(alloc, devices.sink_fails.as_slice())?;
-        Ok(MemSink::new(alloc, devices.sink_holds, devices.sink_takes, fails)?)
+        let fails = self.numbers.all(alloc, Subject::SinkFails)?;
+        Ok(MemSink::new(alloc, holds, takes, fails)?)
     }
 
     /// The sink to which the line of the status is written.
     pub fn error(&self, alloc: Global) -> Result<MemSink, CaseFault> {
-        let fails = Vec::from_slice(alloc, self.devices.error_fails.as_slice())?;
+        let fails = self.numbers.all(alloc, Subject::ErrorFails)?;
         Ok(MemSink::new(alloc, 4096, 4096, fails)?)
     }
 }

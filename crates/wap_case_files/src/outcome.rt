@@ -1,5 +1,6 @@
 //! What comes of a run over the devices of a case.
 use crate::Case;
+use crate::numbers::Subject;
 use std::alloc::Global;
 use wap_base::{Bytes, NoMemory};
 use wap_devices::{MemSource, MemStore, Source, Store, StoreErr};
@@ -9,8 +10,8 @@ use wap_devices::{MemSource, MemStore, Source, Store, StoreErr};
 pub struct Outcome {
     /// What was written.
     pub(crate) shown: Bytes,
-    /// The number of the status, and its line.
-    pub(crate) status: (i64, Bytes),
+    /// The number of the status and its line.
+    pub(crate) status: Bytes,
     /// The line of the status couldn't be written.
     pub(crate) is_unprinted: bool,
     /// The store was called as often as is wanted.
@@ -45,6 +46,15 @@ fn is_read(wanted: Option<u64>, source: &mut MemSource) -> bool {
     wanted.is_none() || source.read(&mut [0; 1]).is_err()
 }
 
+/// The number of a status and its line, as a case says them.
+fn status_line(alloc: Global, number: u8, line: &[u8]) -> Result<Bytes, NoMemory> {
+    let number = format!(in alloc; "{number}")?;
+    let mut status = Bytes::of(alloc, number.as_bytes())?;
+    status.push(if line.is_empty() { b'\n' } else { b' ' })?;
+    status.add(line)?;
+    Ok(status)
+}
+
 impl Outcome {
     /// What came of a run by the number of its status, the line of that and what was written,
     /// before its devices are looked at.
@@ -57,7 +67,7 @@ impl Outcome {
     ) -> Result<Outcome, NoMemory> {
         Ok(Outcome {
             shown: Bytes::of(alloc, shown)?,
-            status: (i64::from(number), Bytes::of(alloc, line)?),
+            status: status_line(alloc, number, line)?,
             is_unprinted,
             is_asked: true,
             is_read: true,
@@ -67,8 +77,8 @@ impl Outcome {
 
     /// Looks at the store and the source of a case after its run.
     pub fn look_at(&mut self, case: &Case, store: &mut MemStore, source: &mut MemSource) {
-        self.is_asked = is_asked(case.wanted.asked, store);
-        self.is_read = is_read(case.wanted.reads, source);
+        self.is_asked = is_asked(case.numbers.last(Subject::Asked), store);
+        self.is_read = is_read(case.numbers.last(Subject::Reads), source);
         self.left = count_left(source);
     }
 }

@@ -1,8 +1,8 @@
 //! In what a run differs from what is wanted.
-use crate::wanted::Wanted;
+use crate::numbers::Subject;
 use crate::{Case, Outcome};
 use std::alloc::{AllocError, Global};
-use wap_casebook::CaseFault;
+use wap_casebook::{CaseFault, add_all};
 
 /// The most bytes that are shown of what differs.
 const MOST: usize = 400;
@@ -10,11 +10,11 @@ const MOST: usize = 400;
 /// Where the line begins in which two texts differ first.
 fn fork(wanted: &[u8], came: &[u8]) -> usize {
     let mut begin = 0;
-    for (at, (first, second)) in wanted.iter().zip(came.iter()).enumerate() {
-        if first != second {
+    for (at, byte) in wanted.iter().enumerate() {
+        if came.get(at) != Some(byte) {
             break;
         }
-        if *first == b'\n' {
+        if *byte == b'\n' {
             begin = at.saturating_add(1);
         }
     }
@@ -29,10 +29,11 @@ fn add_bytes(out: &mut String, alloc: Global, bytes: &[u8], from: usize) -> Resu
     write!(out, "{front:?}")
 }
 
-/// Appends in what two texts differ, if they do.
-fn add_shown(
+/// Appends in what two texts of this name differ, if they do.
+fn add_text(
     out: &mut String,
     alloc: Global,
+    name: &str,
     wanted: &[u8],
     came: &[u8],
 ) -> Result<(), AllocError> {
@@ -40,30 +41,12 @@ fn add_shown(
         return Ok(());
     }
     let from = fork(wanted, came);
-    write!(out, "    from byte {from}\n      wanted ")?;
+    out.push_str(name)?;
+    write!(out, " from byte {from}\n      wanted ")?;
     add_bytes(out, alloc, wanted, from)?;
     out.push_str("\n      came   ")?;
     add_bytes(out, alloc, came, from)?;
-    out.push('\n')
-}
-
-/// Appends in what two statuses differ, if they do.
-fn add_status(
-    out: &mut String,
-    alloc: Global,
-    wanted: (i64, &[u8]),
-    came: (i64, &[u8]),
-) -> Result<(), AllocError> {
-    let (number, line) = wanted;
-    let (came_number, came_line) = came;
-    if number == came_number && line == came_line {
-        return Ok(());
-    }
-    write!(out, "    status\n      wanted {number} ")?;
-    add_bytes(out, alloc, line, 0)?;
-    write!(out, "\n      came   {came_number} ")?;
-    add_bytes(out, alloc, came_line, 0)?;
-    out.push('\n')
+    out.push_str("\n")
 }
 
 /// Appends a line that tells of a difference, if there is one.
@@ -82,10 +65,10 @@ fn add_left(out: &mut String, wanted: Option<u64>, left: u64) -> Result<(), Allo
 }
 
 /// Appends in what the devices differ.
-fn add_devices(out: &mut String, wanted: &Wanted, came: &Outcome) -> Result<(), AllocError> {
+fn add_devices(out: &mut String, case: &Case, came: &Outcome) -> Result<(), AllocError> {
     add_if(
         out,
-        wanted.is_unprinted != came.is_unprinted,
+        case.is_unprinted != came.is_unprinted,
         "    the line of the status is written, or isn't\n",
     )?;
     add_if(
@@ -98,22 +81,7 @@ fn add_devices(out: &mut String, wanted: &Wanted, came: &Outcome) -> Result<(), 
         !came.is_read,
         "    the source was not called as often\n",
     )?;
-    add_left(out, wanted.left, came.left)
-}
-
-/// Appends in what the status that came differs from the one that is wanted.
-fn add_ending(
-    out: &mut String,
-    alloc: Global,
-    wanted: &Wanted,
-    came: &Outcome,
-) -> Result<(), AllocError> {
-    let (number, line) = &came.status;
-    let came = (*number, line.as_slice());
-    match &wanted.status {
-        Some((number, line)) => add_status(out, alloc, (*number, line.as_slice()), came),
-        None => out.push_str("    no status is wanted\n"),
-    }
+    add_left(out, case.numbers.last(Subject::Left), came.left)
 }
 
 impl Case {
@@ -124,10 +92,21 @@ impl Case {
         alloc: Global,
         came: &Outcome,
     ) -> Result<(), AllocError> {
-        let wanted = &self.wanted;
-        add_ending(out, alloc, wanted, came)?;
-        add_shown(out, alloc, wanted.shown.as_slice(), came.shown.as_slice())?;
-        add_devices(out, wanted, came)
+        add_text(
+            out,
+            alloc,
+            "    status",
+            self.status.as_slice(),
+            came.status.as_slice(),
+        )?;
+        add_text(
+            out,
+            alloc,
+            "    shown",
+            self.shown.as_slice(),
+            came.shown.as_slice(),
+        )?;
+        add_devices(out, self, came)
     }
 }
 
@@ -135,14 +114,15 @@ impl Case {
 pub fn add_head(out: &mut String, alloc: Global, case: &Case) -> Result<(), AllocError> {
     let name = String::from_utf8_lossy(alloc, case.name.as_slice())?;
     let line = case.line;
-    write!(out, "case {name} at line {line}\n")
+    add_all(out, &["case ", name.as_str()])?;
+    write!(out, " at line {line}\n")
 }
 
 /// Appends why a case isn't played, and the line that can't be read.
 pub fn add_fault(out: &mut String, case: &Case, fault: CaseFault) -> Result<(), AllocError> {
-    let told = fault.message();
-    match case.fault {
-        Some((line, _)) => write!(out, "    line {line}: {told}\n"),
-        None => write!(out, "    {told}\n"),
+    out.push_str("    ")?;
+    if let Some((line, _)) = case.fault {
+        write!(out, "line {line}: ")?;
     }
+    add_all(out, &[fault.message(), "\n"])
 }

@@ -1,54 +1,16 @@
 //! Decks as texts of WML, and the bytes of their documents.
 use std::alloc::Global;
 use wap_base::Bytes;
-use wap_casebook::{CaseFault, number};
+use wap_casebook::{CaseFault, meaning_of, number, split_by};
 use wap_markup::{ATTR_NAMES, ATTR_STARTS, AttrName, END, EXT_I_0, EXT_I_1, EXT_I_2, STR_I, TAGS};
 
 /// What a document begins with: WBXML 1.3, WML 1.3, UTF-8, no string table, and the root.
 static HEAD: &[u8] = b"\x03\x0a\x6a\x00\xff\x01";
 
-/// Where the next byte stands.
-#[derive(Clone, Copy)]
-enum Place {
-    /// In content.
-    Content,
-    /// After `<`.
-    Opened,
-    /// In the name of an element.
-    Tag,
-    /// Between the attributes of an element.
-    Attributes,
-    /// In the name of an attribute.
-    Name,
-    /// Before the value of an attribute.
-    Quote,
-    /// In it.
-    Value,
-    /// After the `/` of an element without content.
-    Empty,
-    /// In the end of an element.
-    End,
-}
-
 /// What a text has at a place: a byte of a string, or a variable with its conversion.
 enum Part<'a> {
     Byte(u8),
     Variable(&'a [u8]),
-}
-
-/// The bytes before the first of this byte, and those after it.
-fn split_by(mark: u8, text: &[u8]) -> (&[u8], &[u8]) {
-    let mut rest = text;
-    for at in 0..text.len() {
-        let [byte, others @ ..] = rest else {
-            break;
-        };
-        if *byte == mark {
-            return (text.split_at(at).0, others);
-        }
-        rest = others;
-    }
-    (text, rest)
 }
 
 /// The code of an element.
@@ -79,8 +41,9 @@ fn is_shorter(rest: &[u8], found: Option<(u8, &[u8])>) -> bool {
     }
 }
 
-/// The code that an attribute with this value begins with, and what it leaves of the value.
-fn start_of(attribute: AttrName, value: &[u8]) -> Option<(u8, &[u8])> {
+/// The code that an attribute of this name and value begins with, and what it leaves of the value.
+fn start_of<'a>(name: &[u8], value: &'a [u8]) -> Option<(u8, &'a [u8])> {
+    let attribute = attribute_of(name)?;
     let mut found = None;
     for (code, known, prefix) in &ATTR_STARTS {
         if *known != attribute {
@@ -95,14 +58,14 @@ fn start_of(attribute: AttrName, value: &[u8]) -> Option<(u8, &[u8])> {
     found
 }
 
-/// The byte that stands in a text only so: `&amp;`, `&lt;`, `&quot;`, and by its number `&#10;`.
+/// The bytes that stand in a text only by these names.
+static ENTITIES: [(&str, u8); 3] = [("amp", b'&'), ("lt", b'<'), ("quot", b'"')];
+
+/// The byte of a name between `&` and `;`, which may also be its number, as in `&#10;`.
 fn entity(name: &[u8]) -> Option<u8> {
     match name {
-        b"amp" => Some(b'&'),
-        b"lt" => Some(b'<'),
-        b"quot" => Some(b'"'),
         [b'#', digits @ ..] => u8::try_from(number(digits).ok()?).ok(),
-        _ => None,
+        _ => meaning_of(&ENTITIES, name),
     }
 }
 
@@ -188,156 +151,86 @@ fn add_text(out: &mut Bytes, text: &[u8]) -> Result<(), CaseFault> {
     end_string(out, is_open)
 }
 
-/// A document that is written byte by byte of its text.
-#[derive(Drop)]
-struct Writer {
-    alloc: Global,
-    out: Bytes,
-    place: Place,
-    /// The text, name or value that is read.
-    read: Bytes,
-    attribute: Option<AttrName>,
+/// The name that a text begins with, up to a blank, `/` or `>`, and what follows it.
+fn split_name(text: &[u8]) -> (&[u8], &[u8]) {
+    let mut rest = text;
+    for at in 0..text.len() {
+        match rest {
+            [b' ' | b'/' | b'>', ..] => return (text.split_at(at).0, rest),
+            [_, others @ ..] => rest = others,
+            [] => break,
+        }
+    }
+    (text, rest)
 }
 
-impl Writer {
-    fn keep(&mut self, byte: u8, place: Place) -> Result<(), CaseFault> {
-        self.read.push(byte)?;
-        self.place = place;
-        Ok(())
-    }
+/// Appends the attribute that a text begins with, and gives what follows it.
+fn add_attribute<'a>(out: &mut Bytes, text: &'a [u8]) -> Result<&'a [u8], CaseFault> {
+    let (name, quoted) = split_by(b'=', text);
+    let [b'"', quoted @ ..] = quoted else {
+        return Err(CaseFault::Spelling);
+    };
+    let (value, rest) = split_by(b'"', quoted);
+    let (code, value) = start_of(name, value).ok_or(CaseFault::Spelling)?;
+    out.push(code)?;
+    add_text(out, value)?;
+    Ok(rest)
+}
 
-    fn write_text(&mut self) -> Result<(), CaseFault> {
-        add_text(&mut self.out, self.read.as_slice())?;
-        self.read = Bytes::new(self.alloc);
-        Ok(())
-    }
-
-    /// Writes an element's code: it has attributes and content, though there may be none.
-    fn write_tag(&mut self) -> Result<(), CaseFault> {
-        let code = tag_code(self.read.as_slice()).ok_or(CaseFault::Spelling)?;
-        self.out.push(code | 0xc0)?;
-        self.read = Bytes::new(self.alloc);
-        Ok(())
-    }
-
-    fn write_attribute(&mut self) -> Result<(), CaseFault> {
-        let attribute = self.attribute.ok_or(CaseFault::Spelling)?;
-        let (code, rest) = start_of(attribute, self.read.as_slice()).ok_or(CaseFault::Spelling)?;
-        self.out.push(code)?;
-        add_text(&mut self.out, rest)?;
-        self.read = Bytes::new(self.alloc);
-        Ok(())
-    }
-
-    fn end(&mut self, ends: &[u8]) -> Result<(), CaseFault> {
-        self.out.add(ends)?;
-        self.place = Place::Content;
-        Ok(())
-    }
-
-    fn take_content(&mut self, byte: u8) -> Result<(), CaseFault> {
-        if byte != b'<' {
-            return self.keep(byte, Place::Content);
-        }
-        self.place = Place::Opened;
-        self.write_text()
-    }
-
-    fn take_opened(&mut self, byte: u8) -> Result<(), CaseFault> {
-        if byte == b'/' {
-            self.place = Place::End;
-            return Ok(());
-        }
-        self.keep(byte, Place::Tag)
-    }
-
-    /// Takes what stands between attributes, or begins one.
-    fn take_attributes(&mut self, byte: u8) -> Result<(), CaseFault> {
-        match byte {
-            b' ' => self.place = Place::Attributes,
-            b'/' => self.place = Place::Empty,
-            b'>' => return self.end(&[END]),
-            _ => return self.keep(byte, Place::Name),
-        }
-        Ok(())
-    }
-
-    fn take_tag(&mut self, byte: u8) -> Result<(), CaseFault> {
-        if !matches!(byte, b' ' | b'/' | b'>') {
-            return self.keep(byte, Place::Tag);
-        }
-        self.write_tag()?;
-        self.take_attributes(byte)
-    }
-
-    fn take_name(&mut self, byte: u8) -> Result<(), CaseFault> {
-        if byte != b'=' {
-            return self.keep(byte, Place::Name);
-        }
-        self.attribute = attribute_of(self.read.as_slice());
-        self.read = Bytes::new(self.alloc);
-        self.place = Place::Quote;
-        Ok(())
-    }
-
-    fn take_value(&mut self, byte: u8) -> Result<(), CaseFault> {
-        if byte != b'"' {
-            return self.keep(byte, Place::Value);
-        }
-        self.place = Place::Attributes;
-        self.write_attribute()
-    }
-
-    /// Takes the byte after which a place ends, and nothing else.
-    fn take_quote(&mut self, byte: u8) -> Result<(), CaseFault> {
-        if byte != b'"' {
-            return Err(CaseFault::Spelling);
-        }
-        self.place = Place::Value;
-        Ok(())
-    }
-
-    /// Passes over the name of an element that ends.
-    fn take_end(&mut self, byte: u8, ends: &[u8]) -> Result<(), CaseFault> {
-        if byte == b'>' { self.end(ends) } else { Ok(()) }
-    }
-
-    fn take(&mut self, byte: u8) -> Result<(), CaseFault> {
-        match self.place {
-            Place::Content => self.take_content(byte),
-            Place::Opened => self.take_opened(byte),
-            Place::Tag => self.take_tag(byte),
-            Place::Attributes => self.take_attributes(byte),
-            Place::Name => self.take_name(byte),
-            Place::Quote => self.take_quote(byte),
-            Place::Value => self.take_value(byte),
-            Place::Empty => self.take_end(byte, &[END, END]),
-            Place::End => self.take_end(byte, &[END]),
+/// Appends the attributes of an element, and its end where it has no content, and gives what
+/// follows its `>`.
+fn add_attributes<'a>(out: &mut Bytes, text: &'a [u8]) -> Result<&'a [u8], CaseFault> {
+    let mut rest = text;
+    for _ in 0..text.len() {
+        match rest {
+            [b' ', others @ ..] => rest = others,
+            [b'/', b'>', others @ ..] => {
+                out.add(&[END, END])?;
+                return Ok(others);
+            }
+            [b'>', others @ ..] => {
+                out.push(END)?;
+                return Ok(others);
+            }
+            _ => rest = add_attribute(out, rest)?,
         }
     }
+    Err(CaseFault::Spelling)
+}
 
-    /// Takes all bytes of a text, and ends the document.
-    fn write(&mut self, text: &[u8]) -> Result<(), CaseFault> {
-        for byte in text {
-            self.take(*byte)?;
-        }
-        self.write_text()?;
-        self.out.push(END)?;
-        Ok(())
+/// Appends what stands after a `<`: an element's code, which has attributes and content, though
+/// there may be none, or the end of one. It gives what follows.
+fn add_element<'a>(out: &mut Bytes, text: &'a [u8]) -> Result<&'a [u8], CaseFault> {
+    if let [b'/', rest @ ..] = text {
+        out.push(END)?;
+        return Ok(split_by(b'>', rest).1);
     }
+    let (name, rest) = split_name(text);
+    let code = tag_code(name).ok_or(CaseFault::Spelling)?;
+    out.push(code | 0xc0)?;
+    add_attributes(out, rest)
+}
+
+/// Appends content: texts and elements.
+fn add_content(out: &mut Bytes, content: &[u8]) -> Result<(), CaseFault> {
+    let mut rest = content;
+    for _ in 0..content.len() {
+        let (text, element) = split_by(b'<', rest);
+        add_text(out, text)?;
+        if element.is_empty() {
+            break;
+        }
+        rest = add_element(out, element)?;
+    }
+    Ok(())
 }
 
 /// The bytes of the document whose root has this content, as a text of WML: elements, attributes in
-/// `"`, texts, `$(name:e)`, `$$`, `&amp;`, `&lt;`, `&quot;` and `&#10;`. That it is a good deck isn't
-/// looked at.
+/// `"`, texts, `$(name:e)`, `$$`, `&amp;`, `&lt;`, `&quot;` and `&#10;`. That it is a good deck
+/// isn't looked at.
 pub fn deck_bytes(alloc: Global, text: &[u8]) -> Result<Bytes, CaseFault> {
-    let mut writer = Writer {
-        alloc,
-        out: Bytes::of(alloc, HEAD)?,
-        place: Place::Content,
-        read: Bytes::new(alloc),
-        attribute: None,
-    };
-    writer.write(text)?;
-    Ok(writer.out)
+    let mut out = Bytes::of(alloc, HEAD)?;
+    add_content(&mut out, text)?;
+    out.push(END)?;
+    Ok(out)
 }

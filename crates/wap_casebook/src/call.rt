@@ -1,4 +1,5 @@
 //! The call of a line.
+use crate::calls::add_all;
 use crate::spelling::spelled_bytes;
 use crate::words::{number, split_value, text};
 use crate::{CaseFault, Pieces};
@@ -73,11 +74,11 @@ impl Call {
         self.fault.is_some() || !self.is_as_wanted || !self.wanted.is_empty()
     }
 
-    /// What to tell of the call: a word and what it gave, or why it isn't played.
-    pub fn report(&self) -> (&'static str, &str) {
+    /// Tells what the call gave, or why it isn't played.
+    pub fn tell(&self, out: &mut String) -> Result<(), AllocError> {
         match self.fault {
-            Some(fault) => ("not played: ", fault.message()),
-            None => ("came", self.given.as_str()),
+            Some(fault) => add_all(out, &["not played: ", fault.message()]),
+            None => add_all(out, &["came", self.given.as_str()]),
         }
     }
 
@@ -260,7 +261,7 @@ impl Call {
             Some(wanted) => wanted.as_slice() == word.as_bytes(),
             None => false,
         };
-        let told = write!(self.given, " {word}");
+        let told = add_all(&mut self.given, &[" ", word]);
         self.note(is_wanted, told);
     }
 
@@ -293,17 +294,12 @@ impl Call {
 
     /// Gives a number.
     pub fn give_number(&mut self, given: i64) {
-        let is_wanted = match self.wanted.pop_front() {
-            Some(wanted) => matches!(number(wanted.as_slice()), Ok(wanted) if wanted == given),
-            None => false,
-        };
-        let told = write!(self.given, " {given}");
-        self.note(is_wanted, told);
+        self.give_named(&given);
     }
 
     /// Gives a number that counts something.
     pub fn give_count(&mut self, count: usize) {
-        self.give_number(i64::try_from(count).unwrap_or(i64::MAX));
+        self.give_named(&count);
     }
 
     /// Gives a text.

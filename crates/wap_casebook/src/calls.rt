@@ -28,6 +28,14 @@ impl Tally {
     }
 }
 
+/// Appends texts one after the other.
+pub fn add_all(out: &mut String, texts: &[&str]) -> Result<(), AllocError> {
+    for text in texts {
+        out.push_str(text)?;
+    }
+    Ok(())
+}
+
 /// Plays a line, which gives a name to bytes or makes a call.
 fn play_line<C: Calls>(calls: &C, call: &mut Call, line: &[u8]) -> Result<(), CaseFault> {
     let (name, rest) = split_word(line);
@@ -41,8 +49,11 @@ fn play_line<C: Calls>(calls: &C, call: &mut Call, line: &[u8]) -> Result<(), Ca
 /// Tells of a line whose call differs.
 fn tell(out: &mut String, place: (&str, u64), line: &str, call: &Call) -> Result<(), AllocError> {
     let (file, number) = place;
-    let (word, came) = call.report();
-    write!(out, "{file} {number}: {line}\n    {word}{came}\n")
+    out.push_str(file)?;
+    write!(out, " {number}: ")?;
+    add_all(out, &[line, "\n    "])?;
+    call.tell(out)?;
+    out.push_str("\n")
 }
 
 /// Plays a line that is neither empty nor a comment, counts it, and answers whether it differs.
@@ -91,7 +102,8 @@ fn play_text<C: Calls>(
     lines: &str,
 ) -> Result<bool, AllocError> {
     let Tally { played, differing } = play_lines(told, alloc, calls, file, lines)?;
-    write!(told, "{file}: {played} calls, {differing} differ\n")?;
+    told.push_str(file)?;
+    write!(told, ": {played} calls, {differing} differ\n")?;
     Ok(differing > 0)
 }
 

@@ -7,19 +7,24 @@ use std::alloc::Global;
 use std::str;
 use wap_base::Text;
 
-/// The bytes before the first blank, and those after it.
-pub fn split_word(line: &[u8]) -> (&[u8], &[u8]) {
+/// The bytes before the first of this byte, and those after it.
+pub fn split_by(mark: u8, line: &[u8]) -> (&[u8], &[u8]) {
     let mut rest = line;
     for at in 0..line.len() {
         let [byte, others @ ..] = rest else {
             break;
         };
-        if *byte == b' ' {
+        if *byte == mark {
             return (line.split_at(at).0, others);
         }
         rest = others;
     }
     (line, rest)
+}
+
+/// The bytes before the first blank, and those after it.
+pub fn split_word(line: &[u8]) -> (&[u8], &[u8]) {
+    split_by(b' ', line)
 }
 
 /// Where a blank outside of quotes and parentheses stands first, or the end.
