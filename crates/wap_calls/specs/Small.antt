@@ -1,7 +1,7 @@
 -- What a small host finds and answers. This project's own.
 use Rattle.std.specs.Prelude.{ℕ, ◌+◌, ◌==◌, nat_le, List, Option, Some, None, Result, Ok, Err, not}
 use Rattle.std.specs.Prelude.{if◌then◌else◌, bytes_eq, codes, encode_utf8_all, slice_get}
-use Rattle.std.specs.Prelude.{option_map, option_and_then}
+use Rattle.std.specs.Prelude.{[], option_map, option_and_then}
 use Rattle.std.specs.Option.{option_map_or}
 use Rattle.wap_value.specs.declared.value.Value.{Value as Given}
 use Rattle.wap_value.specs.declared.value.Value.TheVariants.{Int, Bool, Str, Invalid}
@@ -75,27 +75,30 @@ text_of Invalid = None
 abbrev pub text_at : List Given → ℕ → Option (List ℕ)
 text_at arguments index = option_and_then text_of (slice_get arguments index)
 
--- what a function of the library Dialogs asks, where its arguments are Strings
-abbrev pub dialog_of : ℕ → List Given → Option Dialog
-dialog_of function arguments = option_and_then (λ message.
-    if function == 0 then option_map (λ first. Prompt message first) (text_at arguments 1)
-    else if function == 1 then option_and_then (λ yes.
-    option_map (λ no. Confirm message yes no) (text_at arguments 2)) (text_at arguments 1)
-    else Some (Alert message)) (text_at arguments 0)
+-- the characters of an argument that is a String, or none
+abbrev pub text_or_none : List Given → ℕ → List ℕ
+text_or_none arguments index = option_map_or (λ text. text) (text_at arguments index) []
+
+-- what a function of the library Dialogs asks
+abbrev pub dialog_of : ℕ → List Given → Dialog
+dialog_of function arguments =
+    if function == 0 then Prompt (text_or_none arguments 0) (text_or_none arguments 1)
+    else if function == 1
+    then Confirm (text_or_none arguments 0) (text_or_none arguments 1) (text_or_none arguments 2)
+    else Alert (text_or_none arguments 0)
 
 -- `exit` and `abort` of the library Lang, which end the script
 abbrev pub end_of : ℕ → List Given → Option HostOut
 end_of function arguments =
     if function == 10 then option_map (λ value. Exit value) (slice_get arguments 0)
-    else if function == 11
-    then option_map (λ message. Fatal (why.Aborted message)) (text_at arguments 0)
+    else if function == 11 then Some (Fatal (why.Aborted (text_or_none arguments 0)))
     else None
 
 -- what ends the script or asks its user, if the call does
 abbrev pub answer_of : ℕ → ℕ → List Given → Option HostOut
 answer_of library function arguments =
     if library == 0 then end_of function arguments
-    else if library == 5 then option_map (λ dialog. Asks dialog) (dialog_of function arguments)
+    else if library == 5 then Some (Asks (dialog_of function arguments))
     else None
 
 -- ---- the host

@@ -30,27 +30,38 @@ static ITEMS: [(&str, Item); 5] = [
     ("chain", Item::Chain),
 ];
 
+/// Adds the instruction that the next arguments say.
+fn add_instruction(call: &mut Call, forms: &mut Vec<Form>) -> Result<(), CaseFault> {
+    let name = call.meaning(&NAMES)?;
+    let (a, b, c) = (call.number32(), call.number32(), call.number32());
+    forms.push(instruction(name, a, b, c))?;
+    Ok(())
+}
+
+/// Adds the jump that the next arguments say.
+fn add_jump(call: &mut Call, forms: &mut Vec<Form>) -> Result<(), CaseFault> {
+    let name = call.meaning(&NAMES)?;
+    forms.push(Form::Jump(name, call.number32()))?;
+    Ok(())
+}
+
+/// Adds the jumps that the next arguments say.
+fn add_jumps(call: &mut Call, forms: &mut Vec<Form>) -> Result<(), CaseFault> {
+    let name = call.meaning(&NAMES)?;
+    let (count, span) = (call.number32(), call.number32());
+    add_chain(forms, name, count, span, call.count())?;
+    Ok(())
+}
+
 /// Adds what the next arguments say.
 fn add_item(call: &mut Call, forms: &mut Vec<Form>) -> Result<(), CaseFault> {
     match call.meaning(&ITEMS)? {
-        Item::Op => {
-            let name = call.meaning(&NAMES)?;
-            let (a, b, c) = (call.number32(), call.number32(), call.number32());
-            forms.push(instruction(name, a, b, c))?;
-        }
-        Item::Jump => {
-            let name = call.meaning(&NAMES)?;
-            forms.push(Form::Jump(name, call.number32()))?;
-        }
-        Item::Label => forms.push(Form::Label(call.number32()))?,
-        Item::Pops => add_pops(forms, call.count())?,
-        Item::Chain => {
-            let name = call.meaning(&NAMES)?;
-            let (count, span) = (call.number32(), call.number32());
-            add_chain(forms, name, count, span, call.count())?;
-        }
+        Item::Op => add_instruction(call, forms),
+        Item::Jump => add_jump(call, forms),
+        Item::Label => Ok(forms.push(Form::Label(call.number32()))?),
+        Item::Pops => Ok(add_pops(forms, call.count())?),
+        Item::Chain => add_jumps(call, forms),
     }
-    Ok(())
 }
 
 /// The forms that the arguments say, each label with its index as its number.

@@ -1,8 +1,7 @@
 //! Calls of functions, alone or one after the other.
 use crate::values::{give_value, value, values};
-use std::str;
 use wap_asm::lib_args;
-use wap_casebook::{Call, CaseFault};
+use wap_casebook::{Call, CaseFault, split_by};
 use wap_code::LIBRARY;
 use wap_libs::{Gen, LibOut, arguments_of, call_pure};
 use wap_value::Value;
@@ -20,9 +19,9 @@ const RESTART: (u16, u8) = (0, 13);
 
 /// The numbers of a library and of a function in it, by a name as `Lang.abs`.
 fn numbers_of(name: &[u8]) -> Option<(u16, u8)> {
-    let (library, function) = str::from_utf8(name).ok()?.split_once('.')?;
+    let (library, function) = split_by(b'.', name);
     for (lib, f, _, library_name, function_name) in &LIBRARY {
-        if *library_name == library && *function_name == function {
+        if library_name.as_bytes() == library && function_name.as_bytes() == function {
             return Some((*lib, *f));
         }
     }
@@ -66,7 +65,7 @@ fn give_call(
 
 /// Calls a function of a session that begins with the call.
 fn call_alone(call: &mut Call, numbers: (u16, u8), limit: u32) -> Result<(), CaseFault> {
-    let values = values(call)?;
+    let values = values(call);
     give_call(call, numbers, values, &mut Gen::new(SEED), limit)
 }
 
@@ -98,7 +97,7 @@ fn call_with(
 
 /// Draws random numbers one after the other, one up to each value that is left.
 fn draw_each(call: &mut Call, generator: &mut Gen) -> Result<(), CaseFault> {
-    for most in values(call)? {
+    for most in values(call) {
         call_with(call, RANDOM, most, generator)?;
     }
     Ok(())
@@ -123,10 +122,10 @@ pub fn draw_restarted(call: &mut Call) -> Result<(), CaseFault> {
 /// How many arguments a function takes, by the numbers of its library and of it, where it is one of
 /// those that ask no browser, or of all.
 pub fn count_arguments(call: &mut Call, is_pure: bool) -> Result<(), CaseFault> {
-    let (lib, f) = (call.count(), call.count());
-    let (Ok(lib), Ok(f)) = (u16::try_from(lib), u8::try_from(f)) else {
+    let Ok(lib) = u16::try_from(call.number32()) else {
         return Err(CaseFault::Argument);
     };
+    let f = call.number8();
     let count = if is_pure {
         arguments_of(lib, f)
     } else {

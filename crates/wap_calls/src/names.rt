@@ -30,7 +30,7 @@ fn give_scope_fault(call: &mut Call, fault: ScopeFault) -> Result<(), CaseFault>
 
 /// Gives whether the names of a source are in order: that they are, or the first fault.
 pub fn check(call: &mut Call) -> Result<(), CaseFault> {
-    let Some(program) = program_of(call)? else {
+    let Some(program) = program_of(call) else {
         return Ok(());
     };
     match resolve(call.alloc(), program) {

@@ -95,6 +95,18 @@ fn labels(alloc: Global, numbers: &mut Numbers, count: u32) -> Result<Vec<u32>, 
     Ok(labels)
 }
 
+/// A form at an index: a label where one stands there, or else a jump or an instruction.
+fn any_form(numbers: &mut Numbers, labels: &[u32], jumps: u32, index: u32) -> Form {
+    let chosen = numbers.below(u32::try_from(labels.len()).unwrap_or(0)) as usize;
+    if labels.contains(&index) {
+        return Form::Label(index);
+    }
+    match labels.get(chosen) {
+        Some(label) if numbers.below(jumps) == 0 => any_jump(numbers, index, *label),
+        _ => any_instruction(numbers),
+    }
+}
+
 /// A list of forms: a short one, or one in sixteen that may be long.
 fn any_forms(alloc: Global, numbers: &mut Numbers) -> Result<Vec<Form>, CaseFault> {
     let most = if numbers.below(16) == 0 { 300 } else { 24 };
@@ -103,23 +115,17 @@ fn any_forms(alloc: Global, numbers: &mut Numbers) -> Result<Vec<Form>, CaseFaul
     let jumps = numbers.below(8).saturating_add(1);
     let mut forms = Vec::new(alloc);
     for index in 0..count {
-        let chosen = numbers.below(u32::try_from(labels.len()).unwrap_or(0)) as usize;
-        let form = match labels.get(chosen) {
-            _ if labels.contains(&index) => Form::Label(index),
-            Some(label) if numbers.below(jumps) == 0 => any_jump(numbers, index, *label),
-            _ => any_instruction(numbers),
-        };
-        forms.push(form)?;
+        forms.push(any_form(numbers, labels.as_slice(), jumps, index))?;
     }
     Ok(forms)
 }
 
 /// Places a list, and answers whether its code splits into it.
-fn is_read_back(alloc: Global, numbers: &mut Numbers) -> Result<bool, CaseFault> {
-    let forms = any_forms(alloc, numbers)?;
-    match code_of(alloc, forms.as_slice())? {
-        Ok(code) => splits(alloc, forms.as_slice(), code.as_slice()),
-        Err(_) => Ok(false),
+fn is_read_back(call: &mut Call, numbers: &mut Numbers) -> Result<bool, CaseFault> {
+    let forms = any_forms(call.alloc(), numbers)?;
+    match code_of(call, forms.as_slice()) {
+        Some(code) => splits(call.alloc(), forms.as_slice(), code.as_slice()),
+        None => Ok(false),
     }
 }
 
@@ -130,7 +136,7 @@ pub fn play(call: &mut Call) -> Result<(), CaseFault> {
     };
     let mut right: usize = 0;
     for _ in 0..call.count() {
-        if is_read_back(call.alloc(), &mut numbers)? {
+        if is_read_back(call, &mut numbers)? {
             right = right.saturating_add(1);
         }
     }

@@ -13,44 +13,44 @@ use wap_value::Value;
 use wap_verify::Verified;
 
 /// Gives why a script ended.
-fn give_fatal(call: &mut Call, why: Fatal) {
+fn give_fatal(call: &mut Call, why: &Fatal) {
     match why {
         Fatal::Aborted(text) => {
             call.give_word("Aborted");
-            call.give_text(&text);
+            call.give_text(text);
         }
-        why => call.give_named(&why),
+        why => call.give_named(why),
     }
 }
 
 /// Gives a dialog.
-fn give_dialog(call: &mut Call, dialog: Dialog) {
+fn give_dialog(call: &mut Call, dialog: &Dialog) {
     match dialog {
         Dialog::Prompt(message, default) => {
             call.give_word("prompt");
-            call.give_text(&message);
-            call.give_text(&default);
+            call.give_text(message);
+            call.give_text(default);
         }
         Dialog::Confirm(message, yes, no) => {
             call.give_word("confirm");
-            call.give_text(&message);
-            call.give_text(&yes);
-            call.give_text(&no);
+            call.give_text(message);
+            call.give_text(yes);
+            call.give_text(no);
         }
         Dialog::Alert(message) => {
             call.give_word("alert");
-            call.give_text(&message);
+            call.give_text(message);
         }
     }
 }
 
 /// Gives what a run came to.
-fn give_outcome(call: &mut Call, outcome: Outcome) {
+fn give_outcome(call: &mut Call, outcome: &Outcome) {
     match outcome {
-        Outcome::Done(value) => give_value(call, &value),
+        Outcome::Done(value) => give_value(call, value),
         Outcome::Exited(value) => {
             call.give_word("exit");
-            give_value(call, &value);
+            give_value(call, value);
         }
         Outcome::Fatal(why) => give_fatal(call, why),
         Outcome::Asks(dialog, _) => give_dialog(call, dialog),
@@ -58,10 +58,10 @@ fn give_outcome(call: &mut Call, outcome: Outcome) {
 }
 
 /// Gives what a run came to, or why it failed.
-fn give_end(call: &mut Call, end: Result<Outcome, RunErr>) {
+fn give_end(call: &mut Call, end: &Result<Outcome, RunErr>) {
     match end {
         Ok(outcome) => give_outcome(call, outcome),
-        Err(fault) => call.give_named(&fault),
+        Err(fault) => call.give_named(fault),
     }
 }
 
@@ -73,13 +73,13 @@ fn play(machine: Machine, host: &mut SmallHost, answers: Vec<Value>, call: &mut 
     for value in answers {
         match machine.run(host, &mut pages) {
             Ok(Outcome::Asks(dialog, waiting)) => {
-                give_dialog(call, dialog);
+                give_dialog(call, &dialog);
                 machine = waiting.answer(value);
             }
-            end => return give_end(call, end),
+            end => return give_end(call, &end),
         }
     }
-    give_end(call, machine.run(host, &mut pages));
+    give_end(call, &machine.run(host, &mut pages));
 }
 
 /// The URL of each unit.
@@ -94,7 +94,8 @@ fn base(alloc: Global) -> Result<Url, CaseFault> {
     })
 }
 
-/// The machine of a function at its beginning, if there is one that takes so many arguments.
+/// The machine of a function of a unit at its beginning, if there is one that takes so many
+/// arguments.
 fn start(
     alloc: Global,
     unit: Shared<Verified>,
@@ -128,26 +129,30 @@ fn next_unit(call: &mut Call) -> Result<Option<Shared<Verified>>, CaseFault> {
     Ok(Some(verified_of(call.alloc(), &bytes)?))
 }
 
-/// Runs a function of the first of two units, and gives what it comes to and the turns that are
-/// left.
-pub fn run(call: &mut Call) -> Result<(), CaseFault> {
-    let alloc = call.alloc();
+/// The host of the next two arguments, units, without turns.
+fn next_host(call: &mut Call) -> Result<SmallHost, CaseFault> {
     let Some(first) = next_unit(call)? else {
         return Err(CaseFault::Argument);
     };
-    let second = next_unit(call)?;
-    let depth = call.number8();
-    let turns = call.count() as u64;
-    let function = call.number8();
-    let arguments = values(call)?;
-    let answers = values(call)?;
-    let machine = start(alloc, first.share()?, function, arguments, depth)?;
-    let mut host = SmallHost {
-        alloc,
-        turns,
+    Ok(SmallHost {
+        alloc: call.alloc(),
+        turns: 0,
         first,
-        second,
-    };
+        second: next_unit(call)?,
+    })
+}
+
+/// Runs a function of the first of two units, and gives what it comes to and the turns that are
+/// left.
+pub fn run(call: &mut Call) -> Result<(), CaseFault> {
+    let mut host = next_host(call)?;
+    let unit = host.first.share()?;
+    let depth = call.number8();
+    host.turns = call.count() as u64;
+    let function = call.number8();
+    let arguments = values(call);
+    let machine = start(call.alloc(), unit, function, arguments, depth)?;
+    let answers = values(call);
     play(machine, &mut host, answers, call);
     call.give_number(i64::try_from(host.turns).unwrap_or(i64::MAX));
     Ok(())

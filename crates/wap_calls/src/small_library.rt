@@ -1,7 +1,7 @@
 //! The libraries of a small host.
 ghost use Rattle.std.specs.Prelude.{◌≡◌, IfOk, IfSome};
 ghost use Rattle.std.specs.Option.{option_copied};
-ghost use Rattle.wap_calls.specs.Small.{text_at, dialog_of, end_of, answer_of};
+ghost use Rattle.wap_calls.specs.Small.{text_at, text_or_none, dialog_of, end_of, answer_of};
 ghost use Rattle.wap_machine.specs.Hosts.{IsNoBudget};
 
 use std::alloc::Global;
@@ -22,30 +22,29 @@ fn text_at(arguments: &[Value], index: usize) -> Option<&Text>
     }
 }
 
-/// What a function of the library Dialogs asks, where its arguments are Strings.
-fn dialog(alloc: Global, function: u8, arguments: &[Value]) -> Result<Option<Dialog>, NoMemory>
+/// The characters of an argument that is a String, or none.
+fn text_or_none(alloc: Global, arguments: &[Value], index: usize) -> Result<Text, NoMemory>
+    ensures { IfOk result (λ text. text ≡ text_or_none arguments.now index) }
+{
+    match text_at(arguments, index) {
+        Some(text) => text.copy(alloc),
+        None => Ok(Text::new(alloc)),
+    }
+}
+
+/// What a function of the library Dialogs asks.
+fn dialog(alloc: Global, function: u8, arguments: &[Value]) -> Result<Dialog, NoMemory>
     ensures { IfOk result (λ asked. asked ≡ dialog_of function arguments.now) }
 {
-    let Some(message) = text_at(arguments, 0) else {
-        return Ok(None);
-    };
+    let message = text_or_none(alloc, arguments, 0)?;
     if function == 0 {
-        return match text_at(arguments, 1) {
-            Some(first) => Ok(Some(Dialog::Prompt(message.copy(alloc)?, first.copy(alloc)?))),
-            None => Ok(None),
-        };
+        return Ok(Dialog::Prompt(message, text_or_none(alloc, arguments, 1)?));
     }
     if function == 1 {
-        let Some(yes) = text_at(arguments, 1) else {
-            return Ok(None);
-        };
-        let Some(no) = text_at(arguments, 2) else {
-            return Ok(None);
-        };
-        let message = message.copy(alloc)?;
-        return Ok(Some(Dialog::Confirm(message, yes.copy(alloc)?, no.copy(alloc)?)));
+        let yes = text_or_none(alloc, arguments, 1)?;
+        return Ok(Dialog::Confirm(message, yes, text_or_none(alloc, arguments, 2)?));
     }
-    Ok(Some(Dialog::Alert(message.copy(alloc)?)))
+    Ok(Dialog::Alert(message))
 }
 
 /// What a function of the library Lang ends the script with.
@@ -60,10 +59,8 @@ fn end(alloc: Global, function: u8, arguments: &[Value]) -> Result<Option<HostOu
         };
     }
     if function == 11 {
-        return match text_at(arguments, 0) {
-            Some(message) => Ok(Some(HostOut::Fatal(Fatal::Aborted(message.copy(alloc)?)))),
-            None => Ok(None),
-        };
+        let message = text_or_none(alloc, arguments, 0)?;
+        return Ok(Some(HostOut::Fatal(Fatal::Aborted(message))));
     }
     Ok(None)
 }
@@ -82,10 +79,7 @@ pub(crate) fn answer(
         return end(alloc, function, arguments);
     }
     if library == 5 {
-        return match dialog(alloc, function, arguments)? {
-            Some(dialog) => Ok(Some(HostOut::Asks(dialog))),
-            None => Ok(None),
-        };
+        return Ok(Some(HostOut::Asks(dialog(alloc, function, arguments)?)));
     }
     Ok(None)
 }

@@ -76,10 +76,12 @@ fn is_shorter(row: &Row, operation: OpName, instr: Instr, bytes: usize) -> bool 
 fn is_shortest(part: &Part, instr: Instr, name: OpName) -> bool {
     let operation = operation_of(name);
     let bytes = instr.next.saturating_sub(part.at);
+    for row in &ROWS {
+        if is_shorter(row, operation, instr, bytes) {
+            return false;
+        }
+    }
     operation_of(instr.name) == operation
-        && !ROWS
-            .iter()
-            .any(|row| is_shorter(row, operation, instr, bytes))
 }
 
 /// Whether a jump leads to a place.
@@ -114,11 +116,21 @@ fn is_right(parts: &[Part], part: &Part) -> bool {
     }
 }
 
+/// Whether each part is what its form says.
+fn are_right(parts: &[Part]) -> bool {
+    for part in parts {
+        if !is_right(parts, part) {
+            return false;
+        }
+    }
+    true
+}
+
 /// Whether code splits into forms, each label with its index as its number: each instruction in its
 /// shortest spelling, and each jump to its label.
 pub fn splits(alloc: Global, forms: &[Form], code: &[u8]) -> Result<bool, CaseFault> {
     match parts(alloc, forms, code)? {
-        Some(parts) => Ok(parts.iter().all(|part| is_right(parts.as_slice(), part))),
+        Some(parts) => Ok(are_right(parts.as_slice())),
         None => Ok(false),
     }
 }

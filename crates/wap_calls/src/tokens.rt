@@ -1,5 +1,5 @@
 //! Calls of tokens.
-ghost use Rattle.std.specs.Prelude.{IfOk, IfSome};
+ghost use Rattle.std.specs.Prelude.{IfSome};
 ghost use Rattle.wap_lex.specs.Tokens.{AreTokens};
 
 use wap_casebook::{Call, CaseFault, text};
@@ -30,17 +30,18 @@ fn give_tokens(call: &mut Call, source: &[u8], tokens: &[Token]) -> Result<(), C
 }
 
 /// The tokens of a source, or nothing where why it has none was given.
-pub fn tokens_of(call: &mut Call, source: &[u8]) -> Result<Option<Vec<Token>>, CaseFault>
-    ensures { IfOk result (λ found. IfSome found (λ tokens. AreTokens source.now tokens.items)) }
+pub fn tokens_of(call: &mut Call, source: &[u8]) -> Option<Vec<Token>>
+    ensures { IfSome result (λ tokens. AreTokens source.now tokens.items) }
 {
     if source.len() > MOST {
-        return Err(CaseFault::Argument);
+        call.fail(CaseFault::Argument);
+        return None;
     }
     match lex(call.alloc(), source) {
-        Ok(tokens) => Ok(Some(tokens)),
+        Ok(tokens) => Some(tokens),
         Err(fault) => {
             call.give_named(&fault);
-            Ok(None)
+            None
         }
     }
 }
@@ -48,12 +49,12 @@ pub fn tokens_of(call: &mut Call, source: &[u8]) -> Result<Option<Vec<Token>>, C
 /// Reads a source, and gives its tokens or `yes`, or why it has none.
 pub fn read(call: &mut Call, is_told: bool) -> Result<(), CaseFault> {
     let source = call.bytes();
-    let Some(tokens) = tokens_of(call, source.as_slice())? else {
-        return Ok(());
-    };
-    if is_told {
-        return give_tokens(call, source.as_slice(), &tokens);
+    match tokens_of(call, source.as_slice()) {
+        Some(tokens) if is_told => give_tokens(call, source.as_slice(), &tokens),
+        Some(_) => {
+            call.give_truth(true);
+            Ok(())
+        }
+        None => Ok(()),
     }
-    call.give_truth(true);
-    Ok(())
 }

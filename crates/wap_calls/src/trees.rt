@@ -75,23 +75,21 @@ fn add_program(shown: &mut Shown, program: &Program) {
 
 /// The program of the source that is the next argument, or nothing where why there is none was
 /// given.
-pub fn program_of(call: &mut Call) -> Result<Option<Program>, CaseFault> {
+pub fn program_of(call: &mut Call) -> Option<Program> {
     let source = call.bytes();
-    let Some(tokens) = tokens_of(call, source.as_slice())? else {
-        return Ok(None);
-    };
+    let tokens = tokens_of(call, source.as_slice())?;
     match parse(call.alloc(), source.as_slice(), &tokens) {
-        Ok(program) => Ok(Some(program)),
+        Ok(program) => Some(program),
         Err(fault) => {
             call.give_named(&fault);
-            Ok(None)
+            None
         }
     }
 }
 
 /// Reads a source, and gives its tree, with its places in the source or without.
 pub fn show(call: &mut Call, has_places: bool) -> Result<(), CaseFault> {
-    let Some(program) = program_of(call)? else {
+    let Some(program) = program_of(call) else {
         return Ok(());
     };
     let mut shown = Shown::new(call.alloc(), has_places);
@@ -102,7 +100,7 @@ pub fn show(call: &mut Call, has_places: bool) -> Result<(), CaseFault> {
 
 /// Reads a source, and gives `yes` where it has a program.
 pub fn parses(call: &mut Call) -> Result<(), CaseFault> {
-    if program_of(call)?.is_some() {
+    if program_of(call).is_some() {
         call.give_truth(true);
     }
     Ok(())

@@ -29,15 +29,17 @@ pub fn value(call: &mut Call) -> Value {
 }
 
 /// The values that are left, or up to the word `answers`.
-pub fn values(call: &mut Call) -> Result<Vec<Value>, CaseFault> {
+pub fn values(call: &mut Call) -> Vec<Value> {
     let mut values = Vec::new(call.alloc());
     for _ in 0..u64::MAX {
         if !call.has_more() || call.takes("answers") {
             break;
         }
-        values.push(value(call))?;
+        if values.push(value(call)).is_err() {
+            call.fail(CaseFault::NoMemory);
+        }
     }
-    Ok(values)
+    values
 }
 
 /// Gives `true` or `false`.
