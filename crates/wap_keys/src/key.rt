@@ -99,14 +99,35 @@ fn read_u16(rest: Option<&str>) -> Result<(u16, Option<&str>), KeyFault>
     Ok((number as u16, rest))
 }
 
+fn read_open(alloc: Global, rest: Option<&str>) -> Result<Key, KeyFault>
+    ensures { Meets NoMemory (λ key. key) result (key_by (form_of word.Open)
+        (option_map (λ rest. rest.now) rest.entry)) }
+{
+    Ok(Key::Open(read_text(alloc, rest)?))
+}
+
+fn read_do(alloc: Global, rest: Option<&str>) -> Result<Key, KeyFault>
+    ensures { Meets NoMemory (λ key. key) result (key_by (form_of word.Do)
+        (option_map (λ rest. rest.now) rest.entry)) }
+{
+    Ok(Key::Do(read_text(alloc, rest)?))
+}
+
+fn read_answer(alloc: Global, rest: Option<&str>) -> Result<Key, KeyFault>
+    ensures { Meets NoMemory (λ key. key) result (key_by (form_of word.Answer)
+        (option_map (λ rest. rest.now) rest.entry)) }
+{
+    Ok(Key::Answer(read_text_or_none(alloc, rest)?))
+}
+
 /// The key of a word and its arguments.
 fn read_form(alloc: Global, word: Word, rest: Option<&str>) -> Result<Key, KeyFault>
     ensures { Meets NoMemory (λ key. key) result (key_by (form_of word)
         (option_map (λ rest. rest.now) rest.entry)) }
 {
     match word {
-        Word::Open => Ok(Key::Open(read_text(alloc, rest)?)),
-        Word::Do => Ok(Key::Do(read_text(alloc, rest)?)),
+        Word::Open => read_open(alloc, rest),
+        Word::Do => read_do(alloc, rest),
         Word::Pick => read_pick(rest),
         Word::Type => read_type(alloc, rest),
         Word::Choose => read_choose(rest),
@@ -114,7 +135,7 @@ fn read_form(alloc: Global, word: Word, rest: Option<&str>) -> Result<Key, KeyFa
         Word::Tick => read_tick(rest),
         Word::Ok => read_nothing(Key::Ok, rest),
         Word::Cancel => read_nothing(Key::Cancel, rest),
-        Word::Answer => Ok(Key::Answer(read_text_or_none(alloc, rest)?)),
+        Word::Answer => read_answer(alloc, rest),
         Word::Stop => read_nothing(Key::Stop, rest),
         Word::Vars => read_nothing(Key::Vars, rest),
         Word::Push => read_push(alloc, rest),

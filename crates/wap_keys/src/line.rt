@@ -31,6 +31,7 @@ pub fn without_return(line: &[u8]) -> &[u8]
 
 /// The key of a line, if it says one: an empty line and a comment say none. The line is given
 /// without its line feed and a carriage return before that.
+#[inline(always)]
 pub fn content_key(alloc: Global, content: &[u8]) -> Result<Option<Key>, KeyFault>
     ensures { Meets OutOfMemory (λ key. key) result (content_key content.now) }
 {

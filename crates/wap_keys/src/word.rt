@@ -27,7 +27,8 @@ pub(crate) enum Word {
 fn is_word(name: &[u8], word: &str) -> bool
     ensures { result ≡ is_same_text name.now word.now }
 {
-    name == word.as_bytes()
+    // (most words have another length)
+    name.len() == word.len() && name == word.as_bytes()
 }
 
 impl Word {
