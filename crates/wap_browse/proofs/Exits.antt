@@ -13,7 +13,7 @@ use Rattle.wap_keys.specs.declared.ending.Next.TheVariants as next
 use Rattle.wap_keys.specs.Lines.{Keys, keys_of}
 use Rattle.wap_keys.specs.Read.{AreFirst, HasGiven, IsRead}
 use Rattle.wap_keys.specs.Reading.{Reading, Answers, GivesUp, CountsFaults}
-use Rattle.wap_keys.proofs.ReaderLaws.{begun as nothing_read, given_of}
+use Rattle.wap_keys.proofs.ReaderLaws.{begun as nothing_read, given_of, gives_up_at_once}
 use Rattle.wap_keys.proofs.WholeLaws.{known_of, few_of, some_rest, none_left}
 use Rattle.wap_keys.proofs.FaultLaws.{ended_counts}
 use Rattle.wap_site.specs.Pages.{Pages as JudgedPages}
@@ -302,6 +302,13 @@ reader_runs_out play old now reader state source reaches gives steady =
       few = few_of old.source source taken given has;
       end_once = has.end_once;
     }
+
+-- or before the first
+pub none_read : (play : Play) (old now : Outside) (reader : Reading) (state : State)
+    → Reaches play old now reader state → BrowsesTo play old now NoMemory
+none_read play old now reader state reaches =
+    reader_runs_out play old now reader state now.source reaches
+    (gives_up_at_once now.source reader) refl
 
 -- ---- a key stopped it
 

@@ -1,6 +1,8 @@
 -- A key that is played: one that is no push leaves the inbox of a handset as it is.
-use Rattle.std.proofs.Common.{◌≡◌, ℕ, List, [], ◌∷◌, Option, Some, None, Ok, refl, ap, subst, ◌∙◌}
-use Rattle.wap_devices.specs.Transfer.{Appends}
+use Rattle.std.proofs.Common.{◌≡◌, ◌≤◌, ℕ, List, [], ◌∷◌, Option, Some, None, Ok, refl, ap, subst}
+use Rattle.std.proofs.Common.{◌∙◌}
+use Rattle.wap_base.specs.Count.{Rose}
+use Rattle.wap_devices.specs.Transfer.{Appends, AppendsPrefix}
 use Rattle.wap_input.specs.declared.key.Key.{Key}
 use Rattle.wap_input.specs.declared.key.Key.TheVariants as key
 use Rattle.wap_push.specs.declared.indication.Indication.{Indication}
@@ -24,7 +26,7 @@ use Rattle.wap_handset.specs.inside.Turns.{turned_by}
 use Rattle.wap_handset.proofs.Holding.{alone_with}
 use Rattle.wap_browse.specs.Plays.{IsNoPush}
 use Rattle.wap_browse.specs.inside.Played as played
-use Rattle.wap_browse.specs.inside.Played.{Moment, GoesOn}
+use Rattle.wap_browse.specs.inside.Played.{Moment, GoesOn, FailsAtSink}
 
 -- outside a dialog it takes none
 react_none : (site : Site) (one : Key) (handset : Handset) → IsNoPush one
@@ -121,4 +123,37 @@ module _ (one : Key) (old new : Moment) (lines : List (List ℕ))
     stays = plays.stays;
     steady = plays.steady;
     write_steady = steady;
+  }
+
+-- ---- a key whose lines were written in part
+
+module _ (one : Key) (old new : Moment) (lines : List (List ℕ))
+    (wrote : AppendsPrefix old.sink.written new.sink.written (lines_bytes lines)) where
+  part_there : (contents : Option JudgedPages)
+      → IfOver contents old.state.browser
+      (λ pages. Leads (one ∷ []) pages old.state new.state lines)
+      → IfOver contents old.state.browser
+      (λ pages. Asks (step_of pages (one ∷ []) old.state).asked old.pages new.pages)
+      → IfOver contents old.state.browser (λ pages. played.LeadsPart pages one old new)
+  part_there None leads asks = tt
+  part_there (Some judged) leads asks = λ is.
+      let led = leads is in
+      record {
+        on = led.on;
+        asks = asks is;
+        wrote = subst
+            (λ (shown : List (List ℕ)).
+            AppendsPrefix old.sink.written new.sink.written (lines_bytes shown)) led.tells wrote;
+      }
+
+  -- the session stops
+  pub stops_there : Plays (one ∷ []) old.pages new.pages old.state new.state (Ok lines)
+      → Rose old.sink.faults new.sink.faults → old.sink.faults ≤ new.sink.faults
+      → FailsAtSink one old new
+  stops_there plays rose counts = record {
+    leads = part_there old.pages.contents plays.leads plays.asks;
+    rose = rose;
+    counts = counts;
+    stays = plays.stays;
+    steady = plays.steady;
   }

@@ -7,7 +7,7 @@ ghost use Rattle.wap_browse.specs.Beginning.{begun_with};
 ghost use Rattle.wap_browse.specs.Plays.{opened};
 
 use crate::Beginning;
-use crate::playing::play_read;
+use crate::playing::play;
 use crate::reading::play_keys;
 use std::alloc::Global;
 use wap_devices::{Sink, Source};
@@ -35,7 +35,7 @@ pub fn browse_session<P: Pages, I: Source, O: Sink>(
 {
     let mut handset = Handset::new(alloc, begun.seed, begun.budget, begun.limits);
     let first = Key::Open(begun.url);
-    if let Err(status) = play_read(alloc, &mut handset, first, pages, out) {
+    if let Err(status) = play(alloc, &mut handset, &first, pages, out) {
         return (status, handset);
     }
     let status = play_keys(alloc, &mut handset, pages, keys, out);

@@ -1,10 +1,13 @@
 //! Playing a key.
-ghost use Rattle.std.specs.Prelude.{◌≡◌, false};
+ghost use Rattle.std.specs.Prelude.{◌≡◌, ◌∷◌, [], false};
+ghost use Rattle.wap_world.specs.declared.refusal.Refusal.TheVariants.{Ignored};
+ghost use Rattle.wap_world.specs.Lines.{refusal_line};
 ghost use Rattle.wap_browse.specs.inside.Played.{Plays};
 
 use std::alloc::Global;
 use wap_devices::{Failed, Sink, write_all};
 use wap_handset::{Handset, Key, SessionFault};
+use wap_lines::Lines;
 use wap_site::Pages;
 use wap_status::Status;
 
@@ -34,19 +37,28 @@ pub(crate) fn play<P: Pages, O: Sink>(
     }
 }
 
-/// Plays a key that was read, and that nothing needs afterwards.
+/// Plays a key that was read, and that nothing needs afterwards. One that fits nothing shows the
+/// line of that, which is made already.
 pub(crate) fn play_read<P: Pages, O: Sink>(
     alloc: Global,
     handset: &mut Handset,
     key: Key,
+    ignored: &Lines,
     pages: &mut P,
     out: &mut O,
 ) -> Result<(), Status>
-    requires { handset.old.is_over ≡ false }
+    requires going { handset.old.is_over ≡ false }
+    requires ignored { ignored.now ≡ refusal_line Ignored ∷ [] }
     ensures { Plays key
         (record { pages = P.seen pages.old; state = handset.old; sink = O.seen out.old })
         (record { pages = P.seen pages.new; state = handset.new; sink = O.seen out.new })
         result }
 {
-    play(alloc, handset, &key, pages, out)
+    if !handset.try_ignore(&key) {
+        return play(alloc, handset, &key, pages, out);
+    }
+    match write_all(out, ignored.as_written()) {
+        Ok(()) => Ok(()),
+        Err(Failed) => Err(Status::WriteFault),
+    }
 }

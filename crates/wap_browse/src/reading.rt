@@ -10,10 +10,11 @@ use crate::playing::play_read;
 use std::alloc::Global;
 use wap_base::NoMemory;
 use wap_devices::{Sink, Source};
-use wap_handset::Handset;
+use wap_handset::{Handset, refusal_lines};
 use wap_keys::{Next, Reader};
 use wap_site::Pages;
 use wap_status::Status;
+use wap_world::Refusal;
 
 /// Plays key after key of a source in a handset in which nothing failed: in a dialog they answer
 /// it. The lines of each are written before the next is read. Whatever led to here, keys come from
@@ -37,13 +38,16 @@ pub fn play_keys<P: Pages, I: Source, O: Sink>(
         → Rests play (outside_of from (I.seen keys.old)) handset.new }
 {
     let mut reader = Reader::new(alloc);
+    let Ok(ignored) = refusal_lines(alloc, Refusal::Ignored) else {
+        return Status::NoMemory;
+    };
     loop {
         let key = match reader.next(alloc, keys) {
             Ok(Next::Key(key)) => key,
             Ok(Next::Ended(ending)) => return status_of(handset.in_dialog(), ending),
             Err(NoMemory) => return Status::NoMemory,
         };
-        if let Err(status) = play_read(alloc, handset, key, pages, out) {
+        if let Err(status) = play_read(alloc, handset, key, &ignored, pages, out) {
             return status;
         }
     }

@@ -1,5 +1,5 @@
 -- Each key in a handset: played by its session, or by its inbox.
-use Rattle.std.proofs.Common.{◌≡◌, ℕ, List, [], ◌∷◌, true, false, Option, Some, None}
+use Rattle.std.proofs.Common.{◌≡◌, ℕ, List, [], ◌∷◌, Bool, true, false, Option, Some, None}
 use Rattle.std.proofs.Common.{Result, Ok, Err, map, refl, sym, ap, subst, ◌∙◌}
 use Rattle.std.specs.Prelude.{is_some, is_err, OnOk}
 use Rattle.std.specs.Option.{option_map, option_and_then}
@@ -298,3 +298,18 @@ module _ (sold : session.State) (winners : List Indication)
       misses_key (key.Answer text) is = misses_other (key.Answer text) refl
       misses_key key.Stop is = misses_other key.Stop refl
       misses_key key.Vars is = misses_other key.Vars refl
+
+-- ---- a key that the session ignores
+
+pub ignores_key : (sold snew : session.State) (winners : List Indication)
+    (own : HaveWinners winners winners) (one : Key) (seen : Seen) (lines : List (List ℕ))
+    (over : Bool) → is_of_inbox one ≡ false → sold.waiting ≡ None → over ≡ false
+    → session.Plays (one ∷ []) seen seen sold snew (Ok lines)
+    → IfOver seen.contents sold.browser (λ pages. TurnsTo one pages sold snew)
+    → Plays (one ∷ []) seen seen (state_of sold winners over) (state_of snew winners over)
+    (Ok lines)
+ignores_key sold snew winners own one seen lines over other rests going so turns =
+    subst (λ (b : Bool). Plays (one ∷ []) seen seen (state_of sold winners b)
+    (state_of snew winners b) (Ok lines)) (sym going)
+    (played_as one one seen seen sold snew winners winners own
+    (other_key sold winners own rests one other) lines so turns)

@@ -1,15 +1,18 @@
 //! Handsets.
 ghost use Rattle.std.specs.Prelude.{◌≡◌, ◌++◌, ◌∷◌, ℕ, List, [], true, false, is_some};
 ghost use Rattle.std.specs.Option.{option_copied};
-ghost use Rattle.std.specs.Prelude.{IfOk, OnOk, IfErr, OnErr, IsErrOf};
+ghost use Rattle.std.specs.Prelude.{IfOk, OnOk, IfErr, OnErr, IsErrOf, Ok};
 ghost use Rattle.wap_base.specs.Limits.{AreInRange};
 ghost use Rattle.wap_context.specs.Missing.{Missed};
 ghost use Rattle.wap_context.specs.Sites.{IfOver};
+ghost use Rattle.wap_site.specs.Asking.{Seen};
+ghost use Rattle.wap_world.specs.declared.refusal.Refusal.TheVariants.{Ignored};
+ghost use Rattle.wap_world.specs.Lines.{refusal_line};
 ghost use Rattle.wap_inbox.specs.Inbox.{HaveWinners};
 ghost use Rattle.wap_handset.specs.Feeding.{with_session, session_of};
 ghost use Rattle.wap_handset.specs.Feeding.{beginning, step_of, Plays, MissedAt, ShowsOn};
 
-use crate::keys::turn;
+use crate::keys::{is_of_inbox, turn};
 use std::alloc::Global;
 use std::marker::Model;
 use wap_base::{Limits, NoMemory};
@@ -83,6 +86,20 @@ impl Handset {
         ensures own { HaveWinners self.now.winners self.now.winners }
     {
         self.is_over
+    }
+
+    /// Plays a key that fits nothing, if that shows outside a dialog without a look at the card or
+    /// the inbox, and answers whether it did. The one line that the key shows isn't made:
+    /// `refusal_lines` has it. Any other key is left to `feed`.
+    pub fn try_ignore(&mut self, key: &Key) -> bool
+        ensures plays { result ≡ true → (seen : Seen) → Plays (key.now ∷ []) seen seen
+            self.old self.new (Ok (refusal_line Ignored ∷ [])) }
+        ensures kept { result ≡ false → self.new ≡ self.old }
+    {
+        if self.is_over || is_of_inbox(key) {
+            return false;
+        }
+        self.session.try_ignore(key)
     }
 
     /// Plays a key, and gives the lines that it shows. Outside a dialog `Push`, `Inbox` and

@@ -6,6 +6,7 @@ ghost use Rattle.wap_context.specs.Missing.{Missed};
 ghost use Rattle.wap_context.specs.Sites.{IfOver};
 ghost use Rattle.wap_world.specs.Lines.{shown_line};
 ghost use Rattle.wap_inbox.specs.Inbox.{HaveWinners};
+ghost use Rattle.wap_inboxes.specs.Inboxes.{is_of_inbox};
 ghost use Rattle.wap_handset.specs.Feeding.{step_of, Plays};
 ghost use Rattle.wap_handset.specs.inside.Turns.{state_of, followed_url, inbox_lines, pushes_after};
 
@@ -37,6 +38,27 @@ fn followed_url(inbox: &Inbox, alloc: Global, key: &Key) -> Result<Option<Text>,
         | Key::Vars
         | Key::Push(_)
         | Key::Inbox => Ok(None),
+    }
+}
+
+/// Whether a key is one of an inbox.
+pub(crate) fn is_of_inbox(key: &Key) -> bool
+    ensures { result ≡ is_of_inbox key.now }
+{
+    match key {
+        Key::Push(_) | Key::Inbox | Key::Follow(_) => true,
+        Key::Open(_)
+        | Key::Do(_)
+        | Key::Pick(_)
+        | Key::Enter(_, _)
+        | Key::Choose(_, _)
+        | Key::Back
+        | Key::Tick(_)
+        | Key::Ok
+        | Key::Cancel
+        | Key::Answer(_)
+        | Key::Stop
+        | Key::Vars => false,
     }
 }
 

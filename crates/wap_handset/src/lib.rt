@@ -6,4 +6,4 @@ mod keys;
 pub mod laws;
 
 pub use handset::Handset;
-pub use wap_session::{Key, SessionFault};
+pub use wap_session::{Key, SessionFault, refusal_lines};

@@ -4,5 +4,6 @@ pub mod Rules
 pub mod Alone
 pub mod Typing
 pub mod Turning
+pub mod Ignoring
 pub mod Replying
 pub mod Playing

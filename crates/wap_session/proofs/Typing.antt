@@ -1,6 +1,6 @@
 -- Fields of the card at hand.
 use Rattle.std.proofs.Common.{◌≡◌, ℕ, Bool, true, false, List, [], Option, Some, None, refl, sym, ap, subst, ◌∙◌}
-use Rattle.std.specs.Prelude.{is_some, if◌then◌else◌}
+use Rattle.std.specs.Prelude.{is_some, if◌then◌else◌, not}
 use Rattle.std.specs.Option.{option_map_or, option_and_then}
 use Rattle.wap_input.specs.declared.key.Key.{Key}
 use Rattle.wap_cardrules.specs.Dos.{do_task}
@@ -24,10 +24,10 @@ use Rattle.wap_world.specs.Tasks.{act}
 use Rattle.wap_world.specs.Setting.{fault_lines}
 use Rattle.wap_world.specs.Screens.{show}
 use Rattle.wap_world.specs.Keys.{ignored, act_or, type_text, after_text}
-use Rattle.wap_world.specs.Keys.{choose_option, after_choice, at_card, apply}
+use Rattle.wap_world.specs.Keys.{choose_option, after_choice, at_card, apply, pass_time}
 use Rattle.wap_context.specs.Browsers.{Browser, IsOver, Shows, with_vars, typed_in, chosen_in}
 use Rattle.wap_context.specs.Browsers.{place_held}
-use Rattle.wap_session.specs.inside.Pressing.{typed}
+use Rattle.wap_session.specs.inside.Pressing.{typed, fits_nothing}
 use Rattle.wap_context.proofs.Places.{held_now}
 use Rattle.wap_session.proofs.Rules.{LeadsTo}
 
@@ -252,3 +252,54 @@ back_none pages keys browser none is =
     back_now pages keys browser is
     ∙ ap (λ (b : Bool). if b then act (site_of pages) keys browser.world (then_task (Prev []))
     else quiet keys (ignored browser.world)) none
+
+-- ---- keys that fit nothing
+
+-- without a card there is no place
+no_place : (o : Option Place) → not (is_some o) ≡ true → o ≡ None
+no_place None none = refl
+no_place (Some place) none = absurd cc
+
+-- and a key that is for one is ignored
+without_card : (pages : Pages) (keys : List Key) (browser : Browser) (rule : Place → Step)
+    → not (is_some (place_held browser)) ≡ true → IsOver (shelf_of pages) browser
+    → at_card keys browser.world rule (place_now (shelf_of pages) browser.world)
+    ≡ quiet keys (ignored browser.world)
+without_card pages keys browser rule none is =
+    ap (λ (place : Option Place). at_card keys browser.world rule place)
+    (held_now (shelf_of pages) browser is ∙ no_place (place_held browser) none)
+
+-- each of them
+pub fits : (one : Key) (pages : Pages) (keys : List Key) (browser : Browser)
+    → fits_nothing (is_some (place_held browser)) one ≡ true → IsOver (shelf_of pages) browser
+    → apply (site_of pages) keys browser.world one ≡ quiet keys (ignored browser.world)
+unfolding units_site
+fits (key.Open url) pages keys browser nothing is = absurd cc
+fits (key.Do name) pages keys browser nothing is =
+    without_card pages keys browser
+    (λ place. act_or (ignored browser.world) (site_of pages) keys browser.world
+    (do_task browser.world.vars place.deck place.card name)) nothing is
+fits (key.Pick n) pages keys browser nothing is =
+    without_card pages keys browser
+    (λ place. act_or (ignored browser.world) (site_of pages) keys browser.world
+    (link_task browser.world.vars place.card n)) nothing is
+fits (key.Enter n text) pages keys browser nothing is =
+    without_card pages keys browser
+    (λ place. quiet keys (type_text (shelf_of pages) n text place browser.world)) nothing is
+fits (key.Choose n m) pages keys browser nothing is =
+    without_card pages keys browser
+    (λ place. choose_option (site_of pages) keys n m place browser.world) nothing is
+fits key.Back pages keys browser nothing is =
+    without_card pages keys browser
+    (λ place. act (site_of pages) keys browser.world (then_task (Prev []))) nothing is
+fits (key.Tick n) pages keys browser nothing is =
+    without_card pages keys browser
+    (λ place. pass_time (site_of pages) keys n browser.world.timer place browser.world) nothing is
+fits key.Ok pages keys browser nothing is = refl
+fits key.Cancel pages keys browser nothing is = refl
+fits (key.Answer text) pages keys browser nothing is = refl
+fits key.Stop pages keys browser nothing is = refl
+fits key.Vars pages keys browser nothing is = absurd cc
+fits (key.Push bytes) pages keys browser nothing is = refl
+fits key.Inbox pages keys browser nothing is = refl
+fits (key.Follow n) pages keys browser nothing is = refl

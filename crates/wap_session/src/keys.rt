@@ -1,6 +1,7 @@
 //! What each key does, one function for each that is more than one call.
 ghost use Rattle.std.specs.Prelude.{◌≡◌, ◌∷◌, [], IfOk};
 ghost use Rattle.std.specs.Option.{option_and_then};
+ghost use Rattle.std.specs.Prelude.{is_some};
 ghost use Rattle.wap_cardrules.specs.Dos.{do_task};
 ghost use Rattle.wap_cardrules.specs.Fields.{link_task};
 ghost use Rattle.wap_input.specs.declared.key.Key.TheVariants as the_keys;
@@ -14,7 +15,7 @@ ghost use Rattle.wap_context.specs.Browsers.{place_held, Shows};
 ghost use Rattle.wap_context.specs.Sites.{site_of};
 ghost use Rattle.wap_context.specs.Acting.{Acts};
 ghost use Rattle.wap_session.specs.inside.Turns.{IsBehind};
-ghost use Rattle.wap_session.specs.inside.Pressing.{typed};
+ghost use Rattle.wap_session.specs.inside.Pressing.{typed, fits_nothing};
 
 use crate::lines::{refusal_lines, variable_lines};
 use std::alloc::Global;
@@ -33,6 +34,28 @@ fn ignore(alloc: Global) -> Result<Step, NoMemory>
     ensures { IfOk result (λ did. did ≡ Step.Settled (refusal_line refusals.Ignored ∷ [])) }
 {
     Ok(Step::Settled(refusal_lines(alloc, Refusal::Ignored)?))
+}
+
+/// Whether a key fits nothing outside a dialog, as far as that shows without a look at the card.
+pub(crate) fn fits_nothing(context: &Context, key: &Key) -> bool
+    ensures { result ≡ fits_nothing (is_some (place_held context.now)) key.now }
+{
+    match key {
+        Key::Open(_) | Key::Vars => false,
+        Key::Do(_)
+        | Key::Pick(_)
+        | Key::Enter(_, _)
+        | Key::Choose(_, _)
+        | Key::Back
+        | Key::Tick(_) => !context.has_card(),
+        Key::Ok
+        | Key::Cancel
+        | Key::Answer(_)
+        | Key::Stop
+        | Key::Push(_)
+        | Key::Inbox
+        | Key::Follow(_) => true,
+    }
 }
 
 /// What was done, after further lines.

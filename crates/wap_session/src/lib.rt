@@ -12,5 +12,6 @@ mod standing;
 
 pub use dots::shown_lines;
 pub use fault::SessionFault;
+pub use lines::refusal_lines;
 pub use session::Session;
 pub use wap_input::Key;

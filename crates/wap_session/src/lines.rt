@@ -10,7 +10,7 @@ use wap_vars::Vars;
 use wap_world::Refusal;
 
 /// The lines of a refusal, which is one line.
-pub(crate) fn refusal_lines(alloc: Global, refusal: Refusal) -> Result<Lines, NoMemory>
+pub fn refusal_lines(alloc: Global, refusal: Refusal) -> Result<Lines, NoMemory>
     ensures { IfOk result (λ lines. lines ≡ refusal_line refusal ∷ []) }
 {
     let mut lines = Lines::new(alloc);

@@ -1,12 +1,17 @@
 //! Sessions.
-ghost use Rattle.std.specs.Prelude.{◌≡◌, ◌++◌, ◌∷◌, ℕ, List, [], true, is_some};
+ghost use Rattle.std.specs.Prelude.{◌≡◌, ◌++◌, ◌∷◌, ℕ, List, [], true, false, is_some, is_none};
+ghost use Rattle.std.specs.Prelude.{◌&&◌, not, None, Ok};
 ghost use Rattle.std.specs.Prelude.{IfOk, OnOk, IfErr, OnErr, IsErrOf};
 ghost use Rattle.wap_base.specs.Limits.{AreInRange};
 ghost use Rattle.wap_context.specs.Missing.{Missed};
 ghost use Rattle.wap_context.specs.Sites.{IfOver};
+ghost use Rattle.wap_site.specs.Asking.{Seen};
+ghost use Rattle.wap_world.specs.declared.refusal.Refusal.TheVariants.{Ignored};
+ghost use Rattle.wap_world.specs.Lines.{refusal_line};
 ghost use Rattle.wap_session.specs.Feeding.{beginning, step_of, TurnsTo, Plays, MissedAt, ShowsOn};
 
 use crate::SessionFault;
+use crate::keys::fits_nothing;
 use crate::standing::{Standing, after, turn};
 use std::alloc::Global;
 use std::marker::Model;
@@ -61,6 +66,39 @@ impl Session {
             Standing::Over => true,
             Standing::Rest | Standing::Waits(_) => false,
         }
+    }
+
+    /// Whether no script waits and no key failed.
+    fn rests(&self) -> bool
+        ensures { result ≡ (is_none self.now.waiting && not self.now.is_over) }
+    {
+        match &self.standing {
+            Standing::Rest => true,
+            Standing::Waits(_) | Standing::Over => false,
+        }
+    }
+
+    /// Plays a key that fits nothing, if that shows outside a dialog without a look at the card,
+    /// and answers whether it did. The one line that the key shows isn't made: `refusal_lines`
+    /// has it. Any other key is left to `feed`.
+    pub fn try_ignore(&mut self, key: &Key) -> bool
+        ensures plays { result ≡ true → (seen : Seen) → Plays (key.now ∷ []) seen seen
+            self.old self.new (Ok (refusal_line Ignored ∷ [])) }
+        ensures turns { result ≡ true → (seen : Seen)
+            → IfOver seen.contents self.old.browser (λ of. TurnsTo key.now of self.old self.new) }
+        ensures outside { result ≡ true → self.old.waiting ≡ None }
+        ensures ready { result ≡ true → self.new.is_over ≡ false }
+        ensures kept { result ≡ false → self.new ≡ self.old }
+    {
+        if !self.rests() {
+            return false;
+        }
+        if !fits_nothing(&self.context, key) {
+            return false;
+        }
+        let budget = self.context.budget();
+        self.context.begin_key(budget);
+        true
     }
 
     /// Plays a key, and gives the lines that it shows. In a dialog it answers this, if it can.

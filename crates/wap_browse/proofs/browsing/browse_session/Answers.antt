@@ -13,8 +13,8 @@ use Rattle.wap_browse.proofs.Summary.{browses_by}
 use Rattle.wap_browse.proofs.browsing.browse_session.Goals as goal
 
 -- a new handset isn't over
-pub play_read-requires : goal.play_read-requires
-play_read-requires g c =
+pub play-requires : goal.play-requires
+play-requires g c =
     ap (λ (state : State). state.is_over) (c.new-handset.ensures c.args.begun.url)
 
 -- the first key was played
@@ -26,9 +26,9 @@ returns-clause-browses g c =
     } in
     let begun = begun_with c.args.begun in
     let new : Moment = record {
-      pages = g.P.Pages.seen c.play_read.new.pages;
-      state = c.play_read.new.handset;
-      sink = g.O.Sink.seen c.play_read.new.out;
+      pages = g.P.Pages.seen c.play.new.pages;
+      state = c.play.new.handset;
+      sink = g.O.Sink.seen c.play.new.out;
     } in
     c.play_keys-status.ensures.browses (opened begun) from
     (browsed_after (opened begun) _ (Open begun.url) from from c.new-handset.result new
@@ -43,9 +43,9 @@ returns-clause-rests g c done =
     } in
     let begun = begun_with c.args.begun in
     let new : Moment = record {
-      pages = g.P.Pages.seen c.play_read.new.pages;
-      state = c.play_read.new.handset;
-      sink = g.O.Sink.seen c.play_read.new.out;
+      pages = g.P.Pages.seen c.play.new.pages;
+      state = c.play.new.handset;
+      sink = g.O.Sink.seen c.play.new.out;
     } in
     c.play_keys-status.ensures.rests (opened begun) from
     (browsed_after (opened begun) _ (Open begun.url) from from c.new-handset.result new
@@ -63,9 +63,9 @@ returns-in-Err-clause-browses g c =
     } in
     let begun = begun_with c.args.begun in
     let new : Moment = record {
-      pages = g.P.Pages.seen c.play_read.new.pages;
-      state = c.play_read.new.handset;
-      sink = g.O.Sink.seen c.play_read.new.out;
+      pages = g.P.Pages.seen c.play.new.pages;
+      state = c.play.new.handset;
+      sink = g.O.Sink.seen c.play.new.out;
     } in
     browses_by (opened begun) old (outside_of (played_to new) old.source) c.in-Err.status
     (first_stops (opened begun) old (moved_of old) c.new-handset.result (Open begun.url) new

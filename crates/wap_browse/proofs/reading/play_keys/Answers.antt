@@ -13,7 +13,7 @@ use Rattle.wap_browse.specs.Standing.{outside_of}
 use Rattle.wap_browse.specs.inside.Played.{Moment}
 use Rattle.wap_browse.proofs.Going.{goes_first, goes_more, played_to}
 use Rattle.wap_browse.proofs.Exits.{ended_browses, ended_rests, reader_runs_out, read_stops}
-use Rattle.wap_browse.proofs.Exits.{stop_undone}
+use Rattle.wap_browse.proofs.Exits.{stop_undone, none_read}
 use Rattle.wap_browse.proofs.Summary.{browses_by}
 use Rattle.wap_browse.proofs.reading.play_keys.Goals as goal
 
@@ -49,7 +49,7 @@ loop-key-preserved g c =
     c.in-Ok-Key.key source new c.loop-key.invariant
     (subst (Answers now.source source c.loop-key.reader c.next.new.self)
     c.in-Ok-Key.field-0-is c.in-Ok-Key.ensures.answers)
-    c.in_default.ensures
+    c.in_default-play_read.ensures
 
 -- a key stopped it
 pub returns-in-Err-play_read-clause-browses : goal.returns-in-Err-play_read-clause-browses
@@ -137,3 +137,19 @@ returns-in-Err-clause-browses g c play from began =
 
 pub returns-in-Err-clause-rests : goal.returns-in-Err-clause-rests
 returns-in-Err-clause-rests g c play from began done = absurd cc
+
+-- memory ran out before the first was read
+pub returns-in_default-clause-browses : goal.returns-in_default-clause-browses
+returns-in_default-clause-browses g c play from began =
+    let start : Outside = record {
+      pages = g.P.Pages.seen c.args.pages.now;
+      source = g.I.Source.seen c.args.keys.now;
+      sink = g.O.Sink.seen c.args.out.now;
+    } in
+    let old = outside_of from start.source in
+    let goes =
+    goes_first start c.new-reader.result c.args.handset.now c.requires
+    (c.new-reader.ensures.read start.source) in
+    browses_by play old start NoMemory
+    (none_read play old start c.new-reader.result c.args.handset.now
+    (goes.reaches play from began))
