@@ -44,6 +44,18 @@ pub struct Case {
     pub(crate) fault: Option<(usize, CaseFault)>,
 }
 
+/// Reads a line that has nothing after its words and may stand once.
+pub fn read_mark(mark: &mut bool, rest: &[u8]) -> Result<(), CaseFault> {
+    if !rest.is_empty() {
+        return Err(CaseFault::Line);
+    }
+    if *mark {
+        return Err(CaseFault::Again);
+    }
+    *mark = true;
+    Ok(())
+}
+
 /// Appends bytes and others after them, as a line and its end.
 pub fn add_both(out: &mut Bytes, first: &[u8], second: &[u8]) -> Result<(), CaseFault> {
     out.add(first)?;
@@ -119,12 +131,23 @@ impl Case {
     }
 
     /// Reads the line of the name. An empty line ends a case, so that it has only one.
-    pub(crate) fn read_name(&mut self, alloc: Global, line: &[u8]) -> Result<(), CaseFault> {
-        if !self.name.is_empty() {
+    pub(crate) fn read_name(&mut self, line: &[u8]) -> Result<(), CaseFault> {
+        if line.is_empty() {
             return Err(CaseFault::Line);
         }
-        self.name = Bytes::of(alloc, line)?;
+        if !self.name.is_empty() {
+            return Err(CaseFault::Again);
+        }
+        self.name.add(line)?;
         Ok(())
+    }
+
+    /// Reads the number of the status, and its line.
+    pub(crate) fn read_status(&mut self, line: &[u8]) -> Result<(), CaseFault> {
+        if !self.status.is_empty() {
+            return Err(CaseFault::Again);
+        }
+        add_both(&mut self.status, line, b"\n")
     }
 
     /// Adds the page of these names and bytes, as they are spelled, under a number.
@@ -196,6 +219,9 @@ impl Case {
     ) -> Result<(), CaseFault> {
         let (numbers, rest) = split_word(line);
         let (from, to) = range(numbers)?;
+        if from >= to {
+            return Err(CaseFault::Spelling);
+        }
         for number in from..to {
             self.add_numbered(alloc, pieces, split_value(rest), number)?;
         }
@@ -217,18 +243,6 @@ impl Case {
         line: &[u8],
     ) -> Result<(), CaseFault> {
         self.words.push(spelled_text(alloc, pieces, line, None)?)?;
-        Ok(())
-    }
-
-    /// Reads the line that says that it ends without a run, out of memory.
-    pub(crate) fn read_ended(&mut self) -> Result<(), CaseFault> {
-        self.is_without_memory = true;
-        Ok(())
-    }
-
-    /// Reads the line that says that the line of the status can't be written.
-    pub(crate) fn read_unprinted(&mut self) -> Result<(), CaseFault> {
-        self.is_unprinted = true;
         Ok(())
     }
 }

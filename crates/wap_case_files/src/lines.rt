@@ -1,6 +1,6 @@
 //! The lines of a case.
 use crate::Case;
-use crate::case::{add_both, add_spelled};
+use crate::case::{add_both, add_spelled, read_mark};
 use crate::numbers::Subject;
 use std::alloc::Global;
 use wap_casebook::{CaseFault, Pieces};
@@ -22,6 +22,7 @@ enum Line {
     Bytes,
     Status,
     Unprinted,
+    Number(Subject),
     Numbers(Subject),
 }
 
@@ -40,15 +41,15 @@ static LINES: [(&str, Line); 24] = [
     ("source fails", Line::Numbers(Subject::SourceFails)),
     ("source gives", Line::Numbers(Subject::SourceGives)),
     ("sink fails", Line::Numbers(Subject::SinkFails)),
-    ("sink takes", Line::Numbers(Subject::SinkTakes)),
-    ("sink holds", Line::Numbers(Subject::SinkHolds)),
+    ("sink takes", Line::Number(Subject::SinkTakes)),
+    ("sink holds", Line::Number(Subject::SinkHolds)),
     ("error fails", Line::Numbers(Subject::ErrorFails)),
     ("out", Line::Out),
     ("bytes", Line::Bytes),
     ("status", Line::Status),
-    ("asked", Line::Numbers(Subject::Asked)),
-    ("reads", Line::Numbers(Subject::Reads)),
-    ("left", Line::Numbers(Subject::Left)),
+    ("asked", Line::Number(Subject::Asked)),
+    ("reads", Line::Number(Subject::Reads)),
+    ("left", Line::Number(Subject::Left)),
     ("unprinted", Line::Unprinted),
     // After the lines of numbers that begin so.
     ("source", Line::Source),
@@ -82,7 +83,7 @@ fn read_rest(
     rest: &[u8],
 ) -> Result<(), CaseFault> {
     match known {
-        Line::Case => case.read_name(alloc, rest),
+        Line::Case => case.read_name(rest),
         Line::Page => case.read_page(alloc, pieces, rest),
         Line::Pages => case.read_pages(alloc, pieces, rest),
         Line::Deck => case.read_deck(alloc, rest),
@@ -91,12 +92,13 @@ fn read_rest(
         Line::Argument => case.read_argument(alloc, pieces, rest),
         Line::Key => add_both(&mut case.keys, rest, b"\n"),
         Line::Keys => add_spelled(&mut case.keys, alloc, pieces, rest),
-        Line::Ended => case.read_ended(),
+        Line::Ended => read_mark(&mut case.is_without_memory, rest),
         Line::Out => add_both(&mut case.shown, rest, b"\n"),
         Line::Bytes => add_spelled(&mut case.shown, alloc, pieces, rest),
-        Line::Status => add_both(&mut case.status, rest, b"\n"),
-        Line::Unprinted => case.read_unprinted(),
-        Line::Numbers(subject) => case.numbers.read(subject, rest),
+        Line::Status => case.read_status(rest),
+        Line::Unprinted => read_mark(&mut case.is_unprinted, rest),
+        Line::Number(subject) => case.numbers.read_one(subject, rest),
+        Line::Numbers(subject) => case.numbers.read_several(subject, rest),
     }
 }
 

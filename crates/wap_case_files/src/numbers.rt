@@ -1,7 +1,7 @@
 //! The numbers that a case says of its devices, and of what is wanted of them.
 use std::alloc::Global;
 use wap_base::NoMemory;
-use wap_casebook::{CaseFault, number, split_word};
+use wap_casebook::{CaseFault, number};
 
 /// What numbers are said of.
 #[derive(Clone, Copy, PartialEq)]
@@ -28,14 +28,6 @@ pub enum Subject {
     Left,
 }
 
-/// The one number that a word is, from 0 on.
-fn one_number(word: &[u8]) -> Result<u64, CaseFault> {
-    match u64::try_from(number(word)?) {
-        Ok(number) => Ok(number),
-        Err(_) => Err(CaseFault::Spelling),
-    }
-}
-
 /// Numbers, each with what it is said of.
 #[derive(Drop)]
 pub struct Numbers {
@@ -50,18 +42,36 @@ impl Numbers {
         }
     }
 
-    /// Reads the numbers that a line has, from 0 on.
-    pub fn read(&mut self, subject: Subject, line: &[u8]) -> Result<(), CaseFault> {
-        let mut rest = line;
-        for _ in 0..line.len() {
-            if rest.is_empty() {
-                break;
-            }
-            let (word, others) = split_word(rest);
-            self.said.push((subject, one_number(word)?))?;
-            rest = others;
+    /// Reads the line of a subject that has one number, from 0 on.
+    pub fn read_one(&mut self, subject: Subject, line: &[u8]) -> Result<(), CaseFault> {
+        self.begin(subject)?;
+        self.add(subject, line, 0)
+    }
+
+    /// Reads the line of a subject that may have several numbers, from 1 on, with a blank between
+    /// them.
+    pub fn read_several(&mut self, subject: Subject, line: &[u8]) -> Result<(), CaseFault> {
+        self.begin(subject)?;
+        for word in line.split(|byte| *byte == b' ') {
+            self.add(subject, word, 1)?;
         }
         Ok(())
+    }
+
+    /// Begins with the line of a subject, which stands once.
+    fn begin(&self, subject: Subject) -> Result<(), CaseFault> {
+        match self.last(subject) {
+            Some(_) => Err(CaseFault::Again),
+            None => Ok(()),
+        }
+    }
+
+    /// Adds the number that a word spells, if it is no lower than the least.
+    fn add(&mut self, subject: Subject, word: &[u8], least: u64) -> Result<(), CaseFault> {
+        match u64::try_from(number(word)?) {
+            Ok(number) if number >= least => Ok(self.said.push((subject, number))?),
+            _ => Err(CaseFault::Spelling),
+        }
     }
 
     /// The numbers that are said of a subject.

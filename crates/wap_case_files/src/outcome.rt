@@ -48,9 +48,9 @@ fn is_read(wanted: Option<u64>, source: &mut MemSource) -> bool {
 
 /// The number of a status and its line, as a case says them.
 fn status_line(alloc: Global, number: u8, line: &[u8]) -> Result<Bytes, NoMemory> {
-    let number = format!(in alloc; "{number}")?;
+    let mark = if line.is_empty() { "\n" } else { " " };
+    let number = format!(in alloc; "{number}{mark}")?;
     let mut status = Bytes::of(alloc, number.as_bytes())?;
-    status.push(if line.is_empty() { b'\n' } else { b' ' })?;
     status.add(line)?;
     Ok(status)
 }

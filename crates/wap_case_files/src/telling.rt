@@ -2,7 +2,7 @@
 use crate::numbers::Subject;
 use crate::{Case, Outcome};
 use std::alloc::{AllocError, Global};
-use wap_casebook::{CaseFault, add_all};
+use wap_casebook::CaseFault;
 
 /// The most bytes that are shown of what differs.
 const MOST: usize = 400;
@@ -11,7 +11,10 @@ const MOST: usize = 400;
 fn fork(wanted: &[u8], came: &[u8]) -> usize {
     let mut begin = 0;
     for (at, byte) in wanted.iter().enumerate() {
-        if came.get(at) != Some(byte) {
+        let Some(other) = came.get(at) else {
+            break;
+        };
+        if *other != *byte {
             break;
         }
         if *byte == b'\n' {
@@ -41,8 +44,7 @@ fn add_text(
         return Ok(());
     }
     let from = fork(wanted, came);
-    out.push_str(name)?;
-    write!(out, " from byte {from}\n      wanted ")?;
+    write!(out, "{name} from byte {from}\n      wanted ")?;
     add_bytes(out, alloc, wanted, from)?;
     out.push_str("\n      came   ")?;
     add_bytes(out, alloc, came, from)?;
@@ -113,16 +115,15 @@ impl Case {
 /// Appends the name of a case and where it stands.
 pub fn add_head(out: &mut String, alloc: Global, case: &Case) -> Result<(), AllocError> {
     let name = String::from_utf8_lossy(alloc, case.name.as_slice())?;
-    let line = case.line;
-    add_all(out, &["case ", name.as_str()])?;
-    write!(out, " at line {line}\n")
+    let (name, line) = (name.as_str(), case.line);
+    write!(out, "case {name} at line {line}\n")
 }
 
 /// Appends why a case isn't played, and the line that can't be read.
 pub fn add_fault(out: &mut String, case: &Case, fault: CaseFault) -> Result<(), AllocError> {
-    out.push_str("    ")?;
-    if let Some((line, _)) = case.fault {
-        write!(out, "line {line}: ")?;
+    let message = fault.message();
+    match case.fault {
+        Some((line, _)) => write!(out, "    line {line}: {message}\n"),
+        None => write!(out, "    {message}\n"),
     }
-    add_all(out, &[fault.message(), "\n"])
 }

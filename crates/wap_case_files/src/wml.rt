@@ -1,7 +1,7 @@
 //! Decks as texts of WML, and the bytes of their documents.
 use std::alloc::Global;
 use wap_base::Bytes;
-use wap_casebook::{CaseFault, meaning_of, number, split_by};
+use wap_casebook::{CaseFault, number, split_by};
 use wap_markup::{ATTR_NAMES, ATTR_STARTS, AttrName, END, EXT_I_0, EXT_I_1, EXT_I_2, STR_I, TAGS};
 
 /// What a document begins with: WBXML 1.3, WML 1.3, UTF-8, no string table, and the root.
@@ -25,12 +25,13 @@ fn tag_code(name: &[u8]) -> Option<u8> {
 
 /// The attribute of a name.
 fn attribute_of(name: &[u8]) -> Option<AttrName> {
+    let mut found = None;
     for (attribute, known) in &ATTR_NAMES {
         if known.as_bytes() == name {
-            return Some(*attribute);
+            found = Some(*attribute);
         }
     }
-    None
+    found
 }
 
 /// Whether a rest of a value is shorter than the one found before.
@@ -58,14 +59,22 @@ fn start_of<'a>(name: &[u8], value: &'a [u8]) -> Option<(u8, &'a [u8])> {
     found
 }
 
-/// The bytes that stand in a text only by these names.
-static ENTITIES: [(&str, u8); 3] = [("amp", b'&'), ("lt", b'<'), ("quot", b'"')];
+/// The byte of a number.
+fn numbered(digits: &[u8]) -> Option<u8> {
+    match number(digits) {
+        Ok(number) => u8::try_from(number).ok(),
+        Err(_) => None,
+    }
+}
 
 /// The byte of a name between `&` and `;`, which may also be its number, as in `&#10;`.
 fn entity(name: &[u8]) -> Option<u8> {
     match name {
-        [b'#', digits @ ..] => u8::try_from(number(digits).ok()?).ok(),
-        _ => meaning_of(&ENTITIES, name),
+        b"amp" => Some(b'&'),
+        b"lt" => Some(b'<'),
+        b"quot" => Some(b'"'),
+        [b'#', digits @ ..] => numbered(digits),
+        _ => None,
     }
 }
 

@@ -1,5 +1,4 @@
 //! The call of a line.
-use crate::calls::add_all;
 use crate::spelling::spelled_bytes;
 use crate::words::{number, split_value, text};
 use crate::{CaseFault, Pieces};
@@ -74,12 +73,20 @@ impl Call {
         self.fault.is_some() || !self.is_as_wanted || !self.wanted.is_empty()
     }
 
-    /// Tells what the call gave, or why it isn't played.
-    pub fn tell(&self, out: &mut String) -> Result<(), AllocError> {
-        match self.fault {
-            Some(fault) => add_all(out, &["not played: ", fault.message()]),
-            None => add_all(out, &["came", self.given.as_str()]),
+    /// Notes that the call was made, which takes all of its arguments.
+    pub fn end(&mut self) {
+        if !self.arguments.is_empty() {
+            self.fail(CaseFault::Argument);
         }
+    }
+
+    /// Tells the line of the call, and in another what it gave, or why it isn't played.
+    pub fn tell(&self, out: &mut String, line: &str) -> Result<(), AllocError> {
+        let (told, what) = match self.fault {
+            Some(fault) => ("not played: ", fault.message()),
+            None => ("came", self.given.as_str()),
+        };
+        write!(out, "{line}\n    {told}{what}\n")
     }
 
     /// The call isn't played, for this reason.
@@ -261,7 +268,7 @@ impl Call {
             Some(wanted) => wanted.as_slice() == word.as_bytes(),
             None => false,
         };
-        let told = add_all(&mut self.given, &[" ", word]);
+        let told = write!(self.given, " {word}");
         self.note(is_wanted, told);
     }
 

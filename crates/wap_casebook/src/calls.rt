@@ -28,14 +28,6 @@ impl Tally {
     }
 }
 
-/// Appends texts one after the other.
-pub fn add_all(out: &mut String, texts: &[&str]) -> Result<(), AllocError> {
-    for text in texts {
-        out.push_str(text)?;
-    }
-    Ok(())
-}
-
 /// Plays a line, which gives a name to bytes or makes a call.
 fn play_line<C: Calls>(calls: &C, call: &mut Call, line: &[u8]) -> Result<(), CaseFault> {
     let (name, rest) = split_word(line);
@@ -43,17 +35,21 @@ fn play_line<C: Calls>(calls: &C, call: &mut Call, line: &[u8]) -> Result<(), Ca
         return call.define(rest);
     }
     call.begin(rest)?;
-    calls.make(name, call)
+    calls.make(name, call)?;
+    call.end();
+    Ok(())
 }
 
 /// Tells of a line whose call differs.
-fn tell(out: &mut String, place: (&str, u64), line: &str, call: &Call) -> Result<(), AllocError> {
-    let (file, number) = place;
-    out.push_str(file)?;
-    write!(out, " {number}: ")?;
-    add_all(out, &[line, "\n    "])?;
-    call.tell(out)?;
-    out.push_str("\n")
+fn tell(
+    out: &mut String,
+    file: &str,
+    number: u64,
+    line: &str,
+    call: &Call,
+) -> Result<(), AllocError> {
+    write!(out, "{file} {number}: ")?;
+    call.tell(out, line)
 }
 
 /// Plays a line that is neither empty nor a comment, counts it, and answers whether it differs.
@@ -86,7 +82,7 @@ fn play_lines<C: Calls>(
             continue;
         }
         if count_line(calls, &mut call, &mut tally, line) {
-            tell(told, (file, number), line, &call)?;
+            tell(told, file, number, line, &call)?;
         }
     }
     Ok(tally)
@@ -102,8 +98,7 @@ fn play_text<C: Calls>(
     lines: &str,
 ) -> Result<bool, AllocError> {
     let Tally { played, differing } = play_lines(told, alloc, calls, file, lines)?;
-    told.push_str(file)?;
-    write!(told, ": {played} calls, {differing} differ\n")?;
+    write!(told, "{file}: {played} calls, {differing} differ\n")?;
     Ok(differing > 0)
 }
 

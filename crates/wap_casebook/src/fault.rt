@@ -7,9 +7,11 @@ use wap_base::NoMemory;
 pub enum CaseFault {
     /// It is none of the lines that are known.
     Line,
+    /// It may stand once, and stands again.
+    Again,
     /// Bytes, a text or a number in it are misspelled.
     Spelling,
-    /// An argument is missing, or isn't what the call takes.
+    /// An argument is missing, isn't what the call takes, or is one more.
     Argument,
     NoMemory,
 }
@@ -19,8 +21,9 @@ impl CaseFault {
     pub fn message(self) -> &'static str {
         match self {
             CaseFault::Line => "no line or call is like this",
+            CaseFault::Again => "such a line may stand once",
             CaseFault::Spelling => "bytes, a text or a number are misspelled",
-            CaseFault::Argument => "an argument is missing, or isn't what the call takes",
+            CaseFault::Argument => "an argument is missing, one more, or not what the call takes",
             CaseFault::NoMemory => "out of memory",
         }
     }

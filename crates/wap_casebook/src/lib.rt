@@ -12,7 +12,7 @@ mod spelling;
 mod words;
 
 pub use call::{Call, meaning_of, word_of};
-pub use calls::{Calls, Tally, add_all, play_calls};
+pub use calls::{Calls, Tally, play_calls};
 pub use fault::CaseFault;
 pub use pieces::Pieces;
 pub use spelling::{spelled_bytes, spelled_text};
