@@ -1,42 +1,44 @@
-//! Forms in a row: instructions of one byte, and jumps each over so many of the others.
-use crate::operations::operation_of;
+//! Forms in a row: instructions of one byte, and jumps each over so many of the others, which stand
+//! alone in their list.
 use std::alloc::AllocError;
 use wap_asm::Form;
 use wap_code::{Instr, OpName};
 
-/// The number of the first label of a chain; those that a line names stand below it.
-const FIRST: u32 = 1_000_000;
-
-/// An instruction with these operands.
-pub fn instruction(name: OpName, a: u32, b: u32, c: u32) -> Form {
-    Form::Op(Instr {
-        name,
-        a,
-        b,
-        c,
-        next: 0,
-    })
-}
+/// The instruction of one byte.
+const POP: Form = Form::Op(Instr {
+    name: OpName::Pop,
+    a: 0,
+    b: 0,
+    c: 0,
+    next: 0,
+});
 
 /// Adds so many instructions of one byte.
-pub fn add_pops(forms: &mut Vec<Form>, count: usize) -> Result<(), AllocError> {
+pub fn add_pops(forms: &mut Vec<Form>, count: u32) -> Result<(), AllocError> {
     for _ in 0..count {
-        forms.push(instruction(OpName::Pop, 0, 0, 0))?;
+        forms.push(POP)?;
     }
     Ok(())
 }
 
-/// The label of a jump of a chain.
-fn label(jump: u32) -> u32 {
-    FIRST.saturating_add(jump)
+/// Adds a label, whose number is its place.
+pub fn add_label(forms: &mut Vec<Form>) -> Result<(), AllocError> {
+    let place = u32::try_from(forms.len()).unwrap_or(u32::MAX);
+    forms.push(Form::Label(place))?;
+    Ok(())
 }
 
-/// Adds the labels of the jumps from one to another.
-fn add_labels(forms: &mut Vec<Form>, from: u32, to: u32) -> Result<(), AllocError> {
-    for jump in from..to {
-        forms.push(Form::Label(label(jump)))?;
+/// Adds so many labels.
+fn add_labels(forms: &mut Vec<Form>, count: u32) -> Result<(), AllocError> {
+    for _ in 0..count {
+        add_label(forms)?;
     }
     Ok(())
+}
+
+/// Twice a number and another.
+fn twice_and(number: u32, other: u32) -> u32 {
+    number.saturating_mul(2).saturating_add(other)
 }
 
 /// Adds jumps forward, each over so many that follow it. Those that fewer follow are over so many
@@ -46,18 +48,24 @@ fn add_onward(
     name: OpName,
     count: u32,
     span: u32,
-    last: usize,
+    last: u32,
 ) -> Result<(), AllocError> {
+    // so many have all that they are over, and each label of theirs stands before a jump
+    let whole = count.saturating_sub(span);
     for jump in 0..count {
         if jump > span {
-            forms.push(Form::Label(label(jump - span - 1)))?;
+            add_label(forms)?;
         }
-        forms.push(Form::Jump(name, label(jump)))?;
+        let place = if jump < whole {
+            twice_and(jump, span.saturating_add(1))
+        } else {
+            count.saturating_add(jump).saturating_add(last)
+        };
+        forms.push(Form::Jump(name, place))?;
     }
-    let rest = count.saturating_sub(span);
-    add_labels(forms, rest.saturating_sub(1), rest)?;
+    add_labels(forms, if whole > 0 { 1 } else { 0 })?;
     add_pops(forms, last)?;
-    add_labels(forms, rest, count)
+    add_labels(forms, count - whole)
 }
 
 /// Adds jumps backward, each over so many that stand before it. Those that fewer stand before are
@@ -67,16 +75,20 @@ fn add_backward(
     name: OpName,
     count: u32,
     span: u32,
-    first: usize,
+    first: u32,
 ) -> Result<(), AllocError> {
-    add_labels(forms, 0, if span < count { span } else { count })?;
+    add_labels(forms, if span < count { span } else { count })?;
     add_pops(forms, first)?;
     for jump in 0..count {
-        let later = jump.saturating_add(span);
-        if later < count {
-            forms.push(Form::Label(label(later)))?;
+        if jump.saturating_add(span) < count {
+            add_label(forms)?;
         }
-        forms.push(Form::Jump(name, label(jump)))?;
+        let place = if jump < span {
+            jump
+        } else {
+            twice_and(jump - span, span.saturating_add(first))
+        };
+        forms.push(Form::Jump(name, place))?;
     }
     Ok(())
 }
@@ -88,11 +100,10 @@ pub fn add_chain(
     name: OpName,
     count: u32,
     span: u32,
-    last: usize,
+    last: u32,
 ) -> Result<(), AllocError> {
-    match operation_of(name) {
-        OpName::JumpFw => add_onward(forms, name, count, span, last),
-        OpName::TjumpFw => add_onward(forms, name, count, span, last),
+    match name {
+        OpName::JumpFw | OpName::TjumpFw => add_onward(forms, name, count, span, last),
         _ => add_backward(forms, name, count, span, last),
     }
 }

@@ -1,18 +1,15 @@
-//! Forms as lines have them.
-use crate::chains::{add_chain, add_pops, instruction};
-use crate::instructions::NAMES;
-use crate::numbering::numbered;
+//! Forms as lines have them: each label has its place in the list as its number.
+use crate::chains::{add_chain, add_label, add_pops};
 use wap_asm::Form;
 use wap_casebook::{Call, CaseFault};
+use wap_code::OpName;
 
 /// What stands in a list of forms.
 #[derive(Clone, Copy)]
 enum Item {
-    /// An instruction: its name and three operands.
-    Op,
-    /// A jump: its name and its label.
+    /// A jump: its name and the place of its label.
     Jump,
-    /// A label: its number.
+    /// A label.
     Label,
     /// So many instructions of one byte.
     Pops,
@@ -22,49 +19,47 @@ enum Item {
 }
 
 /// What stands in a list of forms, by its name.
-static ITEMS: [(&str, Item); 5] = [
-    ("op", Item::Op),
+static ITEMS: [(&str, Item); 4] = [
     ("jump", Item::Jump),
     ("label", Item::Label),
     ("pops", Item::Pops),
     ("chain", Item::Chain),
 ];
 
-/// Adds the instruction that the next arguments say.
-fn add_instruction(call: &mut Call, forms: &mut Vec<Form>) -> Result<(), CaseFault> {
-    let name = call.meaning(&NAMES)?;
-    let (a, b, c) = (call.number32(), call.number32(), call.number32());
-    forms.push(instruction(name, a, b, c))?;
-    Ok(())
-}
+/// The jumps.
+static JUMPS: [(&str, OpName); 4] = [
+    ("JUMP_FW", OpName::JumpFw),
+    ("JUMP_BW", OpName::JumpBw),
+    ("TJUMP_FW", OpName::TjumpFw),
+    ("TJUMP_BW", OpName::TjumpBw),
+];
 
 /// Adds the jump that the next arguments say.
 fn add_jump(call: &mut Call, forms: &mut Vec<Form>) -> Result<(), CaseFault> {
-    let name = call.meaning(&NAMES)?;
+    let name = call.meaning(&JUMPS)?;
     forms.push(Form::Jump(name, call.number32()))?;
     Ok(())
 }
 
 /// Adds the jumps that the next arguments say.
 fn add_jumps(call: &mut Call, forms: &mut Vec<Form>) -> Result<(), CaseFault> {
-    let name = call.meaning(&NAMES)?;
+    let name = call.meaning(&JUMPS)?;
     let (count, span) = (call.number32(), call.number32());
-    add_chain(forms, name, count, span, call.count())?;
+    add_chain(forms, name, count, span, call.number32())?;
     Ok(())
 }
 
 /// Adds what the next arguments say.
 fn add_item(call: &mut Call, forms: &mut Vec<Form>) -> Result<(), CaseFault> {
     match call.meaning(&ITEMS)? {
-        Item::Op => add_instruction(call, forms),
         Item::Jump => add_jump(call, forms),
-        Item::Label => Ok(forms.push(Form::Label(call.number32()))?),
-        Item::Pops => Ok(add_pops(forms, call.count())?),
+        Item::Label => Ok(add_label(forms)?),
+        Item::Pops => Ok(add_pops(forms, call.number32())?),
         Item::Chain => add_jumps(call, forms),
     }
 }
 
-/// The forms that the arguments say, each label with its index as its number.
+/// The forms that the arguments say.
 pub fn forms(call: &mut Call) -> Result<Vec<Form>, CaseFault> {
     let mut forms = Vec::new(call.alloc());
     for _ in 0..u64::MAX {
@@ -73,5 +68,5 @@ pub fn forms(call: &mut Call) -> Result<Vec<Form>, CaseFault> {
         }
         add_item(call, &mut forms)?;
     }
-    numbered(call.alloc(), forms.as_slice())
+    Ok(forms)
 }

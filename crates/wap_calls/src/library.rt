@@ -1,21 +1,15 @@
-//! Calls of functions, alone or one after the other.
-use crate::values::{give_value, value, values};
+//! Calls of functions of the libraries.
+use crate::values::{give_value, values};
 use wap_asm::lib_args;
 use wap_casebook::{Call, CaseFault, split_by};
 use wap_code::LIBRARY;
 use wap_libs::{Gen, LibOut, arguments_of, call_pure};
-use wap_value::Value;
 
 /// The seed of a session that nothing is said of.
 const SEED: u32 = 7;
 
 /// The limit of Strings where nothing is said.
 const LIMIT: u32 = 65_535;
-
-/// The numbers of `Lang.random` and `Lang.seed`.
-const RANDOM: (u16, u8) = (0, 12);
-
-const RESTART: (u16, u8) = (0, 13);
 
 /// The numbers of a library and of a function in it, by a name as `Lang.abs`.
 fn numbers_of(name: &[u8]) -> Option<(u16, u8)> {
@@ -44,35 +38,24 @@ fn give_outcome(call: &mut Call, outcome: &LibOut) {
 }
 
 /// Calls a function, and gives what that comes to.
-fn give_call(
-    call: &mut Call,
-    numbers: (u16, u8),
-    values: Vec<Value>,
-    generator: &mut Gen,
-    limit: u32,
-) -> Result<(), CaseFault> {
+fn give_call(call: &mut Call, numbers: (u16, u8), limit: u32) -> Result<(), CaseFault> {
     let (lib, f) = numbers;
+    let values = values(call);
     match arguments_of(lib, f) {
         Some(count) if usize::from(count) == values.len() => {}
         _ => return Err(CaseFault::Argument),
     }
-    match call_pure(call.alloc(), lib, f, values, generator, limit) {
+    match call_pure(call.alloc(), lib, f, values, &mut Gen::new(SEED), limit) {
         Ok(outcome) => give_outcome(call, &outcome),
         Err(fault) => call.give_named(&fault),
     }
     Ok(())
 }
 
-/// Calls a function of a session that begins with the call.
-fn call_alone(call: &mut Call, numbers: (u16, u8), limit: u32) -> Result<(), CaseFault> {
-    let values = values(call);
-    give_call(call, numbers, values, &mut Gen::new(SEED), limit)
-}
-
 /// Calls a function by its name, as `Lang.abs`.
 pub fn call_named(name: &[u8], call: &mut Call) -> Result<(), CaseFault> {
     match numbers_of(name) {
-        Some(numbers) => call_alone(call, numbers, LIMIT),
+        Some(numbers) => give_call(call, numbers, LIMIT),
         None => Err(CaseFault::Line),
     }
 }
@@ -81,42 +64,7 @@ pub fn call_named(name: &[u8], call: &mut Call) -> Result<(), CaseFault> {
 pub fn call_within(call: &mut Call) -> Result<(), CaseFault> {
     let limit = call.number32();
     let numbers = numbers_of(call.word().as_slice()).ok_or(CaseFault::Argument)?;
-    call_alone(call, numbers, limit)
-}
-
-/// Calls a function of one argument, a value.
-fn call_with(
-    call: &mut Call,
-    numbers: (u16, u8),
-    value: Value,
-    generator: &mut Gen,
-) -> Result<(), CaseFault> {
-    let values = vec![in call.alloc(); value]?;
-    give_call(call, numbers, values, generator, LIMIT)
-}
-
-/// Draws random numbers one after the other, one up to each value that is left.
-fn draw_each(call: &mut Call, generator: &mut Gen) -> Result<(), CaseFault> {
-    for most in values(call) {
-        call_with(call, RANDOM, most, generator)?;
-    }
-    Ok(())
-}
-
-/// Random numbers of a session with a seed: `random SEED VALUES`.
-pub fn draw(call: &mut Call) -> Result<(), CaseFault> {
-    let mut generator = Gen::new(call.number32());
-    draw_each(call, &mut generator)
-}
-
-/// One number, and the same after a start of the generator from another seed:
-/// `restarted SEED START VALUES`.
-pub fn draw_restarted(call: &mut Call) -> Result<(), CaseFault> {
-    let mut generator = Gen::new(call.number32());
-    let start = value(call);
-    call_with(call, RANDOM, Value::Int(9), &mut generator)?;
-    call_with(call, RESTART, start, &mut generator)?;
-    draw_each(call, &mut generator)
+    give_call(call, numbers, limit)
 }
 
 /// How many arguments a function takes, by the numbers of its library and of it, where it is one of

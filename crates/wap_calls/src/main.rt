@@ -1,32 +1,23 @@
 //! Plays calls of layers that no run shows: of values, libraries, machines, code and fragments, of
-//! the tokens, trees and names of sources, and of the messages of faults. The files have lines
+//! the faults of sources, and of the messages of faults. The files have lines
 //! `CALL ARGUMENTS = RESULT`.
 #![tactic(auto)]
 
 mod calls;
 mod chains;
-mod expressions;
 mod forms;
 mod fragments;
 mod instructions;
 mod library;
 mod messages;
-mod names;
-mod numbering;
-mod operations;
 mod operators;
 mod placeable;
 mod placing;
-mod random;
 mod reading;
 mod runs;
 mod small_host;
-mod small_library;
-mod split;
-mod statements;
+mod sources;
 mod threads;
-mod tokens;
-mod trees;
 mod units;
 mod values;
 

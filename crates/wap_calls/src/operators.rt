@@ -5,7 +5,7 @@ use wap_casebook::{Call, CaseFault};
 use wap_value::{BinOp, UnOp, Value, ValueFault, binary, to_bool, to_int, to_str, unary};
 
 /// The operators of two operands, as WMLScript spells them.
-pub static OPERATORS: [(&str, BinOp); 21] = [
+static OPERATORS: [(&str, BinOp); 21] = [
     ("*", BinOp::Mul),
     ("/", BinOp::Div),
     ("div", BinOp::IDiv),
@@ -30,7 +30,7 @@ pub static OPERATORS: [(&str, BinOp); 21] = [
 ];
 
 /// The operators of one operand; `tobool` is what a condition does.
-pub static OPERATORS_OF_ONE: [(&str, UnOp); 9] = [
+static OPERATORS_OF_ONE: [(&str, UnOp); 9] = [
     ("+", UnOp::Plus),
     ("-", UnOp::Minus),
     ("~", UnOp::BitNot),
@@ -106,12 +106,5 @@ pub fn give_string(call: &mut Call) -> Result<(), CaseFault> {
         Some(text) => call.give_text(&text),
         None => call.give_word("none"),
     }
-    Ok(())
-}
-
-/// The copy of a value.
-pub fn give_copy(call: &mut Call) -> Result<(), CaseFault> {
-    let copy = value(call).copy(call.alloc())?;
-    give_value(call, &copy);
     Ok(())
 }

@@ -7,26 +7,33 @@ ghost use Rattle.wap_asm.specs.declared.form.Form.{Form};
 ghost use Rattle.wap_asm.specs.declared.form.Form.TheVariants.{Label};
 ghost use Rattle.wap_calls.specs.Numbered.{MayStand};
 
-use crate::operations::{holds, longest, operation_of};
 use wap_asm::Form;
 use wap_code::{Instr, OpName};
 
-/// Whether an instruction fits the longest spelling of its operation.
-fn fits(instr: Instr) -> bool
+/// Whether an instruction is `POP`, which has no operands.
+#[tactic(auto, unfolding(wap_asm::specs::Spellings::operation_of, wap_asm::specs::Spellings::longest))]
+fn is_pop(instr: Instr) -> bool
     ensures { result ≡ true → IsSomeAnd (longest (operation_of instr.name))
         (λ row. IsTrue (holds row instr.a instr.b instr.c)) }
 {
-    match longest(operation_of(instr.name)) {
-        Some(row) => holds(row, instr),
-        None => false,
-    }
+    matches!(
+        instr,
+        Instr {
+            name: OpName::Pop,
+            a: 0,
+            b: 0,
+            c: 0,
+            ..
+        }
+    )
 }
 
-/// Whether a jump of this operation may lead from one index to another.
-fn leads(operation: OpName, from: usize, to: usize) -> bool
-    ensures { result ≡ true → Leads operation from to }
+/// Whether a jump of this name may lead from one index to another.
+#[tactic(auto, unfolding(wap_asm::specs::Spellings::operation_of))]
+fn leads(name: OpName, from: usize, to: usize) -> bool
+    ensures { result ≡ true → Leads (operation_of name) from to }
 {
-    match operation {
+    match name {
         OpName::JumpFw => from < to,
         OpName::TjumpFw => from < to,
         OpName::JumpBw => to < from,
@@ -50,10 +57,8 @@ fn may_stand(forms: &[Form], i: usize, form: Form) -> bool
     ensures { result ≡ true → MayStand forms.now i form }
 {
     match form {
-        Form::Op(instr) => fits(instr),
-        Form::Jump(name, label) => {
-            is_label(forms, label) && leads(operation_of(name), i, label as usize)
-        }
+        Form::Op(instr) => is_pop(instr),
+        Form::Jump(name, label) => { is_label(forms, label) && leads(name, i, label as usize) }
         Form::Label(label) => label as usize == i,
     }
 }

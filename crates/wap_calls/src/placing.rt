@@ -1,13 +1,12 @@
 //! Calls that place forms.
 use crate::forms::forms;
 use crate::placeable::are_placeable;
-use crate::split::splits;
 use wap_asm::{Form, place};
 use wap_base::Bytes;
 use wap_casebook::{Call, CaseFault};
 
 /// The code of forms, or nothing where why they aren't placed was given.
-pub fn code_of(call: &mut Call, forms: &[Form]) -> Option<Bytes> {
+fn code_of(call: &mut Call, forms: &[Form]) -> Option<Bytes> {
     if !are_placeable(forms) {
         call.fail(CaseFault::Argument);
         return None;
@@ -45,17 +44,6 @@ pub fn measure(call: &mut Call) -> Result<(), CaseFault> {
     let forms = forms(call)?;
     if let Some(code) = code_of(call, forms.as_slice()) {
         call.give_count(code.len());
-    }
-    Ok(())
-}
-
-/// Gives how many bytes the code of forms has, and whether it splits into them.
-pub fn read_back(call: &mut Call) -> Result<(), CaseFault> {
-    let forms = forms(call)?;
-    if let Some(code) = code_of(call, forms.as_slice()) {
-        call.give_count(code.len());
-        let is_split = splits(call.alloc(), forms.as_slice(), code.as_slice())?;
-        call.give_truth(is_split);
     }
     Ok(())
 }

@@ -3,83 +3,29 @@ use crate::small_host::{FailingPages, SmallHost};
 use crate::units::verified_of;
 use crate::values::{give_value, values};
 use std::alloc::Global;
-use wap_base::{Limits, RunErr, Text};
+use wap_base::{Limits, Text};
 use wap_casebook::{Call, CaseFault};
-use wap_execution::{Dialog, Fatal};
 use wap_machine::{Machine, Outcome};
 use wap_shared::Shared;
 use wap_url::Url;
 use wap_value::Value;
 use wap_verify::Verified;
 
-/// Gives why a script ended.
-fn give_fatal(call: &mut Call, why: &Fatal) {
-    match why {
-        Fatal::Aborted(text) => {
-            call.give_word("Aborted");
-            call.give_text(text);
-        }
-        why => call.give_named(why),
-    }
-}
-
-/// Gives a dialog.
-fn give_dialog(call: &mut Call, dialog: &Dialog) {
-    match dialog {
-        Dialog::Prompt(message, default) => {
-            call.give_word("prompt");
-            call.give_text(message);
-            call.give_text(default);
-        }
-        Dialog::Confirm(message, yes, no) => {
-            call.give_word("confirm");
-            call.give_text(message);
-            call.give_text(yes);
-            call.give_text(no);
-        }
-        Dialog::Alert(message) => {
-            call.give_word("alert");
-            call.give_text(message);
-        }
-    }
-}
-
-/// Gives what a run came to.
+/// Gives what a run came to. The host ends no script and asks nothing.
 fn give_outcome(call: &mut Call, outcome: &Outcome) {
     match outcome {
         Outcome::Done(value) => give_value(call, value),
-        Outcome::Exited(value) => {
-            call.give_word("exit");
-            give_value(call, value);
-        }
-        Outcome::Fatal(why) => give_fatal(call, why),
-        Outcome::Asks(dialog, _) => give_dialog(call, dialog),
+        Outcome::Fatal(why) => call.give_named(why),
+        _ => call.fail(CaseFault::Argument),
     }
 }
 
-/// Gives what a run came to, or why it failed.
-fn give_end(call: &mut Call, end: &Result<Outcome, RunErr>) {
-    match end {
-        Ok(outcome) => give_outcome(call, outcome),
-        Err(fault) => call.give_named(fault),
+/// Runs a machine, and gives what it came to, or why it failed.
+fn play(call: &mut Call, machine: Machine, host: &mut SmallHost) {
+    match machine.run(host, &mut FailingPages { asked: 0 }) {
+        Ok(outcome) => give_outcome(call, &outcome),
+        Err(fault) => call.give_named(&fault),
     }
-}
-
-/// Runs a machine, with an answer for each dialog until there is none, and gives what was asked and
-/// what it came to.
-fn play(machine: Machine, host: &mut SmallHost, answers: Vec<Value>, call: &mut Call) {
-    let mut machine = machine;
-    let mut pages = FailingPages { asked: 0 };
-    for value in answers {
-        match machine.run(host, &mut pages) {
-            Ok(Outcome::Asks(dialog, waiting)) => {
-                give_dialog(call, &dialog);
-                machine = waiting.answer(value);
-            }
-            end => return give_end(call, &end),
-        }
-    }
-    give_end(call, &machine.run(host, &mut pages));
 }
 
 /// The URL of each unit.
@@ -152,8 +98,7 @@ pub fn run(call: &mut Call) -> Result<(), CaseFault> {
     let function = call.number8();
     let arguments = values(call);
     let machine = start(call.alloc(), unit, function, arguments, depth)?;
-    let answers = values(call);
-    play(machine, &mut host, answers, call);
+    play(call, machine, &mut host);
     call.give_number(i64::try_from(host.turns).unwrap_or(i64::MAX));
     Ok(())
 }

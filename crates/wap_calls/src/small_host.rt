@@ -1,13 +1,11 @@
-//! A small host, which tells its state: the dialogs ask, `exit` and `abort` end, the library
-//! WMLBrowser fails, and other library calls give invalid. The units `first` and `second` may be
-//! called.
+//! A small host, which tells its state: the library WMLBrowser fails, and other library calls give
+//! invalid. The units `first` and `second` may be called.
 ghost use Rattle.std.specs.Prelude.{◌≡◌, ◌≢◌, IfOk, IfErr};
 ghost use Rattle.std.specs.Option.{option_copied};
 ghost use Rattle.wap_execution.specs.declared.fatal.Fatal.TheVariants.{Budget};
 ghost use Rattle.wap_machine.specs.Hosts.{CanBeCalled};
 ghost use Rattle.wap_calls.specs.Small.{callable, unit_at};
 
-use crate::small_library::answer;
 use std::alloc::Global;
 use wap_base::{RunErr, Text};
 use wap_execution::{Fatal, Found, HostOut};
@@ -141,10 +139,7 @@ impl Host<FailingPages> for SmallHost {
             pages.asked = pages.asked.saturating_add(1);
             return Err(RunErr::Store);
         }
-        match answer(self.alloc, library, function, &arguments)? {
-            Some(out) => Ok(out),
-            None => Ok(HostOut::Value(Value::Invalid)),
-        }
+        Ok(HostOut::Value(Value::Invalid))
     }
 
     ghost counted = { λ host pages. λ i. pages.asked };

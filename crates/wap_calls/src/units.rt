@@ -7,10 +7,10 @@ use wap_base::Bytes;
 use wap_casebook::CaseFault;
 use wap_code::Unit;
 use wap_shared::Shared;
-use wap_unit::decode;
-use wap_verify::{Verified, verify};
+use wap_unit::{UnitFault, decode};
+use wap_verify::{Verified, VerifyFault, verify};
 
-/// The unit that bytes spell. Out of memory is answered as where there is none.
+/// The unit that bytes spell.
 fn unit_of(alloc: Global, bytes: &Bytes) -> Result<Unit, CaseFault>
     ensures { IfOk result (λ unit. HasSpelling unit) }
 {
@@ -19,6 +19,7 @@ fn unit_of(alloc: Global, bytes: &Bytes) -> Result<Unit, CaseFault>
     }
     match decode(alloc, bytes.as_slice()) {
         Ok(unit) => Ok(unit),
+        Err(UnitFault::NoMemory) => Err(CaseFault::NoMemory),
         Err(_) => Err(CaseFault::Argument),
     }
 }
@@ -27,6 +28,7 @@ fn unit_of(alloc: Global, bytes: &Bytes) -> Result<Unit, CaseFault>
 fn verified(alloc: Global, bytes: &Bytes) -> Result<Verified, CaseFault> {
     match verify(alloc, unit_of(alloc, bytes)?) {
         Ok(verified) => Ok(verified),
+        Err((_, VerifyFault::NoMemory)) => Err(CaseFault::NoMemory),
         Err(_) => Err(CaseFault::Argument),
     }
 }

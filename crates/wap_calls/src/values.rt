@@ -28,11 +28,11 @@ pub fn value(call: &mut Call) -> Value {
     }
 }
 
-/// The values that are left, or up to the word `answers`.
+/// The values that are left.
 pub fn values(call: &mut Call) -> Vec<Value> {
     let mut values = Vec::new(call.alloc());
     for _ in 0..u64::MAX {
-        if !call.has_more() || call.takes("answers") {
+        if !call.has_more() {
             break;
         }
         if values.push(value(call)).is_err() {
