@@ -1,5 +1,5 @@
 //! The calls by their names.
-use crate::{fragments, library, messages, operators, placing, reading, runs, sources};
+use crate::{fragments, library, messages, operators, placing, runs, sources};
 use wap_base::DEFAULT_STRING;
 use wap_casebook::{Call, Calls, CaseFault, meaning_of};
 
@@ -14,7 +14,6 @@ enum Known {
     ToStr,
     Within,
     Arguments,
-    NextInstr,
     LibArgs,
     Forms,
     Place,
@@ -30,7 +29,7 @@ enum Known {
 }
 
 /// The calls, by their names.
-static CALLS: [(&str, Known); 21] = [
+static CALLS: [(&str, Known); 20] = [
     ("binary", Known::Binary),
     ("binary_within", Known::BinaryWithin),
     ("unary", Known::Unary),
@@ -39,7 +38,6 @@ static CALLS: [(&str, Known); 21] = [
     ("to_str", Known::ToStr),
     ("within", Known::Within),
     ("arguments", Known::Arguments),
-    ("next_instr", Known::NextInstr),
     ("lib_args", Known::LibArgs),
     ("forms", Known::Forms),
     ("place", Known::Place),
@@ -65,7 +63,6 @@ fn make(known: Known, call: &mut Call) -> Result<(), CaseFault> {
         Known::ToStr => operators::give_string(call),
         Known::Within => library::call_within(call),
         Known::Arguments => library::count_arguments(call, true),
-        Known::NextInstr => reading::read_next(call),
         Known::LibArgs => library::count_arguments(call, false),
         Known::Forms => placing::count_forms(call),
         Known::Place => placing::show(call),
