@@ -59,22 +59,22 @@ fn start_of<'a>(name: &[u8], value: &'a [u8]) -> Option<(u8, &'a [u8])> {
     found
 }
 
-/// The byte of a number.
-fn numbered(digits: &[u8]) -> Option<u8> {
-    match number(digits) {
-        Ok(number) => u8::try_from(number).ok(),
-        Err(_) => None,
+/// The byte of a name between `&` and `;`, which may also be its number, as in `&#10;`.
+fn entity(name: &[u8]) -> Result<u8, CaseFault> {
+    match name {
+        b"amp" => Ok(b'&'),
+        b"lt" => Ok(b'<'),
+        b"quot" => Ok(b'"'),
+        [b'#', digits @ ..] => numbered(digits),
+        _ => Err(CaseFault::Spelling),
     }
 }
 
-/// The byte of a name between `&` and `;`, which may also be its number, as in `&#10;`.
-fn entity(name: &[u8]) -> Option<u8> {
-    match name {
-        b"amp" => Some(b'&'),
-        b"lt" => Some(b'<'),
-        b"quot" => Some(b'"'),
-        [b'#', digits @ ..] => numbered(digits),
-        _ => None,
+/// The byte of a number.
+fn numbered(digits: &[u8]) -> Result<u8, CaseFault> {
+    match u8::try_from(number(digits)?) {
+        Ok(byte) => Ok(byte),
+        Err(_) => Err(CaseFault::Spelling),
     }
 }
 
@@ -91,8 +91,8 @@ fn split_part(text: &[u8]) -> Option<(Part<'_>, &[u8])> {
         [b'&', rest @ ..] => {
             let (name, after) = split_by(b';', rest);
             match entity(name) {
-                Some(byte) => Some((Part::Byte(byte), after)),
-                None => Some((Part::Byte(b'&'), rest)),
+                Ok(byte) => Some((Part::Byte(byte), after)),
+                Err(_) => Some((Part::Byte(b'&'), rest)),
             }
         }
         [byte, rest @ ..] => Some((Part::Byte(*byte), rest)),

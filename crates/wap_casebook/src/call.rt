@@ -241,16 +241,6 @@ pub fn meaning_of<T: Copy>(meanings: &[(&str, T)], word: &[u8]) -> Option<T> {
     None
 }
 
-/// The word of a meaning, or an empty one where it has none.
-pub fn word_of<T: Copy + PartialEq>(meanings: &[(&'static str, T)], meaning: T) -> &'static str {
-    for (word, known) in meanings {
-        if *known == meaning {
-            return word;
-        }
-    }
-    ""
-}
-
 /// Appends bytes of a row, two hexadecimal digits each.
 fn add_bytes(out: &mut String, bytes: &[u8]) -> Result<(), AllocError> {
     out.push_str(if bytes.is_empty() { " \"\"" } else { " " })?;

@@ -11,7 +11,7 @@ mod quotes;
 mod spelling;
 mod words;
 
-pub use call::{Call, meaning_of, word_of};
+pub use call::{Call, meaning_of};
 pub use calls::{Calls, Tally, play_calls};
 pub use fault::CaseFault;
 pub use pieces::Pieces;
