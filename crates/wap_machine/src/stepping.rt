@@ -15,7 +15,7 @@ use wap_execution::Fatal;
 
 /// Does instructions up to one that asks for more than to go on further on, or ends the innermost
 /// function, with what is wanted of the host for that.
-// In `run`, so that a machine that goes on after a turn isn't moved.
+// In `run`, so that what a step leaves isn't moved once more.
 #[inline(always)]
 pub(crate) fn step<P, H: Host<P>>(
     machine: Machine,
