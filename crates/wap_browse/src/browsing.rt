@@ -17,6 +17,11 @@ use wap_status::Status;
 
 /// Opens the URL, and then plays key after key: in a dialog they answer it. The lines of each are
 /// written before the next is read. Gives the handset back as it is then.
+///
+/// The status is `Done` where the keys end outside a dialog, and `OpenDialog` where they end in
+/// one. With `BadKey`, `TooManyKeys` and `KeyReadFault` the lines of the key lines before were
+/// written, with `StoreFault` and `NoMemory` those of some first keys, whole keys only, and with
+/// `WriteFault` a prefix of what had to be written. `Usage` and `Refused` never come.
 pub fn browse_session<P: Pages, I: Source, O: Sink>(
     alloc: Global,
     begun: Beginning,
@@ -42,7 +47,7 @@ pub fn browse_session<P: Pages, I: Source, O: Sink>(
     (status, handset)
 }
 
-/// Opens the URL, and then plays key after key, as `browse_session` does.
+/// Opens the URL, and then plays key after key, and ends as `browse_session` does.
 pub fn browse<P: Pages, I: Source, O: Sink>(
     alloc: Global,
     begun: Beginning,

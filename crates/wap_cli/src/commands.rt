@@ -16,7 +16,12 @@ use wap_prepare::prepare;
 use wap_words::{Command, read_words};
 
 /// Runs the command that the words are, over the pages of the store and the key lines of the
-/// source, and gives the store back.
+/// source, and gives the store back. The first word is that of the command, as `browse`: the
+/// program and the folder aren't among the words.
+///
+/// The statuses are those of docs/TRANSCRIPT.md, which says what was written with each. `Usage`
+/// comes exactly of words that are no command, unless memory runs out, and then nothing was asked,
+/// read or written.
 pub fn run<R: Threads + Sync, S: Store, I: Source, O: Sink, G: Gate + Sync>(
     rt: &R,
     alloc: Global,

@@ -28,7 +28,8 @@ use wap_world::Timer;
 
 /// A browser's variables, history, timer and turns, and the deck of its current card. A contract
 /// sees its world and that deck, which is there exactly where a card was entered. After a call that
-/// ends with a fault it is not to be used further: what else such a call leaves isn't said.
+/// ends with a fault it is not to be used further: what else is left is said only of
+/// `tick_waiting`, `show`, `enter_text` and `choose`.
 #[derive(Drop)]
 pub struct Context {
     pub(crate) state: State,
@@ -52,7 +53,8 @@ impl Model for Context {
 }
 
 impl Context {
-    /// A browser that did nothing yet. It has no turns until a key begins.
+    /// A browser that did nothing yet. It has no turns until a key begins. The limits have to be in
+    /// their ranges (`are_in_range`).
     pub fn new(alloc: Global, seed: u32, limits: Limits) -> Context
         requires limits { AreInRange limits }
         ensures { result ≡ record { world = first_world seed 0 limits; deck = None } }
@@ -74,6 +76,9 @@ impl Context {
     }
 
     /// Goes to a URL that a user opens, and on to all that it leads to.
+    ///
+    /// # Errors
+    /// `Store` where a page couldn't be fetched, and `NoMemory`.
     pub fn open<P: Pages>(
         &mut self,
         alloc: Global,
@@ -89,6 +94,9 @@ impl Context {
     }
 
     /// Takes a task, and all that it leads to.
+    ///
+    /// # Errors
+    /// Those of `open`.
     pub fn act<P: Pages>(
         &mut self,
         alloc: Global,
@@ -102,7 +110,10 @@ impl Context {
         self.follow(alloc, pages, Went::Leads(task, None), lines)
     }
 
-    /// Lets so many tenths of a second pass.
+    /// Lets so many tenths of a second pass. Where no timer runs the line is `! ignored`.
+    ///
+    /// # Errors
+    /// Those of `open`.
     pub fn tick<P: Pages>(
         &mut self,
         alloc: Global,
@@ -116,6 +127,9 @@ impl Context {
     }
 
     /// Answers the dialog of a script that waits, which goes on, and on to all that it leads to.
+    ///
+    /// # Errors
+    /// Those of `open`.
     pub fn answer<P: Pages>(
         &mut self,
         alloc: Global,
@@ -134,6 +148,9 @@ impl Context {
     }
 
     /// Stops a script that waits, and goes on to all that follows its end.
+    ///
+    /// # Errors
+    /// Those of `open`.
     pub fn stop<P: Pages>(
         &mut self,
         alloc: Global,
@@ -149,8 +166,8 @@ impl Context {
         self.follow(alloc, pages, went, lines)
     }
 
-    /// Lets so many tenths of a second pass while a script waits: where its timer runs out, the task
-    /// of that event waits for the end of the script.
+    /// Lets so many tenths of a second pass while a script waits: where the card's timer runs out,
+    /// the task of that event waits for the end of the script.
     pub fn tick_waiting(&mut self, alloc: Global, time: u32) -> Result<Ticked, NoMemory>
         ensures ticks { IfOk result (Ticks time self.old self.new) }
         ensures left { OnErr result (ChangesVarsAndTimer self.old self.new) }

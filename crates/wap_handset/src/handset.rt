@@ -45,7 +45,8 @@ impl Model for Handset {
 }
 
 impl Handset {
-    /// A handset in which nothing was done. Each key has so many turns.
+    /// A handset in which nothing was done. Each key has so many turns. The limits have to be in
+    /// their ranges (`are_in_range`).
     pub fn new(alloc: Global, seed: u32, budget: u32, limits: Limits) -> Handset
         requires limits { AreInRange limits }
         ensures { (url : List ℕ) → result ≡ beginning
@@ -58,7 +59,7 @@ impl Handset {
         }
     }
 
-    /// A handset with this session, and nothing in its inbox.
+    /// A handset with this session, of which no key may have failed, and nothing in its inbox.
     pub fn of(alloc: Global, session: Session) -> Handset
         requires going { session.is_over ≡ false }
         ensures { result ≡ with_session session }
@@ -148,7 +149,8 @@ impl Handset {
         }
     }
 
-    /// Plays keys one after the other, and gives the lines that they show.
+    /// Plays keys one after the other, and gives the lines that they show: those of all keys, or
+    /// none. After a fault the handset is over.
     ///
     /// # Errors
     /// Those of `feed`.

@@ -14,8 +14,9 @@ use wap_deckcheck::check;
 use wap_markup::Deck;
 use wap_site::{Page, Shared};
 
-/// The page of a name with these bytes. It is never `Missing` or `Refused`: where a page is
-/// refused, the fault says why. Where several faults may be named, it is one of them.
+/// The page of a name with these bytes, of which there have to be fewer than 2^31. It is never
+/// `Missing` or `Refused`: where a page is refused, the fault says why. Where several faults may be
+/// named, it is one of them.
 pub fn judge(alloc: Global, name: &Text, bytes: &[u8]) -> Result<Page, PageErr>
     requires { length bytes.now < 2 ^ 31 }
     ensures page { IfOk result (λ page. page ≡ page_of_bytes name.now bytes.now) }

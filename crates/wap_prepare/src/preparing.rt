@@ -114,6 +114,9 @@ fn write_report<O: Sink>(
 
 /// Judges all pages of the store, and writes the report on them once all are judged. So many
 /// workers share the pages.
+///
+/// The status is `Done` also where pages are refused, and `WriteFault` where a prefix of the report
+/// was written. With `StoreFault` and `NoMemory` nothing is, and no other status comes.
 pub fn prepare<R: Threads + Sync, S: Store, O: Sink, G: Gate + Sync>(
     rt: &R,
     alloc: Global,

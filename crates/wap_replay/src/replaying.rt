@@ -82,6 +82,10 @@ fn replay_lists<R: Threads + Sync, S: Store, O: Sink, G: Gate + Sync>(
 /// Reads lists of keys, and plays each by a session of its own over the pages of the store. What
 /// each comes to is written once all are played. So many workers share the pages, and then the
 /// lists.
+///
+/// The status is `Done` also where a list ends in a dialog, and `WriteFault` where a prefix was
+/// written; with any other nothing is. `BadKey`, `TooManyKeys` and `KeyReadFault` come before
+/// anything is asked of the store. `Usage`, `Refused` and `OpenDialog` never come.
 pub fn replay<R: Threads + Sync, S: Store, I: Source, O: Sink, G: Gate + Sync>(
     rt: &R,
     alloc: Global,

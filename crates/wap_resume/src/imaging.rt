@@ -13,7 +13,11 @@ use wap_site::Pages;
 use wap_status::Status;
 
 /// Plays keys as in browsing, and writes the image of the context in which they end outside a
-/// dialog, in place of what they show.
+/// dialog, in place of what they show. Each key has to have a turn at least.
+///
+/// Where the keys don't come to `Done` it ends as they do, and writes nothing. Else it is `Done`
+/// with the image written, `WriteFault` with a prefix of it, or it writes nothing: `NoMemory`, and
+/// `Refused` where there is no image (`Drawn`, `Card`).
 pub fn image<P: Pages, I: Source, O: Sink>(
     alloc: Global,
     begun: Beginning,

@@ -74,7 +74,11 @@ fn go_on<S: Store, I: Source, O: Sink>(
 }
 
 /// Goes on with the context whose image the store has under a name: its keys are read and played
-/// as in browsing. Gives the store back.
+/// as in browsing, and it ends as that does. Gives the store back.
+///
+/// Where nothing is begun no key is read, and nothing written: it is `Refused` where the image is
+/// missing or refused, or the page of the current card is missing, refused or no deck; `StoreFault`
+/// where one of the two couldn't be fetched; or `NoMemory`.
 pub fn resume<S: Store, I: Source, O: Sink>(
     alloc: Global,
     name: &Text,

@@ -18,7 +18,7 @@ impl Session {
         }
     }
 
-    /// A session that goes on with a context. Each key has so many turns.
+    /// A session that goes on with a context. Each key has so many turns, one at least.
     pub fn of(context: Context, budget: u32) -> Session
         requires { 0 < budget }
         ensures { result ≡ going_on context budget }

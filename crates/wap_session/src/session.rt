@@ -44,7 +44,8 @@ impl Model for Session {
 }
 
 impl Session {
-    /// A session in which nothing was done. Each key has so many turns.
+    /// A session in which nothing was done. Each key has so many turns. The limits have to be in
+    /// their ranges (`are_in_range`).
     pub fn new(alloc: Global, seed: u32, budget: u32, limits: Limits) -> Session
         requires limits { AreInRange limits }
         ensures { (url : List ℕ) → result ≡ beginning
@@ -149,7 +150,8 @@ impl Session {
         }
     }
 
-    /// Plays keys one after the other, and gives the lines that they show.
+    /// Plays keys one after the other, and gives the lines that they show: those of all keys, or
+    /// none. After a fault the session is over.
     ///
     /// # Errors
     /// Those of `feed`.
