@@ -7,14 +7,32 @@ use wap_casebook::{
     CaseFault, Pieces, range, spelled_bytes, spelled_text, split_value, split_word, text,
 };
 
-/// A text that goes on over lines.
-#[derive(Clone, Copy)]
-enum Open {
-    Nothing,
-    /// The last deck.
-    Deck,
-    /// The last page, a source.
-    Source,
+/// A page of the store.
+#[derive(Drop)]
+pub(crate) struct Page {
+    pub(crate) name: Text,
+    pub(crate) bytes: Bytes,
+    /// Its bytes are the text of a deck.
+    is_deck: bool,
+}
+
+impl Page {
+    /// Appends a further line: of a deck without the blanks before it, or of a source.
+    fn add_line(&mut self, line: &[u8]) -> Result<(), CaseFault> {
+        if self.is_deck {
+            add_both(&mut self.bytes, b"", line.trim_ascii_start())
+        } else {
+            add_both(&mut self.bytes, b"\n", line)
+        }
+    }
+
+    /// Takes the bytes of a deck's document in place of its text.
+    fn write(&mut self, alloc: Global) -> Result<(), CaseFault> {
+        if self.is_deck {
+            self.bytes = deck_bytes(alloc, self.bytes.as_slice())?;
+        }
+        Ok(())
+    }
 }
 
 /// A case: what a run begins with, and what is wanted of it.
@@ -24,10 +42,9 @@ pub struct Case {
     /// The number of its first line.
     pub(crate) line: usize,
     pub(crate) is_begun: bool,
-    pub(crate) pages: Vec<(Text, Bytes)>,
-    /// The texts of decks.
-    decks: Vec<(Text, Bytes)>,
-    open: Open,
+    pub(crate) pages: Vec<Page>,
+    /// Whether the text of the last page may go on.
+    is_open: bool,
     pub words: Vec<Text>,
     pub(crate) keys: Bytes,
     /// What is said of the devices, and how often they are called.
@@ -75,22 +92,6 @@ pub fn add_spelled(
     Ok(())
 }
 
-/// Adds the name and the text of a line `NAME TEXT`.
-fn add_named(texts: &mut Vec<(Text, Bytes)>, alloc: Global, line: &[u8]) -> Result<(), CaseFault> {
-    let (name, rest) = split_word(line);
-    let name = text(alloc, name)?;
-    texts.push((name, Bytes::of(alloc, rest)?))?;
-    Ok(())
-}
-
-/// Appends to the last of these texts.
-fn add_to_last(texts: &mut Vec<(Text, Bytes)>, mark: &[u8], more: &[u8]) -> Result<(), CaseFault> {
-    match texts.last_mut() {
-        Some((_, text)) => add_both(text, mark, more),
-        None => Err(CaseFault::Line),
-    }
-}
-
 impl Case {
     /// A case of no lines.
     pub(crate) fn new(alloc: Global) -> Case {
@@ -99,8 +100,7 @@ impl Case {
             line: 0,
             is_begun: false,
             pages: Vec::new(alloc),
-            decks: Vec::new(alloc),
-            open: Open::Nothing,
+            is_open: false,
             words: Vec::new(alloc),
             keys: Bytes::new(alloc),
             numbers: Numbers::new(alloc),
@@ -150,7 +150,19 @@ impl Case {
         add_both(&mut self.status, line, b"\n")
     }
 
-    /// Adds the page of these names and bytes, as they are spelled, under a number.
+    /// Adds the page of this name and these bytes, whose text isn't open.
+    fn add_page(&mut self, name: Text, bytes: Bytes) -> Result<(), CaseFault> {
+        let is_deck = false;
+        self.is_open = false;
+        self.pages.push(Page {
+            name,
+            bytes,
+            is_deck,
+        })?;
+        Ok(())
+    }
+
+    /// Adds the page of a name and of bytes as they are spelled, under a number.
     fn add_numbered(
         &mut self,
         alloc: Global,
@@ -158,40 +170,43 @@ impl Case {
         spelled: (&[u8], &[u8]),
         number: u32,
     ) -> Result<(), CaseFault> {
-        let (name, bytes) = spelled;
-        let name = spelled_text(alloc, pieces, name, Some(number))?;
-        let bytes = spelled_bytes(alloc, pieces, bytes, Some(number))?;
-        self.pages.push((name, bytes))?;
+        let name = spelled_text(alloc, pieces, spelled.0, Some(number))?;
+        let bytes = spelled_bytes(alloc, pieces, spelled.1, Some(number))?;
+        self.add_page(name, bytes)
+    }
+
+    /// Reads a line `NAME TEXT`, of a deck or of a source.
+    pub(crate) fn read_text(
+        &mut self,
+        alloc: Global,
+        line: &[u8],
+        is_deck: bool,
+    ) -> Result<(), CaseFault> {
+        let (name, rest) = split_word(line);
+        let name = text(alloc, name)?;
+        let bytes = Bytes::of(alloc, rest)?;
+        self.is_open = true;
+        self.pages.push(Page {
+            name,
+            bytes,
+            is_deck,
+        })?;
         Ok(())
     }
 
-    /// Reads a line `NAME TEXT`, of a deck.
-    pub(crate) fn read_deck(&mut self, alloc: Global, line: &[u8]) -> Result<(), CaseFault> {
-        self.open = Open::Deck;
-        add_named(&mut self.decks, alloc, line)
-    }
-
-    /// Reads a line `NAME TEXT`, of a source.
-    pub(crate) fn read_source(&mut self, alloc: Global, line: &[u8]) -> Result<(), CaseFault> {
-        self.open = Open::Source;
-        add_named(&mut self.pages, alloc, line)
-    }
-
-    /// Reads a further line of a deck, without the blanks before it, or of a source.
+    /// Reads a further line of a deck or of a source.
     pub(crate) fn read_more(&mut self, line: &[u8]) -> Result<(), CaseFault> {
-        match self.open {
-            Open::Nothing => Err(CaseFault::Line),
-            Open::Deck => add_to_last(&mut self.decks, b"", line.trim_ascii_start()),
-            Open::Source => add_to_last(&mut self.pages, b"\n", line),
+        match self.pages.last_mut() {
+            Some(page) if self.is_open => page.add_line(line),
+            _ => Err(CaseFault::Line),
         }
     }
 
-    /// Takes the texts of the decks as pages, by the bytes of their documents.
+    /// Takes the bytes of each deck's document in place of its text.
     fn write_decks(&mut self, alloc: Global) -> Result<(), CaseFault> {
-        for (_, deck) in &mut self.decks {
-            *deck = deck_bytes(alloc, deck.as_slice())?;
+        for page in &mut self.pages {
+            page.write(alloc)?;
         }
-        self.pages.append(&mut self.decks)?;
         Ok(())
     }
 
@@ -205,9 +220,7 @@ impl Case {
         let (name, bytes) = split_word(line);
         let name = text(alloc, name)?;
         let bytes = spelled_bytes(alloc, pieces, bytes, None)?;
-        self.pages.push((name, bytes))?;
-        self.open = Open::Nothing;
-        Ok(())
+        self.add_page(name, bytes)
     }
 
     /// Reads a line `FROM..TO NAME BYTES`, of one page for each number.
@@ -225,7 +238,6 @@ impl Case {
         for number in from..to {
             self.add_numbered(alloc, pieces, split_value(rest), number)?;
         }
-        self.open = Open::Nothing;
         Ok(())
     }
 

@@ -1,5 +1,6 @@
 //! The devices of a case in memory.
 use crate::Case;
+use crate::case::Page;
 use crate::numbers::{Numbers, Subject};
 use std::alloc::Global;
 use wap_base::{Bytes, NoMemory, Text};
@@ -27,11 +28,17 @@ fn failing_calls(
     Ok(fails)
 }
 
+/// A page, copied.
+fn copy_page(alloc: Global, page: &Page) -> Result<(Text, Bytes), NoMemory> {
+    let name = page.name.copy(alloc)?;
+    Ok((name, Bytes::of(alloc, page.bytes.as_slice())?))
+}
+
 /// Pages, copied.
-fn copy_pages(alloc: Global, pages: &[(Text, Bytes)]) -> Result<Vec<(Text, Bytes)>, NoMemory> {
+fn copy_pages(alloc: Global, pages: &[Page]) -> Result<Vec<(Text, Bytes)>, NoMemory> {
     let mut copied = Vec::new(alloc);
-    for (name, bytes) in pages {
-        copied.push((name.copy(alloc)?, Bytes::of(alloc, bytes.as_slice())?))?;
+    for page in pages {
+        copied.push(copy_page(alloc, page)?)?;
     }
     Ok(copied)
 }

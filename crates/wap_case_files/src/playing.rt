@@ -1,12 +1,13 @@
-//! The cases of a file, one after the other, and what is told of them.
+//! The cases or calls of a file, one after the other, and what is told of them.
 use crate::Case;
 use crate::lines::read;
-use crate::telling::{add_fault, add_head};
+use crate::telling::{add_call, add_fault, add_head};
 use std::alloc::{AllocError, Global};
 use std::mem;
-use wap_casebook::{CaseFault, Pieces, Tally};
+use wap_casebook::{Call, CaseFault, Pieces, Tally};
 
-/// What is told of the cases that were played, how many they are, and whether memory ran out.
+/// What is told of the cases or calls that were played, how many they are, and whether memory ran
+/// out.
 #[derive(Drop)]
 pub struct Played {
     pub tally: Tally,
@@ -54,6 +55,15 @@ impl Played {
             }
         }
         self.count(alloc, case, differences.as_str());
+    }
+
+    /// Takes the call of a line that was played, and tells of it where it differs.
+    pub fn add_call(&mut self, call: &Call, line: &str, number: usize) {
+        let differs = call.differs();
+        self.tally.count(differs);
+        if differs && add_call(&mut self.told, call, line, number).is_err() {
+            self.is_full = true;
+        }
     }
 }
 

@@ -2,7 +2,7 @@
 use crate::numbers::Subject;
 use crate::{Case, Outcome};
 use std::alloc::{AllocError, Global};
-use wap_casebook::CaseFault;
+use wap_casebook::{Call, CaseFault};
 
 /// The most bytes that are shown of what differs.
 const MOST: usize = 400;
@@ -126,4 +126,15 @@ pub fn add_fault(out: &mut String, case: &Case, fault: CaseFault) -> Result<(), 
         Some((line, _)) => write!(out, "    line {line}: {message}\n"),
         None => write!(out, "    {message}\n"),
     }
+}
+
+/// Appends the line of a call and its number, and what it gave, or why it isn't played.
+pub fn add_call(
+    out: &mut String,
+    call: &Call,
+    line: &str,
+    number: usize,
+) -> Result<(), AllocError> {
+    let (told, what) = call.outcome();
+    write!(out, "line {number}: {line}\n    {told}{what}\n")
 }

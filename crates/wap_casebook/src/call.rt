@@ -3,7 +3,6 @@ use crate::spelling::spelled_bytes;
 use crate::words::{number, split_value, text};
 use crate::{CaseFault, Pieces};
 use std::alloc::{AllocError, Global};
-use std::collections::VecDeque;
 use std::fmt::Debug;
 use wap_base::{Bytes, Text};
 
@@ -13,27 +12,40 @@ use wap_base::{Bytes, Text};
 /// Where an argument is missing or misspelled, a call goes on with an empty one or 0, and doesn't
 /// count as played in the end. The same holds where memory runs out when something is given.
 #[derive(Drop)]
-pub struct Call {
+pub struct Call<'a> {
     alloc: Global,
     pieces: Pieces,
-    /// The arguments that are left, as the line spells them.
-    arguments: VecDeque<Bytes>,
-    /// What has still to be given, as the line spells it.
-    wanted: VecDeque<Bytes>,
+    /// The line from the next argument on.
+    arguments: &'a [u8],
+    /// The line from the next value on that has to be given.
+    wanted: &'a [u8],
     /// What was given, as a line spells it, a blank before each value.
     given: String,
     is_as_wanted: bool,
     fault: Option<CaseFault>,
 }
 
-impl Call {
+/// What stands after the `=` of a line.
+fn results_of(line: &[u8]) -> &[u8] {
+    let mut rest = line;
+    for _ in 0..line.len() {
+        let (value, others) = split_value(rest);
+        rest = others;
+        if value.is_empty() || value == b"=".as_slice() {
+            break;
+        }
+    }
+    rest
+}
+
+impl<'a> Call<'a> {
     /// No call yet.
-    pub fn new(alloc: Global) -> Call {
+    pub fn new(alloc: Global) -> Call<'a> {
         Call {
             alloc,
             pieces: Pieces::new(alloc),
-            arguments: VecDeque::new(alloc),
-            wanted: VecDeque::new(alloc),
+            arguments: b"",
+            wanted: b"",
             given: String::new(alloc),
             is_as_wanted: true,
             fault: None,
@@ -45,10 +57,11 @@ impl Call {
         self.alloc
     }
 
-    /// Forgets what an earlier call took and gave.
-    fn clear(&mut self) {
-        self.arguments = VecDeque::new(self.alloc);
-        self.wanted = VecDeque::new(self.alloc);
+    /// Begins with the call of a line `ARGUMENTS = RESULT`, and forgets what an earlier one took and
+    /// gave.
+    pub fn begin(&mut self, line: &'a [u8]) {
+        self.arguments = line;
+        self.wanted = results_of(line);
         self.given = String::new(self.alloc);
         self.is_as_wanted = true;
         self.fault = None;
@@ -56,37 +69,28 @@ impl Call {
 
     /// Gives a name to bytes, by a line `NAME BYTES`, for later calls.
     pub fn define(&mut self, line: &[u8]) -> Result<(), CaseFault> {
-        self.clear();
+        self.begin(b"");
         self.pieces.define(self.alloc, line)
-    }
-
-    /// Begins with the call of a line `ARGUMENTS = RESULT`.
-    pub fn begin(&mut self, line: &[u8]) -> Result<(), CaseFault> {
-        self.clear();
-        let rest = add_values(&mut self.arguments, self.alloc, line)?;
-        let _behind = add_values(&mut self.wanted, self.alloc, rest)?;
-        Ok(())
     }
 
     /// Whether what came of the call isn't what its line says.
     pub fn differs(&self) -> bool {
-        self.fault.is_some() || !self.is_as_wanted || !self.wanted.is_empty()
+        self.fault.is_some() || !self.is_as_wanted || !split_value(self.wanted).0.is_empty()
     }
 
     /// Notes that the call was made, which takes all of its arguments.
     pub fn end(&mut self) {
-        if !self.arguments.is_empty() {
+        if self.has_more() {
             self.fail(CaseFault::Argument);
         }
     }
 
-    /// Tells the line of the call, and in another what it gave, or why it isn't played.
-    pub fn tell(&self, out: &mut String, line: &str) -> Result<(), AllocError> {
-        let (told, what) = match self.fault {
+    /// What to tell of the call: what it gave, or why it isn't played.
+    pub fn outcome(&self) -> (&str, &str) {
+        match self.fault {
             Some(fault) => ("not played: ", fault.message()),
             None => ("came", self.given.as_str()),
-        };
-        write!(out, "{line}\n    {told}{what}\n")
+        }
     }
 
     /// The call isn't played, for this reason.
@@ -97,74 +101,57 @@ impl Call {
     }
 }
 
-/// Adds the values of a line before `=`, and gives what stands after that.
-fn add_values<'a>(
-    values: &mut VecDeque<Bytes>,
-    alloc: Global,
-    line: &'a [u8],
-) -> Result<&'a [u8], CaseFault> {
-    let mut rest = line;
-    for _ in 0..line.len() {
-        let (value, others) = split_value(rest);
-        rest = others;
-        if value.is_empty() || value == b"=".as_slice() {
-            break;
-        }
-        values.push_back(Bytes::of(alloc, value)?)?;
-    }
-    Ok(rest)
-}
-
 /// How a call takes arguments.
-impl Call {
+impl<'a> Call<'a> {
+    /// The next argument, as the line spells it, or nothing where none is left.
+    fn next(&self) -> &'a [u8] {
+        let value = split_value(self.arguments).0;
+        if value == b"=".as_slice() { b"" } else { value }
+    }
+
+    /// Passes over the next argument.
+    fn pass(&mut self) {
+        self.arguments = split_value(self.arguments).1;
+    }
+
     /// Whether an argument is left.
     pub fn has_more(&self) -> bool {
-        !self.arguments.is_empty()
+        !self.next().is_empty()
     }
 
     /// Passes over the next argument where it is this word, and answers whether it is.
     pub fn takes(&mut self, word: &str) -> bool {
-        let is_next = match self.arguments.front() {
-            Some(argument) => argument.as_slice() == word.as_bytes(),
-            None => false,
-        };
+        let is_next = self.next() == word.as_bytes();
         if is_next {
-            let _word = self.arguments.pop_front();
+            self.pass();
         }
         is_next
     }
 
     /// Whether the next argument begins as a text does.
     pub fn is_text_next(&self) -> bool {
-        match self.arguments.front() {
-            Some(argument) => {
-                argument.as_slice().starts_with(b"\"") || argument.as_slice().starts_with(b"(")
-            }
-            None => false,
-        }
+        matches!(self.next(), [b'"' | b'(', ..])
     }
 
     /// The next argument as it stands.
-    pub fn word(&mut self) -> Bytes {
-        match self.arguments.pop_front() {
-            Some(argument) => argument,
-            None => {
-                self.fail(CaseFault::Argument);
-                Bytes::new(self.alloc)
-            }
+    pub fn word(&mut self) -> &'a [u8] {
+        let word = self.next();
+        if word.is_empty() {
+            self.fail(CaseFault::Argument);
+        } else {
+            self.pass();
         }
+        word
     }
 
     /// The next argument, a word that has a meaning.
     pub fn meaning<T: Copy>(&mut self, meanings: &[(&str, T)]) -> Result<T, CaseFault> {
-        let word = self.word();
-        meaning_of(meanings, word.as_slice()).ok_or(CaseFault::Argument)
+        meaning_of(meanings, self.word()).ok_or(CaseFault::Argument)
     }
 
     /// The next argument, a number.
     pub fn number(&mut self) -> i64 {
-        let word = self.word();
-        match number(word.as_slice()) {
+        match number(self.word()) {
             Ok(number) => number,
             Err(fault) => {
                 self.fail(fault);
@@ -209,7 +196,7 @@ impl Call {
     /// The next argument, bytes.
     pub fn bytes(&mut self) -> Bytes {
         let word = self.word();
-        match spelled_bytes(self.alloc, &self.pieces, word.as_slice(), None) {
+        match spelled_bytes(self.alloc, &self.pieces, word, None) {
             Ok(bytes) => bytes,
             Err(fault) => {
                 self.fail(fault);
@@ -241,6 +228,12 @@ pub fn meaning_of<T: Copy>(meanings: &[(&str, T)], word: &[u8]) -> Option<T> {
     None
 }
 
+/// Appends a blank and a word.
+fn add_word(out: &mut String, word: &str) -> Result<(), AllocError> {
+    out.push_str(" ")?;
+    out.push_str(word)
+}
+
 /// Appends bytes of a row, two hexadecimal digits each.
 fn add_bytes(out: &mut String, bytes: &[u8]) -> Result<(), AllocError> {
     out.push_str(if bytes.is_empty() { " \"\"" } else { " " })?;
@@ -251,20 +244,19 @@ fn add_bytes(out: &mut String, bytes: &[u8]) -> Result<(), AllocError> {
 }
 
 /// How a call gives results.
-impl Call {
-    /// Gives a word.
-    pub fn give_word(&mut self, word: &str) {
-        let is_wanted = match self.wanted.pop_front() {
-            Some(wanted) => wanted.as_slice() == word.as_bytes(),
-            None => false,
-        };
-        let told = write!(self.given, " {word}");
-        self.note(is_wanted, told);
+impl<'a> Call<'a> {
+    /// The next value that has to be given, as the line spells it.
+    fn next_wanted(&mut self) -> &'a [u8] {
+        let (value, rest) = split_value(self.wanted);
+        self.wanted = rest;
+        value
     }
 
-    /// Gives `yes` or `no`.
-    pub fn give_truth(&mut self, is_so: bool) {
-        self.give_word(if is_so { "yes" } else { "no" });
+    /// Gives a word.
+    pub fn give_word(&mut self, word: &str) {
+        let is_wanted = self.next_wanted() == word.as_bytes();
+        let told = add_word(&mut self.given, word);
+        self.note(is_wanted, told);
     }
 
     /// Gives the name of a value and what it holds, as `Debug` writes them without the names of
@@ -316,11 +308,9 @@ impl Call {
 
     /// Whether the next value that is wanted spells these bytes.
     fn wants(&mut self, bytes: &[u8]) -> bool {
-        let Some(wanted) = self.wanted.pop_front() else {
-            return false;
-        };
-        match spelled_bytes(self.alloc, &self.pieces, wanted.as_slice(), None) {
-            Ok(wanted) => wanted.as_slice() == bytes,
+        let wanted = self.next_wanted();
+        match spelled_bytes(self.alloc, &self.pieces, wanted, None) {
+            Ok(spelled) => !wanted.is_empty() && spelled.as_slice() == bytes,
             Err(_) => false,
         }
     }

@@ -4,10 +4,17 @@ use crate::{CaseFault, split_word};
 use std::alloc::Global;
 use wap_base::Bytes;
 
+/// Bytes that have a name.
+#[derive(Drop)]
+struct Piece {
+    name: Bytes,
+    bytes: Bytes,
+}
+
 /// Bytes by names. Where a name is given twice, the later bytes count.
 #[derive(Drop)]
 pub struct Pieces {
-    named: Vec<(Bytes, Bytes)>,
+    named: Vec<Piece>,
 }
 
 impl Pieces {
@@ -21,9 +28,9 @@ impl Pieces {
     /// The bytes of a name.
     pub fn find(&self, name: &[u8]) -> Option<&[u8]> {
         let mut found = None;
-        for (known, bytes) in &self.named {
-            if known.as_slice() == name {
-                found = Some(bytes.as_slice());
+        for piece in &self.named {
+            if piece.name.as_slice() == name {
+                found = Some(piece.bytes.as_slice());
             }
         }
         found
@@ -33,7 +40,8 @@ impl Pieces {
     pub fn define(&mut self, alloc: Global, line: &[u8]) -> Result<(), CaseFault> {
         let (name, value) = split_word(line);
         let bytes = spelled_bytes(alloc, self, value, None)?;
-        self.named.push((Bytes::of(alloc, name)?, bytes))?;
+        let name = Bytes::of(alloc, name)?;
+        self.named.push(Piece { name, bytes })?;
         Ok(())
     }
 }

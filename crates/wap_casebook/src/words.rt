@@ -75,15 +75,22 @@ pub fn number(digits: &[u8]) -> Result<i64, CaseFault> {
     }
 }
 
+/// The number from 0 on that digits spell, in 32 bits.
+fn number32(digits: &[u8]) -> Result<u32, CaseFault> {
+    match u32::try_from(number(digits)?) {
+        Ok(number) => Ok(number),
+        Err(_) => Err(CaseFault::Spelling),
+    }
+}
+
 /// The two numbers of `FROM..TO`.
 pub fn range(spelled: &[u8]) -> Result<(u32, u32), CaseFault> {
-    let Some((from, to)) = str_of(spelled)?.split_once("..") else {
+    let (from, rest) = split_by(b'.', spelled);
+    let [b'.', to @ ..] = rest else {
         return Err(CaseFault::Spelling);
     };
-    match (from.parse::<u32>(), to.parse::<u32>()) {
-        (Ok(from), Ok(to)) => Ok((from, to)),
-        _ => Err(CaseFault::Spelling),
-    }
+    let from = number32(from)?;
+    Ok((from, number32(to)?))
 }
 
 /// The text whose UTF-8 the bytes are.

@@ -1,5 +1,5 @@
-//! How files of cases are played.
-use crate::runs::play_all;
+//! How files of cases and of calls are played.
+use crate::{calls, runs};
 use std::io::Read;
 use std::process::ExitCode;
 use std::rt::{Env, Files};
@@ -8,74 +8,76 @@ use std::{env, fs};
 use wap_case_files::Played;
 use wap_casebook::Tally;
 
-/// Tells of the cases of a file that differ, counts them, and answers whether there are some; or
-/// nothing where memory ran out or what is to be told can't be printed.
-fn tell<R: Print>(rt: &R, all: &Played, file: &str) -> Option<bool> {
+/// The status where nothing differs.
+const ALIKE: u8 = 0;
+
+/// The status where a case or a call differs.
+const DIFFERING: u8 = 1;
+
+/// The status where not all could be played.
+const UNPLAYED: u8 = 2;
+
+/// Tells of the cases or calls of a file that differ, counts them, and gives the status.
+fn tell<R: Print>(rt: &R, all: &Played, file: &str, what: &str) -> u8 {
     let told = all.told.as_str();
     let Tally { played, differing } = all.tally;
-    println!(rt; "{told}{file}: {played} cases, {differing} differ").ok()?;
-    if all.is_full {
-        None
+    let told = println!(rt; "{told}{file}: {played} {what}, {differing} differ");
+    if told.is_err() || all.is_full {
+        UNPLAYED
+    } else if differing > 0 {
+        DIFFERING
     } else {
-        Some(differing > 0)
+        ALIKE
     }
 }
 
-/// Plays the cases of these lines, and tells of them.
-fn play_lines<R: Print + AllocGlobal + Threads + Sync>(
-    rt: &R,
-    file: &str,
-    lines: &[u8],
-) -> Option<bool> {
-    tell(rt, &play_all(rt, rt.alloc(), lines), file)
-}
-
 /// Plays the cases of standard input.
-fn play_input<R: Input + Print + AllocGlobal + Threads + Sync>(rt: &R) -> Option<bool> {
+fn play_input<R: Input + Print + AllocGlobal + Threads + Sync>(rt: &R) -> u8 {
     let mut lines = Vec::new(rt.alloc());
-    rt.reader().read_to_end(&mut lines).ok()?;
-    play_lines(rt, "standard input", lines.as_slice())
+    match rt.reader().read_to_end(&mut lines) {
+        Ok(_) => {
+            let all = runs::play_all(rt, rt.alloc(), lines.as_slice());
+            tell(rt, &all, "standard input", "cases")
+        }
+        Err(_) => UNPLAYED,
+    }
 }
 
-/// Plays the cases of a file.
-fn play_file<R: Files + Print + AllocGlobal + Threads + Sync>(rt: &R, file: &str) -> Option<bool> {
-    let lines = fs::read_to_string(rt, file).ok()?;
-    play_lines(rt, file, lines.as_bytes())
-}
-
-/// The status of what was played: 1 where cases differ, and 2 where not all could be played.
-fn status_of(differs: Option<bool>) -> u8 {
-    match differs {
-        Some(false) => 0,
-        Some(true) => 1,
-        None => 2,
+/// Plays the calls or the cases of a file.
+fn play_file<R: Files + Print + AllocGlobal + Threads + Sync>(rt: &R, file: &str) -> u8 {
+    let Ok(lines) = fs::read_to_string(rt, file) else {
+        return UNPLAYED;
+    };
+    if file.ends_with(".calls") {
+        let all = calls::play_all(rt.alloc(), lines.as_str());
+        tell(rt, &all, file, "calls")
+    } else {
+        let all = runs::play_all(rt, rt.alloc(), lines.as_bytes());
+        tell(rt, &all, file, "cases")
     }
 }
 
 /// Plays the files that the words of the program name, if any is, and gives the greatest status.
 fn play_files<R: Files + Env + Print + AllocGlobal + Threads + Sync>(rt: &R) -> Option<u8> {
     let Ok(words) = env::args(rt) else {
-        return Some(2);
+        return Some(UNPLAYED);
     };
     let mut greatest = None;
     for file in words.skip(1) {
-        let status = status_of(play_file(rt, file.as_str()));
-        greatest = Some(match greatest {
-            Some(before) if before > status => before,
-            _ => status,
-        });
+        let status = play_file(rt, file.as_str());
+        greatest = Some(status.max(greatest.unwrap_or(ALIKE)));
     }
     greatest
 }
 
-/// Plays the cases of the files that the words of the program name, or without any of standard
-/// input, tells of each that differs, and counts. The status is 1 where there is such a case, and 2
+/// Plays the files that the words of the program name, or without any the cases of standard input,
+/// tells of each case and call that differs, and counts. The status is 1 where there is one, and 2
 /// where a file can't be read, memory runs out or what is to be told can't be printed.
-pub fn play_cases<R: Input + Files + Env + Print + AllocGlobal + Threads + Sync>(
+pub fn play_words<R: Input + Files + Env + Print + AllocGlobal + Threads + Sync>(
     rt: &R,
 ) -> ExitCode {
     match play_files(rt) {
         Some(status) => ExitCode::from(status),
-        None => ExitCode::from(status_of(play_input(rt))),
+        None => ExitCode::from(play_input(rt)),
     }
 }

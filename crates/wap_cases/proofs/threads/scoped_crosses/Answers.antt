@@ -1,6 +1,6 @@
 use denote.Param.Send.{sendable}
-use Rattle.wap_calls.proofs.Crossing as crossing
-use Rattle.wap_calls.proofs.threads.scoped_crosses.Goals as goal
+use Rattle.wap_cases.proofs.Crossing as crossing
+use Rattle.wap_cases.proofs.threads.scoped_crosses.Goals as goal
 
 pub crosses-requires-send-T : goal.crosses-requires-send-T
 crosses-requires-send-T c κs = search (crossing.scoped_send, sendable)

@@ -1,6 +1,6 @@
 use Rattle.std.proofs.Common.{arith}
-use Rattle.wap_calls.proofs.Standing.{placeable}
-use Rattle.wap_calls.proofs.placeable.are_placeable.Goals as goal
+use Rattle.wap_cases.proofs.Standing.{placeable}
+use Rattle.wap_cases.proofs.placeable.are_placeable.Goals as goal
 
 pub returns : goal.returns
 returns c = λ is.

@@ -5,7 +5,7 @@ ghost use Rattle.wap_asm.specs.Spellings.{operation_of, longest};
 ghost use Rattle.wap_asm.specs.Placed.{ArePlaceable, Leads};
 ghost use Rattle.wap_asm.specs.declared.form.Form.{Form};
 ghost use Rattle.wap_asm.specs.declared.form.Form.TheVariants.{Label};
-ghost use Rattle.wap_calls.specs.Numbered.{MayStand};
+ghost use Rattle.wap_cases.specs.Numbered.{MayStand};
 
 use wap_asm::Form;
 use wap_code::{Instr, OpName};

@@ -1,7 +1,9 @@
-//! The calls by their names.
-use crate::{fragments, library, messages, operators, placing, runs, sources};
+//! Lines of calls of layers: the calls by their names, and how their lines are played.
+use crate::{fragments, library, machines, messages, operators, placing};
+use std::alloc::Global;
 use wap_base::DEFAULT_STRING;
-use wap_casebook::{Call, Calls, CaseFault, meaning_of};
+use wap_case_files::Played;
+use wap_casebook::{Call, CaseFault, meaning_of, split_word};
 
 /// A call that has a name of its own.
 #[derive(Clone, Copy)]
@@ -20,16 +22,13 @@ enum Known {
     Length,
     Run,
     Called,
-    Lexes,
-    Parses,
-    Names,
     UrlMessage,
     KeyMessage,
     VariableMessage,
 }
 
 /// The calls, by their names.
-static CALLS: [(&str, Known); 20] = [
+static CALLS: [(&str, Known); 17] = [
     ("binary", Known::Binary),
     ("binary_within", Known::BinaryWithin),
     ("unary", Known::Unary),
@@ -44,9 +43,6 @@ static CALLS: [(&str, Known); 20] = [
     ("length", Known::Length),
     ("run", Known::Run),
     ("called", Known::Called),
-    ("lexes", Known::Lexes),
-    ("parses", Known::Parses),
-    ("names", Known::Names),
     ("url_message", Known::UrlMessage),
     ("key_message", Known::KeyMessage),
     ("variable_message", Known::VariableMessage),
@@ -67,25 +63,53 @@ fn make(known: Known, call: &mut Call) -> Result<(), CaseFault> {
         Known::Forms => placing::count_forms(call),
         Known::Place => placing::show(call),
         Known::Length => placing::measure(call),
-        Known::Run => runs::run(call),
+        Known::Run => machines::run(call),
         Known::Called => fragments::read(call),
-        Known::Lexes => sources::lexes(call),
-        Known::Parses => sources::parses(call),
-        Known::Names => sources::names(call),
         Known::UrlMessage => messages::of_url(call),
         Known::KeyMessage => messages::of_key(call),
         Known::VariableMessage => messages::of_variable(call),
     }
 }
 
-/// The calls of the layers.
-pub struct Layers;
+/// Makes the call of a name.
+fn make_named(name: &[u8], call: &mut Call) -> Result<(), CaseFault> {
+    match meaning_of(&CALLS, name) {
+        Some(known) => make(known, call),
+        None => library::call_named(name, call),
+    }
+}
 
-impl Calls for Layers {
-    fn make(&self, name: &[u8], call: &mut Call) -> Result<(), CaseFault> {
-        match meaning_of(&CALLS, name) {
-            Some(known) => make(known, call),
-            None => library::call_named(name, call),
+/// Plays a line, which gives a name to bytes or makes a call.
+fn play_line<'a>(call: &mut Call<'a>, line: &'a [u8]) -> Result<(), CaseFault> {
+    let (name, rest) = split_word(line);
+    if name == b"piece".as_slice() {
+        return call.define(rest);
+    }
+    call.begin(rest);
+    make_named(name, call)?;
+    call.end();
+    Ok(())
+}
+
+/// Plays the line of a number. One that gives a name to bytes counts only where it can't be read.
+fn play<'a>(played: &mut Played, call: &mut Call<'a>, line: &'a str, number: usize) {
+    if let Err(fault) = play_line(call, line.as_bytes()) {
+        call.fail(fault);
+    }
+    if call.differs() || !line.starts_with("piece ") {
+        played.add_call(call, line, number);
+    }
+}
+
+/// Plays the calls of these lines, counts them, and tells of those that differ. Empty lines and
+/// lines that begin with `#` are passed over.
+pub fn play_all(alloc: Global, lines: &str) -> Played {
+    let mut played = Played::new(alloc);
+    let mut call = Call::new(alloc);
+    for (at, line) in lines.lines().enumerate() {
+        if !line.is_empty() && !line.starts_with('#') {
+            play(&mut played, &mut call, line, at.saturating_add(1));
         }
     }
+    played
 }

@@ -5,7 +5,7 @@ use Rattle.wap_value.specs.declared.value.Value.TheVariants.{Invalid}
 use Rattle.wap_url.specs.declared.url.Url.{Url}
 use Rattle.wap_execution.specs.declared.library.HostOut.{HostOut}
 use Rattle.wap_execution.specs.declared.library.HostOut.TheVariants.{Value}
-use Rattle.wap_calls.specs.Small.{Small, small}
+use Rattle.wap_cases.specs.Small.{Small, small}
 
 -- a count is no lower than itself
 pub still : (asked : ℕ) → asked ≤ asked

@@ -1,6 +1,6 @@
 use denote.Param.Send.{sendable}
-use Rattle.wap_calls.proofs.Crossing as crossing
-use Rattle.wap_calls.proofs.threads.programs_cross.Goals as goal
+use Rattle.wap_cases.proofs.Crossing as crossing
+use Rattle.wap_cases.proofs.threads.programs_cross.Goals as goal
 
 pub crosses-requires-send-T : goal.crosses-requires-send-T
 crosses-requires-send-T c κs = search (crossing.stmt_fields_send, sendable)

@@ -4,7 +4,7 @@ use Rattle.std.proofs.lemmas.Option.{slice_get_within}
 use Rattle.wap_asm.specs.declared.form.Form.{Form}
 use Rattle.wap_asm.specs.declared.form.Form.TheVariants.{Op, Jump, Label}
 use Rattle.wap_asm.specs.Placed.{ArePlaceable}
-use Rattle.wap_calls.specs.Numbered.{MayStand}
+use Rattle.wap_cases.specs.Numbered.{MayStand}
 
 -- each form that was tried may stand where it stands
 abbrev pub MayAll : List Form → ℕ → Type 0

@@ -63,7 +63,7 @@ pub fn call_named(name: &[u8], call: &mut Call) -> Result<(), CaseFault> {
 /// Calls a function under a limit of Strings: `within LIMIT NAME VALUES`.
 pub fn call_within(call: &mut Call) -> Result<(), CaseFault> {
     let limit = call.number32();
-    let numbers = numbers_of(call.word().as_slice()).ok_or(CaseFault::Argument)?;
+    let numbers = numbers_of(call.word()).ok_or(CaseFault::Argument)?;
     give_call(call, numbers, limit)
 }
 

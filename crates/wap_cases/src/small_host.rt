@@ -4,7 +4,7 @@ ghost use Rattle.std.specs.Prelude.{◌≡◌, ◌≢◌, IfOk, IfErr};
 ghost use Rattle.std.specs.Option.{option_copied};
 ghost use Rattle.wap_execution.specs.declared.fatal.Fatal.TheVariants.{Budget};
 ghost use Rattle.wap_machine.specs.Hosts.{CanBeCalled};
-ghost use Rattle.wap_calls.specs.Small.{callable, unit_at};
+ghost use Rattle.wap_cases.specs.Small.{callable, unit_at};
 
 use std::alloc::Global;
 use wap_base::{RunErr, Text};
@@ -77,8 +77,8 @@ fn callable(unit: &Verified, name: &Text, count: u8, depth: u32) -> Result<u8, F
 impl Host<FailingPages> for SmallHost {
     ghost use Rattle.std.specs.Prelude.{◌≡◌, ◌-◌, ◌<◌, ◌≤◌, IsTrue, ◌↔◌};
     ghost use Rattle.std.specs.Prelude.{Some, IfOk, IfSome, IsErrOf};
-    ghost use Rattle.wap_calls.specs.Small.{Small, small};
-    ghost use Rattle.wap_calls.specs.inside.Asking.{still, both, library_grows};
+    ghost use Rattle.wap_cases.specs.Small.{Small, small};
+    ghost use Rattle.wap_cases.specs.inside.Asking.{still, both, library_grows};
 
     ghost State = { Small };
 
