@@ -15,3 +15,4 @@ mod wml;
 pub use case::Case;
 pub use outcome::Outcome;
 pub use playing::{Played, Reading};
+pub use telling::Told;

@@ -1,18 +1,16 @@
 //! The cases or calls of a file, one after the other, and what is told of them.
 use crate::Case;
 use crate::lines::read;
-use crate::telling::{add_call, add_fault, add_head};
-use std::alloc::{AllocError, Global};
+use crate::telling::Told;
+use std::alloc::Global;
 use std::mem;
 use wap_casebook::{Call, CaseFault, Pieces, Tally};
 
-/// What is told of the cases or calls that were played, how many they are, and whether memory ran
-/// out.
+/// What is told of the cases or calls that were played, and how many they are.
 #[derive(Drop)]
 pub struct Played {
     pub tally: Tally,
-    pub told: String,
-    pub is_full: bool,
+    pub told: Told,
 }
 
 impl Played {
@@ -20,22 +18,7 @@ impl Played {
     pub fn new(alloc: Global) -> Played {
         Played {
             tally: Tally::default(),
-            told: String::new(alloc),
-            is_full: false,
-        }
-    }
-
-    /// Tells of a case that differs.
-    fn tell(&mut self, alloc: Global, case: &Case, differences: &str) -> Result<(), AllocError> {
-        add_head(&mut self.told, alloc, case)?;
-        self.told.push_str(differences)
-    }
-
-    /// Counts a case by in what its runs differ from what is wanted, and tells of it where they do.
-    fn count(&mut self, alloc: Global, case: &Case, differences: &str) {
-        self.tally.count(!differences.is_empty());
-        if !differences.is_empty() && self.tell(alloc, case, differences).is_err() {
-            self.is_full = true;
+            told: Told::new(alloc),
         }
     }
 
@@ -45,24 +28,27 @@ impl Played {
         &mut self,
         alloc: Global,
         case: &Case,
-        differences: String,
+        differences: Told,
         ran: Result<(), CaseFault>,
     ) {
         let mut differences = differences;
         if let Err(fault) = ran {
-            if add_fault(&mut differences, case, fault).is_err() {
-                self.is_full = true;
-            }
+            differences.add_fault(case, fault);
         }
-        self.count(alloc, case, differences.as_str());
+        let differs = differences.is_full || !differences.text.is_empty();
+        self.tally.count(differs);
+        if differs {
+            self.told.add_head(alloc, case);
+            self.told.add_all(&differences);
+        }
     }
 
     /// Takes the call of a line that was played, and tells of it where it differs.
     pub fn add_call(&mut self, call: &Call, line: &str, number: usize) {
         let differs = call.differs();
         self.tally.count(differs);
-        if differs && add_call(&mut self.told, call, line, number).is_err() {
-            self.is_full = true;
+        if differs {
+            self.told.add_call(call, line, number);
         }
     }
 }

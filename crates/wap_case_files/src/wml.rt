@@ -1,17 +1,11 @@
 //! Decks as texts of WML, and the bytes of their documents.
 use std::alloc::Global;
-use wap_base::Bytes;
+use wap_base::{Bytes, NoMemory};
 use wap_casebook::{CaseFault, number, split_by};
 use wap_markup::{ATTR_NAMES, ATTR_STARTS, AttrName, END, EXT_I_0, EXT_I_1, EXT_I_2, STR_I, TAGS};
 
 /// What a document begins with: WBXML 1.3, WML 1.3, UTF-8, no string table, and the root.
 static HEAD: &[u8] = b"\x03\x0a\x6a\x00\xff\x01";
-
-/// What a text has at a place: a byte of a string, or a variable with its conversion.
-enum Part<'a> {
-    Byte(u8),
-    Variable(&'a [u8]),
-}
 
 /// The code of an element.
 fn tag_code(name: &[u8]) -> Option<u8> {
@@ -59,105 +53,23 @@ fn start_of<'a>(name: &[u8], value: &'a [u8]) -> Option<(u8, &'a [u8])> {
     found
 }
 
-/// The byte of a name between `&` and `;`, which may also be its number, as in `&#10;`.
-fn entity(name: &[u8]) -> Result<u8, CaseFault> {
-    match name {
-        b"amp" => Ok(b'&'),
-        b"lt" => Ok(b'<'),
-        b"quot" => Ok(b'"'),
-        [b'#', digits @ ..] => numbered(digits),
-        _ => Err(CaseFault::Spelling),
-    }
-}
-
 /// The byte of a number.
-fn numbered(digits: &[u8]) -> Result<u8, CaseFault> {
-    match u8::try_from(number(digits)?) {
-        Ok(byte) => Ok(byte),
-        Err(_) => Err(CaseFault::Spelling),
+fn numbered(digits: &[u8]) -> Option<u8> {
+    match number(digits) {
+        Ok(number) => u8::try_from(number).ok(),
+        Err(_) => None,
     }
 }
 
-/// The part that a text begins with, and what follows it. A `&` that begins no character's name is
-/// a byte as any other.
-fn split_part(text: &[u8]) -> Option<(Part<'_>, &[u8])> {
-    match text {
-        [] => None,
-        [b'$', b'$', rest @ ..] => Some((Part::Byte(b'$'), rest)),
-        [b'$', b'(', rest @ ..] => {
-            let (variable, rest) = split_by(b')', rest);
-            Some((Part::Variable(variable), rest))
-        }
-        [b'&', rest @ ..] => {
-            let (name, after) = split_by(b';', rest);
-            match entity(name) {
-                Ok(byte) => Some((Part::Byte(byte), after)),
-                Err(_) => Some((Part::Byte(b'&'), rest)),
-            }
-        }
-        [byte, rest @ ..] => Some((Part::Byte(*byte), rest)),
+/// The byte of a name between `&` and `;`, which may also be its number, as in `&#10;`.
+fn entity(name: &[u8]) -> Option<u8> {
+    match name {
+        b"amp" => Some(b'&'),
+        b"lt" => Some(b'<'),
+        b"quot" => Some(b'"'),
+        [b'#', digits @ ..] => numbered(digits),
+        _ => None,
     }
-}
-
-/// Appends a byte of a string, which it begins where none is open.
-fn add_byte(out: &mut Bytes, is_open: bool, byte: u8) -> Result<(), CaseFault> {
-    if !is_open {
-        out.push(STR_I)?;
-    }
-    out.push(byte)?;
-    Ok(())
-}
-
-/// Ends the string that is open, if one is.
-fn end_string(out: &mut Bytes, is_open: bool) -> Result<(), CaseFault> {
-    if is_open {
-        out.push(0)?;
-    }
-    Ok(())
-}
-
-/// Appends a reference to a variable: `name`, `name:e`, `name:u` or `name:n`.
-fn add_variable(out: &mut Bytes, variable: &[u8]) -> Result<(), CaseFault> {
-    let (name, conversion) = split_by(b':', variable);
-    let code = match conversion {
-        b"e" => EXT_I_0,
-        b"u" => EXT_I_1,
-        b"" | b"n" => EXT_I_2,
-        _ => return Err(CaseFault::Spelling),
-    };
-    out.push(code)?;
-    out.add(name)?;
-    out.push(0)?;
-    Ok(())
-}
-
-/// Appends a part, and answers whether a string is open then.
-fn add_part(out: &mut Bytes, is_open: bool, part: Part<'_>) -> Result<bool, CaseFault> {
-    match part {
-        Part::Byte(byte) => {
-            add_byte(out, is_open, byte)?;
-            Ok(true)
-        }
-        Part::Variable(variable) => {
-            end_string(out, is_open)?;
-            add_variable(out, variable)?;
-            Ok(false)
-        }
-    }
-}
-
-/// Appends a text, with its variables.
-fn add_text(out: &mut Bytes, text: &[u8]) -> Result<(), CaseFault> {
-    let mut rest = text;
-    let mut is_open = false;
-    for _ in 0..text.len() {
-        let Some((part, others)) = split_part(rest) else {
-            break;
-        };
-        is_open = add_part(out, is_open, part)?;
-        rest = others;
-    }
-    end_string(out, is_open)
 }
 
 /// The name that a text begins with, up to a blank, `/` or `>`, and what follows it.
@@ -173,73 +85,196 @@ fn split_name(text: &[u8]) -> (&[u8], &[u8]) {
     (text, rest)
 }
 
-/// Appends the attribute that a text begins with, and gives what follows it.
-fn add_attribute<'a>(out: &mut Bytes, text: &'a [u8]) -> Result<&'a [u8], CaseFault> {
-    let (name, quoted) = split_by(b'=', text);
-    let [b'"', quoted @ ..] = quoted else {
-        return Err(CaseFault::Spelling);
-    };
-    let (value, rest) = split_by(b'"', quoted);
-    let (code, value) = start_of(name, value).ok_or(CaseFault::Spelling)?;
-    out.push(code)?;
-    add_text(out, value)?;
-    Ok(rest)
+/// The bytes of a document, as far as they are written. The first fault is kept, and reported in
+/// the end.
+#[derive(Drop)]
+struct Writing {
+    bytes: Bytes,
+    /// Whether a string is open.
+    is_open: bool,
+    fault: Option<CaseFault>,
 }
 
-/// Appends the attributes of an element, and its end where it has no content, and gives what
-/// follows its `>`.
-fn add_attributes<'a>(out: &mut Bytes, text: &'a [u8]) -> Result<&'a [u8], CaseFault> {
-    let mut rest = text;
-    for _ in 0..text.len() {
-        match rest {
-            [b' ', others @ ..] => rest = others,
-            [b'/', b'>', others @ ..] => {
-                out.add(&[END, END])?;
-                return Ok(others);
-            }
-            [b'>', others @ ..] => {
-                out.push(END)?;
-                return Ok(others);
-            }
-            _ => rest = add_attribute(out, rest)?,
+impl Writing {
+    /// Keeps a fault, if it is the first.
+    fn fail(&mut self, fault: CaseFault) {
+        if self.fault.is_none() {
+            self.fault = Some(fault);
         }
     }
-    Err(CaseFault::Spelling)
-}
 
-/// Appends what stands after a `<`: an element's code, which has attributes and content, though
-/// there may be none, or the end of one. It gives what follows.
-fn add_element<'a>(out: &mut Bytes, text: &'a [u8]) -> Result<&'a [u8], CaseFault> {
-    if let [b'/', rest @ ..] = text {
-        out.push(END)?;
-        return Ok(split_by(b'>', rest).1);
-    }
-    let (name, rest) = split_name(text);
-    let code = tag_code(name).ok_or(CaseFault::Spelling)?;
-    out.push(code | 0xc0)?;
-    add_attributes(out, rest)
-}
-
-/// Appends content: texts and elements.
-fn add_content(out: &mut Bytes, content: &[u8]) -> Result<(), CaseFault> {
-    let mut rest = content;
-    for _ in 0..content.len() {
-        let (text, element) = split_by(b'<', rest);
-        add_text(out, text)?;
-        if element.is_empty() {
-            break;
+    /// Appends bytes.
+    fn add(&mut self, bytes: &[u8]) {
+        if let Err(NoMemory) = self.bytes.add(bytes) {
+            self.fail(CaseFault::NoMemory);
         }
-        rest = add_element(out, element)?;
     }
-    Ok(())
+
+    /// Appends a byte of a string, which it begins where none is open.
+    fn add_byte(&mut self, byte: u8) {
+        if !self.is_open {
+            self.add(&[STR_I]);
+        }
+        self.is_open = true;
+        self.add(&[byte]);
+    }
+
+    /// Ends the string that is open, if one is.
+    fn end_string(&mut self) {
+        if self.is_open {
+            self.add(&[0]);
+        }
+        self.is_open = false;
+    }
+
+    /// Appends a reference to a variable: `name`, `name:e`, `name:u` or `name:n`.
+    fn add_variable(&mut self, variable: &[u8]) {
+        let (name, conversion) = split_by(b':', variable);
+        self.end_string();
+        match conversion {
+            b"e" => self.add(&[EXT_I_0]),
+            b"u" => self.add(&[EXT_I_1]),
+            b"" | b"n" => self.add(&[EXT_I_2]),
+            _ => self.fail(CaseFault::Spelling),
+        }
+        self.add(name);
+        self.add(&[0]);
+    }
+
+    /// Appends the character whose name stands after a `&`, and gives what follows it. A `&` that
+    /// begins no character's name is a byte as any other.
+    fn add_character<'a>(&mut self, text: &'a [u8]) -> &'a [u8] {
+        let (name, rest) = split_by(b';', text);
+        match entity(name) {
+            Some(byte) => {
+                self.add_byte(byte);
+                rest
+            }
+            None => {
+                self.add_byte(b'&');
+                text
+            }
+        }
+    }
+
+    /// Appends what a text begins with, a byte of a string or a variable, and gives what follows.
+    fn add_part<'a>(&mut self, text: &'a [u8]) -> &'a [u8] {
+        match text {
+            [] => text,
+            [b'$', b'$', rest @ ..] => {
+                self.add_byte(b'$');
+                rest
+            }
+            [b'$', b'(', rest @ ..] => {
+                let (variable, rest) = split_by(b')', rest);
+                self.add_variable(variable);
+                rest
+            }
+            [b'&', rest @ ..] => self.add_character(rest),
+            [byte, rest @ ..] => {
+                self.add_byte(*byte);
+                rest
+            }
+        }
+    }
+
+    /// Appends a text, with its variables.
+    fn add_text(&mut self, text: &[u8]) {
+        let mut rest = text;
+        for _ in 0..text.len() {
+            rest = self.add_part(rest);
+        }
+        self.end_string();
+    }
+
+    /// Appends an attribute of this name and value.
+    fn add_named(&mut self, name: &[u8], value: &[u8]) {
+        match start_of(name, value) {
+            Some((code, value)) => {
+                self.add(&[code]);
+                self.add_text(value);
+            }
+            None => self.fail(CaseFault::Spelling),
+        }
+    }
+
+    /// Appends the attribute that a text begins with, and gives what follows it.
+    fn add_attribute<'a>(&mut self, text: &'a [u8]) -> &'a [u8] {
+        let (name, quoted) = split_by(b'=', text);
+        let [b'"', quoted @ ..] = quoted else {
+            self.fail(CaseFault::Spelling);
+            return b"";
+        };
+        let (value, rest) = split_by(b'"', quoted);
+        self.add_named(name, value);
+        rest
+    }
+
+    /// Appends the attributes of an element, and its end where it has no content, and gives what
+    /// follows its `>`.
+    fn add_attributes<'a>(&mut self, text: &'a [u8]) -> &'a [u8] {
+        let mut rest = text;
+        for _ in 0..text.len() {
+            match rest {
+                [b' ', others @ ..] => rest = others,
+                [b'/', b'>', others @ ..] => {
+                    self.add(&[END, END]);
+                    return others;
+                }
+                [b'>', others @ ..] => {
+                    self.add(&[END]);
+                    return others;
+                }
+                _ => rest = self.add_attribute(rest),
+            }
+        }
+        self.fail(CaseFault::Spelling);
+        rest
+    }
+
+    /// Appends what stands after a `<`: an element's code, which has attributes and content, though
+    /// there may be none, or the end of one. It gives what follows.
+    fn add_element<'a>(&mut self, text: &'a [u8]) -> &'a [u8] {
+        if let [b'/', rest @ ..] = text {
+            self.add(&[END]);
+            return split_by(b'>', rest).1;
+        }
+        let (name, rest) = split_name(text);
+        match tag_code(name) {
+            Some(code) => self.add(&[code | 0xc0]),
+            None => self.fail(CaseFault::Spelling),
+        }
+        self.add_attributes(rest)
+    }
+
+    /// Appends content: texts and elements.
+    fn add_content(&mut self, content: &[u8]) {
+        let mut rest = content;
+        for _ in 0..content.len() {
+            let (text, element) = split_by(b'<', rest);
+            self.add_text(text);
+            if element.is_empty() {
+                break;
+            }
+            rest = self.add_element(element);
+        }
+    }
 }
 
 /// The bytes of the document whose root has this content, as a text of WML: elements, attributes in
 /// `"`, texts, `$(name:e)`, `$$`, `&amp;`, `&lt;`, `&quot;` and `&#10;`. That it is a good deck
 /// isn't looked at.
 pub fn deck_bytes(alloc: Global, text: &[u8]) -> Result<Bytes, CaseFault> {
-    let mut out = Bytes::of(alloc, HEAD)?;
-    add_content(&mut out, text)?;
-    out.push(END)?;
-    Ok(out)
+    let mut writing = Writing {
+        bytes: Bytes::new(alloc),
+        is_open: false,
+        fault: None,
+    };
+    writing.add(HEAD);
+    writing.add_content(text);
+    writing.add(&[END]);
+    match writing.fault {
+        Some(fault) => Err(fault),
+        None => Ok(writing.bytes),
+    }
 }

@@ -19,10 +19,10 @@ const UNPLAYED: u8 = 2;
 
 /// Tells of the cases or calls of a file that differ, counts them, and gives the status.
 fn tell<R: Print>(rt: &R, all: &Played, file: &str, what: &str) -> u8 {
-    let told = all.told.as_str();
+    let told = all.told.text.as_str();
     let Tally { played, differing } = all.tally;
     let told = println!(rt; "{told}{file}: {played} {what}, {differing} differ");
-    if told.is_err() || all.is_full {
+    if told.is_err() || all.told.is_full {
         UNPLAYED
     } else if differing > 0 {
         DIFFERING

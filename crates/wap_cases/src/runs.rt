@@ -1,7 +1,7 @@
 //! Runs of the program over the devices of cases.
 use std::alloc::Global;
 use std::thread::Threads;
-use wap_case_files::{Case, Outcome, Played, Reading};
+use wap_case_files::{Case, Outcome, Played, Reading, Told};
 use wap_casebook::CaseFault;
 use wap_cli::{Status, run};
 use wap_devices::{MemSource, MemStore, NoGate};
@@ -51,20 +51,20 @@ fn run_case<R: Threads + Sync>(
 
 /// Appends in what a run of a case differs from what is wanted.
 fn add_run<R: Threads + Sync>(
-    out: &mut String,
+    out: &mut Told,
     rt: &R,
     alloc: Global,
     case: &Case,
     piece: u64,
 ) -> Result<(), CaseFault> {
     let came = run_case(rt, alloc, case, piece)?;
-    case.add_differences(out, alloc, &came)?;
+    case.add_differences(out, alloc, &came);
     Ok(())
 }
 
 /// Appends in what the runs of a case differ from what is wanted.
 fn add_runs<R: Threads + Sync>(
-    out: &mut String,
+    out: &mut Told,
     rt: &R,
     alloc: Global,
     case: &Case,
@@ -78,7 +78,7 @@ fn add_runs<R: Threads + Sync>(
 /// Plays a case, if one was read.
 fn play<R: Threads + Sync>(played: &mut Played, rt: &R, alloc: Global, case: Option<Case>) {
     if let Some(case) = case {
-        let mut differences = String::new(alloc);
+        let mut differences = Told::new(alloc);
         let ran = add_runs(&mut differences, rt, alloc, &case);
         played.add(alloc, &case, differences, ran);
     }
