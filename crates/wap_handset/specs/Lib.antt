@@ -1,3 +1,4 @@
 pub mod Holding
 pub mod Feeding
+pub mod Ignoring
 pub mod inside

@@ -11,6 +11,7 @@ ghost use Rattle.wap_world.specs.Lines.{refusal_line};
 ghost use Rattle.wap_inbox.specs.Inbox.{HaveWinners};
 ghost use Rattle.wap_handset.specs.Feeding.{with_session, session_of};
 ghost use Rattle.wap_handset.specs.Feeding.{beginning, step_of, Plays, MissedAt, ShowsOn};
+ghost use Rattle.wap_handset.specs.Ignoring.{ignores};
 
 use crate::keys::{is_of_inbox, turn};
 use std::alloc::Global;
@@ -93,6 +94,7 @@ impl Handset {
     /// the inbox, and answers whether it did. The one line that the key shows isn't made:
     /// `refusal_lines` has it. Any other key is left to `feed`.
     pub fn try_ignore(&mut self, key: &Key) -> bool
+        ensures when { result ≡ ignores self.old key.now }
         ensures plays { result ≡ true → (seen : Seen) → Plays (key.now ∷ []) seen seen
             self.old self.new (Ok (refusal_line Ignored ∷ [])) }
         ensures kept { result ≡ false → self.new ≡ self.old }

@@ -16,7 +16,7 @@ use Rattle.wap_context.specs.Sites.{site_of, IfOver}
 use Rattle.wap_session.specs.Feeding.{State, TurnsTo, Plays}
 use Rattle.wap_session.specs.declared.standing.Standing.{Standing}
 use Rattle.wap_session.specs.declared.standing.Standing.TheVariants.{Rest, Waits as Asking, Over}
-use Rattle.wap_session.specs.inside.Pressing.{fits_nothing}
+use Rattle.wap_session.specs.Ignoring.{fits_nothing}
 use Rattle.wap_session.specs.inside.Turns.{waiting_of, is_over, state_of}
 use Rattle.wap_session.proofs.Rules.{Acts-leads, Acts-ignored}
 use Rattle.wap_session.proofs.Turning.{turn_rule, rest_leads, fed_ok, fed_turns}

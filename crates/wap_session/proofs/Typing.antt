@@ -27,7 +27,8 @@ use Rattle.wap_world.specs.Keys.{ignored, act_or, type_text, after_text}
 use Rattle.wap_world.specs.Keys.{choose_option, after_choice, at_card, apply, pass_time}
 use Rattle.wap_context.specs.Browsers.{Browser, IsOver, Shows, with_vars, typed_in, chosen_in}
 use Rattle.wap_context.specs.Browsers.{place_held}
-use Rattle.wap_session.specs.inside.Pressing.{typed, fits_nothing}
+use Rattle.wap_session.specs.Ignoring.{fits_nothing}
+use Rattle.wap_session.specs.inside.Pressing.{typed}
 use Rattle.wap_context.proofs.Places.{held_now}
 use Rattle.wap_session.proofs.Rules.{LeadsTo}
 

@@ -14,8 +14,9 @@ ghost use Rattle.wap_scripting.specs.UnitSites.{shelf_of};
 ghost use Rattle.wap_context.specs.Browsers.{place_held, Shows};
 ghost use Rattle.wap_context.specs.Sites.{site_of};
 ghost use Rattle.wap_context.specs.Acting.{Acts};
+ghost use Rattle.wap_session.specs.Ignoring.{fits_nothing};
 ghost use Rattle.wap_session.specs.inside.Turns.{IsBehind};
-ghost use Rattle.wap_session.specs.inside.Pressing.{typed, fits_nothing};
+ghost use Rattle.wap_session.specs.inside.Pressing.{typed};
 
 use crate::lines::{refusal_lines, variable_lines};
 use std::alloc::Global;

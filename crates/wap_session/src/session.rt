@@ -9,6 +9,7 @@ ghost use Rattle.wap_site.specs.Asking.{Seen};
 ghost use Rattle.wap_world.specs.declared.refusal.Refusal.TheVariants.{Ignored};
 ghost use Rattle.wap_world.specs.Lines.{refusal_line};
 ghost use Rattle.wap_session.specs.Feeding.{beginning, step_of, TurnsTo, Plays, MissedAt, ShowsOn};
+ghost use Rattle.wap_session.specs.Ignoring.{ignores};
 
 use crate::SessionFault;
 use crate::keys::fits_nothing;
@@ -83,6 +84,7 @@ impl Session {
     /// and answers whether it did. The one line that the key shows isn't made: `refusal_lines`
     /// has it. Any other key is left to `feed`.
     pub fn try_ignore(&mut self, key: &Key) -> bool
+        ensures when { result ≡ ignores self.old key.now }
         ensures plays { result ≡ true → (seen : Seen) → Plays (key.now ∷ []) seen seen
             self.old self.new (Ok (refusal_line Ignored ∷ [])) }
         ensures turns { result ≡ true → (seen : Seen)
@@ -181,9 +183,10 @@ impl Session {
         Ok(lines)
     }
 
-    /// Whether a script waits for the answer to a dialog.
+    /// Whether a script waits for the answer to a dialog. After a fault none does.
     pub fn in_dialog(&self) -> bool
-        ensures { result ≡ is_some self.now.waiting }
+        ensures waits { result ≡ is_some self.now.waiting }
+        ensures over { self.now.is_over ≡ true → result ≡ false }
     {
         match &self.standing {
             Standing::Waits(_) => true,

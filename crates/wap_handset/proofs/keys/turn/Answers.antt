@@ -17,7 +17,7 @@ returns-then-in_dialog-clause-plays g c =
     let winners = c.args.inbox.now in
     let key = c.args.key.now in
     plays_as sold winners c.requires.own key key
-    (in_dialog sold winners c.requires.own key (sym c.in_dialog.ensures ∙ c.if-in_dialog.true))
+    (in_dialog sold winners c.requires.own key (sym c.in_dialog.ensures.waits ∙ c.if-in_dialog.true))
     (g.P.Pages.seen c.args.pages.now) (g.P.Pages.seen c.feed.new.pages) c.feed.new.self
     c.feed.result c.requires.going c.feed.ensures.plays c.feed.ensures.turns
 
@@ -27,7 +27,7 @@ returns-then-in_dialog-clause-missed g c is =
     let winners = c.args.inbox.now in
     let key = c.args.key.now in
     misses_as sold winners c.requires.own key key
-    (in_dialog sold winners c.requires.own key (sym c.in_dialog.ensures ∙ c.if-in_dialog.true))
+    (in_dialog sold winners c.requires.own key (sym c.in_dialog.ensures.waits ∙ c.if-in_dialog.true))
     (g.P.Pages.seen c.args.pages.now) (g.P.Pages.seen c.feed.new.pages) (c.feed.ensures.missed is)
 
 -- ---- an entry that is followed
@@ -37,7 +37,7 @@ returns-in-Some-clause-plays g c =
     let sold = c.args.session.now in
     let winners = c.args.inbox.now in
     let key = c.args.key.now in
-    let rests = no_script sold.waiting (sym c.in_dialog.ensures ∙ c.if-in_dialog.false) in
+    let rests = no_script sold.waiting (sym c.in_dialog.ensures.waits ∙ c.if-in_dialog.false) in
     plays_as sold winners c.requires.own key (Open c.in-Some.url)
     (opened_key sold winners c.requires.own rests key c.in-Some.url
     (sym c.in-Some.is ∙ c.in_ok-url.ensures))
@@ -50,7 +50,7 @@ returns-in-Some-clause-missed g c is =
     let sold = c.args.session.now in
     let winners = c.args.inbox.now in
     let key = c.args.key.now in
-    let rests = no_script sold.waiting (sym c.in_dialog.ensures ∙ c.if-in_dialog.false) in
+    let rests = no_script sold.waiting (sym c.in_dialog.ensures.waits ∙ c.if-in_dialog.false) in
     misses_as sold winners c.requires.own key (Open c.in-Some.url)
     (opened_key sold winners c.requires.own rests key c.in-Some.url
     (sym c.in-Some.is ∙ c.in_ok-url.ensures))
@@ -63,7 +63,7 @@ pub returns-in_err-lines-clause-missed : goal.returns-in_err-lines-clause-missed
 returns-in_err-lines-clause-missed g c is =
     let sold = c.args.session.now in
     let winners = c.args.inbox.now in
-    let rests = no_script sold.waiting (sym c.in_dialog.ensures ∙ c.if-in_dialog.false) in
+    let rests = no_script sold.waiting (sym c.in_dialog.ensures.waits ∙ c.if-in_dialog.false) in
     let p = err_from_is_err_and c.from_residual-in_err-lines.result
     c.from_residual-in_err-lines.ensures.1 in
     misses_key sold winners c.requires.own rests (g.P.Pages.seen c.args.pages.now)
@@ -74,7 +74,7 @@ pub returns-in-Some-2-clause-plays : goal.returns-in-Some-2-clause-plays
 returns-in-Some-2-clause-plays g c =
     let sold = c.args.session.now in
     let winners = c.args.inbox.now in
-    let rests = no_script sold.waiting (sym c.in_dialog.ensures ∙ c.if-in_dialog.false) in
+    let rests = no_script sold.waiting (sym c.in_dialog.ensures.waits ∙ c.if-in_dialog.false) in
     plays_inbox sold winners c.requires.own rests (g.P.Pages.seen c.args.pages.now)
     (g.P.Pages.seen c.feed-2.new.pages) c.feed-2.new.self c.inbox_lines.new.inbox
     c.in_ok-lines.lines c.args.key.now (sym c.in_default.is ∙ c.in_ok-url.ensures)
@@ -90,7 +90,7 @@ pub returns-in-None-clause-plays : goal.returns-in-None-clause-plays
 returns-in-None-clause-plays g c =
     let sold = c.args.session.now in
     let winners = c.args.inbox.now in
-    let rests = no_script sold.waiting (sym c.in_dialog.ensures ∙ c.if-in_dialog.false) in
+    let rests = no_script sold.waiting (sym c.in_dialog.ensures.waits ∙ c.if-in_dialog.false) in
     plays_inbox sold winners c.requires.own rests (g.P.Pages.seen c.args.pages.now)
     (g.P.Pages.seen c.feed-2.new.pages) c.feed-2.new.self c.inbox_lines.new.inbox
     c.in_ok-lines.lines c.args.key.now (sym c.in_default.is ∙ c.in_ok-url.ensures)
