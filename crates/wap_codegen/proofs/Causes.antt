@@ -15,6 +15,8 @@ use Rattle.wap_grammar.specs.Words.{lexemes_of}
 use Rattle.wap_grammar.specs.Programs.{IsProgram, Spells}
 use Rattle.wap_grammar.specs.Refusal.{IsPast}
 use Rattle.wap_grammar.specs.Depth.{IsFirstBelow}
+use Rattle.wap_grammar.specs.inside.Statements.{statement_at}
+use Rattle.wap_grammar.specs.inside.Programs.{program_at}
 use Rattle.wap_grammar.proofs.Unique.{one}
 use Rattle.wap_program.specs.declared.program.Function.{Function}
 use Rattle.wap_program.specs.declared.program.Program.{Program}
@@ -61,20 +63,24 @@ pub parse_cause : (src : List ℕ) (tokens : List Token) → AreTokens src token
     → ((at : ℕ) → fault ≡ parse.Nested at → (p : Program)
     → Spells src p (lexemes_of src tokens)
     → IsFirstBelow src LEVEL_LIMIT (lexemes_of src tokens) p at)
+    → (fault ≢ parse.NoMemory
+    → program_at src (statement_at src LEVEL_LIMIT) (lexemes_of src tokens) ≡ Err fault)
     → IsCompileFault src (parse_fault fault)
-parse_cause src tokens are (parse.Syntax at) only syntax nested first = record {
+parse_cause src tokens are (parse.Syntax at) only syntax nested first stops = record {
   tokens = tokens;
   are_tokens = are;
   none = λ p is. absurd (let bad = only p is (λ same. cc) in cc);
   why = syntax at refl;
+  stops = stops (λ same. cc);
 }
-parse_cause src tokens are (parse.Nested at) only syntax nested first = record {
+parse_cause src tokens are (parse.Nested at) only syntax nested first stops = record {
   tokens = tokens;
   are_tokens = are;
   none = λ p is. absurd (let bad = only p is (λ same. cc) in cc);
   why = (nested at refl, first at refl);
+  stops = stops (λ same. cc);
 }
-parse_cause src tokens are parse.NoMemory only syntax nested first = tt
+parse_cause src tokens are parse.NoMemory only syntax nested first stops = tt
 
 -- of the names
 pub scope_cause : (src : List ℕ) (p : Program) → IsSourceOf src p → (fault : ScopeFault)

@@ -1,6 +1,6 @@
 -- Why a source isn't compiled: what its tokens, its program, the names of this or the sizes of the
 -- unit are refused for. This project's own.
-use Rattle.std.specs.Prelude.{◌≡◌, ℕ, ◌<◌, ◌≤◌, List, length, take, slice_get, Some}
+use Rattle.std.specs.Prelude.{◌≡◌, ℕ, ◌<◌, ◌≤◌, List, length, take, slice_get, Some, Err}
 use Rattle.std.specs.List.{All}
 use Rattle.wap_lex.specs.declared.token.Token.{Token}
 use Rattle.wap_lex.specs.Tokens.{AreTokens, IsRefused}
@@ -12,6 +12,8 @@ use Rattle.wap_grammar.specs.Words.{lexemes_of}
 use Rattle.wap_grammar.specs.Programs.{IsProgram, Spells}
 use Rattle.wap_grammar.specs.Refusal.{IsPast}
 use Rattle.wap_grammar.specs.Depth.{IsFirstBelow}
+use Rattle.wap_grammar.specs.inside.Statements.{statement_at}
+use Rattle.wap_grammar.specs.inside.Programs.{program_at}
 use Rattle.wap_program.specs.declared.program.Function.{Function}
 use Rattle.wap_program.specs.declared.program.Program.{Program}
 use Rattle.wap_scope.specs.declared.fault.ScopeFault.{ScopeFault}
@@ -41,6 +43,8 @@ pub record HasNoProgram (src : List ℕ) (fault : ParseFault) : Type 0 where
   -- they spell no program of so few levels
   pub none : (p : Program) → IsProgram src LEVEL_LIMIT (lexemes_of src tokens) p → ⊥
   pub why : IsParseCause src (lexemes_of src tokens) fault
+  -- reading them from the left stops with this fault
+  pub stops : program_at src (statement_at src LEVEL_LIMIT) (lexemes_of src tokens) ≡ Err fault
 
 -- the names of its program aren't in order
 pub record IsUnscoped (src : List ℕ) (fault : ScopeFault) : Type 0 where

@@ -30,7 +30,12 @@ fn verified_of(alloc: Global, unit: Unit) -> Result<Verified, CompileFault>
     }
 }
 
-/// The unit that a source is compiled to, as one that may be run.
+/// The unit that a source of fewer than 2^31 bytes is compiled to, as one that may be run.
+///
+/// # Errors
+/// The first reason not to: that its tokens, its grammar or its names aren't in order, that it has
+/// too many constants, or that the code of a function is too long with each instruction in its
+/// longest form; and `NoMemory`.
 pub fn compile(alloc: Global, src: &[u8]) -> Result<Verified, CompileFault>
     requires { length src.now < 2 ^ 31 }
     // What is answered is the unit of the program that the source spells.
@@ -39,8 +44,8 @@ pub fn compile(alloc: Global, src: &[u8]) -> Result<Verified, CompileFault>
     // A source whose program has a unit is compiled to it, unless memory runs out.
     ensures only { (program : Program) → IsAccepted src.now program
         → Meets faults.NoMemory (λ unit. unit) result (Ok (compiled program)) }
-    // Each fault but out of memory is one of the source: what a layer refuses, or what is too many or
-    // too long.
+    // Each fault but out of memory is one of the source: what a layer refuses, or what is too many
+    // or too long.
     ensures refused { IfErr result (IsCompileFault src.now) }
 {
     let scoped = scoped_of(alloc, src)?;

@@ -1,5 +1,6 @@
 -- What comes of the levels that a program is read with: with more of them it is the same, unless a
--- part stood too deep; and the place named is that of the first such part.
+-- part stood too deep; and the place named is that of the first such part. Reading never runs out
+-- of memory.
 use Rattle.std.proofs.Common.{◌≡◌, ℕ, zero, suc, ◌+◌, ◌-◌, ◌≤◌, nat_lt, cond, List, []}
 use Rattle.std.proofs.Common.{◌∷◌, length, Result, Ok, Err, refl, sym, ap, subst, ◌∙◌}
 use Rattle.std.proofs.Common.{inl, inr, ◌⊎◌, length-append, arith}
@@ -143,6 +144,16 @@ shallow src us [] c at e = absurd cc
 shallow src us (f ∷ fs) [] at e = absurd cc
 shallow src us (f ∷ fs) (l ∷ c) at e = absurd cc
 
+unmade : (src : List ℕ) (us : List Use) (fs : List Function) (c : List Lexeme) →
+    program_by src us fs c ≡ Err fault.NoMemory → ⊥
+unmade src us [] c e = absurd cc
+unmade src us (f ∷ fs) [] e = absurd cc
+unmade src us (f ∷ fs) (l ∷ c) e = absurd cc
+
+nested_memory : (B : Type 0) (at : ℕ) → ◌≡◌ {A = Result B ParseFault} (Err (fault.Nested at)) (Err
+    fault.NoMemory) → ⊥
+nested_memory B at e = absurd cc
+
 module _ (src : List ℕ) (whole : List Lexeme) (limit more : ℕ) where
   abbrev statement : Guard → Statements
   statement g = guarded_statement src more g limit
@@ -177,6 +188,21 @@ module _ (src : List ℕ) (whole : List Lexeme) (limit more : ℕ) where
         (place_same (Made × List Lexeme) (place_of src fork.at) at
         (sym (fork.refused nowhere refl) ∙ parts_nested nowhere at e))
         (past_of src whole limit fork.at fork.is fork.many)
+
+  pub program_unfailing : read nowhere ≡ Err fault.NoMemory → ⊥
+  program_unfailing e = by_fork forked where
+    stopped : parts nowhere ≡ Err fault.NoMemory
+    stopped =
+        elim (bind_err (parts nowhere) (ended src) fault.NoMemory (sym (by_parts nowhere) ∙ e)) [
+          | inl so ↦ so
+          | inr x ↦ absurd (unmade src x.0.0.0 x.0.0.1 x.0.1 x.2)
+        ]
+
+    by_fork : Forks src whole limit (length whole) parts → ⊥
+    by_fork (inl same) = subst (λ (q : Reading Made). Goes src whole limit (length whole) q)
+        (sym (same.0 nowhere) ∙ stopped) same.1
+    by_fork (inr fork) = nested_memory (Made × List Lexeme) (place_of src fork.at)
+        (sym (fork.refused nowhere refl) ∙ stopped)
 
   pub program_agrees : (read nowhere ≡ read anywhere)
       ⊎ ((at : ℕ) × (read nowhere ≡ Err (fault.Nested at)))

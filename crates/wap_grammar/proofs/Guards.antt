@@ -43,12 +43,12 @@ module _ (src : List ℕ) (whole : List Lexeme) (limit : ℕ) where
     pub is : whole ≡ before ++ c
 
   -- a reading left tokens that the whole ends with, no more than so many; or it came to a place
-  -- with as many tokens before it as there are levels
+  -- with as many tokens before it as there are levels; it never runs out of memory
   abbrev pub Goes : {A : Type 0} → ℕ → Reading A → Type 0
   Goes most (Ok x) = IsRest x.1 × (length x.1 ≤ most)
   Goes most (Err (fault.Nested at)) = IsPast src limit whole at
   Goes most (Err (fault.Syntax at)) = Unit {0}
-  Goes most (Err fault.NoMemory) = Unit {0}
+  Goes most (Err fault.NoMemory) = ⊥
 
   -- as many tokens stand before a place as there are levels
   pub past_of : (c : List Lexeme) → IsRest c → limit + length c ≤ length whole →
@@ -65,13 +65,13 @@ module _ (src : List ℕ) (whole : List Lexeme) (limit : ℕ) where
   goes_less few most (Ok x) less one = (one.0, omega (arith, less, one.1))
   goes_less few most (Err (fault.Nested at)) less one = one
   goes_less few most (Err (fault.Syntax at)) less one = tt
-  goes_less few most (Err fault.NoMemory) less one = tt
+  goes_less few most (Err fault.NoMemory) less one = one
 
   goes_fault : (A B : Type 0) (most : ℕ) (e : ParseFault) → Goes {A = A} most (Err e) →
       Goes {A = B} most (Err e)
   goes_fault A B most (fault.Nested at) one = one
   goes_fault A B most (fault.Syntax at) one = tt
-  goes_fault A B most fault.NoMemory one = tt
+  goes_fault A B most fault.NoMemory one = one
 
   -- the readings part at the first part that is too deep
   pub record Fork {A : Type 0} (most : ℕ) (r : Guard → Reading A) : Type 0 where

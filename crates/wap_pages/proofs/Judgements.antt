@@ -228,11 +228,6 @@ of_verify : (one other : VerifyFault) → AreAlike one other
 of_verify one other (inl same) = inl (ap (λ (why : VerifyFault). fault.Verify why) same)
 of_verify one other (inr both) = inr both
 
-of_source : (one other : CompileFault) → sources.MayBoth one other
-    → MayBoth (fault.Source one) (fault.Source other)
-of_source one other (inl same) = inl (ap (λ (why : CompileFault). fault.Source why) same)
-of_source one other (inr both) = inr both
-
 module _ (bytes : List ℕ) where
   deck_faults : (one other : PageFault) → RefusesCheck bytes one → RefusesCheck bytes other
       → one ≡ other
@@ -277,16 +272,16 @@ module _ (bytes : List ℕ) where
   text_faults _ _ (RefusesText.not_text none) (RefusesText.not_text none') = refl
 
   source_faults : (one other : PageFault) → RefusesSource bytes one → RefusesSource bytes other
-      → MayBoth one other
+      → one ≡ other
   source_faults _ _ (RefusesSource.source why is) (RefusesSource.source other so) =
-      of_source why other (sources.alike bytes why other is so)
+      ap (λ (f : CompileFault). fault.Source f) (sources.alike bytes why other is so)
 
   faults_as : (k : Kind) (one other : PageFault) → RefusesAs k bytes one → RefusesAs k bytes other
       → MayBoth one other
   faults_as kind.Deck one other first second = inl (deck_faults one other first second)
   faults_as kind.Words one other first second = inl (text_faults one other first second)
   faults_as kind.Unit one other first second = unit_faults one other first second
-  faults_as kind.Source one other first second = source_faults one other first second
+  faults_as kind.Source one other first second = inl (source_faults one other first second)
 
 -- ---- pages
 

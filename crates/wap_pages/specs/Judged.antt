@@ -26,7 +26,6 @@ use Rattle.wap_program.specs.declared.program.Program.{Program}
 use Rattle.wap_compiled.specs.Units.{compiled}
 use Rattle.wap_compiled.specs.Accepted.{IsAccepted}
 use Rattle.wap_accepted.specs.Reading.{accepted_in}
-use Rattle.wap_source_faults.specs.Faults.{is_of_parser}
 use Rattle.wap_site.specs.Pages.{Pages}
 use Rattle.wap_site.specs.declared.page.Page.{Page}
 use Rattle.wap_site.specs.declared.page.Page.TheVariants as page
@@ -149,12 +148,12 @@ abbrev pub Refuses : List ℕ → List ℕ → PageFault → Type 0
 Refuses name bytes = RefusesAs (kind_of name) bytes
 
 -- beside this fault another may be named: of the places of a unit at which the numbers of values
--- don't fit, and of those where a parser stops, any may be
+-- don't fit any may be
 abbrev pub may_differ : PageFault → Bool
 may_differ fault.Missing = false
 may_differ (fault.Document why) = false
 may_differ (fault.Deck why) = false
-may_differ (fault.Source why) = is_of_parser why
+may_differ (fault.Source why) = false
 may_differ (fault.Unit why) = false
 may_differ (fault.Verify why) = is_of_depths why
 may_differ fault.NotText = false

@@ -38,7 +38,7 @@ pub fn pages_are_judged()
 {}
 
 /// A law of the faults for which pages are refused: a page that is refused has one, and it has one
-/// alone, unless it is a unit or a source in which any of several places may be named.
+/// alone, unless it is a unit in which any of several places may be named.
 pub fn refused_pages_have_faults()
     ensures some { (name bytes : List ℕ) → AreBytes bytes → length bytes < 2 ^ 31
         → (page_of_bytes name bytes ≡ page.Refused)

@@ -29,6 +29,9 @@ pub fn parse(alloc: Global, src: &[u8], tokens: &[Token]) -> Result<Program, Par
     ensures only { (program : Program) →
         IsProgram src.now LEVEL_LIMIT (lexemes_of src.now tokens.now) program →
         Meets faults.NoMemory (λ found. found) result (Ok program) }
+    // Reading them from the left comes to the same, so a fault has its place where that stops.
+    ensures reads { Meets faults.NoMemory (λ program. program) result
+        (program_at src.now (statement_at src.now LEVEL_LIMIT) (lexemes_of src.now tokens.now)) }
     // No program spells the tokens, at whatever levels its parts stand.
     ensures syntax { IfErr result (λ fault. (at : ℕ) → fault ≡ faults.Syntax at →
         (program : Program) → Spells src.now program (lexemes_of src.now tokens.now) → ⊥) }

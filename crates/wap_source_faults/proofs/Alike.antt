@@ -1,9 +1,9 @@
--- A source that is accepted has no fault, and no source has two, unless a parser may name both.
-use Rattle.std.proofs.Common.{◌≡◌, ℕ, zero, suc, ◌≤◌, true, List, [], ◌∷◌, length, take, Some, refl}
-use Rattle.std.proofs.Common.{sym, ap, ap₂, subst, ◌∙◌, ◌⊎◌, inl, inr, arith, All}
+-- A source that is accepted has no fault, and no source has two.
+use Rattle.std.proofs.Common.{◌≡◌, ℕ, zero, suc, ◌≤◌, List, [], ◌∷◌, length, take, Some, refl}
+use Rattle.std.proofs.Common.{Result, sym, ap, ap₂, subst, ◌∙◌, arith, All}
 use Rattle.std.proofs.lemmas.Option.{slice_get_within, get_or_from_slice_get}
 use Rattle.std.proofs.lemmas.List.Elements.{recursion_from_All, All-from_recursion}
-use Rattle.wap_base.proofs.Choices.{some_same}
+use Rattle.wap_base.proofs.Choices.{some_same, err_same}
 use Rattle.wap_lex.specs.declared.token.Token.{Token}
 use Rattle.wap_lex.specs.declared.fault.LexFault.{LexFault}
 use Rattle.wap_lex.specs.Tokens.{AreTokens}
@@ -12,6 +12,8 @@ use Rattle.wap_grammar.specs.declared.fault.ParseFault.{ParseFault}
 use Rattle.wap_grammar.specs.declared.precedence.TheConstants.{LEVEL_LIMIT}
 use Rattle.wap_grammar.specs.Words.{lexemes_of}
 use Rattle.wap_grammar.specs.Programs.{IsProgram}
+use Rattle.wap_grammar.specs.inside.Statements.{statement_at}
+use Rattle.wap_grammar.specs.inside.Programs.{program_at}
 use Rattle.wap_grammar.proofs.Unique.{one}
 use Rattle.wap_program.specs.declared.program.Function.{Function}
 use Rattle.wap_program.specs.declared.program.Program.{Program}
@@ -24,7 +26,7 @@ use Rattle.wap_compiled.specs.Accepted.{IsSourceOf, IsAccepted, most_constants, 
 use Rattle.wap_codegen.specs.declared.fault.CompileFault.{CompileFault}
 use Rattle.wap_codegen.specs.declared.fault.CompileFault.TheVariants as fault
 use Rattle.wap_codegen.specs.Faults.{HasNoProgram, IsFirstLong}
-use Rattle.wap_source_faults.specs.Faults.{IsFaultOf, is_of_parser}
+use Rattle.wap_source_faults.specs.Faults.{IsFaultOf}
 
 -- ---- the first function that is too long
 
@@ -81,10 +83,6 @@ one_long (f ∷ functions) (suc i) w (suc j) v first second =
     let rest =
     one_long functions i w j v (onward f functions i w first) (onward f functions j v second) in
     (ap suc rest.0, rest.1)
-
--- two faults are the same, or both a parser's
-abbrev pub MayBoth : CompileFault → CompileFault → Type 0
-MayBoth why other = (why ≡ other) ⊎ ((is_of_parser why ≡ true) × (is_of_parser other ≡ true))
 
 module _ (source : List ℕ) where
   -- ---- a source has one program
@@ -158,12 +156,23 @@ module _ (source : List ℕ) where
       one_long q.functions i w j v
       (subst (λ (r : Program). IsFirstLong r.functions i w) (one_program p q first second) is) so
 
+  abbrev spelled_by : List Token → Result Program ParseFault
+  spelled_by tokens = program_at source (statement_at source LEVEL_LIMIT) (lexemes_of source tokens)
+
+  -- reading the one list of tokens stops with one fault
+  same_stop : (why other : ParseFault) → HasNoProgram source why → HasNoProgram source other
+      → why ≡ other
+  same_stop why other is so =
+      err_same {A = Program} why other (sym is.stops
+      ∙ ap spelled_by
+      (one_list source is.tokens so.tokens is.are_tokens so.are_tokens) ∙ so.stops)
+
   pub alike : (why other : CompileFault) → IsFaultOf source why → IsFaultOf source other
-      → MayBoth why other
+      → why ≡ other
   alike fault.NoMemory other is so = absurd (is.some refl)
   alike why fault.NoMemory is so = absurd (so.some refl)
   alike (fault.Lex f) (fault.Lex g) is so =
-      inl (ap (λ (h : LexFault). fault.Lex h) (one_fault source f g is.cause so.cause))
+      ap (λ (h : LexFault). fault.Lex h) (one_fault source f g is.cause so.cause)
   alike (fault.Lex f) (fault.Parse g) is so =
       absurd (apart source so.cause.tokens f so.cause.are_tokens is.cause)
   alike (fault.Lex f) (fault.Scope g) is so =
@@ -174,7 +183,8 @@ module _ (source : List ℕ) where
       absurd (apart source so.cause.spelled.tokens f so.cause.spelled.are_tokens is.cause)
   alike (fault.Parse f) (fault.Lex g) is so =
       absurd (apart source is.cause.tokens g is.cause.are_tokens so.cause)
-  alike (fault.Parse f) (fault.Parse g) is so = inr (refl, refl)
+  alike (fault.Parse f) (fault.Parse g) is so =
+      ap (λ (h : ParseFault). fault.Parse h) (same_stop f g is.cause so.cause)
   alike (fault.Parse f) (fault.Scope g) is so =
       absurd (not_none so.cause.program f so.cause.spelled is.cause)
   alike (fault.Parse f) (fault.TooManyConstants n) is so =
@@ -186,9 +196,9 @@ module _ (source : List ℕ) where
   alike (fault.Scope f) (fault.Parse g) is so =
       absurd (not_none is.cause.program g is.cause.spelled so.cause)
   alike (fault.Scope f) (fault.Scope g) is so =
-      inl (ap (λ (h : ScopeFault). fault.Scope h)
+      ap (λ (h : ScopeFault). fault.Scope h)
       (same_scope is.cause.program so.cause.program f g is.cause.spelled so.cause.spelled
-      is.cause.first so.cause.first))
+      is.cause.first so.cause.first)
   alike (fault.Scope f) (fault.TooManyConstants n) is so =
       absurd (not_unscoped so.cause.program is.cause.program so.cause.spelled is.cause.spelled
       so.cause.scoped is.cause.unscoped)
@@ -203,10 +213,10 @@ module _ (source : List ℕ) where
       absurd (not_unscoped is.cause.program so.cause.program is.cause.spelled so.cause.spelled
       is.cause.scoped so.cause.unscoped)
   alike (fault.TooManyConstants n) (fault.TooManyConstants m) is so =
-      inl (ap (λ (count : ℕ). fault.TooManyConstants count)
+      ap (λ (count : ℕ). fault.TooManyConstants count)
       (is.cause.needed ∙ ap (λ (r : Program). length (pool r))
       (one_program is.cause.program so.cause.program is.cause.spelled so.cause.spelled)
-      ∙ sym so.cause.needed))
+      ∙ sym so.cause.needed)
   alike (fault.TooManyConstants n) (fault.CodeTooLong i w) is so =
       absurd (not_many so.cause.program is.cause.program n so.cause.spelled is.cause.spelled
       so.cause.few is.cause.needed is.cause.past)
@@ -224,4 +234,4 @@ module _ (source : List ℕ) where
       let same =
       same_long is.cause.program so.cause.program i w j v is.cause.spelled so.cause.spelled
       is.cause.first so.cause.first in
-      inl (ap₂ (λ (index wide : ℕ). fault.CodeTooLong index wide) same.0 same.1)
+      ap₂ (λ (index wide : ℕ). fault.CodeTooLong index wide) same.0 same.1

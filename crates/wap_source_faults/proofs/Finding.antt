@@ -16,12 +16,12 @@ use Rattle.wap_grammar.specs.declared.fault.ParseFault.{ParseFault}
 use Rattle.wap_grammar.specs.declared.fault.ParseFault.TheVariants as parse
 use Rattle.wap_grammar.specs.declared.precedence.TheConstants.{LEVEL_LIMIT}
 use Rattle.wap_grammar.specs.Words.{lexemes_of}
-use Rattle.wap_grammar.specs.Programs.{IsProgram, Spells}
+use Rattle.wap_grammar.specs.Programs.{IsProgram}
 use Rattle.wap_grammar.specs.inside.Statements.{statement_at}
 use Rattle.wap_grammar.specs.inside.Programs.{program_at}
 use Rattle.wap_grammar.proofs.Whole.{program_ok, program_again}
 use Rattle.wap_grammar.proofs.Below.{program_none, program_past, first_spelled}
-use Rattle.wap_grammar.proofs.Below.{program_agrees, program_more}
+use Rattle.wap_grammar.proofs.Below.{program_unfailing}
 use Rattle.wap_program.specs.declared.program.Function.{Function}
 use Rattle.wap_program.specs.declared.program.Program.{Program}
 use Rattle.wap_scope.specs.declared.fault.ScopeFault.{ScopeFault}
@@ -167,18 +167,6 @@ module _ (source : List ℕ) (short : length source < 2 ^ 31) where
     unread why is p of =
         cc (sym (program_again source LEVEL_LIMIT (lexemes_of source tokens) p of) ∙ is)
 
-    -- reading never runs out of memory, so then there is no program of any number of levels
-    unspelled : spelled ≡ Err parse.NoMemory → (p : Program)
-        → Spells source p (lexemes_of source tokens) → ⊥
-    unspelled is p spells =
-        let whole = lexemes_of source tokens in
-        let found = program_more source spells.0 (LEVEL_LIMIT + spells.0) (omega arith) whole p
-        (program_again source spells.0 whole p spells.1) in
-        elim (program_agrees source whole LEVEL_LIMIT spells.0) [
-          | inl alike ↦ cc (sym is ∙ alike ∙ found)
-          | inr deep ↦ cc (sym is ∙ deep.1)
-        ]
-
     by_program : (read : Result Program ParseFault) → spelled ≡ read → Found
     by_program (Ok p) is = by_names p (record {
       tokens = tokens;
@@ -193,6 +181,7 @@ module _ (source : List ℕ) (short : length source < 2 ^ 31) where
           are_tokens = are;
           none = unread (parse.Syntax at) is;
           why = program_none source (lexemes_of source tokens) at LEVEL_LIMIT is;
+          stops = is;
         };
         some = λ e. cc;
       },
@@ -209,22 +198,13 @@ module _ (source : List ℕ) (short : length source < 2 ^ 31) where
             λ p spells.
                 first_spelled source (lexemes_of source tokens) LEVEL_LIMIT at p is spells,
           );
+          stops = is;
         };
         some = λ e. cc;
       },
     )
-    by_program (Err parse.NoMemory) is = inr (
-      fault.Parse (parse.Syntax 0),
-      record {
-        cause = record {
-          tokens = tokens;
-          are_tokens = are;
-          none = unread parse.NoMemory is;
-          why = unspelled is;
-        };
-        some = λ e. cc;
-      },
-    )
+    by_program (Err parse.NoMemory) is =
+        absurd (program_unfailing source (lexemes_of source tokens) LEVEL_LIMIT 0 is)
 
   -- a source that is a text, by its tokens
   by_tokens : IsUtf8 source → (read : Result (List Token) LexFault)

@@ -2,11 +2,11 @@
 //! functions here do nothing, and carry the laws alone.
 #![tactic(auto)]
 
-ghost use Rattle.std.specs.Prelude.{◌≡◌, ◌<◌, ◌^◌, ◌⊎◌, ℕ, true, List, length};
+ghost use Rattle.std.specs.Prelude.{◌≡◌, ◌<◌, ◌^◌, ℕ, List, length};
 ghost use Rattle.wap_program.specs.declared.program.Program.{Program};
 ghost use Rattle.wap_compiled.specs.Accepted.{IsAccepted};
 ghost use Rattle.wap_codegen.specs.declared.fault.CompileFault.{CompileFault};
-ghost use Rattle.wap_source_faults.specs.Faults.{IsFaultOf, is_of_parser};
+ghost use Rattle.wap_source_faults.specs.Faults.{IsFaultOf};
 
 /// A source that is accepted has no fault, and each other one has some.
 pub fn sources_are_accepted_or_have_faults()
@@ -17,10 +17,8 @@ pub fn sources_are_accepted_or_have_faults()
         → (fault : CompileFault) × IsFaultOf source fault }
 {}
 
-/// A source has one fault alone, unless its tokens spell no program of few enough levels: there a
-/// parser may name any of several places.
+/// A source has one fault alone.
 pub fn sources_have_one_fault()
     ensures { (source : List ℕ) (one other : CompileFault) → IsFaultOf source one
-        → IsFaultOf source other
-        → (one ≡ other) ⊎ ((is_of_parser one ≡ true) × (is_of_parser other ≡ true)) }
+        → IsFaultOf source other → one ≡ other }
 {}

@@ -7,4 +7,5 @@ pub returns-in-Err-clause-fault : goal.returns-in-Err-clause-fault
 returns-in-Err-clause-fault c =
     subst (IsCompileFault c.args.src.now) (sym c.from.ensures)
     (parse_cause c.args.src.now c.args.tokens.now c.requires c.in-Err.fault c.in-Err.ensures.only
-    c.in-Err.ensures.syntax c.in-Err.ensures.nested c.in-Err.ensures.first)
+    c.in-Err.ensures.syntax c.in-Err.ensures.nested c.in-Err.ensures.first
+    c.in-Err.ensures.reads)
