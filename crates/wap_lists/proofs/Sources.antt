@@ -169,8 +169,9 @@ module _ (start now : SourceSeen) (taken : List ℕ) (lists : Begun) (count : �
 
     -- a line of it is no key line
     pub piece_bad : (new : Begun) (fault : KeyFault) → TakesPiece piece lists new (Some fault)
-        → (found : List (List Key)) → AreRead start last found (BadKey new.number fault)
-    piece_bad new fault (want, ends) found = record {
+        → (found : List (List Key)) → found ≡ []
+        → AreRead start last found (BadKey new.number fault)
+    piece_bad new fault (want, ends) found empty = record {
       ending_is = λ differs.
           by_taken (λ all. all.ending ≡ BadKey new.number fault) (taken ++ piece) piece_few
           start.left last.left piece_takes.left
@@ -182,8 +183,10 @@ module _ (start now : SourceSeen) (taken : List ℕ) (lists : Begun) (count : �
           ∙ ends ending others);
       all = λ e. absurd cc;
       none_left = λ e. absurd cc;
+      none = λ differs. empty;
       too_many = λ e. absurd cc;
       failed = λ e. absurd cc;
+      given = λ e. absurd cc;
       steady = λ e. piece_steady;
       of_line = λ line e. want (cc);
     }
@@ -231,8 +234,10 @@ module _ (start now : SourceSeen) (taken : List ℕ) (lists : Begun) (count : �
           by_taken (λ all. all_of all ≡ found) taken taken_few start.left last.left short_takes
           (λ rest is. ap (λ (t : Told). t.0) (at_end rest is ∙ finished.all e));
       none_left = λ e. ends.none;
+      none = finished.none;
       too_many = λ e. absurd (finished.not_past e);
       failed = λ e. absurd (finished.by_line e);
+      given = λ e. absurd (finished.by_line e);
       steady = λ e. end_steady;
       of_line = finished.of_line;
     }
@@ -293,8 +298,9 @@ module _ (start now : SourceSeen) (taken : List ℕ) (lists : Begun) (count : �
         ∙ ap (λ (n : ℕ). told (lists_at TooManyKeys (taken ++ take n rest))) none
         ∙ reading.tells TooManyKeys []
 
-    pub past_read : (found : List (List Key)) → AreRead start last found TooManyKeys
-    past_read found = record {
+    pub past_read : (found : List (List Key)) → found ≡ []
+        → AreRead start last found TooManyKeys
+    past_read found empty = record {
       ending_is = λ differs.
           by_taken (λ all. all.ending ≡ TooManyKeys) taken taken_few start.left now.left
           reading.takes.left
@@ -305,8 +311,10 @@ module _ (start now : SourceSeen) (taken : List ℕ) (lists : Begun) (count : �
           (cut_line TooManyKeys lists.number lists.line.items refl reading.unended reading.short));
       all = λ e. absurd cc;
       none_left = λ e. absurd cc;
+      none = λ differs. empty;
       too_many = λ e. (taken ++ past.byte, past_many, past_takes);
       failed = λ e. absurd cc;
+      given = λ e. absurd cc;
       steady = λ e. past_steady;
       of_line = λ line e. cc;
     }
@@ -326,12 +334,23 @@ module _ (start now : SourceSeen) (taken : List ℕ) (lists : Begun) (count : �
     pub fault_counts : start.faults ≤ last.faults
     fault_counts = omega (arith, fails.counts, reading.steady)
 
-    pub fault_read : (found : List (List Key)) → AreRead start last found ReadFault
-    fault_read found = record {
+    -- the line that is begun may go on, so it isn't refused
+    unrefused : (lists_at ReadFault (taken ++ [])).ending ≡ ReadFault
+    unrefused =
+        ap (λ (t : Told). t.1) (reading.tells ReadFault [])
+        ∙ ap (λ (l : List ℕ). (lists_from ReadFault lists.number (lines_of l)).ending)
+        (append-nil lists.line.items)
+        ∙ ap (λ (all : Lists). all.ending)
+        (cut_line ReadFault lists.number lists.line.items refl reading.unended reading.short)
+
+    pub fault_read : (found : List (List Key)) → found ≡ [] → AreRead start last found ReadFault
+    fault_read found empty = record {
       ending_is = λ differs. absurd (differs refl);
       all = λ e. absurd cc;
       none_left = λ e. absurd cc;
+      none = λ differs. empty;
       too_many = λ e. absurd cc;
+      given = λ e. (taken ++ [], fault_takes, unrefused);
       failed = λ e. subst (λ (faults : ℕ). Rose faults last.faults) reading.steady fails.rose;
       steady = λ differs. absurd (differs refl);
       of_line = λ line e. cc;

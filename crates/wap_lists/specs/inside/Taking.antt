@@ -106,3 +106,4 @@ pub record IsFinished (begun : Begun) (lists : List (List Key)) (by : Ending) : 
   pub of_line : (line : ℕ) → by ≢ BadKey line NoMemory
   pub ending_is : (said_yet begun End []).ending ≡ by
   pub all : by ≡ End → told_yet begun End [] ≡ (lists, End)
+  pub none : by ≢ End → lists ≡ []

@@ -4,15 +4,17 @@ use Rattle.std.specs.declared.alloc.Global.{Global}
 use Rattle.wap_input.specs.declared.key.Key.{Key}
 use Rattle.wap_keys.specs.declared.limits.TheConstants.{KEYS_LIMIT}
 use Rattle.wap_keys.specs.declared.fault.KeyFault.{KeyFault}
-use Rattle.wap_keys.specs.declared.ending.Ending.TheVariants.{BadKey, TooManyKeys}
+use Rattle.wap_keys.specs.declared.ending.Ending.TheVariants.{BadKey, TooManyKeys, ReadFault}
 use Rattle.wap_keys.specs.Read.{Takes}
 use Rattle.wap_lists.specs.declared.reading.More.{More}
 use Rattle.wap_lists.specs.inside.Taking.{TakesPiece}
 use Rattle.wap_lists.specs.inside.Pieces.{ReadsPiece, ReadsBytes, ReadsEnd, ReadsPast}
+use Rattle.wap_lists.specs.inside.Pieces.{FailsToRead}
 use Rattle.wap_lists.proofs.Taking.{none_bad}
 use Rattle.wap_lists.proofs.Sources.{reading_begins, gives, err_gives_up, finish_gives, reads_on}
 use Rattle.wap_lists.proofs.Sources.{piece_takes, piece_few, piece_once, piece_steady, piece_bad}
 use Rattle.wap_lists.proofs.Sources.{past_takes, past_many, past_once, past_steady, past_read}
+use Rattle.wap_lists.proofs.Sources.{fault_takes, fault_few, fault_once, fault_counts, fault_read}
 use Rattle.wap_lists.proofs.reading.read_lists.Goals as goal
 
 abbrev lists_in : Vec (List Key) Global → List (List Key)
@@ -89,7 +91,8 @@ returns-in-Some g c =
     gives lists_in start last (taken ++ piece) all_takes (omega (arith, few)) once c.new.result
     (BadKey new.number c.in-Some.fault) (omega (arith, steady))
     (piece_bad start now taken lists count reading last piece more many bytes.few takes bytes.ends
-    bytes.steady new c.in-Some.fault bad c.new.result.items)
+    bytes.steady new c.in-Some.fault bad c.new.result.items
+    c.new.ensures.items)
 
 pub loop-more-preserved : goal.loop-more-preserved
 loop-more-preserved g c =
@@ -155,4 +158,26 @@ returns-in-Past g c =
     (past_takes start now taken lists count reading last past) (omega (arith, many))
     (past_once start now taken lists count reading last past) c.new-in-Past.result TooManyKeys
     (omega (arith, steady))
-    (past_read start now taken lists count reading last past c.new-in-Past.result.items)
+    (past_read start now taken lists count reading last past c.new-in-Past.result.items
+    c.new-in-Past.ensures.items)
+
+pub returns-in-Failed : goal.returns-in-Failed
+returns-in-Failed g c =
+    let start = g.I.Source.seen c.args.source.now in
+    let now = g.I.Source.seen c.loop-more.source in
+    let last = g.I.Source.seen c.read_piece.new.source in
+    let taken = c.loop-more.invariant.taken in
+    let reading = c.loop-more.invariant.reading in
+    let count = c.loop-more.count in
+    let lists = c.loop-more.begun in
+    let left = KEYS_LIMIT - count in
+    let buffer = c.read_piece.new.buffer in
+    let fails : FailsToRead now last =
+    subst (λ (m : More). ReadsPiece left buffer now last m) c.in-Failed.is c.read_piece.ensures in
+    gives lists_in start last (taken ++ [])
+    (fault_takes start now taken lists count reading last fails)
+    (fault_few start now taken lists count reading last fails)
+    (fault_once start now taken lists count reading last fails) c.new-in-Failed.result ReadFault
+    (fault_counts start now taken lists count reading last fails)
+    (fault_read start now taken lists count reading last fails c.new-in-Failed.result.items
+    c.new-in-Failed.ensures.items)
