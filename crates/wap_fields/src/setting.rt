@@ -6,7 +6,7 @@ ghost use Rattle.wap_cardrules.specs.Setting.{set_one, set_all};
 use wap_base::{NoMemory, Rows, Text};
 use wap_vars::{VarFault, Vars};
 
-/// Sets a variable, or notes why it is refused. Without memory the variables stay.
+/// Sets a variable, or notes why it is refused. Without memory the variables and the refusals stay.
 pub fn set_one(
     vars: &mut Vars,
     name: &Text,
@@ -17,6 +17,7 @@ pub fn set_one(
     ensures refused { OnOk result
         (refused.new ≡ refused.old ++ (set_one vars.old (name.now, text)).refused) }
     ensures kept { OnErr result (vars.new ≡ vars.old) }
+    ensures refused_kept { OnErr result (refused.new ≡ refused.old) }
 {
     match vars.set(name, text) {
         Ok(()) => Ok(()),

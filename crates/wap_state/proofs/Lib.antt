@@ -3,3 +3,4 @@ pub mod Standing
 pub mod Lasts
 pub mod Keeping
 pub mod Saving
+pub mod Stopping

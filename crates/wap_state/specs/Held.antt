@@ -7,6 +7,7 @@ use Rattle.wap_markup.specs.declared.deck.Deck.{Deck}
 use Rattle.wap_markup.specs.declared.deck.Node.{Node}
 use Rattle.wap_markup.specs.Cards.{cards_of}
 use Rattle.wap_cardrules.specs.Setting.{defaults}
+use Rattle.wap_cardrules.specs.Timers.{timer_in, timer_variable}
 use Rattle.wap_cardrules.specs.Values.{Pairs}
 use Rattle.wap_world.specs.World.{World}
 use Rattle.wap_world.specs.Steps.{Scene, and_then}
@@ -43,3 +44,7 @@ restart_held held world = screen_held held (start_timer held.card world)
 abbrev pub store_pairs : Option (List ℕ) → ℕ → Pairs
 store_pairs None time = []
 store_pairs (Some name) time = (name, decimal time) ∷ []
+
+-- what the timer of a card sets at a time
+abbrev pub time_pairs : Node → ℕ → Pairs
+time_pairs card time = store_pairs (option_and_then timer_variable (timer_in card)) time

@@ -1,7 +1,8 @@
 //! The screen of the current card (WAP-191, section 11.5).
-ghost use Rattle.std.specs.Prelude.{◌≡◌, OnOk, OnErr};
+ghost use Rattle.std.specs.Prelude.{◌≡◌, ◌⊎◌, OnOk, OnErr};
 ghost use Rattle.wap_url.specs.Segments.{IsPrefix};
 ghost use Rattle.wap_cardrules.specs.Setting.{defaults};
+ghost use Rattle.wap_fields.specs.Stopped.{DefaultsStand};
 ghost use Rattle.wap_world.specs.Setting.{with_set};
 ghost use Rattle.wap_state.specs.Held.{screen_held, show_held, restart_held};
 ghost use Rattle.wap_state.specs.Scenes.{Plays, Leaves};
@@ -41,7 +42,9 @@ impl State {
             (Plays (with_set self.old (defaults self.old.vars card.now))
             self.old self.new lines.old lines.new) }
         ensures history { self.new.history ≡ self.old.history }
+        ensures timer { self.new.timer ≡ self.old.timer }
         ensures left { OnErr result (Leaves self.old self.new lines.old lines.new) }
+        ensures stopped { OnErr result (DefaultsStand self.old.vars card.now self.new.vars) }
     {
         let refused = apply_defaults(alloc, card, &mut self.vars)?;
         add_fault_lines(refused.as_slice(), lines)
@@ -59,6 +62,10 @@ impl State {
             self.old self.new lines.old lines.new) }
         ensures history { self.new.history ≡ self.old.history }
         ensures left { OnErr result (Leaves self.old self.new lines.old lines.new) }
+        ensures stopped { OnErr result
+            (DefaultsStand self.old.vars here.now.card self.new.vars) }
+        ensures timer { OnErr result ((self.new.timer ≡ self.old.timer)
+            ⊎ (self.new.timer ≡ (show_held here.now self.old).world.timer)) }
     {
         self.apply_defaults(alloc, &here.card, lines)?;
         self.start(alloc, &here.card)?;
@@ -76,6 +83,9 @@ impl State {
             self.old self.new lines.old lines.new) }
         ensures history { self.new.history ≡ self.old.history }
         ensures left { OnErr result (Leaves self.old self.new lines.old lines.new) }
+        ensures vars { self.new.vars ≡ self.old.vars }
+        ensures timer { OnErr result ((self.new.timer ≡ self.old.timer)
+            ⊎ (self.new.timer ≡ (restart_held here.now self.old).world.timer)) }
     {
         self.start_timer(alloc, &here.card)?;
         self.add_screen(alloc, here, lines)

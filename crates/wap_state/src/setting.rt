@@ -1,6 +1,7 @@
 //! Setting variables (WAP-191, sections 9.4 and 10.3.4).
 ghost use Rattle.std.specs.Prelude.{◌≡◌, IfOk, OnOk, OnErr};
 ghost use Rattle.wap_cardrules.specs.Setting.{set_all};
+ghost use Rattle.wap_fields.specs.Stopped.{FirstStand};
 ghost use Rattle.wap_world.specs.Setting.{set_variables};
 ghost use Rattle.wap_state.specs.Scenes.{Plays, Leaves};
 
@@ -20,6 +21,7 @@ fn set_all(
 ) -> Result<Rows<VarFault>, NoMemory>
     ensures vars { OnOk result (vars.new ≡ (set_all vars.old pairs).vars) }
     ensures refused { IfOk result (λ refused. refused ≡ (set_all vars.old pairs).refused) }
+    ensures stopped { OnErr result (FirstStand vars.old pairs vars.new) }
 {
     let mut refused = Rows::new(alloc);
     for (name, text) in pairs.into_vec() {
@@ -39,7 +41,9 @@ impl State {
         ensures plays { OnOk result
             (Plays (set_variables pairs self.old) self.old self.new lines.old lines.new) }
         ensures history { self.new.history ≡ self.old.history }
+        ensures timer { self.new.timer ≡ self.old.timer }
         ensures left { OnErr result (Leaves self.old self.new lines.old lines.new) }
+        ensures stopped { OnErr result (FirstStand self.old.vars pairs self.new.vars) }
     {
         let refused = set_all(alloc, pairs, &mut self.vars)?;
         add_fault_lines(refused.as_slice(), lines)

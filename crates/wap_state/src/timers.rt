@@ -1,13 +1,14 @@
 //! The timer of the current card (WAP-191, section 11.7).
-ghost use Rattle.std.specs.Prelude.{◌≡◌, IfOk, OnOk, OnErr};
+ghost use Rattle.std.specs.Prelude.{◌≡◌, ℕ, IfOk, OnOk, OnErr};
 ghost use Rattle.std.specs.Option.{option_and_then};
 ghost use Rattle.std.specs.Fmt.{decimal};
 ghost use Rattle.wap_cardrules.specs.Timers.{timer_in, timer_variable, timer_of};
-ghost use Rattle.wap_world.specs.declared.timer.Timer.TheVariants.{Expired};
+ghost use Rattle.wap_fields.specs.Stopped.{FirstStand};
+ghost use Rattle.wap_world.specs.declared.timer.Timer.TheVariants.{Running, Off, Expired};
 ghost use Rattle.wap_world.specs.Timers.{timer_from, start_timer, started};
 ghost use Rattle.wap_world.specs.Timers.{store_time, store_left, end_timer};
 ghost use Rattle.wap_state.specs.Scenes.{Plays, Leaves};
-ghost use Rattle.wap_state.specs.Held.{store_pairs};
+ghost use Rattle.wap_state.specs.Held.{store_pairs, time_pairs};
 
 use crate::state::State;
 use std::alloc::Global;
@@ -92,7 +93,10 @@ impl State {
         ensures plays { OnOk result (Plays (store_time card.now time self.old)
             self.old self.new lines.old lines.new) }
         ensures history { self.new.history ≡ self.old.history }
+        ensures timer { self.new.timer ≡ self.old.timer }
         ensures left { OnErr result (Leaves self.old self.new lines.old lines.new) }
+        ensures stopped { OnErr result
+            (FirstStand self.old.vars (time_pairs card.now time) self.new.vars) }
     {
         let pairs = pair_of(alloc, timer_name(alloc, card)?, time)?;
         self.set_variables(alloc, pairs, lines)
@@ -108,7 +112,10 @@ impl State {
         ensures plays { OnOk result (Plays (store_left self.old.timer card.now self.old)
             self.old self.new lines.old lines.new) }
         ensures history { self.new.history ≡ self.old.history }
+        ensures timer { self.new.timer ≡ self.old.timer }
         ensures left { OnErr result (Leaves self.old self.new lines.old lines.new) }
+        ensures stopped { OnErr result ((time : ℕ) × (self.old.timer ≡ Running time)
+            × FirstStand self.old.vars (time_pairs card.now time) self.new.vars) }
     {
         match self.timer {
             Timer::Running(time) => self.store_time(alloc, card, time, lines),
@@ -127,7 +134,10 @@ impl State {
         ensures plays { OnOk result (Plays (end_timer card.now self.old)
             self.old self.new lines.old lines.new) }
         ensures history { self.new.history ≡ self.old.history }
+        ensures timer { self.new.timer ≡ Off }
         ensures left { OnErr result (Leaves self.old self.new lines.old lines.new) }
+        ensures stopped { OnErr result
+            (FirstStand self.old.vars (time_pairs card.now 0) self.new.vars) }
     {
         self.timer = Timer::Off;
         self.store_time(alloc, card, 0, lines)
@@ -145,7 +155,10 @@ impl State {
             (Plays (store_time card.now 0 (record self.old { timer = Expired }))
             self.old self.new lines.old lines.new) }
         ensures history { self.new.history ≡ self.old.history }
+        ensures timer { self.new.timer ≡ Expired }
         ensures left { OnErr result (Leaves self.old self.new lines.old lines.new) }
+        ensures stopped { OnErr result
+            (FirstStand self.old.vars (time_pairs card.now 0) self.new.vars) }
     {
         self.timer = Timer::Expired;
         self.store_time(alloc, card, 0, lines)
