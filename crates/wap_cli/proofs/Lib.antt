@@ -6,3 +6,11 @@ pub mod Calling
 pub mod Sourcing
 pub mod SourcedSessions
 pub mod SourcedLists
+pub mod PrepareLemmas
+pub mod BrowseLemmas
+pub mod PreparedLemmas
+pub mod ReplayLemmas
+pub mod SavingLemmas
+pub mod ResumeLemmas
+pub mod ResumeLawsLemmas
+pub mod MadeLemmas

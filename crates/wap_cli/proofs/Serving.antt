@@ -7,22 +7,22 @@ use Rattle.wap_words.specs.declared.words.Command.{Command}
 use Rattle.wap_words.specs.declared.words.Command.TheVariants.{Browse, Image, Resume, Page}
 use Rattle.wap_words.specs.declared.words.Command.TheVariants.{Prepare, Make, Replay}
 use Rattle.wap_words.specs.declared.words.PageCommand.{PageCommand}
-use Rattle.wap_status.specs.declared.status.Status.{Status}
-use Rattle.wap_status.specs.declared.status.Status.TheVariants.{Done, Usage, Refused, StoreFault}
-use Rattle.wap_status.specs.declared.status.Status.TheVariants.{KeyReadFault, WriteFault, NoMemory}
-use Rattle.wap_status.specs.declared.status.Status.TheVariants.{BadKey, OpenDialog, TooManyKeys}
+use Rattle.wap_cli.specs.declared.status.Status.{Status}
+use Rattle.wap_cli.specs.declared.status.Status.TheVariants.{Done, Usage, Refused, StoreFault}
+use Rattle.wap_cli.specs.declared.status.Status.TheVariants.{KeyReadFault, WriteFault, NoMemory}
+use Rattle.wap_cli.specs.declared.status.Status.TheVariants.{BadKey, OpenDialog, TooManyKeys}
 use Rattle.wap_devices.specs.Stores.{StoreSeen, Fetches}
 use Rattle.wap_devices.specs.Contents.{answer_of, answer_for}
 use Rattle.wap_devices.specs.declared.store.Fetched.{Fetched}
 use Rattle.wap_devices.specs.declared.store.StoreErr.TheVariants as store_error
-use Rattle.wap_browse.specs.Plays.{opened}
-use Rattle.wap_browse.proofs.Exits.{nothing_browses}
-use Rattle.wap_browse.proofs.Summary.{browses_by}
-use Rattle.wap_resume.proofs.Going.{nothing_imaged, nothing_resumed}
-use Rattle.wap_prepare.specs.Preparing.{Reports}
-use Rattle.wap_prepare.proofs.Ending.{nothing_done}
-use Rattle.wap_made.proofs.Ending.{nothing_made}
-use Rattle.wap_replay.proofs.Over.{nothing_replayed}
+use Rattle.wap_cli.specs.browse.Plays.{opened}
+use Rattle.wap_cli.proofs.BrowseLemmas.Exits.{nothing_browses}
+use Rattle.wap_cli.proofs.BrowseLemmas.Summary.{browses_by}
+use Rattle.wap_cli.proofs.ResumeLemmas.Going.{nothing_imaged, nothing_resumed}
+use Rattle.wap_cli.specs.prepare.Preparing.{Reports}
+use Rattle.wap_cli.proofs.PrepareLemmas.Ending.{nothing_done}
+use Rattle.wap_cli.proofs.MadeLemmas.Ending.{nothing_made}
+use Rattle.wap_cli.proofs.ReplayLemmas.Over.{nothing_replayed}
 use Rattle.wap_cli.specs.Answers.{IsPageOf, IsOfPage, Answers, page_of}
 use Rattle.wap_cli.specs.Devices.{Devices, around}
 use Rattle.wap_cli.specs.Headline.{begun_by, each_begun_by, IsAnswer, Serves, ServesUnread, Runs}

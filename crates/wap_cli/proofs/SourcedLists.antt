@@ -4,9 +4,9 @@ use Rattle.std.proofs.Common.{◌∙◌}
 use Rattle.wap_devices.specs.Stores.{StoreSeen}
 use Rattle.wap_world.specs.Sites.{Site}
 use Rattle.wap_world.specs.Sessions.{Begun}
-use Rattle.wap_status.specs.declared.status.Status.{Status}
-use Rattle.wap_replay.specs.Headline.{IsSiteOf, ReplaysSeen}
-use Rattle.wap_replay.proofs.Over.{replays_too}
+use Rattle.wap_cli.specs.declared.status.Status.{Status}
+use Rattle.wap_cli.specs.replay.Headline.{IsSiteOf, ReplaysSeen}
+use Rattle.wap_cli.proofs.ReplayLemmas.Over.{replays_too}
 use Rattle.wap_cli.specs.Devices.{Devices, around}
 use Rattle.wap_cli.specs.Replaying.{IsSiteOver, ReplaysOver}
 use Rattle.wap_cli.proofs.Calling.{site_units}

@@ -9,14 +9,14 @@ use Rattle.wap_world.specs.Sites.{Site}
 use Rattle.wap_world.specs.Steps.{Step}
 use Rattle.wap_world.specs.Sessions.{Begun}
 use Rattle.wap_context.specs.Sites.{site_of as units_over}
-use Rattle.wap_status.specs.declared.status.Status.{Status}
-use Rattle.wap_browse.specs.Outside.{Outside}
-use Rattle.wap_browse.specs.Plays.{ArePagesOf as AreSeen}
-use Rattle.wap_browse.specs.Headline.{Browses}
-use Rattle.wap_browse.proofs.Optional.{if_some, some_fact}
-use Rattle.wap_resume.specs.Saving.{opened_at, unshown, EndsAt, IsWhole, Images, ImagesSeen}
-use Rattle.wap_resume.specs.Resuming.{resumed_at, asked_once, Hinders, Unbegun, Resumes}
-use Rattle.wap_resume.specs.Resuming.{ResumesSeen}
+use Rattle.wap_cli.specs.declared.status.Status.{Status}
+use Rattle.wap_cli.specs.browse.Outside.{Outside}
+use Rattle.wap_cli.specs.browse.Plays.{ArePagesOf as AreSeen}
+use Rattle.wap_cli.specs.browse.Headline.{Browses}
+use Rattle.wap_cli.proofs.BrowseLemmas.Optional.{if_some, some_fact}
+use Rattle.wap_cli.specs.resume.Saving.{opened_at, unshown, EndsAt, IsWhole, Images, ImagesSeen}
+use Rattle.wap_cli.specs.resume.Resuming.{resumed_at, asked_once, Hinders, Unbegun, Resumes}
+use Rattle.wap_cli.specs.resume.Resuming.{ResumesSeen}
 use Rattle.wap_cli.specs.Devices.{Devices}
 use Rattle.wap_cli.specs.Browsing.{ArePagesOf, site_over}
 use Rattle.wap_cli.specs.SavedSessions.{ImagesOver, ResumesOver}

@@ -22,13 +22,13 @@ use Rattle.wap_exchange_laws.proofs.Inboxes.{denied_sources_with}
 use Rattle.wap_source_sites.specs.Programs.{programs}
 use Rattle.wap_pages.specs.Judged.{judged}
 use Rattle.wap_pages.specs.Caches.{CachedPages, cache_of, seen_over}
-use Rattle.wap_status.specs.declared.status.Status.{Status}
-use Rattle.wap_browse.specs.Outside.{Outside}
-use Rattle.wap_browse.specs.Endings.{at_end}
-use Rattle.wap_browse.specs.Handling.{bytes_of}
-use Rattle.wap_browse.specs.Plays.{ArePagesOf as AreSeen, opened}
-use Rattle.wap_browse.specs.Headline.{Shows, Reads, Browses, BrowsesSeen}
-use Rattle.wap_browse.proofs.Optional.{if_some, some_fact}
+use Rattle.wap_cli.specs.declared.status.Status.{Status}
+use Rattle.wap_cli.specs.browse.Outside.{Outside}
+use Rattle.wap_cli.specs.browse.Endings.{at_end}
+use Rattle.wap_cli.specs.browse.Handling.{bytes_of}
+use Rattle.wap_cli.specs.browse.Plays.{ArePagesOf as AreSeen, opened}
+use Rattle.wap_cli.specs.browse.Headline.{Shows, Reads, Browses, BrowsesSeen}
+use Rattle.wap_cli.proofs.BrowseLemmas.Optional.{if_some, some_fact}
 use Rattle.wap_cli.specs.Devices.{Devices, unjudged}
 use Rattle.wap_cli.specs.Browsing.{PagesAndCalls, ArePagesOf, site_over, opened_over}
 use Rattle.wap_cli.specs.Browsing.{WritesOver, BrowsesOver}

@@ -3,12 +3,12 @@
 use Rattle.std.proofs.Common.{ℕ, List, None, refl}
 use Rattle.wap_input.specs.declared.key.Key.{Key}
 use Rattle.wap_world.specs.Steps.{Step}
-use Rattle.wap_status.specs.declared.status.Status.{Status}
-use Rattle.wap_browse.specs.Outside.{Outside}
-use Rattle.wap_browse.specs.Handling.{IsPlayed}
-use Rattle.wap_browse.specs.Stopping.{StopsAtStore, StopsAtSink, StopsForMemory}
-use Rattle.wap_browse.specs.Headline.{NothingFails, Shows, Reads, Browses}
-use Rattle.wap_browse.proofs.Optional.{if_some, some_fact}
+use Rattle.wap_cli.specs.declared.status.Status.{Status}
+use Rattle.wap_cli.specs.browse.Outside.{Outside}
+use Rattle.wap_cli.specs.browse.Handling.{IsPlayed}
+use Rattle.wap_cli.specs.browse.Stopping.{StopsAtStore, StopsAtSink, StopsForMemory}
+use Rattle.wap_cli.specs.browse.Headline.{NothingFails, Shows, Reads, Browses}
+use Rattle.wap_cli.proofs.BrowseLemmas.Optional.{if_some, some_fact}
 
 -- the outside, without what its pages are judged
 abbrev pub without_pages : Outside → Outside

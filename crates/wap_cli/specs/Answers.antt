@@ -13,15 +13,15 @@ use Rattle.wap_pages.specs.declared.fault.PageErr.{PageErr}
 use Rattle.wap_pages.specs.declared.fault.PageErr.TheVariants as error
 use Rattle.wap_pages.specs.declared.fault.PageFault.{PageFault}
 use Rattle.wap_pages.specs.declared.fault.PageFault.TheVariants.{Missing}
-use Rattle.wap_inspect.specs.Units.{IsVerifyLine, IsListing}
-use Rattle.wap_inspect.specs.Documents.{IsCanonical, IsCheckLine}
-use Rattle.wap_inspect.specs.Sources.{IsCompiled}
+use Rattle.wap_cli.specs.inspect.Units.{IsVerifyLine, IsListing}
+use Rattle.wap_cli.specs.inspect.Documents.{IsCanonical, IsCheckLine}
+use Rattle.wap_cli.specs.inspect.Sources.{IsCompiled}
 use Rattle.wap_pages.specs.Refusals.{RefusesUnit, RefusesVerify, RefusesDocument, RefusesCheck}
 use Rattle.wap_pages.specs.Refusals.{RefusesSource}
-use Rattle.wap_status.specs.declared.status.Status.{Status}
-use Rattle.wap_status.specs.declared.status.Status.TheVariants.{Done, Usage, Refused, StoreFault}
-use Rattle.wap_status.specs.declared.status.Status.TheVariants.{KeyReadFault, WriteFault, NoMemory}
-use Rattle.wap_status.specs.declared.status.Status.TheVariants.{BadKey, OpenDialog, TooManyKeys}
+use Rattle.wap_cli.specs.declared.status.Status.{Status}
+use Rattle.wap_cli.specs.declared.status.Status.TheVariants.{Done, Usage, Refused, StoreFault}
+use Rattle.wap_cli.specs.declared.status.Status.TheVariants.{KeyReadFault, WriteFault, NoMemory}
+use Rattle.wap_cli.specs.declared.status.Status.TheVariants.{BadKey, OpenDialog, TooManyKeys}
 
 -- the text that a command writes for a page with these bytes
 abbrev pub IsText : PageCommand → List ℕ → List ℕ → Type 0

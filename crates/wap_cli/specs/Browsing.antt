@@ -17,10 +17,10 @@ use Rattle.wap_scripting.specs.Sources.{AllPages, Agrees, site_of, compiled_page
 use Rattle.wap_exchange_laws.specs.Denial.{is_entered, DifferWithin}
 use Rattle.wap_source_sites.specs.Programs.{Accepted, programs}
 use Rattle.wap_source_pages.specs.SourcePages.{ArePages}
-use Rattle.wap_status.specs.declared.status.Status.{Status}
-use Rattle.wap_browse.specs.Endings.{at_end}
-use Rattle.wap_browse.specs.Handling.{bytes_of}
-use Rattle.wap_browse.specs.Headline.{Browses}
+use Rattle.wap_cli.specs.declared.status.Status.{Status}
+use Rattle.wap_cli.specs.browse.Endings.{at_end}
+use Rattle.wap_cli.specs.browse.Handling.{bytes_of}
+use Rattle.wap_cli.specs.browse.Headline.{Browses}
 use Rattle.wap_cli.specs.Calls.{ReadsCalls}
 use Rattle.wap_cli.specs.Devices.{Devices, unjudged}
 

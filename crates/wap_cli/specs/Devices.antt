@@ -3,8 +3,8 @@ use Rattle.std.specs.Prelude.{ℕ, [], Some, None}
 use Rattle.wap_devices.specs.Stores.{StoreSeen}
 use Rattle.wap_devices.specs.Sources.{SourceSeen}
 use Rattle.wap_devices.specs.Sinks.{SinkSeen}
-use Rattle.wap_browse.specs.Outside.{Outside}
-use Rattle.wap_replay.specs.Outside.{Outside as Around}
+use Rattle.wap_cli.specs.browse.Outside.{Outside}
+use Rattle.wap_cli.specs.replay.Outside.{Outside as Around}
 
 -- where pages come from, where keys come from, and where lines are written to
 pub record Devices : Type 0 where

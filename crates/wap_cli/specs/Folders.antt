@@ -1,8 +1,8 @@
 -- What the commands on folders come to: prepare and make. This project's own.
 use Rattle.std.specs.Prelude.{◌≡◌, ℕ}
-use Rattle.wap_status.specs.declared.status.Status.{Status}
-use Rattle.wap_prepare.specs.Preparing.{Prepares}
-use Rattle.wap_made.specs.Making.{Makes}
+use Rattle.wap_cli.specs.declared.status.Status.{Status}
+use Rattle.wap_cli.specs.prepare.Preparing.{Prepares}
+use Rattle.wap_cli.specs.made.Making.{Makes}
 use Rattle.wap_cli.specs.Devices.{Devices}
 
 -- the pages of the store are judged, and no key is read

@@ -11,10 +11,10 @@ use Rattle.wap_words.specs.declared.words.Command.TheVariants.{Browse, Image, Re
 use Rattle.wap_words.specs.declared.words.Command.TheVariants.{Prepare, Make, Replay}
 use Rattle.wap_words.specs.declared.words.PageCommand.{PageCommand}
 use Rattle.wap_world.specs.Sessions.{Begun}
-use Rattle.wap_status.specs.declared.status.Status.{Status}
-use Rattle.wap_status.specs.declared.status.Status.TheVariants.{Done, Usage, Refused, StoreFault}
-use Rattle.wap_status.specs.declared.status.Status.TheVariants.{WriteFault, NoMemory}
-use Rattle.wap_status.specs.Statuses.{IsOrWants}
+use Rattle.wap_cli.specs.declared.status.Status.{Status}
+use Rattle.wap_cli.specs.declared.status.Status.TheVariants.{Done, Usage, Refused, StoreFault}
+use Rattle.wap_cli.specs.declared.status.Status.TheVariants.{WriteFault, NoMemory}
+use Rattle.wap_cli.specs.Statuses.{IsOrWants}
 use Rattle.wap_cli.specs.Answers.{IsOfPage, IsPageOf, Answers}
 use Rattle.wap_cli.specs.Browsing.{BrowsesOver}
 use Rattle.wap_cli.specs.Devices.{Devices}

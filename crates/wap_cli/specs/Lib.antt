@@ -1,3 +1,4 @@
+pub mod Statuses
 pub mod Headline
 pub mod Browsing
 pub mod Replaying
@@ -6,3 +7,12 @@ pub mod Calls
 pub mod Devices
 pub mod Answers
 pub mod Folders
+pub mod inspect
+pub mod prepare
+pub mod browse
+pub mod prepared
+pub mod replay
+pub mod saving
+pub mod resume
+pub mod resume_laws
+pub mod made

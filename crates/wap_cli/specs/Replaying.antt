@@ -5,8 +5,8 @@ use Rattle.std.specs.Prelude.{◌≡◌}
 use Rattle.wap_devices.specs.Stores.{StoreSeen}
 use Rattle.wap_world.specs.Sites.{Site}
 use Rattle.wap_world.specs.Sessions.{Begun}
-use Rattle.wap_status.specs.declared.status.Status.{Status}
-use Rattle.wap_replay.specs.Headline.{Replays}
+use Rattle.wap_cli.specs.declared.status.Status.{Status}
+use Rattle.wap_cli.specs.replay.Headline.{Replays}
 use Rattle.wap_cli.specs.Browsing.{PagesAndCalls, ArePagesOf, site_over}
 use Rattle.wap_cli.specs.Devices.{Devices, around}
 

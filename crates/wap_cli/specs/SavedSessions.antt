@@ -3,9 +3,9 @@
 -- a script means what its program means. This project's own.
 use Rattle.std.specs.Prelude.{ℕ, List}
 use Rattle.wap_world.specs.Sessions.{Begun}
-use Rattle.wap_status.specs.declared.status.Status.{Status}
-use Rattle.wap_resume.specs.Saving.{Images}
-use Rattle.wap_resume.specs.Resuming.{Resumes}
+use Rattle.wap_cli.specs.declared.status.Status.{Status}
+use Rattle.wap_cli.specs.resume.Saving.{Images}
+use Rattle.wap_cli.specs.resume.Resuming.{Resumes}
 use Rattle.wap_cli.specs.Browsing.{ArePagesOf, site_over}
 use Rattle.wap_cli.specs.Devices.{Devices, unjudged}
 

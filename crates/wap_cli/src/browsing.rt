@@ -6,9 +6,9 @@ ghost use Rattle.wap_cli.specs.Browsing.{BrowsesOver};
 ghost use Rattle.wap_cli.specs.Headline.{begun_by};
 
 use crate::Status;
+use crate::browse::Beginning;
 use std::alloc::Global;
 use wap_base::NoMemory;
-use wap_browse::Beginning;
 use wap_devices::{Sink, Source, Store};
 use wap_pages::Cached;
 use wap_words::Browse;
@@ -39,6 +39,6 @@ pub(crate) fn browse<S: Store, I: Source, O: Sink>(
         budget: begun.budget,
         limits: begun.limits,
     };
-    let status = wap_browse::browse(alloc, begun, &mut pages, keys, out);
+    let status = crate::browse::browse(alloc, begun, &mut pages, keys, out);
     (status, pages.into_store())
 }

@@ -4,15 +4,15 @@ ghost use Rattle.wap_cli.specs.Headline.{Runs};
 
 use crate::Status;
 use crate::browsing::browse;
+use crate::made::make;
 use crate::pages::answer;
+use crate::prepare::prepare;
 use crate::replaying::replay;
 use crate::saved::{image, resume};
 use std::alloc::Global;
 use std::thread::Threads;
 use wap_base::{NoMemory, Text};
 use wap_devices::{Gate, Sink, Source, Store};
-use wap_made::make;
-use wap_prepare::prepare;
 use wap_words::{Command, read_words};
 
 /// Runs the command that the words are, over the pages of the store and the key lines of the

@@ -6,13 +6,13 @@ ghost use Rattle.wap_cli.specs.Answers.{refused_by, written_so};
 ghost use Rattle.wap_cli.specs.Headline.{Serves};
 
 use crate::Status;
+use crate::inspect::{
+    PageErr, PageFault, canonical, check_line, compiled_bytes, unit_in, verify_line,
+};
 use std::alloc::Global;
 use wap_base::Text;
 use wap_devices::{Failed, Fetched, Sink, Store, StoreErr, write_all};
 use wap_dis::listing;
-use wap_inspect::{
-    PageErr, PageFault, canonical, check_line, compiled_bytes, unit_in, verify_line,
-};
 use wap_words::PageCommand;
 
 /// How a command ends that writes nothing.

@@ -5,10 +5,10 @@ ghost use Rattle.wap_cli.specs.Headline.{each_begun_by};
 ghost use Rattle.wap_cli.specs.Replaying.{ReplaysOver};
 
 use crate::Status;
+use crate::replay::Beginning;
 use std::alloc::Global;
 use std::thread::Threads;
 use wap_devices::{Gate, Sink, Source, Store};
-use wap_replay::Beginning;
 use wap_words::Replay;
 
 /// Replays the lists of keys of the source as the words say, over the pages of the store.
@@ -35,5 +35,5 @@ pub(crate) fn replay<R: Threads + Sync, S: Store, I: Source, O: Sink, G: Gate + 
         budget: begun.budget,
         limits: begun.limits,
     };
-    wap_replay::replay(rt, alloc, begun, workers, store, keys, gate, out)
+    crate::replay::replay(rt, alloc, begun, workers, store, keys, gate, out)
 }

@@ -4,9 +4,9 @@ ghost use Rattle.wap_cli.specs.Headline.{begun_by};
 ghost use Rattle.wap_cli.specs.SavedSessions.{ImagesOver, ResumesOver};
 
 use crate::Status;
+use crate::browse::Beginning;
 use std::alloc::Global;
 use wap_base::NoMemory;
-use wap_browse::Beginning;
 use wap_devices::{Sink, Source, Store};
 use wap_pages::Cached;
 use wap_words::{Browse, Resume};
@@ -36,7 +36,7 @@ pub(crate) fn image<S: Store, I: Source, O: Sink>(
         budget: begun.budget,
         limits: begun.limits,
     };
-    let status = wap_resume::image(alloc, begun, &mut pages, keys, out);
+    let status = crate::resume::image(alloc, begun, &mut pages, keys, out);
     (status, pages.into_store())
 }
 
@@ -55,5 +55,5 @@ pub(crate) fn resume<S: Store, I: Source, O: Sink>(
         (record { store = S.seen result.1; source = I.seen keys.new; sink = O.seen out.new })
         result.0 }
 {
-    wap_resume::resume(alloc, &begun.name, begun.cache, store, keys, out)
+    crate::resume::resume(alloc, &begun.name, begun.cache, store, keys, out)
 }

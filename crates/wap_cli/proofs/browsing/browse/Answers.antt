@@ -1,9 +1,9 @@
 use Rattle.std.proofs.Common.{sym, subst}
-use Rattle.wap_status.specs.declared.status.Status.TheVariants.{NoMemory}
-use Rattle.wap_browse.specs.Plays.{ArePagesOf, opened}
-use Rattle.wap_browse.proofs.Exits.{nothing_browses}
-use Rattle.wap_browse.proofs.Summary.{browses_by}
-use Rattle.wap_browse.proofs.Forgetting.{browsed_over, outside_over}
+use Rattle.wap_cli.specs.declared.status.Status.TheVariants.{NoMemory}
+use Rattle.wap_cli.specs.browse.Plays.{ArePagesOf, opened}
+use Rattle.wap_cli.proofs.BrowseLemmas.Exits.{nothing_browses}
+use Rattle.wap_cli.proofs.BrowseLemmas.Summary.{browses_by}
+use Rattle.wap_cli.proofs.BrowseLemmas.Forgetting.{browsed_over, outside_over}
 use Rattle.wap_cli.specs.Browsing.{BrowsesOver}
 use Rattle.wap_cli.specs.Devices.{Devices}
 use Rattle.wap_cli.specs.Headline.{begun_by}

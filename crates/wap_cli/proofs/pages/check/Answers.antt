@@ -1,6 +1,6 @@
 use Rattle.std.proofs.Common.{ℕ, List, Some, Err, ap, sym, subst}
 use Rattle.wap_words.specs.declared.words.PageCommand.TheVariants as command
-use Rattle.wap_status.specs.declared.status.Status.{Status}
+use Rattle.wap_cli.specs.declared.status.Status.{Status}
 use Rattle.wap_devices.specs.Sinks.{Puts}
 use Rattle.wap_cli.specs.Answers.{Answers}
 use Rattle.wap_cli.proofs.Answering.{answers_text, answers_error, no_value}

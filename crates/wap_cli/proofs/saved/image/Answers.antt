@@ -1,6 +1,6 @@
 use Rattle.std.proofs.Common.{sym, subst}
-use Rattle.wap_status.specs.declared.status.Status.TheVariants.{NoMemory}
-use Rattle.wap_resume.proofs.Going.{nothing_imaged, imaged_over}
+use Rattle.wap_cli.specs.declared.status.Status.TheVariants.{NoMemory}
+use Rattle.wap_cli.proofs.ResumeLemmas.Going.{nothing_imaged, imaged_over}
 use Rattle.wap_cli.specs.Devices.{Devices}
 use Rattle.wap_cli.specs.Headline.{begun_by}
 use Rattle.wap_cli.specs.SavedSessions.{ImagesOver}

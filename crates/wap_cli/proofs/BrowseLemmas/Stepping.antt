@@ -1,0 +1,53 @@
+-- One step, and then another.
+use Rattle.std.proofs.Common.{◌≡◌, ℕ, List, [], ◌++◌, sym, ap, ◌∙◌}
+use Rattle.std.specs.Prelude.{map, is_some}
+use Rattle.std.proofs.lemmas.List.{map-append, append-nil}
+use Rattle.std.proofs.lemmas.Grind.{flat_map-append}
+use Rattle.wap_input.specs.declared.key.Key.{Key}
+use Rattle.wap_lines.specs.Written.{line_bytes, lines_bytes}
+use Rattle.wap_world.specs.Lines.{shown_line}
+use Rattle.wap_world.specs.Steps.{Step, joined}
+use Rattle.wap_scripting.specs.UnitSites.{Pages}
+use Rattle.wap_session.specs.Feeding.{left_open}
+use Rattle.wap_handset.specs.Feeding.{State, step_of}
+use Rattle.wap_handset.proofs.Playing.{step_none}
+use Rattle.wap_cli.specs.browse.Handling.{bytes_of}
+
+-- ---- bytes
+
+-- the bytes of lines in two parts
+lines_bytes-append : (first others : List (List ℕ))
+    → lines_bytes (map shown_line (first ++ others))
+    ≡ lines_bytes (map shown_line first) ++ lines_bytes (map shown_line others)
+lines_bytes-append first others =
+    ap lines_bytes (map-append shown_line first others)
+    ∙ flat_map-append line_bytes (map shown_line first) (map shown_line others)
+
+-- the bytes of two steps
+pub bytes_joined : (all one two : Step) → all ≡ joined (left_open one) two
+    → bytes_of all ≡ bytes_of one ++ bytes_of two
+bytes_joined all one two is = ap bytes_of is ∙ lines_bytes-append one.lines two.lines
+
+-- and what they ask for
+pub asked_joined : (all one two : Step) → all ≡ joined (left_open one) two
+    → all.asked ≡ one.asked ++ two.asked
+asked_joined all one two is = ap (λ (s : Step). s.asked) is
+
+-- ---- where keys lead
+
+module _ (pages : Pages) (play : List Key → Step) (given : List Key) (state : State)
+    (on : (others : List Key) → play (given ++ others)
+    ≡ joined (left_open (play given)) (step_of pages others state)) where
+  -- a dialog is open exactly where a script waits
+  pub open_there : (play given).is_open ≡ is_some state.waiting
+  open_there =
+      ap (λ (keys : List Key). (play keys).is_open) (sym (append-nil given))
+      ∙ ap (λ (s : Step). s.is_open) (on [])
+      ∙ ap (λ (s : Step). s.is_open) (step_none pages state)
+
+  -- the world is that of the handset
+  pub world_there : state.browser.world ≡ (play given).world
+  world_there =
+      sym (ap (λ (s : Step). s.world) (step_none pages state))
+      ∙ sym (ap (λ (s : Step). s.world) (on []))
+      ∙ ap (λ (keys : List Key). (play keys).world) (append-nil given)

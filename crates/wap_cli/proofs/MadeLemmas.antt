@@ -1,0 +1,5 @@
+pub mod Finding
+pub mod Ending
+pub mod Counting
+pub mod Touring
+pub mod Words

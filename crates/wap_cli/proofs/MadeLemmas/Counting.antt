@@ -1,0 +1,41 @@
+-- Pages that are accepted, counted one after the other.
+use Rattle.std.proofs.Common.{◌≡◌, ℕ, ◌+◌, ◌<◌, List, [], ◌∷◌, ◌++◌, Bool, true, false, cond}
+use Rattle.std.proofs.Common.{Option, Some, None, length, take, get_or, refl, sym, ap, ap₂, ◌∙◌}
+use Rattle.std.specs.Prelude.{if◌then◌else◌, IfSome}
+use Rattle.std.proofs.lemmas.List.{take_more, length-append}
+use Rattle.std.proofs.lemmas.List.Elements.{filter-append}
+use Rattle.wap_site.specs.Pages.{Pages, page_of}
+use Rattle.wap_site.specs.declared.page.Page.{Page}
+use Rattle.wap_cli.specs.made.Making.{is_accepted, accepted_in}
+
+-- one of two lists by a test
+by_test : (b : Bool) (name : List ℕ)
+    → (if b then 1 else 0) ≡ length (cond b (name ∷ []) [])
+by_test true name = refl
+by_test false name = refl
+
+-- one name, by the page that it has
+pub one_counted : (contents : Option Pages) (name : List ℕ) (page : Page) (accepted : Bool)
+    (count : ℕ) → IfSome contents (λ pages. page ≡ page_of name pages)
+    → accepted ≡ is_accepted page → count ≡ (if accepted then 1 else 0)
+    → IfSome contents (λ pages. count ≡ length (accepted_in pages (name ∷ [])))
+one_counted None name page accepted count is so counted = tt
+one_counted (Some pages) name page accepted count is so counted =
+    counted ∙ ap (λ (b : Bool). if b then 1 else 0) (so ∙ ap is_accepted is)
+    ∙ by_test (is_accepted (page_of name pages)) name
+
+-- one name more
+pub more_counted : (contents : Option Pages) (names : List (List ℕ)) (i : ℕ) (name : List ℕ)
+    (count one : ℕ) → i < length names → name ≡ get_or names i name
+    → IfSome contents (λ pages. count ≡ length (accepted_in pages (take i names)))
+    → IfSome contents (λ pages. one ≡ length (accepted_in pages (name ∷ [])))
+    → IfSome contents (λ pages. count + one ≡ length (accepted_in pages (take (i + 1) names)))
+more_counted None names i name count one within is so next = tt
+more_counted (Some pages) names i name count one within is so next =
+    let test = λ (name : List ℕ). is_accepted (page_of name pages) in
+    let front = take i names in
+    ap₂ (λ (a b : ℕ). a + b) so next
+    ∙ sym (length-append (accepted_in pages front) (accepted_in pages (name ∷ [])))
+    ∙ ap length (sym (filter-append test front (name ∷ [])))
+    ∙ ap (λ (l : List (List ℕ)). length (accepted_in pages l))
+    (sym (take_more names i name within ∙ ap (λ (n : List ℕ). front ++ n ∷ []) (sym is)))

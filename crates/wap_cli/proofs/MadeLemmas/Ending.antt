@@ -1,0 +1,47 @@
+-- How the browsing of a made folder ends.
+use Rattle.std.proofs.Common.{◌≡◌, ℕ, List, Result, Ok, Err, inl, inr, refl, subst, arith}
+use Rattle.wap_devices.specs.Sinks.{SinkSeen, Puts}
+use Rattle.wap_devices.specs.Transfer.{Appends, AppendsPrefix}
+use Rattle.wap_devices.specs.declared.fault.Failed.{Failed}
+use Rattle.wap_cli.specs.declared.status.Status.TheVariants.{Done, WriteFault, NoMemory}
+use Rattle.wap_cli.specs.made.Making.{Makes, made_report}
+
+-- memory ran out before anything was written
+pub nothing_made : (n : ℕ) (sink : SinkSeen) → Makes n sink sink NoMemory
+nothing_made n sink = record {
+  done = λ e. absurd cc;
+  prefix = λ e. absurd cc;
+  unwritten = λ undone other. refl;
+  ends = inr (inr refl);
+  write_fault = λ e. absurd cc;
+  write_steady = λ e. refl;
+  write_counts = omega arith;
+}
+
+module _ {A : Type 0} (n : ℕ) (before after : SinkSeen) (text : List ℕ)
+    (is : text ≡ made_report n) where
+  -- the lines were written
+  pub made_whole : (x : A) → Puts {A = A} text before after (Ok x) → Makes n before after Done
+  made_whole x puts = record {
+    done = λ e. subst (λ (l : List ℕ). Appends before.written after.written l) is puts.whole;
+    prefix = λ e. absurd cc;
+    unwritten = λ undone other. absurd (undone refl);
+    ends = inl refl;
+    write_fault = λ e. absurd cc;
+    write_steady = λ e. puts.steady;
+    write_counts = puts.counts;
+  }
+
+  -- the sink failed
+  pub made_part : (x : Failed) → Puts {A = A} text before after (Err x)
+      → Makes n before after WriteFault
+  made_part x puts = record {
+    done = λ e. absurd cc;
+    prefix = λ e.
+        subst (λ (l : List ℕ). AppendsPrefix before.written after.written l) is puts.prefix;
+    unwritten = λ undone other. absurd (other refl);
+    ends = inr (inl refl);
+    write_fault = λ e. puts.failed;
+    write_steady = λ e. absurd (e refl);
+    write_counts = puts.counts;
+  }

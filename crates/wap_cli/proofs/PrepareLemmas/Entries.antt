@@ -1,0 +1,121 @@
+-- What jobs came to is right for the pages of the store.
+use Rattle.std.proofs.Common.{◌≡◌, ℕ, List, [], ◌∷◌, map, Option, Some, None, Result, Ok}
+use Rattle.std.proofs.Common.{refl, sym, ap, ap₂, subst, ◌∙◌, ◌+◌, ◌++◌, take, drop}
+use Rattle.std.proofs.Common.{length, append_assoc}
+use Rattle.std.specs.Prelude.{All, IfOk, IfSome}
+use Rattle.std.specs.List.{AllZip, AllByRecursion}
+use Rattle.std.specs.Map.{keys_of}
+use Rattle.std.specs.List.Sorted.{IsPermutation}
+use Rattle.std.proofs.lemmas.List.{take-append-drop, length-append}
+use Rattle.std.proofs.lemmas.List.Elements.{recursion_from_All, All-from_recursion, All-append}
+use Rattle.wap_base.specs.Contents.{Contents, names_of, page_named}
+use Rattle.wap_base.specs.Texts.{AreAscending}
+use Rattle.wap_base.specs.declared.fault.NoMemory.{NoMemory}
+use Rattle.wap_devices.specs.Stores.{StoreSeen, Lists}
+use Rattle.wap_cli.specs.prepare.Reports.{Entry, AreEntries, IsVerdict, IsEntry}
+use Rattle.wap_cli.specs.prepare.Fetching.{Job, IsAnswered}
+use Rattle.wap_cli.specs.prepare.inside.Jobs.{IsRight}
+
+-- answers that all are there
+pub all_there : (jobs : List Job) (entries : List Entry) (answers : List (Result Entry NoMemory))
+    → map Ok entries ≡ answers
+    → AllZip (λ job answer. IfOk answer (IsRight job)) jobs answers → AllZip IsRight jobs entries
+all_there jobs entries answers is right =
+    by_lists jobs entries
+    (subst (λ (l : List (Result Entry NoMemory)).
+    AllZip (λ job answer. IfOk answer (IsRight job)) jobs l) (sym is) right)
+  where
+    by_lists : (jobs : List Job) (entries : List Entry)
+        → AllZip (λ job (answer : Result Entry NoMemory). IfOk answer (IsRight job)) jobs
+        (map Ok entries) → AllZip IsRight jobs entries
+    by_lists [] [] right = right
+    by_lists [] (entry ∷ entries) right = absurd right
+    by_lists (job ∷ jobs) [] right = absurd right
+    by_lists (job ∷ jobs) (entry ∷ entries) right = (right.0, by_lists jobs entries right.1)
+
+-- they have the names of the jobs
+pub same_names : (jobs : List Job) (entries : List Entry) → AllZip IsRight jobs entries
+    → keys_of entries ≡ keys_of jobs
+same_names [] [] right = refl
+same_names [] (entry ∷ entries) right = absurd right
+same_names (job ∷ jobs) [] right = absurd right
+same_names (job ∷ jobs) (entry ∷ entries) right =
+    ap₂ (λ (name : List ℕ) (names : List (List ℕ)). name ∷ names) right.0.name
+    (same_names jobs entries right.1)
+
+-- and are right where the answers of the store were
+entry_right : (contents : Option Contents) (job : Job) (entry : Entry) → IsAnswered contents job
+    → IsRight job entry → IsEntry contents entry
+entry_right None job entry answered right = tt
+entry_right (Some pages) job entry answered right =
+    subst (λ (name : List ℕ). IsVerdict name (page_named name pages) entry.1) (sym right.name)
+    (subst (λ (page : Option (List ℕ)). IsVerdict job.0 page entry.1) answered right.verdict)
+
+pub all_right : (contents : Option Contents) (jobs : List Job) (entries : List Entry)
+    → All (IsAnswered contents) jobs → AllZip IsRight jobs entries
+    → All (IsEntry contents) entries
+all_right contents jobs entries answered right =
+    All-from_recursion (IsEntry contents) entries
+    (by_lists jobs entries (recursion_from_All (IsAnswered contents) jobs answered) right)
+  where
+    by_lists : (jobs : List Job) (entries : List Entry)
+        → AllByRecursion (IsAnswered contents) jobs → AllZip IsRight jobs entries
+        → AllByRecursion (IsEntry contents) entries
+    by_lists [] [] answered right = tt
+    by_lists [] (entry ∷ entries) answered right = absurd right
+    by_lists (job ∷ jobs) [] answered right = absurd right
+    by_lists (job ∷ jobs) (entry ∷ entries) answered right = (
+      entry_right contents job entry answered.0 right.0,
+      by_lists jobs entries answered.1 right.1,
+    )
+
+-- so they are the entries of all pages, of which the names were listed
+pub are_entries : {A : Type 0} (names_in : A → List (List ℕ)) (store listed : StoreSeen) (names : A)
+    (entries : List Entry) → Lists names_in store listed (Ok names)
+    → keys_of entries ≡ names_in names → All (IsEntry listed.contents) entries
+    → AreEntries store.contents entries
+are_entries names_in store listed names entries lists same right = record {
+  ascending = subst AreAscending (sym same) lists.ascending;
+  all =
+      subst (λ (l : List (List ℕ)). IfSome store.contents
+      (λ pages. IsPermutation (names_of pages) l)) (sym same) lists.names;
+  right =
+      subst (λ (contents : Option Contents). All (IsEntry contents) entries)
+      lists.asked.contents right;
+}
+
+-- ---- entries that are judged in parts
+
+keys-append : (entries more : List Entry)
+    → keys_of (entries ++ more) ≡ keys_of entries ++ keys_of more
+keys-append [] more = refl
+keys-append (entry ∷ entries) more =
+    ap (λ (names : List (List ℕ)). entry.0 ∷ names) (keys-append entries more)
+
+-- names that are taken in two parts
+pub parts_together : (some left rest : List (List ℕ)) (k : ℕ) → some ≡ take k left
+    → rest ≡ drop k left → length some + length rest ≡ length left
+parts_together some left rest k first last =
+    sym (length-append some rest)
+    ∙ ap length (ap₂ (λ (l m : List (List ℕ)). l ++ m) first last ∙ take-append-drop k left)
+
+-- the names that are left after more of them
+pub left_after : (entries more all : List Entry) (some left rest names : List (List ℕ)) (k : ℕ)
+    → keys_of entries ++ left ≡ names → some ≡ take k left → rest ≡ drop k left
+    → keys_of more ≡ some → all ≡ entries ++ more → keys_of all ++ rest ≡ names
+left_after entries more all some left rest names k so first last are together =
+    ap (λ (l : List Entry). keys_of l ++ rest) together
+    ∙ ap (λ (l : List (List ℕ)). l ++ rest) (keys-append entries more)
+    ∙ append_assoc (keys_of entries) (keys_of more) rest
+    ∙ ap (λ (l : List (List ℕ)). keys_of entries ++ l)
+    (ap₂ (λ (l m : List (List ℕ)). l ++ m) (are ∙ first) last ∙ take-append-drop k left)
+    ∙ so
+
+-- all of them are right
+pub right_after : (contents now : Option Contents) (entries more all : List Entry)
+    → All (IsEntry contents) entries → now ≡ contents → All (IsEntry now) more
+    → all ≡ entries ++ more → All (IsEntry contents) all
+right_after contents now entries more all right same more_right together =
+    subst (λ (l : List Entry). All (IsEntry contents) l) (sym together)
+    (All-append (IsEntry contents) entries more right
+    (subst (λ (c : Option Contents). All (IsEntry c) more) same more_right))

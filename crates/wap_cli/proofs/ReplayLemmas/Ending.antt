@@ -1,0 +1,321 @@
+-- How replaying ends.
+use Rattle.std.proofs.Common.{◌≡◌, ◌≢◌, ℕ, ◌+◌, ◌≤◌, List, Option, Some, None, Ok, Err}
+use Rattle.std.proofs.Common.{inl, inr, refl, sym, ap, subst, ◌∙◌, arith}
+use Rattle.std.specs.Prelude.{IfSome, length}
+use Rattle.wap_base.specs.Contents.{Contents}
+use Rattle.wap_base.specs.declared.fault.NoMemory.{NoMemory as OutOfMemory}
+use Rattle.wap_devices.specs.Stores.{StoreSeen}
+use Rattle.wap_devices.specs.Sources.{SourceSeen}
+use Rattle.wap_devices.specs.Sinks.{SinkSeen, Puts}
+use Rattle.wap_devices.specs.Transfer.{Appends, AppendsPrefix}
+use Rattle.wap_devices.specs.declared.fault.Failed.{Failed}
+use Rattle.wap_input.specs.declared.key.Key.{Key}
+use Rattle.wap_keys.specs.declared.limits.TheConstants.{KEYS_LIMIT}
+use Rattle.wap_keys.specs.declared.fault.KeyFault.{KeyFault}
+use Rattle.wap_keys.specs.declared.fault.KeyFault.TheVariants as key
+use Rattle.wap_keys.specs.declared.ending.Ending.{Ending}
+use Rattle.wap_keys.specs.declared.ending.Ending.TheVariants as ending
+use Rattle.wap_keys.specs.Read.{TakesAtMost, AtMostOnce}
+use Rattle.wap_lists.specs.Lists.{all_of, lists_of}
+use Rattle.wap_lists.specs.Read.{AreRead, ReadsLists}
+use Rattle.wap_pages.specs.declared.fault.PageFault.{PageFault}
+use Rattle.wap_site.specs.Asking.{raised_by}
+use Rattle.wap_world.specs.Sites.{Site}
+use Rattle.wap_world.specs.Sessions.{Begun}
+use Rattle.wap_cli.specs.declared.status.Status.{Status}
+use Rattle.wap_cli.specs.declared.status.Status.TheVariants.{Done, Usage, Refused, StoreFault}
+use Rattle.wap_cli.specs.declared.status.Status.TheVariants.{KeyReadFault, WriteFault, NoMemory}
+use Rattle.wap_cli.specs.declared.status.Status.TheVariants.{BadKey, OpenDialog, TooManyKeys}
+use Rattle.wap_cli.specs.Statuses.{IsOrWants}
+use Rattle.wap_cli.specs.prepare.Working.{WorksOnAll, IsOfFolder, AsksWithin}
+use Rattle.wap_cli.specs.prepare.Writing.{PutsTo}
+use Rattle.wap_cli.specs.replay.Outside.{Outside}
+use Rattle.wap_cli.specs.replay.Texts.{replayed, site_over}
+use Rattle.wap_cli.specs.replay.Headline.{ended, IsSiteOf, ReplaysSeen}
+use Rattle.wap_cli.specs.replay.inside.Jobs.{TellsOf}
+
+-- ---- a text that was written
+
+module _ {A : Type 0} (text other : List ℕ) (same : text ≡ other) (before after : SinkSeen) where
+  -- whole
+  pub put_whole : (done : A) → Puts {A = A} text before after (Ok done)
+      → PutsTo other before after Done
+  put_whole done puts =
+      subst (λ (l : List ℕ). PutsTo l before after Done) same
+      (record { wrote = puts.whole; steady = puts.steady })
+
+  -- or in part
+  pub put_part : (fault : Failed) → Puts {A = A} text before after (Err fault)
+      → PutsTo other before after WriteFault
+  put_part fault puts =
+      subst (λ (l : List ℕ). PutsTo l before after WriteFault) same
+      (record { wrote = puts.prefix; counts = puts.counts; rose = puts.failed })
+
+-- ---- nothing was asked of the store
+
+none_asked : (store : StoreSeen) → AsksWithin store store
+none_asked store = by store.contents
+  where
+    by : (contents : Option Contents) → IfSome contents (λ pages.
+        (more : ℕ) × (more ≤ length pages) × (store.fetches ≡ raised_by more store.fetches))
+    by None = tt
+    by (Some pages) = (0, omega arith, refl)
+
+-- keys that came to an end say which
+ended_is : (a b : Ending) → ended a ≡ ended b → a ≡ b
+ended_is ending.End ending.End e = refl
+ended_is ending.End (ending.BadKey line fault) e = absurd cc
+ended_is ending.End ending.TooManyKeys e = absurd cc
+ended_is ending.End ending.ReadFault e = absurd cc
+ended_is (ending.BadKey line fault) ending.End e = absurd cc
+ended_is (ending.BadKey line fault) (ending.BadKey other why) e = cc
+ended_is (ending.BadKey line fault) ending.TooManyKeys e = absurd cc
+ended_is (ending.BadKey line fault) ending.ReadFault e = absurd cc
+ended_is ending.TooManyKeys ending.End e = absurd cc
+ended_is ending.TooManyKeys (ending.BadKey line fault) e = absurd cc
+ended_is ending.TooManyKeys ending.TooManyKeys e = refl
+ended_is ending.TooManyKeys ending.ReadFault e = absurd cc
+ended_is ending.ReadFault ending.End e = absurd cc
+ended_is ending.ReadFault (ending.BadKey line fault) e = absurd cc
+ended_is ending.ReadFault ending.TooManyKeys e = absurd cc
+ended_is ending.ReadFault ending.ReadFault e = refl
+
+-- the status of keys that came to another end than theirs
+record IsOfKeys (status : Status) : Type 0 where
+  done : status ≢ Done
+  used : status ≢ Usage
+  refused : (fault : PageFault) → status ≢ Refused fault
+  store : status ≢ StoreFault
+  write : status ≢ WriteFault
+  closed : status ≢ OpenDialog
+
+of_keys : (by : Ending) → by ≢ ending.End → IsOfKeys (ended by)
+of_keys ending.End differs = absurd (differs refl)
+of_keys (ending.BadKey line fault) differs = record {
+  done = λ e. cc;
+  used = λ e. cc;
+  refused = λ why e. cc;
+  store = λ e. cc;
+  write = λ e. cc;
+  closed = λ e. cc;
+}
+of_keys ending.TooManyKeys differs = record {
+  done = λ e. cc;
+  used = λ e. cc;
+  refused = λ why e. cc;
+  store = λ e. cc;
+  write = λ e. cc;
+  closed = λ e. cc;
+}
+of_keys ending.ReadFault differs = record {
+  done = λ e. cc;
+  used = λ e. cc;
+  refused = λ why e. cc;
+  store = λ e. cc;
+  write = λ e. cc;
+  closed = λ e. cc;
+}
+
+-- where the bytes are known, what their lists end with is the status
+or_wants : (left : Option (List ℕ)) (by : Ending) (status : Status)
+    → IfSome left (λ bytes. (lists_of bytes).ending ≡ by)
+    → IsOrWants (ended by) status
+    → IfSome left (λ bytes. IsOrWants (ended (lists_of bytes).ending) status)
+or_wants None by status is so = tt
+or_wants (Some bytes) by status is so =
+    subst (λ (e : Ending). IsOrWants (ended e) status) (sym is) so
+
+of_line_by : (by : Ending) → ((line : ℕ) → by ≢ ending.BadKey line key.NoMemory)
+    → (line : ℕ) → ended by ≢ BadKey line key.NoMemory
+of_line_by by none line e = none line (ended_is by (ending.BadKey line key.NoMemory) e)
+
+-- where memory ran out before the store was asked
+pub wanting : (begun : Begun) (source last : SourceSeen) (store : StoreSeen) (sink : SinkSeen)
+    → last.faults ≡ source.faults → TakesAtMost (KEYS_LIMIT + 1) source last
+    → source.faults ≤ last.faults → AtMostOnce source.ends last.ends
+    → ReplaysSeen begun (record { store = store; source = source; sink = sink })
+    (record { store = store; source = last; sink = sink }) NoMemory
+wanting begun source last store sink unread few counts end_once = record {
+  done = λ e. absurd cc;
+  prefix = λ e. absurd cc;
+  unwritten = λ undone other. refl;
+  keys = λ by differs e. absurd (no_end by e);
+  all_read = λ e. absurd cc;
+  unasked = λ by differs e. refl;
+  store_fault = λ e. absurd cc;
+  read_fault = λ e. absurd cc;
+  write_fault = λ e. absurd cc;
+  store_steady = λ read other. refl;
+  read_steady = λ e. unread;
+  write_steady = λ e. refl;
+  complete = λ whole. wanted source.left;
+  command = λ e. cc;
+  accepted = λ why e. cc;
+  closed = λ e. cc;
+  of_line = λ line e. cc;
+  once = inl refl;
+  asked = none_asked store;
+  kept = refl;
+  store_counts = omega arith;
+  read_counts = counts;
+  write_counts = omega arith;
+  few = few;
+  end_once = end_once;
+}
+  where
+    no_end : (by : Ending) → NoMemory ≡ ended by → ⊥
+    no_end ending.End e = cc
+    no_end (ending.BadKey line why) e = cc
+    no_end ending.TooManyKeys e = cc
+    no_end ending.ReadFault e = cc
+
+    wanted : (left : Option (List ℕ))
+        → IfSome left (λ bytes. IsOrWants (ended (lists_of bytes).ending) NoMemory)
+    wanted None = tt
+    wanted (Some bytes) = inr refl
+
+module _ {A : Type 0} (lists_in : A → List (List Key)) (begun : Begun) (source last : SourceSeen)
+    (store : StoreSeen) (sink : SinkSeen) where
+  abbrev before : Outside
+  before = record { store = store; source = source; sink = sink }
+
+  abbrev after : Outside
+  after = record { store = store; source = last; sink = sink }
+
+  -- memory ran out for the keys
+  pub wants : (fault : OutOfMemory) → ReadsLists {A = A} lists_in source last (Err fault)
+      → ReplaysSeen begun before after NoMemory
+  wants fault reads =
+      wanting begun source last store sink reads.unread reads.few reads.counts reads.end_once
+
+  -- the keys came to another end
+  pub stopped : (lists : A) (by : Ending) → by ≢ ending.End
+      → ReadsLists {A = A} lists_in source last (Ok (lists, by))
+      → ReplaysSeen begun before after (ended by)
+  stopped lists by differs reads =
+      let read : AreRead source last (lists_in lists) by = reads.read in
+      let is = of_keys by differs in
+      record {
+        done = λ e. absurd (is.done e);
+        prefix = λ e. absurd (is.write e);
+        unwritten = λ undone other. refl;
+        keys = λ other some e.
+            let same = ended_is by other e in
+            subst (λ (x : Ending). IfSome source.left (λ bytes. (lists_of bytes).ending ≡ x)) same
+            (read.ending_is (λ fails. some (sym same ∙ fails)));
+        all_read = λ e. absurd (is.done e);
+        unasked = λ other some e. refl;
+        store_fault = λ e. absurd (is.store e);
+        read_fault = λ e. read.failed (ended_is by ending.ReadFault e);
+        write_fault = λ e. absurd (is.write e);
+        store_steady = λ read other. refl;
+        read_steady = λ differs. read.steady (λ fails. differs (ap ended fails));
+        write_steady = λ e. refl;
+        complete = λ whole.
+            or_wants source.left by (ended by)
+            (read.ending_is (λ fails. whole.source (read.failed fails))) (inl refl);
+        command = is.used;
+        accepted = is.refused;
+        closed = is.closed;
+        of_line = of_line_by by read.of_line;
+        once = inl refl;
+        asked = none_asked store;
+        kept = refl;
+        store_counts = omega arith;
+        read_counts = reads.counts;
+        write_counts = omega arith;
+        few = reads.few;
+        end_once = reads.end_once;
+      }
+
+-- an ending that is another than that of all keys
+pub differs_by : (a b : Ending) → a ≡ b → b ≢ ending.End → a ≢ ending.End
+differs_by a b same differs e = differs (sym same ∙ e)
+
+pub bad_differs : (line : ℕ) (fault : KeyFault) → ending.BadKey line fault ≢ ending.End
+bad_differs line fault e = cc
+
+pub many_differ : ending.TooManyKeys ≢ ending.End
+many_differ e = cc
+
+pub fault_differs : ending.ReadFault ≢ ending.End
+fault_differs e = cc
+
+-- what was written of the lists, where both are known
+tells_both : (begun : Begun) (store : StoreSeen) (left : Option (List ℕ)) (lists : List (List Key))
+    (Wrote : List ℕ → Type 0) → IfSome left (λ bytes. all_of (lists_of bytes) ≡ lists)
+    → TellsOf begun lists store.contents Wrote → (site : Site) → IsSiteOf store site
+    → IfSome left (λ bytes. Wrote (replayed site begun (all_of (lists_of bytes))))
+tells_both begun store left lists Wrote same told site (contents, known, is) = by left same
+  where
+    over : Wrote (replayed site begun lists)
+    over =
+        subst (λ (s : Site). Wrote (replayed s begun lists)) (sym is)
+        (subst (λ (c : Option Contents).
+        IfSome c (λ pages. Wrote (replayed (site_over pages) begun lists))) known told)
+
+    by : (left : Option (List ℕ)) → IfSome left (λ bytes. all_of (lists_of bytes) ≡ lists)
+        → IfSome left (λ bytes. Wrote (replayed site begun (all_of (lists_of bytes))))
+    by None same = tt
+    by (Some bytes) same =
+        subst (λ (l : List (List Key)). Wrote (replayed site begun l)) (sym same) over
+
+module _ {A : Type 0} (lists_in : A → List (List Key)) (begun : Begun) (lists : A)
+    (source last : SourceSeen) (store store_after : StoreSeen) (sink sink_after : SinkSeen)
+    (reads : ReadsLists {A = A} lists_in source last (Ok (lists, ending.End))) (status : Status)
+    (works : WorksOnAll (TellsOf begun (lists_in lists) store.contents) store store_after sink
+    sink_after status) where
+  read : AreRead source last (lists_in lists) ending.End
+  read = reads.read
+
+  -- the status is one of a folder
+  not_so : (other : Status) → (IsOfFolder other → ⊥) → status ≢ other
+  not_so other none e = none (subst IsOfFolder e works.ends)
+
+  no_read : ending.End ≢ ending.ReadFault
+  no_read e = cc
+
+  by_end : (by : Ending) → status ≡ ended by → by ≡ ending.End
+  by_end ending.End e = refl
+  by_end (ending.BadKey line fault) e = absurd (not_so (BadKey line fault) (λ none. none) e)
+  by_end ending.TooManyKeys e = absurd (not_so TooManyKeys (λ none. none) e)
+  by_end ending.ReadFault e = absurd (not_so KeyReadFault (λ none. none) e)
+
+  -- the lists were played, or not
+  pub worked : ReplaysSeen begun (record { store = store; source = source; sink = sink })
+      (record { store = store_after; source = last; sink = sink_after }) status
+  worked = record {
+    done = λ e.
+        tells_both begun store source.left (lists_in lists)
+        (Appends sink.written sink_after.written) (read.all refl) (works.done e);
+    prefix = λ e.
+        tells_both begun store source.left (lists_in lists)
+        (AppendsPrefix sink.written sink_after.written) (read.all refl) (works.prefix e);
+    unwritten = works.unwritten;
+    keys = λ by differs e.
+        subst (λ (x : Ending). IfSome source.left (λ bytes. (lists_of bytes).ending ≡ x))
+        (sym (by_end by e)) (read.ending_is no_read);
+    all_read = λ e. read.none_left refl;
+    unasked = λ by differs e. absurd (differs (by_end by e));
+    store_fault = works.store_fault;
+    read_fault = λ e. absurd (not_so KeyReadFault (λ none. none) e);
+    write_fault = works.write_fault;
+    store_steady = works.store_steady;
+    read_steady = λ e. read.steady no_read;
+    write_steady = works.write_steady;
+    complete = λ whole.
+        or_wants source.left ending.End status (read.ending_is no_read)
+        (works.complete whole.store whole.sink);
+    command = not_so Usage (λ none. none);
+    accepted = λ fault. not_so (Refused fault) (λ none. none);
+    closed = not_so OpenDialog (λ none. none);
+    of_line = λ line. not_so (BadKey line key.NoMemory) (λ none. none);
+    once = works.once;
+    asked = works.asked;
+    kept = works.kept;
+    store_counts = works.store_counts;
+    read_counts = reads.counts;
+    write_counts = works.write_counts;
+    few = reads.few;
+    end_once = reads.end_once;
+  }

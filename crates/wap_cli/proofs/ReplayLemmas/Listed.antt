@@ -1,0 +1,130 @@
+-- Pages that a store answered for names, and that are judged.
+use Rattle.std.proofs.Common.{◌≡◌, ℕ, Bool, true, false, cond, List, [], ◌∷◌, map, Option, Some}
+use Rattle.std.proofs.Common.{None, Result, Ok, refl, sym, ap, ap₂, subst, ◌∙◌}
+use Rattle.std.specs.Prelude.{All, IfOk, IfSome}
+use Rattle.std.specs.List.{AllZip, AllByRecursion}
+use Rattle.std.specs.Map.{keys_of}
+use Rattle.std.proofs.lemmas.List.Elements.{recursion_from_All, All-from_recursion}
+use Rattle.std.specs.List.Sorted.{IsStrictlySortedBy}
+use Rattle.wap_base.specs.Contents.{Contents}
+use Rattle.wap_base.specs.Texts.{byte_cmp, AreAscending}
+use Rattle.wap_base.specs.declared.fault.NoMemory.{NoMemory}
+use Rattle.wap_site.specs.Pages.{Pages, IsThere}
+use Rattle.wap_site.specs.declared.page.Page.{Page}
+use Rattle.wap_site.specs.declared.page.Page.TheVariants as page
+use Rattle.wap_pages.specs.Judged.{page_where}
+use Rattle.wap_cli.specs.prepare.Fetching.{Job, IsAnswered}
+use Rattle.wap_cli.specs.prepared.Prepared.{ArePrepared}
+use Rattle.wap_cli.specs.replay.inside.Jobs.{IsJudged, is_there, present, judged_name, pages_named}
+
+-- answers that all are there are right for their jobs
+pub all_there : {J A : Type 0} (Right : J → A → Type 0) (jobs : List J) (all : List A)
+    (answers : List (Result A NoMemory)) → map Ok all ≡ answers
+    → AllZip (λ job answer. IfOk answer (Right job)) jobs answers → AllZip Right jobs all
+all_there {J} {A} Right jobs all answers is right =
+    by_lists jobs all
+    (subst (λ (l : List (Result A NoMemory)). AllZip (λ job answer. IfOk answer (Right job)) jobs l)
+    (sym is) right)
+  where
+    by_lists : (jobs : List J) (all : List A)
+        → AllZip (λ job (answer : Result A NoMemory). IfOk answer (Right job)) jobs (map Ok all)
+        → AllZip Right jobs all
+    by_lists [] [] right = right
+    by_lists [] (one ∷ all) right = absurd right
+    by_lists (job ∷ jobs) [] right = absurd right
+    by_lists (job ∷ jobs) (one ∷ all) right = (right.0, by_lists jobs all right.1)
+
+-- judged pages have the names of their jobs
+pub same_names : (jobs : List Job) (pages : Pages) → AllZip IsJudged jobs pages
+    → keys_of pages ≡ keys_of jobs
+same_names [] [] right = refl
+same_names [] (one ∷ pages) right = absurd right
+same_names (job ∷ jobs) [] right = absurd right
+same_names (job ∷ jobs) (one ∷ pages) right =
+    ap₂ (λ (name : List ℕ) (names : List (List ℕ)). name ∷ names) right.0.name
+    (same_names jobs pages right.1)
+
+-- and are those of the contents
+judged_by : (contents : Contents) (jobs : List Job) (pages : Pages)
+    → AllByRecursion (IsAnswered (Some contents)) jobs → AllZip IsJudged jobs pages
+    → pages ≡ map (judged_name contents) (keys_of jobs)
+judged_by contents [] [] answered right = refl
+judged_by contents [] (one ∷ pages) answered right = absurd right
+judged_by contents (job ∷ jobs) [] answered right = absurd right
+judged_by contents (job ∷ jobs) (one ∷ pages) answered right =
+    ap₂ (λ (first : List ℕ × Page) (l : Pages). first ∷ l)
+    (ap₂ (λ (n : List ℕ) (p : Page). pair n p) right.0.name
+    (right.0.page ∙ ap (page_where job.0) answered.0))
+    (judged_by contents jobs pages answered.1 right.1)
+  where
+    pair : List ℕ → Page → List ℕ × Page
+    pair n p = (n, p)
+
+pub named_pages : (contents : Option Contents) (jobs : List Job) (pages found : Pages)
+    (names : List (List ℕ)) → All (IsAnswered contents) jobs → AllZip IsJudged jobs pages
+    → keys_of jobs ≡ names → found ≡ present pages
+    → IfSome contents (λ known. found ≡ pages_named known names)
+named_pages None jobs pages found names answered right same is = tt
+named_pages (Some contents) jobs pages found names answered right same is =
+    is ∙ ap present (judged_by contents jobs pages
+    (recursion_from_All (IsAnswered (Some contents)) jobs answered) right
+    ∙ ap (map (judged_name contents)) same)
+
+-- ---- those that are there
+
+kept_before : (P : List ℕ → Type 0) (pages : Pages) → AllByRecursion P (keys_of pages)
+    → AllByRecursion P (keys_of (present pages))
+kept_before P [] all = tt
+kept_before P (one ∷ pages) all =
+    let rest = kept_before P pages all.1 in
+    elim (is_there one.1) as (λ (b : Bool).
+    AllByRecursion P (keys_of (cond b (one ∷ present pages) (present pages)))) [
+      | true ↦ (all.0, rest)
+      | false ↦ rest
+    ]
+
+-- they stand in the same order
+kept_ascending : (pages : Pages) → IsStrictlySortedBy byte_cmp (keys_of pages)
+    → IsStrictlySortedBy byte_cmp (keys_of (present pages))
+unfolding IsStrictlySortedBy
+kept_ascending [] up = tt
+kept_ascending (one ∷ pages) up =
+    let rest = kept_ascending pages up.1 in
+    elim (is_there one.1) as (λ (b : Bool).
+    IsStrictlySortedBy byte_cmp (keys_of (cond b (one ∷ present pages) (present pages)))) [
+      | true ↦ (kept_before _ pages up.0, rest)
+      | false ↦ rest
+    ]
+
+not_missing : (one : Page) → is_there one ≡ true → IsThere one
+not_missing (page.Deck deck) is e = cc
+not_missing (page.Script unit) is e = cc
+not_missing (page.Words text) is e = cc
+not_missing page.Refused is e = cc
+not_missing page.Missing is e = cc
+
+kept_there : (pages : Pages)
+    → AllByRecursion (λ (one : List ℕ × Page). IsThere one.1) (present pages)
+kept_there [] = tt
+kept_there (one ∷ pages) = by (is_there one.1) refl (kept_there pages)
+  where
+    by : (b : Bool) → is_there one.1 ≡ b
+        → AllByRecursion (λ (one : List ℕ × Page). IsThere one.1) (present pages)
+        → AllByRecursion (λ (one : List ℕ × Page). IsThere one.1)
+        (cond b (one ∷ present pages) (present pages))
+    by true is rest = (not_missing one.1 is, rest)
+    by false is rest = rest
+
+-- so they are ready
+pub are_prepared : (jobs : List Job) (pages found : Pages) (names : List (List ℕ))
+    → AllZip IsJudged jobs pages → keys_of jobs ≡ names → AreAscending names
+    → found ≡ present pages → ArePrepared found
+are_prepared jobs pages found names right same ascending is =
+    subst ArePrepared (sym is) (record {
+      ascending =
+          kept_ascending pages
+          (subst AreAscending (sym (same_names jobs pages right ∙ same)) ascending);
+      there =
+          All-from_recursion (λ (one : List ℕ × Page). IsThere one.1) (present pages)
+          (kept_there pages);
+    })

@@ -1,0 +1,238 @@
+-- A command on what was saved, from its beginning to its end.
+use Rattle.std.proofs.Common.{◌≡◌, ℕ, List, [], Option, Some, None, Ok, refl, sym, ap, subst}
+use Rattle.std.proofs.Common.{◌∙◌, inl, inr}
+use Rattle.std.specs.Prelude.{IfSome}
+use Rattle.std.specs.Option.{option_map}
+use Rattle.wap_base.specs.Count.{Rose}
+use Rattle.wap_base.specs.Contents.{Contents, page_named}
+use Rattle.wap_devices.specs.Stores.{StoreSeen}
+use Rattle.wap_devices.specs.Sources.{SourceSeen}
+use Rattle.wap_devices.specs.Sinks.{SinkSeen}
+use Rattle.wap_image.specs.Images.{Saved, IsImage}
+use Rattle.wap_site.specs.Misses.{Cache}
+use Rattle.wap_site.specs.Asking.{Stays}
+use Rattle.wap_site.proofs.Asking.{Stays-same, Stays-then}
+use Rattle.wap_pages.specs.declared.fault.PageFault.{PageFault}
+use Rattle.wap_pages.specs.Caches.{CachedPages, seen_over}
+use Rattle.wap_pages.specs.Judged.{judged}
+use Rattle.wap_world.specs.Sessions.{Begun, world_of}
+use Rattle.wap_state.specs.Saved.{parts_of}
+use Rattle.wap_cli.specs.declared.status.Status.{Status}
+use Rattle.wap_cli.specs.declared.status.Status.TheVariants.{NoMemory}
+use Rattle.wap_cli.specs.browse.Outside.{Outside}
+use Rattle.wap_cli.specs.browse.Plays.{ArePagesOf, opened}
+use Rattle.wap_cli.specs.browse.Headline.{BrowsesSeen}
+use Rattle.wap_cli.proofs.BrowseLemmas.Optional.{if_some, some_fact}
+use Rattle.wap_cli.proofs.BrowseLemmas.Exits.{nothing_browses}
+use Rattle.wap_cli.proofs.BrowseLemmas.Summary.{browses_by}
+use Rattle.wap_cli.proofs.BrowseLemmas.Forgetting.{fresh_over, outside_over, forget_cache}
+use Rattle.wap_cli.specs.resume.Saving.{ImagesSeen, unshown}
+use Rattle.wap_cli.specs.resume.Resuming.{resumed, HasDeck, LacksDeck, Hinders, IsThere, Unbegun}
+use Rattle.wap_cli.specs.resume.Resuming.{asked_once, ResumesSeen}
+use Rattle.wap_cli.specs.resume.inside.Loading.{IsFetched, GivesNone, Loads, Continues}
+
+-- nothing that was saved
+abbrev none_saved : Option Saved
+none_saved = None
+
+-- ---- nothing was done
+
+-- where memory ran out before a session was begun
+pub nothing_imaged : (begun : Begun) (old : Outside) → ImagesSeen begun old old NoMemory
+nothing_imaged begun old = record {
+  end = NoMemory;
+  plays = browses_by (opened begun) (unshown old) (unshown old) NoMemory
+      (nothing_browses (opened begun) (unshown old));
+  stops = λ undone. (refl, refl);
+  parts = parts_of (world_of begun);
+  ends_in = λ is. absurd cc;
+  saves = λ is. absurd cc;
+  whole = λ is. absurd cc;
+}
+
+-- or anything was fetched
+pub unbegun_same : (Cause : Contents → PageFault → Type 0) (old : Outside)
+    → Unbegun Cause old old NoMemory
+unbegun_same Cause old = record {
+  ends = tt;
+  refused = λ fault is. absurd cc;
+  store_fault = λ is. absurd cc;
+  steady = λ other some. absurd (some refl);
+  stays = Stays-same old.pages;
+  unread = refl;
+  unwritten = refl;
+}
+
+pub nothing_resumed : (name : List ℕ) (old : Outside) → ResumesSeen name old old NoMemory
+nothing_resumed name old = record {
+  saved = None;
+  is = if_some old.pages.behind (λ contents. IfSome none_saved (IsThere contents name))
+      (λ contents known. tt);
+  goes_on = tt;
+  stops = λ none. unbegun_same (λ contents. Hinders contents name) old;
+}
+
+-- ---- over the pages of a store
+
+module _ (before after : StoreSeen) (capacity : ℕ) (source : SourceSeen) (sink : SinkSeen) where
+  -- one page was fetched
+  pub fetched_stays : IsFetched before after → Stays
+      (seen_over before (record { names = []; capacity = capacity }))
+      (seen_over after (record { names = []; capacity = capacity }))
+  fetched_stays fetched = record {
+    contents = ap (option_map judged) fetched.contents;
+    behind = fetched.contents;
+    capacity = refl;
+    listings = fetched.listings;
+    faults = fetched.counts;
+    fetches = (1, fetched.fetches);
+  }
+
+  -- it gave nothing
+  pub unbegun_by : (Cause : Contents → PageFault → Type 0) (status : Status)
+      → GivesNone Cause before after status → IsFetched before after
+      → Unbegun Cause (fresh_over before capacity source sink)
+      (fresh_over after capacity source sink) status
+  unbegun_by Cause status none fetched = record {
+    ends = none.ends;
+    refused = none.refused;
+    store_fault = none.failed;
+    steady = none.steady;
+    stays = fetched_stays fetched;
+    unread = refl;
+    unwritten = refl;
+  }
+
+-- ---- all of it
+
+module _ (name : List ℕ) (before mid after : StoreSeen) (capacity : ℕ)
+    (source source_after : SourceSeen) (sink sink_after : SinkSeen) (status : Status) where
+  -- before and after
+  abbrev old : Outside
+  old = fresh_over before capacity source sink
+
+  abbrev new : Outside
+  new = fresh_over after capacity source_after sink_after
+
+  -- once the image was fetched
+  abbrev now : Outside
+  now = fresh_over mid capacity source sink
+
+  -- nothing was loaded
+  pub resumes_none : GivesNone (λ contents. Hinders contents name) before mid status
+      → IsFetched before mid → ResumesSeen name old now status
+  resumes_none none fetched = record {
+    saved = None;
+    is = if_some before.contents (λ contents. IfSome none_saved (IsThere contents name))
+        (λ contents known. tt);
+    goes_on = tt;
+    stops = λ is.
+        unbegun_by before mid capacity source sink (λ contents. Hinders contents name) status none
+        fetched;
+  }
+
+  -- after the fetch the store is as it was, but that it was asked once more
+  fetched_is : IsFetched before mid → mid.faults ≡ before.faults → now ≡ asked_once old
+  fetched_is fetched steady = λ i. fresh_over (record {
+    contents = fetched.contents i;
+    faults = steady i;
+    fetches = fetched.fetches i;
+    listings = fetched.listings i;
+  }) capacity source sink
+
+  -- what was saved went on
+  resumes_on : (saved : Saved) → Loads name before mid (Ok saved)
+      → IfSome now.pages.behind (λ contents. HasDeck contents saved.0)
+      → BrowsesSeen (resumed saved.0 saved.1) now new status → ResumesSeen name old new status
+  resumes_on saved loads deck plays = record {
+    saved = Some saved;
+    is = if_some before.contents (λ contents. IsThere contents name saved)
+        (λ contents known.
+        let (bytes, page, image) = some_fact before.contents (λ c. (b : List ℕ)
+        × (page_named name c ≡ Some b) × IsImage b saved) contents known loads.found in
+        record {
+          bytes = bytes;
+          page = page;
+          image = image;
+          deck = some_fact now.pages.behind (λ c. HasDeck c saved.0) contents
+              (loads.fetched.contents ∙ known) deck;
+        });
+    goes_on = subst (λ (o : Outside). BrowsesSeen (resumed saved.0 saved.1) o new status)
+        (fetched_is loads.fetched loads.steady) plays;
+    stops = λ none. absurd cc;
+  }
+
+  -- its deck isn't there
+  resumes_not : (saved : Saved) → Loads name before mid (Ok saved)
+      → Unbegun (λ contents. LacksDeck contents saved.0) now new status
+      → ResumesSeen name old new status
+  resumes_not saved loads unbegun = record {
+    saved = None;
+    is = if_some before.contents (λ contents. IfSome none_saved (IsThere contents name))
+        (λ contents known. tt);
+    goes_on = tt;
+    stops = λ is. record {
+      ends = unbegun.ends;
+      refused = λ fault is. if_some before.contents (λ contents. Hinders contents name fault)
+          (λ contents known.
+          let (bytes, page, image) = some_fact before.contents (λ c. (b : List ℕ)
+          × (page_named name c ≡ Some b) × IsImage b saved) contents known loads.found in
+          Hinders.deckless bytes saved fault page image
+          (some_fact mid.contents (λ c. LacksDeck c saved.0 fault) contents
+          (loads.fetched.contents ∙ known) (unbegun.refused fault is)));
+      store_fault = λ is.
+          subst (λ (count : ℕ). Rose count after.faults) loads.steady (unbegun.store_fault is);
+      steady = λ other some. unbegun.steady other some ∙ loads.steady;
+      stays = Stays-then old.pages now.pages new.pages
+          (fetched_stays before mid capacity source sink loads.fetched) unbegun.stays;
+      unread = unbegun.unread;
+      unwritten = unbegun.unwritten;
+    };
+  }
+
+  pub resumes_by : (saved : Saved) → Loads name before mid (Ok saved)
+      → Continues saved now new status → ResumesSeen name old new status
+  resumes_by saved loads (inl (deck, plays)) = resumes_on saved loads deck plays
+  resumes_by saved loads (inr unbegun) = resumes_not saved loads unbegun
+
+-- ---- the cache of the pages is forgotten
+
+-- what a session is saved in says nothing of what the cache keeps
+forget_images : (begun : Begun) (old new : Outside) (status : Status) (cache : Option Cache)
+    → option_map (λ kept. kept.capacity) cache
+    ≡ option_map (λ kept. kept.capacity) old.pages.cache
+    → ImagesSeen begun old new status
+    → ImagesSeen begun old (record new { pages = record new.pages { cache = cache } }) status
+forget_images begun old new status cache same so = record {
+  end = so.end;
+  plays = forget_cache (ArePagesOf old.pages) (opened begun) (unshown old) (unshown new) so.end
+      cache same so.plays;
+  stops = so.stops;
+  parts = so.parts;
+  ends_in = so.ends_in;
+  saves = so.saves;
+  whole = so.whole;
+}
+
+module _ {S : Type 0} (seen : S → StoreSeen) where
+  -- over a cache that kept nothing at first
+  pub imaged_over : (begun : Begun) (first last : CachedPages S) (store back : S) (capacity : ℕ)
+      (source source_after : SourceSeen) (sink sink_after : SinkSeen) (status : Status)
+      → first.store ≡ store → first.kept ≡ [] → first.capacity ≡ capacity → back ≡ last.store
+      → ImagesSeen begun (outside_over seen first source sink)
+      (outside_over seen last source_after sink_after) status
+      → ImagesSeen begun (fresh_over (seen store) capacity source sink)
+      (fresh_over (seen back) capacity source_after sink_after) status
+  imaged_over begun first last store back capacity source source_after sink sink_after status of
+      none many is so =
+      let before : Outside = fresh_over (seen store) capacity source sink in
+      let after : Outside = outside_over seen last source_after sink_after in
+      let from : first ≡ record { store = store; kept = []; capacity = capacity } =
+      λ i. record { store = of i; kept = none i; capacity = many i } in
+      let new : ImagesSeen begun before after status =
+      subst (λ (cached : CachedPages S).
+      ImagesSeen begun (outside_over seen cached source sink) after status) from so in
+      subst (λ (s : S). ImagesSeen begun before (fresh_over (seen s) capacity source_after sink_after)
+      status) (sym is)
+      (forget_images begun before after status
+      (Some (record { names = []; capacity = capacity })) refl new)

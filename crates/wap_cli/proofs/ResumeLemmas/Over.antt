@@ -1,0 +1,132 @@
+-- What was saved goes on over the pages of a store, of which none is kept at first.
+use Rattle.std.proofs.Common.{◌≡◌, ℕ, List, [], ◌∷◌, false, Option, Some, None, Ok, refl, sym, subst}
+use Rattle.std.proofs.Common.{inl, inr}
+use Rattle.std.specs.Prelude.{Result, IfSome}
+use Rattle.std.specs.Option.{option_map}
+use Rattle.wap_base.specs.Contents.{Contents, names_of}
+use Rattle.wap_base.specs.Texts.{AreDistinct}
+use Rattle.wap_base.specs.declared.fault.RunErr.{RunErr}
+use Rattle.wap_devices.specs.Stores.{StoreSeen}
+use Rattle.wap_devices.specs.Sources.{SourceSeen}
+use Rattle.wap_devices.specs.Sinks.{SinkSeen}
+use Rattle.wap_image.specs.Images.{Saved}
+use Rattle.wap_site.specs.Pages.{AreSitePages}
+use Rattle.wap_site.specs.Asking.{Seen}
+use Rattle.wap_pages.specs.declared.fault.PageFault.TheVariants as page_fault
+use Rattle.wap_pages.specs.Caches.{CachedPages, cache_of, seen_over}
+use Rattle.wap_pages.specs.Judged.{judged}
+use Rattle.wap_pages.proofs.Judgements.{judged_pages_fit}
+use Rattle.wap_context.specs.Browsers.{Browser}
+use Rattle.wap_context.specs.declared.saved.Revived.{Revived}
+use Rattle.wap_context.specs.declared.saved.Revived.TheVariants as what
+use Rattle.wap_context.specs.Saved.{asked_for, Revives}
+use Rattle.wap_session.specs.Feeding.{going_on}
+use Rattle.wap_handset.specs.Feeding.{State, with_session}
+use Rattle.wap_cli.specs.declared.status.Status.{Status}
+use Rattle.wap_cli.specs.declared.status.Status.TheVariants.{Refused, NoMemory}
+use Rattle.wap_cli.specs.browse.Outside.{Outside}
+use Rattle.wap_cli.specs.browse.Plays.{Play, ArePagesOf}
+use Rattle.wap_cli.specs.browse.Headline.{BrowsesSeen}
+use Rattle.wap_cli.specs.browse.Standing.{Moved, outside_of, Browsed}
+use Rattle.wap_cli.proofs.BrowseLemmas.Forgetting.{fresh_over, outside_over, forget_cache}
+use Rattle.wap_cli.specs.resume.Resuming.{resumed, LacksDeck}
+use Rattle.wap_cli.specs.resume.inside.Loading.{HasDistinctNames, RefusesDeck, Continues}
+use Rattle.wap_cli.proofs.ResumeLemmas.Reviving.{browsed_by, has_deck}
+use Rattle.wap_cli.proofs.ResumeLemmas.Going.{unbegun_same}
+use Rattle.wap_cli.proofs.ResumeLemmas.Ending.{fresh, missing_ends, refused_ends}
+
+-- contents in which no name stands twice are judged to pages of a site
+are_there : (contents : Option Contents)
+    → IfSome contents (λ known. AreDistinct (names_of known))
+    → IfSome (option_map judged contents) AreSitePages
+are_there (Some known) distinct = judged_pages_fit known distinct
+are_there None distinct = tt
+
+module _ {S : Type 0} (seen : S → StoreSeen) (saved : Saved) (first : CachedPages S) (store : S)
+    (capacity : ℕ) (source : SourceSeen) (sink : SinkSeen)
+    (of : first.store ≡ store) (none : first.kept ≡ []) (many : first.capacity ≡ capacity) where
+  -- what is seen at first
+  abbrev before : Seen
+  before = seen_over (seen store) (fresh capacity)
+
+  -- and later
+  abbrev later : CachedPages S → Seen
+  later cached = seen_over (seen cached.store) (cache_of cached)
+
+  abbrev old : Outside
+  old = fresh_over (seen store) capacity source sink
+
+  -- where it comes to in the end
+  abbrev Comes : S → SourceSeen → SinkSeen → Status → Type 0
+  Comes back source_after sink_after status =
+      Continues saved old (fresh_over (seen back) capacity source_after sink_after) status
+
+  seen_first : later first ≡ before
+  seen_first = λ i. seen_over (seen (of i))
+      (cache_of (record { store = of i; kept = none i; capacity = many i }))
+
+  -- what is made of it over these pages
+  made_there : (last : CachedPages S) (result : Result Revived RunErr)
+      → Revives saved.0 (later first) (later last) result
+      → Revives saved.0 before (later last) result
+  made_there last result =
+      subst (λ (at : Seen). Revives saved.0 at (later last) result) seen_first
+
+  -- the page of the current card is missing
+  pub missing_over : (last : CachedPages S) (back : S) → back ≡ last.store
+      → Revives saved.0 (later first) (later last) (Ok what.Missing)
+      → Comes back source sink (Refused page_fault.Missing)
+  missing_over last back is made =
+      subst (λ (s : S). Comes s source sink (Refused page_fault.Missing)) (sym is)
+      (inr (missing_ends saved.0 (seen store) (seen last.store) (cache_of last) capacity source sink
+      (made_there last (Ok what.Missing) made)))
+
+  -- it is no deck
+  pub refused_over : (last : CachedPages S) (back new : S) (name : List ℕ) (status : Status)
+      → back ≡ last.store → Revives saved.0 (later first) (later last) (Ok what.Refused)
+      → asked_for saved.0 ≡ (name, false) ∷ [] → RefusesDeck name (seen back) (seen new) status
+      → Comes new source sink status
+  refused_over last back new name status is made asked refuses =
+      inr (refused_ends saved.0 (seen store) (seen last.store) (cache_of last) capacity source sink
+      name (seen new) status (made_there last (Ok what.Refused) made) asked
+      (subst (λ (s : S). RefusesDeck name (seen s) (seen new) status) is refuses))
+
+  -- the session goes on
+  pub context_over : (browser : Browser) (mid last : CachedPages S) (back : S) (handset : State)
+      (source_after : SourceSeen) (sink_after : SinkSeen) (status : Status)
+      → HasDistinctNames (seen store) → back ≡ last.store
+      → Revives saved.0 (later first) (later mid) (Ok (what.Context browser))
+      → handset ≡ with_session (going_on browser saved.1)
+      → ((play : Play) (from : Moved)
+      → Browsed play [] from (record { pages = later mid; sink = sink }) handset
+      → BrowsesSeen play (outside_of from source) (outside_over seen last source_after sink_after)
+      status)
+      → Comes back source_after sink_after status
+  context_over browser mid last back handset source_after sink_after status distinct is made begun
+      plays =
+      let play = resumed saved.0 saved.1 in
+      let from : Moved = record { pages = before; sink = sink } in
+      let now : Moved = record { pages = later mid; sink = sink } in
+      let there = made_there mid (Ok (what.Context browser)) made in
+      let are = are_there (seen store).contents distinct in
+      let browsed : Browsed play [] from now handset =
+      subst (λ (state : State). Browsed play [] from now state) (sym begun)
+      (browsed_by saved.0 saved.1 from now browser are there.is there.asks there.stays refl) in
+      subst (λ (s : S). Comes s source_after sink_after status) (sym is)
+      (inl (
+        has_deck saved.0 saved.1 (seen store).contents browser are there.is,
+        forget_cache (ArePagesOf before) play old
+            (outside_over seen last source_after sink_after) status (Some (fresh capacity)) refl
+            (plays play from browsed),
+      ))
+
+-- memory ran out before anything was asked for
+pub lost_over : {S : Type 0} (seen : S → StoreSeen) (saved : Saved) (store back : S) (capacity : ℕ)
+    (source : SourceSeen) (sink : SinkSeen) → back ≡ store
+    → Continues saved (fresh_over (seen store) capacity source sink)
+    (fresh_over (seen back) capacity source sink) NoMemory
+lost_over {S = S} seen saved store back capacity source sink is =
+    subst (λ (s : S). Continues saved (fresh_over (seen store) capacity source sink)
+    (fresh_over (seen s) capacity source sink) NoMemory) (sym is)
+    (inr (unbegun_same (λ contents. LacksDeck contents saved.0)
+    (fresh_over (seen store) capacity source sink)))

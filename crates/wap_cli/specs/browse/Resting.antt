@@ -1,0 +1,30 @@
+-- Where a handset stands whose keys were played to their end. This project's own.
+use Rattle.std.specs.Prelude.{◌≡◌, false, List, [], ◌++◌, None, IfSome}
+use Rattle.wap_input.specs.declared.key.Key.{Key}
+use Rattle.wap_keys.specs.Lines.{keys_of}
+use Rattle.wap_world.specs.Steps.{Step, joined}
+use Rattle.wap_scripting.specs.UnitSites.{Pages, shelf_of, unit_pages}
+use Rattle.wap_context.specs.Browsers.{IsOver}
+use Rattle.wap_handset.specs.Feeding.{State, step_of}
+use Rattle.wap_cli.specs.browse.Outside.{Outside}
+use Rattle.wap_cli.specs.browse.Plays.{Play, HaveNoPush}
+
+-- the handset stands where these keys lead, outside a dialog
+pub record StandsAfter (pages : Pages) (play : List Key → Step) (keys : List Key)
+    (handset : State) : Type 0 where
+  pub outside : (play keys).is_open ≡ false
+  pub world : handset.browser.world ≡ (play keys).world
+  pub over : IsOver (shelf_of pages) handset.browser
+  -- and further keys go on from there
+  pub on : (others : List Key) → play (keys ++ others)
+      ≡ joined (play keys) (step_of pages others handset)
+  -- where none of the keys is a push, its inbox is as in the beginning
+  pub unpushed : HaveNoPush keys → handset.winners ≡ []
+
+-- no script waits and no key failed, and the handset stands where all keys lead, where their bytes
+-- and the pages are known
+pub record Rests (play : Play) (old : Outside) (handset : State) : Type 0 where
+  pub waiting : handset.waiting ≡ None
+  pub ready : handset.is_over ≡ false
+  pub stands : IfSome old.source.left (λ bytes. IfSome old.pages.contents (λ judged.
+      StandsAfter (unit_pages judged) (play (unit_pages judged)) (keys_of bytes).keys handset))

@@ -1,0 +1,99 @@
+-- A key that is played, and whose lines are written. This project's own.
+use Rattle.std.specs.Prelude.{◌≡◌, ◌≤◌, false, [], ◌∷◌, Result, Ok, Err}
+use Rattle.wap_base.specs.Count.{Rose}
+use Rattle.wap_devices.specs.Sinks.{SinkSeen}
+use Rattle.wap_devices.specs.Transfer.{Appends, AppendsPrefix}
+use Rattle.wap_input.specs.declared.key.Key.{Key}
+use Rattle.wap_site.specs.Asking.{Seen, Stays, Asks}
+use Rattle.wap_lines.specs.Written.{lines_bytes}
+use Rattle.wap_world.specs.Steps.{Step}
+use Rattle.wap_world.specs.Sessions.{shown_by}
+use Rattle.wap_scripting.specs.UnitSites.{Pages, shelf_of}
+use Rattle.wap_context.specs.Browsers.{IsOver}
+use Rattle.wap_context.specs.Missing.{Missed}
+use Rattle.wap_context.specs.Sites.{IfOver}
+use Rattle.wap_handset.specs.Feeding.{State, step_of, PlaysOn}
+use Rattle.wap_cli.specs.browse.Plays.{IsNoPush}
+use Rattle.wap_cli.specs.declared.status.Status.{Status}
+use Rattle.wap_cli.specs.declared.status.Status.TheVariants.{Done, Usage, Refused, StoreFault}
+use Rattle.wap_cli.specs.declared.status.Status.TheVariants.{KeyReadFault, WriteFault, NoMemory}
+use Rattle.wap_cli.specs.declared.status.Status.TheVariants.{BadKey, OpenDialog, TooManyKeys}
+
+-- what a key is seen to move: pages, the handset and the sink
+pub record Moment : Type 0 where
+  pub pages : Seen
+  pub state : State
+  pub sink : SinkSeen
+
+-- what a key comes to
+abbrev pub step_at : Pages → Key → Moment → Step
+step_at pages key old = step_of pages (key ∷ []) old.state
+
+-- a fact of a key, where the pages are known and have the deck
+abbrev pub IfKnown : Moment → (Pages → Type 0) → Type 0
+IfKnown old Fact = IfOver old.pages.contents old.state.browser Fact
+
+-- a key that was played, and its lines written
+pub record Leads (pages : Pages) (key : Key) (old new : Moment) : Type 0 where
+  pub over : IsOver (shelf_of pages) new.state.browser
+  pub on : PlaysOn (key ∷ []) pages old.state new.state
+  pub unpushed : IsNoPush key → old.state.winners ≡ [] → new.state.winners ≡ []
+  pub asks : Asks (step_at pages key old).asked old.pages new.pages
+  pub wrote : Appends old.sink.written new.sink.written
+      (lines_bytes (shown_by (step_at pages key old)))
+
+-- a key that was played, and a prefix of its lines written
+pub record LeadsPart (pages : Pages) (key : Key) (old new : Moment) : Type 0 where
+  pub on : PlaysOn (key ∷ []) pages old.state new.state
+  pub asks : Asks (step_at pages key old).asked old.pages new.pages
+  pub wrote : AppendsPrefix old.sink.written new.sink.written
+      (lines_bytes (shown_by (step_at pages key old)))
+
+-- ---- what each answer says
+
+-- the key was played, and its lines were written
+pub record GoesOn (key : Key) (old new : Moment) : Type 0 where
+  pub leads : IfKnown old (λ pages. Leads pages key old new)
+  pub ready : new.state.is_over ≡ false
+  pub stays : Stays old.pages new.pages
+  pub steady : new.pages.faults ≡ old.pages.faults
+  pub write_steady : new.sink.faults ≡ old.sink.faults
+
+-- the store failed, and nothing was written
+pub record FailsAtStore (key : Key) (old new : Moment) : Type 0 where
+  pub rose : Rose old.pages.faults new.pages.faults
+  pub missed : IfKnown old
+      (λ pages. Missed (step_at pages key old).asked old.pages new.pages)
+  pub unwritten : new.sink ≡ old.sink
+  pub stays : Stays old.pages new.pages
+
+-- the sink failed
+pub record FailsAtSink (key : Key) (old new : Moment) : Type 0 where
+  pub leads : IfKnown old (λ pages. LeadsPart pages key old new)
+  pub rose : Rose old.sink.faults new.sink.faults
+  pub counts : old.sink.faults ≤ new.sink.faults
+  pub stays : Stays old.pages new.pages
+  pub steady : new.pages.faults ≡ old.pages.faults
+
+-- memory ran out, and nothing was written
+pub record RunsOut (old new : Moment) : Type 0 where
+  pub unwritten : new.sink ≡ old.sink
+  pub stays : Stays old.pages new.pages
+
+-- why a session stops at a key
+abbrev pub Stops : Status → Key → Moment → Moment → Type 0
+Stops StoreFault key old new = FailsAtStore key old new
+Stops WriteFault key old new = FailsAtSink key old new
+Stops NoMemory key old new = RunsOut old new
+Stops Done key old new = ⊥
+Stops Usage key old new = ⊥
+Stops (Refused fault) key old new = ⊥
+Stops KeyReadFault key old new = ⊥
+Stops (BadKey line fault) key old new = ⊥
+Stops OpenDialog key old new = ⊥
+Stops TooManyKeys key old new = ⊥
+
+-- a key was played, or the session stops
+abbrev pub Plays : Key → Moment → Moment → {A : Type 0} → Result A Status → Type 0
+Plays key old new (Ok done) = GoesOn key old new
+Plays key old new (Err status) = Stops status key old new

@@ -1,0 +1,37 @@
+-- What a session over a made folder came to. This project's own.
+use Rattle.std.specs.Prelude.{◌≡◌, ℕ, List, [], ◌∷◌, ◌++◌, length, drop, codes, decimal}
+use Rattle.wap_base.specs.Contents.{names_of}
+use Rattle.wap_input.specs.declared.key.Key.{Key}
+use Rattle.wap_input.specs.declared.key.Key.TheVariants.{Vars}
+use Rattle.wap_make.specs.Folders.{folder}
+use Rattle.wap_world.specs.Sites.{Site}
+use Rattle.wap_world.specs.Sessions.{played, shown_by, world_of}
+use Rattle.wap_cli.specs.declared.made.playing.Played.{Played}
+use Rattle.wap_cli.specs.declared.made.making.Tour.{Tour}
+use Rattle.wap_cli.specs.made.Making.{made_begun, made_pages, made_lines, made_variables}
+use Rattle.wap_cli.specs.made.Making.{accepted_in, value_in, made_line}
+
+-- the lines of keys from the beginning
+abbrev pub lines_by : Site → List Key → List (List ℕ)
+lines_by site keys = shown_by (played site keys (world_of made_begun))
+
+-- it is what these keys come to
+pub record IsPlayed (site : Site) (keys : List Key) (came : Played) : Type 0 where
+  pub lines : came.lines ≡ length (lines_by site keys)
+  pub sum : came.sum.items
+      ≡ value_in (drop (length (lines_by site keys)) (lines_by site (keys ++ Vars ∷ [])))
+
+-- it is that of the folder of this number
+pub record IsTour (n : ℕ) (tour : Tour) : Type 0 where
+  pub pages : tour.pages ≡ length (folder n)
+  pub accepted : tour.accepted ≡ length (accepted_in (made_pages n) (names_of (folder n)))
+  pub lines : tour.played.lines ≡ length (made_lines n)
+  pub sum : tour.played.sum.items ≡ value_in (made_variables n)
+
+-- the lines on it
+abbrev pub report_of : Tour → List ℕ
+report_of tour =
+    made_line (codes "pages") (decimal tour.pages)
+    ++ (made_line (codes "ok") (decimal tour.accepted)
+    ++ (made_line (codes "lines") (decimal tour.played.lines)
+    ++ made_line (codes "t") tour.played.sum.items))

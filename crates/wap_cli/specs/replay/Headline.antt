@@ -1,0 +1,100 @@
+-- What the replaying of lists of keys comes to: what is written, what is asked for, and how it
+-- ends. This project's own.
+use Rattle.std.specs.Prelude.{◌≡◌, ◌≢◌, ◌⊎◌, ℕ, ◌+◌, ◌≤◌, false, List, Some, IfSome}
+use Rattle.wap_base.specs.Contents.{Contents}
+use Rattle.wap_base.specs.Count.{raised, Rose}
+use Rattle.wap_devices.specs.Stores.{StoreSeen}
+use Rattle.wap_devices.specs.Transfer.{Appends, AppendsPrefix, IsAtEnd}
+use Rattle.wap_keys.specs.declared.limits.TheConstants.{KEYS_LIMIT}
+use Rattle.wap_keys.specs.declared.fault.KeyFault.TheVariants as key
+use Rattle.wap_keys.specs.declared.ending.Ending.{Ending}
+use Rattle.wap_keys.specs.declared.ending.Ending.TheVariants as ending
+use Rattle.wap_keys.specs.Read.{TakesAtMost, AtMostOnce}
+use Rattle.wap_lists.specs.Lists.{all_of, lists_of}
+use Rattle.wap_pages.specs.declared.fault.PageFault.{PageFault}
+use Rattle.wap_world.specs.Sites.{Site}
+use Rattle.wap_world.specs.Sessions.{Begun}
+use Rattle.wap_cli.specs.declared.status.Status.{Status}
+use Rattle.wap_cli.specs.declared.status.Status.TheVariants.{Done, Usage, Refused, StoreFault}
+use Rattle.wap_cli.specs.declared.status.Status.TheVariants.{KeyReadFault, WriteFault, NoMemory}
+use Rattle.wap_cli.specs.declared.status.Status.TheVariants.{BadKey, OpenDialog}
+use Rattle.wap_cli.specs.Statuses.{IsOrWants}
+use Rattle.wap_cli.specs.prepare.Working.{AsksWithin}
+use Rattle.wap_cli.specs.browse.Endings as endings
+use Rattle.wap_cli.specs.replay.Outside.{Outside}
+use Rattle.wap_cli.specs.replay.Texts.{replayed, site_over}
+
+-- the status where keys came to this end: a dialog that is open then is no fault
+abbrev pub ended : Ending → Status
+ended by = endings.ended false by
+
+-- no count of faults rose
+pub record NothingFails (old new : Outside) : Type 0 where
+  pub store : ¬ Rose old.store.faults new.store.faults
+  pub source : ¬ Rose old.source.faults new.source.faults
+  pub sink : ¬ Rose old.sink.faults new.sink.faults
+
+-- what there is to be written, by whatever the site of the store is, where the bytes of the keys
+-- are known
+abbrev pub Tells : (Site → Type 0) → Begun → Outside → (List ℕ → Type 0) → Type 0
+Tells IsSite begun old Wrote = (site : Site) → IsSite site
+    → IfSome old.source.left (λ bytes. Wrote (replayed site begun (all_of (lists_of bytes))))
+
+-- sessions that are begun so, one for each list, over the site of the store, from the outside
+-- before to the outside after, and the status; by however many workers
+pub record Replays (IsSite : Site → Type 0) (begun : Begun) (old new : Outside) (status : Status)
+    : Type 0 where
+  -- on Done all was written, for each list its header and its transcript, in order; and where the
+  -- sink failed, a prefix of it
+  pub done : status ≡ Done → Tells IsSite begun old (Appends old.sink.written new.sink.written)
+  pub prefix : status ≡ WriteFault
+      → Tells IsSite begun old (AppendsPrefix old.sink.written new.sink.written)
+  -- and else nothing
+  pub unwritten : status ≢ Done → status ≢ WriteFault → new.sink ≡ old.sink
+  -- these statuses come only where the bytes of the keys end so, and Done only where all were read
+  pub keys : (by : Ending) → by ≢ ending.ReadFault → status ≡ ended by
+      → IfSome old.source.left (λ bytes. (lists_of bytes).ending ≡ by)
+  pub all_read : status ≡ Done → IsAtEnd new.source.left
+  -- but where the keys came to their end nothing is asked of the store
+  pub unasked : (by : Ending) → by ≢ ending.End → status ≡ ended by → new.store ≡ old.store
+  -- these statuses come only where a count of faults rose
+  pub store_fault : status ≡ StoreFault → Rose old.store.faults new.store.faults
+  pub read_fault : status ≡ KeyReadFault → Rose old.source.faults new.source.faults
+  pub write_fault : status ≡ WriteFault → Rose old.sink.faults new.sink.faults
+  -- and no fault is passed over
+  pub store_steady : status ≢ StoreFault → status ≢ NoMemory
+      → new.store.faults ≡ old.store.faults
+  pub read_steady : status ≢ KeyReadFault → new.source.faults ≡ old.source.faults
+  pub write_steady : status ≢ WriteFault → new.sink.faults ≡ old.sink.faults
+  -- where nothing failed, the status is that of the end of the keys, or memory ran out
+  pub complete : NothingFails old new
+      → IfSome old.source.left (λ bytes. IsOrWants (ended (lists_of bytes).ending) status)
+  -- these are statuses of other commands
+  pub command : status ≢ Usage
+  pub accepted : (fault : PageFault) → status ≢ Refused fault
+  pub closed : status ≢ OpenDialog
+  -- out of memory is no fault of a line
+  pub of_line : (line : ℕ) → status ≢ BadKey line key.NoMemory
+  -- the names are asked for once at most, and so is each page
+  pub once : (new.store.listings ≡ old.store.listings)
+      ⊎ (new.store.listings ≡ raised old.store.listings)
+  pub asked : AsksWithin old.store new.store
+  -- however it ends
+  pub kept : new.store.contents ≡ old.store.contents
+  pub store_counts : old.store.faults ≤ new.store.faults
+  pub read_counts : old.source.faults ≤ new.source.faults
+  pub write_counts : old.sink.faults ≤ new.sink.faults
+  -- no more bytes of keys are taken than one too many, and the source gives its end once at most
+  pub few : TakesAtMost (KEYS_LIMIT + 1) old.source new.source
+  pub end_once : AtMostOnce old.source.ends new.source.ends
+
+-- ---- over judged pages
+
+-- the site of the judged pages of a store, where these are known
+abbrev pub IsSiteOf : StoreSeen → Site → Type 0
+IsSiteOf store site =
+    (contents : Contents) × (store.contents ≡ Some contents) × (site ≡ site_over contents)
+
+-- the same over the pages that the store has, as they are judged
+abbrev pub ReplaysSeen : Begun → Outside → Outside → Status → Type 0
+ReplaysSeen begun old new status = Replays (IsSiteOf old.store) begun old new status

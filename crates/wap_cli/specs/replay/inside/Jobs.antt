@@ -1,0 +1,55 @@
+-- Pages that are judged and lists that are played, each by itself. This project's own.
+use Rattle.std.specs.Prelude.{◌≡◌, ℕ, Bool, true, false, List, map, filter, Option, IfSome}
+use Rattle.wap_base.specs.Contents.{Contents, page_named}
+use Rattle.wap_input.specs.declared.key.Key.{Key}
+use Rattle.wap_site.specs.Pages.{Pages}
+use Rattle.wap_site.specs.declared.page.Page.{Page}
+use Rattle.wap_site.specs.declared.page.Page.TheVariants as page
+use Rattle.wap_pages.specs.Judged.{page_where}
+use Rattle.wap_cli.specs.prepare.Fetching.{Job, page_of}
+use Rattle.wap_world.specs.Sessions.{Begun}
+use Rattle.wap_scripting.specs.UnitSites.{unit_pages}
+use Rattle.wap_context.specs.Sites.{site_of}
+use Rattle.wap_cli.specs.replay.Texts.{list_text, replayed, site_over}
+
+-- ---- pages
+
+-- the page of a name, as a store answered it, is judged so
+pub record IsJudged (job : Job) (named : List ℕ × Page) : Type 0 where
+  pub name : named.0 ≡ job.0
+  pub page : named.1 ≡ page_where job.0 (page_of job.1)
+
+abbrev pub is_there : Page → Bool
+is_there (page.Deck deck) = true
+is_there (page.Script unit) = true
+is_there (page.Words text) = true
+is_there page.Refused = true
+is_there page.Missing = false
+
+-- those of the pages that are there
+abbrev pub present : Pages → Pages
+present pages = filter (λ page. is_there page.1) pages
+
+-- a name of contents, with its page as it is judged
+abbrev pub judged_name : Contents → List ℕ → List ℕ × Page
+judged_name contents name = (name, page_where name (page_named name contents))
+
+-- the pages of these names that are there
+abbrev pub pages_named : Contents → List (List ℕ) → Pages
+pages_named contents names = present (map (judged_name contents) names)
+
+-- ---- lists
+
+-- what lists are played over, and how each session is begun
+pub record Stage : Type 0 where
+  pub pages : Pages
+  pub begun : Begun
+
+-- the text of a numbered list
+abbrev pub text_on : Stage → ℕ × List Key → List ℕ
+text_on stage one = list_text (site_of (unit_pages stage.pages)) stage.begun one
+
+-- what there is to be written of lists, where the pages of the store are known
+abbrev pub TellsOf : Begun → List (List Key) → Option Contents → (List ℕ → Type 0) → Type 0
+TellsOf begun lists contents Wrote =
+    IfSome contents (λ pages. Wrote (replayed (site_over pages) begun lists))

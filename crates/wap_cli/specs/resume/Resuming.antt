@@ -1,0 +1,159 @@
+-- The command that goes on with a saved context: in which world, what keys come to there, and why
+-- nothing is begun. This project's own.
+use Rattle.std.specs.Prelude.{◌≡◌, ◌≢◌, ⊤, ℕ, false, List, [], ◌∷◌, ◌++◌, Option, Some, None}
+use Rattle.std.specs.Prelude.{IfSome}
+use Rattle.std.specs.Option.{option_and_then, option_map_or}
+use Rattle.wap_base.specs.Count.{raised, Rose}
+use Rattle.wap_base.specs.Contents.{Contents, page_named}
+use Rattle.wap_url.specs.Printing.{name_for}
+use Rattle.wap_markup.specs.declared.deck.Deck.{Deck}
+use Rattle.wap_parts.specs.declared.parts.ContextParts.{ContextParts}
+use Rattle.wap_parts.specs.declared.fault.ImageFault.{ImageFault}
+use Rattle.wap_image.specs.Images.{Saved, IsImage}
+use Rattle.wap_image.specs.Refusal.{IsRefused}
+use Rattle.wap_input.specs.declared.key.Key.{Key}
+use Rattle.wap_site.specs.Asking.{Stays}
+use Rattle.wap_pages.specs.declared.fault.PageFault.{PageFault}
+use Rattle.wap_pages.specs.declared.fault.PageFault.TheVariants.{Missing, Image, NotDeck}
+use Rattle.wap_pages.specs.Judged.{IsDeckPage, Refuses}
+use Rattle.wap_world.specs.Shelves.{Shelf}
+use Rattle.wap_world.specs.World.{World, last_entry, deck_at}
+use Rattle.wap_world.specs.Sites.{Site}
+use Rattle.wap_world.specs.Steps.{Step}
+use Rattle.wap_state.specs.Saved.{saved_world}
+use Rattle.wap_context.specs.Saved.{with_last_in, asked_for}
+use Rattle.wap_context.specs.Sites.{site_of}
+use Rattle.wap_cli.specs.declared.status.Status.{Status}
+use Rattle.wap_cli.specs.declared.status.Status.TheVariants.{Done, Usage, Refused, StoreFault}
+use Rattle.wap_cli.specs.declared.status.Status.TheVariants.{KeyReadFault, WriteFault, NoMemory}
+use Rattle.wap_cli.specs.declared.status.Status.TheVariants.{BadKey, OpenDialog, TooManyKeys}
+use Rattle.wap_cli.specs.browse.Outside.{Outside}
+use Rattle.wap_cli.specs.browse.Plays.{Play, ArePagesOf}
+use Rattle.wap_cli.specs.browse.Headline.{Browses}
+use Rattle.wap_cli.specs.resume.Saving.{played_at}
+
+-- ---- what keys come to
+
+-- the world of what was saved, whose keys have so many turns
+abbrev pub world_with : ContextParts → ℕ → World
+world_with parts turns = record (saved_world parts) { budget = turns; turns = turns }
+
+-- over a shelf: where the current card is past the end of its deck there, it is the first card
+abbrev pub world_over : Shelf → World → World
+world_over shelf world = option_map_or (λ deck. with_last_in deck world)
+    (option_and_then (λ entry. deck_at shelf entry.url) (last_entry world)) world
+
+-- over a site the page of the current card is asked for, and then keys are played from this world;
+-- of an inbox nothing was saved
+abbrev pub resumed_at : ContextParts → ℕ → Site → List Key → Step
+resumed_at parts turns site keys =
+    let step = played_at (world_over site.shelf (world_with parts turns)) site keys in
+    record step { asked = asked_for parts ++ step.asked }
+
+-- the same over pages
+abbrev pub resumed : ContextParts → ℕ → Play
+resumed parts turns pages keys = resumed_at parts turns (site_of pages) keys
+
+-- ---- decks that are there, and why one isn't
+
+-- there is a deck under this name
+pub record IsDeckThere (contents : Contents) (name : List ℕ) : Type 0 where
+  pub bytes : List ℕ
+  pub page : page_named name contents ≡ Some bytes
+  pub deck : Deck
+  pub is : IsDeckPage name bytes deck
+
+-- the current card, if there is one, has its deck there
+abbrev pub HasDeck : Contents → ContextParts → Type 0
+HasDeck contents parts =
+    IfSome (last_entry (saved_world parts)) (λ entry. IsDeckThere contents (name_for entry.url))
+
+-- a page with these bytes is accepted, and no deck
+pub record IsNoDeck (name bytes : List ℕ) : Type 0 where
+  pub accepted : (why : PageFault) → ¬ Refuses name bytes why
+  pub other : (deck : Deck) → ¬ IsDeckPage name bytes deck
+
+-- there is no deck under this name, for this cause
+pub data IsDeckless (contents : Contents) (name : List ℕ) : PageFault → Type 0 where
+  missing : page_named name contents ≡ None → IsDeckless contents name Missing
+  refused : (bytes : List ℕ) (why : PageFault) → page_named name contents ≡ Some bytes
+      → Refuses name bytes why → IsDeckless contents name why
+  other : (bytes : List ℕ) → page_named name contents ≡ Some bytes → IsNoDeck name bytes
+      → IsDeckless contents name NotDeck
+
+-- the current card has no deck there, for this cause
+pub record LacksDeck (contents : Contents) (parts : ContextParts) (why : PageFault) : Type 0 where
+  pub name : List ℕ
+  pub asked : asked_for parts ≡ (name, false) ∷ []
+  pub deckless : IsDeckless contents name why
+
+-- ---- what is there under a name, and why nothing is
+
+-- this was saved there, and its current card has its deck
+pub record IsThere (contents : Contents) (name : List ℕ) (saved : Saved) : Type 0 where
+  pub bytes : List ℕ
+  pub page : page_named name contents ≡ Some bytes
+  pub image : IsImage bytes saved
+  pub deck : HasDeck contents saved.0
+
+-- nothing is begun with what is there, for this cause
+pub data Hinders (contents : Contents) (name : List ℕ) : PageFault → Type 0 where
+  missing : page_named name contents ≡ None → Hinders contents name Missing
+  refused : (bytes : List ℕ) (why : ImageFault) → page_named name contents ≡ Some bytes
+      → IsRefused bytes why → Hinders contents name (Image why)
+  deckless : (bytes : List ℕ) (saved : Saved) (why : PageFault)
+      → page_named name contents ≡ Some bytes → IsImage bytes saved
+      → LacksDeck contents saved.0 why → Hinders contents name why
+
+-- ---- where nothing is begun
+
+-- a command ends so that begins nothing
+abbrev pub EndsUnbegun : Status → Type 0
+EndsUnbegun Done = ⊥
+EndsUnbegun Usage = ⊥
+EndsUnbegun (Refused fault) = ⊤
+EndsUnbegun StoreFault = ⊤
+EndsUnbegun KeyReadFault = ⊥
+EndsUnbegun WriteFault = ⊥
+EndsUnbegun NoMemory = ⊤
+EndsUnbegun (BadKey line fault) = ⊥
+EndsUnbegun OpenDialog = ⊥
+EndsUnbegun TooManyKeys = ⊥
+
+-- nothing was begun, for one of these causes: no key was read, and nothing written
+pub record Unbegun (Cause : Contents → PageFault → Type 0) (old new : Outside) (status : Status)
+    : Type 0 where
+  pub ends : EndsUnbegun status
+  -- Refused has its cause, where the contents of the store are known
+  pub refused : (fault : PageFault) → status ≡ Refused fault
+      → IfSome old.pages.behind (λ contents. Cause contents fault)
+  -- StoreFault comes only where the count of faults rose, and no fault is passed over
+  pub store_fault : status ≡ StoreFault → Rose old.pages.faults new.pages.faults
+  pub steady : status ≢ StoreFault → status ≢ NoMemory → new.pages.faults ≡ old.pages.faults
+  pub stays : Stays old.pages new.pages
+  pub unread : new.source ≡ old.source
+  pub unwritten : new.sink ≡ old.sink
+
+-- ---- the command
+
+-- the store was asked for one page more
+abbrev pub asked_once : Outside → Outside
+asked_once outside =
+    record outside { pages = record outside.pages { fetches = raised outside.pages.fetches } }
+
+-- a session goes on over these pages, which have this site, with what was saved under a name: from
+-- the outside before to the outside after, and the status
+pub record Resumes {P : Type 0} (Are : P → Type 0) (site : P → Site) (name : List ℕ)
+    (old new : Outside) (status : Status) : Type 0 where
+  -- with this it goes on, if it does: with what is there under the name
+  pub saved : Option Saved
+  pub is : IfSome old.pages.behind (λ contents. IfSome saved (IsThere contents name))
+  -- then its keys are read and played, once the image was fetched
+  pub goes_on : IfSome saved (λ one. Browses Are
+      (λ pages. resumed_at one.0 one.1 (site pages)) (asked_once old) new status)
+  -- else nothing is begun
+  pub stops : saved ≡ None → Unbegun (λ contents. Hinders contents name) old new status
+
+-- the same over the pages that are seen
+abbrev pub ResumesSeen : List ℕ → Outside → Outside → Status → Type 0
+ResumesSeen name old new status = Resumes (ArePagesOf old.pages) site_of name old new status

@@ -1,0 +1,118 @@
+-- The command that saves a context where its keys end: what it writes, and how it ends. This
+-- project's own.
+use Rattle.std.specs.Prelude.{◌≡◌, ◌≢◌, ◌⊎◌, ℕ, ◌≤◌, false, List, [], ◌++◌, None, IfSome}
+use Rattle.std.specs.Prelude.{Result, Ok, Err}
+use Rattle.wap_base.specs.Count.{greatest_count, Rose}
+use Rattle.wap_devices.specs.Sinks.{SinkSeen}
+use Rattle.wap_devices.specs.Transfer.{Appends, AppendsPrefix}
+use Rattle.wap_input.specs.declared.key.Key.{Key}
+use Rattle.wap_push.specs.Pushes.{push_at}
+use Rattle.wap_inboxes.specs.Sessions.{session_with, played_with}
+use Rattle.wap_keys.specs.Lines.{keys_of}
+use Rattle.wap_parts.specs.declared.fault.SaveFault.{SaveFault}
+use Rattle.wap_parts.specs.declared.parts.ContextParts.{ContextParts}
+use Rattle.wap_pages.specs.declared.fault.PageFault.TheVariants.{Save}
+use Rattle.wap_world.specs.World.{World}
+use Rattle.wap_world.specs.Steps.{Step, joined}
+use Rattle.wap_world.specs.Sites.{Site}
+use Rattle.wap_world.specs.Sessions.{Begun}
+use Rattle.wap_scripting.specs.UnitSites.{Pages}
+use Rattle.wap_context.specs.Sites.{site_of}
+use Rattle.wap_state.specs.Saved.{parts_of, saved_world, IsAtRest}
+use Rattle.wap_cli.specs.saving.Saving.{image_of}
+use Rattle.wap_cli.specs.declared.status.Status.{Status}
+use Rattle.wap_cli.specs.declared.status.Status.TheVariants.{Done, Refused, WriteFault, NoMemory}
+use Rattle.wap_cli.specs.Statuses.{IsOrWants}
+use Rattle.wap_cli.specs.browse.Outside.{Outside}
+use Rattle.wap_cli.specs.browse.Plays.{Play, ArePagesOf, HaveNoPush}
+use Rattle.wap_cli.specs.browse.Headline.{Browses}
+
+-- ---- an image
+
+-- a command ends so that writes this image, or has this cause that there is none
+abbrev pub EndsBy : Result (List ℕ) SaveFault → Status → Type 0
+EndsBy (Ok image) status = (status ≡ Done) ⊎ (status ≡ WriteFault) ⊎ (status ≡ NoMemory)
+EndsBy (Err why) status = IsOrWants (Refused (Save why)) status
+
+-- it is written, if there is one: the sink before and after, and how that ended
+pub record WritesImage (image : Result (List ℕ) SaveFault) (before after : SinkSeen)
+    (status : Status) : Type 0 where
+  -- Refused comes exactly where there is none, for its cause
+  pub ends : EndsBy image status
+  -- on Done it was written whole, and where the sink failed a prefix of it
+  pub done : status ≡ Done
+      → (bytes : List ℕ) × (image ≡ Ok bytes) × Appends before.written after.written bytes
+  pub write_fault : status ≡ WriteFault
+      → (bytes : List ℕ) × (image ≡ Ok bytes) × AppendsPrefix before.written after.written bytes
+  -- and else nothing was
+  pub unwritten : status ≢ Done → status ≢ WriteFault → after ≡ before
+  -- WriteFault comes only where the count of faults rose, and no fault is passed over
+  pub failed : status ≡ WriteFault → Rose before.faults after.faults
+  pub steady : status ≢ WriteFault → after.faults ≡ before.faults
+  pub counts : before.faults ≤ after.faults
+
+-- if the world is at rest, these are all of it but for the turns of a key
+abbrev pub IsWhole : ContextParts → World → Type 0
+IsWhole parts world = IsAtRest world → saved_world parts ≡ record world { budget = 0; turns = 0 }
+
+-- ---- what keys come to over a site
+
+-- where a session with an inbox begins so: its URL is opened before they are played
+abbrev pub opened_at : Begun → Site → List Key → Step
+opened_at begun site keys = (session_with push_at site begun keys).step
+
+-- where it goes on in this world, with an empty inbox
+abbrev pub played_at : World → Site → List Key → Step
+played_at world site keys =
+    (played_with push_at site keys (record { world = world; pushes = [] })).step
+
+-- the same over pages
+abbrev pub played_in : World → Play
+played_in world pages keys = played_at world (site_of pages) keys
+
+-- a context has the parts of the world to which these keys lead over a site
+pub record EndsAt (begun : Begun) (site : Site) (keys : List Key) (parts : ContextParts)
+    : Type 0 where
+  pub parts_are : parts ≡ parts_of (opened_at begun site keys).world
+  pub outside : (opened_at begun site keys).is_open ≡ false
+  -- and where none of them is a push, further keys go on from there with an empty inbox
+  pub on : HaveNoPush keys → (others : List Key) → opened_at begun site (keys ++ others)
+      ≡ joined (opened_at begun site keys)
+      (played_at (opened_at begun site keys).world site others)
+
+-- the same over pages
+abbrev pub EndsIn : Begun → Pages → List Key → ContextParts → Type 0
+EndsIn begun pages keys parts = EndsAt begun (site_of pages) keys parts
+
+-- ---- the command
+
+-- a sink of which nothing is seen, and which never fails
+abbrev pub nowhere : SinkSeen
+nowhere = record { written = None; writes = greatest_count; faults = 0 }
+
+-- the outside, where what is shown is dropped
+abbrev pub unshown : Outside → Outside
+unshown outside = record outside { sink = nowhere }
+
+-- a session that begins so is played over these pages, which have this site, and saved where its
+-- keys end
+pub record Images {P : Type 0} (Are : P → Type 0) (site : P → Site) (begun : Begun)
+    (old new : Outside) (status : Status) : Type 0 where
+  -- its keys are played as in browsing, but what they show is dropped; they come to this end
+  pub end : Status
+  pub plays : Browses Are (λ pages. opened_at begun (site pages)) (unshown old) (unshown new) end
+  -- where that isn't Done the command ends so too, and nothing is written
+  pub stops : end ≢ Done → (status ≡ end) × (new.sink ≡ old.sink)
+  -- where it is, the context in which they end is saved: its parts are those of their world, where
+  -- bytes and pages are known
+  pub parts : ContextParts
+  pub ends_in : end ≡ Done → IfSome old.source.left (λ bytes. (pages : P) → Are pages
+      → EndsAt begun (site pages) (keys_of bytes).keys parts)
+  pub saves : end ≡ Done → WritesImage (image_of parts begun.budget) old.sink new.sink status
+  -- and once they are written, these are all of that world
+  pub whole : status ≡ Done → IfSome old.source.left (λ bytes. (pages : P) → Are pages
+      → IsWhole parts (opened_at begun (site pages) (keys_of bytes).keys).world)
+
+-- the same over the pages that are seen
+abbrev pub ImagesSeen : Begun → Outside → Outside → Status → Type 0
+ImagesSeen begun old new status = Images (ArePagesOf old.pages) site_of begun old new status

@@ -1,0 +1,89 @@
+-- Fetching what was saved, and finding the deck of its current card. This project's own.
+use Rattle.std.specs.Prelude.{◌≡◌, ◌≢◌, ◌⊎◌, ◌≤◌, ℕ, List, Some, None, IfSome, Result, IfOk, IfErr, OnOk}
+use Rattle.wap_base.specs.Count.{raised, Rose}
+use Rattle.wap_base.specs.Contents.{Contents, names_of, page_named}
+use Rattle.wap_base.specs.Texts.{AreDistinct}
+use Rattle.wap_devices.specs.Stores.{StoreSeen}
+use Rattle.wap_parts.specs.declared.fault.ImageFault.{ImageFault}
+use Rattle.wap_image.specs.Images.{Saved, IsImage}
+use Rattle.wap_image.specs.Rules.{MayBeSaved}
+use Rattle.wap_image.specs.Refusal.{IsRefused}
+use Rattle.wap_pages.specs.declared.fault.PageFault.{PageFault}
+use Rattle.wap_pages.specs.declared.fault.PageFault.TheVariants.{Missing, Image, NotDeck}
+use Rattle.wap_pages.specs.Judged.{Refuses}
+use Rattle.wap_cli.specs.declared.status.Status.{Status}
+use Rattle.wap_cli.specs.declared.status.Status.TheVariants.{Refused, StoreFault, NoMemory}
+use Rattle.wap_cli.specs.browse.Outside.{Outside}
+use Rattle.wap_cli.specs.browse.Headline.{BrowsesSeen}
+use Rattle.wap_cli.specs.resume.Resuming.{resumed, HasDeck, LacksDeck, Hinders}
+use Rattle.wap_cli.specs.resume.Resuming.{EndsUnbegun, Unbegun}
+
+-- ---- one page that is fetched
+
+-- no name stands twice, where the contents are known
+abbrev pub HasDistinctNames : StoreSeen → Type 0
+HasDistinctNames store = IfSome store.contents (λ contents. AreDistinct (names_of contents))
+
+-- a store before and after it was asked for one page
+pub record IsFetched (before after : StoreSeen) : Type 0 where
+  pub contents : after.contents ≡ before.contents
+  pub distinct : HasDistinctNames before
+  pub fetches : after.fetches ≡ raised before.fetches
+  pub listings : after.listings ≡ before.listings
+  pub counts : before.faults ≤ after.faults
+
+-- that gave nothing, for one of these causes
+pub record GivesNone (Cause : Contents → PageFault → Type 0) (before after : StoreSeen)
+    (status : Status) : Type 0 where
+  pub ends : EndsUnbegun status
+  pub refused : (fault : PageFault) → status ≡ Refused fault
+      → IfSome before.contents (λ contents. Cause contents fault)
+  pub failed : status ≡ StoreFault → Rose before.faults after.faults
+  pub steady : status ≢ StoreFault → status ≢ NoMemory → after.faults ≡ before.faults
+
+-- ---- what was saved
+
+-- a command ends so whose bytes are no image
+abbrev pub IsUnread : List ℕ → Status → Type 0
+IsUnread bytes status = (status ≡ NoMemory)
+    ⊎ ((why : ImageFault) × (status ≡ Refused (Image why)) × IsRefused bytes why)
+
+-- what was saved under a name is fetched, or why there is nothing
+pub record Loads (name : List ℕ) (before after : StoreSeen) (result : Result Saved Status) : Type 0
+  where
+    pub found : IfOk result (λ saved. IfSome before.contents (λ contents.
+        (bytes : List ℕ) × (page_named name contents ≡ Some bytes) × IsImage bytes saved))
+    pub rules : IfOk result (λ saved. MayBeSaved saved.0 saved.1)
+    pub steady : OnOk result (after.faults ≡ before.faults)
+    pub none : IfErr result (GivesNone (λ contents. Hinders contents name) before after)
+    pub fetched : IsFetched before after
+
+-- ---- the deck of the current card
+
+-- a command ends so whose page with these bytes is no deck
+abbrev pub IsDeckFault : List ℕ → List ℕ → Status → Type 0
+IsDeckFault name bytes status = (status ≡ NoMemory)
+    ⊎ ((why : PageFault) × (status ≡ Refused why) × Refuses name bytes why)
+    ⊎ ((status ≡ Refused NotDeck) × ((why : PageFault) → ¬ Refuses name bytes why))
+
+-- why the page of a name is refused where it is no deck: unlike for a deck, it may be accepted
+pub data IsCause (contents : Contents) (name : List ℕ) : PageFault → Type 0 where
+  missing : page_named name contents ≡ None → IsCause contents name Missing
+  refused : (bytes : List ℕ) (why : PageFault) → page_named name contents ≡ Some bytes
+      → Refuses name bytes why → IsCause contents name why
+  accepted : (bytes : List ℕ) → page_named name contents ≡ Some bytes
+      → ((why : PageFault) → ¬ Refuses name bytes why) → IsCause contents name NotDeck
+
+-- the page of a name is fetched anew, and judged for why it is no deck
+pub record RefusesDeck (name : List ℕ) (before after : StoreSeen) (status : Status) : Type 0 where
+  pub none : GivesNone (λ contents. IsCause contents name) before after status
+  pub fetched : IsFetched before after
+
+-- ---- all of it
+
+-- a session goes on with what was saved, or nothing is begun
+abbrev pub Continues : Saved → Outside → Outside → Status → Type 0
+Continues saved old new status =
+    (IfSome old.pages.behind (λ contents. HasDeck contents saved.0)
+    × BrowsesSeen (resumed saved.0 saved.1) old new status)
+    ⊎ Unbegun (λ contents. LacksDeck contents saved.0) old new status

@@ -1,0 +1,64 @@
+//! Playing a key.
+ghost use Rattle.std.specs.Prelude.{◌≡◌, ◌∷◌, [], false};
+ghost use Rattle.wap_world.specs.declared.refusal.Refusal.TheVariants.{Ignored};
+ghost use Rattle.wap_world.specs.Lines.{refusal_line};
+ghost use Rattle.wap_cli.specs.browse.inside.Played.{Plays};
+
+use crate::Status;
+use std::alloc::Global;
+use wap_devices::{Failed, Sink, write_all};
+use wap_handset::{Handset, Key, SessionFault};
+use wap_lines::Lines;
+use wap_site::Pages;
+
+/// Plays a key, and writes the lines that it shows; or answers how the session ends.
+pub(crate) fn play<P: Pages, O: Sink>(
+    alloc: Global,
+    handset: &mut Handset,
+    key: &Key,
+    pages: &mut P,
+    out: &mut O,
+) -> Result<(), Status>
+    requires { handset.old.is_over ≡ false }
+    ensures { Plays key.now
+        (record { pages = P.seen pages.old; state = handset.old; sink = O.seen out.old })
+        (record { pages = P.seen pages.new; state = handset.new; sink = O.seen out.new })
+        result }
+{
+    let lines = match handset.feed(alloc, key, pages) {
+        Ok(lines) => lines,
+        Err(SessionFault::Store) => return Err(Status::StoreFault),
+        Err(SessionFault::NoMemory) => return Err(Status::NoMemory),
+        Err(SessionFault::Ended) => unreachable!(),
+    };
+    match write_all(out, lines.as_written()) {
+        Ok(()) => Ok(()),
+        Err(Failed) => Err(Status::WriteFault),
+    }
+}
+
+/// Plays a key that was read, and that nothing needs afterwards. One that fits nothing shows the
+/// line of that, which is made already.
+pub(crate) fn play_read<P: Pages, O: Sink>(
+    alloc: Global,
+    handset: &mut Handset,
+    key: Key,
+    ignored: &Lines,
+    pages: &mut P,
+    out: &mut O,
+) -> Result<(), Status>
+    requires going { handset.old.is_over ≡ false }
+    requires ignored { ignored.now ≡ refusal_line Ignored ∷ [] }
+    ensures { Plays key
+        (record { pages = P.seen pages.old; state = handset.old; sink = O.seen out.old })
+        (record { pages = P.seen pages.new; state = handset.new; sink = O.seen out.new })
+        result }
+{
+    if !handset.try_ignore(&key) {
+        return play(alloc, handset, &key, pages, out);
+    }
+    match write_all(out, ignored.as_written()) {
+        Ok(()) => Ok(()),
+        Err(Failed) => Err(Status::WriteFault),
+    }
+}

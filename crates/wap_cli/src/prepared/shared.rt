@@ -1,0 +1,59 @@
+//! Pages that a session shares with others.
+ghost use Rattle.std.specs.Prelude.{◌≡◌, [], ◌∷◌, IfOk, OnOk, IfErr, IsErrOf};
+ghost use Rattle.wap_site.specs.Pages.{page_of, AreSitePages};
+ghost use Rattle.wap_site.specs.Asking.{Stays, Asks, Fails};
+ghost use Rattle.wap_cli.specs.prepared.Prepared.{shared_seen};
+
+use crate::prepared::Prepared;
+use std::alloc::Global;
+use std::marker::Model;
+use wap_base::{RunErr, Text};
+use wap_site::{Page, Pages};
+
+/// Prepared pages, lent to a session. A contract sees the list of them.
+#[derive(Drop)]
+pub struct Shared<'a> {
+    prepared: &'a Prepared,
+}
+
+impl<'a> Model for Shared<'a> {
+    ghost use Rattle.wap_markup.specs.contracts.deck.Item as item;
+    ghost use Rattle.std.specs.Coded.{codes};
+    ghost use Rattle.wap_site.specs.Pages.{Pages as Site};
+
+    ghost Value = { Site };
+
+    ghost coded = { Prim.hlevel (codes, item.the_row.coded) };
+
+    ghost view = { λ shared. shared.prepared.now };
+}
+
+impl<'a> Shared<'a> {
+    /// These pages, lent.
+    pub(crate) fn new(prepared: &'a Prepared) -> Shared<'a>
+        ensures { result ≡ prepared.now }
+    {
+        Shared { prepared }
+    }
+}
+
+impl<'a> Pages for Shared<'a> {
+    ghost seen = { shared_seen };
+
+    fn page(&mut self, _alloc: Global, name: &Text, fresh: bool) -> Result<Page, RunErr>
+        ensures found { IfOk result (λ page. page ≡ page_of name.now self.old) }
+        ensures site { AreSitePages self.old }
+        ensures same { self.new ≡ self.old }
+        ensures never { IfErr result (λ fault. fault ≡ RunErr.NoMemory) }
+        ensures asks { OnOk result
+            (Asks ((name.now, fresh) ∷ []) (shared_seen self.old) (shared_seen self.new)) }
+        ensures failed { IsErrOf result RunErr.Store
+            → Fails ((name.now, fresh) ∷ []) (shared_seen self.old) (shared_seen self.new) }
+        ensures stays { Stays (shared_seen self.old) (shared_seen self.new) }
+    {
+        match self.prepared.page(name) {
+            Some(page) => Ok(page.share()?),
+            None => Ok(Page::Missing),
+        }
+    }
+}

@@ -1,5 +1,0 @@
-pub mod Finding
-pub mod Ending
-mod Counting
-mod Touring
-mod Words

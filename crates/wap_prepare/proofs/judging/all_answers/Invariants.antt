@@ -1,5 +1,0 @@
-use Rattle.std.proofs.Common.{◌≡◌, map, Ok}
-use Rattle.wap_prepare.proofs.judging.all_answers.Given as goal
-
-abbrev pub invariant-loop-answer : goal.invariant-loop-answer
-invariant-loop-answer g l = map Ok l.all.items ≡ l.yielded

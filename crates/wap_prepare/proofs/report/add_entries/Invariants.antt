@@ -1,9 +1,0 @@
-use Rattle.std.proofs.Common.{◌≡◌, ◌++◌, take}
-use Rattle.std.specs.List.{flat_map}
-use Rattle.wap_prepare.specs.Reports.{entry_line}
-use Rattle.wap_prepare.proofs.report.add_entries.Given as goal
-
--- the lines of the first entries were appended
-abbrev pub invariant-loop-entry : goal.invariant-loop-entry
-invariant-loop-entry l =
-    l.text.items ≡ l.fn.text.items ++ flat_map entry_line (take l.entry-index l.entries)

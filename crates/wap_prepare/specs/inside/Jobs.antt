@@ -1,9 +1,0 @@
--- What each page is judged that a store answered. This project's own.
-use Rattle.std.specs.Prelude.{◌≡◌}
-use Rattle.wap_prepare.specs.Reports.{Entry, IsVerdict}
-use Rattle.wap_prepare.specs.Fetching.{Job, page_of}
-
--- an entry is right for a job
-pub record IsRight (job : Job) (entry : Entry) : Type 0 where
-  pub name : entry.0 ≡ job.0
-  pub verdict : IsVerdict job.0 (page_of job.1) entry.1

@@ -1,8 +1,0 @@
-//! Judged pages that many sessions share.
-#![tactic(auto)]
-
-mod prepared;
-mod shared;
-
-pub use prepared::Prepared;
-pub use shared::Shared;

@@ -1,8 +1,0 @@
-use Rattle.std.proofs.Common.{rules, ◌∙◌}
-use Rattle.std.proofs.lemmas.Fn.{filter_same}
-use Rattle.wap_replay.proofs.preparing.present.Goals as goal
-
-pub returns : goal.returns
-returns c =
-    c.from_vec.ensures
-    ∙ filter_same _ _ _ (λ x b f' k. search rules) _ _ c.retain.ensures.filtered

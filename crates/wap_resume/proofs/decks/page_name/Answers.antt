@@ -1,7 +1,0 @@
-use Rattle.wap_resume.proofs.Naming.{named_by}
-use Rattle.wap_resume.proofs.decks.page_name.Goals as goal
-
-pub returns-in-Ok : goal.returns-in-Ok
-returns-in-Ok c =
-    named_by c.args.text.now c.in-Ok.url c.name_of.result c.in-Ok.ensures.exact
-    c.name_of.ensures.exact
