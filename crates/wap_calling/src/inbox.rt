@@ -1,14 +1,14 @@
 //! A browser with an inbox, which stands in place of a session: what a caller gets.
 ghost use Rattle.std.specs.Prelude.{◌≡◌, IfOk};
 ghost use Rattle.wap_context.specs.Sites.{IfOver};
-ghost use Rattle.wap_handset.specs.Feeding.{beginning, ShowsOn};
+ghost use Rattle.wap_session.specs.handset.Feeding.{beginning, ShowsOn};
 ghost use Rattle.wap_calling.specs.Calling.{begun};
 
 use crate::terminal::{BUDGET, SEED};
 use std::alloc::Global;
 use wap_base::Limits;
-use wap_handset::{Handset, Key, SessionFault};
 use wap_lines::Lines;
+use wap_session::handset::{Handset, Key, SessionFault};
 use wap_site::Pages;
 
 /// A browser in which nothing was done, and whose inbox is empty.

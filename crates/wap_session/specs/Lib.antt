@@ -1,3 +1,5 @@
 pub mod Feeding
 pub mod Ignoring
 pub mod inside
+pub mod notices
+pub mod handset

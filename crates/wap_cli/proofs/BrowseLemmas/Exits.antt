@@ -24,7 +24,7 @@ use Rattle.wap_scripting.specs.UnitSites.{unit_pages}
 use Rattle.wap_scripting.specs.Waiting.{Waits}
 use Rattle.wap_context.specs.Missing.{Missed}
 use Rattle.wap_session.specs.Feeding.{left_open}
-use Rattle.wap_handset.specs.Feeding.{State, step_of}
+use Rattle.wap_session.specs.handset.Feeding.{State, step_of}
 use Rattle.wap_cli.specs.declared.status.Status.{Status}
 use Rattle.wap_cli.specs.declared.status.Status.TheVariants.{Done, Usage, Refused, StoreFault}
 use Rattle.wap_cli.specs.declared.status.Status.TheVariants.{KeyReadFault, WriteFault, NoMemory}

@@ -9,8 +9,8 @@ use Rattle.wap_world.specs.Lines.{shown_line}
 use Rattle.wap_world.specs.Steps.{Step, joined}
 use Rattle.wap_scripting.specs.UnitSites.{Pages}
 use Rattle.wap_session.specs.Feeding.{left_open}
-use Rattle.wap_handset.specs.Feeding.{State, step_of}
-use Rattle.wap_handset.proofs.Playing.{step_none}
+use Rattle.wap_session.specs.handset.Feeding.{State, step_of}
+use Rattle.wap_session.proofs.HandsetLemmas.Playing.{step_none}
 use Rattle.wap_cli.specs.browse.Handling.{bytes_of}
 
 -- ---- bytes

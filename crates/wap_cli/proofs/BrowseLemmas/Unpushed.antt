@@ -20,10 +20,10 @@ use Rattle.wap_inbox.specs.Inbox.{HaveWinners}
 use Rattle.wap_inboxes.specs.Inboxes.{Handset, Stepped, react_with}
 use Rattle.wap_inboxes.proofs.Counting.{few_with}
 use Rattle.wap_inboxes.proofs.Winning.{exactly}
-use Rattle.wap_handset.specs.Holding.{Held}
-use Rattle.wap_handset.specs.Feeding.{State, held_with, stepped_of, step_of, Leads, Plays}
-use Rattle.wap_handset.specs.inside.Turns.{turned_by}
-use Rattle.wap_handset.proofs.Holding.{alone_with}
+use Rattle.wap_session.specs.handset.Holding.{Held}
+use Rattle.wap_session.specs.handset.Feeding.{State, held_with, stepped_of, step_of, Leads, Plays}
+use Rattle.wap_session.specs.handset.inside.Turns.{turned_by}
+use Rattle.wap_session.proofs.HandsetLemmas.Holding.{alone_with}
 use Rattle.wap_cli.specs.browse.Plays.{IsNoPush}
 use Rattle.wap_cli.specs.browse.inside.Played as played
 use Rattle.wap_cli.specs.browse.inside.Played.{Moment, GoesOn, FailsAtSink}

@@ -14,7 +14,7 @@ use Rattle.wap_world.specs.Steps.{Step}
 use Rattle.wap_world.specs.Sessions.{Begun, shown_by}
 use Rattle.wap_scripting.specs.UnitSites.{unit_pages}
 use Rattle.wap_context.specs.Sites.{site_of, IfOver}
-use Rattle.wap_handset.specs.Feeding.{State, beginning, Leads, ShowsOn}
+use Rattle.wap_session.specs.handset.Feeding.{State, beginning, Leads, ShowsOn}
 use Rattle.wap_cli.specs.replay.Texts.{alone}
 
 module _ (pages : Pages) (begun : Begun) (keys : List Key) (first last : State)

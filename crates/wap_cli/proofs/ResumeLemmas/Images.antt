@@ -20,8 +20,8 @@ use Rattle.wap_state.specs.Saved.{parts_of}
 use Rattle.wap_push.specs.declared.indication.Indication.{Indication}
 use Rattle.wap_push.specs.Pushes.{push_at}
 use Rattle.wap_inboxes.specs.Sessions.{played_with}
-use Rattle.wap_handset.specs.Holding.{played_with_from}
-use Rattle.wap_handset.specs.Feeding.{State, session_of, step_of}
+use Rattle.wap_session.specs.handset.Holding.{played_with_from}
+use Rattle.wap_session.specs.handset.Feeding.{State, session_of, step_of}
 use Rattle.wap_session.specs.Feeding.{State as Session, context_at_rest}
 use Rattle.wap_context.specs.Browsers.{Browser}
 use Rattle.wap_cli.specs.saving.Saving.{image_of}

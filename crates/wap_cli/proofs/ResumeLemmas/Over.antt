@@ -21,7 +21,7 @@ use Rattle.wap_context.specs.declared.saved.Revived.{Revived}
 use Rattle.wap_context.specs.declared.saved.Revived.TheVariants as what
 use Rattle.wap_context.specs.Saved.{asked_for, Revives}
 use Rattle.wap_session.specs.Feeding.{going_on}
-use Rattle.wap_handset.specs.Feeding.{State, with_session}
+use Rattle.wap_session.specs.handset.Feeding.{State, with_session}
 use Rattle.wap_cli.specs.declared.status.Status.{Status}
 use Rattle.wap_cli.specs.declared.status.Status.TheVariants.{Refused, NoMemory}
 use Rattle.wap_cli.specs.browse.Outside.{Outside}

@@ -36,7 +36,7 @@ use Rattle.wap_state.specs.Saved.{saved_world}
 use Rattle.wap_context.specs.Saved.{with_last_in, revived_on, asked_for}
 use Rattle.wap_context.specs.Saved.{IsRevived}
 use Rattle.wap_session.specs.Feeding.{going_on, left_open}
-use Rattle.wap_handset.specs.Feeding.{State, with_session, step_of}
+use Rattle.wap_session.specs.handset.Feeding.{State, with_session, step_of}
 use Rattle.wap_cli.specs.browse.Handling.{bytes_of}
 use Rattle.wap_cli.specs.browse.Standing.{Moved, Stands, Browsed}
 use Rattle.wap_cli.proofs.BrowseLemmas.Optional.{if_some, some_fact}

@@ -5,7 +5,7 @@ use Rattle.wap_keys.specs.Lines.{keys_of}
 use Rattle.wap_world.specs.Steps.{Step, joined}
 use Rattle.wap_scripting.specs.UnitSites.{Pages, shelf_of, unit_pages}
 use Rattle.wap_context.specs.Browsers.{IsOver}
-use Rattle.wap_handset.specs.Feeding.{State, step_of}
+use Rattle.wap_session.specs.handset.Feeding.{State, step_of}
 use Rattle.wap_cli.specs.browse.Outside.{Outside}
 use Rattle.wap_cli.specs.browse.Plays.{Play, HaveNoPush}
 

@@ -12,7 +12,7 @@ use crate::browse::playing::play;
 use crate::browse::reading::play_keys;
 use std::alloc::Global;
 use wap_devices::{Sink, Source};
-use wap_handset::{Handset, Key};
+use wap_session::handset::{Handset, Key};
 use wap_site::Pages;
 
 /// Opens the URL, and then plays key after key: in a dialog they answer it. The lines of each are

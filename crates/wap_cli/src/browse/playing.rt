@@ -7,8 +7,8 @@ ghost use Rattle.wap_cli.specs.browse.inside.Played.{Plays};
 use crate::Status;
 use std::alloc::Global;
 use wap_devices::{Failed, Sink, write_all};
-use wap_handset::{Handset, Key, SessionFault};
 use wap_lines::Lines;
+use wap_session::handset::{Handset, Key, SessionFault};
 use wap_site::Pages;
 
 /// Plays a key, and writes the lines that it shows; or answers how the session ends.

@@ -11,8 +11,8 @@ use crate::browse::playing::play_read;
 use std::alloc::Global;
 use wap_base::NoMemory;
 use wap_devices::{Sink, Source};
-use wap_handset::{Handset, refusal_lines};
 use wap_keys::{Next, Reader};
+use wap_session::handset::{Handset, refusal_lines};
 use wap_site::Pages;
 use wap_world::Refusal;
 

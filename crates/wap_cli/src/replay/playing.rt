@@ -21,8 +21,8 @@ use std::thread::Threads;
 use wap_base::{NoMemory, Rows, Text};
 use wap_devices::Gate;
 use wap_folder::{Work, run_jobs};
-use wap_handset::{Handset, Key, SessionFault};
 use wap_lines::Lines;
+use wap_session::handset::{Handset, Key, SessionFault};
 
 /// Appends the line before a list's transcript: the number of the list, and how its session ended.
 fn add_header(text: &mut Vec<u8>, number: usize, is_open: bool) -> Result<(), NoMemory>

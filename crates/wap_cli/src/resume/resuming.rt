@@ -14,9 +14,9 @@ use std::alloc::Global;
 use wap_base::{NoMemory, RunErr, Text};
 use wap_context::{Context, ContextParts, Revived};
 use wap_devices::{Sink, Source, Store};
-use wap_handset::Handset;
 use wap_pages::{Cached, PageFault};
 use wap_session::Session;
+use wap_session::handset::Handset;
 
 /// Goes on with what was saved, over the pages of a store, and gives the store back.
 fn go_on<S: Store, I: Source, O: Sink>(

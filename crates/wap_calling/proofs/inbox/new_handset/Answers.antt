@@ -1,6 +1,6 @@
 use Rattle.std.proofs.Common.{[], ap, ◌∙◌}
 use Rattle.wap_base.specs.declared.limits.Limits.{Limits}
-use Rattle.wap_handset.specs.Feeding.{beginning}
+use Rattle.wap_session.specs.handset.Feeding.{beginning}
 use Rattle.wap_calling.specs.declared.terminal.TheConstants.{SEED, BUDGET}
 use Rattle.wap_calling.proofs.inbox.new_handset.Goals as goal
 

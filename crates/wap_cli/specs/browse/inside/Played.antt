@@ -12,7 +12,7 @@ use Rattle.wap_scripting.specs.UnitSites.{Pages, shelf_of}
 use Rattle.wap_context.specs.Browsers.{IsOver}
 use Rattle.wap_context.specs.Missing.{Missed}
 use Rattle.wap_context.specs.Sites.{IfOver}
-use Rattle.wap_handset.specs.Feeding.{State, step_of, PlaysOn}
+use Rattle.wap_session.specs.handset.Feeding.{State, step_of, PlaysOn}
 use Rattle.wap_cli.specs.browse.Plays.{IsNoPush}
 use Rattle.wap_cli.specs.declared.status.Status.{Status}
 use Rattle.wap_cli.specs.declared.status.Status.TheVariants.{Done, Usage, Refused, StoreFault}

@@ -1,6 +1,6 @@
 -- A key that fits nothing, and its line, which was written or not: lemmas of Unpushed.
 use Rattle.std.proofs.Common.{rules, ◌∷◌, [], List, ℕ, Ok, refl, sym, subst}
-use Rattle.wap_handset.specs.Feeding.{Plays}
+use Rattle.wap_session.specs.handset.Feeding.{Plays}
 use Rattle.wap_cli.specs.browse.inside.Played.{Moment}
 use Rattle.wap_cli.proofs.BrowseLemmas.Unpushed.{goes_on, stops_there}
 use Rattle.wap_cli.proofs.browse.playing.play_read.Goals as goal

@@ -3,7 +3,7 @@ use Rattle.wap_site.specs.Pages.{Pages}
 use Rattle.wap_world.specs.Sessions.{shown_by}
 use Rattle.wap_scripting.specs.UnitSites.{unit_pages}
 use Rattle.wap_context.specs.Sites.{site_of}
-use Rattle.wap_handset.specs.Feeding.{State}
+use Rattle.wap_session.specs.handset.Feeding.{State}
 use Rattle.wap_cli.specs.browse.Beginning.{begun_with}
 use Rattle.wap_cli.specs.replay.Texts.{alone}
 use Rattle.wap_cli.proofs.ReplayLemmas.Transcripts.{played_alone}

@@ -1,6 +1,6 @@
 use Rattle.std.proofs.Common.{rules, ap, ◌∙◌}
 use Rattle.wap_session.specs.Feeding.{State}
-use Rattle.wap_handset.specs.Feeding.{with_session}
+use Rattle.wap_session.specs.handset.Feeding.{with_session}
 use Rattle.wap_cli.proofs.ResumeLemmas.Over.{lost_over, missing_over, refused_over, context_over}
 use Rattle.wap_cli.proofs.resume.resuming.go_on.Goals as goal
 

@@ -1,0 +1,315 @@
+-- Each key in a handset: played by its session, or by its inbox.
+use Rattle.std.proofs.Common.{◌≡◌, ℕ, List, [], ◌∷◌, Bool, true, false, Option, Some, None}
+use Rattle.std.proofs.Common.{Result, Ok, Err, map, refl, sym, ap, subst, ◌∙◌}
+use Rattle.std.specs.Prelude.{is_some, is_err, OnOk}
+use Rattle.std.specs.Option.{option_map, option_and_then}
+use Rattle.wap_input.specs.declared.key.Key.{Key}
+use Rattle.wap_input.specs.declared.key.Key.TheVariants as key
+use Rattle.wap_push.specs.declared.indication.Indication.{Indication}
+use Rattle.wap_push.specs.declared.fault.PushFault.{PushFault}
+use Rattle.wap_push.specs.Pushes.{push_at}
+use Rattle.wap_site.specs.Asking.{Seen}
+use Rattle.wap_world.specs.Lines.{shown_line}
+use Rattle.wap_world.specs.Steps.{quiet}
+use Rattle.wap_world.specs.Keys.{renewed, ignored, react}
+use Rattle.wap_scripting.specs.UnitSites.{Pages}
+use Rattle.wap_scripting.specs.Waiting.{Waits}
+use Rattle.wap_scripting.specs.Feeding.{turned}
+use Rattle.wap_context.specs.Missing.{Missed}
+use Rattle.wap_context.specs.Sites.{fragment_call, site_of, IfOver}
+use Rattle.wap_session.specs.declared.fault.SessionFault.{SessionFault}
+use Rattle.wap_session.specs.Feeding as session
+use Rattle.wap_session.specs.Feeding.{TurnsTo}
+use Rattle.wap_inbox.specs.Inbox.{inbox_of, entry_at, HaveWinners}
+use Rattle.wap_inboxes.specs.Winners.{winners_of}
+use Rattle.wap_inboxes.specs.Notices.{entry_lines}
+use Rattle.wap_inboxes.specs.Inboxes.{telling, take_push, url_at, is_of_inbox}
+use Rattle.wap_inboxes.specs.Inboxes.{react_with}
+use Rattle.wap_inboxes.proofs.Winning.{calculated, exactly}
+use Rattle.wap_inboxes.proofs.Reacting.{reacts_alike, entry_opened, entry_ignored}
+use Rattle.wap_session.specs.notices.Taking.{push_lines, pushes_with, url_in}
+use Rattle.wap_session.specs.handset.Holding.{Held}
+use Rattle.wap_session.specs.handset.Feeding.{held_with, step_of, Plays}
+use Rattle.wap_session.specs.handset.inside.Turns.{state_of, turned_by, turned_with}
+use Rattle.wap_session.specs.handset.inside.Turns.{followed_url, inbox_lines, pushes_after}
+use Rattle.wap_session.proofs.HandsetLemmas.Turning.{asked_by, played_as, played_fails}
+use Rattle.wap_session.proofs.HandsetLemmas.Turning.{shown_asked, played_by_inbox}
+
+-- a key in a handset comes with any keys after it to what a key of the session comes to
+abbrev pub IsPlayedAs : Key → Key → session.State → List Indication → Type 0
+IsPlayedAs one other sold winners = (pages : Pages) (keys : List Key)
+    → turned_with pages (held_with winners (state_of sold winners false)) one keys
+    ≡ record {
+      step = turned fragment_call pages sold.waiting sold.browser.world other keys;
+      pushes = winners;
+    }
+
+module _ (sold : session.State) (winners : List Indication)
+    (own : HaveWinners winners winners) where
+  -- winners are the winners of themselves
+  own_is : winners ≡ winners_of winners
+  own_is = (exactly winners winners).0 own
+
+  -- so their entries are those of the pushes
+  url_is : (n : ℕ) → url_at winners n ≡ url_in winners n
+  url_is n =
+      ap (λ (all : List Indication). option_and_then (λ entry. entry.href)
+      (entry_at (inbox_of all) n)) (sym own_is)
+
+  abbrev held : Held
+  held = held_with winners (state_of sold winners false)
+
+  -- ---- a key that is played as one of the session
+
+  module _ (one other : Key) (same : IsPlayedAs one other sold winners) (before after : Seen)
+    where
+      -- by what the session gave
+      pub plays_as : (snew : session.State) (result : Result (List (List ℕ)) SessionFault)
+          → sold.is_over ≡ false → session.Plays (other ∷ []) before after sold snew result
+          → OnOk result
+          (IfOver before.contents sold.browser (λ pages. TurnsTo other pages sold snew))
+          → Plays (one ∷ []) before after (state_of sold winners false)
+          (state_of snew winners (is_err result)) result
+      plays_as snew (Ok lines) going so turns =
+          played_as one other before after sold snew winners winners own same lines so turns
+      plays_as snew (Err fault) going so turns =
+          played_fails one other before after sold snew winners winners fault going so
+
+      -- it asks for the same
+      pub misses_as : IfOver before.contents sold.browser (λ pages.
+          Missed (session.step_of pages (other ∷ []) sold).asked before after)
+          → IfOver before.contents sold.browser (λ pages.
+          Missed (step_of pages (one ∷ []) (state_of sold winners false)).asked before after)
+      misses_as =
+          asked_by one other before after sold sold winners winners own same
+          (λ asked. Missed asked before after) before.contents
+
+  -- ---- in a dialog
+
+  in_dialog_by : (one : Key) (pages : Pages) (keys : List Key) (o : Option Waits)
+      → is_some o ≡ true
+      → turned_by pages o one keys held
+      ≡ record {
+        step = turned fragment_call pages o sold.browser.world one keys;
+        pushes = winners;
+      }
+  in_dialog_by one pages keys None waits = absurd cc
+  in_dialog_by one pages keys (Some script) waits = refl
+
+  -- each key is the session's
+  pub in_dialog : (one : Key) → is_some sold.waiting ≡ true → IsPlayedAs one one sold winners
+  in_dialog one waits pages keys = in_dialog_by one pages keys sold.waiting waits
+
+  -- ---- outside a dialog
+
+  module _ (rests : sold.waiting ≡ None) where
+    -- a key by what both do outside a dialog
+    at_rest : (one other : Key)
+        → ((pages : Pages) (keys : List Key) → react_with push_at (site_of pages) one keys
+        (record { world = sold.browser.world; pushes = winners })
+        ≡ record {
+          step = react (site_of pages) other keys sold.browser.world;
+          pushes = winners;
+        })
+        → IsPlayedAs one other sold winners
+    at_rest one other same pages keys =
+        ap (λ (o : Option Waits). turned_by pages o one keys held) rests
+        ∙ same pages keys
+        ∙ ap (λ (o : Option Waits). record {
+          step = turned fragment_call pages o sold.browser.world other keys;
+          pushes = winners;
+        }) (sym rests)
+
+    -- one that is none of the inbox
+    pub other_key : (one : Key) → is_of_inbox one ≡ false → IsPlayedAs one one sold winners
+    other_key one is =
+        at_rest one one (λ pages keys. reacts_alike push_at (site_of pages) one keys
+        (record { world = sold.browser.world; pushes = winners }) is)
+
+    -- one that follows an entry
+    pub opened_key : (one : Key) (url : List ℕ) → Some url ≡ followed_url winners one
+        → IsPlayedAs one (key.Open url) sold winners
+    opened_key (key.Follow n) url is =
+        at_rest (key.Follow n) (key.Open url) (λ pages keys. entry_opened push_at (site_of pages)
+        keys (record { world = sold.browser.world; pushes = winners }) n url (url_is n ∙ sym is))
+    opened_key (key.Open other) url is = absurd cc
+    opened_key (key.Do name) url is = absurd cc
+    opened_key (key.Pick n) url is = absurd cc
+    opened_key (key.Enter n text) url is = absurd cc
+    opened_key (key.Choose n m) url is = absurd cc
+    opened_key key.Back url is = absurd cc
+    opened_key (key.Tick n) url is = absurd cc
+    opened_key key.Ok url is = absurd cc
+    opened_key key.Cancel url is = absurd cc
+    opened_key (key.Answer text) url is = absurd cc
+    opened_key key.Stop url is = absurd cc
+    opened_key key.Vars url is = absurd cc
+    opened_key (key.Push bytes) url is = absurd cc
+    opened_key key.Inbox url is = absurd cc
+
+    -- one that follows none
+    none_followed : (n : ℕ) → None ≡ url_in winners n
+        → IsPlayedAs (key.Follow n) (key.Follow n) sold winners
+    unfolding react
+    none_followed n is =
+        at_rest (key.Follow n) (key.Follow n) (λ pages keys. entry_ignored push_at (site_of pages)
+        keys (record { world = sold.browser.world; pushes = winners }) n (url_is n ∙ sym is))
+
+    -- what is pushed
+    pushed_so : (found : Result Indication PushFault) (keys : List Key)
+        → take_push keys (record { world = sold.browser.world; pushes = winners }) found
+        ≡ record {
+          step = telling keys (renewed sold.browser.world) (push_lines winners found);
+          pushes = pushes_with winners found;
+        }
+    pushed_so (Ok pushed) keys = refl
+    pushed_so (Err why) keys = refl
+
+    -- the entries
+    entries_told : (pages : Pages) (keys : List Key)
+        → react_with push_at (site_of pages) key.Inbox keys
+        (record { world = sold.browser.world; pushes = winners })
+        ≡ record {
+          step = telling keys (renewed sold.browser.world) (entry_lines 1 (inbox_of winners));
+          pushes = winners;
+        }
+    entries_told pages keys =
+        ap (λ (all : List Indication). record {
+          step = telling keys (renewed sold.browser.world) (entry_lines 1 (inbox_of all));
+          pushes = winners;
+        }) (sym own_is)
+
+    -- keys that a session ignores
+    pub push_ignored : (bytes : List ℕ) (pages : Pages)
+        → react (site_of pages) (key.Push bytes) [] sold.browser.world
+        ≡ quiet [] (ignored (renewed sold.browser.world))
+    unfolding react
+    push_ignored bytes pages = refl
+
+    pub inbox_ignored : (pages : Pages) → react (site_of pages) key.Inbox [] sold.browser.world
+        ≡ quiet [] (ignored (renewed sold.browser.world))
+    unfolding react
+    inbox_ignored pages = refl
+
+    -- ---- a key that follows no entry: its lines, and the winners after it
+
+    module _ (before after : Seen) (snew : session.State) (winners' : List Indication)
+        (lines : List (List ℕ)) where
+      -- what it showed is shown, or what the session showed
+      abbrev shown_of : Option (List (List ℕ)) → List (List ℕ)
+      shown_of None = lines
+      shown_of (Some shown) = shown
+
+      abbrev PlaysKey : Key → Type 0
+      PlaysKey one = Plays (one ∷ []) before after (state_of sold winners false)
+          (state_of snew winners' false)
+          (Ok (shown_of (option_map (map shown_line) (inbox_lines winners one))))
+
+      plays_other : (one : Key) → is_of_inbox one ≡ false → HaveWinners winners winners'
+          → session.Plays (one ∷ []) before after sold snew (Ok lines)
+          → IfOver before.contents sold.browser (λ pages. TurnsTo one pages sold snew)
+          → Plays (one ∷ []) before after (state_of sold winners false)
+          (state_of snew winners' false) (Ok lines)
+      plays_other one other have so turns =
+          played_as one one before after sold snew winners winners' have (other_key one other)
+          lines so turns
+
+      plays_key : (one : Key) → None ≡ followed_url winners one
+          → HaveWinners (pushes_after winners one) winners'
+          → session.Plays (one ∷ []) before after sold snew (Ok lines)
+          → IfOver before.contents sold.browser (λ pages. TurnsTo one pages sold snew)
+          → PlaysKey one
+      plays_key (key.Push bytes) is have so turns =
+          played_by_inbox (key.Push bytes) before after sold snew winners
+          (pushes_with winners (push_at bytes)) winners' (push_lines winners (push_at bytes)) have
+          rests (push_ignored bytes) (λ pages keys. pushed_so (push_at bytes) keys) lines so
+      plays_key key.Inbox is have so turns =
+          played_by_inbox key.Inbox before after sold snew winners winners winners'
+          (entry_lines 1 (inbox_of winners)) have rests inbox_ignored entries_told lines so
+      plays_key (key.Follow n) is have so turns =
+          played_as (key.Follow n) (key.Follow n) before after sold snew winners winners' have
+          (none_followed n is) lines so turns
+      plays_key (key.Open url) is have so turns = plays_other (key.Open url) refl have so turns
+      plays_key (key.Do name) is have so turns = plays_other (key.Do name) refl have so turns
+      plays_key (key.Pick n) is have so turns = plays_other (key.Pick n) refl have so turns
+      plays_key (key.Enter n text) is have so turns =
+          plays_other (key.Enter n text) refl have so turns
+      plays_key (key.Choose n m) is have so turns =
+          plays_other (key.Choose n m) refl have so turns
+      plays_key key.Back is have so turns = plays_other key.Back refl have so turns
+      plays_key (key.Tick n) is have so turns = plays_other (key.Tick n) refl have so turns
+      plays_key key.Ok is have so turns = plays_other key.Ok refl have so turns
+      plays_key key.Cancel is have so turns = plays_other key.Cancel refl have so turns
+      plays_key (key.Answer text) is have so turns =
+          plays_other (key.Answer text) refl have so turns
+      plays_key key.Stop is have so turns = plays_other key.Stop refl have so turns
+      plays_key key.Vars is have so turns = plays_other key.Vars refl have so turns
+
+      -- by what the inbox shows in place of the session, if it does
+      pub plays_inbox : (one : Key) → None ≡ followed_url winners one
+          → HaveWinners (pushes_after winners one) winners'
+          → session.Plays (one ∷ []) before after sold snew (Ok lines)
+          → IfOver before.contents sold.browser (λ pages. TurnsTo one pages sold snew)
+          → (found : Option (List (List ℕ)))
+          → found ≡ option_map (map shown_line) (inbox_lines winners one)
+          → Plays (one ∷ []) before after (state_of sold winners false)
+          (state_of snew winners' false) (Ok (shown_of found))
+      plays_inbox one is have so turns found same =
+          subst (λ (o : Option (List (List ℕ))).
+          Plays (one ∷ []) before after (state_of sold winners false)
+          (state_of snew winners' false) (Ok (shown_of o))) (sym same)
+          (plays_key one is have so turns)
+
+    -- ---- what it asks for
+
+    module _ (before after : Seen) where
+      abbrev MissesKey : Key → Type 0
+      MissesKey one = IfOver before.contents sold.browser (λ pages.
+          Missed (session.step_of pages (one ∷ []) sold).asked before after)
+          → IfOver before.contents sold.browser (λ pages.
+          Missed (step_of pages (one ∷ []) (state_of sold winners false)).asked before after)
+
+      misses_other : (one : Key) → is_of_inbox one ≡ false → MissesKey one
+      misses_other one other = misses_as one one (other_key one other) before after
+
+      pub misses_key : (one : Key) → None ≡ followed_url winners one → MissesKey one
+      misses_key (key.Push bytes) is =
+          shown_asked (key.Push bytes) before after sold sold winners
+          (pushes_with winners (push_at bytes))
+          (winners_of (pushes_with winners (push_at bytes))) (push_lines winners (push_at bytes))
+          (calculated (pushes_with winners (push_at bytes))) rests
+          (push_ignored bytes) (λ pages keys. pushed_so (push_at bytes) keys)
+          (λ asked. Missed asked before after) before.contents
+      misses_key key.Inbox is =
+          shown_asked key.Inbox before after sold sold winners winners winners
+          (entry_lines 1 (inbox_of winners)) own rests inbox_ignored entries_told
+          (λ asked. Missed asked before after) before.contents
+      misses_key (key.Follow n) is =
+          misses_as (key.Follow n) (key.Follow n) (none_followed n is) before after
+      misses_key (key.Open url) is = misses_other (key.Open url) refl
+      misses_key (key.Do name) is = misses_other (key.Do name) refl
+      misses_key (key.Pick n) is = misses_other (key.Pick n) refl
+      misses_key (key.Enter n text) is = misses_other (key.Enter n text) refl
+      misses_key (key.Choose n m) is = misses_other (key.Choose n m) refl
+      misses_key key.Back is = misses_other key.Back refl
+      misses_key (key.Tick n) is = misses_other (key.Tick n) refl
+      misses_key key.Ok is = misses_other key.Ok refl
+      misses_key key.Cancel is = misses_other key.Cancel refl
+      misses_key (key.Answer text) is = misses_other (key.Answer text) refl
+      misses_key key.Stop is = misses_other key.Stop refl
+      misses_key key.Vars is = misses_other key.Vars refl
+
+-- ---- a key that the session ignores
+
+pub ignores_key : (sold snew : session.State) (winners : List Indication)
+    (own : HaveWinners winners winners) (one : Key) (seen : Seen) (lines : List (List ℕ))
+    (over : Bool) → is_of_inbox one ≡ false → sold.waiting ≡ None → over ≡ false
+    → session.Plays (one ∷ []) seen seen sold snew (Ok lines)
+    → IfOver seen.contents sold.browser (λ pages. TurnsTo one pages sold snew)
+    → Plays (one ∷ []) seen seen (state_of sold winners over) (state_of snew winners over)
+    (Ok lines)
+ignores_key sold snew winners own one seen lines over other rests going so turns =
+    subst (λ (b : Bool). Plays (one ∷ []) seen seen (state_of sold winners b)
+    (state_of snew winners b) (Ok lines)) (sym going)
+    (played_as one one seen seen sold snew winners winners own
+    (other_key sold winners own rests one other) lines so turns)

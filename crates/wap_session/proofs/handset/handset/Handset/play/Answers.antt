@@ -1,0 +1,87 @@
+use Rattle.std.proofs.Common.{ap, sym, subst, ◌∙◌, ◌+◌, drop, take, List, Ok, Err}
+use Rattle.std.proofs.lemmas.Result.{err_from_is_err_and}
+use Rattle.std.proofs.lemmas.List.{take_all}
+use Rattle.wap_input.specs.declared.key.Key.{Key}
+use Rattle.wap_context.specs.Sites.{IfOver}
+use Rattle.wap_session.specs.handset.Feeding.{Plays, MissedAt}
+use Rattle.wap_session.proofs.HandsetLemmas.Playing.{shows_on}
+use Rattle.wap_session.proofs.HandsetLemmas.Playing.{plays_none, plays_more, plays_failing}
+use Rattle.wap_session.proofs.HandsetLemmas.Playing.{missed_failing}
+use Rattle.wap_session.proofs.HandsetLemmas.Playing.{plays_wanting, around, one_more}
+use Rattle.wap_session.proofs.handset.handset.Handset.play.Goals as goal
+
+pub loop-key-init : goal.loop-key-init
+loop-key-init g c =
+    rw c.new-lines.ensures (plays_none (g.P.Pages.seen c.args.pages.now) c.args.self.now
+    (sym c.is_over.ensures.over ∙ c.if-is_over.false) c.is_over.ensures.own)
+
+pub returns-in_err-more-clause-plays : goal.returns-in_err-more-clause-plays
+returns-in_err-more-clause-plays g c =
+    let keys = c.args.keys.now in
+    let fault = c.in_err-more.field-0.0 in
+    let p = err_from_is_err_and c.from_residual.result c.from_residual.ensures.1 in
+    rw (p.1, p.2)
+    (plays_failing keys (take c.loop-key.key-index keys) c.key-item.result
+    (g.P.Pages.seen c.args.pages.now) (g.P.Pages.seen c.loop-key.pages)
+    (g.P.Pages.seen c.feed.new.pages) c.args.self.now
+    c.loop-key.self c.feed.new.self c.loop-key.lines fault
+    c.loop-key.invariant c.in_err-more.ensures.plays)
+
+pub returns-in_err-more-clause-missed : goal.returns-in_err-more-clause-missed
+returns-in_err-more-clause-missed g c is =
+    let keys = c.args.keys.now in
+    let i = c.loop-key.key-index in
+    let one = c.key-item.result in
+    let old = c.args.self.now in
+    let before = g.P.Pages.seen c.args.pages.now in
+    let mid = g.P.Pages.seen c.loop-key.pages in
+    let after = g.P.Pages.seen c.feed.new.pages in
+    let p = err_from_is_err_and c.from_residual.result c.from_residual.ensures.1 in
+    subst (λ (all : List Key). IfOver before.contents old.browser
+    (λ pages. MissedAt all pages old before after))
+    (around keys i one c.loop-key-test.true c.key-item.is)
+    (missed_failing (take i keys) (drop (i + 1) keys) one before mid after old c.loop-key.self
+    c.loop-key.lines c.in_err-more.ensures.plays.stays c.loop-key.invariant
+    (c.in_err-more.ensures.missed (sym (p.1 ∙ ap Err p.2) ∙ is)))
+
+pub returns-in_err-keep_lines-clause-plays : goal.returns-in_err-keep_lines-clause-plays
+returns-in_err-keep_lines-clause-plays g c =
+    let keys = c.args.keys.now in
+    let i = c.loop-key.key-index in
+    let p = err_from_is_err_and c.from_residual-in_err-keep_lines.result
+    c.from_residual-in_err-keep_lines.ensures.1 in
+    rw (p.1, p.2, c.in_err-keep_lines.ensures.wanting)
+    (plays_wanting keys (take i keys) c.key-item.result
+    (g.P.Pages.seen c.args.pages.now) (g.P.Pages.seen c.loop-key.pages)
+    (g.P.Pages.seen c.feed.new.pages)
+    c.args.self.now c.loop-key.self c.feed.new.self c.keep_lines.new.self c.loop-key.lines
+    c.in_ok-more.more
+    c.loop-key.invariant c.in_ok-more.ensures.plays c.in_err-keep_lines.ensures.over)
+
+pub loop-key-preserved : goal.loop-key-preserved
+loop-key-preserved g c =
+    let keys = c.args.keys.now in
+    let i = c.loop-key.key-index in
+    let one = c.key-item.result in
+    let on = one_more keys i one c.loop-key-test.true c.key-item.is in
+    rw (on, c.in_ok-keep_lines.ensures.kept, c.in_ok-keep_lines.ensures.same)
+    (plays_more (take i keys) one
+    (g.P.Pages.seen c.args.pages.now) (g.P.Pages.seen c.loop-key.pages)
+    (g.P.Pages.seen c.feed.new.pages)
+    c.args.self.now c.loop-key.self c.feed.new.self c.loop-key.lines c.in_ok-more.more
+    c.loop-key.invariant c.in_ok-more.ensures.plays)
+
+pub returns-clause-plays : goal.returns-clause-plays
+returns-clause-plays g c =
+    subst (λ (all : List Key). Plays all (g.P.Pages.seen c.args.pages.now)
+    (g.P.Pages.seen c.loop-key.pages) c.args.self.now c.loop-key.self (Ok c.loop-key.lines))
+    (take_all c.loop-key.key-index c.args.keys.now c.loop-key-test.false) c.loop-key.invariant
+
+pub returns-clause-shown : goal.returns-clause-shown
+returns-clause-shown g c =
+    let before = g.P.Pages.seen c.args.pages.now in
+    let played = subst (λ (all : List Key). Plays all before
+    (g.P.Pages.seen c.loop-key.pages) c.args.self.now c.loop-key.self (Ok c.loop-key.lines))
+    (take_all c.loop-key.key-index c.args.keys.now c.loop-key-test.false) c.loop-key.invariant in
+    shows_on c.args.keys.now c.args.self.now c.loop-key.self c.loop-key.lines before.contents
+    played.leads
