@@ -11,8 +11,8 @@ use Rattle.wap_world.specs.Sites.{Call}
 use Rattle.wap_scripting.specs.UnitSites.{unit_pages, units_site}
 use Rattle.wap_context.specs.Sites.{fragment_call}
 use Rattle.wap_pages.specs.Judged.{judged}
-use Rattle.wap_source_pages.specs.SourcePages.{ArePages}
-use Rattle.wap_source_pages.proofs.Judging.{site_judged}
+use Rattle.wap_site_laws.specs.pages.SourcePages.{ArePages}
+use Rattle.wap_site_laws.proofs.PagesLemmas.Judging.{site_judged}
 use Rattle.wap_cli.specs.Calls.{as_call, ReadsCalls}
 use Rattle.wap_cli.specs.Browsing.{PagesAndCalls, site_over}
 

@@ -18,8 +18,8 @@ use Rattle.wap_inboxes.specs.Inboxes.{Stepped}
 use Rattle.wap_inboxes.specs.Sessions.{session_with}
 use Rattle.wap_scripting.specs.UnitSites.{Pages, unit_pages}
 use Rattle.wap_context.specs.Sites.{site_of as units_over}
-use Rattle.wap_exchange_laws.proofs.Inboxes.{denied_sources_with}
-use Rattle.wap_source_sites.specs.Programs.{programs}
+use Rattle.wap_site_laws.proofs.ExchangeLemmas.Inboxes.{denied_sources_with}
+use Rattle.wap_site_laws.specs.programs.Programs.{programs}
 use Rattle.wap_pages.specs.Judged.{judged}
 use Rattle.wap_pages.specs.Caches.{CachedPages, cache_of, seen_over}
 use Rattle.wap_cli.specs.declared.status.Status.{Status}

@@ -14,9 +14,9 @@ use Rattle.wap_world.specs.Sessions.{Begun}
 use Rattle.wap_push.specs.Pushes.{push_at}
 use Rattle.wap_inboxes.specs.Sessions.{session_with}
 use Rattle.wap_scripting.specs.Sources.{AllPages, Agrees, site_of, compiled_pages}
-use Rattle.wap_exchange_laws.specs.Denial.{is_entered, DifferWithin}
-use Rattle.wap_source_sites.specs.Programs.{Accepted, programs}
-use Rattle.wap_source_pages.specs.SourcePages.{ArePages}
+use Rattle.wap_site_laws.specs.exchange.Denial.{is_entered, DifferWithin}
+use Rattle.wap_site_laws.specs.programs.Programs.{Accepted, programs}
+use Rattle.wap_site_laws.specs.pages.SourcePages.{ArePages}
 use Rattle.wap_cli.specs.declared.status.Status.{Status}
 use Rattle.wap_cli.specs.browse.Endings.{at_end}
 use Rattle.wap_cli.specs.browse.Handling.{bytes_of}

@@ -9,10 +9,10 @@ use Rattle.wap_world.specs.Sites.{Site}
 use Rattle.wap_world.specs.Sessions.{Begun}
 use Rattle.wap_scripting.specs.Sources.{AllPages, site_of}
 use Rattle.wap_scripting.specs.UnitSites.{unit_pages, units_site}
-use Rattle.wap_unasked_laws.specs.Unasked.{is_asked}
-use Rattle.wap_source_sites.specs.Programs.{Accepted, programs}
-use Rattle.wap_source_pages.specs.SourcePages.{ArePages}
-use Rattle.wap_source_pages.proofs.Judging.{site_judged}
+use Rattle.wap_site_laws.specs.unasked.Unasked.{is_asked}
+use Rattle.wap_site_laws.specs.programs.Programs.{Accepted, programs}
+use Rattle.wap_site_laws.specs.pages.SourcePages.{ArePages}
+use Rattle.wap_site_laws.proofs.PagesLemmas.Judging.{site_judged}
 use Rattle.wap_context.specs.Sites.{fragment_call}
 use Rattle.wap_cli.specs.browse.Handling.{bytes_of}
 use Rattle.wap_cli.specs.browse.Plays.{HaveNoPush}

@@ -1,6 +1,0 @@
-use Rattle.wap_exchange_laws.proofs.Replacing.{replaces}
-use Rattle.wap_exchange_laws.proofs.sources_may_be_compiled.Goals as goal
-
-pub returns : goal.returns
-returns g c = λ compiler agrees call pages.
-    replaces g.L.Language.language compiler agrees pages call

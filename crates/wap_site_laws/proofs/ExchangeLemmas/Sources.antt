@@ -1,0 +1,29 @@
+-- Sources that were only ever denied.
+use Rattle.std.proofs.Common.{◌≡◌, ℕ, Bool, false, List, Option, sym, ap, ◌∙◌, subst}
+use Rattle.wap_code.specs.declared.unit.Unit.{Unit}
+use Rattle.wap_input.specs.declared.key.Key.{Key}
+use Rattle.wap_world.specs.World.{World}
+use Rattle.wap_world.specs.Sites.{Site, Call}
+use Rattle.wap_world.specs.Sessions.{played}
+use Rattle.wap_scripting.specs.Sources.{LanguageOf, AllPages, Agrees, site_of, compiled_pages}
+use Rattle.wap_site_laws.specs.exchange.Denial.{is_entered, DifferWithin}
+use Rattle.wap_site_laws.proofs.ExchangeLemmas.Replacing.{replaces}
+use Rattle.wap_site_laws.proofs.ExchangeLemmas.Denying.{denied}
+
+-- both sites are those of their units, which don't matter
+pub denied_sources : {P : Type 0} (language : LanguageOf P) (compiler : P → Unit)
+    (agrees : (one : P) → Agrees language one (compiler one)) (call : List ℕ → Option Call)
+    (among : List ℕ → Bool) (one other : AllPages P)
+    → DifferWithin among (compiled_pages language compiler one)
+    (compiled_pages language compiler other) → (keys : List Key) (world : World)
+    → is_entered among (played (site_of language call one) keys world).tests ≡ false
+    → played (site_of language call one) keys world
+    ≡ played (site_of language call other) keys world
+denied_sources language compiler agrees call among one other differ keys world none =
+    let first = replaces language compiler agrees one call in
+    let second = replaces language compiler agrees other call in
+    ap (λ (s : Site). played s keys world) first
+    ∙ denied call among (compiled_pages language compiler one)
+    (compiled_pages language compiler other) differ keys world
+    (subst (λ (s : Site). is_entered among (played s keys world).tests ≡ false) first none)
+    ∙ sym (ap (λ (s : Site). played s keys world) second)

@@ -1,0 +1,4 @@
+pub mod ExchangeLemmas
+pub mod UnaskedLemmas
+pub mod ProgramsLemmas
+pub mod PagesLemmas

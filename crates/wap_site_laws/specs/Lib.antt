@@ -1,0 +1,4 @@
+pub mod exchange
+pub mod unasked
+pub mod programs
+pub mod pages

@@ -1,0 +1,17 @@
+//! Sites with other scripts, programs or pages in place of those of a site: what sessions show of
+//! them.
+//!
+//! - `exchange`: What follows where other scripts stand in place of those of a site: units in place
+//!   of the sources that they agree with, and any in place of scripts that were only ever denied.
+//! - `unasked`: What follows where other pages stand in place of those for which a session never
+//!   asks.
+//! - `programs`: Sites whose scripts are sources of programs, beside the sites of the units that
+//!   these are compiled to.
+//! - `pages`: Pages of a store in which scripts stand as sources, and the judged pages in which
+//!   units stand for them.
+#![tactic(auto)]
+
+pub mod exchange;
+pub mod pages;
+pub mod programs;
+pub mod unasked;
