@@ -18,7 +18,7 @@ use Rattle.wap_world.specs.declared.refusal.Refusal.{Refusal}
 use Rattle.wap_world.specs.declared.timer.Timer.TheVariants.{NotStarted}
 use Rattle.wap_world.specs.World.{World, Place, place_in, deck_in, deck_at, last_entry}
 use Rattle.wap_world.specs.Steps.{Scene, Once, Next, then_task, quiet, settled, after_step}
-use Rattle.wap_host.specs.Finding.{shelved_page}
+use Rattle.wap_context.specs.host.Finding.{shelved_page}
 use Rattle.wap_world.specs.Requests.{test, test_of}
 use Rattle.wap_world.specs.Access.{entrance_of, may_enter}
 use Rattle.wap_world.specs.declared.refusal.Refusal.TheVariants as refusals

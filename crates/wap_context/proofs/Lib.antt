@@ -17,3 +17,5 @@ pub mod Pursuing
 pub mod Passing
 pub mod Calling
 pub mod Reviving
+pub mod HostLemmas
+pub mod LawsLemmas

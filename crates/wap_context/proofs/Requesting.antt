@@ -41,8 +41,8 @@ use Rattle.wap_world.specs.Tasks.{back_from, go, open_url, prev, with_turn, task
 use Rattle.wap_world.specs.Tasks.{refresh_place, refresh}
 use Rattle.wap_world.proofs.Joining.{once_before}
 use Rattle.wap_scripting.specs.UnitSites.{Pages, shelf_of, unit_pages, units_site}
-use Rattle.wap_host.specs.Finding.{shelved_page}
-use Rattle.wap_host.proofs.Shelves.{shelved_is}
+use Rattle.wap_context.specs.host.Finding.{shelved_page}
+use Rattle.wap_context.proofs.HostLemmas.Shelves.{shelved_is}
 use Rattle.wap_state.specs.Scenes.{Line}
 use Rattle.wap_context.specs.declared.waiting.Went.{Went}
 use Rattle.wap_context.specs.declared.waiting.Went.TheVariants.{Settled}

@@ -31,8 +31,8 @@ use Rattle.wap_context.specs.Saved.{IsRevived, Revives}
 use Rattle.wap_context.specs.inside.Reviving.{AsksPage, IsReturned, Returns}
 use Rattle.wap_site.proofs.Asking.{Asks-nil}
 use Rattle.wap_site.specs.Pages.{AreSitePages}
-use Rattle.wap_host.specs.Finding.{shelved_page}
-use Rattle.wap_host.proofs.Shelves.{shelved_is}
+use Rattle.wap_context.specs.host.Finding.{shelved_page}
+use Rattle.wap_context.proofs.HostLemmas.Shelves.{shelved_is}
 
 -- the last entry of a world is put into a deck
 pub last_is : (deck : Deck) (world : World) (last : Entry) → last_entry world ≡ Some last

@@ -16,7 +16,7 @@ use Rattle.wap_site.specs.declared.page.Page.{Page}
 use Rattle.wap_site.specs.declared.page.Page.TheVariants as page
 use Rattle.wap_world.specs.Shelves.{Shelf}
 use Rattle.wap_world.specs.Sites.{Site}
-use Rattle.wap_host.specs.Finding.{shelved_page}
+use Rattle.wap_context.specs.host.Finding.{shelved_page}
 use Rattle.wap_world.specs.Access.{entrance_of}
 use Rattle.wap_world.specs.declared.history.Entry.{Entry}
 use Rattle.wap_world.specs.declared.refusal.Refusal.{Refusal}

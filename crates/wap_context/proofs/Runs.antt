@@ -39,7 +39,7 @@ use Rattle.wap_scripting_laws.proofs.Plain.{external_plain, library_plain}
 use Rattle.wap_scripting_laws.proofs.Runs.{starts}
 use Rattle.wap_scripting_laws.proofs.Viewing.{views_run_alike}
 use Rattle.wap_state.specs.Scenes.{Line}
-use Rattle.wap_host.specs.Stages.{Stage, told, counted_in, count_of, fetched_in}
+use Rattle.wap_context.specs.host.Stages.{Stage, told, counted_in, count_of, fetched_in}
 use Rattle.wap_context.specs.declared.waiting.Went.{Went}
 use Rattle.wap_context.specs.Browsers.{Browser, IsOver, place_held}
 use Rattle.wap_context.specs.Sites.{IfOver}

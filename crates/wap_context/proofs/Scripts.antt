@@ -28,8 +28,8 @@ use Rattle.wap_scripting.specs.Units.{entrance_in, external_in}
 use Rattle.wap_scripting.specs.UnitSites.{Pages, shelf_of, unit_under, externals_of, keyed_host}
 use Rattle.wap_scripting.specs.UnitSites.{ran_of, started_at, unit_pages}
 use Rattle.wap_scripting.specs.UnitSites.{units_site}
-use Rattle.wap_host.specs.Finding.{shelved_page}
-use Rattle.wap_host.proofs.Shelves.{unit_is, externals_are}
+use Rattle.wap_context.specs.host.Finding.{shelved_page}
+use Rattle.wap_context.proofs.HostLemmas.Shelves.{unit_is, externals_are}
 use Rattle.wap_context.specs.declared.starting.Start.TheVariants.{Not, Runs}
 use Rattle.wap_context.specs.Sites.{fragment_call, site_of}
 use Rattle.wap_context.specs.inside.Starting.{if_long, start_found, start_called, begun_with}

@@ -5,3 +5,4 @@ pub mod Sites
 pub mod Acting
 pub mod Saved
 pub mod inside
+pub mod host

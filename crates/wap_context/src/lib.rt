@@ -1,11 +1,16 @@
-//! The context of a browser: the variables and the history that decks share, the timer of the
-//! current card, and what tasks and the scripts that they start do to these.
+//! Tasks and all that they lead to, scripts among them.
+//!
+//! - `host`: What a browser is to a script that runs: it counts its turns, finds functions of other
+//!   scripts in pages, and has the libraries (WAP-193, section 6.4.2.2; WAP-194).
+//! - `laws`: What follows from what is seen of contexts.
 #![tactic(auto)]
 
 mod asking;
 mod context;
 mod entering;
 mod following;
+pub mod host;
+pub mod laws;
 mod navigation;
 mod running;
 mod saved;

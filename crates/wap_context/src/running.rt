@@ -10,6 +10,7 @@ ghost use Rattle.wap_context.specs.inside.Starting.{RunsTo, run_with, rest_at, d
 ghost use Rattle.wap_context.specs.inside.Starting.{is_expired, end_at, waits_by};
 
 use crate::context::Context;
+use crate::host::Running;
 use crate::script_lines::add_script_line;
 use crate::waiting::{Waiting, Went, went_to};
 use std::alloc::Global;
@@ -17,7 +18,6 @@ use std::mem::replace;
 use wap_base::{Limits, NoMemory, RunErr};
 use wap_cardrules::{Event, Task};
 use wap_execution::Fatal;
-use wap_host::Running;
 use wap_lines::Lines;
 use wap_machine::{Machine, Outcome};
 use wap_page_urls::PageUrl;

@@ -17,12 +17,12 @@ ghost use Rattle.std.specs.Prelude.{None};
 
 use crate::asking::may_enter;
 use crate::context::Context;
+use crate::host::{entrance_in, external_in};
 use crate::script_lines::add_script_line;
 use crate::waiting::Went;
 use std::alloc::Global;
 use wap_base::{NoMemory, Rows, RunErr, Text};
 use wap_execution::Fatal;
-use wap_host::{entrance_in, external_in};
 use wap_invocation::{Invocation, read_call};
 use wap_lines::Lines;
 use wap_machine::Machine;

@@ -13,8 +13,8 @@ use Rattle.wap_pages.proofs.Judgements.{page_of-judged, page_deck, judged_pages_
 use Rattle.wap_world.specs.World.{deck_in}
 use Rattle.wap_world_laws.specs.Standing.{HaveCards}
 use Rattle.wap_scripting.specs.UnitSites.{shelf_of, unit_pages}
-use Rattle.wap_host.specs.Finding.{shelved_page}
-use Rattle.wap_host.proofs.Shelves.{shelved_is}
+use Rattle.wap_context.specs.host.Finding.{shelved_page}
+use Rattle.wap_context.proofs.HostLemmas.Shelves.{shelved_is}
 
 -- a page that a shelf has as this deck is it
 deck_is : (one : Page) (deck : Deck) → deck_in (shelved_page one) ≡ Some deck

@@ -36,7 +36,7 @@ use Rattle.wap_scripting.specs.ScriptPages.{shelved}
 use Rattle.wap_scripting.specs.UnitSites.{Pages, units, shelf_of, unit_page, unit_pages}
 use Rattle.wap_site_laws.specs.unasked.Unasked.{is_asked, is_on, AgreeBeside}
 use Rattle.wap_site_laws.proofs.UnaskedLemmas.Inboxes.{unasked_with, ends_beside}
-use Rattle.wap_host.proofs.Shelves.{under_is}
+use Rattle.wap_context.proofs.HostLemmas.Shelves.{under_is}
 use Rattle.wap_context.specs.Sites.{fragment_call, site_of}
 use Rattle.wap_context.specs.Saved.{with_last_in}
 use Rattle.wap_cli.specs.browse.Handling.{bytes_of}

@@ -27,8 +27,8 @@ use Rattle.wap_world.specs.Shelves.{Shelf}
 use Rattle.wap_world.specs.World.{World, last_entry, deck_at, deck_in}
 use Rattle.wap_world.specs.Steps.{Step, joined, quiet, still}
 use Rattle.wap_scripting.specs.UnitSites.{Pages, shelf_of, unit_pages, units_site}
-use Rattle.wap_host.specs.Finding.{shelved_page}
-use Rattle.wap_host.proofs.Shelves.{shelved_is}
+use Rattle.wap_context.specs.host.Finding.{shelved_page}
+use Rattle.wap_context.proofs.HostLemmas.Shelves.{shelved_is}
 use Rattle.wap_context.specs.Browsers.{Browser, IsOver}
 use Rattle.wap_context.specs.Sites.{site_of}
 use Rattle.wap_context.specs.declared.saved.Revived.TheVariants.{Context, Missing, Refused}

@@ -6,7 +6,7 @@ use Rattle.wap_markup.specs.declared.deck.Deck.{Deck}
 use Rattle.wap_machine.specs.declared.machine.Outcome.{Outcome}
 use Rattle.wap_world.specs.World.{World}
 use Rattle.wap_scripting.specs.Waiting.{inside}
-use Rattle.wap_host.specs.Stages.{Stage}
+use Rattle.wap_context.specs.host.Stages.{Stage}
 use Rattle.wap_state.specs.Scenes.{Line}
 use Rattle.wap_context.specs.Browsers.{Browser}
 use Rattle.wap_context.specs.inside.Starting.{RunsTo}

@@ -1,0 +1,98 @@
+-- Calls of libraries: functions that no library has, and results within the limit of Strings.
+use Rattle.std.proofs.Common.{◌≡◌, ◌∙◌, ◌≤◌, ℕ, List, [], ◌∷◌, Bool, true, false, Option, Some}
+use Rattle.std.proofs.Common.{None, zero, suc, length, refl, sym, ap, ap₂, subst, arith}
+use Rattle.std.specs.Prelude.{slice_get, Ok, Err, if◌then◌else◌, nat_lt}
+use Rattle.wap_base.specs.Utf8.{utf8_len}
+use Rattle.wap_value.specs.declared.value.Value.{Value}
+use Rattle.wap_value.specs.declared.value.Value.TheVariants.{Int, Bool as Boolean, Str, Invalid}
+use Rattle.wap_value.specs.declared.fault.ValueFault.TheVariants.{TooLong}
+use Rattle.wap_library.specs.declared.outcome.LibOut.TheVariants as lib
+use Rattle.wap_library.specs.Generator.{Generator}
+use Rattle.wap_code.specs.Libraries.{lib_args}
+use Rattle.wap_library_laws.proofs.Tables.{handed}
+use Rattle.wap_library.specs.Libraries.{function_at, row_of, IsPure}
+use Rattle.wap_library.specs.Outcome.{outcome, generator_after, limited}
+use Rattle.wap_library.specs.Row.{gives, of_none, applied, arguments}
+use Rattle.wap_library.specs.declared.function.Function.{Function}
+use Rattle.std.specs.Option.{option_map, option_map_or}
+use Rattle.wap_execution.specs.declared.library.HostOut.{HostOut}
+use Rattle.wap_execution.specs.declared.library.HostOut.TheVariants as out
+use Rattle.wap_machine.specs.Hosts.{IsNoBudget}
+use Rattle.wap_world.specs.World.{World}
+use Rattle.wap_world.specs.Steps.{Step}
+use Rattle.wap_scripting.specs.Hosting.{kept_by, kept, within}
+use Rattle.wap_context.specs.host.Stages.{Sight}
+use Rattle.wap_context.specs.host.Serving.{Gave}
+
+-- ---- functions that aren't there
+
+past : {X : Type 0} (functions : List X) (number : ℕ) → length functions ≤ number
+    → slice_get functions number ≡ None
+past [] number is = refl
+past (one ∷ others) zero is = absurd (omega arith)
+past (one ∷ others) (suc number) is = past others number (omega arith)
+
+-- ---- results within the limit
+
+no_budget_by : (is_long : Bool) (text : List ℕ)
+    → IsNoBudget (kept_by (if is_long then Err (TooLong (utf8_len text)) else Ok (Str text)))
+no_budget_by true text = λ is. absurd (cc)
+no_budget_by false text = tt
+
+pub kept_no_budget : (string : ℕ) (given : HostOut) → IsNoBudget given
+    → IsNoBudget (kept string given)
+kept_no_budget string (out.Value (Int z)) is = tt
+kept_no_budget string (out.Value (Boolean b)) is = tt
+kept_no_budget string (out.Value (Str text)) is = no_budget_by (nat_lt string (utf8_len text)) text
+kept_no_budget string (out.Value Invalid) is = tt
+kept_no_budget string (out.Exit v) is = tt
+kept_no_budget string (out.Fatal why) is = is
+kept_no_budget string (out.Asks dialog) is = tt
+
+-- what a row gave, within the limit
+pub within_gave : (row : Step → HostOut × Step) (old new : Sight) (given kept_out : HostOut)
+    → Gave row old new given → kept_out ≡ kept new.world.limits.string given
+    → Gave (λ step. within (row step)) old new kept_out
+within_gave row old new given kept_out gave is = record {
+  answers = is ∙ ap₂ (λ (n : ℕ) (o : HostOut). kept n o)
+      (ap (λ (w : World). w.limits.string) gave.world) gave.answers;
+  world = gave.world;
+  lines = gave.lines;
+  deck = gave.deck;
+  unasked = gave.unasked;
+  no_budget = subst IsNoBudget (sym is)
+      (kept_no_budget new.world.limits.string given gave.no_budget);
+}
+
+-- ---- a function that no library has
+
+none_by : (string : ℕ) (args : List Value) (g : Generator) (function : Option Function)
+    → function ≡ None
+    → (limited string (applied (option_map_or row_of function (gives (of_none Invalid))) args g).0
+    ≡ Ok (lib.Value Invalid))
+    × ((applied (option_map_or row_of function (gives (of_none Invalid))) args g).1 ≡ g)
+none_by string args g None is = (refl, refl)
+none_by string args g (Some function) is = absurd (cc)
+
+pub none_gives : (string library number : ℕ) (args : List Value) (g : Generator)
+    → function_at library number ≡ None
+    → (outcome string library number args g ≡ Ok (lib.Value Invalid))
+    × (generator_after library number args g ≡ g)
+none_gives string library number args g is =
+    none_by string args g (function_at library number) is
+
+-- ---- a function that needs no browser takes as many arguments as a call hands over
+
+pure_by : (library own count taken : ℕ) (function : Option Function)
+    → lib_args library own ≡ Some count → function_at library own ≡ function
+    → Some taken ≡ option_map (λ f. arguments (row_of f)) function → IsPure library own count
+pure_by library own count taken None handed_over found is = absurd (cc)
+pure_by library own count taken (Some function) handed_over found is =
+    handed library own count function handed_over found
+
+pub is_pure : (library own count taken : ℕ) (given : Option ℕ)
+    → lib_args library own ≡ Some count
+    → given ≡ option_map (λ f. arguments (row_of f)) (function_at library own)
+    → given ≡ Some taken → IsPure library own count
+is_pure library own count taken given handed_over is some =
+    pure_by library own count taken (function_at library own) handed_over refl (sym some ∙ is)

@@ -1,0 +1,299 @@
+-- Calls that ask for a page, and calls that don't, as calls of a host.
+use Rattle.std.proofs.Common.{◌≡◌, ◌∙◌, ◌≤◌, ◌+◌, ℕ, Bool, true, false, List, [], ◌∷◌, ◌++◌}
+use Rattle.std.proofs.Common.{Option, Some, None, Ok, Err, refl, sym, ap, subst, arith}
+use Rattle.std.proofs.Common.{append-nil}
+use Rattle.std.specs.Prelude.{if◌then◌else◌, Result, IfSome, IsErr, IsErrAnd}
+use Rattle.std.proofs.lemmas.Bool.{false≢true}
+use Rattle.std.proofs.Math.Path.{fun_ext}
+use Rattle.std.specs.Option.{option_map}
+use Rattle.std.proofs.Math.Nat.{le_refl, le_trans, le-min, min-le_left, min-le_right}
+use Rattle.wap_base.specs.Count.{raised, greatest_count, Rose}
+use Rattle.wap_base.specs.declared.fault.RunErr.{RunErr}
+use Rattle.wap_base.specs.declared.fault.RunErr.TheVariants.{Store, NoMemory}
+use Rattle.wap_url.specs.declared.url.Url.{Url}
+use Rattle.wap_url.specs.Printing.{name_for}
+use Rattle.wap_markup.specs.declared.deck.Deck.{Deck}
+use Rattle.wap_execution.specs.declared.library.HostOut.{HostOut}
+use Rattle.wap_execution.specs.declared.library.HostOut.TheVariants as out
+use Rattle.wap_value.specs.declared.value.Value.TheVariants.{Invalid}
+use Rattle.wap_scripting.specs.Browsing.{gives}
+use Rattle.wap_scripting.specs.Hosting.{within}
+use Rattle.wap_machine.specs.Hosts.{Gives, Fetches}
+use Rattle.wap_site.specs.declared.page.Page.{Page}
+use Rattle.wap_site.specs.Pages.{Pages as JudgedPages, page_of, AreSitePages}
+use Rattle.wap_site.specs.Misses.{Cache, Asked as Question, is_miss, after_asking, after_all, misses}
+use Rattle.wap_site.specs.Asking.{Seen, raised_by, RaisedWithin, Stays}
+use Rattle.wap_site.proofs.Asking.{Stays-same}
+use Rattle.wap_world.specs.Requests.{plain_get, request_line}
+use Rattle.wap_world.specs.World.{World}
+use Rattle.wap_world.specs.Steps.{Step}
+use Rattle.wap_scripting.specs.UnitSites.{Pages, unit_pages}
+use Rattle.wap_scripting.specs.Views.{Counted, View, counted_all, added}
+use Rattle.wap_context.specs.host.Stages.{Sight, counted_in, view_in, count_of, fetched_in}
+use Rattle.wap_context.specs.host.Serving.{begun, Gave, Serves, question, AsksFor}
+use Rattle.wap_context.specs.host.inside.Counting.{count_in}
+
+-- ---- views
+
+-- a view of these pages
+abbrev pub view_with : Sight → Pages → Option Counted → View
+view_with sight pages counted = record {
+  world = sight.world;
+  deck = sight.deck;
+  lines = sight.lines;
+  pages = pages;
+  counted = counted;
+}
+
+abbrev view_by : Sight → Option Counted → Option JudgedPages → Option View
+view_by sight counted contents =
+    option_map (λ judged. view_with sight (unit_pages judged) counted) contents
+
+abbrev counted_of : Option Cache → ℕ → Option Counted
+counted_of cache fetches = option_map (λ one. record { cache = one; fetches = fetches }) cache
+
+-- ---- a call that asks for no page
+
+module _ (rule : View → HostOut × Step) (row : Step → HostOut × Step) (old new : Sight)
+    (out : HostOut) (gave : Gave row old new out)
+    (is : (pages : Pages) (counted : Option Counted)
+    → rule (view_with old pages counted) ≡ row (begun old)) where
+  new_is : new ≡ record old {
+    world = (row (begun old)).1.world;
+    lines = old.lines ++ (row (begun old)).1.lines;
+  }
+  new_is =
+      ap (λ (w : World). record new { world = w }) gave.world
+      ∙ ap (λ (l : List (List ℕ)). record new { world = (row (begun old)).1.world; lines = l })
+      gave.lines
+      ∙ ap (λ (d : Option Deck). record old {
+        world = (row (begun old)).1.world;
+        deck = d;
+        lines = old.lines ++ (row (begun old)).1.lines;
+      }) gave.deck
+
+  gives_in : (counted : Option Counted) (contents : Option JudgedPages)
+      → IfSome (view_by old counted contents)
+      (λ view. Gives (added view (rule view)) out (view_by new counted contents))
+  gives_in counted None = tt
+  gives_in counted (Some judged) =
+      let view = view_with old (unit_pages judged) counted in
+      let same = is (unit_pages judged) counted in
+      record {
+        answers = gave.answers ∙ sym (ap (λ (g : HostOut × Step). g.0) same);
+        stays =
+            ap (λ (s : Sight). Some (view_with s (unit_pages judged) counted)) new_is
+            ∙ ap (λ (c : Option Counted). Some (record view {
+              world = (row (begun old)).1.world;
+              lines = old.lines ++ (row (begun old)).1.lines;
+              counted = c;
+            })) (sym (ap (λ (a : List Question). counted_all a counted) gave.unasked))
+            ∙ ap (λ (g : HostOut × Step). Some (added view g).1) (sym same);
+      }
+
+  pub gave_serves : (seen : Seen) → Serves rule old new seen seen (Ok out)
+  gave_serves seen = record {
+    told = gives_in (counted_in seen) seen.contents;
+    steady = refl;
+    failed = λ failed. absurd (cc);
+    fetched = λ failed. absurd (cc);
+    stays = Stays-same seen;
+  }
+
+-- a call that ran out of memory before it asked
+pub lacks_memory : {A : Type 0} (rule : View → A × Step) (old new : Sight) (before after : Seen)
+    → Stays before after → Serves rule old new before after (Err NoMemory)
+lacks_memory rule old new before after stays = record {
+  told = tt;
+  steady = tt;
+  failed = λ failed. absurd (cc);
+  fetched = λ failed. absurd (cc);
+  stays = stays;
+}
+
+-- ---- what is counted where a page is asked for
+
+module _ (one : Question) where
+  abbrev all : List Question
+  all = one ∷ []
+
+  one_more : (is_one : Bool) (count : ℕ)
+      → raised_by ((if is_one then 1 else 0) + 0) count ≡ raised_by (if is_one then 1 else 0) count
+  one_more true count = refl
+  one_more false count = refl
+
+  counted_after : (cache later : Option Cache) (fetches more : ℕ)
+      → later ≡ option_map (after_all all) cache
+      → IfSome cache (λ c. more ≡ raised_by (misses all c) fetches)
+      → counted_of later more ≡ counted_all all (counted_of cache fetches)
+  counted_after None later fetches more is so = ap (λ (c : Option Cache). counted_of c more) is
+  counted_after (Some cache) later fetches more is so =
+      ap (λ (c : Option Cache). counted_of c more) is
+      ∙ ap (λ (n : ℕ). counted_of (Some (after_asking one cache)) n)
+      (so ∙ one_more (is_miss one cache) fetches)
+
+  rose_one : (count : ℕ) → Rose (count_of count) (count_of (raised count))
+  rose_one count =
+      le-min
+      (le-min (le_trans (min-le_left (count_of count + 1) greatest_count) (fewer count))
+      (min-le_right (count_of count + 1) greatest_count))
+      (min-le_right (count_of count + 1) greatest_count)
+    where
+      fewer : (n : ℕ) → count_of n + 1 ≤ n + 1
+      fewer n = let least = min-le_left n greatest_count in omega arith
+
+  fetches_one : (is_one : Bool) (fetches more : ℕ)
+      → RaisedWithin ((if is_one then 1 else 0) + 0) fetches more
+      → Rose (count_of fetches) (count_of more)
+      × (count_of more ≤ count_of (raised_by (if is_one then 1 else 0) fetches))
+  fetches_one false fetches more within =
+      let some = within.some in let few = within.few in absurd (omega arith)
+  fetches_one true fetches more within =
+      let some = within.some in
+      let few = within.few in
+      let single : within.more ≡ 1 = omega arith in
+      let is : more ≡ raised fetches =
+      within.count ∙ ap (λ (n : ℕ). raised_by n fetches) single in (
+        subst (λ (n : ℕ). Rose (count_of fetches) (count_of n)) (sym is) (rose_one fetches),
+        subst (λ (n : ℕ). count_of n ≤ count_of (raised fetches)) (sym is)
+            (le_refl (count_of (raised fetches))),
+      )
+
+  fetches_by : (cache : Option Cache) (fetches more : ℕ)
+      → IfSome cache (λ c. RaisedWithin (misses all c) fetches more)
+      → Fetches (count_in (counted_of cache fetches)) (count_of more)
+      (count_in (counted_all all (counted_of cache fetches)))
+  fetches_by None fetches more within = tt
+  fetches_by (Some cache) fetches more within =
+      fetches_one (is_miss one cache) fetches more within
+
+-- ---- a call that asks for a page
+
+-- a row adds the request of a URL, and answers this
+pub record Comes {A : Type 0} (url : Url) (world : World) (answer : A) (gave : A × Step) : Type 0
+  where
+    pub answers : gave.0 ≡ answer
+    pub world_is : gave.1.world ≡ world
+    pub lines : gave.1.lines ≡ request_line (plain_get url) ∷ []
+    pub asked : gave.1.asked ≡ question url ∷ []
+
+module _ {A : Type 0} (url : Url) (rule : View → A × Step) (answer : Page → A) (old : Sight)
+    (comes : (judged : JudgedPages) (counted : Option Counted) → AreSitePages judged
+    → Comes url old.world (answer (page_of (name_for url) judged))
+    (rule (view_with old (unit_pages judged) counted))) where
+  abbrev line : List ℕ
+  line = request_line (plain_get url)
+
+  told_in : (page : Page) (contents : Option JudgedPages) (counted later : Option Counted)
+      → later ≡ counted_all (question url ∷ []) counted
+      → IfSome contents (λ judged. page ≡ page_of (name_for url) judged)
+      → IfSome contents AreSitePages
+      → IfSome (view_by old counted contents) (λ view. Gives (added view (rule view)) (answer page)
+      (view_by (record old { lines = old.lines ++ line ∷ [] }) later contents))
+  told_in page None counted later is found are = tt
+  told_in page (Some judged) counted later is found are =
+      let view = view_with old (unit_pages judged) counted in
+      let come = comes judged counted are in
+      record {
+        answers = ap answer found ∙ sym come.answers;
+        stays =
+            ap (λ (c : Option Counted). Some (record view {
+              lines = old.lines ++ line ∷ [];
+              counted = c;
+            })) (is ∙ ap (λ (a : List Question). counted_all a counted) (sym come.asked))
+            ∙ ap (λ (l : List (List ℕ)). Some (record view {
+              lines = old.lines ++ l;
+              counted = counted_all (rule view).1.asked counted;
+            })) (sym come.lines)
+            ∙ ap (λ (w : World). Some (record view {
+              world = w;
+              lines = old.lines ++ (rule view).1.lines;
+              counted = counted_all (rule view).1.asked counted;
+            })) (sym come.world_is);
+      }
+
+  fetched_in_all : (contents : Option JudgedPages) (counted : Option Counted) (most : ℕ)
+      → Fetches (count_in counted) most (count_in (counted_all (question url ∷ []) counted))
+      → IfSome contents AreSitePages
+      → IfSome (view_by old counted contents)
+      (λ view. Fetches (fetched_in view) most (fetched_in (added view (rule view)).1))
+  fetched_in_all None counted most is are = tt
+  fetched_in_all (Some judged) counted most is are =
+      let come = comes judged counted are in
+      subst (λ (a : List Question).
+      Fetches (count_in counted) most (count_in (counted_all a counted))) (sym come.asked) is
+
+  -- the page was there
+  pub asked_serves : (new : Sight) (before after : Seen) (page : Page) (given : A)
+      → AsksFor url old new before after (Ok page) → given ≡ answer page
+      → Serves rule old new before after (Ok given)
+  asked_serves new before after page given asks is = record {
+    told =
+        subst (λ (g : A). IfSome (view_in old before)
+        (λ view. Gives (added view (rule view)) g (view_in new after))) (sym is)
+        (subst (λ (s : Sight). IfSome (view_in old before)
+        (λ view. Gives (added view (rule view)) (answer page) (view_in s after))) (sym asks.line)
+        (subst (λ (c : Option JudgedPages). IfSome (view_in old before)
+        (λ view. Gives (added view (rule view)) (answer page)
+        (view_by (record old { lines = old.lines ++ line ∷ [] }) (counted_in after) c)))
+        (sym asks.stays.contents)
+        (told_in page before.contents (counted_in before) (counted_in after)
+        (counted_after (question url) before.cache after.cache before.fetches after.fetches
+        asks.asks.cache asks.asks.fetches) asks.page asks.site)));
+    steady = asks.asks.steady;
+    failed = λ failed. absurd (cc);
+    fetched = λ failed. absurd (cc);
+    stays = asks.stays;
+  }
+
+  -- the page wasn't to be had
+  pub failed_serves : (new : Sight) (before after : Seen) (err : RunErr)
+      → AsksFor url old new before after (Err err) → Serves rule old new before after (Err err)
+  failed_serves new before after err asks = record {
+    told = tt;
+    steady = tt;
+    failed = λ failed. (asks.failed (store failed)).rose;
+    fetched = λ failed. fetched_in_all before.contents (counted_in before) (count_of after.fetches)
+        (fetches_by (question url) before.cache before.fetches after.fetches
+        (asks.failed (store failed)).fetches) (asks.failed_site (store failed));
+    stays = asks.stays;
+  }
+    where
+      refused : (X : Type 0) → RunErr → Result X RunErr
+      refused X why = Err why
+
+      store : refused A err ≡ refused A Store → refused Page err ≡ refused Page Store
+      store is = cc
+
+-- memory ran out before anything was asked
+pub asks_nothing : (url : Url) (old new : Sight) (seen : Seen) (result : Result Page RunErr)
+    → IsErr result → IsErrAnd result (λ err. err ≡ NoMemory) → AsksFor url old new seen seen result
+asks_nothing url old new seen (Ok page) is so = absurd (false≢true is)
+asks_nothing url old new seen (Err err) is so = record {
+  page = tt;
+  line = tt;
+  site = tt;
+  failed_site = λ failed. absurd (cc);
+  asks = tt;
+  failed = λ failed. absurd (cc);
+  stays = Stays-same seen;
+}
+
+-- by another rule that comes to the same
+pub serves_as : {A : Type 0} (rule other : View → A × Step) (old new : Sight) (before after : Seen)
+    (result : Result A RunErr) → ((view : View) → other view ≡ rule view)
+    → Serves other old new before after result → Serves rule old new before after result
+serves_as {A = A} rule other old new before after result is so =
+    subst (λ (r : View → A × Step). Serves r old new before after result) (fun_ext is) so
+
+-- an argument that has no conversion gives invalid
+pub nothing_gave : (sight : Sight)
+    → Gave (λ step. within (gives Invalid step)) sight sight (out.Value Invalid)
+nothing_gave sight = record {
+  answers = refl;
+  world = refl;
+  lines = sym (append-nil sight.lines);
+  deck = refl;
+  unasked = refl;
+  no_budget = tt;
+}

@@ -1,7 +1,0 @@
-use Rattle.std.proofs.Common.{◌≡◌, drop}
-use Rattle.wap_scripting.specs.Units.{path_in}
-use Rattle.wap_host.proofs.units.path_in.Given as goal
-
--- what is left has what all have
-abbrev pub invariant-loop-pragma : goal.invariant-loop-pragma
-invariant-loop-pragma l = path_in (drop l.pragma-index l.pragmas) ≡ path_in l.pragmas
