@@ -19,9 +19,9 @@ use wap_cardrules::{Event, Task};
 use wap_cards::{binding, is_true};
 use wap_good::{AttrName, GoodDeck};
 use wap_lines::Lines;
-use wap_page_urls::{PageEntry, PageUrl};
-use wap_requests::entrance_of;
 use wap_site::Shared;
+use wap_state::page_urls::{PageEntry, PageUrl};
+use wap_state::requests::entrance_of;
 use wap_url::Url;
 use wap_world::{Refusal, Timer};
 

@@ -12,10 +12,10 @@ use crate::entering::in_deck;
 use std::alloc::Global;
 use wap_base::{NoMemory, RunErr};
 use wap_good::GoodDeck;
-use wap_page_urls::PageEntry;
 use wap_parts::ContextParts;
 use wap_site::{Page, Pages, Shared};
 use wap_state::State;
+use wap_state::page_urls::PageEntry;
 use wap_url::name_of;
 
 /// What is made of the parts of a context.

@@ -12,7 +12,7 @@ use crate::context::Context;
 use std::alloc::Global;
 use wap_base::{NoMemory, Rows, Text};
 use wap_lines::Lines;
-use wap_screens::add_refusal;
+use wap_state::screen_lines::add_refusal;
 use wap_state::{Current, here};
 use wap_world::Refusal;
 

@@ -12,7 +12,7 @@ use wap_cardrules::Task;
 use wap_execution::Dialog;
 use wap_lines::Lines;
 use wap_machine::Waiting as Machine;
-use wap_page_urls::PageUrl;
+use wap_state::page_urls::PageUrl;
 
 /// What is held of a script that waits.
 #[derive(Drop)]

@@ -26,8 +26,8 @@ use wap_cards::{do_task, link_task};
 use wap_context::{Context, Step};
 use wap_input::Key;
 use wap_lines::Lines;
-use wap_screens::add_fault_lines;
 use wap_site::Pages;
+use wap_state::screen_lines::add_fault_lines;
 use wap_world::Refusal;
 
 /// A key that fits nothing.

@@ -37,8 +37,8 @@ use Rattle.wap_world.specs.declared.timer.Timer.{Timer}
 use Rattle.wap_world.specs.declared.timer.Timer.TheVariants.{NotStarted, Running, Off, Expired}
 use Rattle.wap_world.specs.World.{World}
 use Rattle.wap_world.specs.History.{entry_of}
-use Rattle.wap_page_urls.specs.PageUrls.{is_http, IsPageUrl, IsPageEntry}
-use Rattle.wap_page_urls.proofs.Targets.{page_read}
+use Rattle.wap_state.specs.page_urls.PageUrls.{is_http, IsPageUrl, IsPageEntry}
+use Rattle.wap_state.proofs.PageUrlsLemmas.Targets.{page_read}
 use Rattle.wap_state.specs.Saved.{saved_timer, timer_in, saved_entry, parts_of, timer_of, entry_with}
 use Rattle.wap_state.specs.Saved.{entries_of, generator_at, saved_world, IsAtRest}
 use Rattle.wap_state.specs.Standing.{KeepsRules}

@@ -6,7 +6,7 @@ use Rattle.std.specs.List.{remove, last_or, flat_map, AllByRecursion}
 use Rattle.std.specs.Option.{option_to_list}
 use Rattle.std.proofs.lemmas.List.{map-append, length-map, take-map}
 use Rattle.wap_world.specs.declared.history.Entry.{Entry}
-use Rattle.wap_page_urls.specs.PageUrls.{IsPageEntry}
+use Rattle.wap_state.specs.page_urls.PageUrls.{IsPageEntry}
 use Rattle.wap_state.specs.Saved.{saved_entry}
 use Rattle.wap_state.specs.inside.History.{entries_in, AreFilled, saved_slot}
 

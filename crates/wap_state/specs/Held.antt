@@ -13,7 +13,7 @@ use Rattle.wap_world.specs.World.{World}
 use Rattle.wap_world.specs.Steps.{Scene, and_then}
 use Rattle.wap_world.specs.Setting.{with_set}
 use Rattle.wap_world.specs.Timers.{started, start_timer}
-use Rattle.wap_screens.specs.Screens.{screen_of}
+use Rattle.wap_state.specs.screen_lines.Screens.{screen_of}
 
 -- a card and its deck
 pub record Held : Type 0 where

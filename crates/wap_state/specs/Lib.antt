@@ -3,3 +3,5 @@ pub mod Scenes
 pub mod Standing
 pub mod Saved
 pub mod inside
+pub mod page_urls
+pub mod screen_lines

@@ -5,19 +5,19 @@ ghost use Rattle.std.specs.Prelude.{IfSome, IfOk, OnOk, OnErr};
 ghost use Rattle.std.specs.List.{last_or, flat_map, AllByRecursion};
 ghost use Rattle.std.specs.Option.{option_map, option_copied, option_to_list};
 ghost use Rattle.wap_base.specs.declared.limits.TheConstants.{MOST_HISTORY};
-ghost use Rattle.wap_page_urls.specs.PageUrls.{IsPageUrl, IsPageEntry};
+ghost use Rattle.wap_state.specs.page_urls.PageUrls.{IsPageUrl, IsPageEntry};
 ghost use Rattle.wap_world.specs.declared.timer.Timer.TheVariants.{NotStarted};
 ghost use Rattle.wap_world.specs.World.{last_entry};
 ghost use Rattle.wap_world.specs.History.{pushed, earlier_entry, all_but_last, back_at};
 ghost use Rattle.wap_state.specs.Saved.{saved_entry};
 ghost use Rattle.wap_state.specs.inside.History.{saved_slot};
 
+use crate::page_urls::PageEntry;
 use crate::state::State;
 use arrayvec::ArrayVec;
 use std::alloc::Global;
 use std::marker::Model;
 use wap_base::{MOST_HISTORY, NoMemory, Rows, Text};
-use wap_page_urls::PageEntry;
 use wap_url::{Url, print};
 use wap_world::Timer;
 

@@ -11,11 +11,11 @@ ghost use Rattle.wap_state.specs.Saved.{saved_timer, timer_in, timer_of, entry_w
 ghost use Rattle.wap_state.specs.Saved.{parts_of, saved_world, IsAtRest};
 
 use crate::history::History;
+use crate::page_urls::{PageEntry, PageUrl};
 use crate::state::State;
 use std::alloc::Global;
 use wap_base::{NoMemory, Rows, Text};
 use wap_libs::Gen;
-use wap_page_urls::{PageEntry, PageUrl};
 use wap_parts::{ContextParts, SavedTimer};
 use wap_url::{Url, UrlFault};
 use wap_vars::{VarFault, Vars};

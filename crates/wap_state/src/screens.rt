@@ -8,13 +8,13 @@ ghost use Rattle.wap_state.specs.Held.{screen_held, show_held, restart_held};
 ghost use Rattle.wap_state.specs.Scenes.{Plays, Leaves};
 
 use crate::hand::Current;
+use crate::screen_lines::{add_fault_lines, add_screen};
 use crate::state::State;
 use std::alloc::Global;
 use wap_base::NoMemory;
 use wap_fields::apply_defaults;
 use wap_good::View;
 use wap_lines::Lines;
-use wap_screens::{add_fault_lines, add_screen};
 
 impl State {
     /// Adds the screen of a card.

@@ -5,12 +5,12 @@ ghost use Rattle.wap_fields.specs.Stopped.{FirstStand};
 ghost use Rattle.wap_world.specs.Setting.{set_variables};
 ghost use Rattle.wap_state.specs.Scenes.{Plays, Leaves};
 
+use crate::screen_lines::add_fault_lines;
 use crate::state::State;
 use std::alloc::Global;
 use wap_base::{NoMemory, Rows, Text};
 use wap_fields::set_one;
 use wap_lines::Lines;
-use wap_screens::add_fault_lines;
 use wap_vars::{VarFault, Vars};
 
 /// Sets variables in order, and tells why others were refused.

@@ -11,9 +11,9 @@ use wap_base::{NoMemory, RunErr};
 use wap_execution::{Fatal, HostOut};
 use wap_good::GoodDeck;
 use wap_lines::Lines;
-use wap_requests::{plain_get, request_line};
 use wap_site::{Page, Pages, Shared};
 use wap_state::State;
+use wap_state::requests::{plain_get, request_line};
 use wap_url::{Url, name_of};
 use wap_value::Value;
 

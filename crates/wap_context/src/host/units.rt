@@ -8,7 +8,7 @@ use std::alloc::Global;
 use std::marker::Model;
 use wap_base::{NoMemory, Text};
 use wap_code::Pragma;
-use wap_requests::Entrance;
+use wap_state::requests::Entrance;
 use wap_verify::Verified;
 
 /// An external function of a unit.

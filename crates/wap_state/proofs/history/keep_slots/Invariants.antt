@@ -1,6 +1,6 @@
 use Rattle.std.proofs.Common.{drop, IfSome}
 use Rattle.std.specs.List.{AllByRecursion}
-use Rattle.wap_page_urls.specs.PageUrls.{IsPageEntry}
+use Rattle.wap_state.specs.page_urls.PageUrls.{IsPageEntry}
 use Rattle.wap_state.proofs.history.keep_slots.Given as goal
 
 -- it is left to know it of the slots that are left

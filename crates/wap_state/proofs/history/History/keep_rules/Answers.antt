@@ -2,7 +2,7 @@ use Rattle.std.proofs.Common.{subst, List, Option}
 use Rattle.std.specs.Prelude.{IfSome}
 use Rattle.std.specs.List.{AllByRecursion}
 use Rattle.wap_world.specs.declared.history.Entry.{Entry}
-use Rattle.wap_page_urls.specs.PageUrls.{IsPageEntry}
+use Rattle.wap_state.specs.page_urls.PageUrls.{IsPageEntry}
 use Rattle.wap_state.proofs.Slots.{pages_in}
 use Rattle.wap_state.proofs.history.History.keep_rules.Goals as goal
 

@@ -3,7 +3,7 @@ use Rattle.std.specs.List.{AllByRecursion}
 use Rattle.wap_filling.specs.Variables.{AreVars}
 use Rattle.wap_library.specs.Generator.{most_drawn}
 use Rattle.wap_world.specs.World.{World}
-use Rattle.wap_page_urls.specs.PageUrls.{IsPageEntry}
+use Rattle.wap_state.specs.page_urls.PageUrls.{IsPageEntry}
 use Rattle.wap_state.specs.Saved.{parts_of, generator_at}
 use Rattle.wap_state.specs.Standing.{KeepsRules}
 use Rattle.wap_state.proofs.Saving.{are_parts, ok_rules, ok_whole}

@@ -1,5 +1,0 @@
-use Rattle.wap_requests.proofs.Prefixes.{allows_is}
-use Rattle.wap_requests.proofs.access.allows.Goals as goal
-
-pub returns : goal.returns
-returns c = allows_is c.allows.result c.args.access.now c.args.caller.now c.allows.ensures
