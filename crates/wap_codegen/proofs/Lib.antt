@@ -6,3 +6,6 @@ mod Looping
 mod Making
 mod Saving
 mod Whole
+pub mod PoolLemmas
+pub mod EmissionLemmas
+pub mod SourceFaultsLemmas

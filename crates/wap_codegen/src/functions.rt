@@ -11,13 +11,13 @@ ghost use Rattle.wap_codegen.specs.inside.Units.{AreNumbersOf, CanBeMade};
 ghost use Rattle.wap_codegen.specs.inside.Units.{IsFormsCause, IsFunctionCause, IsFunctionsCause};
 
 use crate::CompileFault;
+use crate::emission::forms_of;
+use crate::pool::Numbering;
 use crate::wide::wide_size;
 use std::alloc::Global;
 use wap_asm::{Form, PlaceFault, place};
 use wap_base::{Bytes, Rows};
 use wap_code::Code;
-use wap_emission::forms_of;
-use wap_pool::Numbering;
 use wap_program::{Function, Program};
 
 /// How many bytes of wide code a function may have.

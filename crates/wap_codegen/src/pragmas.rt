@@ -4,10 +4,10 @@ ghost use Rattle.std.specs.List.{flat_map};
 ghost use Rattle.wap_code.specs.declared.unit.Pragma.TheVariants.{Domain, Path};
 ghost use Rattle.wap_compiled.specs.Units.{pragma_if, property, pragmas_of, text_place};
 
+use crate::pool::Numbering;
 use std::alloc::Global;
 use wap_base::{NoMemory, Rows, Text};
 use wap_code::Pragma;
-use wap_pool::Numbering;
 use wap_program::Use;
 
 /// The index of a constant, which has 32 bits: more aren't in any memory.

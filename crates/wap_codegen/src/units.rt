@@ -12,11 +12,11 @@ ghost use Rattle.wap_codegen.specs.inside.Units.{IsFunctionsCause, IsUnitCause};
 use crate::CompileFault;
 use crate::functions::codes_of;
 use crate::names::names_of;
+use crate::pool::Numbering;
 use crate::pragmas::pragmas_of;
 use std::alloc::Global;
 use wap_base::{NoMemory, Rows};
 use wap_code::{Code, Unit};
-use wap_pool::Numbering;
 use wap_program::Program;
 
 /// How many constants a unit may have.

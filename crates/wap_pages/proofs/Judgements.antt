@@ -44,8 +44,8 @@ use Rattle.wap_compiled.specs.Units.{compiled}
 use Rattle.wap_accepted.specs.Reading.{accepted_in}
 use Rattle.wap_accepted.proofs.Accepting as accepting
 use Rattle.wap_codegen.specs.declared.fault.CompileFault.{CompileFault}
-use Rattle.wap_source_faults.proofs.Finding.{found}
-use Rattle.wap_source_faults.proofs.Alike as sources
+use Rattle.wap_codegen.proofs.SourceFaultsLemmas.Finding.{found}
+use Rattle.wap_codegen.proofs.SourceFaultsLemmas.Alike as sources
 use Rattle.wap_site.specs.Pages.{page_of, IsThere, AreSitePages}
 use Rattle.wap_site.specs.declared.page.Page.{Page}
 use Rattle.wap_site.specs.declared.page.Page.TheVariants as page

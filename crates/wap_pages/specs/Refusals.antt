@@ -11,7 +11,7 @@ use Rattle.wap_unit.specs.Units.{IsUnit}
 use Rattle.wap_unit.specs.Refusal as units
 use Rattle.wap_wbxml.specs.Refusal as documents
 use Rattle.wap_verify.specs.Faults.{IsFault}
-use Rattle.wap_source_faults.specs.Faults.{IsFaultOf}
+use Rattle.wap_codegen.specs.source_faults.Faults.{IsFaultOf}
 use Rattle.wap_pages.specs.declared.fault.PageFault.{PageFault}
 use Rattle.wap_pages.specs.declared.fault.PageFault.TheVariants as page
 

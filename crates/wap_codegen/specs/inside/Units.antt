@@ -9,7 +9,7 @@ use Rattle.wap_scope.specs.Meanings.{function_names}
 use Rattle.wap_scope_laws.specs.Known.{variables}
 use Rattle.wap_meaning.specs.Names.{url_in}
 use Rattle.wap_coding.specs.Constants.{Numbers}
-use Rattle.wap_pool.specs.Names.{AreOnce}
+use Rattle.wap_codegen.specs.pool.Names.{AreOnce}
 use Rattle.wap_compiled.specs.Pool.{pool}
 use Rattle.wap_compiled.specs.Wide.{function_wide}
 use Rattle.wap_compiled.specs.Savings.{saved, function_saves}

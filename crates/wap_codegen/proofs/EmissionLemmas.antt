@@ -1,0 +1,8 @@
+pub mod Branching
+pub mod Chaining
+pub mod Effects
+pub mod Extending
+pub mod Looping
+pub mod Parts
+pub mod StatementParts
+pub mod WritingParts

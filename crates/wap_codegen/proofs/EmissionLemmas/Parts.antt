@@ -1,0 +1,144 @@
+-- The code of expressions, by their parts.
+use Rattle.std.proofs.Common.{◌≡◌, ℕ, suc, Bool, true, false, List, [], ◌∷◌, length, map}
+use Rattle.std.proofs.Common.{Option, Result, OnOk, refl, sym, ap, ◌∙◌, subst}
+use Rattle.wap_value.specs.declared.operator.BinOp.{BinOp}
+use Rattle.wap_value.specs.declared.operator.UnOp.{UnOp}
+use Rattle.wap_code.specs.declared.row.OpName.TheVariants as op
+use Rattle.wap_asm.specs.declared.form.Form.{Form}
+use Rattle.wap_asm.specs.declared.form.Form.TheVariants.{Op}
+use Rattle.wap_program.specs.declared.program.Id.{Id}
+use Rattle.wap_program.specs.declared.expression.Literal.{Literal}
+use Rattle.wap_program.specs.declared.expression.Literal.TheVariants as literal
+use Rattle.wap_program.specs.declared.expression.Expr.{Expr}
+use Rattle.wap_program.specs.declared.expression.Expr.TheOpen.{Expr-F}
+use Rattle.wap_program.specs.declared.expression.Expr.TheFolds.{fold-roll-Expr}
+use Rattle.wap_program.specs.declared.expression.Expr.TheVariants as expr
+use Rattle.wap_program.specs.declared.expression.Expr.TheVariants.{
+  rolls-Lit,
+  rolls-Var,
+  rolls-Assign,
+  rolls-Step,
+  rolls-Unary,
+  rolls-Chain,
+  rolls-Cond,
+  rolls-Call,
+  rolls-External,
+  rolls-Library,
+}
+use Rattle.wap_meaning.specs.Names.{variable_at, function_at, numbers_of}
+use Rattle.wap_coding.specs.Coded.{Coded, one, ◌⨾◌, all_code, instr, plain, with_operand}
+use Rattle.wap_coding.specs.Constants.{Numbers, text_number, url_number}
+use Rattle.wap_coding.specs.Expressions.{literal_code, load_code, assigned_code, step_code}
+use Rattle.wap_coding.specs.Expressions.{unary_code, chain_code, cond_code, expr_code_by}
+use Rattle.wap_coding.specs.Expressions.{expr_code}
+use Rattle.wap_codegen.specs.emission.inside.Adding.{Extends}
+use Rattle.wap_codegen.specs.emission.inside.Operands.{coded, Chains, truth_name}
+
+counted : {X Y : Type 0} (f : X → Y) (xs : List X) → length (map f xs) ≡ length xs
+counted f [] = refl
+counted f (x ∷ xs) = ap suc (counted f xs)
+
+-- a text that isn't empty is a constant
+pub text_code : (numbers : Numbers) (text : List ℕ) → (text ≡ [] → ⊥)
+    → with_operand op.LoadConst (text_number numbers text) ≡ literal_code numbers (literal.Str text)
+text_code numbers [] some = absurd (some refl)
+text_code numbers (c ∷ cs) some = refl
+
+pub truth_code : (numbers : Numbers) (truth : Bool)
+    → plain (truth_name truth) ≡ literal_code numbers (literal.Bool truth)
+truth_code numbers true = refl
+truth_code numbers false = refl
+
+-- the operands of a call of another unit's function
+pub call_code : (before : Coded) (a b c d e f : ℕ) → a ≡ d → b ≡ e → c ≡ f
+    → before ⨾ one (λ exits at. Op (instr op.CallUrl a b c))
+    ≡ before ⨾ one (λ exits at. Op (instr op.CallUrl d e f))
+call_code before a b c d e f one_is two_is three_is =
+    ap (λ n. before ⨾ one (λ exits at. Op (instr op.CallUrl n b c))) one_is
+    ∙ ap (λ n. before ⨾ one (λ exits at. Op (instr op.CallUrl d n c))) two_is
+    ∙ ap (λ n. before ⨾ one (λ exits at. Op (instr op.CallUrl d e n))) three_is
+
+module _ (numbers : Numbers) where
+  abbrev code : Expr → Coded
+  code = expr_code numbers
+
+  pub of_literal : (l : Literal) → code (expr.Lit l) ≡ literal_code numbers l
+  unfolding expr_code
+  of_literal l = ap code (sym (rolls-Lit l))
+      ∙ fold-roll-Expr Coded (expr_code_by numbers) (Expr-F.Lit l)
+
+  pub of_variable : (v : Id) → code (expr.Var v) ≡ load_code (variable_at numbers.names v)
+  unfolding expr_code
+  of_variable v = ap code (sym (rolls-Var v))
+      ∙ fold-roll-Expr Coded (expr_code_by numbers) (Expr-F.Var v)
+
+  pub of_assignment : (v : Id) (o : Option BinOp) (e : Expr) → code (expr.Assign v o e)
+      ≡ assigned_code (variable_at numbers.names v) o (code e)
+  unfolding expr_code
+  of_assignment v o e = ap code (sym (rolls-Assign v o e))
+      ∙ fold-roll-Expr Coded (expr_code_by numbers) (Expr-F.Assign v o e)
+
+  pub of_step : (v : Id) (up before : Bool) → code (expr.Step v up before)
+      ≡ step_code (variable_at numbers.names v) up before
+  unfolding expr_code
+  of_step v up before = ap code (sym (rolls-Step v up before))
+      ∙ fold-roll-Expr Coded (expr_code_by numbers) (Expr-F.Step v up before)
+
+  pub of_unary : (o : UnOp) (e : Expr) → code (expr.Unary o e) ≡ code e ⨾ unary_code o
+  unfolding expr_code
+  of_unary o e = ap code (sym (rolls-Unary o e))
+      ∙ fold-roll-Expr Coded (expr_code_by numbers) (Expr-F.Unary o e)
+
+  pub of_chain : (e : Expr) (operands : List (BinOp × Expr)) → code (expr.Chain e operands)
+      ≡ chain_code (code e) (coded numbers operands)
+  unfolding expr_code
+  of_chain e operands = ap code (sym (rolls-Chain e operands))
+      ∙ fold-roll-Expr Coded (expr_code_by numbers) (Expr-F.Chain e operands)
+
+  pub of_choice : (c first second : Expr) → code (expr.Cond c first second)
+      ≡ cond_code (code c) (code first) (code second)
+  unfolding expr_code
+  of_choice c first second = ap code (sym (rolls-Cond c first second))
+      ∙ fold-roll-Expr Coded (expr_code_by numbers) (Expr-F.Cond c first second)
+
+  pub of_local : (f : Id) (es : List Expr) → code (expr.Call f es)
+      ≡ all_code (map code es) ⨾ with_operand op.Call (function_at numbers.names f)
+  unfolding expr_code
+  of_local f es = ap code (sym (rolls-Call f es))
+      ∙ fold-roll-Expr Coded (expr_code_by numbers) (Expr-F.Call f es)
+
+  pub of_external : (unit f : Id) (es : List Expr) → code (expr.External unit f es)
+      ≡ all_code (map code es) ⨾ one (λ exits at.
+      Op (instr op.CallUrl (url_number numbers unit) (text_number numbers f.name) (length es)))
+  unfolding expr_code
+  of_external unit f es = ap code (sym (rolls-External unit f es))
+      ∙ fold-roll-Expr Coded (expr_code_by numbers) (Expr-F.External unit f es)
+      ∙ ap (λ count. all_code (map code es) ⨾ one (λ exits at.
+      Op (instr op.CallUrl (url_number numbers unit) (text_number numbers f.name) count)))
+      (counted code es)
+
+  pub of_library : (l f : Id) (es : List Expr) → code (expr.Library l f es)
+      ≡ all_code (map code es) ⨾ one (λ exits at.
+      Op (instr op.CallLib (numbers_of l f).1 (numbers_of l f).0 0))
+  unfolding expr_code
+  of_library l f es = ap code (sym (rolls-Library l f es))
+      ∙ fold-roll-Expr Coded (expr_code_by numbers) (Expr-F.Library l f es)
+
+-- ---- the same parts
+
+pub part_same : (numbers : Numbers) (one other : Expr) (old new : List Form) → one ≡ other
+    → Extends (expr_code numbers one) old new → Extends (expr_code numbers other) old new
+part_same numbers one other old new same is =
+    subst (λ (e : Expr). Extends (expr_code numbers e) old new) same is
+
+pub parts_same : (numbers : Numbers) (some others : List Expr) (old new : List Form) → some ≡ others
+    → Extends (all_code (map (expr_code numbers) some)) old new
+    → Extends (all_code (map (expr_code numbers) others)) old new
+parts_same numbers some others old new same is =
+    subst (λ (es : List Expr). Extends (all_code (map (expr_code numbers) es)) old new) same is
+
+pub chains_same : {E : Type 0} (numbers : Numbers) (some others : List (BinOp × Expr))
+    (old new : List Form) (r : Result (Unit {0}) E) → some ≡ others
+    → OnOk r (Chains numbers some old new) → OnOk r (Chains numbers others old new)
+chains_same numbers some others old new r same is =
+    subst (λ (operands : List (BinOp × Expr)). OnOk r (Chains numbers operands old new)) same is

@@ -1,0 +1,6 @@
+pub mod Numbered
+pub mod Parts
+pub mod Pooling
+pub mod Declared
+pub mod Once
+pub mod Needed

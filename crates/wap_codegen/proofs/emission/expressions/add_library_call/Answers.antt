@@ -1,0 +1,13 @@
+use Rattle.std.proofs.Common.{ℕ, ap}
+use Rattle.wap_code.specs.declared.row.OpName.TheVariants as op
+use Rattle.wap_asm.specs.declared.form.Form.TheVariants.{Op}
+use Rattle.wap_coding.specs.Coded.{one, instr}
+use Rattle.wap_codegen.proofs.EmissionLemmas.Chaining.{after_same}
+use Rattle.wap_codegen.proofs.emission.expressions.add_library_call.Goals as goal
+
+pub returns : goal.returns
+returns c =
+    after_same _ _ _ _ c.add_op.result
+    (ap (λ (numbers : ℕ × ℕ). one (λ exits at. Op (instr op.CallLib numbers.1 numbers.0 0)))
+    c.library_numbers-numbers.ensures)
+    c.add_op.ensures

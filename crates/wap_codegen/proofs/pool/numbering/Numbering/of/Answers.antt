@@ -1,0 +1,18 @@
+-- of
+use Rattle.std.proofs.Common.{List, ap, ◌∙◌}
+use Rattle.std.specs.List.{flat_map}
+use Rattle.wap_program.specs.declared.expression.Literal.{Literal}
+use Rattle.wap_coding.specs.Constants.{pooled}
+use Rattle.wap_coding.specs.Needs.{literals_of}
+use Rattle.wap_codegen.specs.pool.inside.Pools.{program_needs}
+use Rattle.wap_codegen.proofs.PoolLemmas.Needed.{all_pooled}
+use Rattle.wap_codegen.proofs.pool.numbering.Numbering.of.Goals as goal
+
+pub returns-clause-pool : goal.returns-clause-pool
+returns-clause-pool c =
+    c.in_ok-add_constants.ensures.pool
+    ∙ ap (λ (pool : List Literal). pooled pool
+    (flat_map (literals_of c.in_ok-numbering.numbering.names) (program_needs c.args.program.now)))
+    c.in_ok-numbering.ensures.pool
+    ∙ all_pooled c.args.program.now c.in_ok-numbering.numbering.names
+    c.in_ok-numbering.ensures.names

@@ -1,0 +1,23 @@
+use Rattle.std.proofs.Common.{[], ◌∷◌, map}
+use Rattle.wap_program.specs.declared.program.Id.{Id}
+use Rattle.wap_scope.specs.Names.{Declares}
+use Rattle.wap_codegen.proofs.PoolLemmas.Declared.{leaves_all, leaves_more, leaves_none}
+use Rattle.wap_codegen.proofs.PoolLemmas.Declared.{declares_parameter}
+use Rattle.wap_codegen.proofs.PoolLemmas.Declared.{declaring_same, parameters_flat}
+use Rattle.wap_codegen.proofs.pool.variables.add_parameters.Goals as goal
+
+pub loop-param-init : goal.loop-param-init
+loop-param-init c = leaves_all (λ (v : Id). Declares v ∷ []) c.args.params.now c.args.names.now
+
+pub loop-param-preserved : goal.loop-param-preserved
+loop-param-preserved c =
+    leaves_more (λ (v : Id). Declares v ∷ []) c.args.params.now c.loop-param.param-index
+    c.param-item.result c.args.names.now c.loop-param.names c.add.new.self
+    c.loop-param-test.true c.param-item.is c.loop-param.invariant
+    (declares_parameter c.param-item.result _ _ c.in_ok-add.ensures)
+
+pub returns : goal.returns
+returns c =
+    declaring_same (map Declares c.args.params.now) (parameters_flat c.args.params.now)
+    (leaves_none (λ (v : Id). Declares v ∷ []) c.args.params.now c.loop-param.param-index
+    c.args.names.now c.loop-param.names c.loop-param-test.false c.loop-param.invariant)

@@ -1,4 +1,0 @@
-use Rattle.wap_emission.proofs.expressions.add_before.Goals as goal
-
-pub returns-in-Some : goal.returns-in-Some
-returns-in-Some c = rw c.in-Some.is c.add_with.ensures

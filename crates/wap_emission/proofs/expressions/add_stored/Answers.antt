@@ -1,5 +1,0 @@
-use Rattle.wap_emission.proofs.Chaining.{after_both}
-use Rattle.wap_emission.proofs.expressions.add_stored.Goals as goal
-
-pub returns : goal.returns
-returns c = after_both _ _ _ _ _ c.add_with-2.result c.in_ok-add_with.ensures c.add_with-2.ensures

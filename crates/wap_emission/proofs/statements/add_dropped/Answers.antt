@@ -1,7 +1,0 @@
-use Rattle.wap_emission.proofs.Chaining.{after_both}
-use Rattle.wap_emission.proofs.statements.add_dropped.Goals as goal
-
-pub returns : goal.returns
-returns c =
-    after_both _ _ _ _ _ c.add_plain.result c.in_ok-add_expression.ensures
-    c.add_plain.ensures

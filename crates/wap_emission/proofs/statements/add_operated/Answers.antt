@@ -1,7 +1,0 @@
-use Rattle.wap_emission.proofs.statements.add_operated.Goals as goal
-
-pub returns-in-None : goal.returns-in-None
-returns-in-None c = rw c.in-None.is c.add_dropped.ensures
-
-pub returns-in-Some : goal.returns-in-Some
-returns-in-Some c = rw c.in-Some.is c.add_changed.ensures

@@ -1,6 +1,0 @@
-mod Numbered
-mod Parts
-mod Pooling
-mod Declared
-pub mod Once
-mod Needed

@@ -1,8 +1,0 @@
-use Rattle.wap_coding.specs.Needs.{stmt_needs}
-use Rattle.wap_pool.specs.inside.Leaves.{Leaves}
-use Rattle.wap_pool.proofs.statements.+statements.Given as goal
-
--- those of so many statements are added
-abbrev pub invariant-add_statements-loop-statement : goal.invariant-add_statements-loop-statement
-invariant-add_statements-loop-statement l =
-    Leaves stmt_needs l.statements l.statement-index l.initial.numbering l.numbering

@@ -1,7 +1,0 @@
-use Rattle.wap_scope.specs.Names.{declares}
-use Rattle.wap_pool.specs.inside.Declaring.{LeavesNames}
-use Rattle.wap_pool.proofs.variables.add_declarations.Given as goal
-
--- the names of so many declarations are added
-abbrev pub invariant-loop-pair : goal.invariant-loop-pair
-invariant-loop-pair l = LeavesNames declares l.pairs l.pair-index l.initial.names l.names
