@@ -2,8 +2,8 @@
 -- own.
 use Rattle.std.specs.Prelude.{[], Some, None}
 use Rattle.wap_base.specs.Limits.{default_limits}
-use Rattle.wap_site.specs.Pages.{Pages}
-use Rattle.wap_site.specs.Asking.{Seen}
+use Rattle.wap_world.specs.site.Pages.{Pages}
+use Rattle.wap_world.specs.site.Asking.{Seen}
 use Rattle.wap_world.specs.Sessions.{Begun}
 use Rattle.wap_calling.specs.declared.terminal.TheConstants.{SEED, BUDGET}
 

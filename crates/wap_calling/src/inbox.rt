@@ -9,7 +9,7 @@ use std::alloc::Global;
 use wap_base::Limits;
 use wap_lines::Lines;
 use wap_session::handset::{Handset, Key, SessionFault};
-use wap_site::Pages;
+use wap_world::site::Pages;
 
 /// A browser in which nothing was done, and whose inbox is empty.
 pub fn new_handset(alloc: Global) -> Handset

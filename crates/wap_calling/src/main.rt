@@ -23,7 +23,7 @@ use wap_base::{Bytes, NoMemory, Text};
 use wap_lines::Lines;
 use wap_pages::{PageErr, judge};
 use wap_session::{Key, Session, SessionFault};
-use wap_site::Page;
+use wap_world::site::Page;
 
 /// A card that greets, and whose do calls the script:
 ///

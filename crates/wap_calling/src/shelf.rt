@@ -1,14 +1,14 @@
 //! Pages of one's own: what a caller owes to a session.
 ghost use Rattle.std.specs.Prelude.{◌≡◌, [], ◌∷◌, IfOk, OnOk, IfErr, IsErrOf};
 ghost use Rattle.std.specs.Option.{option_copied};
-ghost use Rattle.wap_site.specs.Pages.{page_under, page_of, AreSitePages};
-ghost use Rattle.wap_site.specs.Asking.{Stays, Asks, Fails};
+ghost use Rattle.wap_world.specs.site.Pages.{page_under, page_of, AreSitePages};
+ghost use Rattle.wap_world.specs.site.Asking.{Stays, Asks, Fails};
 ghost use Rattle.wap_calling.specs.Calling.{seen_of};
 
 use std::alloc::Global;
 use std::marker::Model;
 use wap_base::{NoMemory, RunErr, Text};
-use wap_site::{Page, Pages};
+use wap_world::site::{Page, Pages};
 
 /// Pages in memory, by their names. No name stands twice, and none of them is missing.
 #[derive(Drop)]
@@ -19,7 +19,7 @@ pub struct Shelf {
 impl Model for Shelf {
     ghost use Rattle.wap_markup.specs.contracts.deck.Item as item;
     ghost use Rattle.std.specs.Coded.{codes};
-    ghost use Rattle.wap_site.specs.Pages.{Pages as Site, AreSitePages};
+    ghost use Rattle.wap_world.specs.site.Pages.{Pages as Site, AreSitePages};
 
     ghost Value = { Site };
 

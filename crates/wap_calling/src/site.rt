@@ -1,11 +1,11 @@
 //! Which pages may be those of a site.
 ghost use Rattle.std.specs.Prelude.{◌≡◌, All, IfOk, IsTrue, ◌↔◌};
 ghost use Rattle.std.specs.Map.{keys_of};
-ghost use Rattle.wap_site.specs.Pages.{IsThere, AreSitePages};
+ghost use Rattle.wap_world.specs.site.Pages.{IsThere, AreSitePages};
 
 use std::alloc::Global;
 use wap_base::{NoMemory, Text, are_distinct};
-use wap_site::Page;
+use wap_world::site::Page;
 
 /// Whether there is a page.
 fn is_there(page: &Page) -> bool

@@ -2,7 +2,7 @@
 ghost use Rattle.std.specs.Prelude.{◌≡◌, ◌∷◌, [], true, false, is_some, IfOk, OnOk, IfSome, Ok};
 ghost use Rattle.wap_input.specs.declared.key.Key.TheVariants.{Answer};
 ghost use Rattle.wap_world.specs.Sessions.{shown, played, world_of};
-ghost use Rattle.wap_scripting.specs.UnitSites.{unit_pages};
+ghost use Rattle.wap_world.specs.scripting.UnitSites.{unit_pages};
 ghost use Rattle.wap_context.specs.Sites.{site_of, IfOver};
 ghost use Rattle.wap_session.specs.Feeding.{beginning, shown_of};
 ghost use Rattle.wap_calling.specs.Calling.{begun};
@@ -11,7 +11,7 @@ use std::alloc::Global;
 use wap_base::{Limits, Text};
 use wap_lines::Lines;
 use wap_session::{Key, Session, SessionFault};
-use wap_site::Pages;
+use wap_world::site::Pages;
 
 /// The seed of random numbers.
 pub const SEED: u32 = 1;

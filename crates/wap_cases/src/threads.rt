@@ -23,13 +23,13 @@ use wap_parse::{Expr, Function, ParseFault, Program, Stmt, Use};
 use wap_push::{Indication, PushFault};
 use wap_scope::{ScopeFault, Scoped};
 use wap_session::SessionFault;
-use wap_site::Page;
 use wap_unit::UnitFault;
 use wap_url::{Access, Url, UrlFault};
 use wap_value::{BinOp, UnOp, Value, ValueFault};
 use wap_vars::{VarFault, Vars};
 use wap_verify::{Step, Verified, VerifyFault, Way};
 use wap_wbxml::DocFault;
+use wap_world::site::Page;
 
 fn crosses<T: Send + Sync>() {}
 

@@ -8,7 +8,7 @@ use Rattle.wap_invocation.specs.Calls.{IsCall}
 use Rattle.wap_invocation.specs.Reading.{call_of}
 use Rattle.wap_invocation.proofs.CallReading.{is_call, is_read}
 use Rattle.wap_world.specs.Sites.{Call}
-use Rattle.wap_scripting.specs.UnitSites.{unit_pages, units_site}
+use Rattle.wap_world.specs.scripting.UnitSites.{unit_pages, units_site}
 use Rattle.wap_context.specs.Sites.{fragment_call}
 use Rattle.wap_pages.specs.Judged.{judged}
 use Rattle.wap_site_laws.specs.pages.SourcePages.{ArePages}

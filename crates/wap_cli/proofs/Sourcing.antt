@@ -9,14 +9,14 @@ use Rattle.wap_input.specs.declared.key.Key.{Key}
 use Rattle.wap_input.specs.declared.key.Key.TheVariants.{Open}
 use Rattle.wap_keys.specs.declared.ending.Ending.TheVariants.{End}
 use Rattle.wap_keys.specs.Lines.{Keys, keys_of}
-use Rattle.wap_site.specs.Asking.{Seen}
+use Rattle.wap_world.specs.site.Asking.{Seen}
 use Rattle.wap_world.specs.Sites.{Site}
 use Rattle.wap_world.specs.Steps.{Step}
 use Rattle.wap_world.specs.Sessions.{Begun, world_of}
 use Rattle.wap_push.specs.Pushes.{push_at}
-use Rattle.wap_inboxes.specs.Inboxes.{Stepped}
-use Rattle.wap_inboxes.specs.Sessions.{session_with}
-use Rattle.wap_scripting.specs.UnitSites.{Pages, unit_pages}
+use Rattle.wap_world.specs.inboxes.Inboxes.{Stepped}
+use Rattle.wap_world.specs.inboxes.Sessions.{session_with}
+use Rattle.wap_world.specs.scripting.UnitSites.{Pages, unit_pages}
 use Rattle.wap_context.specs.Sites.{site_of as units_over}
 use Rattle.wap_site_laws.proofs.ExchangeLemmas.Inboxes.{denied_sources_with}
 use Rattle.wap_site_laws.specs.programs.Programs.{programs}

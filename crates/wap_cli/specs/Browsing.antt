@@ -12,8 +12,8 @@ use Rattle.wap_world.specs.Sites.{Call, Site}
 use Rattle.wap_world.specs.Steps.{Step}
 use Rattle.wap_world.specs.Sessions.{Begun}
 use Rattle.wap_push.specs.Pushes.{push_at}
-use Rattle.wap_inboxes.specs.Sessions.{session_with}
-use Rattle.wap_scripting.specs.Sources.{AllPages, Agrees, site_of, compiled_pages}
+use Rattle.wap_world.specs.inboxes.Sessions.{session_with}
+use Rattle.wap_world.specs.scripting.Sources.{AllPages, Agrees, site_of, compiled_pages}
 use Rattle.wap_site_laws.specs.exchange.Denial.{is_entered, DifferWithin}
 use Rattle.wap_site_laws.specs.programs.Programs.{Accepted, programs}
 use Rattle.wap_site_laws.specs.pages.SourcePages.{ArePages}

@@ -11,8 +11,8 @@ use Rattle.wap_cardrules.specs.declared.event.Event.TheVariants.{Forward, Backwa
 use Rattle.wap_cardrules.specs.declared.task.Task.{Task}
 use Rattle.wap_cardrules.specs.Values.{Pairs}
 use Rattle.wap_world.specs.Shelves.{Shelf}
-use Rattle.wap_site.specs.declared.page.Page.{Page}
-use Rattle.wap_site.specs.declared.page.Page.TheVariants as page
+use Rattle.wap_world.specs.declared.site.page.Page.{Page}
+use Rattle.wap_world.specs.declared.site.page.Page.TheVariants as page
 use Rattle.wap_world.specs.declared.history.Entry.{Entry}
 use Rattle.wap_world.specs.declared.refusal.Refusal.{Refusal}
 use Rattle.wap_world.specs.declared.timer.Timer.TheVariants.{NotStarted}

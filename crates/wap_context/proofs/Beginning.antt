@@ -21,8 +21,8 @@ use Rattle.wap_execution_laws.specs.Settings.{uncounted}
 use Rattle.wap_frames.specs.Standing.{CanEnter}
 use Rattle.wap_machine.specs.Stacks.{Stack, stack, answered, IsEntered}
 use Rattle.wap_cardrules.specs.Values.{Pairs}
-use Rattle.wap_site.specs.Asking.{Seen}
-use Rattle.wap_site.proofs.Asking.{Asks-nil, Stays-same}
+use Rattle.wap_world.specs.site.Asking.{Seen}
+use Rattle.wap_world.proofs.SiteLemmas.Asking.{Asks-nil, Stays-same}
 use Rattle.wap_world.specs.Shelves.{Shelf}
 use Rattle.wap_world.specs.World.{World, Place}
 use Rattle.wap_world.specs.Steps.{Scene, Step, still, behind, quiet, settled, after_step}
@@ -32,9 +32,9 @@ use Rattle.wap_world.specs.Access.{may_enter}
 use Rattle.wap_world.specs.Requests.{test, test_of}
 use Rattle.wap_world.specs.Starting.{script_line, is_too_long, not_started, ended_script}
 use Rattle.wap_world.proofs.Joining.{once_before}
-use Rattle.wap_scripting.specs.Units.{entrance_in, index_named, external_in}
-use Rattle.wap_scripting.specs.UnitSites.{Pages, shelf_of, keyed_host, ran_of, started_at}
-use Rattle.wap_scripting.specs.Waiting.{inside}
+use Rattle.wap_world.specs.scripting.Units.{entrance_in, index_named, external_in}
+use Rattle.wap_world.specs.scripting.UnitSites.{Pages, shelf_of, keyed_host, ran_of, started_at}
+use Rattle.wap_world.specs.scripting.Waiting.{inside}
 use Rattle.wap_state.specs.Scenes.{Line}
 use Rattle.wap_context.specs.declared.waiting.Went.{Went}
 use Rattle.wap_context.specs.declared.starting.Start.{Start}

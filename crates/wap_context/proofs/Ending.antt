@@ -21,7 +21,7 @@ use Rattle.wap_world.proofs.Joining.{before, once_before, or_false, joined_nothi
 use Rattle.wap_machine.specs.Runs.{meant, KeepsLimits}
 use Rattle.wap_machine.specs.declared.machine.Outcome.{Outcome}
 use Rattle.wap_machine.specs.declared.machine.Outcome.TheVariants.{Done, Exited, Fatal as Died, Asks}
-use Rattle.wap_scripting.specs.Halves.{half_by}
+use Rattle.wap_world.specs.scripting.Halves.{half_by}
 use Rattle.wap_state.specs.Scenes.{Line}
 use Rattle.wap_context.specs.Browsers.{Browser, IsOver, place_held}
 use Rattle.wap_context.specs.inside.Held.{show_at, entered_at, begun_at}

@@ -4,9 +4,9 @@ use Rattle.std.proofs.Common.{Option, Some, None, refl, sym, ap, subst, ◌∙�
 use Rattle.std.proofs.Math.Nat.{eq-or-lt_of_le}
 use Rattle.std.specs.Prelude.{IfSome, option_map}
 use Rattle.wap_base.specs.Count.{greatest_count, raised, Rose}
-use Rattle.wap_site.specs.Misses.{Cache, Asked, after_all, misses}
-use Rattle.wap_site.specs.Asking.{Seen, raised_by, RaisedWithin, Stays, Asks, Fails}
-use Rattle.wap_site.proofs.Counts.{misses-then, raised_by-then}
+use Rattle.wap_world.specs.site.Misses.{Cache, Asked, after_all, misses}
+use Rattle.wap_world.specs.site.Asking.{Seen, raised_by, RaisedWithin, Stays, Asks, Fails}
+use Rattle.wap_world.proofs.SiteLemmas.Counts.{misses-then, raised_by-then}
 use Rattle.wap_context.specs.Missing.{Missed}
 
 -- ---- counts

@@ -10,8 +10,8 @@ use Rattle.wap_base.specs.declared.fault.RunErr.TheVariants.{NoMemory}
 use Rattle.wap_input.specs.declared.key.Key.{Key}
 use Rattle.wap_cardrules.specs.declared.event.Event.TheVariants as event
 use Rattle.wap_cardrules.specs.declared.task.Task.{Task}
-use Rattle.wap_site.specs.Asking.{Seen, Stays}
-use Rattle.wap_site.proofs.Asking.{Asks-nil, Stays-same}
+use Rattle.wap_world.specs.site.Asking.{Seen, Stays}
+use Rattle.wap_world.proofs.SiteLemmas.Asking.{Asks-nil, Stays-same}
 use Rattle.wap_world.specs.declared.timer.Timer.{Timer}
 use Rattle.wap_world.specs.declared.timer.Timer.TheVariants.{NotStarted, Running, Off, Expired}
 use Rattle.wap_world.specs.Shelves.{Shelf}
@@ -22,8 +22,8 @@ use Rattle.wap_world.specs.Entering.{event_task}
 use Rattle.wap_world.specs.Tasks.{act}
 use Rattle.wap_world.specs.Keys.{ignored, act_or, expire, pass_time, at_card}
 use Rattle.wap_world.proofs.Joining.{joined_nothing}
-use Rattle.wap_scripting.specs.Dialogs.{tick_waiting}
-use Rattle.wap_scripting.specs.UnitSites.{Pages, shelf_of, units_site}
+use Rattle.wap_world.specs.scripting.Dialogs.{tick_waiting}
+use Rattle.wap_world.specs.scripting.UnitSites.{Pages, shelf_of, units_site}
 use Rattle.wap_state.specs.Scenes.{Line}
 use Rattle.wap_context.specs.declared.waiting.Went.{Went}
 use Rattle.wap_context.specs.declared.waiting.Went.TheVariants.{Settled, Leads, Asks as AsksUser}

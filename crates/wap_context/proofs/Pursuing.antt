@@ -10,20 +10,20 @@ use Rattle.wap_url.specs.declared.url.Url.{Url}
 use Rattle.wap_input.specs.declared.key.Key.{Key}
 use Rattle.wap_execution.specs.declared.dialog.Dialog.{Dialog}
 use Rattle.wap_cardrules.specs.declared.task.Task.{Task}
-use Rattle.wap_site.specs.Asking.{Seen, Stays, Asks}
-use Rattle.wap_site.specs.Misses.{Asked as Question}
-use Rattle.wap_site.proofs.Asking.{Asks-nil, Asks-then, Stays-same, Stays-then}
+use Rattle.wap_world.specs.site.Asking.{Seen, Stays, Asks}
+use Rattle.wap_world.specs.site.Misses.{Asked as Question}
+use Rattle.wap_world.proofs.SiteLemmas.Asking.{Asks-nil, Asks-then, Stays-same, Stays-then}
 use Rattle.wap_world.specs.World.{World}
 use Rattle.wap_world.specs.Steps.{Step, Once, Next, still, quiet, joined}
 use Rattle.wap_world.specs.Tasks.{go_on, onward, act, task_once}
 use Rattle.wap_world.proofs.Joining.{before, joined_assoc, joined_nothing}
-use Rattle.wap_world_laws.proofs.Following.{act_goes_on}
-use Rattle.wap_scripting.specs.UnitSites.{Pages, shelf_of}
-use Rattle.wap_scripting.specs.Waiting.{Waits, left_over, resumed_step}
-use Rattle.wap_scripting.specs.Halves.{once_by}
-use Rattle.wap_scripting.specs.Feeding.{meaning}
-use Rattle.wap_scripting_laws.proofs.Feeding.{waits_means}
-use Rattle.wap_scripting_laws.proofs.Keeping.{units_fall}
+use Rattle.wap_world.proofs.SessionLawsLemmas.Following.{act_goes_on}
+use Rattle.wap_world.specs.scripting.UnitSites.{Pages, shelf_of}
+use Rattle.wap_world.specs.scripting.Waiting.{Waits, left_over, resumed_step}
+use Rattle.wap_world.specs.scripting.Halves.{once_by}
+use Rattle.wap_world.specs.scripting.Feeding.{meaning}
+use Rattle.wap_world.proofs.ScriptingLawsLemmas.Feeding.{waits_means}
+use Rattle.wap_world.proofs.ScriptingLawsLemmas.Keeping.{units_fall}
 use Rattle.wap_state.specs.Scenes.{Line}
 use Rattle.wap_context.specs.declared.waiting.Went.{Went}
 use Rattle.wap_context.specs.declared.waiting.Went.TheVariants.{Settled, Leads, Asks as AsksUser}

@@ -17,11 +17,11 @@ use Rattle.wap_cardrules.specs.declared.task.Task.{Task}
 use Rattle.wap_cardrules.specs.declared.task.Task.TheVariants as task
 use Rattle.wap_cardrules.specs.declared.task.Go.{Go}
 use Rattle.wap_cardrules.specs.Values.{Pairs}
-use Rattle.wap_site.specs.declared.page.Page.{Page as JudgedPage}
-use Rattle.wap_site.specs.declared.page.Page.TheVariants as judged_page
-use Rattle.wap_site.specs.Pages.{Pages as JudgedPages, page_of, AreSitePages}
-use Rattle.wap_site.specs.Asking.{Seen, Stays, Asks}
-use Rattle.wap_site.specs.Misses.{Asked as Question}
+use Rattle.wap_world.specs.declared.site.page.Page.{Page as JudgedPage}
+use Rattle.wap_world.specs.declared.site.page.Page.TheVariants as judged_page
+use Rattle.wap_world.specs.site.Pages.{Pages as JudgedPages, page_of, AreSitePages}
+use Rattle.wap_world.specs.site.Asking.{Seen, Stays, Asks}
+use Rattle.wap_world.specs.site.Misses.{Asked as Question}
 use Rattle.wap_world.specs.declared.history.Entry.{Entry}
 use Rattle.wap_world.specs.declared.refusal.Refusal.{Refusal}
 use Rattle.wap_world.specs.declared.refusal.Refusal.TheVariants as refusals
@@ -40,7 +40,7 @@ use Rattle.wap_world.specs.Tasks.{base_now}
 use Rattle.wap_world.specs.Tasks.{back_from, go, open_url, prev, with_turn, task_once}
 use Rattle.wap_world.specs.Tasks.{refresh_place, refresh}
 use Rattle.wap_world.proofs.Joining.{once_before}
-use Rattle.wap_scripting.specs.UnitSites.{Pages, shelf_of, unit_pages, units_site}
+use Rattle.wap_world.specs.scripting.UnitSites.{Pages, shelf_of, unit_pages, units_site}
 use Rattle.wap_context.specs.host.Finding.{shelved_page}
 use Rattle.wap_context.proofs.HostLemmas.Shelves.{shelved_is}
 use Rattle.wap_state.specs.Scenes.{Line}

@@ -9,18 +9,18 @@ use Rattle.wap_base.specs.declared.fault.RunErr.TheVariants.{Store, NoMemory}
 use Rattle.wap_url.specs.Printing.{name_for}
 use Rattle.wap_markup.specs.declared.deck.Deck.{Deck}
 use Rattle.wap_parts.specs.declared.parts.ContextParts.{ContextParts}
-use Rattle.wap_site.specs.declared.page.Page.{Page}
-use Rattle.wap_site.specs.declared.page.Page.TheVariants as page
-use Rattle.wap_site.specs.Pages.{Pages as JudgedPages, page_of}
-use Rattle.wap_site.specs.Misses.{Asked as Question}
-use Rattle.wap_site.specs.Asking.{Seen, Stays, Asks}
-use Rattle.wap_site.proofs.Asking.{Stays-same}
+use Rattle.wap_world.specs.declared.site.page.Page.{Page}
+use Rattle.wap_world.specs.declared.site.page.Page.TheVariants as page
+use Rattle.wap_world.specs.site.Pages.{Pages as JudgedPages, page_of}
+use Rattle.wap_world.specs.site.Misses.{Asked as Question}
+use Rattle.wap_world.specs.site.Asking.{Seen, Stays, Asks}
+use Rattle.wap_world.proofs.SiteLemmas.Asking.{Stays-same}
 use Rattle.wap_world.specs.declared.history.Entry.{Entry}
 use Rattle.wap_world.specs.World.{World, last_entry, deck_at, deck_in}
 use Rattle.wap_world.specs.History.{all_but_last, in_deck}
 use Rattle.wap_markup.specs.Cards.{cards_of}
 use Rattle.wap_world.proofs.Entries.{last_pushed, earlier_url}
-use Rattle.wap_scripting.specs.UnitSites.{shelf_of, unit_pages}
+use Rattle.wap_world.specs.scripting.UnitSites.{shelf_of, unit_pages}
 use Rattle.wap_state.specs.Saved.{saved_world}
 use Rattle.wap_context.specs.declared.saved.Revived.{Revived}
 use Rattle.wap_context.specs.declared.saved.Revived.TheVariants.{Context}
@@ -29,8 +29,8 @@ use Rattle.wap_context.specs.Missing.{Missed}
 use Rattle.wap_context.specs.Saved.{with_last_in, revived_on, revived, asked_for, StandsOver}
 use Rattle.wap_context.specs.Saved.{IsRevived, Revives}
 use Rattle.wap_context.specs.inside.Reviving.{AsksPage, IsReturned, Returns}
-use Rattle.wap_site.proofs.Asking.{Asks-nil}
-use Rattle.wap_site.specs.Pages.{AreSitePages}
+use Rattle.wap_world.proofs.SiteLemmas.Asking.{Asks-nil}
+use Rattle.wap_world.specs.site.Pages.{AreSitePages}
 use Rattle.wap_context.specs.host.Finding.{shelved_page}
 use Rattle.wap_context.proofs.HostLemmas.Shelves.{shelved_is}
 

@@ -19,10 +19,11 @@ use Rattle.wap_machine.specs.Hosts.{AtMost, Fetches}
 use Rattle.wap_machine.specs.Stacks.{Stack}
 use Rattle.wap_machine.specs.Runs.{run_of as machine_run, IsEnd, KeepsLimits}
 use Rattle.wap_machine.specs.declared.machine.Outcome.{Outcome}
-use Rattle.wap_site.specs.Pages.{Pages as JudgedPages}
-use Rattle.wap_site.specs.Misses.{Cache, Asked as Question, is_miss, after_asking, after_all, misses}
-use Rattle.wap_site.specs.Asking.{Seen, raised_by, RaisedWithin, Stays, Asks}
-use Rattle.wap_site.proofs.Counts.{raised_by-then}
+use Rattle.wap_world.specs.site.Pages.{Pages as JudgedPages}
+use Rattle.wap_world.specs.site.Misses.{Cache, Asked as Question, is_miss, after_asking, after_all}
+use Rattle.wap_world.specs.site.Misses.{misses}
+use Rattle.wap_world.specs.site.Asking.{Seen, raised_by, RaisedWithin, Stays, Asks}
+use Rattle.wap_world.proofs.SiteLemmas.Counts.{raised_by-then}
 use Rattle.wap_world.specs.declared.history.Entry.{Entry}
 use Rattle.wap_world.specs.World.{World, Place, place_now, deck_at, last_entry}
 use Rattle.wap_world.specs.Steps.{Step, Once, quiet, after_step}
@@ -30,14 +31,15 @@ use Rattle.wap_cardrules.specs.declared.task.Task.{Task}
 use Rattle.wap_world.specs.Shelves.{Shelf}
 use Rattle.wap_world.specs.Starting.{in_world, end_done}
 use Rattle.wap_world.proofs.Joining.{once_before}
-use Rattle.wap_scripting.specs.UnitSites.{Pages, shelf_of, externals_of, unit_under, host_of, unit_pages}
-use Rattle.wap_scripting.specs.Views.{Counted, counted_all, View, viewing, view_of, Shows}
-use Rattle.wap_scripting.specs.Views.{IsAtHand, NoStep, NoView}
-use Rattle.wap_scripting.specs.Waiting.{Waits, inside}
-use Rattle.wap_scripting.specs.Halves.{Half, half_by, half_of, once_by, once_of}
-use Rattle.wap_scripting_laws.proofs.Plain.{external_plain, library_plain}
-use Rattle.wap_scripting_laws.proofs.Runs.{starts}
-use Rattle.wap_scripting_laws.proofs.Viewing.{views_run_alike}
+use Rattle.wap_world.specs.scripting.UnitSites.{Pages, shelf_of, externals_of, unit_under, host_of}
+use Rattle.wap_world.specs.scripting.UnitSites.{unit_pages}
+use Rattle.wap_world.specs.scripting.Views.{Counted, counted_all, View, viewing, view_of, Shows}
+use Rattle.wap_world.specs.scripting.Views.{IsAtHand, NoStep, NoView}
+use Rattle.wap_world.specs.scripting.Waiting.{Waits, inside}
+use Rattle.wap_world.specs.scripting.Halves.{Half, half_by, half_of, once_by, once_of}
+use Rattle.wap_world.proofs.ScriptingLawsLemmas.Plain.{external_plain, library_plain}
+use Rattle.wap_world.proofs.ScriptingLawsLemmas.Runs.{starts}
+use Rattle.wap_world.proofs.ScriptingLawsLemmas.Viewing.{views_run_alike}
 use Rattle.wap_state.specs.Scenes.{Line}
 use Rattle.wap_context.specs.host.Stages.{Stage, told, counted_in, count_of, fetched_in}
 use Rattle.wap_context.specs.declared.waiting.Went.{Went}

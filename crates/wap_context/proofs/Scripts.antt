@@ -14,8 +14,8 @@ use Rattle.wap_execution.specs.declared.fatal.Fatal.TheVariants as fatal
 use Rattle.wap_execution_laws.specs.Settings.{uncounted}
 use Rattle.wap_input.specs.declared.key.Key.{Key}
 use Rattle.wap_cardrules.specs.Values.{Pairs}
-use Rattle.wap_site.specs.declared.page.Page.TheVariants as page
-use Rattle.wap_site.specs.Pages.{Pages as JudgedPages, page_of}
+use Rattle.wap_world.specs.declared.site.page.Page.TheVariants as page
+use Rattle.wap_world.specs.site.Pages.{Pages as JudgedPages, page_of}
 use Rattle.wap_world.specs.Sites.{External, Call}
 use Rattle.wap_world.specs.World.{World}
 use Rattle.wap_world.specs.Steps.{quiet, after_step}
@@ -24,10 +24,11 @@ use Rattle.wap_world.specs.Requests.{test, test_of}
 use Rattle.wap_world.specs.Starting.{is_too_long, not_started, prepared, ended_script, start_external}
 use Rattle.wap_world.specs.Starting.{started, start_call, start_if}
 use Rattle.wap_world.specs.Tasks.{answered}
-use Rattle.wap_scripting.specs.Units.{entrance_in, external_in}
-use Rattle.wap_scripting.specs.UnitSites.{Pages, shelf_of, unit_under, externals_of, keyed_host}
-use Rattle.wap_scripting.specs.UnitSites.{ran_of, started_at, unit_pages}
-use Rattle.wap_scripting.specs.UnitSites.{units_site}
+use Rattle.wap_world.specs.scripting.Units.{entrance_in, external_in}
+use Rattle.wap_world.specs.scripting.UnitSites.{Pages, shelf_of, unit_under, externals_of}
+use Rattle.wap_world.specs.scripting.UnitSites.{keyed_host}
+use Rattle.wap_world.specs.scripting.UnitSites.{ran_of, started_at, unit_pages}
+use Rattle.wap_world.specs.scripting.UnitSites.{units_site}
 use Rattle.wap_context.specs.host.Finding.{shelved_page}
 use Rattle.wap_context.proofs.HostLemmas.Shelves.{unit_is, externals_are}
 use Rattle.wap_context.specs.declared.starting.Start.TheVariants.{Not, Runs}

@@ -10,20 +10,20 @@ use Rattle.wap_base.specs.Count.{Rose}
 use Rattle.wap_url.specs.Printing.{name_for}
 use Rattle.wap_input.specs.declared.key.Key.{Key}
 use Rattle.wap_cardrules.specs.declared.task.Task.{Task}
-use Rattle.wap_site.specs.declared.page.Page.{Page}
-use Rattle.wap_site.specs.Pages.{Pages as JudgedPages, page_of, AreSitePages}
-use Rattle.wap_site.specs.Asking.{Seen, Stays, Asks}
-use Rattle.wap_site.specs.Misses.{Asked as Question}
-use Rattle.wap_site.proofs.Asking.{Asks-nil, Asks-then, Stays-same, Stays-then}
+use Rattle.wap_world.specs.declared.site.page.Page.{Page}
+use Rattle.wap_world.specs.site.Pages.{Pages as JudgedPages, page_of, AreSitePages}
+use Rattle.wap_world.specs.site.Asking.{Seen, Stays, Asks}
+use Rattle.wap_world.specs.site.Misses.{Asked as Question}
+use Rattle.wap_world.proofs.SiteLemmas.Asking.{Asks-nil, Asks-then, Stays-same, Stays-then}
 use Rattle.wap_world.specs.Shelves.{Shelf}
 use Rattle.wap_world.specs.World.{World}
 use Rattle.wap_world.specs.Steps.{Step, Once, Next, then_task, after_step}
 use Rattle.wap_world.specs.Requests.{Request}
 use Rattle.wap_world.proofs.Joining.{once_before}
-use Rattle.wap_scripting.specs.UnitSites.{Pages, shelf_of, unit_pages}
-use Rattle.wap_scripting.specs.Waiting.{Waits}
-use Rattle.wap_scripting.specs.Halves.{once_by}
-use Rattle.wap_scripting_laws.proofs.Feeding.{after_means}
+use Rattle.wap_world.specs.scripting.UnitSites.{Pages, shelf_of, unit_pages}
+use Rattle.wap_world.specs.scripting.Waiting.{Waits}
+use Rattle.wap_world.specs.scripting.Halves.{once_by}
+use Rattle.wap_world.proofs.ScriptingLawsLemmas.Feeding.{after_means}
 use Rattle.wap_state.specs.Scenes.{Line}
 use Rattle.wap_context.specs.declared.waiting.Went.{Went}
 use Rattle.wap_context.specs.Browsers.{Browser, IsOver}

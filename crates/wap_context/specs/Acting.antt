@@ -10,18 +10,18 @@ use Rattle.wap_input.specs.declared.key.Key.{Key}
 use Rattle.wap_execution.specs.declared.fatal.Fatal.TheVariants.{Stopped}
 use Rattle.wap_execution.specs.Running.{resumed}
 use Rattle.wap_execution_laws.specs.Settings.{uncounted}
-use Rattle.wap_site.specs.Asking.{Seen, Stays, Asks}
+use Rattle.wap_world.specs.site.Asking.{Seen, Stays, Asks}
 use Rattle.wap_world.specs.World.{World}
 use Rattle.wap_world.specs.Steps.{Step, still, quiet}
 use Rattle.wap_world.specs.Sites.{failed as failed_by, Ran}
 use Rattle.wap_world.specs.Starting.{ended_script}
 use Rattle.wap_world.specs.Tasks.{onward, act}
 use Rattle.wap_world.specs.Keys.{on_card, pass_time}
-use Rattle.wap_world_laws.specs.Ignored.{is_running}
-use Rattle.wap_scripting.specs.Dialogs.{tick_waiting}
-use Rattle.wap_scripting.specs.UnitSites.{Pages, shelf_of, keyed_host, ran_of}
-use Rattle.wap_scripting.specs.Waiting.{Waits, inside}
-use Rattle.wap_scripting.specs.Feeding.{Fed, Means}
+use Rattle.wap_world.specs.session_laws.Ignored.{is_running}
+use Rattle.wap_world.specs.scripting.Dialogs.{tick_waiting}
+use Rattle.wap_world.specs.scripting.UnitSites.{Pages, shelf_of, keyed_host, ran_of}
+use Rattle.wap_world.specs.scripting.Waiting.{Waits, inside}
+use Rattle.wap_world.specs.scripting.Feeding.{Fed, Means}
 use Rattle.wap_context.specs.declared.waiting.Step.{Step as Did}
 use Rattle.wap_context.specs.declared.waiting.Step.TheVariants.{Settled, Asks as AsksUser}
 use Rattle.wap_context.specs.declared.waiting.Ticked.{Ticked}

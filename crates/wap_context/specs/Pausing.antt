@@ -4,7 +4,7 @@ use Rattle.wap_base.specs.declared.limits.Limits.{Limits}
 use Rattle.wap_url.specs.declared.url.Url.{Url}
 use Rattle.wap_execution.specs.declared.dialog.Dialog.{Dialog}
 use Rattle.wap_execution.specs.Frames.{Frame}
-use Rattle.wap_scripting.specs.Waiting.{Waits}
+use Rattle.wap_world.specs.scripting.Waiting.{Waits}
 
 -- the frames that go on within these limits, and the URL of the script that was started
 pub record Paused : Type 0 where

@@ -8,15 +8,15 @@ use Rattle.wap_base.specs.Count.{Rose}
 use Rattle.wap_url.specs.Printing.{name_for}
 use Rattle.wap_markup.specs.declared.deck.Deck.{Deck}
 use Rattle.wap_parts.specs.declared.parts.ContextParts.{ContextParts}
-use Rattle.wap_site.specs.declared.page.Page.{Page}
-use Rattle.wap_site.specs.declared.page.Page.TheVariants as page
-use Rattle.wap_site.specs.Pages.{Pages as JudgedPages, page_of}
-use Rattle.wap_site.specs.Misses.{Asked}
-use Rattle.wap_site.specs.Asking.{Seen, Stays, Asks}
+use Rattle.wap_world.specs.declared.site.page.Page.{Page}
+use Rattle.wap_world.specs.declared.site.page.Page.TheVariants as page
+use Rattle.wap_world.specs.site.Pages.{Pages as JudgedPages, page_of}
+use Rattle.wap_world.specs.site.Misses.{Asked}
+use Rattle.wap_world.specs.site.Asking.{Seen, Stays, Asks}
 use Rattle.wap_world.specs.Shelves.{Shelf}
 use Rattle.wap_world.specs.World.{World, last_entry}
 use Rattle.wap_world.specs.History.{all_but_last, in_deck}
-use Rattle.wap_scripting.specs.UnitSites.{shelf_of, unit_pages}
+use Rattle.wap_world.specs.scripting.UnitSites.{shelf_of, unit_pages}
 use Rattle.wap_state.specs.Saved.{saved_world}
 use Rattle.wap_context.specs.declared.saved.Revived.{Revived}
 use Rattle.wap_context.specs.declared.saved.Revived.TheVariants.{Context, Missing, Refused}

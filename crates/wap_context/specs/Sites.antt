@@ -3,9 +3,9 @@
 use Rattle.std.specs.Prelude.{ℕ, List, Option, IfSome}
 use Rattle.std.specs.Option.{option_map}
 use Rattle.wap_invocation.specs.Reading.{call_of}
-use Rattle.wap_site.specs.Pages.{Pages as JudgedPages}
+use Rattle.wap_world.specs.site.Pages.{Pages as JudgedPages}
 use Rattle.wap_world.specs.Sites.{Call, Site}
-use Rattle.wap_scripting.specs.UnitSites.{Pages, shelf_of, unit_pages, units_site}
+use Rattle.wap_world.specs.scripting.UnitSites.{Pages, shelf_of, unit_pages, units_site}
 use Rattle.wap_context.specs.Browsers.{Browser, IsOver}
 
 -- what a fragment calls

@@ -8,12 +8,12 @@ use std::alloc::Global;
 use wap_base::{NoMemory, RunErr};
 use wap_good::GoodDeck;
 use wap_lines::Lines;
-use wap_site::{Page, Pages, Shared};
 use wap_state::page_urls::{PageEntry, PageRequest, PageUrl};
 use wap_state::requests::{Entrance, may_enter as may_be_entered, request_line};
 use wap_url::{Url, name_of};
 use wap_verify::Verified;
 use wap_world::Refusal;
+use wap_world::site::{Page, Pages, Shared};
 
 /// The deck that a page is, or why none is gone back to.
 pub(crate) fn deck_answer(page: Page) -> Result<Shared<GoodDeck>, Refusal>

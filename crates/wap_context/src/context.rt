@@ -20,11 +20,11 @@ use wap_execution::Fatal;
 use wap_good::{GoodDeck, View};
 use wap_lines::Lines;
 use wap_machine::Outcome;
-use wap_site::{Pages, Shared};
 use wap_state::{State, here};
 use wap_value::Value;
 use wap_vars::Vars;
 use wap_world::Timer;
+use wap_world::site::{Pages, Shared};
 
 /// A browser's variables, history, timer and turns, and the deck of its current card. A contract
 /// sees its world and that deck, which is there exactly where a card was entered. After a call that

@@ -19,10 +19,10 @@ use wap_cardrules::{Event, Task};
 use wap_cards::{binding, is_true};
 use wap_good::{AttrName, GoodDeck};
 use wap_lines::Lines;
-use wap_site::Shared;
 use wap_state::page_urls::{PageEntry, PageUrl};
 use wap_state::requests::entrance_of;
 use wap_url::Url;
+use wap_world::site::Shared;
 use wap_world::{Refusal, Timer};
 
 /// The number of the card that a URL's fragment names, else of the first.

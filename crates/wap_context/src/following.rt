@@ -6,7 +6,7 @@ use crate::waiting::{Step, Went};
 use std::alloc::Global;
 use wap_base::RunErr;
 use wap_lines::Lines;
-use wap_site::Pages;
+use wap_world::site::Pages;
 
 impl Context {
     /// Takes what is left to do and all that it leads to, until nothing is, or a script asks its

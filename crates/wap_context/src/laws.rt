@@ -1,7 +1,7 @@
 //! What follows from what is seen of contexts. The function here does nothing when it is called.
 ghost use Rattle.std.specs.Prelude.{◌≡◌, ◌↔◌, [], None, is_some};
 ghost use Rattle.wap_world.specs.Shelves.{Shelf};
-ghost use Rattle.wap_world_laws.specs.Standing.{StandsOnCard};
+ghost use Rattle.wap_world.specs.session_laws.Standing.{StandsOnCard};
 ghost use Rattle.wap_context.specs.Browsers.{Browser, IsOver, place_held};
 
 /// A browser whose world stands on a card, as each does after keys that begin in a world in which

@@ -24,5 +24,5 @@ pub use context::Context;
 pub use saved::Revived;
 pub use waiting::{Step, Ticked, Waiting};
 pub use wap_parts::ContextParts;
-pub use wap_site::{Page, Pages};
 pub use wap_world::Timer;
+pub use wap_world::site::{Page, Pages};

@@ -4,7 +4,7 @@ ghost use Rattle.std.specs.Option.{option_map, option_map_or};
 ghost use Rattle.wap_world.specs.World.{place_now};
 ghost use Rattle.wap_world.specs.Tasks.{base_now, with_turn, go, open_url, prev};
 ghost use Rattle.wap_world.specs.Tasks.{stay_or_ask, request, ask_back, back_from, task_once};
-ghost use Rattle.wap_scripting.specs.UnitSites.{shelf_of};
+ghost use Rattle.wap_world.specs.scripting.UnitSites.{shelf_of};
 ghost use Rattle.wap_state.specs.page_urls.PageUrls.{IsPageUrl};
 ghost use Rattle.wap_context.specs.Browsers.{place_held};
 ghost use Rattle.wap_context.specs.Sites.{site_of};
@@ -19,11 +19,11 @@ use wap_base::{NoMemory, Rows, RunErr, Text};
 use wap_cardrules::{Go, Task};
 use wap_good::GoodDeck;
 use wap_lines::Lines;
-use wap_site::{Pages, Shared};
 use wap_state::page_urls::{PageEntry, PageRequest, PageUrl, plain, target};
 use wap_state::requests::is_same_page;
 use wap_url::Url;
 use wap_world::Refusal;
+use wap_world::site::{Pages, Shared};
 
 impl Context {
     /// A copy of the current deck's URL, if there is a current card.

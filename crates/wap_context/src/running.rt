@@ -20,10 +20,10 @@ use wap_cardrules::{Event, Task};
 use wap_execution::Fatal;
 use wap_lines::Lines;
 use wap_machine::{Machine, Outcome};
-use wap_site::Pages;
 use wap_state::State;
 use wap_state::page_urls::PageUrl;
 use wap_world::Timer;
+use wap_world::site::Pages;
 
 /// What a timer is before the navigation that a script asked for.
 fn settled_timer(timer: Timer) -> Timer

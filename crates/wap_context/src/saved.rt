@@ -13,10 +13,10 @@ use std::alloc::Global;
 use wap_base::{NoMemory, RunErr};
 use wap_good::GoodDeck;
 use wap_parts::ContextParts;
-use wap_site::{Page, Pages, Shared};
 use wap_state::State;
 use wap_state::page_urls::PageEntry;
 use wap_url::name_of;
+use wap_world::site::{Page, Pages, Shared};
 
 /// What is made of the parts of a context.
 #[derive(Drop)]

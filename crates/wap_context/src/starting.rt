@@ -12,7 +12,7 @@ ghost use Rattle.wap_context.specs.inside.Starting.{start_of, start_found, begun
 ghost use Rattle.wap_context.specs.inside.Starting.{started_with, script_with};
 ghost use Rattle.wap_context.specs.inside.Starting.{not_started_at};
 ghost use Rattle.wap_context.specs.inside.Moving.{Moves, Takes, next_in, waits_in};
-ghost use Rattle.wap_scripting.specs.Units.{external_in};
+ghost use Rattle.wap_world.specs.scripting.Units.{external_in};
 ghost use Rattle.std.specs.Prelude.{None};
 
 use crate::asking::may_enter;
@@ -26,11 +26,11 @@ use wap_execution::Fatal;
 use wap_invocation::{Invocation, read_call};
 use wap_lines::Lines;
 use wap_machine::Machine;
-use wap_site::{Pages, Shared};
 use wap_state::page_urls::PageUrl;
 use wap_url::Url;
 use wap_value::Value;
 use wap_verify::Verified;
+use wap_world::site::{Pages, Shared};
 
 /// What a URL to a script starts.
 #[derive(Drop)]

@@ -13,9 +13,9 @@ use std::alloc::Global;
 use wap_base::{NoMemory, RunErr};
 use wap_cardrules::Event;
 use wap_lines::Lines;
-use wap_site::Pages;
 use wap_state::here;
 use wap_state::screen_lines::add_refusal;
+use wap_world::site::Pages;
 use wap_world::{Refusal, Timer};
 
 impl Context {

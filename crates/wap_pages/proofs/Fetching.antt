@@ -4,8 +4,8 @@ use Rattle.std.specs.Prelude.{IfSome}
 use Rattle.wap_base.specs.Contents.{Contents, page_named}
 use Rattle.wap_devices.specs.Contents.{answer_of, answer_for}
 use Rattle.wap_devices.specs.declared.store.Fetched.TheVariants as fetched
-use Rattle.wap_site.specs.declared.page.Page.{Page}
-use Rattle.wap_site.specs.declared.page.Page.TheVariants as page
+use Rattle.wap_world.specs.declared.site.page.Page.{Page}
+use Rattle.wap_world.specs.declared.site.page.Page.TheVariants as page
 use Rattle.wap_pages.specs.declared.fault.PageFault.{PageFault}
 use Rattle.wap_pages.specs.Judged.{page_of_bytes, page_where, Refuses}
 use Rattle.wap_pages.specs.inside.Keeping.{HaveDistinctNames, IsRight}

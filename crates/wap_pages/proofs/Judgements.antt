@@ -46,9 +46,9 @@ use Rattle.wap_accepted.proofs.Accepting as accepting
 use Rattle.wap_codegen.specs.declared.fault.CompileFault.{CompileFault}
 use Rattle.wap_codegen.proofs.SourceFaultsLemmas.Finding.{found}
 use Rattle.wap_codegen.proofs.SourceFaultsLemmas.Alike as sources
-use Rattle.wap_site.specs.Pages.{page_of, IsThere, AreSitePages}
-use Rattle.wap_site.specs.declared.page.Page.{Page}
-use Rattle.wap_site.specs.declared.page.Page.TheVariants as page
+use Rattle.wap_world.specs.site.Pages.{page_of, IsThere, AreSitePages}
+use Rattle.wap_world.specs.declared.site.page.Page.{Page}
+use Rattle.wap_world.specs.declared.site.page.Page.TheVariants as page
 use Rattle.wap_pages.specs.declared.kind.Kind.{Kind}
 use Rattle.wap_pages.specs.declared.kind.Kind.TheVariants as kind
 use Rattle.wap_pages.specs.declared.fault.PageErr.{PageErr}

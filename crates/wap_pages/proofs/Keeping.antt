@@ -11,8 +11,8 @@ use Rattle.std.proofs.lemmas.Map.Entries.{length-keys_of}
 use Rattle.lru.specs.LruCache.{lru_cache, promoted, put_entries}
 use Rattle.wap_base.specs.Contents.{Contents}
 use Rattle.wap_base.specs.Texts.{is_same_text, AreDistinct}
-use Rattle.wap_site.specs.Misses.{Cache, is_kept, after_asking}
-use Rattle.wap_site.specs.declared.page.Page.{Page}
+use Rattle.wap_world.specs.site.Misses.{Cache, is_kept, after_asking}
+use Rattle.wap_world.specs.declared.site.page.Page.{Page}
 use Rattle.wap_pages.specs.Caches.{KeepsNoMore}
 use Rattle.wap_pages.specs.inside.Keeping.{Kept, names_in, IsRight, IsRightEntry, IsSound}
 

@@ -7,7 +7,7 @@ use Rattle.lru.specs.LruCache.{lru_cache, promoted, put_entries}
 use Rattle.wap_base.specs.Contents.{Contents}
 use Rattle.wap_base.specs.Texts.{is_same_text}
 use Rattle.wap_base.specs.declared.fault.NoMemory.{NoMemory}
-use Rattle.wap_site.specs.declared.page.Page.{Page}
+use Rattle.wap_world.specs.declared.site.page.Page.{Page}
 use Rattle.wap_pages.specs.Caches.{KeepsNoMore}
 use Rattle.wap_pages.specs.inside.Keeping.{Kept, names_in, IsRight, IsSound, LooksUp, Keeps}
 use Rattle.wap_pages.proofs.Keeping.{kept_some, kept_none, promoted_none, found_right, found_sound}

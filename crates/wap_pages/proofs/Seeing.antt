@@ -6,10 +6,10 @@ use Rattle.wap_base.specs.Contents.{Contents}
 use Rattle.wap_base.specs.Count.{raised, Rose}
 use Rattle.wap_base.specs.declared.fault.RunErr.{RunErr}
 use Rattle.wap_devices.specs.Stores.{StoreSeen}
-use Rattle.wap_site.specs.Pages.{page_of, AreSitePages}
-use Rattle.wap_site.specs.Misses.{Cache, Asked, is_miss, after_asking, misses}
-use Rattle.wap_site.specs.Asking.{Seen, raised_by, Stays, Asks, Fails}
-use Rattle.wap_site.specs.declared.page.Page.{Page}
+use Rattle.wap_world.specs.site.Pages.{page_of, AreSitePages}
+use Rattle.wap_world.specs.site.Misses.{Cache, Asked, is_miss, after_asking, misses}
+use Rattle.wap_world.specs.site.Asking.{Seen, raised_by, Stays, Asks, Fails}
+use Rattle.wap_world.specs.declared.site.page.Page.{Page}
 use Rattle.wap_pages.specs.Caches.{seen_over}
 use Rattle.wap_pages.specs.Judged.{judged}
 use Rattle.wap_pages.specs.inside.Keeping.{HaveDistinctNames, IsRight, AsksStore}

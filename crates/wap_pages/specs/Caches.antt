@@ -2,9 +2,9 @@
 use Rattle.std.specs.Prelude.{◌≡◌, ℕ, true, List, Some, option_map}
 use Rattle.std.specs.Map.{keys_of}
 use Rattle.wap_devices.specs.Stores.{StoreSeen}
-use Rattle.wap_site.specs.declared.page.Page.{Page}
-use Rattle.wap_site.specs.Misses.{Cache, is_kept}
-use Rattle.wap_site.specs.Asking.{Seen}
+use Rattle.wap_world.specs.declared.site.page.Page.{Page}
+use Rattle.wap_world.specs.site.Misses.{Cache, is_kept}
+use Rattle.wap_world.specs.site.Asking.{Seen}
 use Rattle.wap_pages.specs.Judged.{judged}
 
 -- the store, the pages that are kept, the one that was asked for last first, and how many are at

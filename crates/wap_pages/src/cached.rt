@@ -5,8 +5,8 @@ ghost use Rattle.lru.specs.LruCache.{lru_cache, promoted};
 ghost use Rattle.std.specs.Map.{lookup};
 ghost use Rattle.wap_base.specs.Contents.{Contents};
 ghost use Rattle.wap_base.specs.Texts.{is_same_text};
-ghost use Rattle.wap_site.specs.Pages.{page_of, AreSitePages};
-ghost use Rattle.wap_site.specs.Asking.{Stays, Asks, Fails};
+ghost use Rattle.wap_world.specs.site.Pages.{page_of, AreSitePages};
+ghost use Rattle.wap_world.specs.site.Asking.{Stays, Asks, Fails};
 ghost use Rattle.wap_pages.specs.Caches.{cache_of, seen_over, KeepsNoMore};
 ghost use Rattle.wap_pages.specs.inside.Keeping.{IsRight, IsSound};
 ghost use Rattle.wap_pages.specs.inside.Keeping.{LooksUp, Keeps, AsksStore};
@@ -18,7 +18,7 @@ use std::marker::Model;
 use std::num::NonZeroUsize;
 use wap_base::{NoMemory, RunErr, Text};
 use wap_devices::{Fetched, Store};
-use wap_site::{Page, Pages};
+use wap_world::site::{Page, Pages};
 
 /// The least capacity of a cache, in pages.
 pub const LEAST_CAPACITY: usize = 1;

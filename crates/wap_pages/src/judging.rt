@@ -12,7 +12,7 @@ use std::alloc::Global;
 use wap_base::{Charset, Text};
 use wap_deckcheck::check;
 use wap_markup::Deck;
-use wap_site::{Page, Shared};
+use wap_world::site::{Page, Shared};
 
 /// The page of a name with these bytes, of which there have to be fewer than 2^31. It is never
 /// `Missing` or `Refused`: where a page is refused, the fault says why. Where several faults may be

@@ -3,8 +3,8 @@ use crate::{Kind, PageErr, PageFault};
 use std::marker::{Send, Sync};
 use wap_base::Text;
 use wap_good::GoodDeck;
-use wap_site::{Page, Shared};
 use wap_verify::Verified;
+use wap_world::site::{Page, Shared};
 
 fn crosses<T: Send + Sync>() {}
 

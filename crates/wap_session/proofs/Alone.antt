@@ -19,12 +19,13 @@ use Rattle.wap_world.specs.Sessions.{played_in, played}
 use Rattle.wap_world.proofs.Joining.{before, joined_nothing}
 use Rattle.wap_world.proofs.Laws.{KeepsKeys, keys_kept, keys_fall}
 use Rattle.wap_world.proofs.Walk.{end_moves, leads_moves}
-use Rattle.wap_scripting.specs.Dialogs.{Reply, answers, ends_it, passes, reply_to, after_reply}
-use Rattle.wap_scripting.specs.Dialogs.{answered_by}
-use Rattle.wap_scripting.specs.UnitSites.{Pages, shelf_of, keyed_host, ran_of, units_site}
-use Rattle.wap_scripting.specs.Waiting.{Waits, inside, resumed_step, played_from}
-use Rattle.wap_scripting.specs.Feeding.{turned}
-use Rattle.wap_scripting_laws.proofs.Keeping.{host_keeps, units_few, Fewer}
+use Rattle.wap_world.specs.scripting.Dialogs.{Reply, answers, ends_it, passes, reply_to}
+use Rattle.wap_world.specs.scripting.Dialogs.{after_reply}
+use Rattle.wap_world.specs.scripting.Dialogs.{answered_by}
+use Rattle.wap_world.specs.scripting.UnitSites.{Pages, shelf_of, keyed_host, ran_of, units_site}
+use Rattle.wap_world.specs.scripting.Waiting.{Waits, inside, resumed_step, played_from}
+use Rattle.wap_world.specs.scripting.Feeding.{turned}
+use Rattle.wap_world.proofs.ScriptingLawsLemmas.Keeping.{host_keeps, units_few, Fewer}
 use Rattle.wap_context.specs.Sites.{fragment_call, site_of}
 
 -- ---- keys that are left

@@ -3,11 +3,11 @@ use Rattle.std.proofs.Common.{◌≡◌, ℕ, [], ◌∷◌, true, false, Option
 use Rattle.std.proofs.Common.{subst, ◌∙◌}
 use Rattle.std.specs.Prelude.{is_some, is_none, not, ◌&&◌}
 use Rattle.wap_input.specs.declared.key.Key.{Key}
-use Rattle.wap_site.specs.Asking.{Seen}
+use Rattle.wap_world.specs.site.Asking.{Seen}
 use Rattle.wap_world.specs.declared.refusal.Refusal.TheVariants.{Ignored}
 use Rattle.wap_world.specs.Lines.{refusal_line}
 use Rattle.wap_world.specs.Keys.{apply}
-use Rattle.wap_scripting.specs.Waiting.{Waits}
+use Rattle.wap_world.specs.scripting.Waiting.{Waits}
 use Rattle.wap_context.specs.declared.waiting.Step.{Step as Did}
 use Rattle.wap_context.specs.declared.waiting.Step.TheVariants.{Settled}
 use Rattle.wap_context.specs.Acting.{Acts}

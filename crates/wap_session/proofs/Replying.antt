@@ -8,10 +8,10 @@ use Rattle.wap_value.specs.declared.value.Value.{Value}
 use Rattle.wap_execution.specs.declared.dialog.Dialog.{Dialog}
 use Rattle.wap_execution_laws.specs.Settings.{uncounted}
 use Rattle.wap_execution_laws.specs.Keyed.{gone_on}
-use Rattle.wap_site.specs.Pages.{Pages as JudgedPages}
-use Rattle.wap_site.specs.Misses.{Asked}
-use Rattle.wap_site.specs.Asking.{Seen, Asks}
-use Rattle.wap_site.proofs.Asking.{Asks-nil, Stays-same}
+use Rattle.wap_world.specs.site.Pages.{Pages as JudgedPages}
+use Rattle.wap_world.specs.site.Misses.{Asked}
+use Rattle.wap_world.specs.site.Asking.{Seen, Asks}
+use Rattle.wap_world.proofs.SiteLemmas.Asking.{Asks-nil, Stays-same}
 use Rattle.wap_world.specs.declared.timer.Timer.{Timer}
 use Rattle.wap_world.specs.declared.timer.Timer.TheVariants.{NotStarted, Running, Off, Expired}
 use Rattle.wap_world.specs.Shelves.{Shelf}
@@ -23,12 +23,12 @@ use Rattle.wap_world.specs.Timers.{store_under}
 use Rattle.wap_world.specs.Starting.{ended_script}
 use Rattle.wap_world.specs.Tasks.{onward, act}
 use Rattle.wap_world.specs.Screens.{at_place}
-use Rattle.wap_scripting.specs.Dialogs.{Reply, answers, ends_it, passes, reply_to, run_out}
-use Rattle.wap_scripting.specs.Dialogs.{tick_waiting, meanwhile, after_reply, answered_by}
-use Rattle.wap_scripting.specs.UnitSites.{Pages, shelf_of, unit_pages, keyed_host, ran_of}
-use Rattle.wap_scripting.specs.UnitSites.{units_site}
-use Rattle.wap_scripting.specs.Waiting.{Waits, inside, resumed_step}
-use Rattle.wap_scripting_laws.proofs.Replying.{stay_means}
+use Rattle.wap_world.specs.scripting.Dialogs.{Reply, answers, ends_it, passes, reply_to, run_out}
+use Rattle.wap_world.specs.scripting.Dialogs.{tick_waiting, meanwhile, after_reply, answered_by}
+use Rattle.wap_world.specs.scripting.UnitSites.{Pages, shelf_of, unit_pages, keyed_host, ran_of}
+use Rattle.wap_world.specs.scripting.UnitSites.{units_site}
+use Rattle.wap_world.specs.scripting.Waiting.{Waits, inside, resumed_step}
+use Rattle.wap_world.proofs.ScriptingLawsLemmas.Replying.{stay_means}
 use Rattle.wap_context.specs.declared.waiting.Step.TheVariants.{Asks as AsksUser}
 use Rattle.wap_context.specs.Browsers.{Browser, Shows}
 use Rattle.wap_context.specs.Pausing.{Paused, waits_of}

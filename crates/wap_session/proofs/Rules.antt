@@ -6,10 +6,10 @@ use Rattle.std.proofs.lemmas.Result.{err_from_is_err_and}
 use Rattle.wap_base.specs.declared.fault.RunErr.{RunErr}
 use Rattle.wap_base.specs.declared.fault.RunErr.TheVariants as run
 use Rattle.wap_input.specs.declared.key.Key.{Key}
-use Rattle.wap_site.specs.Pages.{Pages as JudgedPages}
-use Rattle.wap_site.specs.Misses.{Asked}
-use Rattle.wap_site.specs.Asking.{Seen, Stays, Asks}
-use Rattle.wap_site.proofs.Asking.{Asks-nil, Stays-same}
+use Rattle.wap_world.specs.site.Pages.{Pages as JudgedPages}
+use Rattle.wap_world.specs.site.Misses.{Asked}
+use Rattle.wap_world.specs.site.Asking.{Seen, Stays, Asks}
+use Rattle.wap_world.proofs.SiteLemmas.Asking.{Asks-nil, Stays-same}
 use Rattle.wap_world.specs.declared.refusal.Refusal.TheVariants as refusals
 use Rattle.wap_world.specs.Shelves.{Shelf}
 use Rattle.wap_world.specs.World.{World}
@@ -17,9 +17,9 @@ use Rattle.wap_world.specs.Lines.{refusal_line}
 use Rattle.wap_world.specs.Steps.{Scene, Step, joined, quiet}
 use Rattle.wap_world.specs.Keys.{ignored}
 use Rattle.wap_world.proofs.Joining.{joined_assoc, joined_nothing}
-use Rattle.wap_scripting.specs.UnitSites.{Pages, shelf_of, unit_pages}
-use Rattle.wap_scripting.specs.Waiting.{Waits, left_over}
-use Rattle.wap_scripting.specs.Feeding.{meaning}
+use Rattle.wap_world.specs.scripting.UnitSites.{Pages, shelf_of, unit_pages}
+use Rattle.wap_world.specs.scripting.Waiting.{Waits, left_over}
+use Rattle.wap_world.specs.scripting.Feeding.{meaning}
 use Rattle.wap_context.specs.declared.waiting.Step.{Step as Did}
 use Rattle.wap_context.specs.declared.waiting.Step.TheVariants.{Settled}
 use Rattle.wap_context.specs.Browsers.{Browser, IsOver, Shows}

@@ -6,17 +6,17 @@ use Rattle.std.proofs.lemmas.List.{map-append}
 use Rattle.wap_base.specs.declared.fault.RunErr.{RunErr}
 use Rattle.wap_base.specs.declared.fault.RunErr.TheVariants as run
 use Rattle.wap_input.specs.declared.key.Key.{Key}
-use Rattle.wap_site.specs.Pages.{Pages as JudgedPages}
-use Rattle.wap_site.specs.Misses.{Asked}
-use Rattle.wap_site.specs.Asking.{Seen, Stays, Asks}
+use Rattle.wap_world.specs.site.Pages.{Pages as JudgedPages}
+use Rattle.wap_world.specs.site.Misses.{Asked}
+use Rattle.wap_world.specs.site.Asking.{Seen, Stays, Asks}
 use Rattle.wap_world.specs.Lines.{shown_line}
 use Rattle.wap_world.specs.Steps.{Step, joined}
 use Rattle.wap_world.specs.Keys.{renewed, apply, react}
 use Rattle.wap_world.specs.Sessions.{shown_by}
-use Rattle.wap_scripting.specs.UnitSites.{unit_pages}
-use Rattle.wap_scripting.specs.Waiting.{Waits, State as Between, played_from}
-use Rattle.wap_scripting.specs.Feeding.{turned, meaning}
-use Rattle.wap_scripting_laws.proofs.Feeding.{feeds}
+use Rattle.wap_world.specs.scripting.UnitSites.{unit_pages}
+use Rattle.wap_world.specs.scripting.Waiting.{Waits, State as Between, played_from}
+use Rattle.wap_world.specs.scripting.Feeding.{turned, meaning}
+use Rattle.wap_world.proofs.ScriptingLawsLemmas.Feeding.{feeds}
 use Rattle.wap_context.specs.declared.waiting.Step.{Step as Did}
 use Rattle.wap_context.specs.Browsers.{Browser}
 use Rattle.wap_context.specs.Missing.{Missed}

@@ -16,7 +16,7 @@ use Rattle.wap_cardrules.specs.declared.task.Task.{Task}
 use Rattle.wap_cardrules.specs.Entering.{TextEntered, enter_text, OptionChosen, none_chosen, choose}
 use Rattle.wap_world.specs.Shelves.{Shelf}
 use Rattle.wap_world.specs.Sites.{Site}
-use Rattle.wap_scripting.specs.UnitSites.{Pages, shelf_of, units_site}
+use Rattle.wap_world.specs.scripting.UnitSites.{Pages, shelf_of, units_site}
 use Rattle.wap_context.specs.Sites.{site_of}
 use Rattle.wap_world.specs.World.{World, Place, place_now}
 use Rattle.wap_world.specs.Steps.{Scene, Step, quiet, then_task}

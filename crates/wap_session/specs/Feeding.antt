@@ -4,12 +4,12 @@ use Rattle.std.specs.Prelude.{List, [], ◌∷◌, ◌++◌, Option, Some, None,
 use Rattle.std.specs.Prelude.{IfOk, IfErr, OnOk, OnErr, ◌≢◌, ℕ, Result, Err}
 use Rattle.wap_base.specs.Count.{Rose}
 use Rattle.wap_input.specs.declared.key.Key.{Key}
-use Rattle.wap_site.specs.Asking.{Seen, Stays, Asks}
+use Rattle.wap_world.specs.site.Asking.{Seen, Stays, Asks}
 use Rattle.wap_world.specs.Steps.{Step, joined}
 use Rattle.wap_world.specs.Sessions.{shown_by, Begun, world_of}
-use Rattle.wap_scripting.specs.UnitSites.{Pages, shelf_of}
-use Rattle.wap_scripting.specs.Waiting.{Waits, State as Between, played_from}
-use Rattle.wap_scripting.specs.Feeding.{Turns}
+use Rattle.wap_world.specs.scripting.UnitSites.{Pages, shelf_of}
+use Rattle.wap_world.specs.scripting.Waiting.{Waits, State as Between, played_from}
+use Rattle.wap_world.specs.scripting.Feeding.{Turns}
 use Rattle.wap_context.specs.Browsers.{Browser, IsOver}
 use Rattle.wap_context.specs.Missing.{Missed}
 use Rattle.wap_context.specs.Sites.{fragment_call, IfOver}

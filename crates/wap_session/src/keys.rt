@@ -10,7 +10,7 @@ ghost use Rattle.wap_world.specs.Lines.{refusal_line};
 ghost use Rattle.wap_world.specs.Steps.{behind};
 ghost use Rattle.wap_world.specs.Screens.{show, show_screen, refuse};
 ghost use Rattle.wap_world.specs.Keys.{ignored, act_or, apply};
-ghost use Rattle.wap_scripting.specs.UnitSites.{shelf_of};
+ghost use Rattle.wap_world.specs.scripting.UnitSites.{shelf_of};
 ghost use Rattle.wap_context.specs.Browsers.{place_held, Shows};
 ghost use Rattle.wap_context.specs.Sites.{site_of};
 ghost use Rattle.wap_context.specs.Acting.{Acts};
@@ -26,9 +26,9 @@ use wap_cards::{do_task, link_task};
 use wap_context::{Context, Step};
 use wap_input::Key;
 use wap_lines::Lines;
-use wap_site::Pages;
 use wap_state::screen_lines::add_fault_lines;
 use wap_world::Refusal;
+use wap_world::site::Pages;
 
 /// A key that fits nothing.
 fn ignore(alloc: Global) -> Result<Step, NoMemory>

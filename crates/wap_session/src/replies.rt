@@ -1,8 +1,8 @@
 //! Keys in a dialog (WAP-194, "Dialogs Library").
 ghost use Rattle.std.specs.Prelude.{◌≡◌, Some, IfOk};
-ghost use Rattle.wap_scripting.specs.Dialogs.{reply_to_prompt, reply_to_buttons, reply_to};
-ghost use Rattle.wap_scripting.specs.Dialogs.{meanwhile};
-ghost use Rattle.wap_scripting.specs.Feeding.{turned};
+ghost use Rattle.wap_world.specs.scripting.Dialogs.{reply_to_prompt, reply_to_buttons, reply_to};
+ghost use Rattle.wap_world.specs.scripting.Dialogs.{meanwhile};
+ghost use Rattle.wap_world.specs.scripting.Feeding.{turned};
 ghost use Rattle.wap_input.specs.declared.key.Key.TheVariants as the_keys;
 ghost use Rattle.wap_context.specs.Browsers.{Shows};
 ghost use Rattle.wap_context.specs.Pausing.{waits_of};
@@ -17,9 +17,9 @@ use wap_context::{Context, Step, Ticked, Waiting};
 use wap_execution::Dialog;
 use wap_input::Key;
 use wap_lines::Lines;
-use wap_site::Pages;
 use wap_value::Value;
 use wap_world::Refusal;
+use wap_world::site::Pages;
 
 /// What a key is to a dialog.
 #[derive(Drop)]

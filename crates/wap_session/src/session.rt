@@ -5,7 +5,7 @@ ghost use Rattle.std.specs.Prelude.{IfOk, OnOk, IfErr, OnErr, IsErrOf};
 ghost use Rattle.wap_base.specs.Limits.{AreInRange};
 ghost use Rattle.wap_context.specs.Missing.{Missed};
 ghost use Rattle.wap_context.specs.Sites.{IfOver};
-ghost use Rattle.wap_site.specs.Asking.{Seen};
+ghost use Rattle.wap_world.specs.site.Asking.{Seen};
 ghost use Rattle.wap_world.specs.declared.refusal.Refusal.TheVariants.{Ignored};
 ghost use Rattle.wap_world.specs.Lines.{refusal_line};
 ghost use Rattle.wap_session.specs.Feeding.{beginning, step_of, TurnsTo, Plays, MissedAt, ShowsOn};
@@ -21,7 +21,7 @@ use wap_base::{Limits, NoMemory};
 use wap_context::Context;
 use wap_input::Key;
 use wap_lines::Lines;
-use wap_site::Pages;
+use wap_world::site::Pages;
 
 /// A browser that is played by keys: it is at rest, waits for the answer to a dialog, or is over. A
 /// contract sees its state between two keys.

@@ -1,7 +1,7 @@
 //! How a session stands between two keys, and what a key does there.
 ghost use Rattle.std.specs.Prelude.{◌≡◌, false, map, Some, IfOk};
 ghost use Rattle.wap_world.specs.Lines.{shown_line};
-ghost use Rattle.wap_scripting.specs.Feeding.{turned};
+ghost use Rattle.wap_world.specs.scripting.Feeding.{turned};
 ghost use Rattle.wap_context.specs.Pausing.{waits_of};
 ghost use Rattle.wap_context.specs.Sites.{fragment_call};
 ghost use Rattle.wap_context.specs.Acting.{Acts, lines_in};
@@ -16,7 +16,7 @@ use wap_context::{Context, Step, Waiting};
 use wap_execution::Dialog;
 use wap_input::Key;
 use wap_lines::Lines;
-use wap_site::Pages;
+use wap_world::site::Pages;
 
 /// A dialog, and the script that goes on with its answer.
 #[derive(Drop)]

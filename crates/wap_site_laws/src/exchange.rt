@@ -9,11 +9,11 @@ ghost use Rattle.wap_push.specs.declared.fault.PushFault.{PushFault};
 ghost use Rattle.wap_world.specs.Sites.{Call};
 ghost use Rattle.wap_world.specs.World.{World};
 ghost use Rattle.wap_world.specs.Sessions.{played};
-ghost use Rattle.wap_inboxes.specs.Inboxes.{Handset};
-ghost use Rattle.wap_inboxes.specs.Sessions.{played_with};
-ghost use Rattle.wap_scripting.specs.UnitSites.{units_site};
-ghost use Rattle.wap_scripting.specs.Sources.{LanguageOf, AllPages, Agrees, site_of};
-ghost use Rattle.wap_scripting.specs.Sources.{compiled_pages};
+ghost use Rattle.wap_world.specs.inboxes.Inboxes.{Handset};
+ghost use Rattle.wap_world.specs.inboxes.Sessions.{played_with};
+ghost use Rattle.wap_world.specs.scripting.UnitSites.{units_site};
+ghost use Rattle.wap_world.specs.scripting.Sources.{LanguageOf, AllPages, Agrees, site_of};
+ghost use Rattle.wap_world.specs.scripting.Sources.{compiled_pages};
 ghost use Rattle.wap_site_laws.specs.exchange.Denial.{is_entered, DifferWithin};
 ghost use Rattle.wap_site_laws.specs.exchange.Denial.{DeniedMatterNot, DeniedMatterNotWith};
 

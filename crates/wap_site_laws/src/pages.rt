@@ -3,8 +3,8 @@
 ghost use Rattle.std.specs.Prelude.{◌≡◌, ℕ, All, List, Option};
 ghost use Rattle.wap_base.specs.Contents.{Contents};
 ghost use Rattle.wap_world.specs.Sites.{Call};
-ghost use Rattle.wap_scripting.specs.UnitSites.{unit_pages, units_site};
-ghost use Rattle.wap_scripting.specs.Sources.{AllPages, site_of, compiled_pages};
+ghost use Rattle.wap_world.specs.scripting.UnitSites.{unit_pages, units_site};
+ghost use Rattle.wap_world.specs.scripting.Sources.{AllPages, site_of, compiled_pages};
 ghost use Rattle.wap_site_laws.specs.programs.Programs.{Accepted, programs, unit_of};
 ghost use Rattle.wap_pages.specs.Judged.{judged};
 ghost use Rattle.wap_site_laws.specs.pages.SourcePages.{ArePages, IsStored};

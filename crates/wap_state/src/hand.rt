@@ -4,7 +4,7 @@ ghost use Rattle.wap_state.specs.Held.{held_in};
 
 use std::marker::Model;
 use wap_good::{GoodDeck, View};
-use wap_site::Shared;
+use wap_world::site::Shared;
 
 /// A card and its deck. A contract sees both.
 #[derive(Drop)]

@@ -10,7 +10,7 @@ use Rattle.wap_url.specs.Printing.{name_for}
 use Rattle.wap_markup.specs.declared.deck.Deck.{Deck}
 use Rattle.wap_execution.specs.declared.fatal.Fatal.TheVariants as fatal
 use Rattle.wap_cardrules.specs.Values.{Pairs}
-use Rattle.wap_site.specs.Pages.{Pages}
+use Rattle.wap_world.specs.site.Pages.{Pages}
 use Rattle.wap_world.specs.declared.history.Entry.{Entry}
 use Rattle.wap_world.specs.declared.refusal.Refusal.TheVariants as refusals
 use Rattle.wap_world.specs.Shelves.{Shelf, Entrance, deck_page, script_page}

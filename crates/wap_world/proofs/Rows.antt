@@ -42,8 +42,8 @@ use Rattle.wap_cardrules.specs.Events.{template_of, binding}
 use Rattle.wap_cardrules.specs.Timers.{timer_in}
 use Rattle.wap_cardrules.specs.Flow.{flow_of}
 use Rattle.wap_cardrules.proofs.Opening.{out_text, out_node}
-use Rattle.wap_site.specs.Pages.{Pages}
-use Rattle.wap_site.specs.declared.page.Page.TheVariants as page_is
+use Rattle.wap_world.specs.site.Pages.{Pages}
+use Rattle.wap_world.specs.declared.site.page.Page.TheVariants as page_is
 use Rattle.wap_world.specs.Shelves.{Shelf}
 use Rattle.wap_world.specs.Sites.{Site}
 use Rattle.wap_world.specs.Decks.{shelf_of, decks_site}

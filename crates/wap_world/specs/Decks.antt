@@ -1,9 +1,9 @@
 -- Judged pages over which no script is run, so that a script is a page that is refused: the shelf
 -- that they make, and its site. This project's own.
 use Rattle.std.specs.Prelude.{None}
-use Rattle.wap_site.specs.Pages.{Pages, page_of}
-use Rattle.wap_site.specs.declared.page.Page.{Page}
-use Rattle.wap_site.specs.declared.page.Page.TheVariants as page
+use Rattle.wap_world.specs.site.Pages.{Pages, page_of}
+use Rattle.wap_world.specs.declared.site.page.Page.{Page}
+use Rattle.wap_world.specs.declared.site.page.Page.TheVariants as page
 use Rattle.wap_world.specs.Shelves.{Shelf, Shelved, deck_page, text_page, refused_page, no_page}
 use Rattle.wap_world.specs.Sites.{done, Site}
 

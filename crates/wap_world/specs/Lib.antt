@@ -16,3 +16,7 @@ pub mod Starting
 pub mod Tasks
 pub mod Keys
 pub mod Sessions
+pub mod site
+pub mod session_laws
+pub mod inboxes
+pub mod scripting

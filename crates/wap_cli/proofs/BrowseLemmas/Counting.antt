@@ -2,11 +2,11 @@
 use Rattle.std.proofs.Common.{◌≡◌, ℕ, zero, suc, ◌+◌, ◌<◌, List, ◌++◌, Option, Some}
 use Rattle.std.proofs.Common.{sym, ap, subst, ◌∙◌, arith}
 use Rattle.std.specs.Prelude.{IfSome, option_map}
-use Rattle.wap_site.specs.Misses.{Cache, Asked, after_all, misses}
+use Rattle.wap_world.specs.site.Misses.{Cache, Asked, after_all, misses}
 use Rattle.wap_base.specs.Count.{greatest_count, raised}
-use Rattle.wap_site.specs.Asking.{Seen, raised_by, RaisedWithin, Asks, Stays}
+use Rattle.wap_world.specs.site.Asking.{Seen, raised_by, RaisedWithin, Asks, Stays}
 use Rattle.wap_context.specs.Missing.{Missed}
-use Rattle.wap_site.proofs.Counts.{misses-then, raised_by-then}
+use Rattle.wap_world.proofs.SiteLemmas.Counts.{misses-then, raised_by-then}
 use Rattle.wap_cli.specs.browse.Stopping.{RoseWithin}
 use Rattle.wap_cli.proofs.BrowseLemmas.Optional.{if_some, some_fact}
 

@@ -16,12 +16,12 @@ use Rattle.wap_keys.specs.Reading.{Reading, Answers, GivesUp, CountsFaults}
 use Rattle.wap_keys.proofs.ReaderLaws.{begun as nothing_read, given_of, gives_up_at_once}
 use Rattle.wap_keys.proofs.WholeLaws.{known_of, few_of, some_rest, none_left}
 use Rattle.wap_keys.proofs.FaultLaws.{ended_counts}
-use Rattle.wap_site.specs.Pages.{Pages as JudgedPages}
-use Rattle.wap_site.specs.Asking.{Stays}
-use Rattle.wap_site.proofs.Asking.{Stays-same, Stays-then}
+use Rattle.wap_world.specs.site.Pages.{Pages as JudgedPages}
+use Rattle.wap_world.specs.site.Asking.{Stays}
+use Rattle.wap_world.proofs.SiteLemmas.Asking.{Stays-same, Stays-then}
 use Rattle.wap_world.specs.Steps.{Step, joined}
-use Rattle.wap_scripting.specs.UnitSites.{unit_pages}
-use Rattle.wap_scripting.specs.Waiting.{Waits}
+use Rattle.wap_world.specs.scripting.UnitSites.{unit_pages}
+use Rattle.wap_world.specs.scripting.Waiting.{Waits}
 use Rattle.wap_context.specs.Missing.{Missed}
 use Rattle.wap_session.specs.Feeding.{left_open}
 use Rattle.wap_session.specs.handset.Feeding.{State, step_of}

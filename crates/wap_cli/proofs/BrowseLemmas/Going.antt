@@ -11,14 +11,14 @@ use Rattle.wap_input.specs.declared.key.Key.{Key}
 use Rattle.wap_input.specs.declared.key.Key.TheVariants.{Open}
 use Rattle.wap_keys.specs.declared.ending.Next.TheVariants as next
 use Rattle.wap_keys.specs.Reading.{Reading, HasRead, Answers}
-use Rattle.wap_site.specs.Pages.{Pages as JudgedPages}
-use Rattle.wap_site.specs.Misses.{Asked}
-use Rattle.wap_site.specs.Asking.{Stays, Asks}
-use Rattle.wap_site.proofs.Asking.{Asks-nil, Asks-then, Stays-same, Stays-then}
+use Rattle.wap_world.specs.site.Pages.{Pages as JudgedPages}
+use Rattle.wap_world.specs.site.Misses.{Asked}
+use Rattle.wap_world.specs.site.Asking.{Stays, Asks}
+use Rattle.wap_world.proofs.SiteLemmas.Asking.{Asks-nil, Asks-then, Stays-same, Stays-then}
 use Rattle.wap_world.specs.Steps.{Step, joined, quiet, still}
 use Rattle.wap_world.specs.Sessions.{Begun, world_of}
 use Rattle.wap_world.proofs.Joining.{joined_assoc}
-use Rattle.wap_scripting.specs.UnitSites.{Pages, shelf_of, unit_pages}
+use Rattle.wap_world.specs.scripting.UnitSites.{Pages, shelf_of, unit_pages}
 use Rattle.wap_context.specs.Browsers.{IsOver}
 use Rattle.wap_session.specs.Feeding.{left_open}
 use Rattle.wap_session.specs.handset.Feeding.{State, beginning, step_of}

@@ -7,7 +7,7 @@ use Rattle.wap_input.specs.declared.key.Key.{Key}
 use Rattle.wap_lines.specs.Written.{line_bytes, lines_bytes}
 use Rattle.wap_world.specs.Lines.{shown_line}
 use Rattle.wap_world.specs.Steps.{Step, joined}
-use Rattle.wap_scripting.specs.UnitSites.{Pages}
+use Rattle.wap_world.specs.scripting.UnitSites.{Pages}
 use Rattle.wap_session.specs.Feeding.{left_open}
 use Rattle.wap_session.specs.handset.Feeding.{State, step_of}
 use Rattle.wap_session.proofs.HandsetLemmas.Playing.{step_none}

@@ -7,12 +7,12 @@ use Rattle.wap_devices.specs.Sinks.{SinkSeen}
 use Rattle.wap_devices.proofs.Transfers.{Appends-then}
 use Rattle.wap_input.specs.declared.key.Key.{Key}
 use Rattle.wap_keys.specs.Read.{AreFirst}
-use Rattle.wap_site.specs.Misses.{Asked, misses}
+use Rattle.wap_world.specs.site.Misses.{Asked, misses}
 use Rattle.wap_base.specs.Count.{greatest_count}
-use Rattle.wap_site.specs.Asking.{raised_by, Stays}
-use Rattle.wap_site.proofs.Asking.{Asks-then}
+use Rattle.wap_world.specs.site.Asking.{raised_by, Stays}
+use Rattle.wap_world.proofs.SiteLemmas.Asking.{Asks-then}
 use Rattle.wap_world.specs.Steps.{Step}
-use Rattle.wap_scripting.specs.UnitSites.{Pages}
+use Rattle.wap_world.specs.scripting.UnitSites.{Pages}
 use Rattle.wap_context.specs.Missing.{Missed}
 use Rattle.wap_session.specs.handset.Feeding.{State, step_of}
 use Rattle.wap_cli.specs.browse.Outside.{Outside}

@@ -7,19 +7,19 @@ use Rattle.wap_input.specs.declared.key.Key.{Key}
 use Rattle.wap_input.specs.declared.key.Key.TheVariants as key
 use Rattle.wap_push.specs.declared.indication.Indication.{Indication}
 use Rattle.wap_push.specs.Pushes.{push_at}
-use Rattle.wap_site.specs.Pages.{Pages as JudgedPages}
-use Rattle.wap_site.specs.Asking.{Asks}
+use Rattle.wap_world.specs.site.Pages.{Pages as JudgedPages}
+use Rattle.wap_world.specs.site.Asking.{Asks}
 use Rattle.wap_lines.specs.Written.{lines_bytes}
 use Rattle.wap_world.specs.Sites.{Site}
-use Rattle.wap_scripting.specs.UnitSites.{Pages, unit_pages}
-use Rattle.wap_scripting.specs.Waiting.{Waits}
-use Rattle.wap_scripting_laws.proofs.Keeping.{units_few}
+use Rattle.wap_world.specs.scripting.UnitSites.{Pages, unit_pages}
+use Rattle.wap_world.specs.scripting.Waiting.{Waits}
+use Rattle.wap_world.proofs.ScriptingLawsLemmas.Keeping.{units_few}
 use Rattle.wap_context.specs.Sites.{fragment_call, site_of, IfOver}
 use Rattle.wap_session.proofs.Alone.{none_of, turned_none}
 use Rattle.wap_inbox.specs.Inbox.{HaveWinners}
-use Rattle.wap_inboxes.specs.Inboxes.{Handset, Stepped, react_with}
-use Rattle.wap_inboxes.proofs.Counting.{few_with}
-use Rattle.wap_inboxes.proofs.Winning.{exactly}
+use Rattle.wap_world.specs.inboxes.Inboxes.{Handset, Stepped, react_with}
+use Rattle.wap_world.proofs.InboxesLemmas.Counting.{few_with}
+use Rattle.wap_world.proofs.InboxesLemmas.Winning.{exactly}
 use Rattle.wap_session.specs.handset.Holding.{Held}
 use Rattle.wap_session.specs.handset.Feeding.{State, held_with, stepped_of, step_of, Leads, Plays}
 use Rattle.wap_session.specs.handset.inside.Turns.{turned_by}

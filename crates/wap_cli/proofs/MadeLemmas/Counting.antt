@@ -4,8 +4,8 @@ use Rattle.std.proofs.Common.{Option, Some, None, length, take, get_or, refl, sy
 use Rattle.std.specs.Prelude.{if◌then◌else◌, IfSome}
 use Rattle.std.proofs.lemmas.List.{take_more, length-append}
 use Rattle.std.proofs.lemmas.List.Elements.{filter-append}
-use Rattle.wap_site.specs.Pages.{Pages, page_of}
-use Rattle.wap_site.specs.declared.page.Page.{Page}
+use Rattle.wap_world.specs.site.Pages.{Pages, page_of}
+use Rattle.wap_world.specs.declared.site.page.Page.{Page}
 use Rattle.wap_cli.specs.made.Making.{is_accepted, accepted_in}
 
 -- one of two lists by a test

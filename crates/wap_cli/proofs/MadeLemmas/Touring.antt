@@ -12,9 +12,9 @@ use Rattle.wap_input.specs.declared.key.Key.{Key}
 use Rattle.wap_input.specs.declared.key.Key.TheVariants.{Open, Vars}
 use Rattle.wap_make.specs.Folders.{folder, deck_count, deck_page, script_name, script}
 use Rattle.wap_pages.specs.Judged.{judged}
-use Rattle.wap_site.specs.Asking.{Seen}
-use Rattle.wap_site.specs.Pages.{Pages}
-use Rattle.wap_scripting.specs.UnitSites.{unit_pages}
+use Rattle.wap_world.specs.site.Asking.{Seen}
+use Rattle.wap_world.specs.site.Pages.{Pages}
+use Rattle.wap_world.specs.scripting.UnitSites.{unit_pages}
 use Rattle.wap_context.specs.Sites.{site_of, IfOver}
 use Rattle.wap_session.specs.Feeding.{State, Leads, Plays, beginning}
 use Rattle.wap_session.proofs.Playing.{plays_more}

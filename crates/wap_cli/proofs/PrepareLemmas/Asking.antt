@@ -10,8 +10,8 @@ use Rattle.wap_devices.specs.Stores.{StoreSeen, Fetches}
 use Rattle.wap_devices.specs.declared.store.Fetched.{Fetched}
 use Rattle.wap_devices.specs.declared.store.StoreErr.{StoreErr}
 use Rattle.wap_devices.specs.declared.store.StoreErr.TheVariants.{Failed, NoMemory}
-use Rattle.wap_site.specs.Asking.{raised_by}
-use Rattle.wap_site.proofs.Counts.{raised_by-then}
+use Rattle.wap_world.specs.site.Asking.{raised_by}
+use Rattle.wap_world.proofs.SiteLemmas.Counts.{raised_by-then}
 use Rattle.wap_cli.specs.prepare.Fetching.{AsksFor}
 use Rattle.wap_cli.specs.prepare.Fetching.{page_of, Job, IsAnswered}
 

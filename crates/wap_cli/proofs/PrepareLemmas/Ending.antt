@@ -12,7 +12,7 @@ use Rattle.wap_devices.specs.Sinks.{SinkSeen}
 use Rattle.wap_devices.specs.Transfer.{Appends, AppendsPrefix}
 use Rattle.wap_devices.specs.declared.store.StoreErr.{StoreErr}
 use Rattle.wap_devices.specs.declared.store.StoreErr.TheVariants as store_error
-use Rattle.wap_site.specs.Asking.{raised_by}
+use Rattle.wap_world.specs.site.Asking.{raised_by}
 use Rattle.wap_cli.specs.declared.status.Status.{Status}
 use Rattle.wap_cli.specs.declared.status.Status.TheVariants.{Done, Usage, Refused, StoreFault}
 use Rattle.wap_cli.specs.declared.status.Status.TheVariants.{KeyReadFault, WriteFault, NoMemory}

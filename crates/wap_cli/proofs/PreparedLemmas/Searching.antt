@@ -16,8 +16,8 @@ use Rattle.std.proofs.lemmas.Map.Keys.{sorted_from_all_adjacent}
 use Rattle.std.proofs.lemmas.Option.{get_or_from_slice_get, slice_get_within}
 use Rattle.wap_base.specs.Texts.{is_same_text, text_cmp, AreAscending}
 use Rattle.wap_base.proofs.Orders.{adjacent_from_ascending, distinct_from_ascending}
-use Rattle.wap_site.specs.Pages.{Pages, page_under}
-use Rattle.wap_site.specs.declared.page.Page.{Page}
+use Rattle.wap_world.specs.site.Pages.{Pages, page_under}
+use Rattle.wap_world.specs.declared.site.page.Page.{Page}
 
 -- a name is looked for by the order of texts
 by_order : (name : List ℕ) (pages : Pages)

@@ -19,7 +19,7 @@ use Rattle.wap_keys.specs.Read.{TakesAtMost, AtMostOnce}
 use Rattle.wap_lists.specs.Lists.{all_of, lists_of}
 use Rattle.wap_lists.specs.Read.{AreRead, ReadsLists}
 use Rattle.wap_pages.specs.declared.fault.PageFault.{PageFault}
-use Rattle.wap_site.specs.Asking.{raised_by}
+use Rattle.wap_world.specs.site.Asking.{raised_by}
 use Rattle.wap_world.specs.Sites.{Site}
 use Rattle.wap_world.specs.Sessions.{Begun}
 use Rattle.wap_cli.specs.declared.status.Status.{Status}

@@ -9,9 +9,9 @@ use Rattle.std.specs.List.Sorted.{IsStrictlySortedBy}
 use Rattle.wap_base.specs.Contents.{Contents}
 use Rattle.wap_base.specs.Texts.{byte_cmp, AreAscending}
 use Rattle.wap_base.specs.declared.fault.NoMemory.{NoMemory}
-use Rattle.wap_site.specs.Pages.{Pages, IsThere}
-use Rattle.wap_site.specs.declared.page.Page.{Page}
-use Rattle.wap_site.specs.declared.page.Page.TheVariants as page
+use Rattle.wap_world.specs.site.Pages.{Pages, IsThere}
+use Rattle.wap_world.specs.declared.site.page.Page.{Page}
+use Rattle.wap_world.specs.declared.site.page.Page.TheVariants as page
 use Rattle.wap_pages.specs.Judged.{page_where}
 use Rattle.wap_cli.specs.prepare.Fetching.{Job, IsAnswered}
 use Rattle.wap_cli.specs.prepared.Prepared.{ArePrepared}

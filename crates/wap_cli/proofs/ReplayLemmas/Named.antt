@@ -13,14 +13,14 @@ use Rattle.std.proofs.lemmas.Map.Made.{lookup-map_values, is_some-lookup}
 use Rattle.wap_base.specs.Contents.{Contents, names_of, page_named}
 use Rattle.wap_base.specs.Texts.{is_same_text, AreAscending, AreDistinct}
 use Rattle.wap_base.proofs.Orders.{distinct_from_ascending}
-use Rattle.wap_site.specs.Pages.{Pages, page_under}
-use Rattle.wap_site.specs.declared.page.Page.{Page}
-use Rattle.wap_site.specs.declared.page.Page.TheVariants as page
+use Rattle.wap_world.specs.site.Pages.{Pages, page_under}
+use Rattle.wap_world.specs.declared.site.page.Page.{Page}
+use Rattle.wap_world.specs.declared.site.page.Page.TheVariants as page
 use Rattle.wap_pages.specs.Judged.{judged, page_of_bytes, page_where}
 use Rattle.wap_input.specs.declared.key.Key.{Key}
 use Rattle.wap_world.specs.Sites.{Site}
 use Rattle.wap_world.specs.Sessions.{Begun}
-use Rattle.wap_scripting.specs.UnitSites.{unit_page, unit_pages}
+use Rattle.wap_world.specs.scripting.UnitSites.{unit_page, unit_pages}
 use Rattle.wap_context.specs.Sites.{site_of}
 use Rattle.wap_cli.specs.replay.Texts.{replayed, site_over}
 use Rattle.wap_cli.specs.replay.inside.Jobs.{is_there, pages_named, TellsOf}

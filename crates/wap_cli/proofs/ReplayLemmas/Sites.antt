@@ -14,11 +14,11 @@ use Rattle.wap_world.specs.Shelves.{Shelf}
 use Rattle.wap_world.specs.World.{place_now}
 use Rattle.wap_world.specs.Steps.{Step}
 use Rattle.wap_world.specs.Sites.{External, Ran, Site}
-use Rattle.wap_scripting.specs.Dialogs.{by_keys}
-use Rattle.wap_scripting.specs.Hosting.{hosting}
-use Rattle.wap_scripting.specs.ScriptPages.{PageOf, page_under, script_in, shelved}
-use Rattle.wap_scripting.specs.UnitSites.{Pages, units, shelf_of, unit_under, externals_of}
-use Rattle.wap_scripting.specs.UnitSites.{ran_of, started_at, units_site}
+use Rattle.wap_world.specs.scripting.Dialogs.{by_keys}
+use Rattle.wap_world.specs.scripting.Hosting.{hosting}
+use Rattle.wap_world.specs.scripting.ScriptPages.{PageOf, page_under, script_in, shelved}
+use Rattle.wap_world.specs.scripting.UnitSites.{Pages, units, shelf_of, unit_under, externals_of}
+use Rattle.wap_world.specs.scripting.UnitSites.{ran_of, started_at, units_site}
 use Rattle.wap_context.specs.Sites.{fragment_call, site_of}
 
 -- what a site knows of its pages: its shelf, external functions, and the unit under each name

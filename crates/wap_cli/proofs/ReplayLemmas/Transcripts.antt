@@ -8,11 +8,11 @@ use Rattle.std.specs.declared.alloc.Global.{Global}
 use Rattle.wap_input.specs.declared.key.Key.{Key}
 use Rattle.wap_input.specs.declared.key.Key.TheVariants.{Open}
 use Rattle.wap_devices.proofs.Putting.{flat_map-append}
-use Rattle.wap_site.specs.Pages.{Pages}
+use Rattle.wap_world.specs.site.Pages.{Pages}
 use Rattle.wap_lines.specs.Written.{line_bytes, lines_bytes}
 use Rattle.wap_world.specs.Steps.{Step}
 use Rattle.wap_world.specs.Sessions.{Begun, shown_by}
-use Rattle.wap_scripting.specs.UnitSites.{unit_pages}
+use Rattle.wap_world.specs.scripting.UnitSites.{unit_pages}
 use Rattle.wap_context.specs.Sites.{site_of, IfOver}
 use Rattle.wap_session.specs.handset.Feeding.{State, beginning, Leads, ShowsOn}
 use Rattle.wap_cli.specs.replay.Texts.{alone}

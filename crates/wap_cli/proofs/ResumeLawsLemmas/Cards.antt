@@ -5,14 +5,14 @@ use Rattle.wap_base.specs.Texts.{AreDistinct}
 use Rattle.wap_url.specs.Printing.{name_for}
 use Rattle.wap_markup.specs.declared.deck.Deck.{Deck}
 use Rattle.wap_markup.specs.Cards.{cards_of}
-use Rattle.wap_site.specs.declared.page.Page.{Page}
-use Rattle.wap_site.specs.declared.page.Page.TheVariants as page
-use Rattle.wap_site.specs.Pages.{page_of}
+use Rattle.wap_world.specs.declared.site.page.Page.{Page}
+use Rattle.wap_world.specs.declared.site.page.Page.TheVariants as page
+use Rattle.wap_world.specs.site.Pages.{page_of}
 use Rattle.wap_pages.specs.Judged.{judged, page_where}
 use Rattle.wap_pages.proofs.Judgements.{page_of-judged, page_deck, judged_pages_fit}
 use Rattle.wap_world.specs.World.{deck_in}
-use Rattle.wap_world_laws.specs.Standing.{HaveCards}
-use Rattle.wap_scripting.specs.UnitSites.{shelf_of, unit_pages}
+use Rattle.wap_world.specs.session_laws.Standing.{HaveCards}
+use Rattle.wap_world.specs.scripting.UnitSites.{shelf_of, unit_pages}
 use Rattle.wap_context.specs.host.Finding.{shelved_page}
 use Rattle.wap_context.proofs.HostLemmas.Shelves.{shelved_is}
 

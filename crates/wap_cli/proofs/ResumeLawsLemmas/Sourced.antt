@@ -7,8 +7,8 @@ use Rattle.wap_parts.specs.declared.parts.ContextParts.{ContextParts}
 use Rattle.wap_pages.specs.Judged.{judged}
 use Rattle.wap_world.specs.Sites.{Site}
 use Rattle.wap_world.specs.Sessions.{Begun}
-use Rattle.wap_scripting.specs.Sources.{AllPages, site_of}
-use Rattle.wap_scripting.specs.UnitSites.{unit_pages, units_site}
+use Rattle.wap_world.specs.scripting.Sources.{AllPages, site_of}
+use Rattle.wap_world.specs.scripting.UnitSites.{unit_pages, units_site}
 use Rattle.wap_site_laws.specs.unasked.Unasked.{is_asked}
 use Rattle.wap_site_laws.specs.programs.Programs.{Accepted, programs}
 use Rattle.wap_site_laws.specs.pages.SourcePages.{ArePages}

@@ -17,10 +17,10 @@ use Rattle.wap_markup.specs.declared.deck.Deck.{Deck}
 use Rattle.wap_push.specs.Pushes.{push_at}
 use Rattle.wap_url.specs.Printing.{name_for}
 use Rattle.wap_parts.specs.declared.parts.ContextParts.{ContextParts}
-use Rattle.wap_site.specs.declared.page.Page.{Page}
-use Rattle.wap_site.specs.declared.page.Page.TheVariants as judge
-use Rattle.wap_site.specs.Misses.{Asked}
-use Rattle.wap_site.specs.Pages.{IsThere, page_under as judged_under}
+use Rattle.wap_world.specs.declared.site.page.Page.{Page}
+use Rattle.wap_world.specs.declared.site.page.Page.TheVariants as judge
+use Rattle.wap_world.specs.site.Misses.{Asked}
+use Rattle.wap_world.specs.site.Pages.{IsThere, page_under as judged_under}
 use Rattle.wap_pages.specs.Judged.{judged}
 use Rattle.wap_pages.proofs.Judgements.{page_there}
 use Rattle.wap_world.specs.declared.history.Entry.{Entry}
@@ -30,10 +30,10 @@ use Rattle.wap_lines.specs.Written.{lines_bytes}
 use Rattle.wap_world.specs.Lines.{shown_line}
 use Rattle.wap_world.specs.Steps.{Step}
 use Rattle.wap_world.specs.Sessions.{Begun, world_of}
-use Rattle.wap_world_laws.specs.Standing.{HaveCards}
-use Rattle.wap_inboxes.specs.Inboxes.{Stepped}
-use Rattle.wap_scripting.specs.ScriptPages.{shelved}
-use Rattle.wap_scripting.specs.UnitSites.{Pages, units, shelf_of, unit_page, unit_pages}
+use Rattle.wap_world.specs.session_laws.Standing.{HaveCards}
+use Rattle.wap_world.specs.inboxes.Inboxes.{Stepped}
+use Rattle.wap_world.specs.scripting.ScriptPages.{shelved}
+use Rattle.wap_world.specs.scripting.UnitSites.{Pages, units, shelf_of, unit_page, unit_pages}
 use Rattle.wap_site_laws.specs.unasked.Unasked.{is_asked, is_on, AgreeBeside}
 use Rattle.wap_site_laws.proofs.UnaskedLemmas.Inboxes.{unasked_with, ends_beside}
 use Rattle.wap_context.proofs.HostLemmas.Shelves.{under_is}

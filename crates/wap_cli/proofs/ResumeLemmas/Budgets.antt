@@ -41,20 +41,25 @@ use Rattle.wap_world.specs.Timers.{store_under}
 use Rattle.wap_world.specs.Urls.{target_of, page_url}
 use Rattle.wap_world.specs.Keys.{react}
 use Rattle.wap_world.proofs.Walk.{Keeping, Kept, KeepsSite, react_moves}
-use Rattle.wap_scripting.specs.Additions.{with_scene, with_request}
-use Rattle.wap_scripting.specs.Browsing.{gives, on_text, set_by, pends, pending_go, current_card}
-use Rattle.wap_scripting.specs.Browsing.{refreshed, BrowserFunction, row_of_browser, wml_browser}
-use Rattle.wap_scripting.specs.Browsing.{GetVar, SetVar, Go, Prev, NewContext, GetCurrentCard}
-use Rattle.wap_scripting.specs.Browsing.{Refresh, browser_functions, variable_in}
-use Rattle.wap_scripting.specs.Browsing.{asks, label_or, DialogFunction, Prompt, Confirm, Alert}
-use Rattle.wap_scripting.specs.Browsing.{dialog_functions, row_of_dialogs, dialogs}
-use Rattle.wap_scripting.specs.Loading.{load_at, load_from, load_string, get_base, get_referer}
-use Rattle.wap_scripting.specs.Hosting.{found_at, pure_call, within, load_call, url_call}
-use Rattle.wap_scripting.specs.Hosting.{library_call, found_under}
-use Rattle.wap_scripting.specs.Dialogs.{Reply, answers, ends_it, passes, reply_to, meanwhile}
-use Rattle.wap_scripting.specs.Dialogs.{run_out, tick_waiting, after_reply, answered_by, by_keys}
-use Rattle.wap_scripting.specs.UnitSites.{Pages, shelf_of, externals_of, unit_under, host_of}
-use Rattle.wap_scripting.specs.UnitSites.{keyed_host, started_at, units_site}
+use Rattle.wap_world.specs.scripting.Additions.{with_scene, with_request}
+use Rattle.wap_world.specs.scripting.Browsing.{gives, on_text, set_by, pends, pending_go}
+use Rattle.wap_world.specs.scripting.Browsing.{current_card}
+use Rattle.wap_world.specs.scripting.Browsing.{refreshed, BrowserFunction, row_of_browser}
+use Rattle.wap_world.specs.scripting.Browsing.{wml_browser}
+use Rattle.wap_world.specs.scripting.Browsing.{GetVar, SetVar, Go, Prev, NewContext, GetCurrentCard}
+use Rattle.wap_world.specs.scripting.Browsing.{Refresh, browser_functions, variable_in}
+use Rattle.wap_world.specs.scripting.Browsing.{asks, label_or, DialogFunction, Prompt, Confirm}
+use Rattle.wap_world.specs.scripting.Browsing.{Alert}
+use Rattle.wap_world.specs.scripting.Browsing.{dialog_functions, row_of_dialogs, dialogs}
+use Rattle.wap_world.specs.scripting.Loading.{load_at, load_from, load_string, get_base}
+use Rattle.wap_world.specs.scripting.Loading.{get_referer}
+use Rattle.wap_world.specs.scripting.Hosting.{found_at, pure_call, within, load_call, url_call}
+use Rattle.wap_world.specs.scripting.Hosting.{library_call, found_under}
+use Rattle.wap_world.specs.scripting.Dialogs.{Reply, answers, ends_it, passes, reply_to, meanwhile}
+use Rattle.wap_world.specs.scripting.Dialogs.{run_out, tick_waiting, after_reply, answered_by}
+use Rattle.wap_world.specs.scripting.Dialogs.{by_keys}
+use Rattle.wap_world.specs.scripting.UnitSites.{Pages, shelf_of, externals_of, unit_under, host_of}
+use Rattle.wap_world.specs.scripting.UnitSites.{keyed_host, started_at, units_site}
 use Rattle.wap_context.specs.Sites.{site_of}
 
 -- ---- rows of the host

@@ -11,10 +11,10 @@ use Rattle.wap_devices.specs.Stores.{StoreSeen}
 use Rattle.wap_devices.specs.Sources.{SourceSeen}
 use Rattle.wap_devices.specs.Sinks.{SinkSeen}
 use Rattle.wap_parts.specs.declared.parts.ContextParts.{ContextParts}
-use Rattle.wap_site.specs.Pages.{Pages as JudgedPages}
-use Rattle.wap_site.specs.Misses.{Cache}
-use Rattle.wap_site.specs.Asking.{Stays}
-use Rattle.wap_site.proofs.Asking.{Stays-then}
+use Rattle.wap_world.specs.site.Pages.{Pages as JudgedPages}
+use Rattle.wap_world.specs.site.Misses.{Cache}
+use Rattle.wap_world.specs.site.Asking.{Stays}
+use Rattle.wap_world.proofs.SiteLemmas.Asking.{Stays-then}
 use Rattle.wap_pages.specs.declared.fault.PageFault.{PageFault}
 use Rattle.wap_pages.specs.declared.fault.PageFault.TheVariants as page_fault
 use Rattle.wap_pages.specs.Caches.{seen_over}

@@ -9,9 +9,9 @@ use Rattle.wap_devices.specs.Stores.{StoreSeen}
 use Rattle.wap_devices.specs.Sources.{SourceSeen}
 use Rattle.wap_devices.specs.Sinks.{SinkSeen}
 use Rattle.wap_image.specs.Images.{Saved, IsImage}
-use Rattle.wap_site.specs.Misses.{Cache}
-use Rattle.wap_site.specs.Asking.{Stays}
-use Rattle.wap_site.proofs.Asking.{Stays-same, Stays-then}
+use Rattle.wap_world.specs.site.Misses.{Cache}
+use Rattle.wap_world.specs.site.Asking.{Stays}
+use Rattle.wap_world.proofs.SiteLemmas.Asking.{Stays-same, Stays-then}
 use Rattle.wap_pages.specs.declared.fault.PageFault.{PageFault}
 use Rattle.wap_pages.specs.Caches.{CachedPages, seen_over}
 use Rattle.wap_pages.specs.Judged.{judged}

@@ -12,14 +12,14 @@ use Rattle.wap_pages.specs.declared.fault.PageFault.TheVariants.{Save}
 use Rattle.wap_world.specs.World.{World}
 use Rattle.wap_world.specs.Steps.{joined}
 use Rattle.wap_world.specs.Sessions.{Begun, world_of}
-use Rattle.wap_site.specs.Pages.{Pages as JudgedPages}
-use Rattle.wap_scripting.specs.UnitSites.{Pages, unit_pages}
-use Rattle.wap_scripting.specs.Waiting.{Waits}
+use Rattle.wap_world.specs.site.Pages.{Pages as JudgedPages}
+use Rattle.wap_world.specs.scripting.UnitSites.{Pages, unit_pages}
+use Rattle.wap_world.specs.scripting.Waiting.{Waits}
 use Rattle.wap_context.specs.Sites.{site_of}
 use Rattle.wap_state.specs.Saved.{parts_of}
 use Rattle.wap_push.specs.declared.indication.Indication.{Indication}
 use Rattle.wap_push.specs.Pushes.{push_at}
-use Rattle.wap_inboxes.specs.Sessions.{played_with}
+use Rattle.wap_world.specs.inboxes.Sessions.{played_with}
 use Rattle.wap_session.specs.handset.Holding.{played_with_from}
 use Rattle.wap_session.specs.handset.Feeding.{State, session_of, step_of}
 use Rattle.wap_session.specs.Feeding.{State as Session, context_at_rest}

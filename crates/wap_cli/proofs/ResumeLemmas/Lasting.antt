@@ -15,14 +15,14 @@ use Rattle.wap_world.specs.Steps.{joined}
 use Rattle.wap_world.specs.Sites.{Site}
 use Rattle.wap_world.specs.Keys.{react}
 use Rattle.wap_world.specs.Sessions.{Begun, world_of}
-use Rattle.wap_world_laws.specs.Standing.{HaveCards, StandsOnCard}
-use Rattle.wap_world_laws.proofs.Standing.{keeps_standing}
-use Rattle.wap_scripting_laws.proofs.Keeping.{scripts_keep, card_changes}
-use Rattle.wap_scripting.specs.UnitSites.{Pages, shelf_of, units_site}
+use Rattle.wap_world.specs.session_laws.Standing.{HaveCards, StandsOnCard}
+use Rattle.wap_world.proofs.SessionLawsLemmas.Standing.{keeps_standing}
+use Rattle.wap_world.proofs.ScriptingLawsLemmas.Keeping.{scripts_keep, card_changes}
+use Rattle.wap_world.specs.scripting.UnitSites.{Pages, shelf_of, units_site}
 use Rattle.wap_context.specs.Sites.{fragment_call, site_of}
 use Rattle.wap_cli.proofs.SavingLemmas.AtRest.{Settled, react_moves}
-use Rattle.wap_inboxes.specs.Inboxes.{Handset, Stepped, take_push, react_with}
-use Rattle.wap_inboxes.specs.Sessions.{followed_with, played_with_in, played_with}
+use Rattle.wap_world.specs.inboxes.Inboxes.{Handset, Stepped, take_push, react_with}
+use Rattle.wap_world.specs.inboxes.Sessions.{followed_with, played_with_in, played_with}
 use Rattle.wap_session.specs.Feeding.{left_open}
 use Rattle.wap_cli.specs.browse.Handling.{bytes_of}
 use Rattle.wap_cli.specs.browse.Plays.{opened, HaveNoPush}

@@ -13,7 +13,7 @@ use Rattle.wap_world.specs.declared.history.Entry.{Entry}
 use Rattle.wap_world.specs.Shelves.{Shelf}
 use Rattle.wap_world.specs.World.{World, Place, place_in, place_of, last_entry, deck_at}
 use Rattle.wap_world.specs.History.{all_but_last, in_deck}
-use Rattle.wap_world_laws.specs.Standing.{StandsOnCard}
+use Rattle.wap_world.specs.session_laws.Standing.{StandsOnCard}
 use Rattle.wap_state.specs.Saved.{saved_world}
 use Rattle.wap_context.specs.Saved.{with_last_in}
 use Rattle.wap_cli.specs.resume.Resuming.{world_with, world_over}

@@ -10,8 +10,8 @@ use Rattle.wap_devices.specs.Stores.{StoreSeen}
 use Rattle.wap_devices.specs.Sources.{SourceSeen}
 use Rattle.wap_devices.specs.Sinks.{SinkSeen}
 use Rattle.wap_image.specs.Images.{Saved}
-use Rattle.wap_site.specs.Pages.{AreSitePages}
-use Rattle.wap_site.specs.Asking.{Seen}
+use Rattle.wap_world.specs.site.Pages.{AreSitePages}
+use Rattle.wap_world.specs.site.Asking.{Seen}
 use Rattle.wap_pages.specs.declared.fault.PageFault.TheVariants as page_fault
 use Rattle.wap_pages.specs.Caches.{CachedPages, cache_of, seen_over}
 use Rattle.wap_pages.specs.Judged.{judged}

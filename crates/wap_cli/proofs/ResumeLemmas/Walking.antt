@@ -11,8 +11,8 @@ use Rattle.wap_world.specs.World.{World}
 use Rattle.wap_world.specs.Steps.{Step}
 use Rattle.wap_world.specs.Sites.{Site}
 use Rattle.wap_world.specs.Keys.{renewed, react}
-use Rattle.wap_inboxes.specs.Inboxes.{Handset, take_push, url_at, follow, react_with}
-use Rattle.wap_inboxes.specs.Sessions.{after_step, played_with_in, played_with}
+use Rattle.wap_world.specs.inboxes.Inboxes.{Handset, take_push, url_at, follow, react_with}
+use Rattle.wap_world.specs.inboxes.Sessions.{after_step, played_with_in, played_with}
 
 module _ (read : List ℕ → Result Indication PushFault) (site : Site) (Fact : World → Type 0)
     (keeps : (one : Key) (keys : List Key) (world : World) → Fact world

@@ -57,9 +57,9 @@ use Rattle.wap_world.specs.Keys.{ignored, act_or, after_text, type_text, after_c
 use Rattle.wap_world.specs.Keys.{choose_option, expire, pass_time, at_card, apply, renewed, react}
 use Rattle.wap_world.specs.Timers.{timer_from}
 use Rattle.wap_world.specs.Sessions.{played_in, played}
-use Rattle.wap_world_laws.specs.Scripts.{ScriptsKeep}
-use Rattle.wap_world_laws.specs.Standing.{HaveCards, StandsOnCard}
-use Rattle.wap_world_laws.proofs.Standing.{keeps_standing}
+use Rattle.wap_world.specs.session_laws.Scripts.{ScriptsKeep}
+use Rattle.wap_world.specs.session_laws.Standing.{HaveCards, StandsOnCard}
+use Rattle.wap_world.proofs.SessionLawsLemmas.Standing.{keeps_standing}
 use Rattle.wap_state.specs.Saved.{IsAtRest}
 
 -- no script has asked for a task, or waits while the timer runs out

@@ -4,8 +4,8 @@
 use Rattle.std.specs.Prelude.{◌≡◌, ℕ, zero, suc, List, [], take, IfSome}
 use Rattle.wap_devices.specs.Transfer.{Appends}
 use Rattle.wap_input.specs.declared.key.Key.{Key}
-use Rattle.wap_site.specs.Misses.{Asked, Cache, misses}
-use Rattle.wap_site.specs.Asking.{raised_by}
+use Rattle.wap_world.specs.site.Misses.{Asked, Cache, misses}
+use Rattle.wap_world.specs.site.Asking.{raised_by}
 use Rattle.wap_lines.specs.Written.{lines_bytes}
 use Rattle.wap_world.specs.Steps.{Step}
 use Rattle.wap_world.specs.Sessions.{shown_by}

@@ -13,7 +13,7 @@ use Rattle.wap_keys.specs.declared.ending.Ending.TheVariants as ending
 use Rattle.wap_keys.specs.Lines.{keys_of, keys_at}
 use Rattle.wap_keys.specs.Read.{AreFirst, keys_among, rose, IsPrompt, TakesAtMost, AtMostOnce}
 use Rattle.wap_pages.specs.declared.fault.PageFault.{PageFault}
-use Rattle.wap_site.specs.Asking.{Stays}
+use Rattle.wap_world.specs.site.Asking.{Stays}
 use Rattle.wap_world.specs.Steps.{Step}
 use Rattle.wap_cli.specs.declared.status.Status.{Status}
 use Rattle.wap_cli.specs.declared.status.Status.TheVariants.{Usage, Refused, StoreFault}

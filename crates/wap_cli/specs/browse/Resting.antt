@@ -3,7 +3,7 @@ use Rattle.std.specs.Prelude.{◌≡◌, false, List, [], ◌++◌, None, IfSome
 use Rattle.wap_input.specs.declared.key.Key.{Key}
 use Rattle.wap_keys.specs.Lines.{keys_of}
 use Rattle.wap_world.specs.Steps.{Step, joined}
-use Rattle.wap_scripting.specs.UnitSites.{Pages, shelf_of, unit_pages}
+use Rattle.wap_world.specs.scripting.UnitSites.{Pages, shelf_of, unit_pages}
 use Rattle.wap_context.specs.Browsers.{IsOver}
 use Rattle.wap_session.specs.handset.Feeding.{State, step_of}
 use Rattle.wap_cli.specs.browse.Outside.{Outside}

@@ -4,7 +4,7 @@ use Rattle.std.specs.Prelude.{◌≡◌, ℕ, ◌+◌, ◌<◌, ◌≤◌, List,
 use Rattle.wap_devices.specs.Transfer.{Appends}
 use Rattle.wap_input.specs.declared.key.Key.{Key}
 use Rattle.wap_base.specs.Count.{greatest_count}
-use Rattle.wap_site.specs.Asking.{raised_by}
+use Rattle.wap_world.specs.site.Asking.{raised_by}
 use Rattle.wap_world.specs.Steps.{Step}
 use Rattle.wap_cli.specs.browse.Outside.{Outside}
 use Rattle.wap_cli.specs.browse.Handling.{first_lines, first_misses}

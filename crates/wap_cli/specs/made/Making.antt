@@ -12,15 +12,15 @@ use Rattle.wap_devices.specs.Sinks.{SinkSeen}
 use Rattle.wap_devices.specs.Transfer.{Appends, AppendsPrefix}
 use Rattle.wap_input.specs.declared.key.Key.{Key}
 use Rattle.wap_input.specs.declared.key.Key.TheVariants.{Do, Vars}
-use Rattle.wap_site.specs.Pages.{Pages, page_of}
-use Rattle.wap_site.specs.declared.page.Page.{Page}
-use Rattle.wap_site.specs.declared.page.Page.TheVariants as page
+use Rattle.wap_world.specs.site.Pages.{Pages, page_of}
+use Rattle.wap_world.specs.declared.site.page.Page.{Page}
+use Rattle.wap_world.specs.declared.site.page.Page.TheVariants as page
 use Rattle.wap_pages.specs.Judged.{judged}
 use Rattle.wap_make.specs.Folders.{folder, deck_count}
 use Rattle.wap_words.specs.declared.numbers.TheConstants.{DEFAULT_SEED, DEFAULT_BUDGET}
 use Rattle.wap_world.specs.Sites.{Site}
 use Rattle.wap_world.specs.Sessions.{Begun, session, shown_by}
-use Rattle.wap_scripting.specs.UnitSites.{unit_pages}
+use Rattle.wap_world.specs.scripting.UnitSites.{unit_pages}
 use Rattle.wap_context.specs.Sites.{site_of}
 use Rattle.wap_cli.specs.declared.status.Status.{Status}
 use Rattle.wap_cli.specs.declared.status.Status.TheVariants.{Done, WriteFault, NoMemory}

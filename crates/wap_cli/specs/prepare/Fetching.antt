@@ -7,7 +7,7 @@ use Rattle.wap_devices.specs.declared.store.Fetched.{Fetched}
 use Rattle.wap_devices.specs.declared.store.Fetched.TheVariants as fetched
 use Rattle.wap_devices.specs.declared.store.StoreErr.{StoreErr}
 use Rattle.wap_devices.specs.declared.store.StoreErr.TheVariants.{Failed}
-use Rattle.wap_site.specs.Asking.{raised_by}
+use Rattle.wap_world.specs.site.Asking.{raised_by}
 
 -- for so many, up to a fault
 pub record AsksFor {A : Type 0} (count : ℕ) (before after : StoreSeen) (result : Result A StoreErr)

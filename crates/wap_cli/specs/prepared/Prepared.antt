@@ -2,8 +2,8 @@
 use Rattle.std.specs.Prelude.{All, Some, None}
 use Rattle.std.specs.Map.{keys_of}
 use Rattle.wap_base.specs.Texts.{AreAscending}
-use Rattle.wap_site.specs.Pages.{Pages, IsThere}
-use Rattle.wap_site.specs.Asking.{Seen}
+use Rattle.wap_world.specs.site.Pages.{Pages, IsThere}
+use Rattle.wap_world.specs.site.Asking.{Seen}
 
 -- they stand in the order of the UTF-8 bytes of their names, each once, and each is there
 pub record ArePrepared (pages : Pages) : Type 0 where

@@ -9,8 +9,8 @@ use Rattle.wap_lines.specs.Written.{lines_bytes}
 use Rattle.wap_world.specs.Steps.{Step}
 use Rattle.wap_world.specs.Sessions.{Begun, shown_by}
 use Rattle.wap_push.specs.Pushes.{push_at}
-use Rattle.wap_inboxes.specs.Sessions.{session_with}
-use Rattle.wap_scripting.specs.UnitSites.{unit_pages}
+use Rattle.wap_world.specs.inboxes.Sessions.{session_with}
+use Rattle.wap_world.specs.scripting.UnitSites.{unit_pages}
 use Rattle.wap_context.specs.Sites.{site_of}
 use Rattle.wap_cli.specs.Statuses.{number_of}
 use Rattle.wap_cli.specs.browse.Endings.{at_end}

@@ -7,7 +7,7 @@ use Rattle.wap_devices.specs.Sinks.{SinkSeen}
 use Rattle.wap_devices.specs.Transfer.{Appends, AppendsPrefix}
 use Rattle.wap_input.specs.declared.key.Key.{Key}
 use Rattle.wap_push.specs.Pushes.{push_at}
-use Rattle.wap_inboxes.specs.Sessions.{session_with, played_with}
+use Rattle.wap_world.specs.inboxes.Sessions.{session_with, played_with}
 use Rattle.wap_keys.specs.Lines.{keys_of}
 use Rattle.wap_parts.specs.declared.fault.SaveFault.{SaveFault}
 use Rattle.wap_parts.specs.declared.parts.ContextParts.{ContextParts}
@@ -16,7 +16,7 @@ use Rattle.wap_world.specs.World.{World}
 use Rattle.wap_world.specs.Steps.{Step, joined}
 use Rattle.wap_world.specs.Sites.{Site}
 use Rattle.wap_world.specs.Sessions.{Begun}
-use Rattle.wap_scripting.specs.UnitSites.{Pages}
+use Rattle.wap_world.specs.scripting.UnitSites.{Pages}
 use Rattle.wap_context.specs.Sites.{site_of}
 use Rattle.wap_state.specs.Saved.{parts_of, saved_world, IsAtRest}
 use Rattle.wap_cli.specs.saving.Saving.{image_of}

@@ -2,7 +2,7 @@
 -- project's own.
 use Rattle.std.specs.Prelude.{◌≡◌, ◌≢◌, ℕ, List}
 use Rattle.wap_base.specs.Contents.{Contents}
-use Rattle.wap_site.specs.Pages.{page_of}
+use Rattle.wap_world.specs.site.Pages.{page_of}
 use Rattle.wap_pages.specs.Judged.{judged}
 
 -- but for the page of this name the pages of both are judged to be the same

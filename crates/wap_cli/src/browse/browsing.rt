@@ -13,7 +13,7 @@ use crate::browse::reading::play_keys;
 use std::alloc::Global;
 use wap_devices::{Sink, Source};
 use wap_session::handset::{Handset, Key};
-use wap_site::Pages;
+use wap_world::site::Pages;
 
 /// Opens the URL, and then plays key after key: in a dialog they answer it. The lines of each are
 /// written before the next is read. Gives the handset back as it is then.

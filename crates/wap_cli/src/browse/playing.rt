@@ -9,7 +9,7 @@ use std::alloc::Global;
 use wap_devices::{Failed, Sink, write_all};
 use wap_lines::Lines;
 use wap_session::handset::{Handset, Key, SessionFault};
-use wap_site::Pages;
+use wap_world::site::Pages;
 
 /// Plays a key, and writes the lines that it shows; or answers how the session ends.
 pub(crate) fn play<P: Pages, O: Sink>(

@@ -13,8 +13,8 @@ use wap_base::NoMemory;
 use wap_devices::{Sink, Source};
 use wap_keys::{Next, Reader};
 use wap_session::handset::{Handset, refusal_lines};
-use wap_site::Pages;
 use wap_world::Refusal;
+use wap_world::site::Pages;
 
 /// Plays key after key of a source in a handset in which nothing failed: in a dialog they answer
 /// it. The lines of each are written before the next is read. Whatever led to here, keys come from

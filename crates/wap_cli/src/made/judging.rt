@@ -6,7 +6,7 @@ ghost use Rattle.wap_cli.specs.made.Making.{is_accepted, accepted_in};
 
 use std::alloc::Global;
 use wap_base::{Bytes, NoMemory, RunErr, Text};
-use wap_site::{Page, Pages};
+use wap_world::site::{Page, Pages};
 
 /// The names of pages.
 pub(crate) fn names_in(alloc: Global, pages: &[(Text, Bytes)]) -> Result<Vec<Text>, NoMemory>

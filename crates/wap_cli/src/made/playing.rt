@@ -1,6 +1,6 @@
 //! A session over a made folder.
 ghost use Rattle.std.specs.Prelude.{◌≡◌, IfOk, IfSome};
-ghost use Rattle.wap_scripting.specs.UnitSites.{unit_pages};
+ghost use Rattle.wap_world.specs.scripting.UnitSites.{unit_pages};
 ghost use Rattle.wap_context.specs.Sites.{site_of};
 ghost use Rattle.wap_cli.specs.made.Making.{value_in};
 ghost use Rattle.wap_cli.specs.made.inside.Tours.{IsPlayed};
@@ -10,8 +10,8 @@ use wap_base::{Limits, NoMemory, RunErr};
 use wap_input::Key;
 use wap_lines::Lines;
 use wap_session::{Session, SessionFault};
-use wap_site::Pages;
 use wap_words::{DEFAULT_BUDGET, DEFAULT_SEED};
+use wap_world::site::Pages;
 
 /// What the keys of a session came to.
 #[derive(Drop)]

@@ -1,13 +1,13 @@
 //! Judged pages by their names.
 ghost use Rattle.std.specs.Prelude.{◌≡◌};
 ghost use Rattle.std.specs.Option.{option_copied};
-ghost use Rattle.wap_site.specs.Pages.{page_under};
+ghost use Rattle.wap_world.specs.site.Pages.{page_under};
 ghost use Rattle.wap_cli.specs.prepared.Prepared.{ArePrepared};
 
 use crate::prepared::Shared;
 use std::marker::Model;
 use wap_base::{Rows, Text};
-use wap_site::Page;
+use wap_world::site::Page;
 
 /// Judged pages that many sessions share, also in several threads. A contract sees the list of
 /// them.
@@ -19,7 +19,7 @@ pub struct Prepared {
 impl Model for Prepared {
     ghost use Rattle.wap_markup.specs.contracts.deck.Item as item;
     ghost use Rattle.std.specs.Coded.{codes};
-    ghost use Rattle.wap_site.specs.Pages.{Pages};
+    ghost use Rattle.wap_world.specs.site.Pages.{Pages};
     ghost use Rattle.wap_cli.specs.prepared.Prepared.{ArePrepared};
 
     ghost Value = { Pages };

@@ -1,14 +1,14 @@
 //! Pages that a session shares with others.
 ghost use Rattle.std.specs.Prelude.{◌≡◌, [], ◌∷◌, IfOk, OnOk, IfErr, IsErrOf};
-ghost use Rattle.wap_site.specs.Pages.{page_of, AreSitePages};
-ghost use Rattle.wap_site.specs.Asking.{Stays, Asks, Fails};
+ghost use Rattle.wap_world.specs.site.Pages.{page_of, AreSitePages};
+ghost use Rattle.wap_world.specs.site.Asking.{Stays, Asks, Fails};
 ghost use Rattle.wap_cli.specs.prepared.Prepared.{shared_seen};
 
 use crate::prepared::Prepared;
 use std::alloc::Global;
 use std::marker::Model;
 use wap_base::{RunErr, Text};
-use wap_site::{Page, Pages};
+use wap_world::site::{Page, Pages};
 
 /// Prepared pages, lent to a session. A contract sees the list of them.
 #[derive(Drop)]
@@ -19,7 +19,7 @@ pub struct Shared<'a> {
 impl<'a> Model for Shared<'a> {
     ghost use Rattle.wap_markup.specs.contracts.deck.Item as item;
     ghost use Rattle.std.specs.Coded.{codes};
-    ghost use Rattle.wap_site.specs.Pages.{Pages as Site};
+    ghost use Rattle.wap_world.specs.site.Pages.{Pages as Site};
 
     ghost Value = { Site };
 

@@ -11,7 +11,7 @@ use wap_base::{NoMemory, Text};
 use wap_devices::Fetched;
 use wap_folder::Work;
 use wap_pages::{PageErr, judge, refused_pages_have_faults};
-use wap_site::Page;
+use wap_world::site::Page;
 
 /// The page of a name with these bytes.
 fn judge_bytes(alloc: Global, name: &Text, bytes: &[u8]) -> Result<Page, NoMemory>

@@ -5,7 +5,7 @@ ghost use Rattle.wap_base.specs.Limits.{AreInRange};
 ghost use Rattle.wap_input.specs.declared.key.Key.TheVariants.{Open};
 ghost use Rattle.wap_lines.specs.Written.{lines_bytes};
 ghost use Rattle.wap_world.specs.Sessions.{shown_by};
-ghost use Rattle.wap_scripting.specs.UnitSites.{unit_pages};
+ghost use Rattle.wap_world.specs.scripting.UnitSites.{unit_pages};
 ghost use Rattle.wap_context.specs.Sites.{site_of};
 ghost use Rattle.wap_cli.specs.browse.Beginning.{begun_with};
 ghost use Rattle.wap_cli.specs.replay.Texts.{header, alone, replayed};

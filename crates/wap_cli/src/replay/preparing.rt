@@ -14,7 +14,7 @@ use std::thread::Threads;
 use wap_base::{NoMemory, Rows, Text};
 use wap_devices::{Gate, Store, StoreErr};
 use wap_folder::run_jobs;
-use wap_site::Page;
+use wap_world::site::Page;
 
 /// Whether there is a page.
 fn is_there(page: &Page) -> bool

@@ -10,7 +10,7 @@ use crate::resume::nowhere::Nowhere;
 use crate::resume::saving::save_context;
 use std::alloc::Global;
 use wap_devices::{Sink, Source};
-use wap_site::Pages;
+use wap_world::site::Pages;
 
 /// Plays keys as in browsing, and writes the image of the context in which they end outside a
 /// dialog, in place of what they show. Each key has to have a turn at least.

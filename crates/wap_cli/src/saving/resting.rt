@@ -5,8 +5,8 @@ ghost use Rattle.wap_world.specs.Sites.{Site};
 ghost use Rattle.wap_world.specs.World.{World, first_world};
 ghost use Rattle.wap_world.specs.Sessions.{played};
 ghost use Rattle.wap_base.specs.declared.limits.Limits.{Limits};
-ghost use Rattle.wap_world_laws.specs.Scripts.{ScriptsKeep};
-ghost use Rattle.wap_world_laws.specs.Standing.{HaveCards, StandsOnCard};
+ghost use Rattle.wap_world.specs.session_laws.Scripts.{ScriptsKeep};
+ghost use Rattle.wap_world.specs.session_laws.Standing.{HaveCards, StandsOnCard};
 ghost use Rattle.wap_state.specs.Saved.{IsAtRest};
 
 /// Keys that end outside a dialog lead from a world at rest to one, over good decks; and a world in

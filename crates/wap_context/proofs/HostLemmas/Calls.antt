@@ -20,7 +20,7 @@ use Rattle.wap_execution.specs.declared.library.HostOut.TheVariants as out
 use Rattle.wap_machine.specs.Hosts.{IsNoBudget}
 use Rattle.wap_world.specs.World.{World}
 use Rattle.wap_world.specs.Steps.{Step}
-use Rattle.wap_scripting.specs.Hosting.{kept_by, kept, within}
+use Rattle.wap_world.specs.scripting.Hosting.{kept_by, kept, within}
 use Rattle.wap_context.specs.host.Stages.{Sight}
 use Rattle.wap_context.specs.host.Serving.{Gave}
 

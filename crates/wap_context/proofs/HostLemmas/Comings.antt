@@ -7,20 +7,22 @@ use Rattle.wap_url.specs.declared.url.Url.{Url}
 use Rattle.wap_url.specs.Printing.{name_for, without_fragment}
 use Rattle.wap_code.specs.declared.unit.Unit.{Unit}
 use Rattle.wap_execution.specs.declared.library.HostOut.TheVariants as out
-use Rattle.wap_site.specs.declared.page.Page.{Page}
-use Rattle.wap_site.specs.declared.page.Page.TheVariants as judge
-use Rattle.wap_site.specs.Pages.{Pages as JudgedPages, page_of, AreSitePages}
+use Rattle.wap_world.specs.declared.site.page.Page.{Page}
+use Rattle.wap_world.specs.declared.site.page.Page.TheVariants as judge
+use Rattle.wap_world.specs.site.Pages.{Pages as JudgedPages, page_of, AreSitePages}
 use Rattle.wap_world.specs.Shelves.{Shelved}
 use Rattle.wap_world.specs.Sites.{External}
 use Rattle.wap_world.specs.World.{World}
 use Rattle.wap_world.specs.Steps.{Step, still, quiet}
 use Rattle.wap_world.specs.Access.{may_enter}
 use Rattle.wap_world.specs.Requests.{plain_get}
-use Rattle.wap_scripting.specs.Additions.{with_request}
-use Rattle.wap_scripting.specs.Units.{entrance_in}
-use Rattle.wap_scripting.specs.Loading.{text_in, loaded, not_acceptable}
-use Rattle.wap_scripting.specs.Hosting.{callable, callable_if, found_under, found_at, kept, within}
-use Rattle.wap_scripting.specs.UnitSites.{Pages, shelf_of, unit_under, externals_of, unit_pages}
+use Rattle.wap_world.specs.scripting.Additions.{with_request}
+use Rattle.wap_world.specs.scripting.Units.{entrance_in}
+use Rattle.wap_world.specs.scripting.Loading.{text_in, loaded, not_acceptable}
+use Rattle.wap_world.specs.scripting.Hosting.{callable, callable_if, found_under, found_at, kept}
+use Rattle.wap_world.specs.scripting.Hosting.{within}
+use Rattle.wap_world.specs.scripting.UnitSites.{Pages, shelf_of, unit_under, externals_of}
+use Rattle.wap_world.specs.scripting.UnitSites.{unit_pages}
 use Rattle.wap_context.specs.host.Finding.{shelved_page, found_on, loaded_text}
 use Rattle.wap_context.proofs.HostLemmas.Shelves.{shelved_is, unit_is, externals_are}
 use Rattle.wap_context.proofs.HostLemmas.Serving.{Comes}

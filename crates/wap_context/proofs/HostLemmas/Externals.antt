@@ -5,7 +5,7 @@ use Rattle.std.specs.Option.{option_map}
 use Rattle.wap_code.specs.declared.unit.Unit.{Unit}
 use Rattle.wap_code.specs.declared.unit.Code.{Code}
 use Rattle.wap_world.specs.Sites.{External}
-use Rattle.wap_scripting.specs.Units.{index_named, external_in}
+use Rattle.wap_world.specs.scripting.Units.{index_named, external_in}
 
 -- the function of an external one
 pub record HasCode (unit : Unit) (one : External) : Type 0 where

@@ -16,9 +16,9 @@ use Rattle.wap_world.specs.declared.refusal.Refusal.{Refusal}
 use Rattle.wap_world.specs.Shelves.{Shelf}
 use Rattle.wap_world.specs.Urls.{page_url}
 use Rattle.wap_world.specs.Steps.{Step}
-use Rattle.wap_scripting.specs.Browsing.{gives}
-use Rattle.wap_scripting.specs.Loading.{loaded, load_at, load_from, load_string}
-use Rattle.wap_scripting.specs.Hosting.{load_call}
+use Rattle.wap_world.specs.scripting.Browsing.{gives}
+use Rattle.wap_world.specs.scripting.Loading.{loaded, load_at, load_from, load_string}
+use Rattle.wap_world.specs.scripting.Hosting.{load_call}
 use Rattle.wap_context.specs.host.inside.Loading.{page_in, page_read, page_typed, loadable}
 
 module _ (shelf : Shelf) (step : Step) where

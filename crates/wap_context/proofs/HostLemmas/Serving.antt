@@ -16,19 +16,20 @@ use Rattle.wap_markup.specs.declared.deck.Deck.{Deck}
 use Rattle.wap_execution.specs.declared.library.HostOut.{HostOut}
 use Rattle.wap_execution.specs.declared.library.HostOut.TheVariants as out
 use Rattle.wap_value.specs.declared.value.Value.TheVariants.{Invalid}
-use Rattle.wap_scripting.specs.Browsing.{gives}
-use Rattle.wap_scripting.specs.Hosting.{within}
+use Rattle.wap_world.specs.scripting.Browsing.{gives}
+use Rattle.wap_world.specs.scripting.Hosting.{within}
 use Rattle.wap_machine.specs.Hosts.{Gives, Fetches}
-use Rattle.wap_site.specs.declared.page.Page.{Page}
-use Rattle.wap_site.specs.Pages.{Pages as JudgedPages, page_of, AreSitePages}
-use Rattle.wap_site.specs.Misses.{Cache, Asked as Question, is_miss, after_asking, after_all, misses}
-use Rattle.wap_site.specs.Asking.{Seen, raised_by, RaisedWithin, Stays}
-use Rattle.wap_site.proofs.Asking.{Stays-same}
+use Rattle.wap_world.specs.declared.site.page.Page.{Page}
+use Rattle.wap_world.specs.site.Pages.{Pages as JudgedPages, page_of, AreSitePages}
+use Rattle.wap_world.specs.site.Misses.{Cache, Asked as Question, is_miss, after_asking, after_all}
+use Rattle.wap_world.specs.site.Misses.{misses}
+use Rattle.wap_world.specs.site.Asking.{Seen, raised_by, RaisedWithin, Stays}
+use Rattle.wap_world.proofs.SiteLemmas.Asking.{Stays-same}
 use Rattle.wap_world.specs.Requests.{plain_get, request_line}
 use Rattle.wap_world.specs.World.{World}
 use Rattle.wap_world.specs.Steps.{Step}
-use Rattle.wap_scripting.specs.UnitSites.{Pages, unit_pages}
-use Rattle.wap_scripting.specs.Views.{Counted, View, counted_all, added}
+use Rattle.wap_world.specs.scripting.UnitSites.{Pages, unit_pages}
+use Rattle.wap_world.specs.scripting.Views.{Counted, View, counted_all, added}
 use Rattle.wap_context.specs.host.Stages.{Sight, counted_in, view_in, count_of, fetched_in}
 use Rattle.wap_context.specs.host.Serving.{begun, Gave, Serves, question, AsksFor}
 use Rattle.wap_context.specs.host.inside.Counting.{count_in}

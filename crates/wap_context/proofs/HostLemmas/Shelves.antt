@@ -6,14 +6,14 @@ use Rattle.std.specs.Option.{option_map}
 use Rattle.std.proofs.lemmas.Map.Entries.{All-lookup}
 use Rattle.wap_base.specs.Texts.{is_same_text}
 use Rattle.wap_code.specs.declared.unit.Unit.{Unit}
-use Rattle.wap_site.specs.declared.page.Page.{Page}
-use Rattle.wap_site.specs.declared.page.Page.TheVariants as judge
-use Rattle.wap_site.specs.Pages.{Pages as JudgedPages, IsThere, AreSitePages}
-use Rattle.wap_site.specs.Pages.{page_under as judged_under, page_of}
-use Rattle.wap_scripting.specs.Units.{external_in}
-use Rattle.wap_scripting.specs.ScriptPages.{PageOf, page_under, script_in, shelved}
-use Rattle.wap_scripting.specs.UnitSites.{units, no_unit, shelf_of, unit_under, externals_of}
-use Rattle.wap_scripting.specs.UnitSites.{unit_page, unit_pages}
+use Rattle.wap_world.specs.declared.site.page.Page.{Page}
+use Rattle.wap_world.specs.declared.site.page.Page.TheVariants as judge
+use Rattle.wap_world.specs.site.Pages.{Pages as JudgedPages, IsThere, AreSitePages}
+use Rattle.wap_world.specs.site.Pages.{page_under as judged_under, page_of}
+use Rattle.wap_world.specs.scripting.Units.{external_in}
+use Rattle.wap_world.specs.scripting.ScriptPages.{PageOf, page_under, script_in, shelved}
+use Rattle.wap_world.specs.scripting.UnitSites.{units, no_unit, shelf_of, unit_under, externals_of}
+use Rattle.wap_world.specs.scripting.UnitSites.{unit_page, unit_pages}
 use Rattle.wap_context.specs.host.Finding.{shelved_page}
 
 -- ---- the page under a name

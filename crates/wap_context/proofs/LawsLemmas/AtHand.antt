@@ -8,7 +8,7 @@ use Rattle.wap_markup.specs.declared.deck.Deck.{Deck}
 use Rattle.wap_world.specs.declared.history.Entry.{Entry}
 use Rattle.wap_world.specs.Shelves.{Shelf}
 use Rattle.wap_world.specs.World.{place_in, place_of, deck_at, last_entry}
-use Rattle.wap_world_laws.specs.Standing.{StandsOnCard}
+use Rattle.wap_world.specs.session_laws.Standing.{StandsOnCard}
 use Rattle.wap_context.specs.Browsers.{Browser, IsOver, place_held}
 
 -- a place is one of a deck

@@ -10,14 +10,14 @@ use Rattle.wap_execution.specs.declared.found.Found.{Found}
 use Rattle.wap_execution.specs.declared.found.Found.TheVariants.{Not}
 use Rattle.wap_execution.specs.declared.library.HostOut.{HostOut}
 use Rattle.wap_execution.specs.declared.library.HostOut.TheVariants as out
-use Rattle.wap_site.specs.declared.page.Page.{Page}
-use Rattle.wap_site.specs.declared.page.Page.TheVariants as page
+use Rattle.wap_world.specs.declared.site.page.Page.{Page}
+use Rattle.wap_world.specs.declared.site.page.Page.TheVariants as page
 use Rattle.wap_world.specs.Shelves.{Shelved, deck_page, script_page, text_page, refused_page}
 use Rattle.wap_world.specs.Shelves.{no_page}
 use Rattle.wap_world.specs.Access.{may_enter}
-use Rattle.wap_scripting.specs.Loading.{text_in, not_acceptable}
-use Rattle.wap_scripting.specs.Hosting.{callable, callable_if, kept}
-use Rattle.wap_scripting.specs.Units.{entrance_in, external_in}
+use Rattle.wap_world.specs.scripting.Loading.{text_in, not_acceptable}
+use Rattle.wap_world.specs.scripting.Hosting.{callable, callable_if, kept}
+use Rattle.wap_world.specs.scripting.Units.{entrance_in, external_in}
 
 -- a judged page, as it stands on a shelf
 abbrev pub shelved_page : Page → Shelved

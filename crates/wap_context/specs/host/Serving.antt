@@ -9,13 +9,13 @@ use Rattle.wap_url.specs.declared.url.Url.{Url}
 use Rattle.wap_url.specs.Printing.{name_for}
 use Rattle.wap_execution.specs.declared.library.HostOut.{HostOut}
 use Rattle.wap_machine.specs.Hosts.{Gives, Fetches, IsNoBudget}
-use Rattle.wap_site.specs.declared.page.Page.{Page}
-use Rattle.wap_site.specs.Pages.{page_of, AreSitePages}
-use Rattle.wap_site.specs.Misses.{Asked as Question}
-use Rattle.wap_site.specs.Asking.{Seen, Stays, Asks, Fails}
+use Rattle.wap_world.specs.declared.site.page.Page.{Page}
+use Rattle.wap_world.specs.site.Pages.{page_of, AreSitePages}
+use Rattle.wap_world.specs.site.Misses.{Asked as Question}
+use Rattle.wap_world.specs.site.Asking.{Seen, Stays, Asks, Fails}
 use Rattle.wap_world.specs.Requests.{plain_get, request_line}
 use Rattle.wap_world.specs.Steps.{Step, still, quiet}
-use Rattle.wap_scripting.specs.Views.{View, added}
+use Rattle.wap_world.specs.scripting.Views.{View, added}
 use Rattle.wap_context.specs.host.Stages.{Sight, view_in, count_of, fetched_in}
 
 -- ---- without pages

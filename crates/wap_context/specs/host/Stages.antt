@@ -4,10 +4,10 @@ use Rattle.std.specs.Prelude.{ℕ, List, Option, min}
 use Rattle.std.specs.Option.{option_map}
 use Rattle.wap_base.specs.Count.{greatest_count}
 use Rattle.wap_markup.specs.declared.deck.Deck.{Deck}
-use Rattle.wap_site.specs.Asking.{Seen}
+use Rattle.wap_world.specs.site.Asking.{Seen}
 use Rattle.wap_world.specs.World.{World}
-use Rattle.wap_scripting.specs.UnitSites.{unit_pages}
-use Rattle.wap_scripting.specs.Views.{Counted, View}
+use Rattle.wap_world.specs.scripting.UnitSites.{unit_pages}
+use Rattle.wap_world.specs.scripting.Views.{Counted, View}
 
 -- the world, the deck at hand and the lines so far
 pub record Sight : Type 0 where

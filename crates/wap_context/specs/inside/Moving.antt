@@ -10,10 +10,10 @@ use Rattle.wap_url.specs.Printing.{name_for}
 use Rattle.wap_markup.specs.declared.deck.Deck.{Deck}
 use Rattle.wap_code.specs.declared.unit.Unit.{Unit}
 use Rattle.wap_input.specs.declared.key.Key.{Key}
-use Rattle.wap_site.specs.declared.page.Page.{Page}
-use Rattle.wap_site.specs.declared.page.Page.TheVariants as page
-use Rattle.wap_site.specs.Pages.{page_of, AreSitePages}
-use Rattle.wap_site.specs.Asking.{Seen, Stays, Asks}
+use Rattle.wap_world.specs.declared.site.page.Page.{Page}
+use Rattle.wap_world.specs.declared.site.page.Page.TheVariants as page
+use Rattle.wap_world.specs.site.Pages.{page_of, AreSitePages}
+use Rattle.wap_world.specs.site.Asking.{Seen, Stays, Asks}
 use Rattle.wap_world.specs.declared.refusal.Refusal.{Refusal}
 use Rattle.wap_world.specs.declared.refusal.Refusal.TheVariants as refusals
 use Rattle.wap_world.specs.Shelves.{Shelf}
@@ -21,10 +21,10 @@ use Rattle.wap_world.specs.World.{World, Place, deck_at}
 use Rattle.wap_world.specs.Steps.{Scene, Step, Once, Next, still, quiet}
 use Rattle.wap_world.specs.Requests.{Request, request_line}
 use Rattle.wap_world.specs.Tasks.{act}
-use Rattle.wap_scripting.specs.UnitSites.{Pages, shelf_of}
-use Rattle.wap_scripting.specs.Waiting.{Waits, resumed_step}
-use Rattle.wap_scripting.specs.Halves.{once_by}
-use Rattle.wap_scripting.specs.Feeding.{Means}
+use Rattle.wap_world.specs.scripting.UnitSites.{Pages, shelf_of}
+use Rattle.wap_world.specs.scripting.Waiting.{Waits, resumed_step}
+use Rattle.wap_world.specs.scripting.Halves.{once_by}
+use Rattle.wap_world.specs.scripting.Feeding.{Means}
 use Rattle.wap_state.specs.Scenes.{Line, Plays}
 use Rattle.wap_context.specs.declared.waiting.Went.{Went}
 use Rattle.wap_context.specs.declared.waiting.Went.TheVariants.{Settled, Leads, Asks as AsksUser}

@@ -26,7 +26,7 @@ use Rattle.wap_machine.specs.declared.machine.Outcome.TheVariants.{Done, Exited,
 use Rattle.wap_cardrules.specs.declared.event.Event.TheVariants as event
 use Rattle.wap_cardrules.specs.declared.task.Task.{Task}
 use Rattle.wap_cardrules.specs.Values.{Pairs}
-use Rattle.wap_site.specs.Asking.{Seen, Stays, Asks as AsksFor}
+use Rattle.wap_world.specs.site.Asking.{Seen, Stays, Asks as AsksFor}
 use Rattle.wap_world.specs.declared.timer.Timer.{Timer}
 use Rattle.wap_world.specs.declared.timer.Timer.TheVariants.{NotStarted, Running, Off, Expired}
 use Rattle.wap_world.specs.World.{World, Place}
@@ -36,9 +36,10 @@ use Rattle.wap_world.specs.Timers.{settled_timer}
 use Rattle.wap_world.specs.Sites.{External, Call}
 use Rattle.wap_world.specs.Requests.{test, test_of}
 use Rattle.wap_world.specs.Starting.{script_line, is_too_long, not_started, prepared, ended_script}
-use Rattle.wap_scripting.specs.Units.{entrance_in, external_in}
-use Rattle.wap_scripting.specs.UnitSites.{Pages, shelf_of, host_of, keyed_host, ran_of, started_at}
-use Rattle.wap_scripting.specs.Waiting.{Waits, inside}
+use Rattle.wap_world.specs.scripting.Units.{entrance_in, external_in}
+use Rattle.wap_world.specs.scripting.UnitSites.{Pages, shelf_of, host_of, keyed_host, ran_of}
+use Rattle.wap_world.specs.scripting.UnitSites.{started_at}
+use Rattle.wap_world.specs.scripting.Waiting.{Waits, inside}
 use Rattle.wap_state.specs.Scenes.{Line}
 use Rattle.wap_context.specs.declared.starting.Start.{Start}
 use Rattle.wap_context.specs.declared.starting.Start.TheVariants.{Not, Runs}

@@ -11,8 +11,8 @@ use Rattle.wap_world.specs.Timers.{end_timer}
 use Rattle.wap_world.specs.Screens.{at_place, here}
 use Rattle.wap_world.specs.Entering.{event_task}
 use Rattle.wap_world.specs.Keys.{act_or}
-use Rattle.wap_scripting.specs.Dialogs.{run_out as expires}
-use Rattle.wap_scripting.specs.UnitSites.{Pages, shelf_of}
+use Rattle.wap_world.specs.scripting.Dialogs.{run_out as expires}
+use Rattle.wap_world.specs.scripting.UnitSites.{Pages, shelf_of}
 use Rattle.wap_context.specs.Sites.{site_of}
 
 -- what remains of a timer that runs, and of that of a card

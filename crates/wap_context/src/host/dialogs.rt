@@ -1,10 +1,11 @@
 //! The library Dialogs (WAP-194, "Dialogs Library"): a dialog shows its line, and then waits for its
 //! answer.
 ghost use Rattle.std.specs.Prelude.{◌≡◌, IfOk, codes};
-ghost use Rattle.wap_scripting.specs.Dialogs.{dialog_line};
-ghost use Rattle.wap_scripting.specs.Browsing.{asks, label_or};
-ghost use Rattle.wap_scripting.specs.Browsing.{dialogs_prompt, dialogs_confirm, dialogs_alert};
-ghost use Rattle.wap_scripting.specs.Browsing.{dialogs};
+ghost use Rattle.wap_world.specs.scripting.Dialogs.{dialog_line};
+ghost use Rattle.wap_world.specs.scripting.Browsing.{asks, label_or};
+ghost use Rattle.wap_world.specs.scripting.Browsing.{dialogs_prompt, dialogs_confirm};
+ghost use Rattle.wap_world.specs.scripting.Browsing.{dialogs_alert};
+ghost use Rattle.wap_world.specs.scripting.Browsing.{dialogs};
 ghost use Rattle.wap_context.specs.host.Serving.{Gave};
 
 use crate::host::browsing::argument;

@@ -4,11 +4,11 @@ ghost use Rattle.wap_url.specs.Printing.{without_fragment};
 ghost use Rattle.wap_machine.specs.Hosts.{IsCallable};
 ghost use Rattle.wap_world.specs.Access.{may_enter};
 ghost use Rattle.wap_world.specs.Urls.{target_of};
-ghost use Rattle.wap_scripting.specs.Units.{entrance_in, external_in};
-ghost use Rattle.wap_scripting.specs.Hosting.{callable, external_call};
-ghost use Rattle.wap_scripting.specs.Hosting.{found_at};
-ghost use Rattle.wap_scripting.specs.UnitSites.{shelf_of, externals_of, unit_under};
-ghost use Rattle.wap_scripting.specs.Views.{fresh};
+ghost use Rattle.wap_world.specs.scripting.Units.{entrance_in, external_in};
+ghost use Rattle.wap_world.specs.scripting.Hosting.{callable, external_call};
+ghost use Rattle.wap_world.specs.scripting.Hosting.{found_at};
+ghost use Rattle.wap_world.specs.scripting.UnitSites.{shelf_of, externals_of, unit_under};
+ghost use Rattle.wap_world.specs.scripting.Views.{fresh};
 ghost use Rattle.wap_context.specs.host.Finding.{found_in, found_on};
 ghost use Rattle.wap_context.specs.host.Serving.{Serves};
 
@@ -17,11 +17,11 @@ use crate::host::units::{entrance_in, external_in};
 use std::alloc::Global;
 use wap_base::{NoMemory, RunErr, Text};
 use wap_execution::{Fatal, Found};
-use wap_site::{Page, Pages, Shared};
 use wap_state::requests::{may_enter, target};
 use wap_url::Url;
 use wap_verify::Verified;
 use wap_world::Refusal;
+use wap_world::site::{Page, Pages, Shared};
 
 /// The URL that a reference stands for to the script of a URL.
 fn target_from(

@@ -4,18 +4,19 @@ ghost use Rattle.std.specs.Option.{option_copied};
 ghost use Rattle.wap_code.specs.Libraries.{lib_args};
 ghost use Rattle.wap_machine.specs.Hosts.{IsNoBudget};
 ghost use Rattle.wap_world.specs.Shelves.{Shelf};
-ghost use Rattle.wap_scripting.specs.Hosting.{pure_call, url_call, library_call, kept, within};
-ghost use Rattle.wap_scripting.specs.UnitSites.{shelf_of};
-ghost use Rattle.wap_scripting.specs.Views.{fresh, place_with};
+ghost use Rattle.wap_world.specs.scripting.Hosting.{pure_call, url_call, library_call, kept};
+ghost use Rattle.wap_world.specs.scripting.Hosting.{within};
+ghost use Rattle.wap_world.specs.scripting.UnitSites.{shelf_of};
+ghost use Rattle.wap_world.specs.scripting.Views.{fresh, place_with};
 ghost use Rattle.wap_context.specs.host.Serving.{Gave, Serves};
 
 use crate::host::sight::Sight;
 use wap_base::{NoMemory, RunErr};
 use wap_execution::{Fatal, HostOut};
 use wap_libs::{LibFault, LibOut, arguments_of, call_pure};
-use wap_site::Pages;
 use wap_url::Url;
 use wap_value::Value;
+use wap_world::site::Pages;
 
 impl Sight {
     /// A function that needs no browser.

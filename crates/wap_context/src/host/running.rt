@@ -1,7 +1,7 @@
 //! A browser while a script runs.
 ghost use Rattle.std.specs.Prelude.{◌≡◌};
 ghost use Rattle.wap_world.specs.World.{last_entry};
-ghost use Rattle.wap_scripting.specs.Waiting.{inside};
+ghost use Rattle.wap_world.specs.scripting.Waiting.{inside};
 ghost use Rattle.wap_state.specs.Standing.{StandsIn};
 
 use crate::host::sight::Sight;
@@ -12,11 +12,11 @@ use wap_execution::{Found, HostOut};
 use wap_good::GoodDeck;
 use wap_lines::Lines;
 use wap_machine::Host;
-use wap_site::{Pages, Shared};
 use wap_state::State;
 use wap_url::Url;
 use wap_value::Value;
 use wap_verify::Verified;
+use wap_world::site::{Pages, Shared};
 
 /// A browser while a script runs, which is a machine's host over pages: its turns are counted
 /// apart. A contract sees its world, the deck at hand, the lines so far and the turns that are
@@ -88,9 +88,9 @@ impl Running {
 }
 
 impl<P: Pages> Host<P> for Running {
-    ghost use Rattle.wap_site.specs.Asking.{Stays};
-    ghost use Rattle.wap_site.proofs.Asking.{Stays-same, Stays-then};
-    ghost use Rattle.wap_scripting.specs.Views.{View, viewing, host_at, fresh};
+    ghost use Rattle.wap_world.specs.site.Asking.{Stays};
+    ghost use Rattle.wap_world.proofs.SiteLemmas.Asking.{Stays-same, Stays-then};
+    ghost use Rattle.wap_world.specs.scripting.Views.{View, viewing, host_at, fresh};
     ghost use Rattle.wap_context.specs.host.Stages.{told, count_of, fetched_in};
     ghost use Rattle.wap_context.specs.host.inside.Counting.{counts, added_grows};
 

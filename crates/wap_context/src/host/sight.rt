@@ -2,7 +2,7 @@
 ghost use Rattle.std.specs.Prelude.{◌≡◌, ◌++◌, ◌∷◌, [], OnOk};
 ghost use Rattle.wap_world.specs.Requests.{plain_get, request_line};
 ghost use Rattle.wap_machine.specs.Hosts.{IsNoBudget};
-ghost use Rattle.wap_scripting.specs.Hosting.{kept};
+ghost use Rattle.wap_world.specs.scripting.Hosting.{kept};
 ghost use Rattle.wap_context.specs.host.Serving.{AsksFor};
 
 use std::alloc::Global;
@@ -11,11 +11,11 @@ use wap_base::{NoMemory, RunErr};
 use wap_execution::{Fatal, HostOut};
 use wap_good::GoodDeck;
 use wap_lines::Lines;
-use wap_site::{Page, Pages, Shared};
 use wap_state::State;
 use wap_state::requests::{plain_get, request_line};
 use wap_url::{Url, name_of};
 use wap_value::Value;
+use wap_world::site::{Page, Pages, Shared};
 
 /// A browser as a script sees it, with the lines so far. A contract sees its world, the deck at
 /// hand and the lines.

@@ -1,12 +1,12 @@
 //! The current card, with the deck at hand.
 ghost use Rattle.std.specs.Prelude.{◌≡◌};
-ghost use Rattle.wap_scripting.specs.Views.{place_with};
+ghost use Rattle.wap_world.specs.scripting.Views.{place_with};
 
 use std::marker::Model;
 use wap_good::{GoodDeck, View};
-use wap_site::Shared;
 use wap_state::State;
 use wap_url::Url;
+use wap_world::site::Shared;
 
 /// A card, its deck, and the deck's URL. A contract sees them.
 #[derive(Drop)]

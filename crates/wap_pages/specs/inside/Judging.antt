@@ -13,8 +13,8 @@ use Rattle.wap_code.specs.declared.unit.Unit.{Unit}
 use Rattle.wap_program.specs.declared.program.Program.{Program}
 use Rattle.wap_compiled.specs.Units.{compiled}
 use Rattle.wap_compiled.specs.Accepted.{IsAccepted}
-use Rattle.wap_site.specs.declared.page.Page.{Page}
-use Rattle.wap_site.specs.declared.page.Page.TheVariants as page
+use Rattle.wap_world.specs.declared.site.page.Page.{Page}
+use Rattle.wap_world.specs.declared.site.page.Page.TheVariants as page
 use Rattle.wap_pages.specs.declared.kind.Kind.{Kind}
 use Rattle.wap_pages.specs.declared.kind.Kind.TheVariants as kind
 use Rattle.wap_pages.specs.declared.fault.PageErr.{PageErr}

@@ -11,9 +11,9 @@ use Rattle.wap_base.specs.declared.fault.NoMemory.{NoMemory}
 use Rattle.wap_base.specs.declared.fault.RunErr.{RunErr}
 use Rattle.wap_base.specs.declared.fault.RunErr.TheVariants.{Store}
 use Rattle.wap_devices.specs.Stores.{StoreSeen}
-use Rattle.wap_site.specs.Pages.{page_of}
-use Rattle.wap_site.specs.Misses.{Cache, Asked, is_miss, after_asking}
-use Rattle.wap_site.specs.declared.page.Page.{Page}
+use Rattle.wap_world.specs.site.Pages.{page_of}
+use Rattle.wap_world.specs.site.Misses.{Cache, Asked, is_miss, after_asking}
+use Rattle.wap_world.specs.declared.site.page.Page.{Page}
 use Rattle.wap_pages.specs.Caches.{KeepsNoMore}
 use Rattle.wap_pages.specs.Judged.{judged}
 

@@ -8,17 +8,17 @@ use Rattle.wap_world.specs.Sites.{Site}
 use Rattle.wap_world.specs.World.{World}
 use Rattle.wap_world.specs.Steps.{Step, joined, quiet, still}
 use Rattle.wap_world.proofs.Joining.{joined_assoc}
-use Rattle.wap_scripting.specs.UnitSites.{Pages}
-use Rattle.wap_scripting.specs.Waiting.{Waits, State as Between, left_over, resumed_step}
-use Rattle.wap_scripting.specs.Feeding.{Fed, meaning, after_fed}
-use Rattle.wap_scripting_laws.proofs.Keeping.{units_few}
+use Rattle.wap_world.specs.scripting.UnitSites.{Pages}
+use Rattle.wap_world.specs.scripting.Waiting.{Waits, State as Between, left_over, resumed_step}
+use Rattle.wap_world.specs.scripting.Feeding.{Fed, meaning, after_fed}
+use Rattle.wap_world.proofs.ScriptingLawsLemmas.Keeping.{units_few}
 use Rattle.wap_context.specs.Sites.{fragment_call, site_of}
 use Rattle.wap_session.proofs.Alone.{closed}
-use Rattle.wap_inboxes.specs.Winners.{Alike}
-use Rattle.wap_inboxes.specs.Inboxes.{Stepped}
-use Rattle.wap_inboxes.specs.Sessions.{followed_with, played_with_in, played_with, StepAlike}
-use Rattle.wap_inboxes.proofs.Alike.{plays_alike}
-use Rattle.wap_inboxes.proofs.Counting.{plays_first}
+use Rattle.wap_world.specs.inboxes.Winners.{Alike}
+use Rattle.wap_world.specs.inboxes.Inboxes.{Stepped}
+use Rattle.wap_world.specs.inboxes.Sessions.{followed_with, played_with_in, played_with, StepAlike}
+use Rattle.wap_world.proofs.InboxesLemmas.Alike.{plays_alike}
+use Rattle.wap_world.proofs.InboxesLemmas.Counting.{plays_first}
 use Rattle.wap_session.specs.handset.Holding.{Held, played_with_from}
 use Rattle.wap_session.specs.handset.inside.Turns.{turned_by}
 

@@ -8,25 +8,25 @@ use Rattle.wap_input.specs.declared.key.Key.TheVariants as key
 use Rattle.wap_push.specs.declared.indication.Indication.{Indication}
 use Rattle.wap_push.specs.declared.fault.PushFault.{PushFault}
 use Rattle.wap_push.specs.Pushes.{push_at}
-use Rattle.wap_site.specs.Asking.{Seen}
+use Rattle.wap_world.specs.site.Asking.{Seen}
 use Rattle.wap_world.specs.Lines.{shown_line}
 use Rattle.wap_world.specs.Steps.{quiet}
 use Rattle.wap_world.specs.Keys.{renewed, ignored, react}
-use Rattle.wap_scripting.specs.UnitSites.{Pages}
-use Rattle.wap_scripting.specs.Waiting.{Waits}
-use Rattle.wap_scripting.specs.Feeding.{turned}
+use Rattle.wap_world.specs.scripting.UnitSites.{Pages}
+use Rattle.wap_world.specs.scripting.Waiting.{Waits}
+use Rattle.wap_world.specs.scripting.Feeding.{turned}
 use Rattle.wap_context.specs.Missing.{Missed}
 use Rattle.wap_context.specs.Sites.{fragment_call, site_of, IfOver}
 use Rattle.wap_session.specs.declared.fault.SessionFault.{SessionFault}
 use Rattle.wap_session.specs.Feeding as session
 use Rattle.wap_session.specs.Feeding.{TurnsTo}
 use Rattle.wap_inbox.specs.Inbox.{inbox_of, entry_at, HaveWinners}
-use Rattle.wap_inboxes.specs.Winners.{winners_of}
-use Rattle.wap_inboxes.specs.Notices.{entry_lines}
-use Rattle.wap_inboxes.specs.Inboxes.{telling, take_push, url_at, is_of_inbox}
-use Rattle.wap_inboxes.specs.Inboxes.{react_with}
-use Rattle.wap_inboxes.proofs.Winning.{calculated, exactly}
-use Rattle.wap_inboxes.proofs.Reacting.{reacts_alike, entry_opened, entry_ignored}
+use Rattle.wap_world.specs.inboxes.Winners.{winners_of}
+use Rattle.wap_world.specs.inboxes.Notices.{entry_lines}
+use Rattle.wap_world.specs.inboxes.Inboxes.{telling, take_push, url_at, is_of_inbox}
+use Rattle.wap_world.specs.inboxes.Inboxes.{react_with}
+use Rattle.wap_world.proofs.InboxesLemmas.Winning.{calculated, exactly}
+use Rattle.wap_world.proofs.InboxesLemmas.Reacting.{reacts_alike, entry_opened, entry_ignored}
 use Rattle.wap_session.specs.notices.Taking.{push_lines, pushes_with, url_in}
 use Rattle.wap_session.specs.handset.Holding.{Held}
 use Rattle.wap_session.specs.handset.Feeding.{held_with, step_of, Plays}

@@ -6,16 +6,16 @@ use Rattle.std.proofs.lemmas.List.{map-append, take-append-drop, take_more, drop
 use Rattle.wap_base.specs.Count.{Rose}
 use Rattle.wap_input.specs.declared.key.Key.{Key}
 use Rattle.wap_push.specs.declared.indication.Indication.{Indication}
-use Rattle.wap_site.specs.Pages.{Pages as JudgedPages}
-use Rattle.wap_site.specs.Misses.{Asked}
-use Rattle.wap_site.specs.Asking.{Seen, Stays, Asks}
-use Rattle.wap_site.proofs.Asking.{Asks-nil, Asks-then, Stays-same, Stays-then}
+use Rattle.wap_world.specs.site.Pages.{Pages as JudgedPages}
+use Rattle.wap_world.specs.site.Misses.{Asked}
+use Rattle.wap_world.specs.site.Asking.{Seen, Stays, Asks}
+use Rattle.wap_world.proofs.SiteLemmas.Asking.{Asks-nil, Asks-then, Stays-same, Stays-then}
 use Rattle.wap_world.specs.Lines.{shown_line}
 use Rattle.std.specs.Prelude.{is_some}
 use Rattle.wap_world.specs.Steps.{Step, joined, quiet, still}
 use Rattle.wap_world.specs.Sessions.{shown_by}
 use Rattle.wap_world.proofs.Joining.{joined_assoc}
-use Rattle.wap_scripting.specs.UnitSites.{Pages, unit_pages}
+use Rattle.wap_world.specs.scripting.UnitSites.{Pages, unit_pages}
 use Rattle.wap_context.specs.Missing.{Missed}
 use Rattle.wap_context.specs.Sites.{IfOver}
 use Rattle.wap_context.proofs.Missing.{Asks-missed}
@@ -23,9 +23,9 @@ use Rattle.wap_session.specs.declared.fault.SessionFault.{SessionFault}
 use Rattle.wap_session.specs.declared.fault.SessionFault.TheVariants.{NoMemory}
 use Rattle.wap_session.specs.Feeding.{left_open}
 use Rattle.wap_inbox.specs.Inbox.{HaveWinners}
-use Rattle.wap_inboxes.specs.Winners.{winners_of, Alike}
-use Rattle.wap_inboxes.specs.Inboxes.{Stepped}
-use Rattle.wap_inboxes.proofs.Winning.{exactly}
+use Rattle.wap_world.specs.inboxes.Winners.{winners_of, Alike}
+use Rattle.wap_world.specs.inboxes.Inboxes.{Stepped}
+use Rattle.wap_world.proofs.InboxesLemmas.Winning.{exactly}
 use Rattle.wap_session.specs.handset.Feeding.{State, stepped_of, step_of, PlaysOn, TakesOn, Leads}
 use Rattle.wap_session.specs.handset.Feeding.{Plays}
 use Rattle.wap_session.specs.handset.Feeding.{shown_of, MissedAt, ShowsOn}

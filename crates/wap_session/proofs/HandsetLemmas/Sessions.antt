@@ -11,15 +11,15 @@ use Rattle.wap_world.specs.Keys.{ignored}
 use Rattle.wap_world.specs.Sessions.{Begun}
 use Rattle.wap_world.specs.Shelves.{Shelf}
 use Rattle.wap_world.specs.Steps.{Scene, Step, quiet}
-use Rattle.wap_scripting.specs.Dialogs.{reply_to, passes, meanwhile}
-use Rattle.wap_scripting.specs.UnitSites.{Pages, shelf_of}
-use Rattle.wap_scripting.specs.Waiting.{Waits, inside}
-use Rattle.wap_scripting.specs.Feeding.{Fed, meaning}
-use Rattle.wap_scripting_laws.proofs.Replying.{stay_means}
+use Rattle.wap_world.specs.scripting.Dialogs.{reply_to, passes, meanwhile}
+use Rattle.wap_world.specs.scripting.UnitSites.{Pages, shelf_of}
+use Rattle.wap_world.specs.scripting.Waiting.{Waits, inside}
+use Rattle.wap_world.specs.scripting.Feeding.{Fed, meaning}
+use Rattle.wap_world.proofs.ScriptingLawsLemmas.Replying.{stay_means}
 use Rattle.wap_context.specs.Sites.{fragment_call, site_of}
 use Rattle.wap_inbox.specs.Inbox.{HaveWinners}
-use Rattle.wap_inboxes.specs.Inboxes.{is_of_inbox}
-use Rattle.wap_inboxes.specs.Sessions.{session_with, StepAlike}
+use Rattle.wap_world.specs.inboxes.Inboxes.{is_of_inbox}
+use Rattle.wap_world.specs.inboxes.Sessions.{session_with, StepAlike}
 use Rattle.wap_session.specs.handset.Holding.{played_with_from}
 use Rattle.wap_session.specs.handset.Feeding.{State, beginning, held_with, stepped_of}
 use Rattle.wap_session.proofs.HandsetLemmas.Holding.{before_all, from_alike, none_from, feeds_with}

@@ -4,17 +4,17 @@ use Rattle.std.proofs.Common.{Ok, Err, map, refl, sym, ap, subst, ◌∙◌}
 use Rattle.std.specs.Prelude.{is_some}
 use Rattle.wap_input.specs.declared.key.Key.{Key}
 use Rattle.wap_push.specs.declared.indication.Indication.{Indication}
-use Rattle.wap_site.specs.Pages.{Pages as JudgedPages}
-use Rattle.wap_site.specs.Misses.{Asked}
-use Rattle.wap_site.specs.Asking.{Seen, Stays, Asks}
+use Rattle.wap_world.specs.site.Pages.{Pages as JudgedPages}
+use Rattle.wap_world.specs.site.Misses.{Asked}
+use Rattle.wap_world.specs.site.Asking.{Seen, Stays, Asks}
 use Rattle.wap_world.specs.Lines.{shown_line}
 use Rattle.wap_world.specs.Steps.{Step, joined, quiet}
 use Rattle.wap_world.specs.Sessions.{shown_by}
 use Rattle.wap_world.specs.Keys.{renewed, ignored, react}
-use Rattle.wap_scripting.specs.UnitSites.{Pages, shelf_of, unit_pages}
-use Rattle.wap_scripting.specs.Waiting.{Waits, State as Between}
-use Rattle.wap_scripting.specs.Feeding.{Fed, meaning, turned, after_fed}
-use Rattle.wap_scripting_laws.proofs.Feeding.{quiet_means}
+use Rattle.wap_world.specs.scripting.UnitSites.{Pages, shelf_of, unit_pages}
+use Rattle.wap_world.specs.scripting.Waiting.{Waits, State as Between}
+use Rattle.wap_world.specs.scripting.Feeding.{Fed, meaning, turned, after_fed}
+use Rattle.wap_world.proofs.ScriptingLawsLemmas.Feeding.{quiet_means}
 use Rattle.wap_context.specs.Browsers.{IsOver}
 use Rattle.wap_context.specs.Sites.{fragment_call, site_of, IfOver}
 use Rattle.wap_session.specs.declared.fault.SessionFault.{SessionFault}
@@ -23,11 +23,11 @@ use Rattle.wap_session.specs.Feeding as session
 use Rattle.wap_session.specs.Feeding.{left_open, TurnsTo}
 use Rattle.wap_session.proofs.Alone.{alone, turned_none, none_of}
 use Rattle.wap_inbox.specs.Inbox.{HaveWinners}
-use Rattle.wap_inboxes.specs.Winners.{winners_of, Alike}
-use Rattle.wap_inboxes.specs.Inboxes.{Stepped, telling, react_with}
-use Rattle.wap_inboxes.specs.Sessions.{StepAlike}
-use Rattle.wap_inboxes.proofs.Winning.{exactly}
-use Rattle.wap_inboxes.proofs.Alike.{winners_win}
+use Rattle.wap_world.specs.inboxes.Winners.{winners_of, Alike}
+use Rattle.wap_world.specs.inboxes.Inboxes.{Stepped, telling, react_with}
+use Rattle.wap_world.specs.inboxes.Sessions.{StepAlike}
+use Rattle.wap_world.proofs.InboxesLemmas.Winning.{exactly}
+use Rattle.wap_world.proofs.InboxesLemmas.Alike.{winners_win}
 use Rattle.wap_push.specs.Pushes.{push_at}
 use Rattle.wap_session.specs.handset.Holding.{played_with_from}
 use Rattle.wap_session.specs.handset.Feeding.{State, held_with, stepped_of, step_of}

@@ -4,7 +4,7 @@ use Rattle.std.proofs.Common.{get_or, sym, ap, ◌∙◌, append_assoc, arith}
 use Rattle.std.specs.Borrow.{Bor}
 use Rattle.std.proofs.lemmas.List.{append-nil, drop_more, drop_all}
 use Rattle.wap_push.specs.declared.indication.Indication.{Indication}
-use Rattle.wap_inboxes.specs.Notices.{entry_line, entry_lines}
+use Rattle.wap_world.specs.inboxes.Notices.{entry_line, entry_lines}
 
 -- what is lent
 abbrev seen : List (Bor Indication) → List Indication

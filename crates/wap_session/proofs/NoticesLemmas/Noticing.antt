@@ -4,8 +4,8 @@ use Rattle.std.proofs.Common.{◌&&◌}
 use Rattle.std.specs.Prelude.{IsTrue, ◌↔◌}
 use Rattle.wap_push.specs.declared.indication.Indication.{Indication}
 use Rattle.wap_inbox.specs.Inbox.{alerts, IsAlert}
-use Rattle.wap_inboxes.specs.Notices.{is_latest, notice_line, notice_lines}
-use Rattle.wap_inboxes.proofs.Alerts.{alert_is}
+use Rattle.wap_world.specs.inboxes.Notices.{is_latest, notice_line, notice_lines}
+use Rattle.wap_world.proofs.InboxesLemmas.Alerts.{alert_is}
 
 module _ (pushes : List Indication) (pushed : Indication) where
   abbrev line : List (List ℕ)

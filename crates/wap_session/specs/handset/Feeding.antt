@@ -4,11 +4,11 @@ use Rattle.std.specs.Prelude.{is_some, IfOk, IfErr, OnOk, OnErr, ◌≢◌, ℕ,
 use Rattle.wap_base.specs.Count.{Rose}
 use Rattle.wap_input.specs.declared.key.Key.{Key}
 use Rattle.wap_push.specs.declared.indication.Indication.{Indication}
-use Rattle.wap_site.specs.Asking.{Seen, Stays, Asks}
+use Rattle.wap_world.specs.site.Asking.{Seen, Stays, Asks}
 use Rattle.wap_world.specs.Steps.{Step, joined}
 use Rattle.wap_world.specs.Sessions.{shown_by, Begun, world_of}
-use Rattle.wap_scripting.specs.UnitSites.{Pages, shelf_of}
-use Rattle.wap_scripting.specs.Waiting.{Waits}
+use Rattle.wap_world.specs.scripting.UnitSites.{Pages, shelf_of}
+use Rattle.wap_world.specs.scripting.Waiting.{Waits}
 use Rattle.wap_context.specs.Browsers.{Browser, IsOver}
 use Rattle.wap_context.specs.Missing.{Missed}
 use Rattle.wap_context.specs.Sites.{IfOver}
@@ -16,8 +16,8 @@ use Rattle.wap_session.specs.declared.fault.SessionFault.{SessionFault}
 use Rattle.wap_session.specs.declared.fault.SessionFault.TheVariants.{Store, Ended}
 use Rattle.wap_session.specs.Feeding.{State as Session, left_open}
 use Rattle.wap_inbox.specs.Inbox.{HaveWinners}
-use Rattle.wap_inboxes.specs.Winners.{Alike}
-use Rattle.wap_inboxes.specs.Inboxes.{Stepped}
+use Rattle.wap_world.specs.inboxes.Winners.{Alike}
+use Rattle.wap_world.specs.inboxes.Inboxes.{Stepped}
 use Rattle.wap_session.specs.handset.Holding.{Held, played_with_from}
 
 -- a handset between two keys: its browser, the script that waits for the answer to a dialog, if one

@@ -5,11 +5,11 @@ use Rattle.std.specs.Prelude.{List}
 use Rattle.wap_input.specs.declared.key.Key.{Key}
 use Rattle.wap_push.specs.declared.indication.Indication.{Indication}
 use Rattle.wap_push.specs.Pushes.{push_at}
-use Rattle.wap_scripting.specs.UnitSites.{Pages}
-use Rattle.wap_scripting.specs.Waiting.{State, left_over}
+use Rattle.wap_world.specs.scripting.UnitSites.{Pages}
+use Rattle.wap_world.specs.scripting.Waiting.{State, left_over}
 use Rattle.wap_context.specs.Sites.{fragment_call, site_of}
-use Rattle.wap_inboxes.specs.Inboxes.{Stepped}
-use Rattle.wap_inboxes.specs.Sessions.{followed_with, played_with}
+use Rattle.wap_world.specs.inboxes.Inboxes.{Stepped}
+use Rattle.wap_world.specs.inboxes.Sessions.{followed_with, played_with}
 
 -- a session between two keys, and the pushes that were taken
 pub record Held : Type 0 where

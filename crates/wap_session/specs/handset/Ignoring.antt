@@ -2,7 +2,7 @@
 use Rattle.std.specs.Prelude.{Bool, not, ◌&&◌}
 use Rattle.wap_input.specs.declared.key.Key.{Key}
 use Rattle.wap_session.specs.Ignoring.{ignores as ignores_in_session}
-use Rattle.wap_inboxes.specs.Inboxes.{is_of_inbox}
+use Rattle.wap_world.specs.inboxes.Inboxes.{is_of_inbox}
 use Rattle.wap_session.specs.handset.Feeding.{State}
 
 -- those that its session ignores, but for those of the inbox

@@ -2,8 +2,8 @@
 use Rattle.std.specs.Prelude.{List, ◌++◌, ◌≡◌, Bool, true, false, ℕ, Option, Some, None}
 use Rattle.wap_base.specs.declared.fault.RunErr.{RunErr}
 use Rattle.wap_base.specs.declared.fault.RunErr.TheVariants as run
-use Rattle.wap_scripting.specs.Dialogs.{Reply as Meant, answers, ends_it, passes}
-use Rattle.wap_scripting.specs.Waiting.{Waits}
+use Rattle.wap_world.specs.scripting.Dialogs.{Reply as Meant, answers, ends_it, passes}
+use Rattle.wap_world.specs.scripting.Waiting.{Waits}
 use Rattle.wap_context.specs.declared.waiting.Step.{Step as Did}
 use Rattle.wap_context.specs.Acting.{lines_in, waiting_in}
 use Rattle.wap_context.specs.Browsers.{Browser}

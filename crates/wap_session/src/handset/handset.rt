@@ -5,7 +5,7 @@ ghost use Rattle.std.specs.Prelude.{IfOk, OnOk, IfErr, OnErr, IsErrOf, Ok};
 ghost use Rattle.wap_base.specs.Limits.{AreInRange};
 ghost use Rattle.wap_context.specs.Missing.{Missed};
 ghost use Rattle.wap_context.specs.Sites.{IfOver};
-ghost use Rattle.wap_site.specs.Asking.{Seen};
+ghost use Rattle.wap_world.specs.site.Asking.{Seen};
 ghost use Rattle.wap_world.specs.declared.refusal.Refusal.TheVariants.{Ignored};
 ghost use Rattle.wap_world.specs.Lines.{refusal_line};
 ghost use Rattle.wap_inbox.specs.Inbox.{HaveWinners};
@@ -20,7 +20,7 @@ use std::marker::Model;
 use wap_base::{Limits, NoMemory};
 use wap_inbox::Inbox;
 use wap_lines::Lines;
-use wap_site::Pages;
+use wap_world::site::Pages;
 
 /// A session with an inbox. A contract sees its state between two keys.
 #[derive(Drop)]

@@ -6,7 +6,7 @@ ghost use Rattle.wap_context.specs.Missing.{Missed};
 ghost use Rattle.wap_context.specs.Sites.{IfOver};
 ghost use Rattle.wap_world.specs.Lines.{shown_line};
 ghost use Rattle.wap_inbox.specs.Inbox.{HaveWinners};
-ghost use Rattle.wap_inboxes.specs.Inboxes.{is_of_inbox};
+ghost use Rattle.wap_world.specs.inboxes.Inboxes.{is_of_inbox};
 ghost use Rattle.wap_session.specs.handset.Feeding.{step_of, Plays};
 ghost use Rattle.wap_session.specs.handset.inside.Turns.{state_of, followed_url, inbox_lines};
 ghost use Rattle.wap_session.specs.handset.inside.Turns.{pushes_after};
@@ -17,7 +17,7 @@ use std::alloc::Global;
 use wap_base::{NoMemory, Text};
 use wap_inbox::Inbox;
 use wap_lines::Lines;
-use wap_site::Pages;
+use wap_world::site::Pages;
 
 /// The URL that a key follows, if it is of the inbox and there is one.
 fn followed_url(inbox: &Inbox, alloc: Global, key: &Key) -> Result<Option<Text>, NoMemory>

@@ -7,12 +7,12 @@ ghost use Rattle.wap_push.specs.Pushes.{push_at};
 ghost use Rattle.wap_world.specs.Keys.{ignored};
 ghost use Rattle.wap_world.specs.Sessions.{Begun};
 ghost use Rattle.wap_world.specs.Steps.{quiet};
-ghost use Rattle.wap_scripting.specs.UnitSites.{Pages};
-ghost use Rattle.wap_scripting.specs.Waiting.{Waits};
+ghost use Rattle.wap_world.specs.scripting.UnitSites.{Pages};
+ghost use Rattle.wap_world.specs.scripting.Waiting.{Waits};
 ghost use Rattle.wap_context.specs.Sites.{site_of};
 ghost use Rattle.wap_inbox.specs.Inbox.{HaveWinners};
-ghost use Rattle.wap_inboxes.specs.Inboxes.{is_of_inbox};
-ghost use Rattle.wap_inboxes.specs.Sessions.{session_with, StepAlike};
+ghost use Rattle.wap_world.specs.inboxes.Inboxes.{is_of_inbox};
+ghost use Rattle.wap_world.specs.inboxes.Sessions.{session_with, StepAlike};
 ghost use Rattle.wap_session.specs.handset.Holding.{played_with_from};
 ghost use Rattle.wap_session.specs.handset.Feeding.{State, beginning, held_with, stepped_of};
 

@@ -2,8 +2,8 @@
 ghost use Rattle.std.specs.Prelude.{◌≡◌, ◌∷◌, ◌++◌, [], replicate, IfOk, OnOk};
 ghost use Rattle.wap_base.specs.Ascii.{digit_zero};
 ghost use Rattle.wap_inbox.specs.Inbox.{inbox_of};
-ghost use Rattle.wap_inboxes.specs.Notices.{no_push_line, notice_line, time_text, entry_line};
-ghost use Rattle.wap_inboxes.specs.Notices.{entry_lines};
+ghost use Rattle.wap_world.specs.inboxes.Notices.{no_push_line, notice_line, time_text, entry_line};
+ghost use Rattle.wap_world.specs.inboxes.Notices.{entry_lines};
 
 use itoa::Buffer;
 use std::alloc::Global;

@@ -61,23 +61,24 @@ use Rattle.wap_world.specs.Tasks.{here_with, stay_or_ask, go, open_url, base_now
 use Rattle.wap_world.specs.Tasks.{task_once, go_on, onward, act_in, act, visit}
 use Rattle.wap_world.specs.Keys.{ignored, act_or, after_choice, choose_option, expire, pass_time}
 use Rattle.wap_world.specs.Keys.{at_card, renewed, apply, react}
-use Rattle.wap_scripting.specs.Additions.{with_scene, with_request}
-use Rattle.wap_scripting.specs.Hosting.{callable, callable_if, found_under, found_at, external_call}
-use Rattle.wap_scripting.specs.Hosting.{library_call, hosting}
-use Rattle.wap_scripting.specs.Units.{external_in}
-use Rattle.wap_scripting.specs.ScriptPages.{script_in}
-use Rattle.wap_scripting.specs.UnitSites.{no_unit, end_of, ran_of}
+use Rattle.wap_world.specs.scripting.Additions.{with_scene, with_request}
+use Rattle.wap_world.specs.scripting.Hosting.{callable, callable_if, found_under, found_at}
+use Rattle.wap_world.specs.scripting.Hosting.{external_call}
+use Rattle.wap_world.specs.scripting.Hosting.{library_call, hosting}
+use Rattle.wap_world.specs.scripting.Units.{external_in}
+use Rattle.wap_world.specs.scripting.ScriptPages.{script_in}
+use Rattle.wap_world.specs.scripting.UnitSites.{no_unit, end_of, ran_of}
 use Rattle.wap_site_laws.specs.exchange.Denial.{is_entered, DifferWithin, DeniedMatterNot}
 use Rattle.wap_world.proofs.Joining.{joined_nothing}
 use Rattle.wap_world.specs.Access.{may_enter}
-use Rattle.wap_scripting_laws.proofs.Plain.{fronted}
+use Rattle.wap_world.proofs.ScriptingLawsLemmas.Plain.{fronted}
 use Rattle.wap_world.specs.Requests.{ask, test}
 use Rattle.wap_execution_laws.specs.Keyed.{keyed}
-use Rattle.wap_scripting.specs.Dialogs.{Reply, answers, ends_it, passes, reply_to, meanwhile}
-use Rattle.wap_scripting.specs.Dialogs.{after_reply, answered_by, by_keys}
-use Rattle.wap_scripting.specs.UnitSites.{Pages, shelf_of, externals_of, unit_under}
-use Rattle.wap_scripting.specs.UnitSites.{started_at, units_site}
-use Rattle.wap_scripting_laws.proofs.Plain.{IsPlain, external_plain, library_plain}
+use Rattle.wap_world.specs.scripting.Dialogs.{Reply, answers, ends_it, passes, reply_to, meanwhile}
+use Rattle.wap_world.specs.scripting.Dialogs.{after_reply, answered_by, by_keys}
+use Rattle.wap_world.specs.scripting.UnitSites.{Pages, shelf_of, externals_of, unit_under}
+use Rattle.wap_world.specs.scripting.UnitSites.{started_at, units_site}
+use Rattle.wap_world.proofs.ScriptingLawsLemmas.Plain.{IsPlain, external_plain, library_plain}
 
 module _ (among : List ℕ → Bool) where
   -- one of these names was entered by a test

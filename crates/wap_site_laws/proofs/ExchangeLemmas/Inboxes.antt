@@ -11,10 +11,11 @@ use Rattle.wap_world.specs.World.{World}
 use Rattle.wap_world.specs.Sites.{Site, Call}
 use Rattle.wap_world.specs.Steps.{Step, joined}
 use Rattle.wap_world.specs.Keys.{renewed, react}
-use Rattle.wap_inboxes.specs.Inboxes.{Handset, Stepped, taking_none, url_at, follow, react_with}
-use Rattle.wap_inboxes.specs.Sessions.{after_step, followed_with, played_with_in, played_with}
-use Rattle.wap_scripting.specs.UnitSites.{units_site}
-use Rattle.wap_scripting.specs.Sources.{LanguageOf, AllPages, Agrees, site_of, compiled_pages}
+use Rattle.wap_world.specs.inboxes.Inboxes.{Handset, Stepped, taking_none, url_at, follow}
+use Rattle.wap_world.specs.inboxes.Inboxes.{react_with}
+use Rattle.wap_world.specs.inboxes.Sessions.{after_step, followed_with, played_with_in, played_with}
+use Rattle.wap_world.specs.scripting.UnitSites.{units_site}
+use Rattle.wap_world.specs.scripting.Sources.{LanguageOf, AllPages, Agrees, site_of, compiled_pages}
 use Rattle.wap_site_laws.specs.exchange.Denial.{is_entered, DifferWithin, DeniedMatterNotWith}
 use Rattle.wap_site_laws.proofs.ExchangeLemmas.Replacing.{replaces}
 use Rattle.wap_site_laws.proofs.ExchangeLemmas.Denying.{Lost, first, second, StepAlike, reacts_same}

@@ -41,21 +41,26 @@ use Rattle.wap_world.specs.Steps.{Step}
 use Rattle.wap_world.specs.Requests.{plain_get, test_of}
 use Rattle.wap_world.specs.Urls.{target_of}
 use Rattle.wap_world.specs.Sites.{External, Call}
-use Rattle.wap_scripting.specs.Units.{external_in}
-use Rattle.wap_scripting.specs.Additions.{with_test, with_request}
-use Rattle.wap_scripting.specs.Dialogs.{by_keys}
-use Rattle.wap_scripting.specs.Hosting.{callable, callable_if, found_under, found_at, external_call}
-use Rattle.wap_scripting.specs.Hosting.{library_call}
-use Rattle.wap_scripting.specs.ScriptPages.{PageOf, deck, script, words, refused, page_under}
-use Rattle.wap_scripting.specs.ScriptPages.{script_in}
-use Rattle.wap_scripting.specs.ScriptPages.{shelved, shelf_by, script_under, externals_by, keyed_by}
-use Rattle.wap_scripting.specs.UnitSites.{Pages, units, shelf_of, no_unit, unit_under, externals_of}
-use Rattle.wap_scripting.specs.UnitSites.{keyed_host, ran_of, started_at, run_unit, units_site}
+use Rattle.wap_world.specs.scripting.Units.{external_in}
+use Rattle.wap_world.specs.scripting.Additions.{with_test, with_request}
+use Rattle.wap_world.specs.scripting.Dialogs.{by_keys}
+use Rattle.wap_world.specs.scripting.Hosting.{callable, callable_if, found_under, found_at}
+use Rattle.wap_world.specs.scripting.Hosting.{external_call}
+use Rattle.wap_world.specs.scripting.Hosting.{library_call}
+use Rattle.wap_world.specs.scripting.ScriptPages.{PageOf, deck, script, words, refused, page_under}
+use Rattle.wap_world.specs.scripting.ScriptPages.{script_in}
+use Rattle.wap_world.specs.scripting.ScriptPages.{shelved, shelf_by, script_under, externals_by}
+use Rattle.wap_world.specs.scripting.ScriptPages.{keyed_by}
+use Rattle.wap_world.specs.scripting.UnitSites.{Pages, units, shelf_of, no_unit, unit_under}
+use Rattle.wap_world.specs.scripting.UnitSites.{externals_of}
+use Rattle.wap_world.specs.scripting.UnitSites.{keyed_host, ran_of, started_at, run_unit}
+use Rattle.wap_world.specs.scripting.UnitSites.{units_site}
 use Rattle.wap_meaning.specs.Functions.{plain_ways, code_runs, unit_runs}
-use Rattle.wap_scripting.specs.Sources.{LanguageOf, Script, of_unit}
-use Rattle.wap_scripting.specs.Sources.{of_source, AllPages, both, script_external, meant}
-use Rattle.wap_scripting.specs.Sources.{run_script, site_of, Agrees, compiled_script, compiled_page}
-use Rattle.wap_scripting.specs.Sources.{compiled_pages}
+use Rattle.wap_world.specs.scripting.Sources.{LanguageOf, Script, of_unit}
+use Rattle.wap_world.specs.scripting.Sources.{of_source, AllPages, both, script_external, meant}
+use Rattle.wap_world.specs.scripting.Sources.{run_script, site_of, Agrees, compiled_script}
+use Rattle.wap_world.specs.scripting.Sources.{compiled_page}
+use Rattle.wap_world.specs.scripting.Sources.{compiled_pages}
 
 -- ---- frames that are forgotten
 

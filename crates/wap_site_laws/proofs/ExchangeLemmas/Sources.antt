@@ -5,7 +5,7 @@ use Rattle.wap_input.specs.declared.key.Key.{Key}
 use Rattle.wap_world.specs.World.{World}
 use Rattle.wap_world.specs.Sites.{Site, Call}
 use Rattle.wap_world.specs.Sessions.{played}
-use Rattle.wap_scripting.specs.Sources.{LanguageOf, AllPages, Agrees, site_of, compiled_pages}
+use Rattle.wap_world.specs.scripting.Sources.{LanguageOf, AllPages, Agrees, site_of, compiled_pages}
 use Rattle.wap_site_laws.specs.exchange.Denial.{is_entered, DifferWithin}
 use Rattle.wap_site_laws.proofs.ExchangeLemmas.Replacing.{replaces}
 use Rattle.wap_site_laws.proofs.ExchangeLemmas.Denying.{denied}

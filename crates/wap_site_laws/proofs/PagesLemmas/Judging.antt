@@ -3,9 +3,10 @@ use Rattle.std.proofs.Common.{◌≡◌, ℕ, List, [], ◌∷◌, Option, refl,
 use Rattle.wap_base.specs.Contents.{Contents}
 use Rattle.wap_code.specs.declared.unit.Unit.{Unit}
 use Rattle.wap_world.specs.Sites.{Call}
-use Rattle.wap_scripting.specs.ScriptPages.{PageOf}
-use Rattle.wap_scripting.specs.UnitSites.{Pages, unit_page, unit_pages, units_site}
-use Rattle.wap_scripting.specs.Sources.{Script, AllPages, site_of, compiled_page, compiled_pages}
+use Rattle.wap_world.specs.scripting.ScriptPages.{PageOf}
+use Rattle.wap_world.specs.scripting.UnitSites.{Pages, unit_page, unit_pages, units_site}
+use Rattle.wap_world.specs.scripting.Sources.{Script, AllPages, site_of, compiled_page}
+use Rattle.wap_world.specs.scripting.Sources.{compiled_pages}
 use Rattle.wap_site_laws.proofs.ExchangeLemmas.Replacing.{replaces}
 use Rattle.wap_site_laws.specs.programs.Programs.{Accepted, programs, unit_of}
 use Rattle.wap_site_laws.proofs.ProgramsLemmas.Agreed.{unit_agrees}

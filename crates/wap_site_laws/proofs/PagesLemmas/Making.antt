@@ -4,10 +4,10 @@ use Rattle.std.proofs.lemmas.List.Elements.{recursion_from_All}
 use Rattle.std.specs.List.{AllByRecursion}
 use Rattle.wap_base.specs.Contents.{Contents}
 use Rattle.wap_code.specs.declared.unit.Unit.{Unit}
-use Rattle.wap_site.specs.declared.page.Page.{Page}
-use Rattle.wap_site.specs.declared.page.Page.TheVariants as page
-use Rattle.wap_scripting.specs.ScriptPages.{PageOf, deck, script, words, refused}
-use Rattle.wap_scripting.specs.Sources.{Script, of_unit, AllPages}
+use Rattle.wap_world.specs.declared.site.page.Page.{Page}
+use Rattle.wap_world.specs.declared.site.page.Page.TheVariants as page
+use Rattle.wap_world.specs.scripting.ScriptPages.{PageOf, deck, script, words, refused}
+use Rattle.wap_world.specs.scripting.Sources.{Script, of_unit, AllPages}
 use Rattle.wap_site_laws.specs.programs.Programs.{Accepted}
 use Rattle.wap_pages.specs.Judged.{page_of_bytes, AreBytes, IsScriptPage}
 use Rattle.wap_pages.proofs.Judgements.{page_deck, page_script, page_text_is, neither_page}

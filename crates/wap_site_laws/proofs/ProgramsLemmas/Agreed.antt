@@ -1,7 +1,7 @@
 -- The unit that a program is compiled to agrees with it in a browser's world.
 use Rattle.wap_world.specs.Steps.{Step}
 use Rattle.wap_compiled_laws.proofs.Sources as sources
-use Rattle.wap_scripting.specs.Sources.{Agrees}
+use Rattle.wap_world.specs.scripting.Sources.{Agrees}
 use Rattle.wap_site_laws.specs.programs.Programs.{Accepted, programs, unit_of}
 use Rattle.wap_site_laws.proofs.ProgramsLemmas.Entering.{same_entrance, same_external}
 

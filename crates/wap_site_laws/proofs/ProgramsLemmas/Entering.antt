@@ -24,7 +24,7 @@ use Rattle.wap_compiled.specs.Units.{compiled}
 use Rattle.wap_compiled_laws.proofs.Functions.{InPool, in_uses}
 use Rattle.wap_world.specs.Shelves.{Entrance}
 use Rattle.wap_world.specs.Sites.{External}
-use Rattle.wap_scripting.specs.Units.{domain_in, path_in, entrance_in, external_in}
+use Rattle.wap_world.specs.scripting.Units.{domain_in, path_in, entrance_in, external_in}
 use Rattle.wap_site_laws.specs.programs.Entrances.{domain_of, path_of, entrance, external_from}
 use Rattle.wap_site_laws.specs.programs.Entrances.{external}
 

@@ -9,7 +9,7 @@ use Rattle.wap_cardrules.specs.Events.{binding}
 use Rattle.wap_cardrules.specs.Values.{Pairs}
 use Rattle.wap_markup.specs.declared.deck.Deck.{Deck}
 use Rattle.wap_markup.specs.Cards.{cards_of}
-use Rattle.wap_site.specs.Misses.{Asked}
+use Rattle.wap_world.specs.site.Misses.{Asked}
 use Rattle.wap_url.specs.declared.url.Url.{Url}
 use Rattle.wap_url.specs.Printing.{name_for}
 use Rattle.wap_world.specs.declared.history.Entry.{Entry}

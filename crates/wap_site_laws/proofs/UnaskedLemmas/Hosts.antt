@@ -44,18 +44,23 @@ use Rattle.wap_world.specs.Urls.{target_of, page_url}
 use Rattle.wap_world.specs.Requests.{plain_get}
 use Rattle.wap_world.specs.Sites.{External, Ran}
 use Rattle.wap_world.proofs.Joining.{joined_nothing}
-use Rattle.wap_scripting.specs.Additions.{with_scene, with_request}
-use Rattle.wap_scripting.specs.Dialogs.{Reply, answers, ends_it, passes, reply_to, meanwhile}
-use Rattle.wap_scripting.specs.Dialogs.{run_out, tick_waiting, after_reply, answered_by, by_keys}
-use Rattle.wap_scripting.specs.Browsing.{gives, current_card, refreshed, BrowserFunction, GetVar}
-use Rattle.wap_scripting.specs.Browsing.{SetVar, Go, Prev, NewContext, GetCurrentCard, Refresh}
-use Rattle.wap_scripting.specs.Browsing.{browser_functions, row_of_browser, wml_browser}
-use Rattle.wap_scripting.specs.Loading.{text_in, not_acceptable, loaded, load_at, load_from}
-use Rattle.wap_scripting.specs.Hosting.{callable, callable_if, found_under, found_at, external_call}
-use Rattle.wap_scripting.specs.Hosting.{within, load_call, url_call, library_call}
-use Rattle.wap_scripting.specs.Hosting.{hosting}
-use Rattle.wap_scripting.specs.UnitSites.{ran_of, started_at}
-use Rattle.wap_scripting_laws.proofs.Plain.{fronted, IsPlain, external_plain, library_plain}
+use Rattle.wap_world.specs.scripting.Additions.{with_scene, with_request}
+use Rattle.wap_world.specs.scripting.Dialogs.{Reply, answers, ends_it, passes, reply_to, meanwhile}
+use Rattle.wap_world.specs.scripting.Dialogs.{run_out, tick_waiting, after_reply, answered_by}
+use Rattle.wap_world.specs.scripting.Dialogs.{by_keys}
+use Rattle.wap_world.specs.scripting.Browsing.{gives, current_card, refreshed, BrowserFunction}
+use Rattle.wap_world.specs.scripting.Browsing.{GetVar}
+use Rattle.wap_world.specs.scripting.Browsing.{SetVar, Go, Prev, NewContext, GetCurrentCard}
+use Rattle.wap_world.specs.scripting.Browsing.{Refresh}
+use Rattle.wap_world.specs.scripting.Browsing.{browser_functions, row_of_browser, wml_browser}
+use Rattle.wap_world.specs.scripting.Loading.{text_in, not_acceptable, loaded, load_at, load_from}
+use Rattle.wap_world.specs.scripting.Hosting.{callable, callable_if, found_under, found_at}
+use Rattle.wap_world.specs.scripting.Hosting.{external_call}
+use Rattle.wap_world.specs.scripting.Hosting.{within, load_call, url_call, library_call}
+use Rattle.wap_world.specs.scripting.Hosting.{hosting}
+use Rattle.wap_world.specs.scripting.UnitSites.{ran_of, started_at}
+use Rattle.wap_world.proofs.ScriptingLawsLemmas.Plain.{fronted, IsPlain, external_plain}
+use Rattle.wap_world.proofs.ScriptingLawsLemmas.Plain.{library_plain}
 use Rattle.wap_site_laws.proofs.UnaskedLemmas.Beside.{Asks, first, second, asks_it, Lost, Clear}
 use Rattle.wap_site_laws.proofs.UnaskedLemmas.Beside.{bare}
 use Rattle.wap_site_laws.proofs.UnaskedLemmas.Beside.{bare_same, place_same, here_same, SceneAlike}

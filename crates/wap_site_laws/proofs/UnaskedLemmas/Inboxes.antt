@@ -10,10 +10,11 @@ use Rattle.wap_world.specs.World.{World}
 use Rattle.wap_world.specs.Sites.{Site}
 use Rattle.wap_world.specs.Steps.{Step, joined}
 use Rattle.wap_world.specs.Keys.{renewed, react}
-use Rattle.wap_inboxes.specs.Inboxes.{Handset, Stepped, taking_none, take_push, url_at, follow}
-use Rattle.wap_inboxes.specs.Inboxes.{react_with}
-use Rattle.wap_inboxes.specs.Sessions.{after_step, followed_with, played_with_in, played_with}
-use Rattle.wap_scripting.specs.UnitSites.{units_site}
+use Rattle.wap_world.specs.inboxes.Inboxes.{Handset, Stepped, taking_none, take_push, url_at}
+use Rattle.wap_world.specs.inboxes.Inboxes.{follow}
+use Rattle.wap_world.specs.inboxes.Inboxes.{react_with}
+use Rattle.wap_world.specs.inboxes.Sessions.{after_step, followed_with, played_with_in, played_with}
+use Rattle.wap_world.specs.scripting.UnitSites.{units_site}
 use Rattle.wap_site_laws.specs.unasked.Unasked.{UnaskedMatterNotWith, EndsBeside}
 use Rattle.wap_site_laws.proofs.UnaskedLemmas.Beside.{Lost, Clear, first, second}
 use Rattle.wap_site_laws.proofs.UnaskedLemmas.Rules.{StepAlike}

@@ -12,10 +12,11 @@ use Rattle.wap_world.specs.Steps.{Step}
 use Rattle.wap_world.specs.Sites.{External, Call, Site}
 use Rattle.wap_world.specs.Keys.{react}
 use Rattle.wap_world.specs.Sessions.{played}
-use Rattle.wap_scripting.specs.Units.{external_in}
-use Rattle.wap_scripting.specs.ScriptPages.{script_in, shelved}
-use Rattle.wap_scripting.specs.UnitSites.{Pages, units, shelf_of, no_unit, unit_under, externals_of}
-use Rattle.wap_scripting.specs.UnitSites.{units_site}
+use Rattle.wap_world.specs.scripting.Units.{external_in}
+use Rattle.wap_world.specs.scripting.ScriptPages.{script_in, shelved}
+use Rattle.wap_world.specs.scripting.UnitSites.{Pages, units, shelf_of, no_unit, unit_under}
+use Rattle.wap_world.specs.scripting.UnitSites.{externals_of}
+use Rattle.wap_world.specs.scripting.UnitSites.{units_site}
 use Rattle.wap_site_laws.specs.unasked.Unasked.{is_asked, AgreeBeside, UnaskedMatterNot}
 use Rattle.wap_site_laws.proofs.UnaskedLemmas.Beside.{Lost, Clear, bare}
 use Rattle.wap_site_laws.proofs.UnaskedLemmas.Hosts.{run_with, runs_alike}

@@ -7,10 +7,10 @@ use Rattle.wap_world.specs.World.{World}
 use Rattle.wap_world.specs.Steps.{AccessTest}
 use Rattle.wap_world.specs.Sites.{Call}
 use Rattle.wap_world.specs.Sessions.{played}
-use Rattle.wap_inboxes.specs.Inboxes.{Handset}
-use Rattle.wap_inboxes.specs.Sessions.{played_with}
-use Rattle.wap_scripting.specs.ScriptPages.{page_under}
-use Rattle.wap_scripting.specs.UnitSites.{Pages, shelf_of, units_site}
+use Rattle.wap_world.specs.inboxes.Inboxes.{Handset}
+use Rattle.wap_world.specs.inboxes.Sessions.{played_with}
+use Rattle.wap_world.specs.scripting.ScriptPages.{page_under}
+use Rattle.wap_world.specs.scripting.UnitSites.{Pages, shelf_of, units_site}
 
 -- a test of one of these names that wasn't a denial
 abbrev pub is_entered : (List ℕ → Bool) → List AccessTest → Bool

@@ -5,7 +5,7 @@ use Rattle.wap_program.specs.declared.program.Program.{Program}
 use Rattle.wap_meaning.specs.Functions.{program_runs}
 use Rattle.wap_compiled.specs.Units.{compiled}
 use Rattle.wap_compiled.specs.Accepted.{IsAccepted}
-use Rattle.wap_scripting.specs.Sources.{LanguageOf}
+use Rattle.wap_world.specs.scripting.Sources.{LanguageOf}
 use Rattle.wap_site_laws.specs.programs.Entrances.{entrance, external}
 
 -- a source that is accepted, and its program

@@ -5,15 +5,15 @@ use Rattle.std.specs.Option.{option_map_or}
 use Rattle.wap_input.specs.declared.key.Key.{Key}
 use Rattle.wap_push.specs.declared.indication.Indication.{Indication}
 use Rattle.wap_push.specs.declared.fault.PushFault.{PushFault}
-use Rattle.wap_site.specs.Misses.{Asked}
+use Rattle.wap_world.specs.site.Misses.{Asked}
 use Rattle.wap_url.specs.Printing.{name_for}
 use Rattle.wap_world.specs.World.{World, last_entry}
 use Rattle.wap_world.specs.Sites.{Call}
 use Rattle.wap_world.specs.Sessions.{played}
-use Rattle.wap_inboxes.specs.Inboxes.{Handset}
-use Rattle.wap_inboxes.specs.Sessions.{played_with}
-use Rattle.wap_scripting.specs.ScriptPages.{page_under}
-use Rattle.wap_scripting.specs.UnitSites.{Pages, units_site}
+use Rattle.wap_world.specs.inboxes.Inboxes.{Handset}
+use Rattle.wap_world.specs.inboxes.Sessions.{played_with}
+use Rattle.wap_world.specs.scripting.ScriptPages.{page_under}
+use Rattle.wap_world.specs.scripting.UnitSites.{Pages, units_site}
 
 -- whether one of these names was asked for
 abbrev pub is_asked : (List ℕ → Bool) → List Asked → Bool

@@ -1,5 +1,5 @@
 use Rattle.std.proofs.Common.{◌≡◌, drop}
-use Rattle.wap_site.specs.Pages.{page_under}
+use Rattle.wap_world.specs.site.Pages.{page_under}
 use Rattle.wap_calling.proofs.shelf.find.Given as goal
 
 -- the pages passed have other names

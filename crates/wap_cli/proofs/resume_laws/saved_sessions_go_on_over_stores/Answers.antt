@@ -1,4 +1,4 @@
-use Rattle.wap_scripting.specs.UnitSites.{unit_pages}
+use Rattle.wap_world.specs.scripting.UnitSites.{unit_pages}
 use Rattle.wap_pages.specs.Judged.{judged}
 use Rattle.wap_cli.proofs.ResumeLemmas.Lasting.{goes_on}
 use Rattle.wap_cli.proofs.ResumeLawsLemmas.Cards.{judged_have_cards}

@@ -1,5 +1,5 @@
 use Rattle.wap_base.specs.Texts.{is_same_text}
-use Rattle.wap_scripting.specs.UnitSites.{unit_pages}
+use Rattle.wap_world.specs.scripting.UnitSites.{unit_pages}
 use Rattle.wap_pages.specs.Judged.{judged}
 use Rattle.wap_cli.proofs.ResumeLawsLemmas.Cards.{judged_have_cards}
 use Rattle.wap_cli.proofs.ResumeLawsLemmas.Stores.{agree_beside, goes_on_over}

@@ -4,11 +4,11 @@ use Rattle.wap_base.specs.Count.{Rose}
 use Rattle.wap_devices.specs.Sinks.{SinkSeen}
 use Rattle.wap_devices.specs.Transfer.{Appends, AppendsPrefix}
 use Rattle.wap_input.specs.declared.key.Key.{Key}
-use Rattle.wap_site.specs.Asking.{Seen, Stays, Asks}
+use Rattle.wap_world.specs.site.Asking.{Seen, Stays, Asks}
 use Rattle.wap_lines.specs.Written.{lines_bytes}
 use Rattle.wap_world.specs.Steps.{Step}
 use Rattle.wap_world.specs.Sessions.{shown_by}
-use Rattle.wap_scripting.specs.UnitSites.{Pages, shelf_of}
+use Rattle.wap_world.specs.scripting.UnitSites.{Pages, shelf_of}
 use Rattle.wap_context.specs.Browsers.{IsOver}
 use Rattle.wap_context.specs.Missing.{Missed}
 use Rattle.wap_context.specs.Sites.{IfOver}

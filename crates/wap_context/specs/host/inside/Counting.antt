@@ -7,11 +7,11 @@ use Rattle.std.proofs.Math.Nat.{le_refl, le_trans, le-add_right, le-min}
 use Rattle.std.proofs.Math.Nat.{min-le_left, min-le_right}
 use Rattle.wap_base.specs.Count.{raised, greatest_count}
 use Rattle.wap_machine.specs.Hosts.{AtMost, Grows}
-use Rattle.wap_site.specs.Pages.{Pages as JudgedPages}
-use Rattle.wap_site.specs.Misses.{Cache, Asked, is_miss}
-use Rattle.wap_site.specs.Asking.{Seen, Stays, raised_by}
+use Rattle.wap_world.specs.site.Pages.{Pages as JudgedPages}
+use Rattle.wap_world.specs.site.Misses.{Cache, Asked, is_miss}
+use Rattle.wap_world.specs.site.Asking.{Seen, Stays, raised_by}
 use Rattle.wap_world.specs.Steps.{Step}
-use Rattle.wap_scripting.specs.Views.{Counted, View, counted_once, counted_all, added}
+use Rattle.wap_world.specs.scripting.Views.{Counted, View, counted_once, counted_all, added}
 use Rattle.wap_context.specs.host.Stages.{Stage, Sight, sight_of, view_in, told, count_of}
 use Rattle.wap_context.specs.host.Stages.{fetched_in}
 

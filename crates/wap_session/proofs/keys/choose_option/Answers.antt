@@ -2,12 +2,12 @@ use Rattle.std.proofs.Common.{sym, ap, subst, ◌∙◌, ◌++◌, List, ℕ, Ok
 use Rattle.std.specs.List.{flat_map}
 use Rattle.std.proofs.lemmas.Result.{err_from_is_err_and}
 use Rattle.wap_input.specs.declared.key.Key.TheVariants as key
-use Rattle.wap_site.proofs.Asking.{Stays-same}
+use Rattle.wap_world.proofs.SiteLemmas.Asking.{Stays-same}
 use Rattle.wap_world.specs.Steps.{quiet}
 use Rattle.wap_world.specs.Setting.{fault_lines}
 use Rattle.wap_world.specs.Screens.{show}
 use Rattle.wap_world.specs.Keys.{ignored, act_or, apply}
-use Rattle.wap_scripting.specs.UnitSites.{shelf_of}
+use Rattle.wap_world.specs.scripting.UnitSites.{shelf_of}
 use Rattle.wap_context.specs.Sites.{site_of}
 use Rattle.wap_session.specs.inside.Turns.{IsBehind}
 use Rattle.wap_session.proofs.Rules.{Acts-ok, Acts-err, Acts-leads, Acts-ignored, Acts-wants}

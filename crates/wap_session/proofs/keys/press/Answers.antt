@@ -2,7 +2,7 @@ use Rattle.std.proofs.Common.{Ok}
 use Rattle.wap_input.specs.declared.key.Key.TheVariants as key
 use Rattle.wap_world.specs.Steps.{quiet}
 use Rattle.wap_world.specs.Keys.{apply}
-use Rattle.wap_scripting.specs.UnitSites.{shelf_of}
+use Rattle.wap_world.specs.scripting.UnitSites.{shelf_of}
 use Rattle.wap_context.specs.declared.waiting.Step.TheVariants.{Settled}
 use Rattle.wap_context.specs.Sites.{site_of}
 use Rattle.wap_session.specs.inside.Pressing.{typed}

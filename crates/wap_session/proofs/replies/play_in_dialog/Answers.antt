@@ -1,5 +1,5 @@
 use Rattle.std.proofs.Common.{Some, sym, ap, ◌∙◌}
-use Rattle.wap_site.proofs.Asking.{Stays-same}
+use Rattle.wap_world.proofs.SiteLemmas.Asking.{Stays-same}
 use Rattle.wap_context.specs.Acting.{answer, stop}
 use Rattle.wap_context.specs.Pausing.{waits_of}
 use Rattle.wap_session.specs.inside.Turns.{meant}

@@ -2,7 +2,7 @@ use Rattle.std.proofs.Common.{ℕ, List, length, Some, sym, ap, ◌∙◌, refl,
 use Rattle.std.proofs.lemmas.Fn.{always_returns_same}
 use Rattle.std.proofs.lemmas.Option.{slice_get_read}
 use Rattle.wap_base.specs.Texts.{text_cmp}
-use Rattle.wap_site.specs.declared.page.Page.{Page}
+use Rattle.wap_world.specs.declared.site.page.Page.{Page}
 use Rattle.wap_cli.proofs.PreparedLemmas.Searching.{answers_rise, at_place, at_gap}
 use Rattle.wap_cli.proofs.prepared.prepared.find.Goals as goal
 

@@ -1,7 +1,7 @@
 use Rattle.std.proofs.Common.{ap, ◌∙◌}
-use Rattle.wap_site.specs.Pages.{Pages}
+use Rattle.wap_world.specs.site.Pages.{Pages}
 use Rattle.wap_world.specs.Sessions.{shown_by}
-use Rattle.wap_scripting.specs.UnitSites.{unit_pages}
+use Rattle.wap_world.specs.scripting.UnitSites.{unit_pages}
 use Rattle.wap_context.specs.Sites.{site_of}
 use Rattle.wap_session.specs.handset.Feeding.{State}
 use Rattle.wap_cli.specs.browse.Beginning.{begun_with}

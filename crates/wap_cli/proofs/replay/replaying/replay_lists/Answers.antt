@@ -3,7 +3,7 @@ use Rattle.std.specs.declared.alloc.Global.{Global}
 use Rattle.wap_devices.specs.declared.store.StoreErr.TheVariants.{Failed, NoMemory}
 use Rattle.wap_cli.proofs.PrepareLemmas.Asking.{asks_over}
 use Rattle.wap_cli.proofs.PrepareLemmas.Ending.{page_fails, no_memory, ended}
-use Rattle.wap_scripting.specs.UnitSites.{unit_pages}
+use Rattle.wap_world.specs.scripting.UnitSites.{unit_pages}
 use Rattle.wap_context.specs.Sites.{site_of}
 use Rattle.wap_cli.specs.browse.Beginning.{begun_with}
 use Rattle.wap_cli.specs.replay.Texts.{replayed}

@@ -3,7 +3,7 @@ use Rattle.wap_url.specs.declared.url.Url.{Url}
 use Rattle.wap_markup.specs.declared.deck.Deck.{Deck}
 use Rattle.wap_context.specs.Browsers.{place_held}
 use Rattle.wap_context.specs.inside.Held.{page_under}
-use Rattle.wap_site.proofs.Asking.{Stays-same}
+use Rattle.wap_world.proofs.SiteLemmas.Asking.{Stays-same}
 use Rattle.wap_context.proofs.Takings.{takes_rejected}
 use Rattle.wap_context.proofs.HeldDecks.{entry_here}
 use Rattle.wap_context.proofs.Requesting.{GoesBack, back_returns, back_asks}

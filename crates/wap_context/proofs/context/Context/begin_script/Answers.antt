@@ -5,7 +5,7 @@ use Rattle.wap_code.specs.declared.unit.Unit.{Unit}
 use Rattle.wap_frames.specs.Seen.{function_in}
 use Rattle.wap_machine.specs.Stacks.{IsEntered}
 use Rattle.wap_world.specs.Setting.{set_variables}
-use Rattle.wap_site.proofs.Asking.{Stays-same}
+use Rattle.wap_world.proofs.SiteLemmas.Asking.{Stays-same}
 use Rattle.wap_state.specs.Scenes.{Line}
 use Rattle.wap_context.specs.inside.Moving.{PlaysAt}
 use Rattle.wap_context.specs.inside.Starting.{begun_with}

@@ -1,9 +1,9 @@
 use Rattle.std.proofs.Common.{◌∙◌, sym}
 use Rattle.wap_world.specs.World.{place_now}
 use Rattle.wap_world.specs.Tasks.{stay_or_ask, go, base_now}
-use Rattle.wap_scripting.specs.UnitSites.{shelf_of}
+use Rattle.wap_world.specs.scripting.UnitSites.{shelf_of}
 use Rattle.wap_context.specs.Sites.{site_of}
-use Rattle.wap_site.proofs.Asking.{Stays-same}
+use Rattle.wap_world.proofs.SiteLemmas.Asking.{Stays-same}
 use Rattle.wap_context.proofs.Takings.{takes_from, takes_rejected}
 use Rattle.wap_context.proofs.Requesting.{refused_takes, go_by, go_no}
 use Rattle.wap_context.proofs.context.Context.go.Goals as goal

@@ -3,7 +3,7 @@ use Rattle.wap_world.specs.declared.refusal.Refusal.TheVariants as refusals
 use Rattle.wap_world.specs.World.{place_now}
 use Rattle.wap_world.specs.History.{earlier_entry}
 use Rattle.wap_world.specs.Tasks.{prev, back_from}
-use Rattle.wap_scripting.specs.UnitSites.{shelf_of}
+use Rattle.wap_world.specs.scripting.UnitSites.{shelf_of}
 use Rattle.wap_context.specs.Browsers.{Browser}
 use Rattle.wap_context.proofs.Takings.{takes_from}
 use Rattle.wap_context.proofs.Navigations.{prev_some, prev_none}

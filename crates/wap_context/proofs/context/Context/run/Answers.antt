@@ -5,7 +5,7 @@ use Rattle.wap_base.specs.declared.fault.RunErr.{RunErr}
 use Rattle.wap_markup.specs.declared.deck.Deck.{Deck}
 use Rattle.wap_machine.specs.declared.machine.Outcome.{Outcome}
 use Rattle.wap_world.specs.World.{World}
-use Rattle.wap_scripting.specs.Waiting.{inside}
+use Rattle.wap_world.specs.scripting.Waiting.{inside}
 use Rattle.wap_context.specs.host.Stages.{Stage}
 use Rattle.wap_state.specs.Scenes.{Line}
 use Rattle.wap_context.specs.Browsers.{Browser}

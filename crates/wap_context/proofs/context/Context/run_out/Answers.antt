@@ -1,4 +1,4 @@
-use Rattle.wap_site.proofs.Asking.{Stays-same}
+use Rattle.wap_world.proofs.SiteLemmas.Asking.{Stays-same}
 use Rattle.wap_context.specs.inside.Ticking.{run_out}
 use Rattle.wap_context.proofs.Passing.{runs_out, pursues_rejected}
 use Rattle.wap_context.proofs.context.Context.run_out.Goals as goal

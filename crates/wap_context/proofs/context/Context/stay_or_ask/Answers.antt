@@ -1,4 +1,4 @@
-use Rattle.wap_site.proofs.Asking.{Stays-same}
+use Rattle.wap_world.proofs.SiteLemmas.Asking.{Stays-same}
 use Rattle.wap_context.proofs.Takings.{takes_rejected}
 use Rattle.wap_context.proofs.Requesting.{StaysOrAsks, stay_arrives, stay_asks}
 use Rattle.wap_context.proofs.context.Context.stay_or_ask.Goals as goal

@@ -1,5 +1,5 @@
 use Rattle.std.proofs.Common.{refl, []}
-use Rattle.wap_site.proofs.Asking.{Stays-same}
+use Rattle.wap_world.proofs.SiteLemmas.Asking.{Stays-same}
 use Rattle.wap_context.specs.Acting.{stop}
 use Rattle.wap_context.proofs.Beginning.{stop_takes}
 use Rattle.wap_context.proofs.Calling.{stop_ok}

@@ -1,4 +1,4 @@
-use Rattle.wap_site.proofs.Asking.{Stays-same}
+use Rattle.wap_world.proofs.SiteLemmas.Asking.{Stays-same}
 use Rattle.wap_world.specs.Tasks.{task_once}
 use Rattle.wap_context.specs.Sites.{site_of}
 use Rattle.wap_context.proofs.Requesting.{go_onces, prev_onces, go_budget, prev_budget}

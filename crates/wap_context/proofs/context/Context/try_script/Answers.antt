@@ -1,8 +1,8 @@
 use Rattle.std.proofs.Common.{◌∙◌, ap, Option}
 use Rattle.wap_world.specs.Shelves.{Entrance}
 use Rattle.wap_world.specs.Access.{may_enter}
-use Rattle.wap_scripting.specs.Units.{entrance_in}
-use Rattle.wap_site.proofs.Asking.{Stays-same}
+use Rattle.wap_world.specs.scripting.Units.{entrance_in}
+use Rattle.wap_world.proofs.SiteLemmas.Asking.{Stays-same}
 use Rattle.wap_context.specs.inside.Starting.{script_with}
 use Rattle.wap_context.proofs.Takings.{takes_rejected}
 use Rattle.wap_context.proofs.Beginning.{script_allowed, script_denied}

@@ -1,5 +1,5 @@
 use Rattle.std.proofs.Common.{◌≡◌, drop}
-use Rattle.wap_scripting.specs.Units.{domain_in}
+use Rattle.wap_world.specs.scripting.Units.{domain_in}
 use Rattle.wap_context.proofs.host.units.domain_in.Given as goal
 
 -- what is left has what all have

@@ -1,5 +1,5 @@
 use Rattle.std.proofs.Common.{◌≡◌, drop}
-use Rattle.wap_scripting.specs.Units.{path_in}
+use Rattle.wap_world.specs.scripting.Units.{path_in}
 use Rattle.wap_context.proofs.host.units.path_in.Given as goal
 
 -- what is left has what all have

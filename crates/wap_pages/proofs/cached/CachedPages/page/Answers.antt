@@ -5,8 +5,8 @@ use Rattle.wap_base.specs.Contents.{Contents}
 use Rattle.wap_base.specs.declared.fault.NoMemory.{NoMemory}
 use Rattle.wap_base.specs.declared.fault.RunErr.{RunErr}
 use Rattle.wap_base.specs.declared.fault.RunErr.TheVariants.{Store}
-use Rattle.wap_site.specs.Misses.{Asked, after_asking, is_miss}
-use Rattle.wap_site.specs.declared.page.Page.{Page}
+use Rattle.wap_world.specs.site.Misses.{Asked, after_asking, is_miss}
+use Rattle.wap_world.specs.declared.site.page.Page.{Page}
 use Rattle.wap_pages.specs.Caches.{KeepsNoMore}
 use Rattle.wap_pages.specs.inside.Keeping.{Kept, names_in, HaveDistinctNames, IsRight, IsSound}
 use Rattle.wap_pages.proofs.Seeing.{right_seen, right_distinct, site_seen, hit_stays, hit_asks}

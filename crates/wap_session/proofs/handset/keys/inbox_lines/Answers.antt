@@ -1,7 +1,7 @@
 use Rattle.std.proofs.Common.{Result, Ok, Err}
 use Rattle.std.specs.Prelude.{OnErr}
 use Rattle.wap_push.specs.Pushes.{push_at}
-use Rattle.wap_inboxes.proofs.Alike.{winners_win}
+use Rattle.wap_world.proofs.InboxesLemmas.Alike.{winners_win}
 use Rattle.wap_session.specs.notices.Taking.{pushes_with}
 use Rattle.wap_session.proofs.handset.keys.inbox_lines.Goals as goal
 

@@ -2,7 +2,7 @@
 use Rattle.std.proofs.Common.{ap, sym, ◌∙◌, Err}
 use Rattle.std.proofs.lemmas.Result.{err_from_is_err_and}
 use Rattle.wap_input.specs.declared.key.Key.TheVariants.{Open}
-use Rattle.wap_inboxes.proofs.Alike.{winners_win}
+use Rattle.wap_world.proofs.InboxesLemmas.Alike.{winners_win}
 use Rattle.wap_session.specs.handset.inside.Turns.{pushes_after}
 use Rattle.wap_session.proofs.HandsetLemmas.Turning.{no_script}
 use Rattle.wap_session.proofs.HandsetLemmas.Keying.{plays_as, misses_as, in_dialog, opened_key}

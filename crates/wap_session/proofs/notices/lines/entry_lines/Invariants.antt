@@ -1,7 +1,7 @@
 use Rattle.std.proofs.Common.{◌≡◌, ◌++◌, ◌+◌, map, drop}
 use Rattle.std.specs.Borrow.{Bor}
 use Rattle.wap_push.specs.declared.indication.Indication.{Indication}
-use Rattle.wap_inboxes.specs.Notices.{entry_lines}
+use Rattle.wap_world.specs.inboxes.Notices.{entry_lines}
 use Rattle.wap_session.proofs.notices.lines.entry_lines.Given as goal
 
 -- the lines so far, and those of the entries that are left

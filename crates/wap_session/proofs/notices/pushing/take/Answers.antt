@@ -1,5 +1,5 @@
 use Rattle.std.proofs.Common.{ap, sym, ◌∙◌, ◌∷◌, [], List, ℕ, Bool, cond}
-use Rattle.wap_inboxes.specs.Notices.{notice_line}
+use Rattle.wap_world.specs.inboxes.Notices.{notice_line}
 use Rattle.wap_session.proofs.NoticesLemmas.Noticing.{notice_if}
 use Rattle.wap_session.proofs.notices.pushing.take.Goals as goal
 

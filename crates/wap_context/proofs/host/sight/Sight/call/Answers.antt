@@ -1,10 +1,10 @@
 use Rattle.std.proofs.Common.{◌∙◌, ℕ, List, ap, sym}
 use Rattle.std.specs.Option.{option_copied}
 use Rattle.wap_value.specs.declared.value.Value.{Value}
-use Rattle.wap_scripting.specs.Browsing.{dialogs, wml_browser}
-use Rattle.wap_scripting.specs.Hosting.{library_call, within}
-use Rattle.wap_scripting.specs.UnitSites.{shelf_of}
-use Rattle.wap_scripting.specs.Views.{fresh, place_with}
+use Rattle.wap_world.specs.scripting.Browsing.{dialogs, wml_browser}
+use Rattle.wap_world.specs.scripting.Hosting.{library_call, within}
+use Rattle.wap_world.specs.scripting.UnitSites.{shelf_of}
+use Rattle.wap_world.specs.scripting.Views.{fresh, place_with}
 use Rattle.wap_context.specs.host.Serving.{begun}
 use Rattle.wap_context.proofs.HostLemmas.Serving.{gave_serves}
 use Rattle.wap_context.proofs.host.sight.Sight.call.Goals as goal

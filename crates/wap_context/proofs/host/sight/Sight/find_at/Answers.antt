@@ -1,7 +1,7 @@
 use Rattle.std.proofs.Common.{◌∙◌, ap, Ok}
-use Rattle.wap_scripting.specs.Hosting.{found_at}
-use Rattle.wap_scripting.specs.UnitSites.{shelf_of, externals_of, unit_under}
-use Rattle.wap_scripting.specs.Views.{fresh}
+use Rattle.wap_world.specs.scripting.Hosting.{found_at}
+use Rattle.wap_world.specs.scripting.UnitSites.{shelf_of, externals_of, unit_under}
+use Rattle.wap_world.specs.scripting.Views.{fresh}
 use Rattle.wap_context.specs.host.Stages.{Sight}
 use Rattle.wap_context.specs.host.Finding.{found_on}
 use Rattle.wap_context.proofs.HostLemmas.Serving.{asked_serves}

@@ -3,11 +3,11 @@ use Rattle.wap_execution.specs.declared.library.HostOut.{HostOut}
 use Rattle.wap_execution.specs.declared.library.HostOut.TheVariants as out
 use Rattle.wap_value.specs.declared.value.Value.TheVariants.{Invalid}
 use Rattle.wap_world.specs.Steps.{Step}
-use Rattle.wap_scripting.specs.Browsing.{gives}
-use Rattle.wap_scripting.specs.Loading.{loaded}
-use Rattle.wap_scripting.specs.Hosting.{within, load_call}
-use Rattle.wap_scripting.specs.UnitSites.{shelf_of}
-use Rattle.wap_scripting.specs.Views.{fresh}
+use Rattle.wap_world.specs.scripting.Browsing.{gives}
+use Rattle.wap_world.specs.scripting.Loading.{loaded}
+use Rattle.wap_world.specs.scripting.Hosting.{within, load_call}
+use Rattle.wap_world.specs.scripting.UnitSites.{shelf_of}
+use Rattle.wap_world.specs.scripting.Views.{fresh}
 use Rattle.wap_context.proofs.HostLemmas.Serving.{serves_as, gave_serves, nothing_gave}
 use Rattle.wap_context.proofs.HostLemmas.Loads.{load_is, after_url}
 use Rattle.wap_context.proofs.host.sight.Sight.load.Goals as goal

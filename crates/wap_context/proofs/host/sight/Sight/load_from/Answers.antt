@@ -1,8 +1,8 @@
 use Rattle.std.proofs.Common.{◌∙◌, ap}
-use Rattle.wap_scripting.specs.Loading.{loaded}
-use Rattle.wap_scripting.specs.Hosting.{within}
-use Rattle.wap_scripting.specs.UnitSites.{shelf_of}
-use Rattle.wap_scripting.specs.Views.{fresh}
+use Rattle.wap_world.specs.scripting.Loading.{loaded}
+use Rattle.wap_world.specs.scripting.Hosting.{within}
+use Rattle.wap_world.specs.scripting.UnitSites.{shelf_of}
+use Rattle.wap_world.specs.scripting.Views.{fresh}
 use Rattle.wap_context.specs.host.Stages.{Sight}
 use Rattle.wap_context.specs.host.Finding.{loaded_text}
 use Rattle.wap_context.proofs.HostLemmas.Serving.{asked_serves}

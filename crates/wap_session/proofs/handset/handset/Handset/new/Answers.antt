@@ -1,6 +1,6 @@
 use Rattle.std.proofs.Common.{ap, [], false}
 use Rattle.wap_session.specs.Feeding.{State}
-use Rattle.wap_inboxes.proofs.Alike.{winners_win}
+use Rattle.wap_world.proofs.InboxesLemmas.Alike.{winners_win}
 use Rattle.wap_session.specs.handset.inside.Turns.{state_of}
 use Rattle.wap_session.proofs.handset.handset.Handset.new.Goals as goal
 

@@ -1,8 +1,0 @@
-use Rattle.wap_inboxes.proofs.Reacting.{entry_opened, entry_ignored}
-use Rattle.wap_inboxes.proofs.entries_are_opened.Goals as goal
-
-pub returns-clause-opened : goal.returns-clause-opened
-returns-clause-opened c = entry_opened
-
-pub returns-clause-none : goal.returns-clause-none
-returns-clause-none c = entry_ignored

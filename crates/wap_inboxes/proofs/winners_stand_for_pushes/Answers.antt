@@ -1,8 +1,0 @@
-use Rattle.wap_inboxes.proofs.Alike.{winners_win, plays_alike}
-use Rattle.wap_inboxes.proofs.winners_stand_for_pushes.Goals as goal
-
-pub returns-clause-own : goal.returns-clause-own
-returns-clause-own c = winners_win
-
-pub returns-clause-alike : goal.returns-clause-alike
-returns-clause-alike c = plays_alike

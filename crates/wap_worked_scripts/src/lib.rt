@@ -1,3 +1,0 @@
-//! Examples of scripts in a browser's world, computed from the definitions in `wap_scripting`.
-//! There is no code here.
-#![tactic(auto)]

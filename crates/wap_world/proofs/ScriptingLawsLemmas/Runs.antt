@@ -1,0 +1,380 @@
+-- Scripts without further keys, and what these then do.
+use Rattle.std.proofs.Common.{◌≡◌, inl, inr, ℕ, false, List, [], ◌∷◌, ◌++◌}
+use Rattle.std.proofs.Common.{Option, Some, None, refl, sym, ap, ◌∙◌, append_assoc}
+use Rattle.wap_base.specs.declared.limits.Limits.{Limits}
+use Rattle.wap_input.specs.declared.key.Key.{Key}
+use Rattle.wap_url.specs.declared.url.Url.{Url}
+use Rattle.wap_value.specs.declared.value.Value.{Value}
+use Rattle.wap_cardrules.specs.declared.task.Task.{Task}
+use Rattle.wap_execution.specs.declared.dialog.Dialog.{Dialog}
+use Rattle.wap_execution.specs.declared.fatal.Fatal.{Fatal}
+use Rattle.wap_execution.specs.declared.library.HostOut.{HostOut}
+use Rattle.wap_execution.specs.declared.library.HostOut.TheVariants as out
+use Rattle.wap_execution.specs.Frames.{Frame}
+use Rattle.wap_execution.specs.Outcomes.{Outcome, value, exit, fatal, waits, stuck, Ended, Hosting}
+use Rattle.wap_execution.specs.Running.{ended, resumed, finished}
+use Rattle.wap_execution_laws.specs.Settings.{uncounted}
+use Rattle.wap_execution_laws.specs.Keyed.{answered_in, gone_on, unrolled}
+use Rattle.wap_execution_laws.specs.Simulation.{Stays, Both, AreAlike, ComeToSame}
+use Rattle.wap_execution_laws.proofs.KeyedLaws as keyed_laws
+use Rattle.wap_execution_laws.proofs.SimLaws as sim_laws
+use Rattle.wap_world.specs.declared.timer.Timer.{Timer}
+use Rattle.wap_world.specs.declared.timer.Timer.TheVariants.{NotStarted, Running, Off, Expired}
+use Rattle.wap_world.specs.Shelves.{Shelf}
+use Rattle.wap_world.specs.World.{World, place_now}
+use Rattle.wap_world.specs.Steps.{Scene, Step, Once, joined, after_step, still, quiet, settled}
+use Rattle.wap_world.specs.Sites.{End, done, failed, unanswered}
+use Rattle.wap_world.specs.Starting.{script_line, in_world, or_show, rest, end_done, ended_script}
+use Rattle.wap_world.specs.scripting.Additions.{with_scene}
+use Rattle.wap_world.specs.scripting.Dialogs.{Reply, answers, ends_it, passes, reply_to, meanwhile}
+use Rattle.wap_world.specs.scripting.Dialogs.{after_reply, answered_by, by_keys}
+use Rattle.wap_world.specs.scripting.UnitSites.{Pages, shelf_of, externals_of, unit_under, host_of}
+use Rattle.wap_world.specs.scripting.UnitSites.{keyed_host}
+use Rattle.wap_world.specs.scripting.UnitSites.{end_of, ran_of}
+use Rattle.wap_world.specs.scripting.Waiting.{inside}
+use Rattle.wap_world.specs.scripting.Halves.{half_by, half_of, once_of, GoesOnWithKeys}
+use Rattle.wap_world.proofs.Joining.{before, once_before, or_true, after_assoc}
+use Rattle.wap_world.proofs.Joining.{joined_assoc, joined_nothing}
+use Rattle.wap_world.proofs.ScriptingLawsLemmas.Plain.{fronted, rekeyed, IsPlain, external_plain}
+use Rattle.wap_world.proofs.ScriptingLawsLemmas.Plain.{library_plain}
+
+-- no step is lost
+abbrev Never : Step → Type 0
+Never s = ⊥
+
+-- so what is lost stays so
+never : (host : Hosting Step) → Stays host Never
+never host = record {
+  external = λ s caller url name count working no. absurd no;
+  library = λ s base referer number index arguments no. absurd no;
+}
+
+-- ---- other keys, which nobody reads
+
+module _ (pages : Pages) (keys : List Key) where
+  pub record OtherKeys (s t : Step) : Type 0 where
+    pub is : t ≡ before keys s
+    pub turns : s.world.turns ≡ 0
+    pub closed : s.is_open ≡ false
+
+  -- a plain row before both keys
+  both_keys : {A : Type 0} (f : Step → A × Step) → IsPlain f → (s t : Step) → OtherKeys s t
+      → Both OtherKeys Never Never (f s) (f t)
+  both_keys f plain s t other =
+      let same : f t ≡ rekeyed keys (f s) = ap f other.is ∙ plain.unread keys s in
+      inl (
+        sym (ap (λ g. g.0) same),
+        record {
+          is = ap (λ g. g.1) same;
+          turns = plain.turns s ∙ other.turns;
+          closed = plain.shut s ∙ other.closed;
+        },
+      )
+
+  -- the host doesn't read keys
+  keys_alike : AreAlike OtherKeys Never Never (host_of pages) (host_of pages)
+  keys_alike = record {
+    external = λ s t caller url name count working other.
+        both_keys (λ u. (host_of pages).external u caller url name count working)
+        (external_plain (shelf_of pages) (externals_of pages) (unit_under pages) caller name count
+        working url) s t other;
+    library = λ s t base referer number index arguments other.
+        both_keys (λ u. (host_of pages).library u base referer number index arguments)
+        (library_plain (shelf_of pages) (place_now (shelf_of pages)) base referer number index
+        arguments) s t other;
+    stays = never (host_of pages);
+    stays' = never (host_of pages);
+  }
+
+-- ---- what stands before
+
+-- a scene behind a step
+scene_front : (p : Step) (scene : Scene) (s : Step)
+    → with_scene scene (joined p s) ≡ joined p (with_scene scene s)
+scene_front p scene s = joined_assoc p s (quiet s.keys scene)
+
+-- a reply behind a step
+reply_front : (shelf : Shelf) (p : Step) (reply : Reply) (key : Key) (keys : List Key) (s : Step)
+    (later : Step → HostOut × Step) → ((t : Step) → later (joined p t) ≡ fronted p (later t))
+    → after_reply shelf reply key keys (joined p s) later
+    ≡ fronted p (after_reply shelf reply key keys s later)
+reply_front shelf p (answers v) key keys s later same = refl
+reply_front shelf p ends_it key keys s later same = refl
+reply_front shelf p passes key keys s later same =
+    ap later (scene_front p (meanwhile shelf key s.world) (before keys s))
+    ∙ same (with_scene (meanwhile shelf key s.world) (before keys s))
+
+-- keys in a dialog behind a step
+pub answered_front : (shelf : Shelf) (p : Step) (dialog : Dialog) (keys : List Key) (s : Step)
+    → answered_by shelf dialog keys (joined p s) ≡ fronted p (answered_by shelf dialog keys s)
+answered_front shelf p dialog [] s = refl
+answered_front shelf p dialog (key ∷ keys) s =
+    reply_front shelf p (reply_to dialog key) key keys s (answered_by shelf dialog keys)
+    (λ t. answered_front shelf p dialog keys t)
+
+-- an answer behind a step
+in_front : (shelf : Shelf) (p : Step) (gave : HostOut) (s : Step)
+    → answered_in (by_keys shelf) gave (joined p s)
+    ≡ fronted p (answered_in (by_keys shelf) gave s)
+in_front shelf p (out.Value v) s = refl
+in_front shelf p (out.Exit v) s = refl
+in_front shelf p (out.Fatal why) s = refl
+in_front shelf p (out.Asks dialog) s = answered_front shelf p dialog s.keys s
+
+module _ (pages : Pages) (p : Step) where
+  pub record IsBehind (s t : Step) : Type 0 where
+    pub is : t ≡ joined p s
+
+  -- the same answer behind a step
+  given : {A : Type 0} (a b : A × Step) → b ≡ fronted p a → Both IsBehind Never Never a b
+  given a b is = inl (sym (ap (λ g. g.0) is), record { is = ap (λ g. g.1) is })
+
+  -- a call of a library, whose dialogs are answered
+  abbrev asked : Step → Url → Option Url → ℕ → ℕ → List Value → HostOut × Step
+  asked s base referer number index arguments =
+      (keyed_host pages).library s base referer number index arguments
+
+  -- it doesn't see what stands before
+  library_front : (base : Url) (referer : Option Url) (number index : ℕ) (arguments : List Value)
+      (s : Step)
+      → asked (joined p s) base referer number index arguments
+      ≡ fronted p (asked s base referer number index arguments)
+  library_front base referer number index arguments s =
+      let gave = (host_of pages).library s base referer number index arguments in
+      ap (λ (g : HostOut × Step). answered_in (by_keys (shelf_of pages)) g.0 g.1)
+      ((library_plain (shelf_of pages) (place_now (shelf_of pages)) base referer number index
+      arguments).behind p s)
+      ∙ in_front (shelf_of pages) p gave.0 gave.1
+
+  -- nor does any call
+  front_alike : AreAlike IsBehind Never Never (keyed_host pages) (keyed_host pages)
+  front_alike = record {
+    external = λ s t caller url name count working r.
+        given ((keyed_host pages).external s caller url name count working)
+        ((keyed_host pages).external t caller url name count working)
+        (ap (λ u. (keyed_host pages).external u caller url name count working) r.is
+        ∙ (external_plain (shelf_of pages) (externals_of pages) (unit_under pages) caller name count
+        working url).behind p s);
+    library = λ s t base referer number index arguments r.
+        given (asked s base referer number index arguments)
+        (asked t base referer number index arguments)
+        (ap (λ u. asked u base referer number index arguments) r.is
+        ∙ library_front base referer number index arguments s);
+    stays = never (keyed_host pages);
+    stays' = never (keyed_host pages);
+  }
+
+-- ---- how scripts end: other keys
+
+-- a task that is next, before other keys
+keys_or_show : (shelf : Shelf) (some other : List Key) (task : Option Task) (w : World)
+    → or_show shelf other task w ≡ once_before other (or_show shelf some task w)
+keys_or_show shelf some other None w = refl
+keys_or_show shelf some other (Some task) w = refl
+
+-- the end without a navigation, before other keys
+keys_rest : (shelf : Shelf) (some other : List Key) (timer : Timer) (w : World)
+    → rest shelf other timer w ≡ once_before other (rest shelf some timer w)
+keys_rest shelf some other NotStarted w = refl
+keys_rest shelf some other (Running time) w = refl
+keys_rest shelf some other Off w = refl
+keys_rest shelf some other Expired w = keys_or_show shelf some other _ _
+
+-- the end of a script that is done, before other keys
+keys_done : (shelf : Shelf) (base : Url) (pending : Option Task) (other : List Key) (step : Step)
+    → end_done shelf base pending (before other step)
+    ≡ once_before other (end_done shelf base pending step)
+keys_done shelf base None other step =
+    ap (after_step step) (keys_rest shelf step.keys other step.world.timer step.world)
+keys_done shelf base (Some task) other step = refl
+
+-- of one that gave a value
+pub keys_value : (shelf : Shelf) (base : Url) (turns : ℕ) (other : List Key) (step : Step)
+    → ended_script shelf base (record { end = done; turns = turns; step = before other step })
+    ≡ once_before other (ended_script shelf base
+    (record { end = done; turns = turns; step = step }))
+keys_value shelf base turns other step =
+    keys_done shelf base step.world.pending other
+    (in_world (record step.world { turns = turns }) step)
+
+-- of one that failed
+pub keys_fatal : (shelf : Shelf) (base : Url) (why : Fatal) (turns : ℕ) (other : List Key)
+    (step : Step)
+    → ended_script shelf base (record { end = failed why; turns = turns; step = before other step })
+    ≡ once_before other
+    (ended_script shelf base (record { end = failed why; turns = turns; step = step }))
+keys_fatal shelf base why turns other step =
+    let world = record step.world { turns = turns; pending = None } in
+    ap (after_step (record step { world = world; lines = step.lines ++ script_line why ∷ [] }))
+    (keys_rest shelf step.keys other world.timer world)
+
+-- ---- what stands before
+
+-- the end of a script that is done, behind a step
+front_done : (p : Step) (shelf : Shelf) (base : Url) (pending : Option Task) (step : Step)
+    → end_done shelf base pending (joined p step)
+    ≡ after_step p (end_done shelf base pending step)
+front_done p shelf base None step =
+    after_assoc p step (rest shelf step.keys step.world.timer step.world)
+front_done p shelf base (Some task) step = refl
+
+-- any end behind a step
+pub front_ended : (p : Step) (shelf : Shelf) (base : Url) (end : End) (turns : ℕ) (step : Step)
+    → ended_script shelf base (record { end = end; turns = turns; step = joined p step })
+    ≡ after_step p
+    (ended_script shelf base (record { end = end; turns = turns; step = step }))
+front_ended p shelf base done turns step =
+    front_done p shelf base step.world.pending (in_world (record step.world { turns = turns }) step)
+front_ended p shelf base (failed why) turns step =
+    let world = record step.world { turns = turns; pending = None } in
+    let late = in_world world step in
+    let last = rest shelf step.keys world.timer world in
+    ap (λ s. after_step s last)
+    (λ i. record (joined p late) {
+      lines = append_assoc p.lines step.lines (script_line why ∷ []) i;
+    })
+    ∙ after_assoc p (record late { lines = step.lines ++ script_line why ∷ [] }) last
+front_ended p shelf base unanswered turns step =
+    ap (λ b. settled (record (joined p (in_world (record step.world { turns = turns }) step)) {
+      is_open = b;
+    })) (sym (or_true p.is_open))
+
+module _ (pages : Pages) (base : Url) (limits : Limits) where
+  -- the shelf of the pages
+  abbrev shelf : Shelf
+  shelf = shelf_of pages
+
+  -- the second end is the first behind a step
+  abbrev Alike : Step → Ended Step → Ended Step → Type 0
+  Alike p end end' = ComeToSame (IsBehind pages p) Never Never end end'
+
+  -- frames that go on behind a step
+  pub gone_alike : (p : Step) (frames : List Frame) (gave : HostOut) (turns : ℕ) (s : Step)
+      → Alike p
+      (gone_on (uncounted limits (keyed_host pages)) (λ end. end) frames gave turns s)
+      (gone_on (uncounted limits (keyed_host pages)) (λ end. end) frames gave turns (joined p s))
+  gone_alike p frames (out.Value v) turns s =
+      (sim_laws.agrees (IsBehind pages p) Never Never limits (keyed_host pages) (keyed_host pages)
+      (front_alike pages p)).resuming frames v turns s (joined p s) (record { is = refl })
+  gone_alike p frames (out.Exit v) turns s =
+      inl (record { outcome = refl; turns = refl; state = record { is = refl } })
+  gone_alike p frames (out.Fatal why) turns s =
+      inl (record { outcome = refl; turns = refl; state = record { is = refl } })
+  gone_alike p frames (out.Asks dialog) turns s =
+      inl (record { outcome = refl; turns = refl; state = record { is = refl } })
+
+  -- what they come to
+  pub ran_front : (p : Step) (end end' : Ended Step) → Alike p end end'
+      → ended_script shelf base (ran_of end')
+      ≡ after_step p (ended_script shelf base (ran_of end))
+  ran_front p end end' (inr lost) = absurd (lost.0)
+  ran_front p end end' (inl kin) =
+      ap (λ (o : Outcome).
+      ended_script shelf base (record { end = end_of o; turns = end'.turns; step = end'.state }))
+      (sym kin.outcome)
+      ∙ ap (λ (t : ℕ).
+      ended_script shelf base (record { end = end_of end.outcome; turns = t; step = end'.state }))
+      (sym kin.turns)
+      ∙ ap (λ (s : Step).
+      ended_script shelf base (record { end = end_of end.outcome; turns = end.turns; step = s }))
+      kin.state.is
+      ∙ front_ended p shelf base (end_of end.outcome) end.turns end.state
+
+  -- a dialog that waits goes on with keys
+  waiting_goes_on : (dialog : Dialog) (frames : List Frame) (turns : ℕ) (step : Step)
+      (keys : List Key) → step.world.turns ≡ 0
+      → let got = by_keys shelf (before keys step) dialog in
+      ended_script shelf base
+      (ran_of (gone_on (uncounted limits (keyed_host pages)) (λ end. end) frames got.0 turns got.1))
+      ≡ once_of pages (half_by limits shelf base (waits dialog frames) turns step) keys
+  waiting_goes_on dialog frames turns step keys none =
+      let p = in_world (record step.world { turns = turns }) step in
+      let w : World = inside p.world in
+      let s : Step = quiet keys (still w) in
+      let same_world : step.world ≡ w = ap (λ (t : ℕ). record step.world { turns = t }) none in
+      let same : before keys step ≡ joined p s =
+      sym (joined_nothing (before keys step) keys)
+      ∙ ap (λ (v : World). joined p (quiet keys (still v))) same_world in
+      let go_with : HostOut × Step → Once = λ got.
+      ended_script shelf base
+      (ran_of (gone_on (uncounted limits (keyed_host pages)) (λ end. end) frames got.0 turns got.1))
+      in
+      let got = answered_by shelf dialog keys s in
+      ap (λ (t : Step). go_with (answered_by shelf dialog keys t)) same
+      ∙ ap go_with (answered_front shelf p dialog keys s)
+      ∙ ran_front p
+      (gone_on (uncounted limits (keyed_host pages)) (λ end. end) frames got.0 turns got.1)
+      (gone_on (uncounted limits (keyed_host pages)) (λ end. end) frames got.0 turns
+      (joined p got.1)) (gone_alike p frames got.0 turns got.1)
+
+  -- the end of a script by the keyed host
+  abbrev unrolls : Ended Step → Once
+  unrolls end =
+      ended_script shelf base
+      (ran_of (unrolled (uncounted limits (keyed_host pages)) (by_keys shelf) end))
+
+  -- by the outcome without keys
+  goes_on_by : (outcome : Outcome) (turns : ℕ) (step : Step) (keys : List Key)
+      → step.world.turns ≡ 0
+      → unrolls (ended outcome turns (before keys step))
+      ≡ once_of pages (half_by limits shelf base outcome turns step) keys
+  goes_on_by (value v) turns step keys none = keys_value shelf base turns keys step
+  goes_on_by (exit v) turns step keys none = keys_value shelf base turns keys step
+  goes_on_by (fatal why) turns step keys none = keys_fatal shelf base why turns keys step
+  goes_on_by (waits dialog frames) turns step keys none =
+      waiting_goes_on dialog frames turns step keys none
+  goes_on_by stuck turns step keys none = keys_value shelf base turns keys step
+
+  -- the run without keys tells what the run with keys comes to
+  goes_on : (keys : List Key) (end end' : Ended Step)
+      → ComeToSame (OtherKeys pages keys) Never Never end end'
+      → unrolls end' ≡ once_of pages (half_of limits shelf base end) keys
+  goes_on keys end end' (inr lost) = absurd (lost.0)
+  goes_on keys end end' (inl kin) =
+      ap (λ (o : Outcome). unrolls (ended o end'.turns end'.state)) (sym kin.outcome)
+      ∙ ap (λ (t : ℕ). unrolls (ended end.outcome t end'.state)) (sym kin.turns)
+      ∙ ap (λ (s : Step). unrolls (ended end.outcome end.turns s)) kin.state.is
+      ∙ goes_on_by end.outcome end.turns end.state keys kin.state.turns
+
+  -- what a run without keys comes to with them
+  abbrev with : Ended Step → Once
+  with end = ended_script shelf base (ran_of end)
+
+  -- a script that is started, and one that goes on with an answer: what it comes to with keys is
+  -- what it comes to without, and then what is left to the keys
+  pub starts : (frames : List Frame) (turns : ℕ) (scene : Scene) (keys : List Key)
+      → scene.world.turns ≡ 0
+      → with (finished (uncounted limits (keyed_host pages)) frames turns (quiet keys scene))
+      ≡ once_of pages (half_of limits shelf base
+      (finished (uncounted limits (host_of pages)) frames turns (quiet [] scene))) keys
+  starts frames turns scene keys none =
+      ap with ((keyed_laws.goes_on limits (host_of pages) (by_keys shelf)).finishing frames turns
+      (quiet keys scene))
+      ∙ goes_on keys (finished (uncounted limits (host_of pages)) frames turns (quiet [] scene))
+      (finished (uncounted limits (host_of pages)) frames turns (quiet keys scene))
+      ((sim_laws.agrees (OtherKeys pages keys) Never Never limits (host_of pages) (host_of pages)
+      (keys_alike pages keys)).finishing frames turns (quiet [] scene) (quiet keys scene)
+      (record { is = refl; turns = none; closed = refl }))
+
+  -- the same of an answer
+  pub resumes : (frames : List Frame) (v : Value) (turns : ℕ) (world : World) (keys : List Key)
+      → world.turns ≡ 0
+      → with (resumed (uncounted limits (keyed_host pages)) frames v turns
+      (quiet keys (still world)))
+      ≡ once_of pages (half_of limits shelf base
+      (resumed (uncounted limits (host_of pages)) frames v turns (quiet [] (still world)))) keys
+  resumes frames v turns world keys none =
+      ap with ((keyed_laws.goes_on limits (host_of pages) (by_keys shelf)).resuming frames v turns
+      (quiet keys (still world)))
+      ∙ goes_on keys
+      (resumed (uncounted limits (host_of pages)) frames v turns (quiet [] (still world)))
+      (resumed (uncounted limits (host_of pages)) frames v turns (quiet keys (still world)))
+      ((sim_laws.agrees (OtherKeys pages keys) Never Never limits (host_of pages) (host_of pages)
+      (keys_alike pages keys)).resuming frames v turns (quiet [] (still world))
+      (quiet keys (still world)) (record { is = refl; turns = none; closed = refl }))
+
+-- over all pages
+pub goes_on_with_keys : (pages : Pages) (base : Url) (limits : Limits)
+    → GoesOnWithKeys pages base limits
+goes_on_with_keys pages base limits =
+    record { starting = starts pages base limits; resuming = resumes pages base limits }

@@ -1,9 +1,0 @@
-use Rattle.wap_world.proofs.Laws.{denies}
-use Rattle.wap_world_laws.proofs.Denied.{denies_go}
-use Rattle.wap_world_laws.proofs.denied_decks_are_not_entered.Goals as goal
-
-pub returns-clause-of_request : goal.returns-clause-of_request
-returns-clause-of_request c = denies
-
-pub returns-clause-of_go : goal.returns-clause-of_go
-returns-clause-of_go c = denies_go
