@@ -8,7 +8,7 @@ use Rattle.wap_verify.specs.Sound.{IsVerified}
 use Rattle.wap_compiled.specs.Units.{compiled}
 use Rattle.wap_compiled.specs.Accepted.{IsSourceOf, IsAccepted, HasRoom}
 use Rattle.wap_compiled_laws.proofs.Sources.{forms, verified_so}
-use Rattle.wap_compiled_spelling.proofs.Accepted.{accepted_spelling}
+use Rattle.wap_compiled_laws.proofs.SpellingLemmas.Accepted.{accepted_spelling}
 use Rattle.wap_codegen.specs.inside.Units.{AllHaveForms}
 
 -- a source is accepted where its program has room

@@ -8,7 +8,7 @@ use Rattle.wap_grammar.specs.declared.precedence.TheConstants.{LEVEL_LIMIT}
 use Rattle.wap_scope.specs.Scoped.{IsScoped}
 use Rattle.wap_scope_laws.proofs.Places.{all_by_places}
 use Rattle.wap_coding.specs.Compiled.{IsCompiled}
-use Rattle.wap_coding_laws.proofs.Functions as functions
+use Rattle.wap_compiled_laws.proofs.BodiesLemmas.Functions as functions
 use Rattle.wap_verify.specs.Sound.{IsVerified}
 use Rattle.wap_source_needs.proofs.Operators.{operators}
 use Rattle.wap_compiled.specs.Pool.{pool}

@@ -6,7 +6,7 @@ use Rattle.wap_code.specs.declared.unit.Code.{Code}
 use Rattle.wap_program.specs.declared.program.Function.{Function}
 use Rattle.wap_program.specs.declared.program.Program.{Program}
 use Rattle.wap_scope.specs.Scoped.{IsScoped}
-use Rattle.wap_split.proofs.Whole.{sound}
+use Rattle.wap_compiled_laws.proofs.RunnableLemmas.Whole.{sound}
 use Rattle.wap_verify.specs.Sound.{IsSound, IsVerified}
 use Rattle.wap_compiled.specs.Pool.{pool}
 use Rattle.wap_compiled.specs.Units.{compiled}

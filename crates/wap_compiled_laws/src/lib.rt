@@ -1,5 +1,22 @@
-//! Laws of the units that programs are compiled to, each the contract of a function that does
-//! nothing. Which units these are stands in `wap_compiled`.
+//! The code that is chosen for functions comes to what their sources mean, and the units of
+//! accepted sources do; they may be run, and can be written and read back.
+//!
+//! - `pieces`: Pieces of placed code do what parts of sources do.
+//! - `expressions`: Expressions of sources and their code agree.
+//! - `statements`: Statements of sources and their code agree.
+//! - `bodies`: Laws of the code of programs, each the contract of a function that does nothing.
+//! - `depths`: The code of sources has one number of operands at each form.
+//! - `labels`: The jumps of code know their labels, and its operands are in range.
+//! - `soundness`: Placed code of sources reaches each of its places with one number of values, and
+//!   with enough.
+//! - `runnable`: The code of sources may be run: a law, the contract of a function that does
+//!   nothing.
+//! - `code_sizes`: The code of programs, form by form: its operands have room, what it needs is
+//!   there, and its size is the wide size but for what is saved.
+//! - `source_sizes`: How many bytes the texts of a source have, beside the tokens that they are
+//!   drawn from.
+//! - `spelling`: The unit that a program is compiled to has a spelling: a law, the contract of a
+//!   function that does nothing.
 #![tactic(auto)]
 
 ghost use Rattle.std.specs.Prelude.{◌≤◌, ℕ, List, length};
@@ -12,6 +29,10 @@ ghost use Rattle.wap_compiled.specs.Pool.{pool};
 ghost use Rattle.wap_compiled.specs.Units.{compiled};
 ghost use Rattle.wap_compiled.specs.Accepted.{IsSourceOf, IsAccepted, most_constants};
 ghost use Rattle.wap_compiled_laws.specs.Laws.{HasForms, HasCode, AgreeWithSources};
+
+pub mod bodies;
+pub mod runnable;
+pub mod spelling;
 
 /// What the states of a host are.
 pub trait HostStates {

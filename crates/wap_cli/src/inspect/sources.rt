@@ -8,7 +8,7 @@ ghost use Rattle.wap_pages.specs.declared.fault.PageFault.{PageFault};
 
 use std::alloc::Global;
 use wap_base::Bytes;
-use wap_compiled_spelling::compiled_programs_are_spelled;
+use wap_compiled_laws::spelling::compiled_programs_are_spelled;
 use wap_pages::{PageErr, compiled_in};
 use wap_unit::encode;
 

@@ -17,7 +17,7 @@ use Rattle.wap_program.specs.declared.program.Program.{Program}
 use Rattle.wap_program.specs.declared.expression.Literal.{Literal}
 use Rattle.wap_program.specs.declared.expression.Literal.TheVariants.{Str}
 use Rattle.wap_coding.specs.Constants.{HasPool}
-use Rattle.wap_coding_laws.proofs.Pooled.{text_at}
+use Rattle.wap_compiled_laws.proofs.BodiesLemmas.Pooled.{text_at}
 use Rattle.wap_compiled.specs.Pool.{use_literals, pool}
 use Rattle.wap_compiled.specs.Units.{pragmas_of, text_place, is_short, entry_of, compiled_function}
 use Rattle.wap_compiled.specs.Units.{compiled}

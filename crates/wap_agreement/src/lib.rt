@@ -1,2 +1,0 @@
-//! Expressions of sources and their code agree: lemmas in `proofs/`. There is no code here.
-#![tactic(auto)]

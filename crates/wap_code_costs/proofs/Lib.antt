@@ -1,6 +1,0 @@
-pub mod Each
-pub mod Libraries
-pub mod Costs
-pub mod Expressions
-pub mod Saving
-pub mod Statements

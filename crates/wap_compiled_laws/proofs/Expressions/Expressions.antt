@@ -1,0 +1,351 @@
+-- Each expression and its code agree.
+use Rattle.std.proofs.Common.{◌≡◌, ℕ, suc, ◌-◌, Bool, true, false, cond, ℤ, ◌-ℤ◌, List, [], ◌∷◌}
+use Rattle.std.proofs.Common.{◌++◌, length, Option, Some, None, Result, Ok, Err, map, refl, sym, ap}
+use Rattle.std.proofs.Common.{◌∙◌, subst, arith, pos, negsuc, option_and_then, add-zero}
+use Rattle.std.specs.List.{flat_map}
+use Rattle.std.proofs.lemmas.Bool.{le-ltb, le-leb}
+use Rattle.wap_base.specs.Utf8.{utf8_len}
+use Rattle.wap_value.specs.declared.value.Value.{Value}
+use Rattle.wap_value.specs.declared.value.Value.TheVariants.{Int, Bool as Boolean, Str, Invalid}
+use Rattle.wap_value.specs.declared.fault.ValueFault.{ValueFault}
+use Rattle.wap_value.specs.declared.fault.ValueFault.TheVariants.{TooLong}
+use Rattle.wap_value.specs.declared.operator.UnOp.{UnOp}
+use Rattle.wap_value.specs.declared.operator.BinOp.{BinOp}
+use Rattle.wap_value.specs.Unary.{unary_of}
+use Rattle.wap_value.specs.Binary.{binary_of, on_integers}
+use Rattle.wap_value.specs.Integer.{in_range}
+use Rattle.wap_value.specs.Conversion.{integer_of, integer_value}
+use Rattle.wap_value.specs.TooLong.{kept_within}
+use Rattle.wap_program.specs.declared.expression.Literal.{Literal}
+use Rattle.wap_program.specs.declared.expression.Expr.{Expr, roll-Expr, map-Expr}
+use Rattle.wap_program.specs.declared.expression.Expr.TheOpen.{Expr-F}
+use Rattle.wap_program.specs.declared.expression.Expr.TheFolds.{fold-roll-Expr, ind-Expr}
+use Rattle.wap_execution.specs.Frames.{constant_at}
+use Rattle.wap_execution.specs.Effects.{onward, effect_of}
+use Rattle.wap_meaning.specs.Parts.{Does, ◌>>=◌, give, kept, kept_by, calling}
+use Rattle.wap_meaning.specs.Names.{variable_at, function_at, numbers_of, callee_local}
+use Rattle.wap_meaning.specs.Names.{callee_external, callee_library, url_of}
+use Rattle.wap_meaning.specs.Expressions.{value_of, Around, eval_by, eval}
+use Rattle.wap_asm.specs.declared.form.Form.TheVariants.{Op}
+use Rattle.wap_coding.specs.Coded.{Coded, one, ◌⨾◌, instr, plain, with_operand}
+use Rattle.wap_coding.specs.Constants.{Numbers, number_of, text_number, url_number}
+use Rattle.wap_coding.specs.Expressions.{literal_code, unary_code, expr_code_by, expr_code}
+use Rattle.wap_coding.specs.Needs.{Need, literal_needs, expr_needs_by, expr_needs, AreMet}
+use Rattle.wap_meaning.proofs.Following.{keeps_both}
+use Rattle.wap_compiled_laws.proofs.Pieces.Pieces.{Sized, sized_both, Site, onto, Piece, both}
+use Rattle.wap_compiled_laws.proofs.Pieces.Pieces.{op_piece}
+use Rattle.wap_compiled_laws.proofs.Pieces.Instructions.{as_is, pushed, kept_settles, unary_piece}
+use Rattle.wap_compiled_laws.proofs.Pieces.Instructions.{binary_piece}
+use Rattle.wap_compiled_laws.proofs.Pieces.Parts.{piece_same, local_piece, library_piece}
+use Rattle.wap_compiled_laws.proofs.Pieces.Parts.{external_piece, popped}
+use Rattle.wap_compiled_laws.proofs.Expressions.Agreeing.{Agrees, AllAgree, PairsAgree}
+use Rattle.wap_compiled_laws.proofs.Expressions.Agreeing.{assign_agrees, call_agrees}
+use Rattle.wap_compiled_laws.proofs.Expressions.Agreeing.{chain_agrees, change_agrees, cond_agrees}
+use Rattle.wap_compiled_laws.proofs.Expressions.Agreeing.{load_agrees}
+use Rattle.wap_compiled_laws.proofs.Expressions.Agreeing.{step_agrees}
+use Rattle.wap_meaning.proofs.Steps.{give_keeps, kept_keeps}
+use Rattle.wap_value.specs.declared.operator.UnOp.TheVariants as un
+use Rattle.wap_value.specs.declared.operator.BinOp.TheVariants as bin
+use Rattle.wap_code.specs.declared.row.OpName.TheVariants as op
+use Rattle.wap_program.specs.declared.expression.Literal.TheVariants as literal
+
+module _ {S : Type 0} (site : Site S) (numbers : Numbers) where
+  -- what parts depend on at a site
+  abbrev pub around : Around S
+  around = record { string = site.string; names = numbers.names; call = site.call }
+
+  -- the site's unit has what is needed
+  abbrev pub Met : List Need → Type 0
+  Met = AreMet site.function.unit numbers
+
+  -- what meets two lists of needs meets the first
+  pub met_front : (some other : List Need) → Met (some ++ other) → Met some
+  met_front [] other met = tt
+  met_front (need ∷ some) other met = (met.0, met_front some other met.1)
+
+  -- and the second
+  pub met_back : (some other : List Need) → Met (some ++ other) → Met other
+  met_back [] other met = met
+  met_back (need ∷ some) other met = met_back some other met.1
+
+  -- ---- literals
+
+  -- LOAD_CONST gives the constant
+  constant_piece : (index : ℕ) (v : Value) → constant_at site.function.unit index ≡ Some v
+      → Piece site (kept site.string v) (with_operand op.LoadConst index) as_is (onto site pushed)
+  unfolding effect_of
+  constant_piece index v is =
+      op_piece site (kept site.string v) op.LoadConst index 0 0 as_is (onto site pushed)
+      (λ exits place i other variables operands turns state.
+      rw is (kept_settles site (kept_within site.string v)
+      (λ v. onward (site.pos i) variables (v ∷ operands)) variables turns state
+      (λ v variables turns state. onto site pushed exits i operands v variables turns state)
+      (λ v. refl)))
+
+  -- a literal that is a constant
+  constant_agrees : (index : ℕ) (v : Value) → constant_at site.function.unit index ≡ Some v
+      → Agrees site (kept site.string v) (with_operand op.LoadConst index)
+  constant_agrees index v is = record {
+    sized = λ exits i. refl;
+    falls = kept_keeps site.string v;
+    piece = constant_piece index v is;
+  }
+
+  -- the empty text is never too long
+  empty_kept : kept_within site.string (Str []) ≡ Ok (Str [])
+  empty_kept = ap (λ (b : Bool). cond b (Err (TooLong (utf8_len []))) (Ok (Str [])))
+      (le-ltb site.string 0 (omega arith))
+
+  -- every literal
+  literal_agrees : (l : Literal) → Met (literal_needs l)
+      → Agrees site (kept site.string (value_of l)) (literal_code numbers l)
+  unfolding effect_of
+  literal_agrees (literal.Int number) met =
+      constant_agrees (number_of numbers (literal.Int number)) (Int number) met.0
+  literal_agrees literal.Float met = record {
+    sized = λ exits i. refl;
+    falls = give_keeps Invalid;
+    piece = op_piece site (give Invalid) op.ConstInvalid 0 0 0 as_is (onto site pushed)
+        (λ exits place i other variables operands turns state. refl);
+  }
+  literal_agrees (literal.Str []) met = record {
+    sized = λ exits i. refl;
+    falls = kept_keeps site.string (Str []);
+    piece = op_piece site (kept site.string (Str [])) op.ConstEs 0 0 0 as_is (onto site pushed)
+        (λ exits place i other variables operands turns state. rw empty_kept refl);
+  }
+  literal_agrees (literal.Str (c ∷ cs)) met =
+      constant_agrees (number_of numbers (literal.Str (c ∷ cs))) (Str (c ∷ cs)) met.0
+  literal_agrees (literal.Bool true) met = record {
+    sized = λ exits i. refl;
+    falls = give_keeps (Boolean true);
+    piece = op_piece site (give (Boolean true)) op.ConstTrue 0 0 0 as_is (onto site pushed)
+        (λ exits place i other variables operands turns state. refl);
+  }
+  literal_agrees (literal.Bool false) met = record {
+    sized = λ exits i. refl;
+    falls = give_keeps (Boolean false);
+    piece = op_piece site (give (Boolean false)) op.ConstFalse 0 0 0 as_is (onto site pushed)
+        (λ exits place i other variables operands turns state. refl);
+  }
+  literal_agrees literal.Invalid met = record {
+    sized = λ exits i. refl;
+    falls = give_keeps Invalid;
+    piece = op_piece site (give Invalid) op.ConstInvalid 0 0 0 as_is (onto site pushed)
+        (λ exits place i other variables operands turns state. refl);
+  }
+
+  -- ---- operators of one operand
+
+  -- a value that is no String is never too long
+  integer_kept : (o : Option ℤ) → kept_within site.string (integer_value o) ≡ Ok (integer_value o)
+  integer_kept None = refl
+  integer_kept (Some z) = refl
+
+  -- an integer less 0 is itself
+  less_nothing : (z : ℤ) → z -ℤ pos 0 ≡ z
+  less_nothing (pos n) = ap pos (add-zero n)
+  less_nothing (negsuc n) =
+      let one_less : suc n - 1 ≡ n = omega arith in
+      ap (λ (b : Bool). cond b (negsuc (suc n - 1)) (pos (0 - suc n)))
+      (le-leb 1 (suc n) (omega arith))
+      ∙ ap negsuc one_less
+
+  -- `+` as `- 0`
+  plus_is : (o : Option ℤ)
+      → kept_within site.string (on_integers bin.Sub o (Some (pos 0)))
+      ≡ Ok (integer_value (option_and_then (λ z. in_range z) o))
+  plus_is None = refl
+  plus_is (Some z) =
+      integer_kept (in_range (z -ℤ pos 0))
+      ∙ ap (λ (z : ℤ). Ok (integer_value (in_range z))) (less_nothing z)
+
+  -- `+` as `- 0`
+  plus_piece : (v : Value)
+      → Piece site (give (unary_of un.Plus v)) (unary_code un.Plus) (pushed v) (onto site pushed)
+  unfolding effect_of
+  plus_piece v =
+      piece_same site (give (Int (pos 0)) >>= λ z. kept site.string (binary_of bin.Sub v z))
+      (give (unary_of un.Plus v)) (unary_code un.Plus) (pushed v) (onto site pushed)
+      (λ variables turns state. ap (λ (k : Result Value ValueFault).
+      kept_by k variables turns state) (plus_is (integer_of v)))
+      (both site (give (Int (pos 0))) (λ z. kept site.string (binary_of bin.Sub v z))
+      (plain op.Const0) (plain op.Sub) (pushed v) (λ z operands. z ∷ v ∷ operands)
+      (onto site pushed) (λ exits i. refl) (give_keeps (Int (pos 0)))
+      (op_piece site (give (Int (pos 0))) op.Const0 0 0 0 (pushed v)
+      (onto site (λ z operands. z ∷ v ∷ operands))
+      (λ exits place i other variables operands turns state. refl))
+      (λ z. binary_piece site op.Sub bin.Sub v z refl))
+
+  -- every operator of one operand
+  unary_code_piece : (unop : UnOp) (v : Value)
+      → Piece site (give (unary_of unop v)) (unary_code unop) (pushed v) (onto site pushed)
+  unary_code_piece un.Plus v = plus_piece v
+  unary_code_piece un.Minus v = unary_piece site op.Uminus un.Minus v refl
+  unary_code_piece un.BitNot v = unary_piece site op.BNot un.BitNot v refl
+  unary_code_piece un.Not v = unary_piece site op.Not un.Not v refl
+  unary_code_piece un.TypeOf v = unary_piece site op.Typeof un.TypeOf v refl
+  unary_code_piece un.IsValid v = unary_piece site op.Isvalid un.IsValid v refl
+  unary_code_piece un.ToBool v = unary_piece site op.Tobool un.ToBool v refl
+  unary_code_piece un.Incr v = unary_piece site op.Incr un.Incr v refl
+  unary_code_piece un.Decr v = unary_piece site op.Decr un.Decr v refl
+
+  -- its forms
+  unary_sized : (unop : UnOp) → Sized (unary_code unop)
+  unary_sized un.Plus exits i = refl
+  unary_sized un.Minus exits i = refl
+  unary_sized un.BitNot exits i = refl
+  unary_sized un.Not exits i = refl
+  unary_sized un.TypeOf exits i = refl
+  unary_sized un.IsValid exits i = refl
+  unary_sized un.ToBool exits i = refl
+  unary_sized un.Incr exits i = refl
+  unary_sized un.Decr exits i = refl
+
+  -- an operator and its operand
+  unary_agrees : (unop : UnOp) (does : Does Value S) (coded : Coded) → Agrees site does coded
+      → Agrees site (does >>= λ v. give (unary_of unop v)) (coded ⨾ unary_code unop)
+  unary_agrees unop does coded agrees = record {
+    sized = sized_both coded (unary_code unop) agrees.sized (unary_sized unop);
+    falls = keeps_both does (λ v. give (unary_of unop v)) agrees.falls
+        (λ v. give_keeps (unary_of unop v));
+    piece = both site does (λ v. give (unary_of unop v)) coded (unary_code unop) as_is pushed
+        (onto site pushed) agrees.sized agrees.falls agrees.piece (unary_code_piece unop);
+  }
+
+  -- ---- expressions
+
+  -- where its needs are met, an expression and its code agree
+  abbrev Claim : Expr → Type 0
+  Claim e = Met (expr_needs e) → Agrees site (eval around e) (expr_code numbers e)
+
+  -- an expression of which it is so
+  abbrev Part : Type 0
+  Part = (e : Expr) × Claim e
+
+  -- an expression agrees by its parts
+  abbrev Layer : Expr-F Expr → Type 0
+  Layer x =
+      Met (expr_needs_by (map-Expr Expr (List Need) expr_needs x))
+      → Agrees site (eval_by around (map-Expr Expr (Does Value S) (eval around) x))
+      (expr_code_by numbers (map-Expr Expr Coded (expr_code numbers) x))
+
+  -- an expression that agrees by its parts agrees
+  rolled : (x : Expr-F Expr) → Layer x → Claim (roll-Expr x)
+  unfolding eval expr_code expr_needs
+  rolled x layer met =
+      subst (λ does. Agrees site does (expr_code numbers (roll-Expr x)))
+      (sym (fold-roll-Expr (Does Value S) (eval_by around) x))
+      (subst (λ coded. Agrees site (eval_by around (map-Expr Expr (Does Value S) (eval around) x))
+      coded)
+      (sym (fold-roll-Expr Coded (expr_code_by numbers) x))
+      (layer (subst Met (fold-roll-Expr (List Need) expr_needs_by x) met)))
+
+  -- the operands of a chain
+  pairs_agree : (pairs : List (BinOp × Part))
+      → Met (flat_map (λ (pair : BinOp × List Need). pair.1)
+      (map (λ (pair : BinOp × Expr). (pair.0, expr_needs pair.1))
+      (map (λ (pair : BinOp × Part). (pair.0, pair.1.0)) pairs)))
+      → PairsAgree site
+      (map (λ (pair : BinOp × Expr). (pair.0, eval around pair.1))
+      (map (λ (pair : BinOp × Part). (pair.0, pair.1.0)) pairs))
+      (map (λ (pair : BinOp × Expr). (pair.0, expr_code numbers pair.1))
+      (map (λ (pair : BinOp × Part). (pair.0, pair.1.0)) pairs))
+  pairs_agree [] met = tt
+  pairs_agree (pair ∷ pairs) met = (
+    refl,
+    pair.1.1 (met_front (expr_needs pair.1.0) _ met),
+    pairs_agree pairs (met_back (expr_needs pair.1.0) _ met),
+  )
+
+  -- arguments
+  all_agree : (es : List Part)
+      → Met (flat_map (λ (needs : List Need). needs)
+      (map expr_needs (map (λ (e : Part). e.0) es)))
+      → AllAgree site (map (eval around) (map (λ (e : Part). e.0) es))
+      (map (expr_code numbers) (map (λ (e : Part). e.0) es))
+  all_agree [] met = tt
+  all_agree (e ∷ es) met =
+      (e.1 (met_front (expr_needs e.0) _ met), all_agree es (met_back (expr_needs e.0) _ met))
+
+  -- what arguments mean
+  abbrev evals : List Part → List (Does Value S)
+  evals es = map (eval around) (map (λ (e : Part). e.0) es)
+
+  -- their codes
+  abbrev codes : List Part → List Coded
+  codes es = map (expr_code numbers) (map (λ (e : Part). e.0) es)
+
+  -- there are as many codes as meanings
+  as_many_codes : (es : List Part) → length (evals es) ≡ length (codes es)
+  as_many_codes [] = refl
+  as_many_codes (e ∷ es) = ap suc (as_many_codes es)
+
+  -- and as many lists of needs
+  as_many_needs : (es : List Part)
+      → length (map expr_needs (map (λ (e : Part). e.0) es)) ≡ length (evals es)
+  as_many_needs [] = refl
+  as_many_needs (e ∷ es) = ap suc (as_many_needs es)
+
+  -- as many values are given as arguments stand
+  as_many : (es : List Part) (vs : List Value) → length vs ≡ length (evals es)
+      → length (map expr_needs (map (λ (e : Part). e.0) es)) ≡ length vs
+  as_many es vs many = as_many_needs es ∙ sym many
+
+  -- every construct
+  layers : (y : Expr-F Part) → Layer (map-Expr Part Expr (λ e. e.0) y)
+  layers (Expr-F.Lit l) met = literal_agrees l met
+  layers (Expr-F.Var v) met = load_agrees site (variable_at numbers.names v)
+  layers (Expr-F.Assign v None e) met =
+      assign_agrees site (variable_at numbers.names v) (eval around e.0) (expr_code numbers e.0)
+      (e.1 met.1)
+  layers (Expr-F.Assign v (Some binop) e) met =
+      change_agrees site (variable_at numbers.names v) binop (eval around e.0)
+      (expr_code numbers e.0) met.1.0 (e.1 met.1.1)
+  layers (Expr-F.Step v up prefix) met =
+      step_agrees site (variable_at numbers.names v) up prefix
+  layers (Expr-F.Unary unop e) met =
+      unary_agrees unop (eval around e.0) (expr_code numbers e.0) (e.1 met)
+  layers (Expr-F.Chain e pairs) met =
+      chain_agrees site (eval around e.0) (expr_code numbers e.0)
+      (map (λ (pair : BinOp × Expr). (pair.0, eval around pair.1))
+      (map (λ (pair : BinOp × Part). (pair.0, pair.1.0)) pairs))
+      (map (λ (pair : BinOp × Expr). (pair.0, expr_code numbers pair.1))
+      (map (λ (pair : BinOp × Part). (pair.0, pair.1.0)) pairs))
+      (e.1 (met_front (expr_needs e.0) _ met))
+      (pairs_agree pairs (met_back (expr_needs e.0) _ met))
+  layers (Expr-F.Cond c first second) met =
+      let rest = met_back (expr_needs c.0) (expr_needs first.0 ++ expr_needs second.0) met in
+      cond_agrees site (eval around c.0) (eval around first.0) (eval around second.0)
+      (expr_code numbers c.0) (expr_code numbers first.0) (expr_code numbers second.0)
+      (c.1 (met_front (expr_needs c.0) (expr_needs first.0 ++ expr_needs second.0) met))
+      (first.1 (met_front (expr_needs first.0) (expr_needs second.0) rest))
+      (second.1 (met_back (expr_needs first.0) (expr_needs second.0) rest))
+  layers (Expr-F.Call f es) met =
+      call_agrees site (callee_local numbers.names f) (evals es) (codes es)
+      (λ exits at. Op (instr op.Call (function_at numbers.names f) 0 0)) (all_agree es met.1)
+      (λ vs many. local_piece site (function_at numbers.names f) vs
+      (met.0 ∙ ap Some (as_many es vs many)))
+  layers (Expr-F.External unit f es) met =
+      call_agrees site (callee_external numbers.names unit f) (evals es) (codes es)
+      (λ exits at. Op (instr op.CallUrl (url_number numbers unit) (text_number numbers f.name)
+      (length (codes es)))) (all_agree es met.1)
+      (λ vs many. subst (λ (n : ℕ).
+      Piece site (calling site.call (callee_external numbers.names unit f) vs)
+      (one (λ exits at. Op (instr op.CallUrl (url_number numbers unit)
+      (text_number numbers f.name) n)))
+      (popped vs) (onto site pushed))
+      (many ∙ as_many_codes es)
+      (external_piece site (url_number numbers unit) (text_number numbers f.name)
+      (url_of unit.name numbers.names.urls) f.name vs met.0.0 met.0.1))
+  layers (Expr-F.Library l f es) met =
+      call_agrees site (callee_library l f) (evals es) (codes es)
+      (λ exits at. Op (instr op.CallLib (numbers_of l f).1 (numbers_of l f).0 0))
+      (all_agree es met.1)
+      (λ vs many. library_piece site (numbers_of l f).0 (numbers_of l f).1 vs
+      (met.0 ∙ ap Some (as_many es vs many)))
+
+  -- every expression and its code agree
+  pub agrees : (e : Expr) → Claim e
+  agrees = ind-Expr Claim (λ x y is. subst (λ x. Claim (roll-Expr x)) is
+      (rolled (map-Expr Part Expr (λ e. e.0) y) (layers y)))

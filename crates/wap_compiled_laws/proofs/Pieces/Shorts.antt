@@ -1,0 +1,193 @@
+-- `&&` and `||`.
+use Rattle.std.proofs.Common.{◌≡◌, ℕ, ◌+◌, ◌<◌, Bool, true, false, cond, List, ◌∷◌, Option, Some}
+use Rattle.std.proofs.Common.{None, Ok, refl, sym, ap, ◌∙◌, subst, arith, slice_get}
+use Rattle.std.specs.Prelude.{slice_index}
+use Rattle.wap_value.specs.declared.value.Value.{Value}
+use Rattle.wap_value.specs.declared.value.Value.TheVariants.{Bool as Boolean, Invalid}
+use Rattle.wap_value.specs.declared.operator.UnOp.TheVariants.{ToBool}
+use Rattle.wap_value.specs.Conversion.{boolean_of}
+use Rattle.wap_value.specs.Unary.{unary_of}
+use Rattle.wap_code.specs.declared.row.OpName.{OpName}
+use Rattle.wap_code.specs.declared.instr.Instr.{Instr}
+use Rattle.wap_code.specs.Instructions.{row_of, read_row}
+use Rattle.wap_execution.specs.declared.action.Action.TheVariants.{ShortCircuit}
+use Rattle.wap_asm.specs.Spellings.{operation_of}
+use Rattle.wap_execution.specs.Actions.{action_of}
+use Rattle.wap_execution.specs.declared.action.Action.{Action}
+use Rattle.wap_compiled_laws.proofs.Pieces.Actions.{acts_same}
+use Rattle.wap_execution.specs.Frames.{Frame, code_of}
+use Rattle.wap_execution.specs.Effects.{onward, is_decided, decided, pair_with, pair_by}
+use Rattle.wap_execution.specs.Outcomes.{Ended}
+use Rattle.wap_execution.specs.Running.{at_place}
+use Rattle.wap_meaning.specs.Parts.{Does, done, give}
+use Rattle.wap_asm.specs.declared.form.Form.{Form}
+use Rattle.wap_asm.specs.declared.form.Form.TheVariants.{Op}
+use Rattle.wap_asm.specs.Placed.{Stands}
+use Rattle.wap_meaning.specs.Expressions.{decides, as_boolean}
+use Rattle.wap_coding.specs.Coded.{Exits, Coded, one, ◌⨾◌, instr, plain, label}
+use Rattle.wap_coding.specs.Expressions.{short_code}
+use Rattle.wap_compiled_laws.proofs.Pieces.Standing.{at}
+use Rattle.wap_meaning.proofs.Following.{done_same}
+use Rattle.wap_meaning.specs.Keeping.{Keeps}
+use Rattle.wap_compiled_laws.proofs.Pieces.Pieces.{front, behind, Sized, Site, spot, settle, After}
+use Rattle.wap_compiled_laws.proofs.Pieces.Pieces.{onto, Piece}
+use Rattle.wap_compiled_laws.proofs.Pieces.Pieces.{both, op_here, Reaches, nearer}
+use Rattle.wap_compiled_laws.proofs.Pieces.Instructions.{as_is, pushed, unary_piece}
+use Rattle.wap_compiled_laws.proofs.Pieces.Jumps.{HasLabel, HasJump, label_here, Shifts}
+use Rattle.wap_compiled_laws.proofs.Pieces.Jumps.{onto_shifts}
+use Rattle.wap_code.specs.declared.row.OpName.TheVariants as op
+
+-- a short-circuit with the jump behind it
+pub pair_reads : (frame : Frame) (by : Bool) (place : ℕ) (jump : Instr)
+    → Stands (code_of frame.function) place (operation_of op.TjumpFw) jump
+    → pair_by frame by (code_of frame.function) place
+    (row_of (slice_index (code_of frame.function) place))
+    ≡ pair_with frame by (action_of op.TjumpFw) (Ok jump)
+pair_reads frame by place jump stands =
+    let code = code_of frame.function in
+    ap (pair_by frame by code place) stands.has_row
+    ∙ ap (λ (o : OpName). pair_with frame by (action_of o) (read_row stands.row code place))
+    stands.of_operation
+    ∙ ap (λ (action : Action). pair_with frame by action (read_row stands.row code place))
+    (acts_same op.TjumpFw)
+    ∙ ap (pair_with frame by (action_of op.TjumpFw)) stands.reads
+
+module _ {S : Type 0} (site : Site S) where
+  -- a label behind a piece is passed
+  pub then_label : {A : Type 0} (does : Does A S) (coded : Coded) (pop : List Value → List Value)
+      (after : After site A) → Sized coded → Shifts site after → Piece site does coded pop after
+      → Piece site does (coded ⨾ label) pop after
+  then_label does coded pop after sized shifts piece = record {
+    follows = λ exits i reach holds variables fits operands turns state.
+        let e : i + coded.size + 1 ≡ i + (coded.size + 1) = omega arith in
+        let there =
+        behind site.forms i coded.size (coded.forms exits i) _ holds (sized exits i) in
+        piece.follows exits i (nearer site exits (i + coded.size) (i + (coded.size + 1))
+        (omega arith) reach) (front site.forms i
+        (coded.forms exits i) _ holds) variables fits operands
+        turns state
+        ∙ done_same (does variables turns state) (after exits (i + coded.size) operands)
+        (after exits (i + (coded.size + 1)) operands)
+        (λ a vs left later. shifts exits (i + coded.size) (i + (coded.size + 1))
+        (λ vs os left later. label_here site (i + coded.size) there.0 vs os left later
+        ∙ ap (λ (n : ℕ). spot site n vs os left later) e) operands a vs left later);
+  }
+
+  -- where it goes on by what the value is as a Boolean
+  abbrev decided_spot : Bool → Option Bool → ℕ → ℕ → List Value → List Value → ℕ → S → Ended S
+  decided_spot by None past next variables operands turns state =
+      spot site past variables (Invalid ∷ operands) turns state
+  decided_spot by (Some truth) past next variables operands turns state =
+      cond (is_decided by truth) (spot site past variables (Boolean truth ∷ operands) turns state)
+      (spot site next variables operands turns state)
+
+  -- what a frame comes to that goes on at a place
+  abbrev at_pos : ℕ → List Value → List Value → ℕ → S → Ended S
+  at_pos = at site.string site.call site.falls site.function
+
+  -- what a short-circuit settles to
+  decided_settles : (by : Bool) (truth : Option Bool) (past next p q : ℕ)
+      (variables operands : List Value) (turns : ℕ) (state : S)
+      → p ≡ site.pos past → q ≡ site.pos next
+      → settle site (decided truth by p q variables operands) turns state
+      ≡ decided_spot by truth past next variables operands turns state
+  decided_settles by None past next p q variables operands turns state one two =
+      ap (λ (p : ℕ). at_pos p variables (Invalid ∷ operands) turns state) one
+  decided_settles by (Some truth) past next p q variables operands turns state one two =
+      chosen (is_decided by truth)
+    where
+      chosen : (is : Bool) → settle site (cond is (onward p variables (Boolean truth ∷ operands))
+          (onward q variables operands)) turns state
+          ≡ cond is (spot site past variables (Boolean truth ∷ operands) turns state)
+          (spot site next variables operands turns state)
+      chosen true = ap (λ (p : ℕ). at_pos p variables (Boolean truth ∷ operands) turns state) one
+      chosen false = ap (λ (q : ℕ). at_pos q variables operands turns state) two
+
+  -- a short-circuit and its jump, at their forms
+  pair_here : (name : OpName) (by : Bool) (i n : ℕ) → action_of name ≡ ShortCircuit by
+      → slice_get site.forms i ≡ Some (Op (instr name 0 0 0))
+      → HasJump site op.TjumpFw (i + 1) n → HasLabel site n → i + 1 < n
+      → (v : Value) (variables operands : List Value) (turns : ℕ) (state : S)
+      → spot site i variables (v ∷ operands) turns state
+      ≡ decided_spot by (boolean_of v) n (i + 1 + 1) variables operands turns state
+  pair_here name by i n acts is jumps there further v variables operands turns state =
+      let found = site.placed.jumps_on (i + 1) n n op.TjumpFw jumps there further in
+      let frame = at_place site.function (site.pos i) variables (v ∷ operands) in
+      op_here site i (instr name 0 0 0) is variables (v ∷ operands) turns state
+      (decided_spot by (boolean_of v) n (i + 1 + 1) variables operands turns state)
+      (λ other. rw (acts, pair_reads frame by (site.pos (i + 1)) found.instr found.stands)
+      (decided_settles by (boolean_of v) n (i + 1 + 1)
+      (found.instr.next + found.instr.a) found.instr.next
+      variables operands turns state found.lands found.ends))
+
+  -- one form has one form
+  sized_one : (form : Exits → ℕ → Form) → Sized (one form)
+  sized_one form exits i = refl
+
+  -- the second operand, turned to Boolean
+  abbrev tail_code : Coded → Coded
+  tail_code second = second ⨾ plain op.Tobool ⨾ label
+
+  -- it does what the second operand as Boolean does
+  tail_piece : (right : Does Value S) (second : Coded) → Sized second → Keeps right
+      → Piece site right second as_is (onto site pushed)
+      → Piece site (as_boolean right) (tail_code second) as_is (onto site pushed)
+  tail_piece right second sized falls piece =
+      both site right (λ v. give (unary_of ToBool v)) second (plain op.Tobool ⨾ label) as_is pushed
+      (onto site pushed) sized falls piece
+      (λ v. then_label (give (unary_of ToBool v)) (plain op.Tobool) (pushed v) (onto site pushed)
+      (sized_one (λ exits at. Op (instr op.Tobool 0 0 0))) (onto_shifts site pushed)
+      (unary_piece site op.Tobool ToBool v refl))
+
+  -- a short-circuit does what `&&` and `||` mean
+  pub short_piece : (name : OpName) (by : Bool) (v : Value) (right : Does Value S) (second : Coded)
+      → action_of name ≡ ShortCircuit by → Sized second → Keeps right
+      → Piece site right second as_is (onto site pushed)
+      → Piece site (decides by (boolean_of v) (as_boolean right)) (short_code name second)
+      (pushed v) (onto site pushed)
+  short_piece name by v right second acts sized falls piece = record {
+    follows = λ exits i reach holds variables fits operands turns state.
+        let tail = (tail_code second).forms exits (i + 1 + 1) in
+        let end : ℕ = i + 1 + 1 + second.size + 1 in
+        let there = (behind site.forms (i + 1 + 1) second.size (second.forms exits (i + 1 + 1)) _
+        holds.1.1 (sized exits (i + 1 + 1))).1.0 in
+        let to_end : end ≡ i + 1 + 1 + (second.size + 1) = omega arith in
+        let whole : end + 1 ≡ i + (short_code name second).size = omega arith in
+        let same : i + 1 + 1 + (tail_code second).size ≡ i + (short_code name second).size =
+        omega arith in
+        let passes : (vs os : List Value) (left : ℕ) (later : S)
+        → spot site (i + 1 + 1 + (second.size + 1)) vs os left later
+        ≡ spot site (i + (short_code name second).size) vs os left later =
+        λ vs os left later. ap (λ (n : ℕ). spot site n vs os left later) (sym to_end)
+        ∙ label_here site end there vs os left later
+        ∙ ap (λ (n : ℕ). spot site n vs os left later) whole in
+        pair_here name by i (i + 1 + 1 + (second.size + 1)) acts holds.0 holds.1.0
+        (subst (HasLabel site) to_end there) (omega arith) v variables operands turns state
+        ∙ chosen by (boolean_of v) (i + 1 + 1 + (second.size + 1)) (i + 1 + 1)
+        (i + (short_code name second).size) (as_boolean right) variables operands turns state
+        (passes variables)
+        ((tail_piece right second sized falls piece).follows exits (i + 1 + 1)
+        (subst (Reaches site exits) (sym same) reach) holds.1.1 variables
+        fits operands turns state
+        ∙ ap (λ (n : ℕ). done (as_boolean right variables turns state)
+        (onto site pushed exits n operands)) same);
+  }
+    where
+      chosen : (by : Bool) (truth : Option Bool) (past next end : ℕ) (does : Does Value S)
+          (variables operands : List Value) (turns : ℕ) (state : S)
+          → ((os : List Value) (left : ℕ) (later : S)
+          → spot site past variables os left later ≡ spot site end variables os left later)
+          → spot site next variables operands turns state
+          ≡ done (does variables turns state)
+          (λ v vs left later. spot site end vs (v ∷ operands) left later)
+          → decided_spot by truth past next variables operands turns state
+          ≡ done (decides by truth does variables turns state)
+          (λ v vs left later. spot site end vs (v ∷ operands) left later)
+      chosen by None past next end does variables operands turns state passes goes =
+          passes (Invalid ∷ operands) turns state
+      chosen true (Some true) past next end does variables operands turns state passes goes =
+          passes (Boolean true ∷ operands) turns state
+      chosen true (Some false) past next end does variables operands turns state passes goes = goes
+      chosen false (Some true) past next end does variables operands turns state passes goes = goes
+      chosen false (Some false) past next end does variables operands turns state passes goes =
+          passes (Boolean false ∷ operands) turns state

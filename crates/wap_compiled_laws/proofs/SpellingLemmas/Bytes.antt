@@ -1,0 +1,75 @@
+-- The bytes of placed code are bytes.
+use Rattle.std.proofs.Common.{◌≡◌, ℕ, suc, ◌+◌, ◌<◌, ◌≤◌, List, [], ◌∷◌, ◌++◌, Option}
+use Rattle.std.proofs.Common.{Some, None, refl, subst, arith, slice_get}
+use Rattle.std.specs.List.{flat_map, enumerate_from}
+use Rattle.wap_code.specs.declared.row.OpName.{OpName}
+use Rattle.wap_code.specs.declared.row.Slot.{Slot}
+use Rattle.wap_code.specs.declared.row.Slot.TheVariants.{Absent, Low, Byte, Word}
+use Rattle.wap_code.specs.declared.row.Row.{Row}
+use Rattle.wap_asm.specs.Spelling.{limit, slot_bytes, spelling}
+use Rattle.wap_asm.specs.Spellings.{operation_of, spelling_of, row_bytes}
+use Rattle.wap_asm.specs.declared.form.Form.{Form}
+use Rattle.wap_asm.specs.declared.form.Form.TheVariants.{Op, Jump, Label}
+use Rattle.wap_asm.specs.Placing.{between, target, form_bytes, bytes_at, wide, settled, placed}
+use Rattle.wap_asm.specs.Placed.{ArePlaceable}
+use Rattle.wap_asm.specs.inside.Passes.{HasRoom, HasSpelling}
+use Rattle.wap_asm.proofs.BytesLaws.{op_spelling, jump_spelling, has_room}
+use Rattle.wap_compiled_laws.proofs.SpellingLemmas.Written.{AreBytes, bytes_both}
+
+-- an operand that has room
+slot_fits : (slot : Slot) (n : ℕ) → n < limit 256 slot → AreBytes (slot_bytes slot n)
+slot_fits Absent n less = tt
+slot_fits Low n less = tt
+slot_fits Byte n less = (less, tt)
+slot_fits Word n less = (omega (arith, less), (omega arith, tt))
+
+-- an instruction whose operands have room
+row_fits : (row : Row) (a b c : ℕ) → HasRoom row a b c → AreBytes (spelling row a b c)
+row_fits row a b c room = (
+  room.code_fits,
+  bytes_both (slot_bytes row.a a) (slot_bytes row.b b ++ slot_bytes row.c c)
+      (slot_fits row.a a room.a_fits)
+      (bytes_both (slot_bytes row.b b) (slot_bytes row.c c) (slot_fits row.b b room.b_fits)
+      (slot_fits row.c c room.c_fits)),
+)
+
+-- one that has a spelling
+spelled_fits : (operation : OpName) (a b c : ℕ) → HasSpelling operation a b c
+    → AreBytes (row_bytes (spelling_of operation a b c) a b c)
+spelled_fits operation a b c has = by (spelling_of operation a b c) refl
+  where
+    by : (o : Option Row) → spelling_of operation a b c ≡ o → AreBytes (row_bytes o a b c)
+    by None is = tt
+    by (Some row) is = row_fits row a b c (has_room operation a b c row has is)
+
+module _ (forms : List Form) (placeable : ArePlaceable forms) (few : wide forms ≤ 65535) where
+  -- each form
+  form_fits : (i : ℕ) (form : Form) → slice_get forms i ≡ Some form
+      → AreBytes (form_bytes forms (settled forms) i form)
+  form_fits i (Op instr) here =
+      spelled_fits (operation_of instr.name) instr.a instr.b instr.c
+      (op_spelling forms i instr placeable here)
+  form_fits i (Jump name label) here =
+      spelled_fits (operation_of name) (between (settled forms) i (target forms label)) 0 0
+      (jump_spelling forms i label name placeable few here)
+  form_fits i (Label label) here = tt
+
+  -- those from an index on
+  all_fit : (n : ℕ) (rest : List Form)
+      → ((k : ℕ) (form : Form) → slice_get rest k ≡ Some form → slice_get forms (n + k) ≡ Some form)
+      → AreBytes (flat_map (bytes_at forms (settled forms)) (enumerate_from n rest))
+  all_fit n [] stand = tt
+  all_fit n (form ∷ rest) stand =
+      let here : n + 0 ≡ n = omega arith in
+      bytes_both (form_bytes forms (settled forms) n form)
+      (flat_map (bytes_at forms (settled forms)) (enumerate_from (n + 1) rest))
+      (form_fits n form (subst (λ (m : ℕ). slice_get forms m ≡ Some form) here (stand 0 form refl)))
+      (all_fit (n + 1) rest (λ k other there.
+      let e : n + suc k ≡ n + 1 + k = omega arith in
+      subst (λ (m : ℕ). slice_get forms m ≡ Some other) e (stand (suc k) other there)))
+
+  pub placed_bytes : AreBytes (placed forms)
+  unfolding placed
+  placed_bytes =
+      all_fit 0 forms (λ k form here. let e : k ≡ 0 + k = omega arith in
+      subst (λ (m : ℕ). slice_get forms m ≡ Some form) e here)

@@ -1,0 +1,17 @@
+//! The code of sources may be run: a law, the contract of a function that
+//! does nothing.
+ghost use Rattle.std.specs.Prelude.{ℕ, List};
+ghost use Rattle.wap_code.specs.declared.unit.Code.{Code as TheCode};
+ghost use Rattle.wap_code.specs.declared.unit.Unit.{Unit as TheUnit};
+ghost use Rattle.wap_program.specs.declared.expression.Literal.{Literal as TheLiteral};
+ghost use Rattle.wap_program.specs.declared.program.Function.{Function as TheFunction};
+ghost use Rattle.wap_program.specs.declared.program.Program.{Program as TheProgram};
+ghost use Rattle.wap_coding.specs.Compiled.{IsCodeOf};
+ghost use Rattle.wap_verify.specs.Sound.{IsSound};
+
+/// Compiled code may be run: it splits, its operands are in range, its jumps have targets, and each
+/// of its places is reached with one number of values, and with enough.
+pub fn compiled_code_is_sound()
+    ensures { (p : TheProgram) (u : TheUnit) (pool : List TheLiteral) (f : TheFunction)
+        (code : TheCode) (index : ℕ) → IsCodeOf p u pool f code → IsSound u index code }
+{}

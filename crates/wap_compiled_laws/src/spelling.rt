@@ -1,0 +1,13 @@
+//! The unit that a program is compiled to has a spelling: a law, the contract of a function that
+//! does nothing.
+ghost use Rattle.std.specs.Prelude.{ℕ, List};
+ghost use Rattle.wap_program.specs.declared.program.Program.{Program as TheProgram};
+ghost use Rattle.wap_unit.specs.Spelling.{HasSpelling};
+ghost use Rattle.wap_compiled.specs.Units.{compiled};
+ghost use Rattle.wap_compiled.specs.Accepted.{IsAccepted};
+
+/// The unit of an accepted program can be written, and read back.
+pub fn compiled_programs_are_spelled()
+    ensures { (source : List ℕ) (p : TheProgram) → IsAccepted source p
+        → HasSpelling (compiled p) }
+{}

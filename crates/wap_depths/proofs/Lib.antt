@@ -1,4 +1,0 @@
-pub mod Flow
-pub mod Shapes
-pub mod Trees
-pub mod Bodies

@@ -1,3 +1,0 @@
-//! The code of sources has one number of operands at each form: lemmas in `proofs/`. There is no
-//! code here.
-#![tactic(auto)]

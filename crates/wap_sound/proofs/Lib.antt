@@ -1,6 +1,0 @@
-pub mod Spelled
-pub mod Table
-pub mod Stepping
-pub mod Reached
-pub mod Sound
-pub mod Enough

@@ -1,3 +1,0 @@
-//! Placed code of sources reaches each of its places with one number of values, and with enough:
-//! lemmas in `proofs/`. There is no code here.
-#![tactic(auto)]

@@ -1,4 +1,0 @@
-pub mod Strings
-pub mod Tokens
-pub mod Sizes
-pub mod Weights

@@ -1,3 +1,0 @@
-//! How many bytes the texts of a source have, beside the tokens that they are drawn from. Lemmas in
-//! `proofs/`; there is no code here.
-#![tactic(auto)]

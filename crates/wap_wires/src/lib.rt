@@ -1,3 +1,0 @@
-//! The jumps of code know their labels, and its operands are in range: lemmas in `proofs/`. There
-//! is no code here.
-#![tactic(auto)]
