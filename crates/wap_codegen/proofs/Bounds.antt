@@ -11,7 +11,7 @@ use Rattle.wap_asm.specs.declared.form.Form.{Form}
 use Rattle.wap_asm.specs.declared.form.Form.TheVariants.{Op, Jump, Label}
 use Rattle.wap_asm.specs.Spellings.{row_size, longest, operation_of}
 use Rattle.wap_asm.specs.Placing.{wide_size, wide}
-use Rattle.wap_compiled.specs.Savings.{operation_saves, form_saves, saved}
+use Rattle.wap_meaning.specs.compiled.Savings.{operation_saves, form_saves, saved}
 
 -- an operand
 width_few : (s : Slot) → width s ≤ 2

@@ -25,10 +25,10 @@ use Rattle.wap_scope.specs.declared.fault.ScopeFault.TheVariants as scope
 use Rattle.wap_scope.specs.Scoped.{IsScoped}
 use Rattle.wap_scope.specs.Faults.{faults, first_fault}
 use Rattle.wap_code.specs.declared.unit.Unit.{Unit as CodeUnit}
-use Rattle.wap_compiled.specs.Pool.{pool}
-use Rattle.wap_compiled.specs.Units.{compiled}
-use Rattle.wap_compiled.specs.Wide.{function_wide}
-use Rattle.wap_compiled.specs.Accepted.{IsSourceOf, IsAccepted, most_constants, most_code}
+use Rattle.wap_meaning.specs.compiled.Pool.{pool}
+use Rattle.wap_meaning.specs.compiled.Units.{compiled}
+use Rattle.wap_meaning.specs.compiled.Wide.{function_wide}
+use Rattle.wap_meaning.specs.compiled.Accepted.{IsSourceOf, IsAccepted, most_constants, most_code}
 use Rattle.wap_codegen.specs.declared.fault.CompileFault.{CompileFault}
 use Rattle.wap_codegen.specs.declared.fault.CompileFault.TheVariants.{Lex, Parse, Scope}
 use Rattle.wap_codegen.specs.declared.fault.CompileFault.TheVariants.{TooManyConstants, CodeTooLong}

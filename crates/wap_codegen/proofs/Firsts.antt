@@ -3,9 +3,9 @@ use Rattle.std.proofs.Common.{◌≤◌, length, All}
 use Rattle.std.proofs.Common.{Result, Ok, Err, IfOk, IfErr}
 use Rattle.wap_code.specs.declared.unit.Unit.{Unit as CodeUnit}
 use Rattle.wap_program.specs.declared.program.Program.{Program}
-use Rattle.wap_compiled.specs.Pool.{pool}
-use Rattle.wap_compiled.specs.Wide.{function_wide}
-use Rattle.wap_compiled.specs.Accepted.{most_constants, most_code, HasRoom}
+use Rattle.wap_meaning.specs.compiled.Pool.{pool}
+use Rattle.wap_meaning.specs.compiled.Wide.{function_wide}
+use Rattle.wap_meaning.specs.compiled.Accepted.{most_constants, most_code, HasRoom}
 use Rattle.wap_codegen.specs.declared.fault.CompileFault.{CompileFault}
 use Rattle.wap_codegen.specs.declared.fault.CompileFault.TheVariants.{Lex, Parse, Scope}
 use Rattle.wap_codegen.specs.declared.fault.CompileFault.TheVariants.{TooManyConstants, CodeTooLong}

@@ -6,9 +6,9 @@ use Rattle.std.proofs.lemmas.List.Elements.{All-more}
 use Rattle.wap_code.specs.declared.unit.Code.{Code}
 use Rattle.wap_program.specs.declared.program.Function.{Function}
 use Rattle.wap_program.specs.declared.program.Program.{Program}
-use Rattle.wap_compiled.specs.Units.{compiled_function}
-use Rattle.wap_compiled.specs.Wide.{function_wide}
-use Rattle.wap_compiled.specs.Accepted.{most_code}
+use Rattle.wap_meaning.specs.compiled.Units.{compiled_function}
+use Rattle.wap_meaning.specs.compiled.Wide.{function_wide}
+use Rattle.wap_meaning.specs.compiled.Accepted.{most_code}
 
 -- so many functions and one more have their code
 pub codes_more : (p : Program) (slice : List Function) (i : ℕ) (f : Function)

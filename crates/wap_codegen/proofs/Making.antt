@@ -11,18 +11,18 @@ use Rattle.wap_program.specs.declared.program.Program.{Program}
 use Rattle.wap_scope_laws.specs.Known.{variables}
 use Rattle.wap_scope_laws.proofs.Known.{parameters_first}
 use Rattle.wap_meaning.specs.Names.{locals}
-use Rattle.wap_coding.specs.Constants.{Numbers}
-use Rattle.wap_coding.specs.Compiled.{function_code, numbers_in}
+use Rattle.wap_meaning.specs.coding.Constants.{Numbers}
+use Rattle.wap_meaning.specs.coding.Compiled.{function_code, numbers_in}
 use Rattle.wap_program.specs.declared.expression.Literal.{Literal}
-use Rattle.wap_compiled.specs.Pool.{pool}
-use Rattle.wap_compiled.specs.Units.{forms_of, compiled_function}
-use Rattle.wap_compiled.specs.Wide.{function_wide}
+use Rattle.wap_meaning.specs.compiled.Pool.{pool}
+use Rattle.wap_meaning.specs.compiled.Units.{forms_of, compiled_function}
+use Rattle.wap_meaning.specs.compiled.Wide.{function_wide}
 use Rattle.wap_codegen.specs.declared.fault.CompileFault.{CompileFault}
 use Rattle.wap_codegen.specs.declared.fault.CompileFault.TheVariants.{Lex, Parse, Scope}
 use Rattle.wap_codegen.specs.declared.fault.CompileFault.TheVariants.{TooManyConstants, CodeTooLong}
 use Rattle.wap_codegen.specs.declared.fault.CompileFault.TheVariants.{NoMemory}
-use Rattle.wap_compiled.specs.Savings.{saved, function_saves}
-use Rattle.wap_compiled.specs.Accepted.{most_code}
+use Rattle.wap_meaning.specs.compiled.Savings.{saved, function_saves}
+use Rattle.wap_meaning.specs.compiled.Accepted.{most_code}
 use Rattle.wap_compiled_laws.specs.Laws.{HasForms}
 use Rattle.wap_codegen.specs.inside.Units.{AreNumbersOf}
 use Rattle.wap_codegen.specs.inside.Units.{IsFormsCause, IsFunctionCause}

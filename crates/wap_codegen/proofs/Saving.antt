@@ -38,7 +38,8 @@ use Rattle.wap_program.specs.declared.statement.Stmt.TheVariants.{
   rolls-Continue,
   rolls-Return,
 }
-use Rattle.wap_compiled.specs.Savings.{effect_saves, effect_saves_if, stmt_saves_by, stmt_saves}
+use Rattle.wap_meaning.specs.compiled.Savings.{effect_saves, effect_saves_if, stmt_saves_by}
+use Rattle.wap_meaning.specs.compiled.Savings.{stmt_saves}
 
 -- ---- expressions as statements
 

@@ -5,8 +5,8 @@ use Rattle.wap_scope.specs.Scoped.{IsScoped}
 use Rattle.wap_code.specs.declared.unit.Unit.{Unit as CodeUnit}
 use Rattle.wap_unit.specs.Spelling.{HasSpelling}
 use Rattle.wap_verify.specs.Sound.{IsVerified}
-use Rattle.wap_compiled.specs.Units.{compiled}
-use Rattle.wap_compiled.specs.Accepted.{IsSourceOf, IsAccepted, HasRoom}
+use Rattle.wap_meaning.specs.compiled.Units.{compiled}
+use Rattle.wap_meaning.specs.compiled.Accepted.{IsSourceOf, IsAccepted, HasRoom}
 use Rattle.wap_compiled_laws.proofs.Sources.{forms, verified_so}
 use Rattle.wap_compiled_laws.proofs.SpellingLemmas.Accepted.{accepted_spelling}
 use Rattle.wap_codegen.specs.inside.Units.{AllHaveForms}

@@ -4,8 +4,8 @@ ghost use Rattle.wap_base.specs.Outcome.{Meets};
 ghost use Rattle.wap_unit.specs.Spelling.{HasSpelling};
 ghost use Rattle.wap_verify.specs.Sound.{IsVerified};
 ghost use Rattle.wap_program.specs.declared.program.Program.{Program};
-ghost use Rattle.wap_compiled.specs.Units.{compiled};
-ghost use Rattle.wap_compiled.specs.Accepted.{IsAccepted};
+ghost use Rattle.wap_meaning.specs.compiled.Units.{compiled};
+ghost use Rattle.wap_meaning.specs.compiled.Accepted.{IsAccepted};
 ghost use Rattle.wap_codegen.specs.Faults.{IsCompileFault};
 ghost use Rattle.wap_codegen.specs.declared.fault.CompileFault.TheVariants as faults;
 

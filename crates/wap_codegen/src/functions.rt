@@ -3,10 +3,10 @@ ghost use Rattle.std.specs.Prelude.{◌≡◌, ◌+◌, ◌*◌, ◌≤◌, leng
 ghost use Rattle.std.specs.List.{All};
 ghost use Rattle.wap_asm.specs.Placing.{wide, placed};
 ghost use Rattle.wap_asm.specs.Placed.{ArePlaceable};
-ghost use Rattle.wap_compiled.specs.Units.{compiled_function};
-ghost use Rattle.wap_compiled.specs.Wide.{function_wide};
-ghost use Rattle.wap_compiled.specs.Savings.{saved, function_saves};
-ghost use Rattle.wap_compiled.specs.Accepted.{most_code};
+ghost use Rattle.wap_meaning.specs.compiled.Units.{compiled_function};
+ghost use Rattle.wap_meaning.specs.compiled.Wide.{function_wide};
+ghost use Rattle.wap_meaning.specs.compiled.Savings.{saved, function_saves};
+ghost use Rattle.wap_meaning.specs.compiled.Accepted.{most_code};
 ghost use Rattle.wap_codegen.specs.inside.Units.{AreNumbersOf, CanBeMade};
 ghost use Rattle.wap_codegen.specs.inside.Units.{IsFormsCause, IsFunctionCause, IsFunctionsCause};
 

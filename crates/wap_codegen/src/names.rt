@@ -1,6 +1,6 @@
 //! The names by which functions are called from outside.
 ghost use Rattle.std.specs.Prelude.{◌≡◌, ◌≤◌, length, IfOk, ◌&&◌};
-ghost use Rattle.wap_compiled.specs.Units.{is_short, entries};
+ghost use Rattle.wap_meaning.specs.compiled.Units.{is_short, entries};
 
 use std::alloc::Global;
 use wap_base::{NoMemory, Rows, Text};

@@ -2,7 +2,7 @@
 ghost use Rattle.std.specs.Prelude.{◌≡◌, ◌++◌, IfOk, OnOk};
 ghost use Rattle.std.specs.List.{flat_map};
 ghost use Rattle.wap_code.specs.declared.unit.Pragma.TheVariants.{Domain, Path};
-ghost use Rattle.wap_compiled.specs.Units.{pragma_if, property, pragmas_of, text_place};
+ghost use Rattle.wap_meaning.specs.compiled.Units.{pragma_if, property, pragmas_of, text_place};
 
 use crate::pool::Numbering;
 use std::alloc::Global;

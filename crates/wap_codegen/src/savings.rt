@@ -1,7 +1,7 @@
 //! How many bytes statements save that don't load their variable again.
 ghost use Rattle.std.specs.Prelude.{◌≡◌, ◌<◌, ◌^◌, sum_by};
 ghost use Rattle.wap_program.specs.declared.expression.Expr.{out-Expr};
-ghost use Rattle.wap_compiled.specs.Savings.{effect_saves, effect_saves_if, stmt_saves};
+ghost use Rattle.wap_meaning.specs.compiled.Savings.{effect_saves, effect_saves_if, stmt_saves};
 
 use wap_program::{Expr, Stmt};
 

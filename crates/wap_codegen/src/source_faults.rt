@@ -2,7 +2,7 @@
 //! functions here do nothing, and carry the laws alone.
 ghost use Rattle.std.specs.Prelude.{◌≡◌, ◌<◌, ◌^◌, ℕ, List, length};
 ghost use Rattle.wap_program.specs.declared.program.Program.{Program};
-ghost use Rattle.wap_compiled.specs.Accepted.{IsAccepted};
+ghost use Rattle.wap_meaning.specs.compiled.Accepted.{IsAccepted};
 ghost use Rattle.wap_codegen.specs.declared.fault.CompileFault.{CompileFault};
 ghost use Rattle.wap_codegen.specs.source_faults.Faults.{IsFaultOf};
 

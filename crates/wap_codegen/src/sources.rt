@@ -1,7 +1,7 @@
 //! Sources to programs whose names are in order.
 ghost use Rattle.std.specs.Prelude.{◌≡◌, ◌<◌, ◌^◌, length, IfOk, IfErr};
 ghost use Rattle.wap_lex.specs.Tokens.{AreTokens};
-ghost use Rattle.wap_compiled.specs.Accepted.{IsSourceOf};
+ghost use Rattle.wap_meaning.specs.compiled.Accepted.{IsSourceOf};
 ghost use Rattle.wap_codegen.specs.Faults.{IsCompileFault};
 
 use crate::CompileFault;

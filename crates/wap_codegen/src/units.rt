@@ -2,10 +2,10 @@
 ghost use Rattle.std.specs.Prelude.{◌≡◌, ◌≤◌, length, map, IfOk, IfErr};
 ghost use Rattle.std.specs.List.{All};
 ghost use Rattle.wap_scope.specs.Scoped.{IsScoped};
-ghost use Rattle.wap_compiled.specs.Pool.{pool};
-ghost use Rattle.wap_compiled.specs.Units.{compiled_function, compiled};
-ghost use Rattle.wap_compiled.specs.Wide.{function_wide};
-ghost use Rattle.wap_compiled.specs.Accepted.{HasRoom, most_constants, most_code};
+ghost use Rattle.wap_meaning.specs.compiled.Pool.{pool};
+ghost use Rattle.wap_meaning.specs.compiled.Units.{compiled_function, compiled};
+ghost use Rattle.wap_meaning.specs.compiled.Wide.{function_wide};
+ghost use Rattle.wap_meaning.specs.compiled.Accepted.{HasRoom, most_constants, most_code};
 ghost use Rattle.wap_codegen.specs.inside.Units.{AreNumbersOf, CanBeMade, AllHaveForms};
 ghost use Rattle.wap_codegen.specs.inside.Units.{IsFunctionsCause, IsUnitCause};
 
@@ -38,7 +38,7 @@ fn numbering_of(alloc: Global, program: &Program) -> Result<Numbering, CompileFa
 }
 
 /// The unit that has this code.
-#[tactic(auto, unfolding(wap_compiled::specs::Units::compiled))]
+#[tactic(auto, unfolding(wap_meaning::specs::compiled::Units::compiled))]
 fn unit_with(
     alloc: Global,
     program: &Program,

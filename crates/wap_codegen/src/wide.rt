@@ -1,7 +1,8 @@
 //! How many bytes functions have where each operation has its longest spelling.
 ghost use Rattle.std.specs.Prelude.{◌≡◌, ◌+◌, ◌*◌, ◌≤◌, length};
 ghost use Rattle.wap_asm.specs.Placing.{wide};
-ghost use Rattle.wap_compiled.specs.Savings.{operation_saves, form_saves, saved, function_saves};
+ghost use Rattle.wap_meaning.specs.compiled.Savings.{operation_saves, form_saves, saved};
+ghost use Rattle.wap_meaning.specs.compiled.Savings.{function_saves};
 
 use crate::savings::statements_save;
 use wap_asm::{Form, wide_bytes};

@@ -31,20 +31,21 @@ use Rattle.wap_scope.specs.Names.{names_declared}
 use Rattle.wap_scope.specs.Scoped.{IsScoped}
 use Rattle.wap_scope_laws.specs.Known.{variables, CanBeCoded}
 use Rattle.wap_scope_laws.proofs.Known.{all_can_be}
-use Rattle.wap_coding.specs.Constants.{is_in}
-use Rattle.wap_coding.specs.Compiled.{function_code, numbers_in, IsCodeOf, IsCompiled}
-use Rattle.wap_coding.specs.Needs.{Need, Constant, Operator, Variable, Local, Other, Library}
-use Rattle.wap_coding.specs.Needs.{AreMet, literals_of, stmt_needs}
+use Rattle.wap_meaning.specs.coding.Constants.{is_in}
+use Rattle.wap_meaning.specs.coding.Compiled.{function_code, numbers_in, IsCodeOf, IsCompiled}
+use Rattle.wap_meaning.specs.coding.Needs.{Need, Constant, Operator, Variable, Local, Other}
+use Rattle.wap_meaning.specs.coding.Needs.{Library}
+use Rattle.wap_meaning.specs.coding.Needs.{AreMet, literals_of, stmt_needs}
 use Rattle.wap_compiled_laws.proofs.BodiesLemmas.Pooled.{IsPoolable, AllIn, all_in}
 use Rattle.wap_compiled_laws.proofs.Labels.Trees.{Ranged, body_tied}
 use Rattle.wap_compiled_laws.proofs.Labels.Wired.{WiredForm, LeadsTo}
 use Rattle.wap_compiled_laws.proofs.Pieces.Pieces.{holds_all}
-use Rattle.wap_source_needs.specs.Drawn.{function_needs, HasOperator}
-use Rattle.wap_compiled.specs.Pool.{use_literals, function_literals, literals_needed, pool}
-use Rattle.wap_compiled.specs.Units.{forms_of, compiled_function, compiled}
-use Rattle.wap_compiled.specs.Wide.{function_wide}
-use Rattle.wap_compiled.specs.Accepted.{HasRoom}
-use Rattle.wap_compiled.specs.Savings.{saved, function_saves}
+use Rattle.wap_meaning.specs.needs.Drawn.{function_needs, HasOperator}
+use Rattle.wap_meaning.specs.compiled.Pool.{use_literals, function_literals, literals_needed, pool}
+use Rattle.wap_meaning.specs.compiled.Units.{forms_of, compiled_function, compiled}
+use Rattle.wap_meaning.specs.compiled.Wide.{function_wide}
+use Rattle.wap_meaning.specs.compiled.Accepted.{HasRoom}
+use Rattle.wap_meaning.specs.compiled.Savings.{saved, function_saves}
 use Rattle.wap_compiled_laws.proofs.CodeSizes.Each.{each_front, each_back}
 use Rattle.wap_compiled_laws.proofs.CodeSizes.Costs.{Fits, has_room, cost, both_costs, Costs}
 use Rattle.wap_compiled_laws.proofs.CodeSizes.Expressions.{Place, numbers, Given}

@@ -13,11 +13,11 @@ use Rattle.wap_program.specs.declared.program.Use.{Use}
 use Rattle.wap_program.specs.declared.program.Use.TheVariants.{Url, Access, Agent, Note}
 use Rattle.wap_program.specs.declared.expression.Literal.{Literal}
 use Rattle.wap_program.specs.declared.expression.Literal.TheVariants.{Str}
-use Rattle.wap_coding.specs.Constants.{HasPool}
+use Rattle.wap_meaning.specs.coding.Constants.{HasPool}
 use Rattle.wap_compiled_laws.proofs.BodiesLemmas.Pooled.{text_at}
 use Rattle.wap_verify.specs.Sound.{indexes, stray_pragma}
-use Rattle.wap_compiled.specs.Pool.{use_literals}
-use Rattle.wap_compiled.specs.Units.{pragmas_of, text_place}
+use Rattle.wap_meaning.specs.compiled.Pool.{use_literals}
+use Rattle.wap_meaning.specs.compiled.Units.{pragmas_of, text_place}
 use Rattle.wap_compiled_laws.proofs.CodeSizes.Each.{each_front, each_back, each_both}
 use Rattle.wap_compiled_laws.proofs.Functions.{InPool}
 

@@ -7,14 +7,14 @@ use Rattle.wap_program.specs.declared.program.Program.{Program}
 use Rattle.wap_grammar.specs.declared.precedence.TheConstants.{LEVEL_LIMIT}
 use Rattle.wap_scope.specs.Scoped.{IsScoped}
 use Rattle.wap_scope_laws.proofs.Places.{all_by_places}
-use Rattle.wap_coding.specs.Compiled.{IsCompiled}
+use Rattle.wap_meaning.specs.coding.Compiled.{IsCompiled}
 use Rattle.wap_compiled_laws.proofs.BodiesLemmas.Functions as functions
 use Rattle.wap_verify.specs.Sound.{IsVerified}
-use Rattle.wap_source_needs.proofs.Operators.{operators}
-use Rattle.wap_compiled.specs.Pool.{pool}
-use Rattle.wap_compiled.specs.Units.{forms_of, compiled_function, compiled}
-use Rattle.wap_compiled.specs.Wide.{function_wide}
-use Rattle.wap_compiled.specs.Accepted.{IsSourceOf, IsAccepted}
+use Rattle.wap_meaning.proofs.NeedsLemmas.Operators.{operators}
+use Rattle.wap_meaning.specs.compiled.Pool.{pool}
+use Rattle.wap_meaning.specs.compiled.Units.{forms_of, compiled_function, compiled}
+use Rattle.wap_meaning.specs.compiled.Wide.{function_wide}
+use Rattle.wap_meaning.specs.compiled.Accepted.{IsSourceOf, IsAccepted}
 use Rattle.wap_compiled_laws.specs.Laws.{HasForms, HasCode, AgreeWithSources}
 use Rattle.wap_compiled_laws.proofs.Functions.{AllTake, Among, wide_exact, placeable, one_of}
 use Rattle.wap_compiled_laws.proofs.Functions.{saves_few, compiled_is}

@@ -8,9 +8,9 @@ use Rattle.wap_program.specs.declared.program.Program.{Program}
 use Rattle.wap_scope.specs.Scoped.{IsScoped}
 use Rattle.wap_compiled_laws.proofs.RunnableLemmas.Whole.{sound}
 use Rattle.wap_verify.specs.Sound.{IsSound, IsVerified}
-use Rattle.wap_compiled.specs.Pool.{pool}
-use Rattle.wap_compiled.specs.Units.{compiled}
-use Rattle.wap_compiled.specs.Accepted.{HasRoom}
+use Rattle.wap_meaning.specs.compiled.Pool.{pool}
+use Rattle.wap_meaning.specs.compiled.Units.{compiled}
+use Rattle.wap_meaning.specs.compiled.Accepted.{HasRoom}
 use Rattle.wap_compiled_laws.proofs.Functions.{AllTake, in_uses, compiled_is}
 use Rattle.wap_compiled_laws.proofs.Pragmas.{no_stray}
 

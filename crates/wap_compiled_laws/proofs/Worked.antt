@@ -26,15 +26,15 @@ use Rattle.wap_scope.specs.Names.{mentions_by}
 use Rattle.wap_scope.specs.Names.{Refers, names_declared}
 use Rattle.wap_meaning.specs.Names.{locals, names_in}
 use Rattle.wap_code.specs.declared.unit.Unit.{Unit}
-use Rattle.wap_coding.specs.Coded.{Coded, instr, empty, ◌⨾◌, plain}
-use Rattle.wap_coding.specs.Constants.{Numbers, pooled, constant_for}
-use Rattle.wap_coding.specs.Compiled.{numbers_in}
-use Rattle.wap_coding.specs.Needs.{Need, Constant, expr_needs, expr_needs_by, stmt_needs}
-use Rattle.wap_coding.specs.Needs.{stmt_needs_by, literals_of}
-use Rattle.wap_coding.specs.Expressions.{literal_code, expr_code, expr_code_by}
-use Rattle.wap_coding.specs.Statements.{stmt_code, stmt_code_by}
-use Rattle.wap_compiled.specs.Pool.{literals_needed, pool}
-use Rattle.wap_compiled.specs.Units.{forms_of, compiled_function, compiled}
+use Rattle.wap_meaning.specs.coding.Coded.{Coded, instr, empty, ◌⨾◌, plain}
+use Rattle.wap_meaning.specs.coding.Constants.{Numbers, pooled, constant_for}
+use Rattle.wap_meaning.specs.coding.Compiled.{numbers_in}
+use Rattle.wap_meaning.specs.coding.Needs.{Need, Constant, expr_needs, expr_needs_by, stmt_needs}
+use Rattle.wap_meaning.specs.coding.Needs.{stmt_needs_by, literals_of}
+use Rattle.wap_meaning.specs.coding.Expressions.{literal_code, expr_code, expr_code_by}
+use Rattle.wap_meaning.specs.coding.Statements.{stmt_code, stmt_code_by}
+use Rattle.wap_meaning.specs.compiled.Pool.{literals_needed, pool}
+use Rattle.wap_meaning.specs.compiled.Units.{forms_of, compiled_function, compiled}
 
 -- the name
 f : Id

@@ -9,10 +9,10 @@ use Rattle.wap_program.specs.declared.program.Program.{Program}
 use Rattle.wap_execution.specs.Running.{Calls}
 use Rattle.wap_meaning.specs.Functions.{program_runs, unit_runs}
 use Rattle.wap_meaning.specs.Keeping.{GiveNoTurns}
-use Rattle.wap_compiled.specs.Units.{forms_of, compiled_function, compiled}
-use Rattle.wap_compiled.specs.Wide.{function_wide}
-use Rattle.wap_compiled.specs.Accepted.{IsAccepted}
-use Rattle.wap_compiled.specs.Savings.{saved, function_saves}
+use Rattle.wap_meaning.specs.compiled.Units.{forms_of, compiled_function, compiled}
+use Rattle.wap_meaning.specs.compiled.Wide.{function_wide}
+use Rattle.wap_meaning.specs.compiled.Accepted.{IsAccepted}
+use Rattle.wap_meaning.specs.compiled.Savings.{saved, function_saves}
 
 -- the forms of a function
 pub record HasForms (p : Program) (f : Function) : Type 0 where

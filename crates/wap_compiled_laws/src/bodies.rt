@@ -1,6 +1,6 @@
 //! Laws of the code of programs, each the contract of a function that does nothing. What code is
-//! chosen stands in `wap_coding`, and what programs mean in `wap_meaning`.
-ghost use Rattle.wap_coding.specs.Compiled.{AgreeWithPrograms};
+//! chosen stands in `wap_meaning::coding`, and what programs mean in `wap_meaning`.
+ghost use Rattle.wap_meaning.specs.coding.Compiled.{AgreeWithPrograms};
 
 /// What the states of a host are.
 pub trait HostStates {

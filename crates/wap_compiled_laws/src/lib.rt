@@ -23,11 +23,11 @@ ghost use Rattle.std.specs.Prelude.{◌≤◌, ℕ, List, length};
 ghost use Rattle.std.specs.List.{All};
 ghost use Rattle.wap_program.specs.declared.program.Program.{Program as TheProgram};
 ghost use Rattle.wap_scope.specs.Scoped.{IsScoped};
-ghost use Rattle.wap_coding.specs.Compiled.{IsCompiled};
+ghost use Rattle.wap_meaning.specs.coding.Compiled.{IsCompiled};
 ghost use Rattle.wap_verify.specs.Sound.{IsVerified};
-ghost use Rattle.wap_compiled.specs.Pool.{pool};
-ghost use Rattle.wap_compiled.specs.Units.{compiled};
-ghost use Rattle.wap_compiled.specs.Accepted.{IsSourceOf, IsAccepted, most_constants};
+ghost use Rattle.wap_meaning.specs.compiled.Pool.{pool};
+ghost use Rattle.wap_meaning.specs.compiled.Units.{compiled};
+ghost use Rattle.wap_meaning.specs.compiled.Accepted.{IsSourceOf, IsAccepted, most_constants};
 ghost use Rattle.wap_compiled_laws.specs.Laws.{HasForms, HasCode, AgreeWithSources};
 
 pub mod bodies;

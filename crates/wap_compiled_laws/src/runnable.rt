@@ -6,7 +6,7 @@ ghost use Rattle.wap_code.specs.declared.unit.Unit.{Unit as TheUnit};
 ghost use Rattle.wap_program.specs.declared.expression.Literal.{Literal as TheLiteral};
 ghost use Rattle.wap_program.specs.declared.program.Function.{Function as TheFunction};
 ghost use Rattle.wap_program.specs.declared.program.Program.{Program as TheProgram};
-ghost use Rattle.wap_coding.specs.Compiled.{IsCodeOf};
+ghost use Rattle.wap_meaning.specs.coding.Compiled.{IsCodeOf};
 ghost use Rattle.wap_verify.specs.Sound.{IsSound};
 
 /// Compiled code may be run: it splits, its operands are in range, its jumps have targets, and each

@@ -3,8 +3,8 @@
 ghost use Rattle.std.specs.Prelude.{ℕ, List};
 ghost use Rattle.wap_program.specs.declared.program.Program.{Program as TheProgram};
 ghost use Rattle.wap_unit.specs.Spelling.{HasSpelling};
-ghost use Rattle.wap_compiled.specs.Units.{compiled};
-ghost use Rattle.wap_compiled.specs.Accepted.{IsAccepted};
+ghost use Rattle.wap_meaning.specs.compiled.Units.{compiled};
+ghost use Rattle.wap_meaning.specs.compiled.Accepted.{IsAccepted};
 
 /// The unit of an accepted program can be written, and read back.
 pub fn compiled_programs_are_spelled()

@@ -4,3 +4,5 @@ pub mod Trees
 pub mod Variables
 mod Units
 mod Worked
+pub mod AcceptedLemmas
+pub mod NeedsLemmas

@@ -4,3 +4,7 @@ pub mod Expressions
 pub mod Statements
 pub mod Functions
 pub mod Keeping
+pub mod coding
+pub mod compiled
+pub mod accepted
+pub mod needs

@@ -1,12 +1,21 @@
-//! What WMLScript's sources mean (WAP-193), as definitions on their programs in `specs/`: one line
-//! a construct, in direct style. There is no code here but laws, each the contract of a function
-//! that does nothing.
+//! What source programs mean, and the unit that a program is compiled to.
+//!
+//! - `coding`: The code of WMLScript's programs, as definitions in `specs/`: the forms of each
+//!   expression and statement, what they need of their unit, and its constants.
+//! - `compiled`: The unit that a program of WMLScript is compiled to, as definitions in `specs/`
+//!   that compute: its constants, its code and all else, its size in wide code, and which programs
+//!   have a unit.
+//! - `accepted`: The program of a source that is accepted, by calculation.
+//! - `needs`: Laws of what the programs of sources need: it is drawn from their tokens.
 #![tactic(auto)]
 
 ghost use Rattle.wap_base.specs.declared.limits.Limits.{Limits as TheLimits};
 ghost use Rattle.wap_execution.specs.Outcomes.{Hosting};
 ghost use Rattle.wap_meaning.specs.Functions.{RunsAsMachines};
 ghost use Rattle.wap_meaning.specs.Keeping.{KeepTurnsAndVariables};
+
+pub mod accepted;
+pub mod needs;
 
 /// What a host of machines does to a state.
 pub trait HostMeaning {

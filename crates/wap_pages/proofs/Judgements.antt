@@ -40,9 +40,9 @@ use Rattle.wap_runnable.specs.Runnable.{may_run, AreAlike}
 use Rattle.wap_runnable.proofs.Deciding.{passes, fails}
 use Rattle.wap_runnable.proofs.Alike.{alike}
 use Rattle.wap_program.specs.declared.program.Program.{Program}
-use Rattle.wap_compiled.specs.Units.{compiled}
-use Rattle.wap_accepted.specs.Reading.{accepted_in}
-use Rattle.wap_accepted.proofs.Accepting as accepting
+use Rattle.wap_meaning.specs.compiled.Units.{compiled}
+use Rattle.wap_meaning.specs.accepted.Reading.{accepted_in}
+use Rattle.wap_meaning.proofs.AcceptedLemmas.Accepting as accepting
 use Rattle.wap_codegen.specs.declared.fault.CompileFault.{CompileFault}
 use Rattle.wap_codegen.proofs.SourceFaultsLemmas.Finding.{found}
 use Rattle.wap_codegen.proofs.SourceFaultsLemmas.Alike as sources

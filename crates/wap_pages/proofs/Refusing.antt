@@ -21,7 +21,7 @@ use Rattle.wap_verify.specs.Faults.{IsFault}
 use Rattle.wap_verify.specs.declared.fault.VerifyFault.{VerifyFault}
 use Rattle.wap_verify.specs.declared.fault.VerifyFault.TheVariants as verify
 use Rattle.wap_program.specs.declared.program.Program.{Program}
-use Rattle.wap_compiled.specs.Units.{compiled}
+use Rattle.wap_meaning.specs.compiled.Units.{compiled}
 use Rattle.wap_codegen.specs.Faults.{IsCompileFault}
 use Rattle.wap_codegen.specs.declared.fault.CompileFault.{CompileFault}
 use Rattle.wap_codegen.specs.declared.fault.CompileFault.TheVariants as compile

@@ -23,9 +23,9 @@ use Rattle.wap_unit.specs.inside.Reading.{unit_at}
 use Rattle.wap_verify.specs.Sound.{IsVerified}
 use Rattle.wap_runnable.specs.Runnable.{may_run, is_of_depths}
 use Rattle.wap_program.specs.declared.program.Program.{Program}
-use Rattle.wap_compiled.specs.Units.{compiled}
-use Rattle.wap_compiled.specs.Accepted.{IsAccepted}
-use Rattle.wap_accepted.specs.Reading.{accepted_in}
+use Rattle.wap_meaning.specs.compiled.Units.{compiled}
+use Rattle.wap_meaning.specs.compiled.Accepted.{IsAccepted}
+use Rattle.wap_meaning.specs.accepted.Reading.{accepted_in}
 use Rattle.wap_world.specs.site.Pages.{Pages}
 use Rattle.wap_world.specs.declared.site.page.Page.{Page}
 use Rattle.wap_world.specs.declared.site.page.Page.TheVariants as page

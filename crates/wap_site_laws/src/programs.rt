@@ -6,7 +6,7 @@ ghost use Rattle.wap_input.specs.declared.key.Key.{Key};
 ghost use Rattle.wap_world.specs.Sites.{Call};
 ghost use Rattle.wap_world.specs.World.{World};
 ghost use Rattle.wap_world.specs.Sessions.{played};
-ghost use Rattle.wap_compiled.specs.Units.{compiled};
+ghost use Rattle.wap_meaning.specs.compiled.Units.{compiled};
 ghost use Rattle.wap_world.specs.scripting.Units.{entrance_in, external_in};
 ghost use Rattle.wap_world.specs.scripting.UnitSites.{units_site};
 ghost use Rattle.wap_world.specs.scripting.Sources.{AllPages, site_of, compiled_pages};

@@ -2,8 +2,8 @@
 use Rattle.std.specs.Prelude.{◌≡◌, ℕ, List}
 use Rattle.wap_program.specs.declared.program.Program.{Program}
 use Rattle.wap_unit.specs.Spelling.{spelling}
-use Rattle.wap_compiled.specs.Units.{compiled}
-use Rattle.wap_compiled.specs.Accepted.{IsAccepted}
+use Rattle.wap_meaning.specs.compiled.Units.{compiled}
+use Rattle.wap_meaning.specs.compiled.Accepted.{IsAccepted}
 
 -- the bytes are the source of a program, and this spells the unit that it is compiled to
 abbrev pub IsCompiled : List ℕ → List ℕ → Type 0

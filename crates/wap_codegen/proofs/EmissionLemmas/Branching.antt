@@ -6,8 +6,8 @@ use Rattle.std.proofs.lemmas.Result.{on_ok_weaker}
 use Rattle.wap_code.specs.declared.row.OpName.TheVariants as op
 use Rattle.wap_asm.specs.declared.form.Form.{Form}
 use Rattle.wap_asm.specs.declared.form.Form.TheVariants.{Jump}
-use Rattle.wap_coding.specs.Coded.{Exits, Coded, ◌⨾◌, one, plain, label}
-use Rattle.wap_coding.specs.Statements.{branch_code, exit_form}
+use Rattle.wap_meaning.specs.coding.Coded.{Exits, Coded, ◌⨾◌, one, plain, label}
+use Rattle.wap_meaning.specs.coding.Statements.{branch_code, exit_form}
 use Rattle.wap_codegen.specs.declared.emission.exits.TheConstants.{BREAK, CONTINUE}
 use Rattle.wap_codegen.specs.emission.inside.Exits.{exits_in}
 use Rattle.wap_codegen.specs.emission.inside.Adding.{Adds, Extends}

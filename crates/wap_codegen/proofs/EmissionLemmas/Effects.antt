@@ -21,10 +21,10 @@ use Rattle.wap_program.specs.declared.expression.Expr.TheVariants.{
   rolls-Library,
 }
 use Rattle.wap_program.specs.declared.statement.Stmt.TheVariants as stmt
-use Rattle.wap_coding.specs.Coded.{Coded, with_operand}
-use Rattle.wap_coding.specs.Constants.{Numbers}
-use Rattle.wap_coding.specs.Expressions.{change_name, expr_code}
-use Rattle.wap_coding.specs.Statements.{stmt_code, effect_code, dropped_code}
+use Rattle.wap_meaning.specs.coding.Coded.{Coded, with_operand}
+use Rattle.wap_meaning.specs.coding.Constants.{Numbers}
+use Rattle.wap_meaning.specs.coding.Expressions.{change_name, expr_code}
+use Rattle.wap_meaning.specs.coding.Statements.{stmt_code, effect_code, dropped_code}
 use Rattle.wap_meaning.specs.Names.{variable_at}
 use Rattle.wap_codegen.specs.emission.inside.Loops.{assignment_code}
 use Rattle.wap_codegen.proofs.EmissionLemmas.StatementParts.{of_value}

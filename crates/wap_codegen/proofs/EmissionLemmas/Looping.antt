@@ -9,10 +9,11 @@ use Rattle.wap_code.specs.declared.row.OpName.TheVariants as op
 use Rattle.wap_asm.specs.declared.form.Form.{Form}
 use Rattle.wap_asm.specs.declared.form.Form.TheVariants.{Jump, Label}
 use Rattle.wap_program.specs.declared.expression.Expr.{Expr}
-use Rattle.wap_coding.specs.Coded.{Exits, Coded, ◌⨾◌, one, label, jump_over, jump_before, within}
-use Rattle.wap_coding.specs.Constants.{Numbers}
-use Rattle.wap_coding.specs.Expressions.{expr_code}
-use Rattle.wap_coding.specs.Statements.{test_code, loop_code}
+use Rattle.wap_meaning.specs.coding.Coded.{Exits, Coded, ◌⨾◌, one, label, jump_over, jump_before}
+use Rattle.wap_meaning.specs.coding.Coded.{within}
+use Rattle.wap_meaning.specs.coding.Constants.{Numbers}
+use Rattle.wap_meaning.specs.coding.Expressions.{expr_code}
+use Rattle.wap_meaning.specs.coding.Statements.{test_code, loop_code}
 use Rattle.wap_codegen.specs.declared.emission.exits.TheConstants.{BREAK, CONTINUE}
 use Rattle.wap_codegen.specs.emission.inside.Exits.{exits_in, redirected, Follows}
 use Rattle.wap_codegen.specs.emission.inside.Adding.{Adds}

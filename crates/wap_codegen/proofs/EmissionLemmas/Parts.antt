@@ -26,11 +26,11 @@ use Rattle.wap_program.specs.declared.expression.Expr.TheVariants.{
   rolls-Library,
 }
 use Rattle.wap_meaning.specs.Names.{variable_at, function_at, numbers_of}
-use Rattle.wap_coding.specs.Coded.{Coded, one, ◌⨾◌, all_code, instr, plain, with_operand}
-use Rattle.wap_coding.specs.Constants.{Numbers, text_number, url_number}
-use Rattle.wap_coding.specs.Expressions.{literal_code, load_code, assigned_code, step_code}
-use Rattle.wap_coding.specs.Expressions.{unary_code, chain_code, cond_code, expr_code_by}
-use Rattle.wap_coding.specs.Expressions.{expr_code}
+use Rattle.wap_meaning.specs.coding.Coded.{Coded, one, ◌⨾◌, all_code, instr, plain, with_operand}
+use Rattle.wap_meaning.specs.coding.Constants.{Numbers, text_number, url_number}
+use Rattle.wap_meaning.specs.coding.Expressions.{literal_code, load_code, assigned_code, step_code}
+use Rattle.wap_meaning.specs.coding.Expressions.{unary_code, chain_code, cond_code, expr_code_by}
+use Rattle.wap_meaning.specs.coding.Expressions.{expr_code}
 use Rattle.wap_codegen.specs.emission.inside.Adding.{Extends}
 use Rattle.wap_codegen.specs.emission.inside.Operands.{coded, Chains, truth_name}
 

@@ -20,12 +20,13 @@ use Rattle.wap_program.specs.declared.statement.Stmt.TheVariants.{
   rolls-Continue,
   rolls-Return,
 }
-use Rattle.wap_coding.specs.Coded.{Coded, empty, one, ◌⨾◌, all_code, plain}
-use Rattle.wap_coding.specs.Constants.{Numbers}
-use Rattle.wap_coding.specs.Expressions.{expr_code, cond_code, store_code}
+use Rattle.wap_meaning.specs.coding.Coded.{Coded, empty, one, ◌⨾◌, all_code, plain}
+use Rattle.wap_meaning.specs.coding.Constants.{Numbers}
+use Rattle.wap_meaning.specs.coding.Expressions.{expr_code, cond_code, store_code}
 use Rattle.wap_meaning.specs.Names.{variable_at}
-use Rattle.wap_coding.specs.Statements.{stmt_code, stmt_code_by, effect_code, declared_code}
-use Rattle.wap_coding.specs.Statements.{branch_code, loop_code, test_code, update_code, exit_form}
+use Rattle.wap_meaning.specs.coding.Statements.{stmt_code, stmt_code_by, effect_code, declared_code}
+use Rattle.wap_meaning.specs.coding.Statements.{branch_code, loop_code, test_code, update_code}
+use Rattle.wap_meaning.specs.coding.Statements.{exit_form}
 
 module _ (numbers : Numbers) where
   abbrev code : Stmt → Coded

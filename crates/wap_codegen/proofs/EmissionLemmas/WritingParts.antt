@@ -23,7 +23,7 @@ use Rattle.wap_program.specs.declared.expression.Expr.TheVariants.{
   rolls-Library,
 }
 use Rattle.wap_meaning.specs.Names.{Names, variable_at}
-use Rattle.wap_coding.specs.Statements.{writes, writes_by}
+use Rattle.wap_meaning.specs.coding.Statements.{writes, writes_by}
 
 any_mapped : {X Y : Type 0} (f : X → Y) (test : Y → Bool) (xs : List X) →
     list_any test (map f xs) ≡ list_any (λ x. test (f x)) xs

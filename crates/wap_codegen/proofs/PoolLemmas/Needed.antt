@@ -10,10 +10,12 @@ use Rattle.wap_program.specs.declared.program.Program.{Program}
 use Rattle.wap_program.specs.declared.expression.Literal.{Literal}
 use Rattle.wap_program.specs.declared.expression.Literal.TheVariants as literal
 use Rattle.wap_meaning.specs.Names.{Names, names_in, url_in, url_of}
-use Rattle.wap_coding.specs.Constants.{pooled}
-use Rattle.wap_coding.specs.Needs.{Need, Constant, Operator, Variable, Local, Other, Library}
-use Rattle.wap_coding.specs.Needs.{literals_of, stmt_needs}
-use Rattle.wap_compiled.specs.Pool.{text_if, use_literals, function_literals, literals_needed, pool}
+use Rattle.wap_meaning.specs.coding.Constants.{pooled}
+use Rattle.wap_meaning.specs.coding.Needs.{Need, Constant, Operator, Variable, Local, Other}
+use Rattle.wap_meaning.specs.coding.Needs.{Library}
+use Rattle.wap_meaning.specs.coding.Needs.{literals_of, stmt_needs}
+use Rattle.wap_meaning.specs.compiled.Pool.{text_if, use_literals, function_literals}
+use Rattle.wap_meaning.specs.compiled.Pool.{literals_needed, pool}
 use Rattle.wap_codegen.specs.pool.Names.{names_of}
 use Rattle.wap_codegen.specs.pool.inside.Pools.{text_needs, use_needs, function_needs}
 use Rattle.wap_codegen.specs.pool.inside.Pools.{program_needs}

@@ -11,7 +11,7 @@ use Rattle.std.specs.Map.{lookup}
 use Rattle.std.proofs.lemmas.List.Sums.{prefix_len-le-length}
 use Rattle.wap_base.specs.Texts.{is_same_text}
 use Rattle.wap_meaning.specs.Names.{url_of}
-use Rattle.wap_coding.specs.Constants.{same_literal, place_in, is_in, with_literal}
+use Rattle.wap_meaning.specs.coding.Constants.{same_literal, place_in, is_in, with_literal}
 use Rattle.wap_codegen.specs.contracts.pool.content.ContentPartialEq.TheImpl.{eq-value}
 use Rattle.wap_codegen.specs.declared.pool.content.Content.{Content}
 use Rattle.wap_codegen.specs.declared.pool.content.Content.TheVariants as content

@@ -39,9 +39,9 @@ use Rattle.wap_program.specs.declared.statement.Stmt.TheVariants.{
   rolls-Continue,
   rolls-Return,
 }
-use Rattle.wap_coding.specs.Needs.{Need, Variable, Local, Other, Library, literal_needs}
-use Rattle.wap_coding.specs.Needs.{assign_needs, expr_needs_by, expr_needs, optional_needs}
-use Rattle.wap_coding.specs.Needs.{declared_needs, stmt_needs_by, stmt_needs}
+use Rattle.wap_meaning.specs.coding.Needs.{Need, Variable, Local, Other, Library, literal_needs}
+use Rattle.wap_meaning.specs.coding.Needs.{assign_needs, expr_needs_by, expr_needs, optional_needs}
+use Rattle.wap_meaning.specs.coding.Needs.{declared_needs, stmt_needs_by, stmt_needs}
 
 -- items that are mapped first
 flat_mapped : {X Y Z : Type 0} (f : X → Y) (g : Y → List Z) (xs : List X) →

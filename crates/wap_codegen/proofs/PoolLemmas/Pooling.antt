@@ -11,9 +11,9 @@ use Rattle.wap_program.specs.declared.program.Id.{Id}
 use Rattle.wap_program.specs.declared.expression.Literal.{Literal}
 use Rattle.wap_program.specs.declared.expression.Literal.TheVariants as literal
 use Rattle.wap_meaning.specs.Names.{Names, url_of}
-use Rattle.wap_coding.specs.Constants.{Numbers, pooled, with_literal}
-use Rattle.wap_coding.specs.Needs.{Need, Constant, Variable, Local, Other, Library}
-use Rattle.wap_coding.specs.Needs.{literals_of, assign_needs, literal_needs}
+use Rattle.wap_meaning.specs.coding.Constants.{Numbers, pooled, with_literal}
+use Rattle.wap_meaning.specs.coding.Needs.{Need, Constant, Variable, Local, Other, Library}
+use Rattle.wap_meaning.specs.coding.Needs.{literals_of, assign_needs, literal_needs}
 use Rattle.wap_codegen.specs.pool.inside.Pools.{Pools}
 use Rattle.wap_codegen.specs.pool.inside.Leaves.{Leaves}
 

@@ -8,12 +8,12 @@ use Rattle.wap_program.specs.declared.program.Program.{Program}
 use Rattle.wap_scope.specs.Meanings.{function_names}
 use Rattle.wap_scope_laws.specs.Known.{variables}
 use Rattle.wap_meaning.specs.Names.{url_in}
-use Rattle.wap_coding.specs.Constants.{Numbers}
+use Rattle.wap_meaning.specs.coding.Constants.{Numbers}
 use Rattle.wap_codegen.specs.pool.Names.{AreOnce}
-use Rattle.wap_compiled.specs.Pool.{pool}
-use Rattle.wap_compiled.specs.Wide.{function_wide}
-use Rattle.wap_compiled.specs.Savings.{saved, function_saves}
-use Rattle.wap_compiled.specs.Accepted.{most_constants, most_code}
+use Rattle.wap_meaning.specs.compiled.Pool.{pool}
+use Rattle.wap_meaning.specs.compiled.Wide.{function_wide}
+use Rattle.wap_meaning.specs.compiled.Savings.{saved, function_saves}
+use Rattle.wap_meaning.specs.compiled.Accepted.{most_constants, most_code}
 use Rattle.wap_compiled_laws.specs.Laws.{HasForms}
 use Rattle.wap_codegen.specs.Faults.{IsFirstLong}
 use Rattle.wap_codegen.specs.declared.fault.CompileFault.{CompileFault}

@@ -1,12 +1,13 @@
 //! The code of expressions.
 ghost use Rattle.std.specs.Prelude.{◌≡◌, map, IfOk, OnOk};
 ghost use Rattle.wap_program.specs.declared.expression.Literal.TheVariants as literal;
-ghost use Rattle.wap_coding.specs.Coded.{all_code, one, instr, ◌⨾◌};
+ghost use Rattle.wap_meaning.specs.coding.Coded.{all_code, one, instr, ◌⨾◌};
 ghost use Rattle.wap_asm.specs.declared.form.Form.TheVariants.{Op};
 ghost use Rattle.wap_meaning.specs.Names.{numbers_of};
 ghost use Rattle.wap_code.specs.declared.row.OpName.TheVariants as op;
-ghost use Rattle.wap_coding.specs.Expressions.{expr_code, literal_code, unary_code, step_code};
-ghost use Rattle.wap_coding.specs.Expressions.{store_code, load_code};
+ghost use Rattle.wap_meaning.specs.coding.Expressions.{expr_code, literal_code, unary_code};
+ghost use Rattle.wap_meaning.specs.coding.Expressions.{step_code};
+ghost use Rattle.wap_meaning.specs.coding.Expressions.{store_code, load_code};
 ghost use Rattle.wap_codegen.specs.emission.inside.Adding.{Extends};
 ghost use Rattle.wap_codegen.specs.emission.inside.Operands.{before_code, after_code, Begins, Ends};
 ghost use Rattle.wap_codegen.specs.emission.inside.Operands.{Chains};

@@ -1,7 +1,7 @@
 //! Forms that are added one after the other.
 ghost use Rattle.std.specs.Prelude.{◌≡◌, ◌<◌, ◌++◌, [], ◌∷◌, length, slice_set, IfOk, OnOk};
 ghost use Rattle.wap_asm.specs.declared.form.Form.TheVariants.{Op, Jump, Label};
-ghost use Rattle.wap_coding.specs.Coded.{one, instr, plain, with_operand, label};
+ghost use Rattle.wap_meaning.specs.coding.Coded.{one, instr, plain, with_operand, label};
 ghost use Rattle.wap_codegen.specs.emission.inside.Adding.{Extends};
 ghost use Rattle.wap_codegen.specs.declared.emission.exits.TheConstants.{CONTINUE};
 

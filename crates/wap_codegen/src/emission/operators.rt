@@ -1,7 +1,7 @@
 //! The operations of operators.
 ghost use Rattle.std.specs.Prelude.{◌≡◌};
-ghost use Rattle.wap_coding.specs.Coded.{Coded};
-ghost use Rattle.wap_coding.specs.Expressions.{binary_name, joined_code, change_name};
+ghost use Rattle.wap_meaning.specs.coding.Coded.{Coded};
+ghost use Rattle.wap_meaning.specs.coding.Expressions.{binary_name, joined_code, change_name};
 ghost use Rattle.wap_codegen.specs.emission.inside.Operands.{joint_code, truth_name};
 
 use wap_code::OpName;

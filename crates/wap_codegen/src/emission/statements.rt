@@ -1,14 +1,15 @@
 //! The code of statements.
 ghost use Rattle.std.specs.Prelude.{◌≡◌, ◌++◌, [], ◌∷◌, map, IfOk, OnOk, None};
 ghost use Rattle.std.specs.Option.{option_copied};
-ghost use Rattle.wap_coding.specs.Coded.{all_code, ◌⨾◌};
-ghost use Rattle.wap_coding.specs.Statements.{stmt_code, declared_code};
-ghost use Rattle.wap_coding.specs.Statements.{dropped_code, changed_code, test_code, loop_code};
-ghost use Rattle.wap_coding.specs.Statements.{update_code};
-ghost use Rattle.wap_coding.specs.Compiled.{function_code};
+ghost use Rattle.wap_meaning.specs.coding.Coded.{all_code, ◌⨾◌};
+ghost use Rattle.wap_meaning.specs.coding.Statements.{stmt_code, declared_code};
+ghost use Rattle.wap_meaning.specs.coding.Statements.{dropped_code, changed_code, test_code};
+ghost use Rattle.wap_meaning.specs.coding.Statements.{loop_code};
+ghost use Rattle.wap_meaning.specs.coding.Statements.{update_code};
+ghost use Rattle.wap_meaning.specs.coding.Compiled.{function_code};
 ghost use Rattle.wap_codegen.specs.emission.inside.Adding.{Adds, Extends};
 ghost use Rattle.wap_program.specs.declared.statement.Stmt.TheVariants as stmt;
-ghost use Rattle.wap_coding.specs.Expressions.{expr_code, store_code};
+ghost use Rattle.wap_meaning.specs.coding.Expressions.{expr_code, store_code};
 ghost use Rattle.wap_codegen.specs.emission.inside.Exits.{exits_in};
 ghost use Rattle.wap_codegen.specs.emission.inside.Loops.{Tests, closed, change_of, named_code};
 ghost use Rattle.wap_codegen.specs.emission.inside.Loops.{exit_at};

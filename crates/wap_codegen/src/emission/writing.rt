@@ -1,7 +1,7 @@
 //! Which variables expressions write.
 ghost use Rattle.std.specs.Prelude.{◌≡◌};
 ghost use Rattle.std.specs.List.{list_any};
-ghost use Rattle.wap_coding.specs.Statements.{writes};
+ghost use Rattle.wap_meaning.specs.coding.Statements.{writes};
 
 use crate::pool::Numbering;
 use wap_program::Expr;

@@ -1,7 +1,7 @@
 //! Constants as units spell them.
 ghost use Rattle.std.specs.Prelude.{◌≡◌, IfOk, map};
 ghost use Rattle.wap_program.specs.declared.expression.Literal.TheVariants as literal;
-ghost use Rattle.wap_coding.specs.Constants.{integer_constant, constant_for};
+ghost use Rattle.wap_meaning.specs.coding.Constants.{integer_constant, constant_for};
 ghost use Rattle.wap_codegen.specs.pool.inside.Contents.{literal_of};
 
 use crate::pool::content::Content;

@@ -2,7 +2,7 @@
 ghost use Rattle.std.specs.Prelude.{[], ◌∷◌, OnOk};
 ghost use Rattle.std.specs.List.{flat_map};
 ghost use Rattle.wap_program.specs.declared.expression.Literal.TheVariants as literal;
-ghost use Rattle.wap_coding.specs.Needs.{expr_needs, literal_needs, Other};
+ghost use Rattle.wap_meaning.specs.coding.Needs.{expr_needs, literal_needs, Other};
 ghost use Rattle.wap_codegen.specs.pool.inside.Pools.{Pools};
 
 use crate::pool::numbering::Numbering;

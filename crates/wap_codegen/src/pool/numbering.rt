@@ -4,9 +4,10 @@ ghost use Rattle.wap_program.specs.declared.expression.Literal.TheVariants as li
 ghost use Rattle.wap_scope.specs.Scoped.{IsScoped};
 ghost use Rattle.wap_scope_laws.specs.Known.{variables};
 ghost use Rattle.wap_meaning.specs.Names.{variable_at, function_at, url_of};
-ghost use Rattle.wap_coding.specs.Constants.{number_of, text_number, url_number, with_literal};
-ghost use Rattle.wap_coding.specs.Constants.{constant_for};
-ghost use Rattle.wap_compiled.specs.Pool.{pool};
+ghost use Rattle.wap_meaning.specs.coding.Constants.{number_of, text_number, url_number};
+ghost use Rattle.wap_meaning.specs.coding.Constants.{with_literal};
+ghost use Rattle.wap_meaning.specs.coding.Constants.{constant_for};
+ghost use Rattle.wap_meaning.specs.compiled.Pool.{pool};
 ghost use Rattle.wap_codegen.specs.pool.Names.{names_of, AreOnce};
 ghost use Rattle.wap_codegen.specs.pool.inside.Contents.{literal_of};
 
@@ -34,7 +35,7 @@ pub struct Numbering {
 
 impl Model for Numbering {
     ghost use Rattle.std.specs.Prelude.{map};
-    ghost use Rattle.wap_coding.specs.Constants.{Numbers};
+    ghost use Rattle.wap_meaning.specs.coding.Constants.{Numbers};
     ghost use Rattle.wap_codegen.specs.pool.inside.Contents.{literal_of};
 
     ghost Value = { Numbers };

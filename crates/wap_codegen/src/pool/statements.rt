@@ -1,7 +1,7 @@
 //! The constants that statements need.
 ghost use Rattle.std.specs.Prelude.{OnOk};
 ghost use Rattle.std.specs.List.{flat_map};
-ghost use Rattle.wap_coding.specs.Needs.{optional_needs, declared_needs, stmt_needs};
+ghost use Rattle.wap_meaning.specs.coding.Needs.{optional_needs, declared_needs, stmt_needs};
 ghost use Rattle.wap_codegen.specs.pool.inside.Pools.{Pools};
 
 use crate::pool::expressions::add_expression;

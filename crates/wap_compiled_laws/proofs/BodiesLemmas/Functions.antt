@@ -25,12 +25,12 @@ use Rattle.wap_meaning.specs.Functions.{program_runs, plain_ways, code_runs, uni
 use Rattle.wap_meaning.specs.Keeping.{GiveNoTurns}
 use Rattle.wap_meaning.proofs.Following.{done_same}
 use Rattle.wap_meaning.proofs.Variables.{variables_first}
-use Rattle.wap_coding.specs.Coded.{all_code}
-use Rattle.wap_coding.specs.Constants.{Numbers}
-use Rattle.wap_coding.specs.Statements.{stmt_code}
-use Rattle.wap_coding.specs.Needs.{stmt_needs}
-use Rattle.wap_coding.specs.Compiled.{function_code, numbers_in, IsCodeOf, IsCompiled}
-use Rattle.wap_coding.specs.Compiled.{AgreeWithPrograms}
+use Rattle.wap_meaning.specs.coding.Coded.{all_code}
+use Rattle.wap_meaning.specs.coding.Constants.{Numbers}
+use Rattle.wap_meaning.specs.coding.Statements.{stmt_code}
+use Rattle.wap_meaning.specs.coding.Needs.{stmt_needs}
+use Rattle.wap_meaning.specs.coding.Compiled.{function_code, numbers_in, IsCodeOf, IsCompiled}
+use Rattle.wap_meaning.specs.coding.Compiled.{AgreeWithPrograms}
 use Rattle.wap_compiled_laws.proofs.Pieces.Standing.{at_end}
 use Rattle.wap_compiled_laws.proofs.Pieces.Pieces.{Holds, holds_all, Site, spot}
 use Rattle.wap_compiled_laws.proofs.Expressions.Expressions.{around, Met, met_front, met_back}

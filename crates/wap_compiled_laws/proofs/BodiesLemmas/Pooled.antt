@@ -11,8 +11,8 @@ use Rattle.wap_code.specs.Strings.{string_of, string_at}
 use Rattle.wap_program.specs.declared.expression.Literal.{Literal}
 use Rattle.wap_execution.specs.Frames.{constant_of, constant_at}
 use Rattle.wap_meaning.specs.Expressions.{value_of}
-use Rattle.wap_coding.specs.Constants.{same_literal, is_in, place_in, with_literal, pooled}
-use Rattle.wap_coding.specs.Constants.{integer_constant, constant_for, HasPool}
+use Rattle.wap_meaning.specs.coding.Constants.{same_literal, is_in, place_in, with_literal, pooled}
+use Rattle.wap_meaning.specs.coding.Constants.{integer_constant, constant_for, HasPool}
 use Rattle.wap_program.specs.declared.expression.Literal.TheVariants as literal
 
 -- ---- literals of a pool

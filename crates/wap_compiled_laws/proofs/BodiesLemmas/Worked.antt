@@ -8,11 +8,12 @@ use Rattle.wap_program.specs.declared.statement.Stmt.{Stmt, roll-Stmt}
 use Rattle.wap_program.specs.declared.statement.Stmt.TheOpen.{Stmt-F}
 use Rattle.wap_program.specs.declared.statement.Stmt.TheFolds.{fold-roll-Stmt}
 use Rattle.wap_asm.specs.declared.form.Form.TheVariants.{Op}
-use Rattle.wap_coding.specs.Coded.{Coded, instr, ◌⨾◌, plain, with_operand}
-use Rattle.wap_coding.specs.Constants.{Numbers}
-use Rattle.wap_coding.specs.Expressions.{expr_code, expr_code_by}
-use Rattle.wap_coding.specs.Statements.{stmt_code, stmt_code_by, effect_code, writes, writes_by}
-use Rattle.wap_coding.specs.Statements.{dropped_code}
+use Rattle.wap_meaning.specs.coding.Coded.{Coded, instr, ◌⨾◌, plain, with_operand}
+use Rattle.wap_meaning.specs.coding.Constants.{Numbers}
+use Rattle.wap_meaning.specs.coding.Expressions.{expr_code, expr_code_by}
+use Rattle.wap_meaning.specs.coding.Statements.{stmt_code, stmt_code_by, effect_code, writes}
+use Rattle.wap_meaning.specs.coding.Statements.{writes_by}
+use Rattle.wap_meaning.specs.coding.Statements.{dropped_code}
 use Rattle.wap_value.specs.declared.operator.BinOp.TheVariants as bin
 use Rattle.wap_code.specs.declared.row.OpName.TheVariants as op
 use Rattle.wap_program.specs.declared.expression.Literal.TheVariants as literal

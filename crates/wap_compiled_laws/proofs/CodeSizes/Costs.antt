@@ -13,9 +13,9 @@ use Rattle.wap_asm.specs.Spellings.{operation_of, longest}
 use Rattle.wap_asm.specs.Placing.{wide_size, wide}
 use Rattle.wap_asm.specs.declared.form.Form.{Form}
 use Rattle.wap_asm.specs.declared.form.Form.TheVariants.{Op, Jump, Label}
-use Rattle.wap_coding.specs.Coded.{Exits, Coded, empty, one, ◌⨾◌, label, jump_over}
-use Rattle.wap_coding.specs.Coded.{jump_before, within}
-use Rattle.wap_compiled.specs.Savings.{form_saves, saved}
+use Rattle.wap_meaning.specs.coding.Coded.{Exits, Coded, empty, one, ◌⨾◌, label, jump_over}
+use Rattle.wap_meaning.specs.coding.Coded.{jump_before, within}
+use Rattle.wap_meaning.specs.compiled.Savings.{form_saves, saved}
 
 -- ---- one form
 

@@ -34,19 +34,22 @@ use Rattle.wap_scope.specs.Names.{Reference, references, references_by}
 use Rattle.wap_scope.specs.Scoped.{library_arity}
 use Rattle.wap_scope_laws.specs.Known.{variables, IsKnown, IsAmong}
 use Rattle.wap_meaning.specs.Names.{variable_at, function_at, numbers_of, library_numbers, url_of}
-use Rattle.wap_coding.specs.Coded.{Coded, one, ◌⨾◌, instr, plain, with_operand, all_code}
-use Rattle.wap_coding.specs.Coded.{label, jump_over}
-use Rattle.wap_coding.specs.Constants.{Numbers, HasPool, same_literal, is_in, place_in, number_of}
-use Rattle.wap_coding.specs.Constants.{text_number, url_number}
-use Rattle.wap_coding.specs.Compiled.{numbers_in}
-use Rattle.wap_coding.specs.Needs.{Need, Constant, Operator, Variable, Local, Other, Library}
-use Rattle.wap_coding.specs.Needs.{AreMet, literal_needs, expr_needs_by, expr_needs}
-use Rattle.wap_coding.specs.Expressions.{literal_code, unary_code, binary_name, joined_code}
-use Rattle.wap_coding.specs.Expressions.{chain_code, load_code, store_code, assigned_code}
-use Rattle.wap_coding.specs.Expressions.{change_name, step_code, cond_code, expr_code_by, expr_code}
+use Rattle.wap_meaning.specs.coding.Coded.{Coded, one, ◌⨾◌, instr, plain, with_operand, all_code}
+use Rattle.wap_meaning.specs.coding.Coded.{label, jump_over}
+use Rattle.wap_meaning.specs.coding.Constants.{Numbers, HasPool, same_literal, is_in, place_in}
+use Rattle.wap_meaning.specs.coding.Constants.{number_of}
+use Rattle.wap_meaning.specs.coding.Constants.{text_number, url_number}
+use Rattle.wap_meaning.specs.coding.Compiled.{numbers_in}
+use Rattle.wap_meaning.specs.coding.Needs.{Need, Constant, Operator, Variable, Local, Other}
+use Rattle.wap_meaning.specs.coding.Needs.{Library}
+use Rattle.wap_meaning.specs.coding.Needs.{AreMet, literal_needs, expr_needs_by, expr_needs}
+use Rattle.wap_meaning.specs.coding.Expressions.{literal_code, unary_code, binary_name, joined_code}
+use Rattle.wap_meaning.specs.coding.Expressions.{chain_code, load_code, store_code, assigned_code}
+use Rattle.wap_meaning.specs.coding.Expressions.{change_name, step_code, cond_code, expr_code_by}
+use Rattle.wap_meaning.specs.coding.Expressions.{expr_code}
 use Rattle.wap_compiled_laws.proofs.BodiesLemmas.Pooled.{IsPoolable, literal_at, text_at}
-use Rattle.wap_compiled.specs.Wide.{literal_wide, assign_wide, unary_wide, binary_wide}
-use Rattle.wap_compiled.specs.Wide.{expr_wide_by, expr_wide}
+use Rattle.wap_meaning.specs.compiled.Wide.{literal_wide, assign_wide, unary_wide, binary_wide}
+use Rattle.wap_meaning.specs.compiled.Wide.{expr_wide_by, expr_wide}
 use Rattle.wap_compiled_laws.proofs.CodeSizes.Each.{each_front, each_back}
 use Rattle.wap_compiled_laws.proofs.CodeSizes.Libraries.{row_of_names}
 use Rattle.wap_compiled_laws.proofs.CodeSizes.Costs.{Costs, costs_both, costs_same, costs_op}

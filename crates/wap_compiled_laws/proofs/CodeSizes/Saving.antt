@@ -11,10 +11,11 @@ use Rattle.wap_program.specs.declared.expression.Expr.TheFolds.{fold-roll-Expr}
 use Rattle.wap_program.specs.declared.statement.Stmt.{Stmt, roll-Stmt, map-Stmt}
 use Rattle.wap_program.specs.declared.statement.Stmt.TheOpen.{Stmt-F}
 use Rattle.wap_program.specs.declared.statement.Stmt.TheFolds.{fold-Stmt, fold-roll-Stmt, ind-Stmt}
-use Rattle.wap_compiled.specs.Wide.{expr_wide_by, expr_wide, effect_wide, effect_wide_if}
-use Rattle.wap_compiled.specs.Wide.{declared_wide, branches_wide, loop_wide, stmt_wide_by}
-use Rattle.wap_compiled.specs.Wide.{stmt_wide}
-use Rattle.wap_compiled.specs.Savings.{effect_saves, effect_saves_if, stmt_saves_by, stmt_saves}
+use Rattle.wap_meaning.specs.compiled.Wide.{expr_wide_by, expr_wide, effect_wide, effect_wide_if}
+use Rattle.wap_meaning.specs.compiled.Wide.{declared_wide, branches_wide, loop_wide, stmt_wide_by}
+use Rattle.wap_meaning.specs.compiled.Wide.{stmt_wide}
+use Rattle.wap_meaning.specs.compiled.Savings.{effect_saves, effect_saves_if, stmt_saves_by}
+use Rattle.wap_meaning.specs.compiled.Savings.{stmt_saves}
 
 -- ---- what statements cost
 

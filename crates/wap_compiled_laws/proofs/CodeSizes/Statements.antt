@@ -22,15 +22,19 @@ use Rattle.wap_scope.specs.Names.{Refers, refers, refers_if, declares, mentions_
 use Rattle.wap_scope.specs.Names.{mentions}
 use Rattle.wap_scope_laws.specs.Known.{CanBeCoded}
 use Rattle.wap_meaning.specs.Names.{variable_at}
-use Rattle.wap_coding.specs.Coded.{Exits, Coded, empty, one, ◌⨾◌, instr, plain, with_operand}
-use Rattle.wap_coding.specs.Coded.{all_code, label, jump_over, jump_before, within}
-use Rattle.wap_coding.specs.Needs.{Need, Variable, Operator, AreMet, expr_needs_by, expr_needs}
-use Rattle.wap_coding.specs.Needs.{optional_needs, declared_needs, stmt_needs_by, stmt_needs}
-use Rattle.wap_coding.specs.Expressions.{store_code, expr_code}
-use Rattle.wap_coding.specs.Statements.{writes, dropped_code, changed_code, effect_code}
-use Rattle.wap_coding.specs.Statements.{declared_code, branch_code, if_code, exit_form, test_code}
-use Rattle.wap_coding.specs.Statements.{loop_code, update_code, stmt_code_by, stmt_code}
-use Rattle.wap_compiled.specs.Wide.{expr_wide_by, expr_wide, declared_wide, loop_wide}
+use Rattle.wap_meaning.specs.coding.Coded.{Exits, Coded, empty, one, ◌⨾◌, instr, plain}
+use Rattle.wap_meaning.specs.coding.Coded.{with_operand}
+use Rattle.wap_meaning.specs.coding.Coded.{all_code, label, jump_over, jump_before, within}
+use Rattle.wap_meaning.specs.coding.Needs.{Need, Variable, Operator, AreMet, expr_needs_by}
+use Rattle.wap_meaning.specs.coding.Needs.{expr_needs}
+use Rattle.wap_meaning.specs.coding.Needs.{optional_needs, declared_needs, stmt_needs_by}
+use Rattle.wap_meaning.specs.coding.Needs.{stmt_needs}
+use Rattle.wap_meaning.specs.coding.Expressions.{store_code, expr_code}
+use Rattle.wap_meaning.specs.coding.Statements.{writes, dropped_code, changed_code, effect_code}
+use Rattle.wap_meaning.specs.coding.Statements.{declared_code, branch_code, if_code, exit_form}
+use Rattle.wap_meaning.specs.coding.Statements.{test_code}
+use Rattle.wap_meaning.specs.coding.Statements.{loop_code, update_code, stmt_code_by, stmt_code}
+use Rattle.wap_meaning.specs.compiled.Wide.{expr_wide_by, expr_wide, declared_wide, loop_wide}
 use Rattle.wap_compiled_laws.proofs.CodeSizes.Each.{each_front, each_back, each_of}
 use Rattle.wap_compiled_laws.proofs.CodeSizes.Costs.{Fits, cost, Allowed, Costs, costs_both}
 use Rattle.wap_compiled_laws.proofs.CodeSizes.Costs.{costs_same}

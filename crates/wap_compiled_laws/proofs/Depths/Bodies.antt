@@ -15,17 +15,18 @@ use Rattle.wap_program.specs.declared.statement.Stmt.TheOpen.{Stmt-F}
 use Rattle.wap_program.specs.declared.statement.Stmt.TheFolds.{fold-roll-Stmt, ind-Stmt}
 use Rattle.wap_meaning.specs.Names.{variable_at}
 use Rattle.wap_asm.specs.declared.form.Form.{Form}
-use Rattle.wap_coding.specs.Coded.{Coded, empty, one, ◌⨾◌, instr, plain, with_operand}
-use Rattle.wap_coding.specs.Coded.{all_code}
-use Rattle.wap_coding.specs.Constants.{Numbers}
-use Rattle.wap_coding.specs.Expressions.{store_code, expr_code}
-use Rattle.wap_coding.specs.Statements.{dropped_code, writes, changed_code, effect_code, test_code}
-use Rattle.wap_coding.specs.Statements.{loop_code, update_code, declared_code, stmt_code_by}
-use Rattle.wap_coding.specs.Statements.{stmt_code, branch_code}
+use Rattle.wap_meaning.specs.coding.Coded.{Coded, empty, one, ◌⨾◌, instr, plain, with_operand}
+use Rattle.wap_meaning.specs.coding.Coded.{all_code}
+use Rattle.wap_meaning.specs.coding.Constants.{Numbers}
+use Rattle.wap_meaning.specs.coding.Expressions.{store_code, expr_code}
+use Rattle.wap_meaning.specs.coding.Statements.{dropped_code, writes, changed_code, effect_code}
+use Rattle.wap_meaning.specs.coding.Statements.{test_code}
+use Rattle.wap_meaning.specs.coding.Statements.{loop_code, update_code, declared_code, stmt_code_by}
+use Rattle.wap_meaning.specs.coding.Statements.{stmt_code, branch_code}
 use Rattle.wap_compiled_laws.proofs.Pieces.Jumps.{branches}
-use Rattle.wap_coding.specs.Needs.{Need, Variable, Operator, expr_needs_by, expr_needs}
-use Rattle.wap_coding.specs.Needs.{declared_needs, optional_needs, stmt_needs_by}
-use Rattle.wap_coding.specs.Needs.{stmt_needs}
+use Rattle.wap_meaning.specs.coding.Needs.{Need, Variable, Operator, expr_needs_by, expr_needs}
+use Rattle.wap_meaning.specs.coding.Needs.{declared_needs, optional_needs, stmt_needs_by}
+use Rattle.wap_meaning.specs.coding.Needs.{stmt_needs}
 use Rattle.wap_compiled_laws.proofs.Depths.Flow.{flow_of}
 use Rattle.wap_compiled_laws.proofs.Depths.Shapes.{shape_branches, shape_branch, shape_empty}
 use Rattle.wap_compiled_laws.proofs.Depths.Shapes.{TestShape}

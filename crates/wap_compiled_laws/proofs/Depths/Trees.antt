@@ -15,14 +15,14 @@ use Rattle.wap_program.specs.declared.expression.Expr.TheFolds.{fold-roll-Expr, 
 use Rattle.wap_meaning.specs.Names.{variable_at, function_at, numbers_of}
 use Rattle.wap_asm.specs.declared.form.Form.{Form}
 use Rattle.wap_asm.specs.declared.form.Form.TheVariants.{Op}
-use Rattle.wap_coding.specs.Coded.{Coded, empty, one, ◌⨾◌, instr, plain, with_operand}
-use Rattle.wap_coding.specs.Coded.{all_code}
-use Rattle.wap_coding.specs.Constants.{Numbers, number_of, text_number, url_number}
-use Rattle.wap_coding.specs.Expressions.{literal_code, unary_code, binary_name, joined_code}
-use Rattle.wap_coding.specs.Expressions.{chain_code, load_code, store_code}
-use Rattle.wap_coding.specs.Expressions.{expr_code_by, expr_code}
+use Rattle.wap_meaning.specs.coding.Coded.{Coded, empty, one, ◌⨾◌, instr, plain, with_operand}
+use Rattle.wap_meaning.specs.coding.Coded.{all_code}
+use Rattle.wap_meaning.specs.coding.Constants.{Numbers, number_of, text_number, url_number}
+use Rattle.wap_meaning.specs.coding.Expressions.{literal_code, unary_code, binary_name, joined_code}
+use Rattle.wap_meaning.specs.coding.Expressions.{chain_code, load_code, store_code}
+use Rattle.wap_meaning.specs.coding.Expressions.{expr_code_by, expr_code}
 use Rattle.wap_compiled_laws.proofs.Pieces.Jumps.{branches}
-use Rattle.wap_coding.specs.Needs.{Need, expr_needs_by, expr_needs, AreMet}
+use Rattle.wap_meaning.specs.coding.Needs.{Need, expr_needs_by, expr_needs, AreMet}
 use Rattle.wap_compiled_laws.proofs.Depths.Flow.{goes, flow_of}
 use Rattle.wap_compiled_laws.proofs.Depths.Shapes.{Shape, shape_both, shape_op, shape_branches}
 use Rattle.wap_compiled_laws.proofs.Depths.Shapes.{shape_short}

@@ -27,10 +27,10 @@ use Rattle.wap_meaning.specs.Names.{variable_at, function_at, numbers_of, callee
 use Rattle.wap_meaning.specs.Names.{callee_external, callee_library, url_of}
 use Rattle.wap_meaning.specs.Expressions.{value_of, Around, eval_by, eval}
 use Rattle.wap_asm.specs.declared.form.Form.TheVariants.{Op}
-use Rattle.wap_coding.specs.Coded.{Coded, one, ◌⨾◌, instr, plain, with_operand}
-use Rattle.wap_coding.specs.Constants.{Numbers, number_of, text_number, url_number}
-use Rattle.wap_coding.specs.Expressions.{literal_code, unary_code, expr_code_by, expr_code}
-use Rattle.wap_coding.specs.Needs.{Need, literal_needs, expr_needs_by, expr_needs, AreMet}
+use Rattle.wap_meaning.specs.coding.Coded.{Coded, one, ◌⨾◌, instr, plain, with_operand}
+use Rattle.wap_meaning.specs.coding.Constants.{Numbers, number_of, text_number, url_number}
+use Rattle.wap_meaning.specs.coding.Expressions.{literal_code, unary_code, expr_code_by, expr_code}
+use Rattle.wap_meaning.specs.coding.Needs.{Need, literal_needs, expr_needs_by, expr_needs, AreMet}
 use Rattle.wap_meaning.proofs.Following.{keeps_both}
 use Rattle.wap_compiled_laws.proofs.Pieces.Pieces.{Sized, sized_both, Site, onto, Piece, both}
 use Rattle.wap_compiled_laws.proofs.Pieces.Pieces.{op_piece}

@@ -27,17 +27,20 @@ use Rattle.wap_program.specs.declared.statement.Stmt.TheOpen.{Stmt-F}
 use Rattle.wap_program.specs.declared.statement.Stmt.TheFolds.{fold-roll-Stmt, ind-Stmt}
 use Rattle.wap_meaning.specs.Names.{variable_at, function_at, numbers_of, url_of}
 use Rattle.wap_meaning.specs.Expressions.{value_of}
-use Rattle.wap_coding.specs.Coded.{Coded, empty, one, ◌⨾◌, instr, plain, with_operand, all_code}
-use Rattle.wap_coding.specs.Constants.{Numbers, number_of, text_number, url_number}
-use Rattle.wap_coding.specs.Expressions.{literal_code, unary_code, binary_name, joined_code}
-use Rattle.wap_coding.specs.Expressions.{chain_code, load_code, store_code, assigned_code}
-use Rattle.wap_coding.specs.Expressions.{change_name, step_code, expr_code_by, expr_code}
-use Rattle.wap_coding.specs.Statements.{branch_code, dropped_code, writes, changed_code}
-use Rattle.wap_coding.specs.Statements.{effect_code, test_code, loop_code, update_code}
-use Rattle.wap_coding.specs.Statements.{declared_code, stmt_code_by, stmt_code}
-use Rattle.wap_coding.specs.Needs.{Need, Variable, Operator, AreMet, literal_needs, expr_needs_by}
-use Rattle.wap_coding.specs.Needs.{expr_needs, optional_needs, declared_needs, stmt_needs_by}
-use Rattle.wap_coding.specs.Needs.{stmt_needs}
+use Rattle.wap_meaning.specs.coding.Coded.{Coded, empty, one, ◌⨾◌, instr, plain, with_operand}
+use Rattle.wap_meaning.specs.coding.Coded.{all_code}
+use Rattle.wap_meaning.specs.coding.Constants.{Numbers, number_of, text_number, url_number}
+use Rattle.wap_meaning.specs.coding.Expressions.{literal_code, unary_code, binary_name, joined_code}
+use Rattle.wap_meaning.specs.coding.Expressions.{chain_code, load_code, store_code, assigned_code}
+use Rattle.wap_meaning.specs.coding.Expressions.{change_name, step_code, expr_code_by, expr_code}
+use Rattle.wap_meaning.specs.coding.Statements.{branch_code, dropped_code, writes, changed_code}
+use Rattle.wap_meaning.specs.coding.Statements.{effect_code, test_code, loop_code, update_code}
+use Rattle.wap_meaning.specs.coding.Statements.{declared_code, stmt_code_by, stmt_code}
+use Rattle.wap_meaning.specs.coding.Needs.{Need, Variable, Operator, AreMet, literal_needs}
+use Rattle.wap_meaning.specs.coding.Needs.{expr_needs_by}
+use Rattle.wap_meaning.specs.coding.Needs.{expr_needs, optional_needs, declared_needs}
+use Rattle.wap_meaning.specs.coding.Needs.{stmt_needs_by}
+use Rattle.wap_meaning.specs.coding.Needs.{stmt_needs}
 use Rattle.wap_compiled_laws.proofs.Pieces.Jumps.{branches}
 use Rattle.wap_compiled_laws.proofs.Labels.Ranges.{kind_of, AreThere, constant_within}
 use Rattle.wap_compiled_laws.proofs.Labels.Ranges.{function_within}

@@ -11,10 +11,11 @@ use Rattle.wap_code.specs.declared.instr.Instr.{Instr}
 use Rattle.wap_asm.specs.Spellings.{operation_of}
 use Rattle.wap_asm.specs.declared.form.Form.{Form}
 use Rattle.wap_asm.specs.declared.form.Form.TheVariants.{Op, Jump, Label}
-use Rattle.wap_coding.specs.Coded.{Exits, Coded, empty, one, ◌⨾◌, instr, plain, label, jump_over}
-use Rattle.wap_coding.specs.Coded.{jump_before, within}
-use Rattle.wap_coding.specs.Expressions.{short_code}
-use Rattle.wap_coding.specs.Statements.{branch_code, exit_form, loop_code}
+use Rattle.wap_meaning.specs.coding.Coded.{Exits, Coded, empty, one, ◌⨾◌, instr, plain, label}
+use Rattle.wap_meaning.specs.coding.Coded.{jump_over}
+use Rattle.wap_meaning.specs.coding.Coded.{jump_before, within}
+use Rattle.wap_meaning.specs.coding.Expressions.{short_code}
+use Rattle.wap_meaning.specs.coding.Statements.{branch_code, exit_form, loop_code}
 use Rattle.wap_compiled_laws.proofs.Pieces.Pieces.{Holds, front, behind, Sized, sized_both}
 use Rattle.wap_compiled_laws.proofs.Pieces.Jumps.{branches}
 

@@ -11,7 +11,7 @@ use Rattle.wap_meaning.specs.Parts.{Does, done, turn}
 use Rattle.wap_asm.specs.declared.form.Form.TheVariants.{Jump, Label}
 use Rattle.wap_asm.specs.Placed.{JumpsOn}
 use Rattle.wap_asm.specs.Spellings.{operation_of}
-use Rattle.wap_coding.specs.Coded.{Exits, Coded, one, ◌⨾◌, label, jump_over}
+use Rattle.wap_meaning.specs.coding.Coded.{Exits, Coded, one, ◌⨾◌, label, jump_over}
 use Rattle.wap_compiled_laws.proofs.Pieces.Standing.{at}
 use Rattle.wap_meaning.proofs.Following.{done_same}
 use Rattle.wap_compiled_laws.proofs.Pieces.Pieces.{front, behind, Sized, Site, spot, settle, After}

@@ -27,8 +27,8 @@ use Rattle.wap_meaning.specs.Parts.{store, kept, calling}
 use Rattle.wap_meaning.specs.Expressions.{assigned, stepped}
 use Rattle.wap_asm.specs.declared.form.Form.{Form}
 use Rattle.wap_asm.specs.declared.form.Form.TheVariants.{Op}
-use Rattle.wap_coding.specs.Coded.{Exits, Coded, one, ◌⨾◌, instr, plain, with_operand}
-use Rattle.wap_coding.specs.Expressions.{load_code, store_code, assigned_code}
+use Rattle.wap_meaning.specs.coding.Coded.{Exits, Coded, one, ◌⨾◌, instr, plain, with_operand}
+use Rattle.wap_meaning.specs.coding.Expressions.{load_code, store_code, assigned_code}
 use Rattle.wap_meaning.proofs.Steps.{load_keeps, store_keeps, kept_keeps}
 use Rattle.wap_meaning.proofs.Following.{from_done, keeps_both}
 use Rattle.wap_meaning.specs.Keeping.{Keeps}

@@ -22,7 +22,7 @@ use Rattle.wap_meaning.specs.Parts.{Does, ◌>>=◌, done}
 use Rattle.wap_asm.specs.declared.form.Form.{Form}
 use Rattle.wap_asm.specs.declared.form.Form.TheVariants.{Op, Label}
 use Rattle.wap_asm.specs.Placed.{Stands, IsPlaced}
-use Rattle.wap_coding.specs.Coded.{Exits, Coded, one, ◌⨾◌, instr}
+use Rattle.wap_meaning.specs.coding.Coded.{Exits, Coded, one, ◌⨾◌, instr}
 use Rattle.wap_meaning.specs.Keeping.{GiveNoTurns, Keeps}
 use Rattle.wap_compiled_laws.proofs.Pieces.Standing.{at, settled, at_here}
 use Rattle.wap_meaning.proofs.Following.{from_done_where, Gave, gave_both, lessened}

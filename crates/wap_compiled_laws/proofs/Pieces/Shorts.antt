@@ -24,8 +24,8 @@ use Rattle.wap_asm.specs.declared.form.Form.{Form}
 use Rattle.wap_asm.specs.declared.form.Form.TheVariants.{Op}
 use Rattle.wap_asm.specs.Placed.{Stands}
 use Rattle.wap_meaning.specs.Expressions.{decides, as_boolean}
-use Rattle.wap_coding.specs.Coded.{Exits, Coded, one, ◌⨾◌, instr, plain, label}
-use Rattle.wap_coding.specs.Expressions.{short_code}
+use Rattle.wap_meaning.specs.coding.Coded.{Exits, Coded, one, ◌⨾◌, instr, plain, label}
+use Rattle.wap_meaning.specs.coding.Expressions.{short_code}
 use Rattle.wap_compiled_laws.proofs.Pieces.Standing.{at}
 use Rattle.wap_meaning.proofs.Following.{done_same}
 use Rattle.wap_meaning.specs.Keeping.{Keeps}

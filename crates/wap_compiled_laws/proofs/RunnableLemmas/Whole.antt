@@ -10,8 +10,8 @@ use Rattle.wap_asm.specs.declared.form.Form.TheVariants.{Op, Jump, Label}
 use Rattle.wap_program.specs.declared.expression.Literal.{Literal}
 use Rattle.wap_program.specs.declared.program.Function.{Function as SourceFunction}
 use Rattle.wap_program.specs.declared.program.Program.{Program}
-use Rattle.wap_coding.specs.Coded.{Coded}
-use Rattle.wap_coding.specs.Compiled.{function_code, numbers_in, IsCodeOf}
+use Rattle.wap_meaning.specs.coding.Coded.{Coded}
+use Rattle.wap_meaning.specs.coding.Compiled.{function_code, numbers_in, IsCodeOf}
 use Rattle.wap_compiled_laws.proofs.Pieces.Pieces.{Holds, holds_all}
 use Rattle.wap_code.specs.declared.instr.Instr.{Instr}
 use Rattle.wap_compiled_laws.proofs.Depths.Flow.{Flow, flow_of}

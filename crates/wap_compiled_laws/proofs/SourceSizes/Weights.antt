@@ -23,9 +23,10 @@ use Rattle.wap_grammar.specs.Values.{text_of, integer_of, literal_of}
 use Rattle.wap_grammar.specs.Words.{text_in}
 use Rattle.wap_grammar.specs.Programs.{IsAccess, IsProperty, IsUse}
 use Rattle.wap_grammar.specs.Programs as formed
-use Rattle.wap_coding.specs.Needs.{Need, Constant, Operator, Variable, Local, Other, Library}
-use Rattle.wap_source_needs.proofs.Programs.{draws_use}
-use Rattle.wap_source_needs.specs.Drawn.{use_needs, StandsFor, Drawn, no_more, skip, here}
+use Rattle.wap_meaning.specs.coding.Needs.{Need, Constant, Operator, Variable, Local, Other}
+use Rattle.wap_meaning.specs.coding.Needs.{Library}
+use Rattle.wap_meaning.proofs.NeedsLemmas.Programs.{draws_use}
+use Rattle.wap_meaning.specs.needs.Drawn.{use_needs, StandsFor, Drawn, no_more, skip, here}
 use Rattle.wap_compiled_laws.proofs.SourceSizes.Sizes.{text_size, CanBeSaid}
 use Rattle.wap_compiled_laws.proofs.SourceSizes.Tokens.{weight, Sound}
 

@@ -25,17 +25,19 @@ use Rattle.wap_grammar.specs.Programs as formed
 use Rattle.wap_grammar.specs.Words.{lexemes_of}
 use Rattle.wap_unit.specs.Spelling.{HasSpelling}
 use Rattle.wap_meaning.specs.Names.{Names, url_of, url_in, names_in}
-use Rattle.wap_coding.specs.Constants.{is_in, same_literal, with_literal, pooled}
-use Rattle.wap_coding.specs.Needs.{Need, Constant, Operator, Variable, Local, Other, Library}
-use Rattle.wap_coding.specs.Needs.{literals_of, stmt_needs}
-use Rattle.wap_source_needs.specs.Drawn.{use_needs, function_needs}
-use Rattle.wap_source_needs.proofs.Drawing.{Draws, several}
-use Rattle.wap_source_needs.proofs.Statements.{draws_statement}
-use Rattle.wap_source_needs.proofs.Programs.{draws_use, draws_function, passes_head}
-use Rattle.wap_source_needs.proofs.Operators.{operators}
-use Rattle.wap_compiled.specs.Pool.{text_if, use_literals, function_literals, literals_needed, pool}
-use Rattle.wap_compiled.specs.Units.{pragmas_of, text_place, compiled}
-use Rattle.wap_compiled.specs.Accepted.{IsAccepted}
+use Rattle.wap_meaning.specs.coding.Constants.{is_in, same_literal, with_literal, pooled}
+use Rattle.wap_meaning.specs.coding.Needs.{Need, Constant, Operator, Variable, Local, Other}
+use Rattle.wap_meaning.specs.coding.Needs.{Library}
+use Rattle.wap_meaning.specs.coding.Needs.{literals_of, stmt_needs}
+use Rattle.wap_meaning.specs.needs.Drawn.{use_needs, function_needs}
+use Rattle.wap_meaning.proofs.NeedsLemmas.Drawing.{Draws, several}
+use Rattle.wap_meaning.proofs.NeedsLemmas.Statements.{draws_statement}
+use Rattle.wap_meaning.proofs.NeedsLemmas.Programs.{draws_use, draws_function, passes_head}
+use Rattle.wap_meaning.proofs.NeedsLemmas.Operators.{operators}
+use Rattle.wap_meaning.specs.compiled.Pool.{text_if, use_literals, function_literals}
+use Rattle.wap_meaning.specs.compiled.Pool.{literals_needed, pool}
+use Rattle.wap_meaning.specs.compiled.Units.{pragmas_of, text_place, compiled}
+use Rattle.wap_meaning.specs.compiled.Accepted.{IsAccepted}
 use Rattle.wap_compiled_laws.proofs.CodeSizes.Each.{each_front, each_back, each_both, each_then}
 use Rattle.wap_compiled_laws.proofs.SpellingLemmas.Written.{pragma_size}
 use Rattle.wap_compiled_laws.proofs.SourceSizes.Sizes.{text_size, CanBeSaid}

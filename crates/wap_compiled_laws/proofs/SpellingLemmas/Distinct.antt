@@ -7,7 +7,7 @@ use Rattle.std.specs.Cmp.Lexicographic.{bytes_decides}
 use Rattle.std.proofs.lemmas.List.Sums.{sum_by-cons, sum_by-append}
 use Rattle.wap_program.specs.declared.expression.Literal.{Literal}
 use Rattle.wap_program.specs.declared.expression.Literal.TheVariants as literal
-use Rattle.wap_coding.specs.Constants.{same_literal, is_in, with_literal, pooled}
+use Rattle.wap_meaning.specs.coding.Constants.{same_literal, is_in, with_literal, pooled}
 use Rattle.wap_compiled_laws.proofs.SourceSizes.Sizes.{text_size}
 
 -- literals that are one constant are the same

@@ -25,7 +25,7 @@ use Rattle.wap_program.specs.declared.expression.Literal.TheVariants.{Str}
 use Rattle.wap_scope.specs.Scoped.{IsScoped}
 use Rattle.wap_scope_laws.proofs.Places.{all_by_places}
 use Rattle.wap_meaning.proofs.Variables.{variables_first}
-use Rattle.wap_coding.specs.Constants.{constant_for}
+use Rattle.wap_meaning.specs.coding.Constants.{constant_for}
 use Rattle.wap_unit.specs.Sequences.{InTurn, IsRow, IsCounted}
 use Rattle.wap_unit.specs.Units.{IsConstant, AreConstants, IsPragma, IsName, IsFunction}
 use Rattle.wap_unit.specs.Units.{AreFunctions}
@@ -33,11 +33,12 @@ use Rattle.wap_unit.specs.Units.{IsBody}
 use Rattle.wap_unit.specs.Spelling.{counted, constant_spelling, pragma_spelling, name_spelling}
 use Rattle.wap_unit.specs.Spelling.{function_spelling, constants_spelling, functions_spelling}
 use Rattle.wap_unit.specs.Spelling.{body_spelling, spelling, HasSpelling}
-use Rattle.wap_compiled.specs.Pool.{use_literals, pool}
-use Rattle.wap_compiled.specs.Units.{pragmas_of, text_place, is_short, entry_of, entries, forms_of}
-use Rattle.wap_compiled.specs.Units.{compiled_function, compiled}
-use Rattle.wap_compiled.specs.Wide.{function_wide}
-use Rattle.wap_compiled.specs.Accepted.{HasRoom}
+use Rattle.wap_meaning.specs.compiled.Pool.{use_literals, pool}
+use Rattle.wap_meaning.specs.compiled.Units.{pragmas_of, text_place, is_short, entry_of, entries}
+use Rattle.wap_meaning.specs.compiled.Units.{forms_of}
+use Rattle.wap_meaning.specs.compiled.Units.{compiled_function, compiled}
+use Rattle.wap_meaning.specs.compiled.Wide.{function_wide}
+use Rattle.wap_meaning.specs.compiled.Accepted.{HasRoom}
 use Rattle.wap_compiled_laws.proofs.CodeSizes.Each.{each_front, each_back, each_both}
 use Rattle.wap_compiled_laws.proofs.CodeSizes.Expressions.{place_within}
 use Rattle.wap_compiled_laws.proofs.Functions.{AllTake, Among, InPool, in_uses, few_functions}

@@ -28,7 +28,7 @@ use Rattle.wap_unit.specs.declared.kind.TheConstants.{DOMAIN, PATH, PROPERTY, SC
 use Rattle.wap_program.specs.declared.expression.Literal.{Literal}
 use Rattle.wap_program.specs.declared.expression.Literal.TheVariants.{Int, Float, Str, Invalid}
 use Rattle.wap_program.specs.declared.expression.Literal.TheVariants.{Bool as Truth}
-use Rattle.wap_coding.specs.Constants.{integer_constant, constant_for}
+use Rattle.wap_meaning.specs.coding.Constants.{integer_constant, constant_for}
 use Rattle.wap_compiled_laws.proofs.SourceSizes.Sizes.{text_size, CanBeSaid}
 use Rattle.wap_unit.specs.Sequences.{InTurn, After, IsSized, IsRow}
 use Rattle.wap_unit.specs.Units.{IsUtf8Text, IsBits, IsConstant, IsPair, IsPragma, IsName}

@@ -33,8 +33,8 @@ use Rattle.wap_meaning.specs.Expressions.{value_of, Around, decides, as_boolean,
 use Rattle.wap_meaning.specs.Expressions.{each_of, assigned, step_of, eval_by, eval}
 use Rattle.wap_meaning.specs.Statements.{Ending, goes_on, dropped}
 use Rattle.wap_asm.specs.declared.form.Form.TheVariants.{Op}
-use Rattle.wap_coding.specs.Coded.{Exits, Coded, one, ◌⨾◌, instr, with_operand}
-use Rattle.wap_coding.specs.Statements.{writes_by, writes}
+use Rattle.wap_meaning.specs.coding.Coded.{Exits, Coded, one, ◌⨾◌, instr, with_operand}
+use Rattle.wap_meaning.specs.coding.Statements.{writes_by, writes}
 use Rattle.wap_meaning.proofs.Following.{Gave, from_gave, from_done_where}
 use Rattle.wap_compiled_laws.proofs.Pieces.Pieces.{Site, spot, onto, Piece, nearer, front, behind}
 use Rattle.wap_compiled_laws.proofs.Pieces.Pieces.{op_here}

@@ -9,9 +9,10 @@ use Rattle.wap_execution.specs.Outcomes.{Ended}
 use Rattle.wap_meaning.specs.Parts.{Does, ◌>>=◌, done, give, turn}
 use Rattle.wap_meaning.specs.Statements.{Ending, goes_on, breaks, continues, returns, if_continues}
 use Rattle.wap_meaning.specs.Statements.{looped, loop}
-use Rattle.wap_coding.specs.Coded.{Exits, Coded, empty, one, ◌⨾◌, label, jump_over, jump_before}
-use Rattle.wap_coding.specs.Coded.{within}
-use Rattle.wap_coding.specs.Statements.{branch_code, loop_code}
+use Rattle.wap_meaning.specs.coding.Coded.{Exits, Coded, empty, one, ◌⨾◌, label, jump_over}
+use Rattle.wap_meaning.specs.coding.Coded.{jump_before}
+use Rattle.wap_meaning.specs.coding.Coded.{within}
+use Rattle.wap_meaning.specs.coding.Statements.{branch_code, loop_code}
 use Rattle.wap_meaning.proofs.Following.{from_done_where, done_same, keeps_both, lessened}
 use Rattle.wap_meaning.specs.Keeping.{Keeps}
 use Rattle.wap_compiled_laws.proofs.Pieces.Pieces.{Holds, front, behind, Sized, sized_both, Site}

@@ -12,16 +12,17 @@ use Rattle.wap_value.specs.declared.operator.BinOp.{BinOp}
 use Rattle.wap_code.specs.declared.row.OpName.{OpName}
 use Rattle.wap_execution.specs.declared.action.Action.TheVariants.{AssignVariable}
 use Rattle.wap_execution.specs.Actions.{action_of}
-use Rattle.wap_coding.specs.Needs.{Variable, Operator, expr_needs_by, Need, expr_needs}
-use Rattle.wap_coding.specs.Needs.{declared_needs, optional_needs, stmt_needs_by}
-use Rattle.wap_coding.specs.Needs.{stmt_needs}
+use Rattle.wap_meaning.specs.coding.Needs.{Variable, Operator, expr_needs_by, Need, expr_needs}
+use Rattle.wap_meaning.specs.coding.Needs.{declared_needs, optional_needs, stmt_needs_by}
+use Rattle.wap_meaning.specs.coding.Needs.{stmt_needs}
 use Rattle.wap_meaning.specs.Expressions.{assigned, stepped, step_of, eval_by, Around, eval}
 use Rattle.wap_meaning.specs.Statements.{dropped, Ending, goes_on, declared, run_by_part}
 use Rattle.wap_meaning.specs.Statements.{run, test_of, update_of, loop}
-use Rattle.wap_coding.specs.Statements.{writes, changed_code, effect_code, stmt_code_by, stmt_code}
-use Rattle.wap_coding.specs.Statements.{declared_code, test_code, update_code, dropped_code}
-use Rattle.wap_coding.specs.Statements.{loop_code}
-use Rattle.wap_coding.specs.Coded.{Exits, with_operand, Coded, ◌⨾◌, empty, plain}
+use Rattle.wap_meaning.specs.coding.Statements.{writes, changed_code, effect_code, stmt_code_by}
+use Rattle.wap_meaning.specs.coding.Statements.{stmt_code}
+use Rattle.wap_meaning.specs.coding.Statements.{declared_code, test_code, update_code, dropped_code}
+use Rattle.wap_meaning.specs.coding.Statements.{loop_code}
+use Rattle.wap_meaning.specs.coding.Coded.{Exits, with_operand, Coded, ◌⨾◌, empty, plain}
 use Rattle.wap_compiled_laws.proofs.Statements.Adding.{adding_piece, spares}
 use Rattle.wap_compiled_laws.proofs.Statements.Statements.{leaves, Runs, empty_runs, runs_both}
 use Rattle.wap_compiled_laws.proofs.Statements.Statements.{AllRun, all_run}
@@ -37,8 +38,8 @@ use Rattle.wap_program.specs.declared.statement.Stmt.TheFolds.{fold-roll-Stmt, i
 use Rattle.wap_meaning.specs.Parts.{Came, gave, over, Does, from, give, done}
 use Rattle.wap_meaning.specs.Names.{variable_at}
 use Rattle.std.specs.Prelude.{if◌then◌else◌}
-use Rattle.wap_coding.specs.Constants.{Numbers}
-use Rattle.wap_coding.specs.Expressions.{store_code, change_name, expr_code}
+use Rattle.wap_meaning.specs.coding.Constants.{Numbers}
+use Rattle.wap_meaning.specs.coding.Expressions.{store_code, change_name, expr_code}
 use Rattle.wap_meaning.proofs.Following.{keeps_both}
 use Rattle.wap_compiled_laws.proofs.Pieces.Pieces.{sized_both, Site, spot, onto, Piece}
 use Rattle.wap_compiled_laws.proofs.Pieces.Instructions.{as_is, nothing}

@@ -17,10 +17,11 @@ use Rattle.wap_meaning.specs.Parts.{Came, Does, ◌>>=◌, done, give, load, sto
 use Rattle.wap_meaning.specs.Expressions.{assigned, stepped, step_of}
 use Rattle.wap_meaning.specs.Statements.{Ending, goes_on, breaks, continues, returns, if_goes_on}
 use Rattle.wap_meaning.specs.Statements.{and_then, in_order, dropped}
-use Rattle.wap_coding.specs.Coded.{Exits, Coded, empty, one, ◌⨾◌, instr, plain, with_operand}
-use Rattle.wap_coding.specs.Coded.{all_code}
-use Rattle.wap_coding.specs.Expressions.{store_code, change_name}
-use Rattle.wap_coding.specs.Statements.{exit_form, dropped_code}
+use Rattle.wap_meaning.specs.coding.Coded.{Exits, Coded, empty, one, ◌⨾◌, instr, plain}
+use Rattle.wap_meaning.specs.coding.Coded.{with_operand}
+use Rattle.wap_meaning.specs.coding.Coded.{all_code}
+use Rattle.wap_meaning.specs.coding.Expressions.{store_code, change_name}
+use Rattle.wap_meaning.specs.coding.Statements.{exit_form, dropped_code}
 use Rattle.wap_meaning.proofs.Following.{from_done, from_done_where, keeps_both, lessened}
 use Rattle.wap_meaning.specs.Keeping.{Lessens, Keeps}
 use Rattle.wap_compiled_laws.proofs.Pieces.Pieces.{front, behind, Sized, sized_both, Site, spot}

@@ -11,8 +11,8 @@ use Rattle.wap_unit.specs.Units.{IsUnit}
 use Rattle.wap_verify.specs.Sound.{IsVerified}
 use Rattle.wap_code.specs.declared.unit.Unit.{Unit}
 use Rattle.wap_program.specs.declared.program.Program.{Program}
-use Rattle.wap_compiled.specs.Units.{compiled}
-use Rattle.wap_compiled.specs.Accepted.{IsAccepted}
+use Rattle.wap_meaning.specs.compiled.Units.{compiled}
+use Rattle.wap_meaning.specs.compiled.Accepted.{IsAccepted}
 use Rattle.wap_world.specs.declared.site.page.Page.{Page}
 use Rattle.wap_world.specs.declared.site.page.Page.TheVariants as page
 use Rattle.wap_pages.specs.declared.kind.Kind.{Kind}

@@ -16,11 +16,12 @@ use Rattle.wap_program.specs.declared.program.Function.{Function}
 use Rattle.wap_program.specs.declared.program.Program.{Program}
 use Rattle.wap_program.specs.declared.expression.Literal.{Literal}
 use Rattle.wap_program.specs.declared.expression.Literal.TheVariants.{Str}
-use Rattle.wap_coding.specs.Constants.{HasPool}
+use Rattle.wap_meaning.specs.coding.Constants.{HasPool}
 use Rattle.wap_compiled_laws.proofs.BodiesLemmas.Pooled.{text_at}
-use Rattle.wap_compiled.specs.Pool.{use_literals, pool}
-use Rattle.wap_compiled.specs.Units.{pragmas_of, text_place, is_short, entry_of, compiled_function}
-use Rattle.wap_compiled.specs.Units.{compiled}
+use Rattle.wap_meaning.specs.compiled.Pool.{use_literals, pool}
+use Rattle.wap_meaning.specs.compiled.Units.{pragmas_of, text_place, is_short, entry_of}
+use Rattle.wap_meaning.specs.compiled.Units.{compiled_function}
+use Rattle.wap_meaning.specs.compiled.Units.{compiled}
 use Rattle.wap_compiled_laws.proofs.Functions.{InPool, in_uses}
 use Rattle.wap_world.specs.Shelves.{Entrance}
 use Rattle.wap_world.specs.Sites.{External}

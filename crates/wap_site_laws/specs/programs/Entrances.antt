@@ -6,7 +6,7 @@ use Rattle.wap_program.specs.declared.program.Use.{Use}
 use Rattle.wap_program.specs.declared.program.Use.TheVariants.{Url, Access, Agent, Note}
 use Rattle.wap_program.specs.declared.program.Function.{Function}
 use Rattle.wap_program.specs.declared.program.Program.{Program}
-use Rattle.wap_compiled.specs.Units.{is_short}
+use Rattle.wap_meaning.specs.compiled.Units.{is_short}
 use Rattle.wap_world.specs.Shelves.{Entrance}
 use Rattle.wap_world.specs.Sites.{External}
 

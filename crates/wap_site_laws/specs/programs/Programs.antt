@@ -3,8 +3,8 @@ use Rattle.std.specs.Prelude.{ℕ, List}
 use Rattle.wap_code.specs.declared.unit.Unit.{Unit as CodeUnit}
 use Rattle.wap_program.specs.declared.program.Program.{Program}
 use Rattle.wap_meaning.specs.Functions.{program_runs}
-use Rattle.wap_compiled.specs.Units.{compiled}
-use Rattle.wap_compiled.specs.Accepted.{IsAccepted}
+use Rattle.wap_meaning.specs.compiled.Units.{compiled}
+use Rattle.wap_meaning.specs.compiled.Accepted.{IsAccepted}
 use Rattle.wap_world.specs.scripting.Sources.{LanguageOf}
 use Rattle.wap_site_laws.specs.programs.Entrances.{entrance, external}
 

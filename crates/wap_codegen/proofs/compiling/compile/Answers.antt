@@ -1,8 +1,8 @@
 use Rattle.std.proofs.Common.{Ok, Err, sym, ap, ◌∙◌, subst}
 use Rattle.std.proofs.lemmas.Result.{err_from_is_err_and}
 use Rattle.wap_base.specs.Outcome.{Meets}
-use Rattle.wap_compiled.specs.Units.{compiled}
-use Rattle.wap_compiled.specs.Accepted.{IsSourceOf}
+use Rattle.wap_meaning.specs.compiled.Units.{compiled}
+use Rattle.wap_meaning.specs.compiled.Accepted.{IsSourceOf}
 use Rattle.wap_codegen.specs.declared.fault.CompileFault.TheVariants as faults
 use Rattle.wap_codegen.proofs.Causes.{unit_cause, no_fault, only_answer}
 use Rattle.wap_codegen.proofs.Whole.{accepted, have_forms, unit_spelled, unit_verified}

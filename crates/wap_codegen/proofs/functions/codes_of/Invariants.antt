@@ -1,7 +1,7 @@
 use Rattle.std.proofs.Common.{◌≡◌, ◌≤◌, take, map, All}
-use Rattle.wap_compiled.specs.Units.{compiled_function}
-use Rattle.wap_compiled.specs.Wide.{function_wide}
-use Rattle.wap_compiled.specs.Accepted.{most_code}
+use Rattle.wap_meaning.specs.compiled.Units.{compiled_function}
+use Rattle.wap_meaning.specs.compiled.Wide.{function_wide}
+use Rattle.wap_meaning.specs.compiled.Accepted.{most_code}
 use Rattle.wap_codegen.specs.inside.Units.{AreNumbersOf}
 use Rattle.wap_codegen.proofs.functions.codes_of.Given as goal
 

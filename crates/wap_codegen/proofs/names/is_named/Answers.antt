@@ -1,6 +1,6 @@
 use Rattle.std.proofs.Common.{ℕ, Bool, ◌&&◌, nat_lt, sym, ap, ◌∙◌}
 use Rattle.wap_base.proofs.Utf8Lengths.{length-encode_utf8_all}
-use Rattle.wap_compiled.specs.Units.{is_short}
+use Rattle.wap_meaning.specs.compiled.Units.{is_short}
 use Rattle.wap_codegen.proofs.names.is_named.Goals as goal
 
 pub returns-then-function : goal.returns-then-function

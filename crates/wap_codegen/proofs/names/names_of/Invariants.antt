@@ -1,6 +1,6 @@
 use Rattle.std.proofs.Common.{◌≡◌, ◌++◌, drop}
 use Rattle.std.specs.List.{filter_map, enumerate_from}
-use Rattle.wap_compiled.specs.Units.{entry_of, entries}
+use Rattle.wap_meaning.specs.compiled.Units.{entry_of, entries}
 use Rattle.wap_codegen.proofs.names.names_of.Given as goal
 
 -- with the names of the rest all are there

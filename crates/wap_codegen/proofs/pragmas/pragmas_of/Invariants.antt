@@ -1,6 +1,6 @@
 use Rattle.std.proofs.Common.{◌≡◌, take}
 use Rattle.std.specs.List.{flat_map}
-use Rattle.wap_compiled.specs.Units.{pragmas_of, text_place}
+use Rattle.wap_meaning.specs.compiled.Units.{pragmas_of, text_place}
 use Rattle.wap_codegen.proofs.pragmas.pragmas_of.Given as goal
 
 -- the pragmas of so many are added

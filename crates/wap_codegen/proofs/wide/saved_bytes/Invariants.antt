@@ -1,6 +1,6 @@
 use Rattle.std.proofs.Common.{◌≡◌, ◌*◌, ◌≤◌, take}
 use Rattle.std.specs.List.{sum_by}
-use Rattle.wap_compiled.specs.Savings.{form_saves}
+use Rattle.wap_meaning.specs.compiled.Savings.{form_saves}
 use Rattle.wap_codegen.proofs.wide.saved_bytes.Given as goal
 
 -- what so many forms save

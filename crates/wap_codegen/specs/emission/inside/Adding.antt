@@ -1,7 +1,7 @@
 -- What calls add to the forms of a function. This project's own.
 use Rattle.std.specs.Prelude.{◌≡◌, ◌+◌, List, ◌++◌, length}
 use Rattle.wap_asm.specs.declared.form.Form.{Form}
-use Rattle.wap_coding.specs.Coded.{Exits, Coded}
+use Rattle.wap_meaning.specs.coding.Coded.{Exits, Coded}
 use Rattle.wap_codegen.specs.emission.inside.Exits.{Follows}
 
 -- forms, and the code of a part behind them, in a loop with these exits

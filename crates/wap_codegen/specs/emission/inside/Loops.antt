@@ -8,10 +8,10 @@ use Rattle.wap_code.specs.declared.row.OpName.TheVariants as op
 use Rattle.wap_asm.specs.declared.form.Form.{Form}
 use Rattle.wap_asm.specs.declared.form.Form.TheVariants.{Op, Jump}
 use Rattle.wap_program.specs.declared.expression.Expr.{Expr}
-use Rattle.wap_coding.specs.Coded.{Coded, ◌⨾◌, instr}
-use Rattle.wap_coding.specs.Constants.{Numbers}
-use Rattle.wap_coding.specs.Expressions.{store_code, expr_code}
-use Rattle.wap_coding.specs.Statements.{dropped_code, changed_code}
+use Rattle.wap_meaning.specs.coding.Coded.{Coded, ◌⨾◌, instr}
+use Rattle.wap_meaning.specs.coding.Constants.{Numbers}
+use Rattle.wap_meaning.specs.coding.Expressions.{store_code, expr_code}
+use Rattle.wap_meaning.specs.coding.Statements.{dropped_code, changed_code}
 use Rattle.wap_codegen.specs.emission.inside.Adding.{Extends}
 
 -- the operation that changes a variable by the right side of an assignment with this operator

@@ -7,10 +7,10 @@ use Rattle.wap_code.specs.declared.row.OpName.TheVariants as op
 use Rattle.wap_asm.specs.declared.form.Form.{Form}
 use Rattle.wap_asm.specs.declared.form.Form.TheVariants.{Jump}
 use Rattle.wap_program.specs.declared.expression.Expr.{Expr}
-use Rattle.wap_coding.specs.Coded.{Exits, Coded, empty, ◌⨾◌, all_code, plain, label}
-use Rattle.wap_coding.specs.Constants.{Numbers}
-use Rattle.wap_coding.specs.Expressions.{short_code, load_code, store_code, binary_name}
-use Rattle.wap_coding.specs.Expressions.{expr_code, chain_code}
+use Rattle.wap_meaning.specs.coding.Coded.{Exits, Coded, empty, ◌⨾◌, all_code, plain, label}
+use Rattle.wap_meaning.specs.coding.Constants.{Numbers}
+use Rattle.wap_meaning.specs.coding.Expressions.{short_code, load_code, store_code, binary_name}
+use Rattle.wap_meaning.specs.coding.Expressions.{expr_code, chain_code}
 use Rattle.wap_codegen.specs.emission.inside.Adding.{Adds, Extends}
 use Rattle.wap_codegen.specs.declared.emission.operators.Joint.{Joint}
 use Rattle.wap_codegen.specs.declared.emission.operators.Joint.TheVariants as joint

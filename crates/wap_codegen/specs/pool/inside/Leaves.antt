@@ -1,8 +1,8 @@
 -- What a loop over items has added to the constants. This project's own.
 use Rattle.std.specs.Prelude.{ℕ, List, drop}
 use Rattle.std.specs.List.{flat_map}
-use Rattle.wap_coding.specs.Constants.{Numbers}
-use Rattle.wap_coding.specs.Needs.{Need}
+use Rattle.wap_meaning.specs.coding.Constants.{Numbers}
+use Rattle.wap_meaning.specs.coding.Needs.{Need}
 use Rattle.wap_codegen.specs.pool.inside.Pools.{Pools}
 
 -- of these items so many are added: with the rest all are

@@ -7,8 +7,8 @@ use Rattle.wap_program.specs.declared.program.Use.TheVariants.{Url, Access, Agen
 use Rattle.wap_program.specs.declared.program.Function.{Function}
 use Rattle.wap_program.specs.declared.program.Program.{Program}
 use Rattle.wap_program.specs.declared.expression.Literal.TheVariants as literal
-use Rattle.wap_coding.specs.Constants.{Numbers, pooled}
-use Rattle.wap_coding.specs.Needs.{Need, Constant, stmt_needs, literals_of}
+use Rattle.wap_meaning.specs.coding.Constants.{Numbers, pooled}
+use Rattle.wap_meaning.specs.coding.Needs.{Need, Constant, stmt_needs, literals_of}
 
 -- the constants of these needs are added one after the other, each where it isn't there yet, and
 -- names mean what they meant

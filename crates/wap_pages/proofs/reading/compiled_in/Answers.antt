@@ -1,7 +1,7 @@
 use Rattle.std.proofs.Common.{Ok, Err, sym, ap, ◌∙◌, subst}
 use Rattle.std.proofs.lemmas.Result.{err_from_is_err_and}
 use Rattle.wap_base.specs.Outcome.{Meets}
-use Rattle.wap_compiled.specs.Units.{compiled}
+use Rattle.wap_meaning.specs.compiled.Units.{compiled}
 use Rattle.wap_pages.specs.declared.fault.PageErr.TheVariants as error
 use Rattle.wap_pages.proofs.Refusing.{source_only, source_refused, ok_is, err_is}
 use Rattle.wap_pages.proofs.reading.compiled_in.Goals as goal

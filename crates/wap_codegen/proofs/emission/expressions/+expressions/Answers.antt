@@ -1,8 +1,8 @@
 use Rattle.std.proofs.Common.{sym, ap, ◌∙◌, map}
 use Rattle.wap_code.specs.declared.row.OpName.TheVariants as op
-use Rattle.wap_coding.specs.Coded.{◌⨾◌, all_code, with_operand}
-use Rattle.wap_coding.specs.Expressions.{expr_code, assigned_code, step_code, joined_code}
-use Rattle.wap_coding.specs.Expressions.{cond_code}
+use Rattle.wap_meaning.specs.coding.Coded.{◌⨾◌, all_code, with_operand}
+use Rattle.wap_meaning.specs.coding.Expressions.{expr_code, assigned_code, step_code, joined_code}
+use Rattle.wap_meaning.specs.coding.Expressions.{cond_code}
 use Rattle.wap_codegen.specs.emission.inside.Operands.{joint_code}
 use Rattle.wap_codegen.proofs.EmissionLemmas.Parts.{of_literal, of_variable, of_assignment, of_step}
 use Rattle.wap_codegen.proofs.EmissionLemmas.Parts.{of_unary}

@@ -1,5 +1,5 @@
-use Rattle.wap_coding.specs.Coded.{Exits}
-use Rattle.wap_coding.specs.Expressions.{expr_code}
+use Rattle.wap_meaning.specs.coding.Coded.{Exits}
+use Rattle.wap_meaning.specs.coding.Expressions.{expr_code}
 use Rattle.wap_codegen.specs.emission.inside.Operands.{Leaves, LeavesOperands}
 use Rattle.wap_codegen.proofs.emission.expressions.+expressions.Given as goal
 

@@ -1,6 +1,6 @@
 use Rattle.std.proofs.Common.{ap}
-use Rattle.wap_coding.specs.Coded.{◌⨾◌, plain}
-use Rattle.wap_coding.specs.Expressions.{store_code, load_code}
+use Rattle.wap_meaning.specs.coding.Coded.{◌⨾◌, plain}
+use Rattle.wap_meaning.specs.coding.Expressions.{store_code, load_code}
 use Rattle.wap_codegen.proofs.EmissionLemmas.Chaining.{after_both, after_same}
 use Rattle.wap_codegen.proofs.emission.expressions.add_after.Goals as goal
 

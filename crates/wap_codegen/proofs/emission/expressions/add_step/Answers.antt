@@ -1,6 +1,6 @@
 use Rattle.std.proofs.Common.{ap}
-use Rattle.wap_coding.specs.Coded.{◌⨾◌, with_operand}
-use Rattle.wap_coding.specs.Expressions.{load_code}
+use Rattle.wap_meaning.specs.coding.Coded.{◌⨾◌, with_operand}
+use Rattle.wap_meaning.specs.coding.Expressions.{load_code}
 use Rattle.wap_codegen.proofs.EmissionLemmas.Chaining.{after_both, after_same}
 use Rattle.wap_codegen.proofs.emission.expressions.add_step.Goals as goal
 

@@ -8,10 +8,11 @@ use Rattle.wap_program.specs.declared.program.Id.{Id}
 use Rattle.wap_program.specs.declared.expression.Expr.{Expr}
 use Rattle.wap_program.specs.declared.statement.Stmt.{Stmt}
 use Rattle.wap_program.specs.declared.statement.Stmt.TheVariants as stmt
-use Rattle.wap_coding.specs.Coded.{empty, ◌⨾◌, all_code}
-use Rattle.wap_coding.specs.Expressions.{expr_code, cond_code}
-use Rattle.wap_coding.specs.Statements.{stmt_code, branch_code, declared_code, loop_code, test_code}
-use Rattle.wap_coding.specs.Statements.{update_code}
+use Rattle.wap_meaning.specs.coding.Coded.{empty, ◌⨾◌, all_code}
+use Rattle.wap_meaning.specs.coding.Expressions.{expr_code, cond_code}
+use Rattle.wap_meaning.specs.coding.Statements.{stmt_code, branch_code, declared_code, loop_code}
+use Rattle.wap_meaning.specs.coding.Statements.{test_code}
+use Rattle.wap_meaning.specs.coding.Statements.{update_code}
 use Rattle.wap_codegen.specs.emission.inside.Exits.{exits_in}
 use Rattle.wap_codegen.proofs.EmissionLemmas.Extending.{adds_empty}
 use Rattle.wap_codegen.proofs.EmissionLemmas.Chaining.{adds_same, cond_adds, leaves_more}

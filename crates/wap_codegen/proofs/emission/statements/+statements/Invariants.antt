@@ -1,5 +1,5 @@
 use Rattle.std.proofs.Common.{◌+◌, ◌*◌}
-use Rattle.wap_coding.specs.Statements.{stmt_code}
+use Rattle.wap_meaning.specs.coding.Statements.{stmt_code}
 use Rattle.wap_codegen.specs.emission.inside.Exits.{exits_in}
 use Rattle.wap_codegen.specs.emission.inside.Operands.{Leaves}
 use Rattle.wap_codegen.proofs.emission.statements.+statements.Given as goal

@@ -1,7 +1,7 @@
 use Rattle.std.proofs.Common.{cond, sym, ap, ◌∙◌}
-use Rattle.wap_coding.specs.Coded.{◌⨾◌, with_operand}
-use Rattle.wap_coding.specs.Expressions.{expr_code}
-use Rattle.wap_coding.specs.Statements.{dropped_code}
+use Rattle.wap_meaning.specs.coding.Coded.{◌⨾◌, with_operand}
+use Rattle.wap_meaning.specs.coding.Expressions.{expr_code}
+use Rattle.wap_meaning.specs.coding.Statements.{dropped_code}
 use Rattle.wap_codegen.proofs.EmissionLemmas.Chaining.{after_same, after_both}
 use Rattle.wap_codegen.proofs.emission.statements.add_changed.Goals as goal
 

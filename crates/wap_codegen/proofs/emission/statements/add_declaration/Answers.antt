@@ -1,7 +1,7 @@
 use Rattle.std.proofs.Common.{sym, ap, ◌∙◌}
 use Rattle.wap_code.specs.declared.row.OpName.TheVariants as op
-use Rattle.wap_coding.specs.Coded.{◌⨾◌, plain}
-use Rattle.wap_coding.specs.Expressions.{expr_code, store_code}
+use Rattle.wap_meaning.specs.coding.Coded.{◌⨾◌, plain}
+use Rattle.wap_meaning.specs.coding.Expressions.{expr_code, store_code}
 use Rattle.wap_codegen.proofs.EmissionLemmas.StatementParts.{declared_none, declared_some}
 use Rattle.wap_codegen.proofs.EmissionLemmas.Chaining.{after_same, after_both}
 use Rattle.wap_codegen.proofs.emission.statements.add_declaration.Goals as goal

@@ -1,4 +1,4 @@
-use Rattle.wap_coding.specs.Statements.{declared_code}
+use Rattle.wap_meaning.specs.coding.Statements.{declared_code}
 use Rattle.wap_codegen.proofs.EmissionLemmas.Chaining.{leaves_more, leaves_none}
 use Rattle.wap_codegen.proofs.emission.statements.add_declarations.Goals as goal
 

@@ -1,5 +1,5 @@
-use Rattle.wap_coding.specs.Coded.{Exits}
-use Rattle.wap_coding.specs.Statements.{declared_code}
+use Rattle.wap_meaning.specs.coding.Coded.{Exits}
+use Rattle.wap_meaning.specs.coding.Statements.{declared_code}
 use Rattle.wap_codegen.specs.emission.inside.Operands.{Leaves}
 use Rattle.wap_codegen.proofs.emission.statements.add_declarations.Given as goal
 

@@ -1,8 +1,8 @@
 use Rattle.std.proofs.Common.{◌∙◌, ap}
 use Rattle.wap_program.specs.declared.expression.Expr.{Expr}
 use Rattle.wap_meaning.specs.Names.{variable_at}
-use Rattle.wap_coding.specs.Coded.{with_operand}
-use Rattle.wap_coding.specs.Expressions.{change_name, expr_code}
+use Rattle.wap_meaning.specs.coding.Coded.{with_operand}
+use Rattle.wap_meaning.specs.coding.Expressions.{change_name, expr_code}
 use Rattle.wap_codegen.specs.emission.inside.Loops.{assignment_code}
 use Rattle.wap_codegen.proofs.EmissionLemmas.Chaining.{after_same}
 use Rattle.wap_codegen.proofs.EmissionLemmas.Effects.{of_assignment, of_literal, of_variable}

@@ -2,7 +2,7 @@ use Rattle.std.proofs.Common.{sym, ap, ◌∙◌}
 use Rattle.wap_program.specs.declared.statement.Stmt.TheVariants as stmt
 use Rattle.wap_program.specs.declared.expression.Expr.{Expr}
 use Rattle.std.proofs.Common.{Option}
-use Rattle.wap_coding.specs.Statements.{stmt_code}
+use Rattle.wap_meaning.specs.coding.Statements.{stmt_code}
 use Rattle.wap_codegen.proofs.EmissionLemmas.StatementParts.{of_return, of_return_of}
 use Rattle.wap_codegen.proofs.EmissionLemmas.Chaining.{after_same, after_both}
 use Rattle.wap_codegen.proofs.emission.statements.add_return.Goals as goal

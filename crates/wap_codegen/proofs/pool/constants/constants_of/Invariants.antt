@@ -1,5 +1,5 @@
 use Rattle.std.proofs.Common.{◌≡◌, take, map}
-use Rattle.wap_coding.specs.Constants.{constant_for}
+use Rattle.wap_meaning.specs.coding.Constants.{constant_for}
 use Rattle.wap_codegen.specs.pool.inside.Contents.{literal_of}
 use Rattle.wap_codegen.proofs.pool.constants.constants_of.Given as goal
 

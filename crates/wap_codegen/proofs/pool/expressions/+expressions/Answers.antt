@@ -3,8 +3,9 @@ use Rattle.std.specs.List.{flat_map}
 use Rattle.std.proofs.lemmas.Result.{on_ok_weaker}
 use Rattle.wap_value.specs.declared.operator.BinOp.{BinOp}
 use Rattle.wap_program.specs.declared.expression.Expr.{Expr}
-use Rattle.wap_coding.specs.Needs.{Variable, Local, Other, Library, literal_needs, assign_needs}
-use Rattle.wap_coding.specs.Needs.{expr_needs}
+use Rattle.wap_meaning.specs.coding.Needs.{Variable, Local, Other, Library, literal_needs}
+use Rattle.wap_meaning.specs.coding.Needs.{assign_needs}
+use Rattle.wap_meaning.specs.coding.Needs.{expr_needs}
 use Rattle.wap_codegen.proofs.PoolLemmas.Parts.{of_literal, of_variable, of_assignment, of_step}
 use Rattle.wap_codegen.proofs.PoolLemmas.Parts.{of_unary}
 use Rattle.wap_codegen.proofs.PoolLemmas.Parts.{of_chain, of_choice, of_local, of_external}

@@ -1,6 +1,6 @@
 use Rattle.std.proofs.Common.{◌≡◌, [], ◌∷◌, true, false, rules, refl, sym, ap}
 use Rattle.wap_program.specs.declared.expression.Literal.TheVariants as literal
-use Rattle.wap_coding.specs.Needs.{Constant, literal_needs}
+use Rattle.wap_meaning.specs.coding.Needs.{Constant, literal_needs}
 use Rattle.wap_codegen.proofs.PoolLemmas.Pooling.{pools_none, pools_same, after_same, after_one}
 use Rattle.wap_codegen.proofs.PoolLemmas.Pooling.{text_need}
 use Rattle.wap_codegen.proofs.pool.expressions.add_string.Goals as goal

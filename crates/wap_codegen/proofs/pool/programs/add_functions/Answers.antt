@@ -1,7 +1,7 @@
 use Rattle.std.proofs.Common.{List, ap}
 use Rattle.std.specs.List.{flat_map}
 use Rattle.wap_program.specs.declared.statement.Stmt.{Stmt}
-use Rattle.wap_coding.specs.Needs.{stmt_needs}
+use Rattle.wap_meaning.specs.coding.Needs.{stmt_needs}
 use Rattle.wap_codegen.specs.pool.inside.Pools.{function_needs}
 use Rattle.wap_codegen.proofs.PoolLemmas.Pooling.{pools_same, leaves_more, leaves_none}
 use Rattle.wap_codegen.proofs.pool.programs.add_functions.Goals as goal

@@ -1,6 +1,6 @@
 use Rattle.std.proofs.Common.{[], ◌∷◌, ◌++◌, refl, sym, ap}
 use Rattle.wap_program.specs.declared.expression.Literal.TheVariants as literal
-use Rattle.wap_coding.specs.Needs.{Constant}
+use Rattle.wap_meaning.specs.coding.Needs.{Constant}
 use Rattle.wap_codegen.specs.pool.inside.Pools.{text_needs, use_needs}
 use Rattle.wap_codegen.proofs.PoolLemmas.Pooling.{pools_none, pools_one, pools_same, after_same}
 use Rattle.wap_codegen.proofs.PoolLemmas.Pooling.{after_both}

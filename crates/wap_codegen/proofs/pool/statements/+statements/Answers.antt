@@ -4,7 +4,8 @@ use Rattle.wap_program.specs.declared.program.Id.{Id}
 use Rattle.wap_program.specs.declared.expression.Expr.{Expr}
 use Rattle.wap_program.specs.declared.statement.Stmt.{Stmt}
 use Rattle.wap_program.specs.declared.statement.Stmt.TheVariants as stmt
-use Rattle.wap_coding.specs.Needs.{Need, expr_needs, optional_needs, declared_needs, stmt_needs}
+use Rattle.wap_meaning.specs.coding.Needs.{Need, expr_needs, optional_needs, declared_needs}
+use Rattle.wap_meaning.specs.coding.Needs.{stmt_needs}
 use Rattle.wap_codegen.proofs.PoolLemmas.Parts.{of_empty, of_value, of_block, of_variables, of_if}
 use Rattle.wap_codegen.proofs.PoolLemmas.Parts.{of_else}
 use Rattle.wap_codegen.proofs.PoolLemmas.Parts.{of_while, of_for, of_break, of_continue, of_return}

@@ -1,4 +1,4 @@
-use Rattle.wap_coding.specs.Needs.{stmt_needs}
+use Rattle.wap_meaning.specs.coding.Needs.{stmt_needs}
 use Rattle.wap_codegen.specs.pool.inside.Leaves.{Leaves}
 use Rattle.wap_codegen.proofs.pool.statements.+statements.Given as goal
 

@@ -1,4 +1,4 @@
-use Rattle.wap_coding.specs.Needs.{declared_needs, optional_needs}
+use Rattle.wap_meaning.specs.coding.Needs.{declared_needs, optional_needs}
 use Rattle.wap_codegen.proofs.PoolLemmas.Pooling.{pools_variable, leaves_more, leaves_none}
 use Rattle.wap_codegen.proofs.pool.statements.add_declarations.Goals as goal
 

@@ -1,4 +1,4 @@
-use Rattle.wap_coding.specs.Needs.{declared_needs}
+use Rattle.wap_meaning.specs.coding.Needs.{declared_needs}
 use Rattle.wap_codegen.specs.pool.inside.Leaves.{Leaves}
 use Rattle.wap_codegen.proofs.pool.statements.add_declarations.Given as goal
 

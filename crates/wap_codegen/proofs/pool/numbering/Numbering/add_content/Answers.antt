@@ -1,5 +1,5 @@
 use Rattle.std.proofs.Common.{ap, map, ◌∙◌}
-use Rattle.wap_coding.specs.Constants.{Numbers, with_literal}
+use Rattle.wap_meaning.specs.coding.Constants.{Numbers, with_literal}
 use Rattle.wap_codegen.specs.contracts.pool.content.ContentPartialEq.TheImpl.{eq-value}
 use Rattle.wap_codegen.specs.pool.inside.Contents.{literal_of}
 use Rattle.wap_codegen.proofs.PoolLemmas.Numbered.{added_to, same_content}

@@ -2,7 +2,7 @@
 use Rattle.std.proofs.Common.{◌≡◌, List, map, ap, sym, ◌∙◌, subst, IfOk}
 use Rattle.std.proofs.lemmas.Simd.{map-map}
 use Rattle.wap_code.specs.declared.unit.Constant.{Constant}
-use Rattle.wap_coding.specs.Constants.{Numbers, constant_for}
+use Rattle.wap_meaning.specs.coding.Constants.{Numbers, constant_for}
 use Rattle.wap_codegen.specs.declared.pool.content.Content.{Content}
 use Rattle.wap_codegen.specs.pool.inside.Contents.{literal_of}
 use Rattle.wap_codegen.proofs.pool.numbering.Numbering.constants.Goals as goal

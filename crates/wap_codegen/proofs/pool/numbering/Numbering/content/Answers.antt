@@ -1,5 +1,5 @@
 use Rattle.std.proofs.Common.{ap, ap₂, ◌∙◌, unwrap_or}
-use Rattle.wap_coding.specs.Constants.{Numbers, number_of}
+use Rattle.wap_meaning.specs.coding.Constants.{Numbers, number_of}
 use Rattle.wap_codegen.specs.contracts.pool.content.ContentPartialEq.TheImpl.{eq-value}
 use Rattle.wap_codegen.specs.pool.inside.Contents.{literal_of}
 use Rattle.wap_codegen.proofs.PoolLemmas.Numbered.{found, placed_in, same_content}

@@ -2,8 +2,8 @@
 use Rattle.std.proofs.Common.{List, ap, ◌∙◌}
 use Rattle.std.specs.List.{flat_map}
 use Rattle.wap_program.specs.declared.expression.Literal.{Literal}
-use Rattle.wap_coding.specs.Constants.{pooled}
-use Rattle.wap_coding.specs.Needs.{literals_of}
+use Rattle.wap_meaning.specs.coding.Constants.{pooled}
+use Rattle.wap_meaning.specs.coding.Needs.{literals_of}
 use Rattle.wap_codegen.specs.pool.inside.Pools.{program_needs}
 use Rattle.wap_codegen.proofs.PoolLemmas.Needed.{all_pooled}
 use Rattle.wap_codegen.proofs.pool.numbering.Numbering.of.Goals as goal

@@ -1,6 +1,6 @@
 use Rattle.std.proofs.Common.{◌≡◌, ℕ, List, [], ap, ◌∙◌, subst, unwrap_or, IfOk}
 use Rattle.wap_meaning.specs.Names.{url_of}
-use Rattle.wap_coding.specs.Constants.{Numbers}
+use Rattle.wap_meaning.specs.coding.Constants.{Numbers}
 use Rattle.wap_codegen.proofs.PoolLemmas.Numbered.{urled}
 use Rattle.wap_codegen.proofs.pool.numbering.Numbering.url_of.Goals as goal
 

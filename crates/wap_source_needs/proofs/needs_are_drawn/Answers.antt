@@ -1,6 +1,0 @@
-use Rattle.wap_grammar.specs.Words.{lexemes_of}
-use Rattle.wap_source_needs.proofs.Programs.{drawn}
-use Rattle.wap_source_needs.proofs.needs_are_drawn.Goals as goal
-
-pub returns : goal.returns
-returns c = λ src tokens p spelled. drawn src (lexemes_of src tokens) p spelled
