@@ -9,3 +9,5 @@ pub mod Names
 pub mod Goes
 pub mod Found
 pub mod Firsts
+pub mod InputsLemmas
+pub mod FlowLemmas

@@ -1,5 +1,9 @@
-//! The cards of a good deck, read through views: their tasks, dos, links, fields, events, timers
-//! and titles, and which elements show. What these mean stands in `wap_cardrules`.
+//! Cards: what they have, their fields, and what they show. What they mean stands in
+//! `wap_cardrules`.
+//!
+//! - `inputs`: The fields of a card: inputs, what a user enters into them, and selects.
+//! - `flow`: What a card of a good deck shows, as one flow of words, breaks and modes, and its dos,
+//!   which the same walk finds.
 #![tactic(auto)]
 
 mod content;
@@ -8,6 +12,8 @@ mod elements;
 mod events;
 mod fields;
 mod filling;
+pub mod flow;
+pub mod inputs;
 mod numbers;
 mod tasks;
 mod texts;

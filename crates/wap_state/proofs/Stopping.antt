@@ -7,8 +7,8 @@ use Rattle.wap_markup.specs.declared.deck.Node.{Node}
 use Rattle.wap_cardrules.specs.Fields.{fields_of}
 use Rattle.wap_cardrules.specs.Values.{Pairs}
 use Rattle.wap_cardrules.specs.Setting.{set_one, set_all, set_each, default, defaults}
-use Rattle.wap_fields.specs.Stopped.{FirstStand, DefaultsStand}
-use Rattle.wap_fields.proofs.Orders.{set_after, first_stands}
+use Rattle.wap_cards.specs.inputs.Stopped.{FirstStand, DefaultsStand}
+use Rattle.wap_cards.proofs.InputsLemmas.Orders.{set_after, first_stands}
 use Rattle.wap_world.specs.World.{World}
 use Rattle.wap_world.specs.declared.timer.Timer.{Timer}
 use Rattle.wap_world.specs.declared.timer.Timer.TheVariants.{NotStarted, Running, Off, Expired}

@@ -1,14 +1,14 @@
 //! The fields of the current card (WAP-191, section 11.6).
 ghost use Rattle.std.specs.Prelude.{◌≡◌, IfOk, OnOk, OnErr};
 ghost use Rattle.wap_cardrules.specs.Entering.{enter_text, choose};
-ghost use Rattle.wap_fields.specs.Stopped.{ChoiceStands};
+ghost use Rattle.wap_cards.specs.inputs.Stopped.{ChoiceStands};
 
 use crate::hand::Current;
 use crate::state::State;
 use std::alloc::Global;
 use wap_base::{NoMemory, Text};
 use wap_cardrules::{Chosen, Entered};
-use wap_fields::{choose, enter_text};
+use wap_cards::inputs::{choose, enter_text};
 
 impl State {
     /// Enters a text into the field of a number.

@@ -2,7 +2,7 @@
 ghost use Rattle.std.specs.Prelude.{◌≡◌, ◌⊎◌, OnOk, OnErr};
 ghost use Rattle.wap_url.specs.Segments.{IsPrefix};
 ghost use Rattle.wap_cardrules.specs.Setting.{defaults};
-ghost use Rattle.wap_fields.specs.Stopped.{DefaultsStand};
+ghost use Rattle.wap_cards.specs.inputs.Stopped.{DefaultsStand};
 ghost use Rattle.wap_world.specs.Setting.{with_set};
 ghost use Rattle.wap_state.specs.Held.{screen_held, show_held, restart_held};
 ghost use Rattle.wap_state.specs.Scenes.{Plays, Leaves};
@@ -12,7 +12,7 @@ use crate::screen_lines::{add_fault_lines, add_screen};
 use crate::state::State;
 use std::alloc::Global;
 use wap_base::NoMemory;
-use wap_fields::apply_defaults;
+use wap_cards::inputs::apply_defaults;
 use wap_good::View;
 use wap_lines::Lines;
 

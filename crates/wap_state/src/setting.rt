@@ -1,7 +1,7 @@
 //! Setting variables (WAP-191, sections 9.4 and 10.3.4).
 ghost use Rattle.std.specs.Prelude.{◌≡◌, IfOk, OnOk, OnErr};
 ghost use Rattle.wap_cardrules.specs.Setting.{set_all};
-ghost use Rattle.wap_fields.specs.Stopped.{FirstStand};
+ghost use Rattle.wap_cards.specs.inputs.Stopped.{FirstStand};
 ghost use Rattle.wap_world.specs.Setting.{set_variables};
 ghost use Rattle.wap_state.specs.Scenes.{Plays, Leaves};
 
@@ -9,7 +9,7 @@ use crate::screen_lines::add_fault_lines;
 use crate::state::State;
 use std::alloc::Global;
 use wap_base::{NoMemory, Rows, Text};
-use wap_fields::set_one;
+use wap_cards::inputs::set_one;
 use wap_lines::Lines;
 use wap_vars::{VarFault, Vars};
 

@@ -3,7 +3,7 @@ ghost use Rattle.std.specs.Prelude.{◌≡◌, ℕ, IfOk, OnOk, OnErr};
 ghost use Rattle.std.specs.Option.{option_and_then};
 ghost use Rattle.std.specs.Fmt.{decimal};
 ghost use Rattle.wap_cardrules.specs.Timers.{timer_in, timer_variable, timer_of};
-ghost use Rattle.wap_fields.specs.Stopped.{FirstStand};
+ghost use Rattle.wap_cards.specs.inputs.Stopped.{FirstStand};
 ghost use Rattle.wap_world.specs.declared.timer.Timer.TheVariants.{Running, Off, Expired};
 ghost use Rattle.wap_world.specs.Timers.{timer_from, start_timer, started};
 ghost use Rattle.wap_world.specs.Timers.{store_time, store_left, end_timer};

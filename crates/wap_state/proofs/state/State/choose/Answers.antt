@@ -1,7 +1,7 @@
 use Rattle.std.proofs.Common.{OnErr, ap, subst}
 use Rattle.wap_markup.specs.declared.deck.Node.{Node}
 use Rattle.wap_filling.specs.Variables.{Variables}
-use Rattle.wap_fields.specs.Stopped.{ChoiceStands}
+use Rattle.wap_cards.specs.inputs.Stopped.{ChoiceStands}
 use Rattle.wap_world.specs.World.{World}
 use Rattle.wap_state.specs.Held.{Held}
 use Rattle.wap_state.proofs.state.State.choose.Goals as goal

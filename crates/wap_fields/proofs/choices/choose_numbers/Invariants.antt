@@ -1,6 +1,0 @@
-use Rattle.std.proofs.Common.{◌≡◌, take}
-use Rattle.wap_cardrules.specs.Selects.{chosen}
-use Rattle.wap_fields.proofs.choices.choose_numbers.Given as goal
-
-abbrev pub invariant-loop-number : goal.invariant-loop-number
-invariant-loop-number l = l.choice.items ≡ chosen l.count (take l.number-index l.numbers)

@@ -1,6 +1,0 @@
-use Rattle.std.proofs.Common.{◌≡◌, []}
-use Rattle.wap_cardrules.specs.Selects.{chosen}
-use Rattle.wap_fields.proofs.choices.empty_choice.Given as goal
-
-abbrev pub invariant-loop-place : goal.invariant-loop-place
-invariant-loop-place l = l.choice.items ≡ chosen l.place []

@@ -1,7 +1,0 @@
-use Rattle.std.proofs.Common.{◌≡◌, ◌++◌}
-use Rattle.wap_flow.proofs.Texts.{texts_flow}
-use Rattle.wap_flow.proofs.selects.add_texts.Given as goal
-
-abbrev pub invariant-loop-child : goal.invariant-loop-child
-invariant-loop-child l =
-    l.flow ++ texts_flow l.vars l.child-iterator ≡ l.initial.flow ++ texts_flow l.vars l.option.kids
