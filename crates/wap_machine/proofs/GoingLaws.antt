@@ -11,11 +11,11 @@ use Rattle.wap_execution.specs.Outcomes.{Ended, Hosting, Setting}
 use Rattle.wap_execution.specs.Running.{finished}
 use Rattle.wap_execution_laws.specs.Settings.{uncounted}
 use Rattle.wap_execution_laws.proofs.FrameLaws.{goes_onward}
-use Rattle.wap_frames.specs.declared.next.Callee.{Callee}
-use Rattle.wap_frames.specs.Seen.{called_of}
-use Rattle.wap_frames.specs.declared.next.Next.TheVariants.{Onward}
-use Rattle.wap_frames.specs.Doing.{Acts, EndsOrActs, has_ended, has_acted}
-use Rattle.wap_frames.proofs.Ready.{stands_for}
+use Rattle.wap_machine.specs.declared.next.Callee.{Callee}
+use Rattle.wap_machine.specs.Seen.{called_of}
+use Rattle.wap_machine.specs.declared.next.Next.TheVariants.{Onward}
+use Rattle.wap_machine.specs.Doing.{Acts, EndsOrActs, has_ended, has_acted}
+use Rattle.wap_machine.proofs.Ready.{stands_for}
 use Rattle.wap_machine.specs.declared.machine.Step.{Step}
 use Rattle.wap_machine.specs.declared.machine.Step.TheVariants.{Goes, Ends}
 use Rattle.wap_machine.specs.declared.machine.Outcome.TheVariants.{Fatal}

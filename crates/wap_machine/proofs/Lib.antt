@@ -1,3 +1,7 @@
+pub mod Rows
+pub mod Ready
+pub mod Operands
+pub mod Doing
 pub mod Weighing
 pub mod CallLaws
 pub mod HostLaws

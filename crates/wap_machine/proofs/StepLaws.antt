@@ -10,19 +10,19 @@ use Rattle.wap_execution.specs.declared.fatal.Fatal.TheVariants.{Budget}
 use Rattle.wap_execution.specs.Frames.{Function, Frame, code_of}
 use Rattle.wap_execution.specs.Outcomes.{fatal, Ended, Hosting, Setting}
 use Rattle.wap_execution.specs.Running.{ended, at_place, finished}
-use Rattle.wap_frames.specs.declared.next.Callee.{Callee}
-use Rattle.wap_frames.specs.declared.next.Next.{Next}
-use Rattle.wap_frames.specs.declared.next.Next.TheVariants as next
+use Rattle.wap_machine.specs.declared.next.Callee.{Callee}
+use Rattle.wap_machine.specs.declared.next.Next.{Next}
+use Rattle.wap_machine.specs.declared.next.Next.TheVariants as next
 use Rattle.wap_machine.specs.declared.machine.Outcome.TheVariants.{Done, Exited, Fatal, Asks}
 use Rattle.wap_machine.specs.declared.machine.Step.{Step}
 use Rattle.wap_machine.specs.declared.machine.Step.TheVariants.{Goes, Ends}
 use Rattle.wap_machine.specs.declared.machine.Wanted.TheVariants.{Nothing, Turn, Call}
 use Rattle.wap_machine.specs.Hosts.{Fetches}
-use Rattle.wap_frames.specs.Seen.{called_of}
+use Rattle.wap_machine.specs.Seen.{called_of}
 use Rattle.wap_machine.specs.Stacks.{Stack, stack}
 use Rattle.wap_execution_laws.specs.Settings.{uncounted}
-use Rattle.wap_frames.specs.Standing.{CanCall, Onwards}
-use Rattle.wap_frames.specs.Doing.{AreFew, Acts}
+use Rattle.wap_machine.specs.Standing.{CanCall, Onwards}
+use Rattle.wap_machine.specs.Doing.{AreFew, Acts}
 use Rattle.wap_machine.specs.inside.Weights.{weight, heavy}
 use Rattle.wap_machine.specs.inside.Efforts.{effort, GoesBelow, IsLight}
 use Rattle.wap_machine.specs.inside.Advances.{gives, wanted_for, HasStepped, at_end, done}
@@ -32,7 +32,7 @@ use Rattle.wap_execution_laws.proofs.FrameLaws.{ends_whole, returns_value, ends_
 use Rattle.wap_execution_laws.proofs.FrameLaws.{goes_onward, back_without, goes_back}
 use Rattle.wap_execution_laws.proofs.FrameLaws.{calls_without, makes_call}
 use Rattle.wap_machine.proofs.CallLaws.{gives_same}
-use Rattle.wap_frames.proofs.Ready.{stands_for, code_is}
+use Rattle.wap_machine.proofs.Ready.{stands_for, code_is}
 use Rattle.wap_machine.proofs.Weighing.{light}
 
 -- ---- what was wanted

@@ -5,9 +5,9 @@ use Rattle.std.specs.List.{AllByRecursion}
 use Rattle.std.proofs.lemmas.List.{reverse-append}
 use Rattle.wap_base.specs.declared.limits.TheConstants.{MOST_DEPTH}
 use Rattle.wap_execution.specs.Frames.{Frame, code_of}
-use Rattle.wap_frames.specs.Standing.{Stands}
+use Rattle.wap_machine.specs.Standing.{Stands}
 use Rattle.wap_machine.specs.inside.Weights.{weight, heavy}
-use Rattle.wap_frames.proofs.Ready.{code_is, code_small}
+use Rattle.wap_machine.proofs.Ready.{code_is, code_small}
 
 one_light : (frame : Frame) (coming : ℕ) → Stands frame coming
     → length (code_of frame.function) - frame.place + 1 ≤ 2 ^ 32

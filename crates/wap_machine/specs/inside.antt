@@ -1,3 +1,4 @@
+pub mod Parts
 pub mod Stacked
 pub mod Weights
 pub mod Innermost

@@ -2,18 +2,18 @@
 ghost use Rattle.std.specs.Prelude.{◌≡◌, ◌<◌, ◌≤◌, length, IfOk, OnOk, IsErrOf, IfSome};
 ghost use Rattle.wap_base.specs.Count.{Rose};
 ghost use Rattle.wap_execution.specs.Effects.{library, external};
-ghost use Rattle.wap_frames.specs.Seen.{called_of};
-ghost use Rattle.wap_frames.specs.Doing.{AreFew};
+ghost use Rattle.wap_machine.specs.Seen.{called_of};
+ghost use Rattle.wap_machine.specs.Doing.{AreFew};
 ghost use Rattle.wap_machine.specs.Hosts.{Fetches, GrowsTold};
 ghost use Rattle.wap_execution_laws.specs.Settings.{uncounted};
 ghost use Rattle.wap_machine.specs.inside.Steps.{rest, Same, called_from};
 ghost use Rattle.wap_machine.specs.inside.Steps.{CanCallFrom, IsInOrderFor};
 
+use crate::Callee;
 use crate::calls::{enter_found, enter_local, go_with};
 use crate::host::Host;
 use crate::machine::{Step, Waiting};
 use wap_base::{RunErr, Text};
-use wap_frames::Callee;
 use wap_value::Value;
 
 /// Calls a function of a library.

@@ -6,10 +6,10 @@ ghost use Rattle.wap_machine.specs.Hosts.{IsCallable};
 ghost use Rattle.wap_machine.specs.inside.Efforts.{IsLight};
 ghost use Rattle.wap_machine.specs.inside.Steps.{CanCallFrom, goes_with, GoesLocally, GoesFound};
 
+use crate::Script;
 use crate::machine::{Outcome, Step, Waiting};
 use wap_base::NoMemory;
 use wap_execution::{Fatal, Found, HostOut};
-use wap_frames::Script;
 use wap_shared::Shared;
 use wap_value::Value;
 use wap_verify::Verified;

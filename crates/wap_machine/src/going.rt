@@ -1,13 +1,13 @@
 //! Instructions, one after the other.
 ghost use Rattle.std.specs.Prelude.{◌≡◌, IfOk};
 ghost use Rattle.wap_base.specs.Limits.{IsStringLimit};
-ghost use Rattle.wap_frames.specs.Standing.{Stands};
-ghost use Rattle.wap_frames.specs.Doing.{StandsFor};
+ghost use Rattle.wap_machine.specs.Standing.{Stands};
+ghost use Rattle.wap_machine.specs.Doing.{StandsFor};
 ghost use Rattle.wap_machine.specs.inside.Goings.{HasGone};
 
+use crate::{Frame, Next, act};
 use std::alloc::Global;
 use wap_base::NoMemory;
-use wap_frames::{Frame, Next, act};
 
 /// Does instructions up to one after which the frame doesn't simply go on further on. A function
 /// that comes to its end gives the empty String.

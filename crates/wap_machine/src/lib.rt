@@ -1,14 +1,27 @@
-//! The abstract machine of WMLScript (WAP-193, sections 9 and 10): it runs functions of units that
-//! were verified, in a host that has the libraries and finds other units, and stops at each dialog.
+//! Runs of compiled functions in any host, by frames.
 #![tactic(auto)]
 
+mod acting;
 mod asking;
+mod calling;
 mod calls;
+mod constants;
+mod frame;
 mod going;
 mod host;
+mod instruction;
 mod machine;
+mod next;
+mod performing;
 mod running;
+mod script;
+mod short_circuit;
 mod stepping;
+mod variables;
 
+pub use frame::Frame;
 pub use host::Host;
 pub use machine::{Machine, Outcome, Waiting};
+pub use next::{Callee, Next};
+pub use performing::act;
+pub use script::Script;

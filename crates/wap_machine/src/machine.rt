@@ -3,21 +3,21 @@ ghost use Rattle.std.specs.Prelude.{◌≡◌, [], ◌∷◌, ◌<◌, ◌≤◌
 ghost use Rattle.std.specs.List.{AllByRecursion};
 ghost use Rattle.wap_base.specs.declared.limits.TheConstants.{MOST_DEPTH};
 ghost use Rattle.wap_base.specs.Limits.{AreInRange};
-ghost use Rattle.wap_frames.specs.Seen.{function_in, function_of};
-ghost use Rattle.wap_frames.specs.Standing.{CanEnter};
+ghost use Rattle.wap_machine.specs.Seen.{function_in, function_of};
+ghost use Rattle.wap_machine.specs.Standing.{CanEnter};
 ghost use Rattle.wap_machine.specs.Stacks.{stack, answered, IsEntered};
-ghost use Rattle.wap_frames.specs.Standing.{Stands};
+ghost use Rattle.wap_machine.specs.Standing.{Stands};
 ghost use Rattle.wap_machine.specs.inside.Innermost.{IsInnermost};
 ghost use Rattle.wap_machine.specs.inside.Weights.{weight, heavy};
-ghost use Rattle.wap_frames.specs.Doing.{StandsFor};
+ghost use Rattle.wap_machine.specs.Doing.{StandsFor};
 ghost use Rattle.wap_machine.specs.inside.Advances.{gives, wanted_for, IsAdvanced};
 
 use crate::going::go_on;
+use crate::{Callee, Frame, Next, Script};
 use std::alloc::Global;
 use std::marker::Model;
 use wap_base::{Limits, NoMemory};
 use wap_execution::{Dialog, Fatal};
-use wap_frames::{Callee, Frame, Next, Script};
 use wap_shared::Shared;
 use wap_url::Url;
 use wap_value::Value;

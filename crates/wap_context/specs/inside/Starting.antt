@@ -18,7 +18,7 @@ use Rattle.wap_execution.specs.Frames.{Function, code_at}
 use Rattle.wap_execution.specs.Outcomes.{Ended}
 use Rattle.wap_execution.specs.Running.{finished}
 use Rattle.wap_execution_laws.specs.Settings.{uncounted}
-use Rattle.wap_frames.specs.Standing.{CanEnter}
+use Rattle.wap_machine.specs.Standing.{CanEnter}
 use Rattle.wap_machine.specs.Stacks.{Stack}
 use Rattle.wap_machine.specs.Runs.{meant, KeepsLimits}
 use Rattle.wap_machine.specs.declared.machine.Outcome.{Outcome}

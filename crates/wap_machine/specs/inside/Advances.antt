@@ -4,15 +4,15 @@ use Rattle.wap_base.specs.declared.limits.Limits.{Limits}
 use Rattle.wap_value.specs.declared.value.Value.{Value}
 use Rattle.wap_value.specs.declared.value.Value.TheVariants.{Str}
 use Rattle.wap_execution.specs.Frames.{Frame, code_of}
-use Rattle.wap_frames.specs.declared.next.Next.{Next}
-use Rattle.wap_frames.specs.declared.next.Next.TheVariants as next
+use Rattle.wap_machine.specs.declared.next.Next.{Next}
+use Rattle.wap_machine.specs.declared.next.Next.TheVariants as next
 use Rattle.wap_machine.specs.declared.machine.Outcome.TheVariants.{Done, Fatal}
 use Rattle.wap_machine.specs.declared.machine.Step.{Step}
 use Rattle.wap_machine.specs.declared.machine.Step.TheVariants.{Goes, Ends}
 use Rattle.wap_machine.specs.declared.machine.Wanted.{Wanted}
 use Rattle.wap_machine.specs.declared.machine.Wanted.TheVariants.{Nothing, Turn, Call}
 use Rattle.wap_machine.specs.Stacks.{stack, answered}
-use Rattle.wap_frames.specs.Doing.{Acts}
+use Rattle.wap_machine.specs.Doing.{Acts}
 use Rattle.wap_machine.specs.inside.Stacked.{AreStacked}
 use Rattle.wap_machine.specs.inside.Goings.{Passed}
 

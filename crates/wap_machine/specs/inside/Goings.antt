@@ -1,10 +1,10 @@
 -- Instructions of a frame, one after the other. This carries proofs alone.
 use Rattle.std.specs.Prelude.{◌≡◌, ℕ, ◌<◌, List, [], ◌∷◌, length}
 use Rattle.wap_execution.specs.Frames.{Frame, code_of}
-use Rattle.wap_frames.specs.declared.next.Next.{Next}
-use Rattle.wap_frames.specs.declared.next.Next.TheVariants.{Onward}
-use Rattle.wap_frames.specs.Standing.{Stands}
-use Rattle.wap_frames.specs.Doing.{Acts, EndsOrActs}
+use Rattle.wap_machine.specs.declared.next.Next.{Next}
+use Rattle.wap_machine.specs.declared.next.Next.TheVariants.{Onward}
+use Rattle.wap_machine.specs.Standing.{Stands}
+use Rattle.wap_machine.specs.Doing.{Acts, EndsOrActs}
 
 -- an instruction was done, after which the frame goes on further on
 pub record GoesOn (string : ℕ) (frame after : Frame) : Type 0 where

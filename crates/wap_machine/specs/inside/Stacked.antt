@@ -5,7 +5,7 @@ use Rattle.wap_base.specs.declared.limits.Limits.{Limits}
 use Rattle.wap_base.specs.declared.limits.TheConstants.{MOST_DEPTH}
 use Rattle.wap_base.specs.Limits.{AreInRange}
 use Rattle.wap_execution.specs.Frames.{Frame}
-use Rattle.wap_frames.specs.Standing.{Stands}
+use Rattle.wap_machine.specs.Standing.{Stands}
 
 -- the frame stands with as many values to come, and those outside it wait for one each
 pub record AreStacked

@@ -20,8 +20,8 @@ use Rattle.wap_machine.specs.declared.machine.Outcome.TheVariants.{Done, Exited,
 use Rattle.wap_machine.specs.declared.machine.Step.{Step}
 use Rattle.wap_machine.specs.declared.machine.Step.TheVariants.{Goes, Ends}
 use Rattle.wap_machine.specs.Stacks.{Stack, stack, answered}
-use Rattle.wap_frames.specs.Seen.{function_in}
-use Rattle.wap_frames.specs.Standing.{CanCall}
+use Rattle.wap_machine.specs.Seen.{function_in}
+use Rattle.wap_machine.specs.Standing.{CanCall}
 use Rattle.wap_machine.specs.inside.Efforts.{IsLight}
 use Rattle.wap_execution_laws.specs.Settings.{uncounted}
 use Rattle.wap_machine.specs.Runs.{meant, KeepsLimits, WantsNoTurn}

@@ -6,7 +6,7 @@ use Rattle.wap_url.specs.declared.url.Url.{Url}
 use Rattle.wap_execution.specs.declared.found.Found.{Found}
 use Rattle.wap_execution.specs.Frames.{Function, Frame}
 use Rattle.wap_execution.specs.Effects.{external}
-use Rattle.wap_frames.specs.declared.script.Script.{Script}
+use Rattle.wap_machine.specs.declared.script.Script.{Script}
 use Rattle.wap_machine.specs.declared.machine.Step.{Step}
 use Rattle.wap_machine.specs.Hosts.{Gives, Fetches, IsCallable}
 use Rattle.wap_execution_laws.specs.Settings.{uncounted}

@@ -6,7 +6,7 @@ use Rattle.wap_execution.specs.declared.library.HostOut.{HostOut}
 use Rattle.wap_execution.specs.Frames.{Function, Frame}
 use Rattle.wap_execution.specs.Effects.{library}
 use Rattle.wap_base.specs.declared.fault.RunErr.TheVariants.{Store}
-use Rattle.wap_frames.specs.declared.script.Script.{Script}
+use Rattle.wap_machine.specs.declared.script.Script.{Script}
 use Rattle.wap_machine.specs.declared.machine.Step.{Step}
 use Rattle.wap_machine.specs.Hosts.{Gives, Fetches}
 use Rattle.wap_execution_laws.specs.Settings.{uncounted}

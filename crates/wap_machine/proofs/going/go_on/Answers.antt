@@ -1,7 +1,7 @@
 use Rattle.std.proofs.Common.{[], refl, subst}
 use Rattle.wap_execution.specs.Frames.{Frame}
-use Rattle.wap_frames.specs.declared.next.Next.{Next}
-use Rattle.wap_frames.specs.Doing.{EndsOrActs}
+use Rattle.wap_machine.specs.declared.next.Next.{Next}
+use Rattle.wap_machine.specs.Doing.{EndsOrActs}
 use Rattle.wap_machine.specs.inside.Goings.{GoesOn}
 use Rattle.wap_machine.proofs.GoingLaws.{went_on, passed_more, on_falls}
 use Rattle.wap_machine.proofs.going.go_on.Goals as goal

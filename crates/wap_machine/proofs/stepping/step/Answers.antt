@@ -5,7 +5,7 @@ use Rattle.wap_machine.specs.declared.machine.Step.TheVariants.{Goes}
 use Rattle.wap_machine.specs.Hosts.{Fetches, GrowsTold}
 use Rattle.wap_execution_laws.specs.Settings.{uncounted}
 use Rattle.wap_machine.specs.Runs.{run_of}
-use Rattle.wap_frames.specs.Seen.{called_of}
+use Rattle.wap_machine.specs.Seen.{called_of}
 use Rattle.wap_machine.specs.inside.Advances.{IsAdvanced}
 use Rattle.wap_machine.specs.inside.Efforts.{effort, GoesBelow}
 use Rattle.wap_machine.specs.inside.Steps.{rest, Same, calls_from, LimitsStay, Wants, IsInOrderFor}

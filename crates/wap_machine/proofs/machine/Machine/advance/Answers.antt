@@ -1,8 +1,8 @@
 use Rattle.std.proofs.Common.{◌≡◌, List, ◌∷◌, reverse, refl, ap, subst, ◌∙◌}
 use Rattle.wap_base.specs.declared.limits.Limits.{Limits}
 use Rattle.wap_execution.specs.Frames.{Frame}
-use Rattle.wap_frames.specs.declared.next.Next.{Next}
-use Rattle.wap_frames.specs.Doing.{EndsOrActs, has_ended, has_acted}
+use Rattle.wap_machine.specs.declared.next.Next.{Next}
+use Rattle.wap_machine.specs.Doing.{EndsOrActs, has_ended, has_acted}
 use Rattle.wap_machine.specs.declared.machine.Wanted.{Wanted}
 use Rattle.wap_machine.specs.Stacks.{Stack}
 use Rattle.wap_machine.specs.inside.Stacked.{AreStacked}

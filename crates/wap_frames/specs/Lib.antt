@@ -1,4 +1,0 @@
-pub mod Seen
-pub mod Standing
-pub mod Doing
-pub mod inside
