@@ -8,8 +8,8 @@ use Rattle.wap_program.specs.declared.program.Program.{Program}
 use Rattle.wap_scope.specs.Names.{Mention, Declares, Refers, Jumps, declared, names_declared, said}
 use Rattle.wap_scope.specs.Scoped.{IsScoped}
 use Rattle.wap_scope.specs.declared.limits.TheConstants.{VARIABLE_LIMIT, FUNCTION_LIMIT}
-use Rattle.wap_scope_laws.specs.Known.{variables}
-use Rattle.wap_scope_laws.proofs.Places.{all_by_places}
+use Rattle.wap_scope.specs.accepted.Known.{variables}
+use Rattle.wap_scope.proofs.AcceptedLemmas.Places.{all_by_places}
 use Rattle.wap_codegen.proofs.PoolLemmas.Once.{variables_once}
 use Rattle.wap_compiled_laws.specs.Laws.{HasForms}
 use Rattle.wap_codegen.specs.inside.Units.{CanBeMade}

@@ -8,8 +8,8 @@ use Rattle.wap_code.specs.declared.unit.Code.{Code}
 use Rattle.wap_program.specs.declared.program.Id.{Id}
 use Rattle.wap_program.specs.declared.program.Function.{Function}
 use Rattle.wap_program.specs.declared.program.Program.{Program}
-use Rattle.wap_scope_laws.specs.Known.{variables}
-use Rattle.wap_scope_laws.proofs.Known.{parameters_first}
+use Rattle.wap_scope.specs.accepted.Known.{variables}
+use Rattle.wap_scope.proofs.AcceptedLemmas.Known.{parameters_first}
 use Rattle.wap_meaning.specs.Names.{locals}
 use Rattle.wap_meaning.specs.coding.Constants.{Numbers}
 use Rattle.wap_meaning.specs.coding.Compiled.{function_code, numbers_in}

@@ -29,8 +29,8 @@ use Rattle.wap_scope.specs.declared.limits.TheConstants.{VARIABLE_LIMIT, FUNCTIO
 use Rattle.wap_scope.specs.Names.{Mention, Declares, Refers, Jumps, said, declared, mentions}
 use Rattle.wap_scope.specs.Names.{names_declared}
 use Rattle.wap_scope.specs.Scoped.{IsScoped}
-use Rattle.wap_scope_laws.specs.Known.{variables, CanBeCoded}
-use Rattle.wap_scope_laws.proofs.Known.{all_can_be}
+use Rattle.wap_scope.specs.accepted.Known.{variables, CanBeCoded}
+use Rattle.wap_scope.proofs.AcceptedLemmas.Known.{all_can_be}
 use Rattle.wap_meaning.specs.coding.Constants.{is_in}
 use Rattle.wap_meaning.specs.coding.Compiled.{function_code, numbers_in, IsCodeOf, IsCompiled}
 use Rattle.wap_meaning.specs.coding.Needs.{Need, Constant, Operator, Variable, Local, Other}

@@ -6,7 +6,7 @@ use Rattle.wap_program.specs.declared.program.Function.{Function}
 use Rattle.wap_program.specs.declared.program.Program.{Program}
 use Rattle.wap_grammar.specs.declared.precedence.TheConstants.{LEVEL_LIMIT}
 use Rattle.wap_scope.specs.Scoped.{IsScoped}
-use Rattle.wap_scope_laws.proofs.Places.{all_by_places}
+use Rattle.wap_scope.proofs.AcceptedLemmas.Places.{all_by_places}
 use Rattle.wap_meaning.specs.coding.Compiled.{IsCompiled}
 use Rattle.wap_compiled_laws.proofs.BodiesLemmas.Functions as functions
 use Rattle.wap_verify.specs.Sound.{IsVerified}

@@ -11,3 +11,5 @@ pub mod OneMeaning
 pub mod Soundness
 pub mod Completeness
 pub mod Ascending
+pub mod AcceptedLemmas
+pub mod OrderLemmas

@@ -4,3 +4,4 @@ pub mod Faults
 pub mod Meanings
 pub mod Places
 pub mod inside
+pub mod accepted

@@ -1,6 +1,11 @@
-//! Whether the names of a WMLScript program are in order (WAP-193, sections 6.2, 6.4, 6.5 and 6.7).
+//! The names of programs in order, or the first fault, and the laws of both.
+//!
+//! - `accepted`: Laws of programs whose names are in order: what may be taken for granted where
+//!   code is made for them.
+//! - `order`: Laws of sources, from their tokens to their names.
 #![tactic(auto)]
 
+pub mod accepted;
 mod expressions;
 mod fault;
 mod functions;
@@ -8,6 +13,7 @@ mod globals;
 mod laws;
 mod limits;
 mod names;
+pub mod order;
 mod scoped;
 mod statements;
 

@@ -15,7 +15,7 @@ use Rattle.wap_scope.specs.Names.{function_named, units}
 use Rattle.wap_scope.specs.Scoped.{is_among, IsScoped}
 use Rattle.wap_scope.specs.Meanings.{function_names}
 use Rattle.wap_scope.proofs.Lists.{append_none}
-use Rattle.wap_scope_laws.proofs.Places.{all_by_places}
+use Rattle.wap_scope.proofs.AcceptedLemmas.Places.{all_by_places}
 use Rattle.wap_meaning.specs.Names.{url_in}
 use Rattle.wap_codegen.specs.pool.Names.{with_name, with_names, AreOnce}
 use Rattle.wap_codegen.specs.pool.inside.Declaring.{with_urls}

@@ -6,7 +6,7 @@ use Rattle.wap_asm.specs.Placing.{wide}
 use Rattle.wap_program.specs.declared.program.Function.{Function}
 use Rattle.wap_program.specs.declared.program.Program.{Program}
 use Rattle.wap_scope.specs.Meanings.{function_names}
-use Rattle.wap_scope_laws.specs.Known.{variables}
+use Rattle.wap_scope.specs.accepted.Known.{variables}
 use Rattle.wap_meaning.specs.Names.{url_in}
 use Rattle.wap_meaning.specs.coding.Constants.{Numbers}
 use Rattle.wap_codegen.specs.pool.Names.{AreOnce}

@@ -2,7 +2,7 @@
 ghost use Rattle.std.specs.Prelude.{◌≡◌, IfOk, OnOk, OnErr, [], length, map};
 ghost use Rattle.wap_program.specs.declared.expression.Literal.TheVariants as literal;
 ghost use Rattle.wap_scope.specs.Scoped.{IsScoped};
-ghost use Rattle.wap_scope_laws.specs.Known.{variables};
+ghost use Rattle.wap_scope.specs.accepted.Known.{variables};
 ghost use Rattle.wap_meaning.specs.Names.{variable_at, function_at, url_of};
 ghost use Rattle.wap_meaning.specs.coding.Constants.{number_of, text_number, url_number};
 ghost use Rattle.wap_meaning.specs.coding.Constants.{with_literal};

@@ -32,7 +32,7 @@ use Rattle.wap_program.specs.declared.expression.Expr.TheOpen.{Expr-F}
 use Rattle.wap_program.specs.declared.expression.Expr.TheFolds.{fold-roll-Expr, ind-Expr}
 use Rattle.wap_scope.specs.Names.{Reference, references, references_by}
 use Rattle.wap_scope.specs.Scoped.{library_arity}
-use Rattle.wap_scope_laws.specs.Known.{variables, IsKnown, IsAmong}
+use Rattle.wap_scope.specs.accepted.Known.{variables, IsKnown, IsAmong}
 use Rattle.wap_meaning.specs.Names.{variable_at, function_at, numbers_of, library_numbers, url_of}
 use Rattle.wap_meaning.specs.coding.Coded.{Coded, one, ◌⨾◌, instr, plain, with_operand, all_code}
 use Rattle.wap_meaning.specs.coding.Coded.{label, jump_over}

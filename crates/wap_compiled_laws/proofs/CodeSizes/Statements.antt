@@ -20,7 +20,7 @@ use Rattle.wap_program.specs.declared.statement.Stmt.TheFolds.{fold-roll-Stmt, i
 use Rattle.wap_scope.specs.Names.{Reference, Variable as named, references, references_by, Mention}
 use Rattle.wap_scope.specs.Names.{Refers, refers, refers_if, declares, mentions_by}
 use Rattle.wap_scope.specs.Names.{mentions}
-use Rattle.wap_scope_laws.specs.Known.{CanBeCoded}
+use Rattle.wap_scope.specs.accepted.Known.{CanBeCoded}
 use Rattle.wap_meaning.specs.Names.{variable_at}
 use Rattle.wap_meaning.specs.coding.Coded.{Exits, Coded, empty, one, ◌⨾◌, instr, plain}
 use Rattle.wap_meaning.specs.coding.Coded.{with_operand}

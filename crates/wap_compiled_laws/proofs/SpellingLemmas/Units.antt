@@ -23,7 +23,7 @@ use Rattle.wap_program.specs.declared.program.Program.{Program}
 use Rattle.wap_program.specs.declared.expression.Literal.{Literal}
 use Rattle.wap_program.specs.declared.expression.Literal.TheVariants.{Str}
 use Rattle.wap_scope.specs.Scoped.{IsScoped}
-use Rattle.wap_scope_laws.proofs.Places.{all_by_places}
+use Rattle.wap_scope.proofs.AcceptedLemmas.Places.{all_by_places}
 use Rattle.wap_meaning.proofs.Variables.{variables_first}
 use Rattle.wap_meaning.specs.coding.Constants.{constant_for}
 use Rattle.wap_unit.specs.Sequences.{InTurn, IsRow, IsCounted}

@@ -9,7 +9,7 @@ use Rattle.std.proofs.lemmas.List.Folds.{find_at, list_any-append}
 use Rattle.wap_base.specs.Texts.{is_same_text}
 use Rattle.wap_program.specs.declared.program.Function.{Function}
 use Rattle.wap_scope.specs.Names.{function_named}
-use Rattle.wap_scope_laws.specs.Known.{place_of, IsAmong}
+use Rattle.wap_scope.specs.accepted.Known.{place_of, IsAmong}
 
 -- what holds of each item, by what stands before it and after it, holds of all
 pub all_by_places : {X : Type 0} (P : X → Type 0) (xs : List X) →

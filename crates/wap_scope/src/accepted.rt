@@ -1,14 +1,12 @@
 //! Laws of programs whose names are in order: what may be taken for granted where code is made for
 //! them. The functions here do nothing, and carry the laws alone.
-#![tactic(auto)]
-
 ghost use Rattle.std.specs.Prelude.{◌≡◌, ◌++◌, false, map};
 ghost use Rattle.std.specs.List.{flat_map};
 ghost use Rattle.wap_program.specs.declared.program.Function.{Function};
 ghost use Rattle.wap_program.specs.declared.program.Program.{Program};
 ghost use Rattle.wap_scope.specs.Names.{mentions, names_declared};
 ghost use Rattle.wap_scope.specs.Scoped.{IsScoped};
-ghost use Rattle.wap_scope_laws.specs.Known.{variables, AllCanBeCoded};
+ghost use Rattle.wap_scope.specs.accepted.Known.{variables, AllCanBeCoded};
 
 /// What the functions of such a program name is there, and their jumps stand in loops. The
 /// parameters of a function are the first of its variables.

@@ -1,7 +1,5 @@
 //! Laws of sources, from their tokens to their names. The functions here do nothing, and carry the
 //! laws alone.
-#![tactic(auto)]
-
 ghost use Rattle.std.specs.Prelude.{ℕ, List};
 ghost use Rattle.wap_lex.specs.declared.token.Token.{Token};
 ghost use Rattle.wap_lex.specs.Tokens.{AreTokens};

@@ -23,12 +23,13 @@ use Rattle.wap_scope.specs.Places.{mention_places, use_places, function_places, 
 use Rattle.wap_scope.specs.Places.{fault_places, AscendFrom}
 use Rattle.wap_scope.specs.Faults.{faults}
 use Rattle.wap_scope.proofs.Ascending.{ascend}
-use Rattle.wap_source_laws.proofs.Among.{Among, no_more, skip, here, in_a_row, same, up_to, past}
-use Rattle.wap_source_laws.proofs.Among.{Finds, several, listed}
-use Rattle.wap_source_laws.proofs.Among.{places_ascend}
-use Rattle.wap_source_laws.proofs.Tokens.{tokens_ascend}
-use Rattle.wap_source_laws.proofs.Says.{flat_flat, stmt_places, said_places}
-use Rattle.wap_source_laws.proofs.Statements.{finds_statement}
+use Rattle.wap_scope.proofs.OrderLemmas.Among.{Among, no_more, skip, here, in_a_row, same, up_to}
+use Rattle.wap_scope.proofs.OrderLemmas.Among.{past}
+use Rattle.wap_scope.proofs.OrderLemmas.Among.{Finds, several, listed}
+use Rattle.wap_scope.proofs.OrderLemmas.Among.{places_ascend}
+use Rattle.wap_scope.proofs.OrderLemmas.Tokens.{tokens_ascend}
+use Rattle.wap_scope.proofs.OrderLemmas.Says.{flat_flat, stmt_places, said_places}
+use Rattle.wap_scope.proofs.OrderLemmas.Statements.{finds_statement}
 
 -- some tokens among which no places stand
 abbrev Passes : List Lexeme → List Lexeme → Type 0

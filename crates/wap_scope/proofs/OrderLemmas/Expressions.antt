@@ -18,11 +18,11 @@ use Rattle.wap_grammar.specs.Expressions.{IsUnary, IsOperand, IsLooser, IsPart, 
 use Rattle.wap_grammar.specs.Expressions as expressed
 use Rattle.wap_scope.specs.Places.{reference_places}
 use Rattle.wap_scope.proofs.Parts.{of_literal, of_variable, of_assignment, of_step, of_unary}
-use Rattle.wap_source_laws.proofs.Among.{no_more, skip, here, in_a_row, same, past, Finds}
-use Rattle.wap_source_laws.proofs.Among.{several}
-use Rattle.wap_source_laws.proofs.Says.{expr_places, all_places, operand_places, chain_places}
-use Rattle.wap_source_laws.proofs.Says.{choice_places, local_places, external_places}
-use Rattle.wap_source_laws.proofs.Says.{library_places}
+use Rattle.wap_scope.proofs.OrderLemmas.Among.{no_more, skip, here, in_a_row, same, past, Finds}
+use Rattle.wap_scope.proofs.OrderLemmas.Among.{several}
+use Rattle.wap_scope.proofs.OrderLemmas.Says.{expr_places, all_places, operand_places, chain_places}
+use Rattle.wap_scope.proofs.OrderLemmas.Says.{choice_places, local_places, external_places}
+use Rattle.wap_scope.proofs.OrderLemmas.Says.{library_places}
 
 -- ---- what is called
 

@@ -1,5 +1,5 @@
-use Rattle.wap_source_laws.proofs.Programs.{names_ascend, faults_ascend}
-use Rattle.wap_source_laws.proofs.parsed_names_ascend.Goals as goal
+use Rattle.wap_scope.proofs.OrderLemmas.Programs.{names_ascend, faults_ascend}
+use Rattle.wap_scope.proofs.order.parsed_names_ascend.Goals as goal
 
 pub returns-clause-names : goal.returns-clause-names
 returns-clause-names c = names_ascend

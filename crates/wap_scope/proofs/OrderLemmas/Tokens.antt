@@ -6,7 +6,7 @@ use Rattle.wap_lex.specs.Tokens.{kind_of, token_before, Lexes, ends, piece}
 use Rattle.wap_grammar.specs.Words.{lexemes_of}
 use Rattle.wap_scope.specs.Places.{AscendFrom}
 use Rattle.wap_scope.proofs.Ascending.{from_earlier}
-use Rattle.wap_source_laws.proofs.Among.{spans}
+use Rattle.wap_scope.proofs.OrderLemmas.Among.{spans}
 
 -- a token before others that begin where it ends or later
 before : (src : List ℕ) (kind : Option Kind) (from to : ℕ) (tokens : List Token) → from ≤ to →

@@ -1,5 +1,5 @@
-use Rattle.wap_scope_laws.proofs.Known.{all_can_be, parameters_first}
-use Rattle.wap_scope_laws.proofs.scoped_names_are_known.Goals as goal
+use Rattle.wap_scope.proofs.AcceptedLemmas.Known.{all_can_be, parameters_first}
+use Rattle.wap_scope.proofs.accepted.scoped_names_are_known.Goals as goal
 
 pub returns-clause-known : goal.returns-clause-known
 returns-clause-known c = all_can_be

@@ -15,9 +15,10 @@ use Rattle.wap_scope.specs.Names.{Reference, Variable, Local, External, Library}
 use Rattle.wap_scope.specs.Names.{Mention, Declares, Refers, Jumps, said, declared, mentions}
 use Rattle.wap_scope.specs.Names.{names_declared, function_named, units}
 use Rattle.wap_scope.specs.Scoped.{is_taken, Says, IsScoped}
-use Rattle.wap_scope_laws.specs.Known.{variables, IsAmong, IsKnown, CanBeCoded, AllCanBeCoded}
-use Rattle.wap_scope_laws.proofs.Places.{all_by_places, first_within, among_first, among_itself}
-use Rattle.wap_scope_laws.proofs.Places.{function_there}
+use Rattle.wap_scope.specs.accepted.Known.{variables, IsAmong, IsKnown, CanBeCoded, AllCanBeCoded}
+use Rattle.wap_scope.proofs.AcceptedLemmas.Places.{all_by_places, first_within, among_first}
+use Rattle.wap_scope.proofs.AcceptedLemmas.Places.{among_itself}
+use Rattle.wap_scope.proofs.AcceptedLemmas.Places.{function_there}
 
 -- what takes a number of arguments and is there takes that number
 taken : {X : Type 0} (count : ℕ) (size : X → ℕ) (found : Option X) → IsSome found →

@@ -18,13 +18,15 @@ use Rattle.wap_grammar.specs.Statements.{IsDeclaration, IsOptional, done_first, 
 use Rattle.wap_grammar.specs.Statements.{IsCondition, IsElse, IsStatementOf, IsStatement}
 use Rattle.wap_grammar.specs.Statements as stated
 use Rattle.wap_scope.proofs.Parts.{of_empty, of_value, of_break, of_continue, of_return}
-use Rattle.wap_source_laws.proofs.Among.{Among, no_more, skip, here, in_a_row, same, past, Finds}
-use Rattle.wap_source_laws.proofs.Among.{several, listed}
-use Rattle.wap_source_laws.proofs.Says.{expr_places, optional_places, declaration_places}
-use Rattle.wap_source_laws.proofs.Says.{said_places, stmt_places, other_places, value_places}
-use Rattle.wap_source_laws.proofs.Says.{value_if_places, variables_places, block_places, if_places}
-use Rattle.wap_source_laws.proofs.Says.{while_places, for_places}
-use Rattle.wap_source_laws.proofs.Expressions.{finds_expression}
+use Rattle.wap_scope.proofs.OrderLemmas.Among.{Among, no_more, skip, here, in_a_row, same, past}
+use Rattle.wap_scope.proofs.OrderLemmas.Among.{Finds}
+use Rattle.wap_scope.proofs.OrderLemmas.Among.{several, listed}
+use Rattle.wap_scope.proofs.OrderLemmas.Says.{expr_places, optional_places, declaration_places}
+use Rattle.wap_scope.proofs.OrderLemmas.Says.{said_places, stmt_places, other_places, value_places}
+use Rattle.wap_scope.proofs.OrderLemmas.Says.{value_if_places, variables_places, block_places}
+use Rattle.wap_scope.proofs.OrderLemmas.Says.{if_places}
+use Rattle.wap_scope.proofs.OrderLemmas.Says.{while_places, for_places}
+use Rattle.wap_scope.proofs.OrderLemmas.Expressions.{finds_expression}
 
 empty_places : (inside : Bool) → stmt_places inside stmt.Empty ≡ []
 empty_places inside = ap said_places (of_empty inside)
