@@ -1,7 +1,7 @@
 //! Calls of fragments, which call functions of scripts.
 use crate::values::give_value;
 use wap_casebook::{Call, CaseFault};
-use wap_invocation::{Invocation, read_call};
+use wap_parse::invocation::{Invocation, read_call};
 
 /// Gives the name of a function, and its arguments.
 fn give_called(call: &mut Call, called: &Invocation) {

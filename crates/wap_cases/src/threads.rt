@@ -10,7 +10,6 @@ use wap_devices::{Failed, Fetched, MemSink, MemSource, MemStore, NoGate, StoreEr
 use wap_execution::{Dialog, Fatal, HostOut};
 use wap_good::GoodDeck;
 use wap_inbox::Inbox;
-use wap_invocation::Invocation;
 use wap_keys::{Ending, Key, KeyFault};
 use wap_layout::{Flow, Mode};
 use wap_lex::{Kind, LexFault, Token};
@@ -19,6 +18,7 @@ use wap_lines::Lines;
 use wap_machine::{Machine, Outcome, Waiting};
 use wap_markup::{Attr, Deck, Document, Element, Kid, Piece};
 use wap_mask::{Class, Mask, Symbol};
+use wap_parse::invocation::Invocation;
 use wap_parse::{Expr, Function, ParseFault, Program, Stmt, Use};
 use wap_push::{Indication, PushFault};
 use wap_scope::{ScopeFault, Scoped};

@@ -3,10 +3,10 @@
 use Rattle.std.proofs.Common.{◌≡◌, ℕ, List, Option, Some, None, refl, sym, ap, ◌∙◌}
 use Rattle.std.specs.Option.{option_map}
 use Rattle.wap_base.specs.Contents.{Contents}
-use Rattle.wap_invocation.specs.declared.invocation.Invocation.{Invocation}
-use Rattle.wap_invocation.specs.Calls.{IsCall}
-use Rattle.wap_invocation.specs.Reading.{call_of}
-use Rattle.wap_invocation.proofs.CallReading.{is_call, is_read}
+use Rattle.wap_parse.specs.declared.invocation.invocation.Invocation.{Invocation}
+use Rattle.wap_parse.specs.invocation.Calls.{IsCall}
+use Rattle.wap_parse.specs.invocation.Reading.{call_of}
+use Rattle.wap_parse.proofs.InvocationLemmas.CallReading.{is_call, is_read}
 use Rattle.wap_world.specs.Sites.{Call}
 use Rattle.wap_world.specs.scripting.UnitSites.{unit_pages, units_site}
 use Rattle.wap_context.specs.Sites.{fragment_call}

@@ -1,8 +1,8 @@
 -- What reads the calls in fragments of URLs (WAP-193, section 8.3), said by the relation of calls.
 -- This project's own.
 use Rattle.std.specs.Prelude.{◌≡◌, ℕ, List, Option, Some, None}
-use Rattle.wap_invocation.specs.declared.invocation.Invocation.{Invocation}
-use Rattle.wap_invocation.specs.Calls.{IsCall}
+use Rattle.wap_parse.specs.declared.invocation.invocation.Invocation.{Invocation}
+use Rattle.wap_parse.specs.invocation.Calls.{IsCall}
 use Rattle.wap_world.specs.Sites.{Call}
 
 -- a call, as sites have it

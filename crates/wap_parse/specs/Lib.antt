@@ -1,1 +1,3 @@
 pub mod inside
+pub mod expressions
+pub mod invocation

@@ -12,10 +12,10 @@ ghost use Rattle.wap_grammar.specs.inside.Statements.{closed_at, optional_at};
 ghost use Rattle.wap_grammar.specs.inside.Statements.{initial_at, condition_at};
 ghost use Rattle.wap_parse.specs.inside.Headers.{limits_at, turns_at, header_at};
 
-use std::alloc::Global;
-use wap_expressions::{
+use crate::expressions::{
     after, close, expect, is_sign, join, read_expression, read_variables, span_of,
 };
+use std::alloc::Global;
 use wap_grammar::{COMMA, Lexeme, ParseFault, Sign};
 use wap_program::{Boxed, Expr, Stmt};
 

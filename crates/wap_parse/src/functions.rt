@@ -8,10 +8,10 @@ ghost use Rattle.wap_grammar.specs.inside.Programs.{parameters_at, tail_at, head
 ghost use Rattle.wap_grammar.specs.inside.Programs.{function_at, next_function};
 ghost use Rattle.wap_parse.specs.inside.Signatures.{signature_at};
 
+use crate::expressions::{after, close, expect, is_comma, is_sign, list_of_one, read_id};
 use crate::statements::read_block;
 use std::alloc::Global;
 use wap_base::Rows;
-use wap_expressions::{after, close, expect, is_comma, is_sign, list_of_one, read_id};
 use wap_grammar::{Lexeme, ParseFault, Sign};
 use wap_program::{Function, Id, Stmt};
 

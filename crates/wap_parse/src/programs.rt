@@ -11,10 +11,10 @@ ghost use Rattle.wap_grammar.specs.Depth.{IsFirstBelow};
 ghost use Rattle.wap_grammar.specs.inside.Programs.{program_by, program_at};
 ghost use Rattle.wap_grammar.specs.inside.Statements.{statement_at};
 
+use crate::expressions::{lexemes_of, read_uses, syntax_fault};
 use crate::functions::read_functions;
 use std::alloc::Global;
 use wap_base::Rows;
-use wap_expressions::{lexemes_of, read_uses, syntax_fault};
 use wap_grammar::{LEVEL_LIMIT, Lexeme, ParseFault};
 use wap_lex::Token;
 use wap_program::{Function, Program, Use};

@@ -11,11 +11,11 @@ ghost use Rattle.wap_grammar.specs.inside.Statements.{statement_at};
 use crate::clauses::{
     Header, read_break, read_condition, read_continue, read_evaluation, read_header, read_return,
 };
+use crate::expressions::{after, close, is_sign, join, nesting_fault, read_variables, word_of};
 use crate::making::{for_of, if_of, while_of};
 use crate::starts::start_of;
 use std::alloc::Global;
 use wap_base::Rows;
-use wap_expressions::{after, close, is_sign, join, nesting_fault, read_variables, word_of};
 use wap_grammar::{Lexeme, ParseFault, Sign, Start};
 use wap_program::{Boxed, Expr, Stmt};
 

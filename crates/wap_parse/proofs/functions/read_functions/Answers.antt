@@ -3,7 +3,7 @@ use Rattle.wap_program.specs.declared.program.Function.{Function}
 use Rattle.wap_grammar.specs.inside.Steps.{items_at}
 use Rattle.wap_grammar.specs.inside.Statements.{statement_at}
 use Rattle.wap_grammar.specs.inside.Programs.{next_function}
-use Rattle.wap_expressions.proofs.Loops.{begins, another}
+use Rattle.wap_parse.proofs.ExpressionsLemmas.Loops.{begins, another}
 use Rattle.wap_parse.proofs.functions.read_functions.Goals as goal
 
 pub loop-init : goal.loop-init

@@ -2,7 +2,7 @@ use Rattle.std.proofs.Common.{length}
 use Rattle.wap_grammar.specs.inside.Steps.{items_at}
 use Rattle.wap_grammar.specs.inside.Statements.{statement_at}
 use Rattle.wap_grammar.specs.inside.Programs.{next_function}
-use Rattle.wap_expressions.proofs.Loops.{Continues}
+use Rattle.wap_parse.proofs.ExpressionsLemmas.Loops.{Continues}
 use Rattle.wap_parse.proofs.functions.read_functions.Given as goal
 
 abbrev pub invariant-loop : goal.invariant-loop

@@ -1,7 +1,7 @@
 use Rattle.std.proofs.Common.{◌∷◌, length}
 use Rattle.wap_grammar.specs.inside.Steps.{told, id_at, items_at}
 use Rattle.wap_grammar.specs.inside.Statements.{next_listed}
-use Rattle.wap_expressions.proofs.Loops.{Continues}
+use Rattle.wap_parse.proofs.ExpressionsLemmas.Loops.{Continues}
 use Rattle.wap_parse.proofs.functions.read_other_names.Given as goal
 
 abbrev pub invariant-loop : goal.invariant-loop
