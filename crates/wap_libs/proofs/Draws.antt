@@ -6,8 +6,8 @@ use Rattle.std.specs.Fn.{iterate}
 use Rattle.std.proofs.Math.Nat.{min-eq_left}
 use Rattle.rand_pcg.specs.Lcg.{Lcg, next, next_state, state_after, advance}
 use Rattle.rand_pcg.specs.Pcg.{multiplier_64}
-use Rattle.wap_library.specs.Generator.{Generator, generator_of, after_word, most_drawn, seeded}
-use Rattle.wap_library.specs.Generator.{started_from, KeepsCount}
+use Rattle.wap_libs.specs.Generator.{Generator, generator_of, after_word, most_drawn, seeded}
+use Rattle.wap_libs.specs.Generator.{started_from, KeepsCount}
 
 -- one step more at the end
 pub state_after-more : (w m increment n state : ℕ)

@@ -1,2 +1,4 @@
 pub mod Names
 pub mod Draws
+pub mod TextsLemmas
+pub mod LawsLemmas

@@ -5,7 +5,7 @@ use Rattle.std.specs.Result.{result_ok}
 use Rattle.std.specs.Str.{chars, is_utf8, IsUtf8}
 use Rattle.std.proofs.lemmas.Bool.{cond-true, cond-false, cases_Bool}
 use Rattle.std.proofs.lemmas.Str.{is_utf8-from_IsUtf8, IsUtf8-from_is_utf8}
-use Rattle.wap_library.specs.Url.{text_of_bytes}
+use Rattle.wap_libs.specs.Url.{text_of_bytes}
 
 pub is_some_of_ok : {A E : Type 0} (r : Result A E) → is_some (result_ok r) ≡ is_ok r
 is_some_of_ok (Ok x) = refl

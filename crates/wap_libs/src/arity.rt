@@ -1,14 +1,14 @@
 //! How many arguments functions take.
 ghost use Rattle.std.specs.Prelude.{◌≡◌, option_map};
-ghost use Rattle.wap_library.specs.Libraries.{function_at, row_of};
-ghost use Rattle.wap_library.specs.Row.{arguments, gives};
-ghost use Rattle.wap_library.specs.Lang.{row_of_lang};
-ghost use Rattle.wap_library.specs.Float.{formula_of_float};
-ghost use Rattle.wap_library.specs.String.{formula_of_string};
-ghost use Rattle.wap_library.specs.Url.{formula_of_url};
+ghost use Rattle.wap_libs.specs.Libraries.{function_at, row_of};
+ghost use Rattle.wap_libs.specs.Row.{arguments, gives};
+ghost use Rattle.wap_libs.specs.Lang.{row_of_lang};
+ghost use Rattle.wap_libs.specs.Float.{formula_of_float};
+ghost use Rattle.wap_libs.specs.String.{formula_of_string};
+ghost use Rattle.wap_libs.specs.Url.{formula_of_url};
 
 use crate::call::function_at;
-use wap_library::{FloatFunction, Function, LangFunction, StringFunction, UrlFunction};
+use crate::{FloatFunction, Function, LangFunction, StringFunction, UrlFunction};
 
 /// How many arguments a function takes that needs no browser: as many as `call_pure` has to be
 /// given.

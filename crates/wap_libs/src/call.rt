@@ -1,17 +1,16 @@
 //! Calls by the numbers of library and function.
 ghost use Rattle.std.specs.Prelude.{◌≡◌, ◌≢◌, vec_len, length, Err};
 ghost use Rattle.wap_base.specs.Outcome.{Meets};
-ghost use Rattle.wap_library.specs.Libraries.{IsPure, function_at, row_of};
-ghost use Rattle.wap_library.specs.Outcome.{outcome, generator_after, limited};
-ghost use Rattle.wap_library.specs.Row.{applied, arguments};
+ghost use Rattle.wap_libs.specs.Libraries.{IsPure, function_at, row_of};
+ghost use Rattle.wap_libs.specs.Outcome.{outcome, generator_after, limited};
+ghost use Rattle.wap_libs.specs.Row.{applied, arguments};
 
-use crate::Gen;
 use crate::float::call_float;
 use crate::lang::call_lang;
 use crate::string::call_string;
 use crate::url::call_url;
+use crate::{FLOAT, Function, Gen, LANG, LibFault, LibOut, STRING, URL};
 use std::alloc::Global;
-use wap_library::{FLOAT, Function, LANG, LibFault, LibOut, STRING, URL};
 use wap_value::Value;
 
 /// Calls a function that needs no browser, by the numbers of its library and its own. `string` is

@@ -1,10 +1,10 @@
 //! The library Float.
 ghost use Rattle.std.specs.Prelude.{◌≡◌, List};
 ghost use Rattle.wap_value.specs.declared.value.Value.{Value as AnyValue};
-ghost use Rattle.wap_library.specs.Float.{formula_of_float};
-ghost use Rattle.wap_library.specs.Row.{value_given};
+ghost use Rattle.wap_libs.specs.Float.{formula_of_float};
+ghost use Rattle.wap_libs.specs.Row.{value_given};
 
-use wap_library::FloatFunction;
+use crate::FloatFunction;
 use wap_value::Value;
 
 /// What a function of Float gives, whatever its arguments are.

@@ -19,7 +19,7 @@ pub struct Gen {
 }
 
 impl Model for Gen {
-    ghost use Rattle.wap_library.specs.Generator.{Generator, generator_of, KeepsCount};
+    ghost use Rattle.wap_libs.specs.Generator.{Generator, generator_of, KeepsCount};
 
     ghost Value = { Generator };
 
@@ -29,7 +29,7 @@ impl Model for Gen {
 }
 
 impl Gen {
-    ghost use Rattle.wap_library.specs.Generator.{started_from, next_word, after_word, most_drawn};
+    ghost use Rattle.wap_libs.specs.Generator.{started_from, next_word, after_word, most_drawn};
 
     /// The generator of a session with this seed, from which it starts.
     pub fn new(seed: u32) -> Gen

@@ -1,18 +1,17 @@
 //! The library Lang.
 ghost use Rattle.std.specs.Prelude.{◌≡◌, ◌≢◌, ◌+◌, ◌%◌, ◌^◌, ◌<◌, pos, length, IfOk, Some, Err};
 ghost use Rattle.wap_base.specs.Outcome.{Meets};
-ghost use Rattle.wap_library.specs.Lang.{row_of_lang, lang_abs, lang_min, lang_max, lang_parse_int};
-ghost use Rattle.wap_library.specs.Lang.{lang_is_int, lang_random, lang_seed, random_up_to};
-ghost use Rattle.wap_library.specs.Lang.{leading_integer, numeral};
-ghost use Rattle.wap_library.specs.Outcome.{limited};
-ghost use Rattle.wap_library.specs.Row.{applied, arguments};
+ghost use Rattle.wap_libs.specs.Lang.{row_of_lang, lang_abs, lang_min, lang_max, lang_parse_int};
+ghost use Rattle.wap_libs.specs.Lang.{lang_is_int, lang_random, lang_seed, random_up_to};
+ghost use Rattle.wap_libs.specs.Lang.{leading_integer, numeral};
+ghost use Rattle.wap_libs.specs.Outcome.{limited};
+ghost use Rattle.wap_libs.specs.Row.{applied, arguments};
 
-use crate::Gen;
+use crate::texts::argument::{argument, characters_of, integer_value, keep_within, show, text};
+use crate::texts::characters::{behind_blanks, digits};
+use crate::{Gen, LangFunction, LibFault, LibOut};
 use std::alloc::Global;
 use wap_base::{NoMemory, Rows, Text};
-use wap_library::{LangFunction, LibFault, LibOut};
-use wap_texts::argument::{argument, characters_of, integer_value, keep_within, show, text};
-use wap_texts::characters::{behind_blanks, digits};
 use wap_value::{Value, to_int};
 
 /// The number of UTF-8 in the list of character sets (IANA, MIBenum).

@@ -1,19 +1,31 @@
-//! The standard libraries of WMLScript (WAP-194), as far as they need no browser: what a call of a
-//! function of Lang, Float, String or URL comes to. `wap_library` has the definitions.
+//! The libraries Lang, Float, String and URL: what their functions mean, and the functions.
 //!
-//! A function converts its arguments first, and gives invalid where one has no conversion. Then it
-//! works on Integers and characters (`wap_texts`), and knows nothing of values any more.
+//! - `texts`: What the functions of the standard libraries of WMLScript (WAP-194) do with
+//!   characters, and how values become these and come of them.
+//! - `laws`: Laws of the two tables of library functions: of calls, which the code of units has,
+//!   and of the functions themselves.
 #![tactic(auto)]
 
 mod arity;
 mod call;
+mod fault;
 mod float;
+mod function;
 mod generator;
 mod lang;
+pub mod laws;
+mod outcome;
+mod piece;
 mod string;
+pub mod texts;
 mod url;
 
 pub use arity::arguments_of;
 pub use call::call_pure;
+pub use fault::LibFault;
+pub use function::{
+    FLOAT, FloatFunction, Function, LANG, LangFunction, STRING, StringFunction, URL, UrlFunction,
+};
 pub use generator::Gen;
-pub use wap_library::{LibFault, LibOut};
+pub use outcome::LibOut;
+pub use piece::{Conversion, Piece, Specifier};

@@ -1,29 +1,29 @@
 //! The library String.
 ghost use Rattle.std.specs.Prelude.{◌≡◌, ◌<◌, length, IfOk, IfSome};
 ghost use Rattle.wap_base.specs.Outcome.{Meets};
-ghost use Rattle.wap_library.specs.Outcome.{kept_within};
-ghost use Rattle.wap_library.specs.Row.{value_given, values_taken};
-ghost use Rattle.wap_library.specs.String.{formula_of_string, some_text_of, separator_of};
-ghost use Rattle.wap_library.specs.String.{string_length, string_is_empty, string_char_at};
-ghost use Rattle.wap_library.specs.String.{string_sub_string, string_find, string_replace};
-ghost use Rattle.wap_library.specs.String.{string_elements, string_element_at, string_remove_at};
-ghost use Rattle.wap_library.specs.String.{string_replace_at, string_insert_at, string_squeeze};
-ghost use Rattle.wap_library.specs.String.{string_trim, string_compare, string_to_string};
-ghost use Rattle.wap_library.specs.String.{string_format, character_at, place_value, order_value};
+ghost use Rattle.wap_libs.specs.Outcome.{kept_within};
+ghost use Rattle.wap_libs.specs.Row.{value_given, values_taken};
+ghost use Rattle.wap_libs.specs.String.{formula_of_string, some_text_of, separator_of};
+ghost use Rattle.wap_libs.specs.String.{string_length, string_is_empty, string_char_at};
+ghost use Rattle.wap_libs.specs.String.{string_sub_string, string_find, string_replace};
+ghost use Rattle.wap_libs.specs.String.{string_elements, string_element_at, string_remove_at};
+ghost use Rattle.wap_libs.specs.String.{string_replace_at, string_insert_at, string_squeeze};
+ghost use Rattle.wap_libs.specs.String.{string_trim, string_compare, string_to_string};
+ghost use Rattle.wap_libs.specs.String.{string_format, character_at, place_value, order_value};
 
+use crate::texts::argument::{
+    argument, characters_of, from_zero, keep_within, length, number, show, text, text_value,
+};
+use crate::texts::characters::{part, squeeze, trim};
+use crate::texts::elements::{
+    element_at, elements, with_element, with_element_before, without_element,
+};
+use crate::texts::format::format_value;
+use crate::texts::occurrences::{place_of, replace};
+use crate::{LibFault, StringFunction};
 use std::alloc::Global;
 use std::cmp::Ordering;
 use wap_base::{NoMemory, Text};
-use wap_library::{LibFault, StringFunction};
-use wap_texts::argument::{
-    argument, characters_of, from_zero, keep_within, length, number, show, text, text_value,
-};
-use wap_texts::characters::{part, squeeze, trim};
-use wap_texts::elements::{
-    element_at, elements, with_element, with_element_before, without_element,
-};
-use wap_texts::format::format_value;
-use wap_texts::occurrences::{place_of, replace};
 use wap_value::{Value, to_int, to_str};
 
 /// Calls a function of String.

@@ -3,22 +3,22 @@ ghost use Rattle.std.specs.Prelude.{◌≡◌, ◌<◌, vec_len, length, IfOk, o
 ghost use Rattle.std.specs.Fmt.{decimal};
 ghost use Rattle.wap_base.specs.Outcome.{Meets};
 ghost use Rattle.std.specs.Result.{result_ok};
-ghost use Rattle.wap_library.specs.Elements.{elements};
+ghost use Rattle.wap_libs.specs.Elements.{elements};
 ghost use Rattle.wap_url.specs.Reading.{url_at};
-ghost use Rattle.wap_library.specs.Outcome.{kept_within};
-ghost use Rattle.wap_library.specs.Row.{value_given, values_taken};
-ghost use Rattle.wap_library.specs.Url.{formula_of_url, url_of, on_url, part_value, parameters};
-ghost use Rattle.wap_library.specs.Url.{without_parameters, is_base, resolved, text_of_bytes};
-ghost use Rattle.wap_library.specs.Url.{last_segment, url_is_valid, url_get_scheme, url_get_host};
-ghost use Rattle.wap_library.specs.Url.{url_get_port, url_get_path, url_get_parameters};
-ghost use Rattle.wap_library.specs.Url.{url_get_query, url_get_fragment, url_resolve};
-ghost use Rattle.wap_library.specs.Url.{url_escape_string, url_unescape_string};
+ghost use Rattle.wap_libs.specs.Outcome.{kept_within};
+ghost use Rattle.wap_libs.specs.Row.{value_given, values_taken};
+ghost use Rattle.wap_libs.specs.Url.{formula_of_url, url_of, on_url, part_value, parameters};
+ghost use Rattle.wap_libs.specs.Url.{without_parameters, is_base, resolved, text_of_bytes};
+ghost use Rattle.wap_libs.specs.Url.{last_segment, url_is_valid, url_get_scheme, url_get_host};
+ghost use Rattle.wap_libs.specs.Url.{url_get_port, url_get_path, url_get_parameters};
+ghost use Rattle.wap_libs.specs.Url.{url_get_query, url_get_fragment, url_resolve};
+ghost use Rattle.wap_libs.specs.Url.{url_escape_string, url_unescape_string};
 
+use crate::texts::argument::{argument, characters, keep_within, text_value};
+use crate::texts::elements::{element_at, elements, join_elements, without_element};
+use crate::{LibFault, UrlFunction};
 use std::alloc::Global;
 use wap_base::{Bytes, NoMemory, Rows, Text};
-use wap_library::{LibFault, UrlFunction};
-use wap_texts::argument::{argument, characters, keep_within, text_value};
-use wap_texts::elements::{element_at, elements, join_elements, without_element};
 use wap_url::{Url, UrlFault, escape, join, print, unescape};
 use wap_value::{Value, to_str};
 
@@ -150,7 +150,7 @@ fn url_get_fragment(alloc: Global, value: &Value) -> Result<Value, NoMemory>
     }
 }
 
-#[tactic(auto, using(wap_texts::proofs::Names::decimal_is_itself))]
+#[tactic(auto, using(crate::proofs::TextsLemmas::Names::decimal_is_itself))]
 fn decimal(alloc: Global, port: Option<u16>) -> Result<Option<Text>, NoMemory>
     ensures { IfOk result (λ text. text ≡ option_map decimal port) }
 {

@@ -26,7 +26,7 @@ use Rattle.wap_filling.specs.declared.fault.VarFault.TheVariants.{BadName, TooLo
 use Rattle.wap_filling.specs.declared.limits.TheConstants.{VAR_LIMIT, TEXT_LIMIT}
 use Rattle.wap_filling.specs.Variables.{Variables, AreInOrder, AreVars, updated}
 use Rattle.wap_filling.specs.Setting.{set_in, has_no_room}
-use Rattle.wap_library.specs.Generator.{Generator, most_drawn}
+use Rattle.wap_libs.specs.Generator.{Generator, most_drawn}
 use Rattle.wap_parts.specs.declared.parts.ContextParts.{ContextParts}
 use Rattle.wap_parts.specs.declared.parts.SavedTimer.{SavedTimer}
 use Rattle.wap_parts.specs.declared.parts.SavedTimer.TheVariants as saved

@@ -6,7 +6,7 @@ use Rattle.wap_url.specs.declared.url.Url.{Url}
 use Rattle.wap_url.specs.declared.fault.UrlFault.{UrlFault}
 use Rattle.wap_url.specs.Reading.{url_at}
 use Rattle.wap_url.specs.Printing.{printed}
-use Rattle.wap_library.specs.Generator.{Generator, started_from, after_word}
+use Rattle.wap_libs.specs.Generator.{Generator, started_from, after_word}
 use Rattle.wap_parts.specs.declared.parts.ContextParts.{ContextParts}
 use Rattle.wap_parts.specs.declared.parts.SavedTimer.{SavedTimer}
 use Rattle.wap_parts.specs.declared.parts.SavedTimer.TheVariants as saved

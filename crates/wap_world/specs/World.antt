@@ -8,7 +8,7 @@ use Rattle.wap_url.specs.Printing.{name_for}
 use Rattle.wap_markup.specs.declared.deck.Deck.{Deck}
 use Rattle.wap_markup.specs.declared.deck.Node.{Node}
 use Rattle.wap_markup.specs.Cards.{cards_of}
-use Rattle.wap_library.specs.Generator.{Generator, started_from}
+use Rattle.wap_libs.specs.Generator.{Generator, started_from}
 use Rattle.wap_filling.specs.Variables.{Variables}
 use Rattle.wap_cardrules.specs.declared.task.Task.{Task}
 use Rattle.wap_world.specs.declared.history.Entry.{Entry}

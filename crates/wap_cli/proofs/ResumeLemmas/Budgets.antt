@@ -18,7 +18,7 @@ use Rattle.wap_url.specs.Printing.{name_for}
 use Rattle.wap_value.specs.declared.value.Value.{Value}
 use Rattle.wap_value.specs.declared.value.Value.TheVariants.{Invalid}
 use Rattle.wap_value.specs.Conversion.{text_of}
-use Rattle.wap_library.specs.Row.{argument}
+use Rattle.wap_libs.specs.Row.{argument}
 use Rattle.wap_cardrules.specs.Timers.{timer_in, timer_variable}
 use Rattle.wap_execution.specs.declared.dialog.Dialog.{Dialog}
 use Rattle.wap_execution.specs.declared.dialog.Dialog.TheVariants as dialog

@@ -6,14 +6,14 @@ use Rattle.wap_base.specs.Utf8.{utf8_len}
 use Rattle.wap_value.specs.declared.value.Value.{Value}
 use Rattle.wap_value.specs.declared.value.Value.TheVariants.{Int, Bool as Boolean, Str, Invalid}
 use Rattle.wap_value.specs.declared.fault.ValueFault.TheVariants.{TooLong}
-use Rattle.wap_library.specs.declared.outcome.LibOut.TheVariants as lib
-use Rattle.wap_library.specs.Generator.{Generator}
+use Rattle.wap_libs.specs.declared.outcome.LibOut.TheVariants as lib
+use Rattle.wap_libs.specs.Generator.{Generator}
 use Rattle.wap_code.specs.Libraries.{lib_args}
-use Rattle.wap_library_laws.proofs.Tables.{handed}
-use Rattle.wap_library.specs.Libraries.{function_at, row_of, IsPure}
-use Rattle.wap_library.specs.Outcome.{outcome, generator_after, limited}
-use Rattle.wap_library.specs.Row.{gives, of_none, applied, arguments}
-use Rattle.wap_library.specs.declared.function.Function.{Function}
+use Rattle.wap_libs.proofs.LawsLemmas.Tables.{handed}
+use Rattle.wap_libs.specs.Libraries.{function_at, row_of, IsPure}
+use Rattle.wap_libs.specs.Outcome.{outcome, generator_after, limited}
+use Rattle.wap_libs.specs.Row.{gives, of_none, applied, arguments}
+use Rattle.wap_libs.specs.declared.function.Function.{Function}
 use Rattle.std.specs.Option.{option_map, option_map_or}
 use Rattle.wap_execution.specs.declared.library.HostOut.{HostOut}
 use Rattle.wap_execution.specs.declared.library.HostOut.TheVariants as out

@@ -10,7 +10,7 @@ use Rattle.wap_url.specs.Reading.{url_at}
 use Rattle.wap_value.specs.declared.value.Value.{Value}
 use Rattle.wap_value.specs.declared.value.Value.TheVariants.{Invalid}
 use Rattle.wap_value.specs.Conversion.{text_of}
-use Rattle.wap_library.specs.Row.{argument}
+use Rattle.wap_libs.specs.Row.{argument}
 use Rattle.wap_execution.specs.declared.library.HostOut.{HostOut}
 use Rattle.wap_world.specs.declared.refusal.Refusal.{Refusal}
 use Rattle.wap_world.specs.Shelves.{Shelf}

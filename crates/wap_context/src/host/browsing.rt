@@ -5,7 +5,7 @@ ghost use Rattle.wap_value.specs.declared.value.Value.TheVariants.{Invalid};
 ghost use Rattle.wap_filling.specs.Setting.{set_in};
 ghost use Rattle.wap_cardrules.specs.Values.{value_if};
 ghost use Rattle.wap_world.specs.Screens.{screen};
-ghost use Rattle.wap_library.specs.Row.{argument};
+ghost use Rattle.wap_libs.specs.Row.{argument};
 ghost use Rattle.wap_execution.specs.declared.library.HostOut.TheVariants as out;
 ghost use Rattle.wap_world.specs.scripting.Views.{place_with};
 ghost use Rattle.wap_world.specs.scripting.Browsing.{variable_in, set_by, plain_go, pending_go};

@@ -28,7 +28,7 @@ use Rattle.wap_execution_laws.specs.Settings.{uncounted}
 use Rattle.wap_execution_laws.specs.Keyed.{answered_in, keyed}
 use Rattle.wap_execution_laws.specs.Simulation.{Stays, Both, AreAlike, ComeToSame}
 use Rattle.wap_execution_laws.proofs.SimLaws as sim_laws
-use Rattle.wap_library.specs.Row.{argument}
+use Rattle.wap_libs.specs.Row.{argument}
 use Rattle.wap_world.specs.declared.history.Entry.{Entry}
 use Rattle.wap_world.specs.declared.refusal.Refusal.{Refusal}
 use Rattle.wap_world.specs.declared.timer.Timer.{Timer}

@@ -24,7 +24,7 @@ use Rattle.wap_execution.specs.declared.library.HostOut.TheVariants as out
 use Rattle.wap_execution.specs.declared.dialog.Dialog.{Dialog}
 use Rattle.wap_execution.specs.declared.dialog.Dialog.TheVariants as dialog
 use Rattle.std.specs.Option.{option_to_list}
-use Rattle.wap_library.specs.Outcome.{outcome, generator_after}
+use Rattle.wap_libs.specs.Outcome.{outcome, generator_after}
 use Rattle.wap_world.specs.World.{last_entry}
 use Rattle.wap_world.specs.declared.history.Entry.{Entry}
 use Rattle.std.specs.List.{last_or}
@@ -32,7 +32,7 @@ use Rattle.wap_world.specs.Screens.{screen}
 use Rattle.wap_world.specs.scripting.Dialogs.{dialog_line}
 use Rattle.wap_world.specs.scripting.Browsing.{label_or}
 use Rattle.wap_world.specs.scripting.Hosting.{pure_out}
-use Rattle.wap_library.specs.Row.{argument}
+use Rattle.wap_libs.specs.Row.{argument}
 use Rattle.wap_world.specs.declared.refusal.Refusal.{Refusal}
 use Rattle.wap_world.specs.Shelves.{Shelf, Shelved, deck_page, script_page, text_page, refused_page}
 use Rattle.wap_world.specs.Shelves.{no_page}

@@ -21,7 +21,7 @@ use Rattle.wap_execution.specs.declared.dialog.Dialog.{Dialog}
 use Rattle.wap_execution.specs.declared.dialog.Dialog.TheVariants as dialog
 use Rattle.wap_execution.specs.declared.library.HostOut.{HostOut}
 use Rattle.wap_execution.specs.declared.library.HostOut.TheVariants as out
-use Rattle.wap_library.specs.Row.{argument}
+use Rattle.wap_libs.specs.Row.{argument}
 use Rattle.wap_world.specs.World.{World, Place, last_entry}
 use Rattle.wap_world.specs.Steps.{Step}
 use Rattle.wap_world.specs.Screens.{screen}

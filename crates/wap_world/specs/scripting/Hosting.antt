@@ -13,11 +13,11 @@ use Rattle.wap_execution.specs.declared.found.Found.{Found}
 use Rattle.wap_execution.specs.declared.found.Found.TheVariants.{Callee, Not}
 use Rattle.wap_execution.specs.declared.library.HostOut.{HostOut}
 use Rattle.wap_execution.specs.declared.library.HostOut.TheVariants as out
-use Rattle.wap_library.specs.declared.fault.LibFault.{LibFault}
-use Rattle.wap_library.specs.declared.outcome.LibOut.{LibOut}
-use Rattle.wap_library.specs.declared.outcome.LibOut.TheVariants as lib
-use Rattle.wap_library.specs.Row.{argument}
-use Rattle.wap_library.specs.Outcome.{outcome, generator_after}
+use Rattle.wap_libs.specs.declared.fault.LibFault.{LibFault}
+use Rattle.wap_libs.specs.declared.outcome.LibOut.{LibOut}
+use Rattle.wap_libs.specs.declared.outcome.LibOut.TheVariants as lib
+use Rattle.wap_libs.specs.Row.{argument}
+use Rattle.wap_libs.specs.Outcome.{outcome, generator_after}
 use Rattle.wap_world.specs.declared.refusal.Refusal.{Refusal}
 use Rattle.wap_world.specs.Shelves.{Shelf, Shelved, deck_page, script_page, text_page, refused_page}
 use Rattle.wap_world.specs.Shelves.{no_page}

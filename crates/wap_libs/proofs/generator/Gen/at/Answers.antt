@@ -1,7 +1,7 @@
 use Rattle.std.proofs.Common.{ap, sym, ◌∙◌, arith}
 use Rattle.rand_pcg.specs.Lcg.{advance}
 use Rattle.rand_pcg.specs.Pcg.{multiplier_64}
-use Rattle.wap_library.specs.Generator.{Generator, generator_of}
+use Rattle.wap_libs.specs.Generator.{Generator, generator_of}
 use Rattle.wap_libs.proofs.Draws.{after_words-from_start}
 use Rattle.wap_libs.proofs.generator.Gen.at.Goals as goal
 

@@ -1,7 +1,7 @@
 use Rattle.std.proofs.Common.{◌≡◌, ℕ, ◌+◌, ap, sym, ◌∙◌, arith}
 use Rattle.rand_pcg.specs.Lcg.{Lcg, next, advance}
 use Rattle.rand_pcg.specs.Pcg.{multiplier_64}
-use Rattle.wap_library.specs.Generator.{seeded}
+use Rattle.wap_libs.specs.Generator.{seeded}
 use Rattle.wap_libs.proofs.Draws.{advance-more}
 use Rattle.wap_libs.proofs.generator.Gen.next_word.Goals as goal
 

@@ -1,5 +1,5 @@
 use Rattle.std.proofs.Common.{subst}
-use Rattle.wap_library.specs.Generator.{KeepsCount}
+use Rattle.wap_libs.specs.Generator.{KeepsCount}
 use Rattle.wap_libs.proofs.Draws.{at_its_place}
 use Rattle.wap_libs.proofs.generator.Gen.place.Goals as goal
 

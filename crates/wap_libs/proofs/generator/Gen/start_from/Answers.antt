@@ -1,6 +1,6 @@
 use Rattle.std.proofs.Common.{ap, ◌∙◌}
 use Rattle.rand_pcg.specs.Pcg.{multiplier_64}
-use Rattle.wap_library.specs.Generator.{seeded}
+use Rattle.wap_libs.specs.Generator.{seeded}
 use Rattle.wap_libs.proofs.Draws.{advance-none}
 use Rattle.wap_libs.proofs.generator.Gen.start_from.Goals as goal
 

@@ -1,0 +1,17 @@
+pub mod Arguments
+pub mod Generator
+pub mod Row
+pub mod Lang
+pub mod Float
+pub mod Characters
+pub mod Occurrences
+pub mod Elements
+pub mod FormatGrammar
+pub mod FormatReading
+pub mod Format
+pub mod String
+pub mod Url
+pub mod Libraries
+pub mod Outcome
+pub mod texts
+pub mod laws

@@ -1,0 +1,47 @@
+//! Where a text occurs in another.
+ghost use Rattle.std.specs.Prelude.{◌≡◌, ◌<◌, length};
+ghost use Rattle.std.specs.Str.{chars};
+ghost use Rattle.wap_base.specs.Outcome.{Meets};
+ghost use Rattle.wap_libs.specs.Occurrences.{place_of, replaced};
+ghost use Rattle.wap_libs.specs.Outcome.{kept_within};
+
+use crate::LibFault;
+use crate::texts::argument::count;
+use crate::texts::draft::Draft;
+use std::alloc::Global;
+use wap_value::Value;
+
+/// The first place at which a part occurs in a text, by characters.
+pub fn place_of(part: &str, text: &str) -> Option<usize>
+    requires { 0 < length (chars part.now) }
+    ensures { result ≡ place_of (chars part.now) (chars text.now) }
+{
+    match text.find(part) {
+        Some(at) => Some(count(&text[..at])),
+        None => None,
+    }
+}
+
+/// The text with `new` in place of each occurrence of `old`.
+pub fn replace(
+    alloc: Global,
+    old: &str,
+    new: &str,
+    text: &str,
+    limit: u32,
+) -> Result<Value, LibFault>
+    requires { 0 < length (chars old.now) }
+    ensures { Meets LibFault.NoMemory (λ value. value) result
+        (kept_within limit
+        (Value.Str (replaced (chars old.now) (chars new.now) (chars text.now)))) }
+{
+    let mut draft = Draft::new(alloc, limit);
+    let mut rest = text;
+    while let Some((before, behind)) = rest.split_once(old) {
+        draft.add(before)?;
+        draft.add(new)?;
+        rest = behind;
+    }
+    draft.add(rest)?;
+    draft.finish()
+}

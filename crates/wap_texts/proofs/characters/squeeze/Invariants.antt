@@ -1,9 +1,0 @@
-use Rattle.std.proofs.Common.{◌≡◌, ◌++◌, length}
-use Rattle.wap_library.specs.Characters.{squeezed}
-use Rattle.wap_texts.proofs.characters.squeeze.Given as goal
-
-abbrev pub invariant-loop-rest : goal.invariant-loop-rest
-invariant-loop-rest l = l.text ++ squeezed l.rest ≡ squeezed l.characters
-
-abbrev pub decreases-loop-rest : goal.decreases-loop-rest
-decreases-loop-rest l = length l.rest
