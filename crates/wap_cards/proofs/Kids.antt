@@ -8,7 +8,7 @@ use Rattle.wap_markup.specs.declared.deck.Item.TheVariants as item
 use Rattle.wap_markup.specs.declared.name.Tag.{Tag}
 use Rattle.wap_markup.specs.Tables.{is_same_tag}
 use Rattle.wap_markup.specs.Trees.{node_of, node_from, node_with, if_tagged}
-use Rattle.wap_good.proofs.Layers.{out_node, out_text}
+use Rattle.wap_deck.proofs.GoodLemmas.Layers.{out_node, out_text}
 
 -- ---- nodes
 

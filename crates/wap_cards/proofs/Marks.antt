@@ -9,7 +9,7 @@ use Rattle.wap_markup.specs.declared.deck.Item.TheVariants as item
 use Rattle.wap_markup.specs.Good.{is_among}
 use Rattle.wap_cardrules.specs.Content.{Mark, words, begins, ends, shown_tags}
 use Rattle.wap_cardrules.specs.Content.{marks_from, marks_in, kids_marks}
-use Rattle.wap_good.proofs.Layers.{out_node, out_text}
+use Rattle.wap_deck.proofs.GoodLemmas.Layers.{out_node, out_text}
 
 -- ---- children
 

@@ -7,8 +7,8 @@ use Rattle.wap_base.specs.declared.name.Part.{Part}
 use Rattle.wap_base.specs.declared.name.Part.TheVariants.{Lit, Var}
 use Rattle.wap_markup.specs.Decks.{before}
 use Rattle.wap_markup.specs.Trees.{plain_text}
-use Rattle.wap_good.specs.declared.bits.Bit.{Bit}
-use Rattle.wap_good.specs.Runs.{part_of, IsFirstBit}
+use Rattle.wap_deck.specs.declared.good.bits.Bit.{Bit}
+use Rattle.wap_deck.specs.good.Runs.{part_of, IsFirstBit}
 use Rattle.wap_filling.specs.Variables.{Variables}
 use Rattle.wap_filling.specs.Filling.{filled, part_text}
 

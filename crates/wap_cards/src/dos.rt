@@ -17,7 +17,7 @@ use crate::values::plain_text;
 use std::alloc::Global;
 use wap_base::{NoMemory, Rows, Text};
 use wap_cardrules::Task;
-use wap_good::{AttrName, GoodDeck, Run, View};
+use wap_deck::good::{AttrName, GoodDeck, Run, View};
 use wap_vars::Vars;
 
 /// The value of a do's name, or else of its type.

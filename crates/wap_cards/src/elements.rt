@@ -7,7 +7,7 @@ use crate::content::is_open;
 use crate::fields::is_field;
 use std::alloc::Global;
 use wap_base::{NoMemory, Rows};
-use wap_good::{Child, Tag, View};
+use wap_deck::good::{Child, Tag, View};
 use wap_markup::LEVEL_LIMIT;
 
 /// What is looked for.

@@ -12,7 +12,7 @@ use crate::values::{is_word, plain_value};
 use std::alloc::Global;
 use wap_base::NoMemory;
 use wap_cardrules::{Event, Task};
-use wap_good::{AttrName, Child, GoodDeck, Tag, View};
+use wap_deck::good::{AttrName, Child, GoodDeck, Tag, View};
 use wap_vars::Vars;
 
 /// The type of an onevent for an event.

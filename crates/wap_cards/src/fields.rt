@@ -9,7 +9,7 @@ use crate::tasks::{go_to, task_in};
 use std::alloc::Global;
 use wap_base::{NoMemory, Rows};
 use wap_cardrules::Task;
-use wap_good::{AttrName, Tag, View};
+use wap_deck::good::{AttrName, Tag, View};
 use wap_vars::Vars;
 
 /// Whether an element is a link, an input or a select.

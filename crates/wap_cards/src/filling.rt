@@ -8,7 +8,7 @@ ghost use Rattle.wap_cardrules.specs.Values.{value_if};
 
 use std::alloc::Global;
 use wap_base::{Conv, Name, NameFault, NoMemory, Part, Text};
-use wap_good::{AttrName, Bit, Run, View};
+use wap_deck::good::{AttrName, Bit, Run, View};
 use wap_vars::Vars;
 
 /// The name of a variable.

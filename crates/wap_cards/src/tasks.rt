@@ -14,7 +14,7 @@ use crate::values::{is_true, is_word, plain_value};
 use std::alloc::Global;
 use wap_base::{NoMemory, Rows, Text};
 use wap_cardrules::{Go, Task};
-use wap_good::{AttrName, Child, Tag, View};
+use wap_deck::good::{AttrName, Child, Tag, View};
 use wap_vars::Vars;
 
 /// Whether an element is a task, and no noop.

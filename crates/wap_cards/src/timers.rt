@@ -10,7 +10,7 @@ use crate::tasks::first_with;
 use crate::values::variable_in;
 use std::alloc::Global;
 use wap_base::{Name, NameFault, NoMemory, Text};
-use wap_good::{AttrName, Tag, View};
+use wap_deck::good::{AttrName, Tag, View};
 use wap_vars::Vars;
 
 /// A copy of the text under a name, where one is set.

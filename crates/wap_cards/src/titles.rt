@@ -5,7 +5,7 @@ ghost use Rattle.wap_cardrules.specs.Flow.{title_of};
 use crate::filling::fill_value;
 use std::alloc::Global;
 use wap_base::{NoMemory, Text};
-use wap_good::{AttrName, View};
+use wap_deck::good::{AttrName, View};
 use wap_vars::Vars;
 
 /// The title of a card, filled; without one, the empty text.

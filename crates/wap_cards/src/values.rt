@@ -7,7 +7,7 @@ ghost use Rattle.wap_cardrules.specs.Values.{is_true, variable_in};
 
 use std::alloc::Global;
 use wap_base::{NoMemory, Text};
-use wap_good::{AttrName, Bit, Run, View};
+use wap_deck::good::{AttrName, Bit, Run, View};
 
 /// The text of a value, if it holds no reference.
 #[tactic(auto, using(crate::proofs::Parts::plain_first))]

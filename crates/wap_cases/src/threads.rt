@@ -6,9 +6,9 @@ use wap_base::{Bytes, Limits, Name, NameFault, NoMemory, Part, ReadFault, Rows, 
 use wap_cardrules::{Chosen, Entered, Event, Task};
 use wap_cli::Status;
 use wap_code::{Code, Constant, Instr, InstrFault, OpName, Pragma, Row, Unit};
+use wap_deck::good::GoodDeck;
 use wap_devices::{Failed, Fetched, MemSink, MemSource, MemStore, NoGate, StoreErr};
 use wap_execution::{Dialog, Fatal, HostOut};
-use wap_good::GoodDeck;
 use wap_inbox::Inbox;
 use wap_keys::{Ending, Key, KeyFault};
 use wap_layout::{Flow, Mode};

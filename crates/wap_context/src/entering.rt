@@ -17,7 +17,7 @@ use std::alloc::Global;
 use wap_base::{NoMemory, Rows, Text};
 use wap_cardrules::{Event, Task};
 use wap_cards::{binding, is_true};
-use wap_good::{AttrName, GoodDeck};
+use wap_deck::good::{AttrName, GoodDeck};
 use wap_lines::Lines;
 use wap_state::page_urls::{PageEntry, PageUrl};
 use wap_state::requests::entrance_of;

@@ -11,7 +11,7 @@ use crate::context::Context;
 use crate::entering::in_deck;
 use std::alloc::Global;
 use wap_base::{NoMemory, RunErr};
-use wap_good::GoodDeck;
+use wap_deck::good::GoodDeck;
 use wap_parts::ContextParts;
 use wap_state::State;
 use wap_state::page_urls::PageEntry;

@@ -1,6 +1,4 @@
-pub mod Items
-pub mod Joining
-pub mod Strings
-pub mod Values
-pub mod Nodes
-pub mod Normality
+pub mod DocumentsLemmas
+pub mod ReadingLemmas
+pub mod WritingLemmas
+pub mod GoodLemmas

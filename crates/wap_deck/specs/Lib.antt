@@ -1,1 +1,4 @@
-pub mod inside
+pub mod documents
+pub mod reading
+pub mod writing
+pub mod good

@@ -1,19 +1,14 @@
-//! What parts of documents give in the decks that they mean, and documents of decks.
+//! Decks: made of documents and of bytes, written as bytes, and good decks, which are kept as
+//! bytes.
+//!
+//! - `documents`: What parts of documents give in the decks that they mean, and documents of decks.
+//! - `reading`: Bytes read as the decks that they mean, without their documents.
+//! - `writing`: How decks are written as WBXML (WAP-192, section 5), without their documents.
+//! - `good`: Good decks, kept as the bytes that spell them, and the views through which they are
+//!   read.
 #![tactic(auto)]
 
-mod attributes;
-mod build;
-mod pieces;
-mod room;
-mod runs;
-mod starts;
-mod writing;
-
-pub use attributes::start_of;
-pub use build::{add_text, tag_in};
-pub use pieces::{add_any, begin_value, character, decode_part, literal, reference};
-pub use room::rows_for;
-pub use runs::{is_string, runs_of};
-pub use starts::whole_code;
-pub use wap_markup::{AttrName, Deck, Item, Node, Tag};
-pub use writing::document_of;
+pub mod documents;
+pub mod good;
+pub mod reading;
+pub mod writing;

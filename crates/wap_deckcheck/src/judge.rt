@@ -8,7 +8,7 @@ use crate::DeckFault;
 use crate::walk::walk_deck;
 use std::alloc::Global;
 use wap_base::NoMemory;
-use wap_good::GoodDeck;
+use wap_deck::good::GoodDeck;
 use wap_markup::Deck;
 
 /// The deck as a good one, or the first of its faults (WAP-191, section 11). Nodes and texts come

@@ -93,7 +93,7 @@ fn place_in(groups: &[&[Tag]], tag: Tag) -> Option<usize>
 }
 
 /// Whether an element among items has a tag of a group.
-#[tactic(auto, using(wap_good::proofs::Layers::out_node, wap_good::proofs::Layers::out_text))]
+#[tactic(auto, using(wap_deck::proofs::GoodLemmas::Layers::out_node, wap_deck::proofs::GoodLemmas::Layers::out_text))]
 fn is_used(group: &[Tag], items: &[Item]) -> bool
     ensures { result ≡ list_any (is_among group.now) (tags_of items.now) }
 {

@@ -242,7 +242,7 @@ fn judge_top(alloc: Global, root: &Node) -> Result<(), DeckFault>
 }
 
 /// Whether there is no card among items.
-#[tactic(auto, using(wap_good::proofs::Layers::out_node, wap_good::proofs::Layers::out_text))]
+#[tactic(auto, using(wap_deck::proofs::GoodLemmas::Layers::out_node, wap_deck::proofs::GoodLemmas::Layers::out_text))]
 fn lacks_card(items: &[Item]) -> bool
     ensures { result ≡ lacks_card (filter_map (node_with Tag.Card) items.now) }
 {

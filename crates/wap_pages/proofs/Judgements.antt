@@ -22,7 +22,7 @@ use Rattle.wap_wbxml.specs.reading.Whole.{document_at}
 use Rattle.wap_wbxml.specs.declared.fault.DocFault.{DocFault}
 use Rattle.wap_wbxml.specs.Refusal.{IsRefused}
 use Rattle.wap_wbxml.proofs.DocumentLaws as documents
-use Rattle.wap_deck.proofs.Normality.{deck_is_normal}
+use Rattle.wap_deck.proofs.DocumentsLemmas.Normality.{deck_is_normal}
 use Rattle.wap_deckcheck.specs.Faults.{faults, first_fault}
 use Rattle.wap_deckcheck.specs.declared.fault.DeckFault.{DeckFault}
 use Rattle.wap_deckcheck.specs.declared.fault.DeckFault.TheVariants as deck_fault

@@ -19,8 +19,8 @@ ghost use Rattle.wap_pages.specs.declared.fault.PageFault.{PageFault};
 use crate::PageErr;
 use std::alloc::Global;
 use wap_codegen::compile;
+use wap_deck::reading::read_deck;
 use wap_markup::{Deck, Document};
-use wap_reading::read_deck;
 use wap_unit::Unit;
 use wap_verify::{Verified, verify};
 

@@ -2,7 +2,7 @@
 use crate::{Kind, PageErr, PageFault};
 use std::marker::{Send, Sync};
 use wap_base::Text;
-use wap_good::GoodDeck;
+use wap_deck::good::GoodDeck;
 use wap_verify::Verified;
 use wap_world::site::{Page, Shared};
 

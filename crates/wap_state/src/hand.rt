@@ -3,7 +3,7 @@ ghost use Rattle.std.specs.Prelude.{◌≡◌};
 ghost use Rattle.wap_state.specs.Held.{held_in};
 
 use std::marker::Model;
-use wap_good::{GoodDeck, View};
+use wap_deck::good::{GoodDeck, View};
 use wap_world::site::Shared;
 
 /// A card and its deck. A contract sees both.

@@ -13,7 +13,7 @@ use crate::state::State;
 use std::alloc::Global;
 use wap_base::NoMemory;
 use wap_cards::inputs::apply_defaults;
-use wap_good::View;
+use wap_deck::good::View;
 use wap_lines::Lines;
 
 impl State {

@@ -14,7 +14,7 @@ use crate::state::State;
 use std::alloc::Global;
 use wap_base::{NoMemory, Rows, Text};
 use wap_cards::{first_with, timer_of, variable_in};
-use wap_good::{AttrName, Tag, View};
+use wap_deck::good::{AttrName, Tag, View};
 use wap_lines::Lines;
 use wap_world::Timer;
 

@@ -10,7 +10,7 @@ use Rattle.wap_layout.specs.declared.flow.Flow.{Flow}
 use Rattle.wap_layout.specs.declared.flow.Flow.TheVariants.{Words}
 use Rattle.wap_filling.specs.Variables.{Variables}
 use Rattle.wap_filling.specs.Filling.{filled}
-use Rattle.wap_good.proofs.Layers.{out_node, out_text}
+use Rattle.wap_deck.proofs.GoodLemmas.Layers.{out_node, out_text}
 
 abbrev pub texts_flow : Variables → List Item → List Flow
 texts_flow vars items =

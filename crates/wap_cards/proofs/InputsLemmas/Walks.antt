@@ -9,7 +9,7 @@ use Rattle.wap_markup.specs.declared.deck.Item.TheVariants as item
 use Rattle.wap_markup.specs.declared.name.Tag.TheVariants as tags
 use Rattle.wap_markup.specs.Tables.{is_same_tag}
 use Rattle.wap_markup.specs.Good.{nodes_in}
-use Rattle.wap_good.proofs.Layers.{nodes_after_node, nodes_after_text}
+use Rattle.wap_deck.proofs.GoodLemmas.Layers.{nodes_after_node, nodes_after_text}
 
 abbrev pub options_in : List Node → List Node
 options_in nodes = filter (λ one. is_same_tag one.tag tags.Option) nodes

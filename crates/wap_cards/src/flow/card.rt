@@ -7,7 +7,7 @@ use crate::flow::shown::Shown;
 use crate::flow::walk::{Walk, take_kids};
 use std::alloc::Global;
 use wap_base::{NoMemory, Rows};
-use wap_good::View;
+use wap_deck::good::View;
 use wap_layout::Flow;
 use wap_markup::LEVEL_LIMIT;
 use wap_vars::Vars;

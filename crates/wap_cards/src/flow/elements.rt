@@ -7,7 +7,7 @@ ghost use Rattle.wap_cardrules.specs.Flow.{flow_before, flow_behind};
 use crate::fill_value;
 use std::alloc::Global;
 use wap_base::{NoMemory, Rows, Text};
-use wap_good::{AttrName, Tag, View};
+use wap_deck::good::{AttrName, Tag, View};
 use wap_layout::Flow;
 use wap_vars::Vars;
 

@@ -6,7 +6,7 @@ use crate::flow::selects::add_select;
 use crate::inputs::shown_text;
 use std::alloc::Global;
 use wap_base::{NoMemory, Rows, Text};
-use wap_good::{Tag, View};
+use wap_deck::good::{Tag, View};
 use wap_layout::Flow;
 use wap_vars::Vars;
 

@@ -10,7 +10,7 @@ use crate::fill;
 use crate::inputs::{choice_of, options_of};
 use std::alloc::Global;
 use wap_base::{NoMemory, Rows, Text};
-use wap_good::{Child, View};
+use wap_deck::good::{Child, View};
 use wap_layout::Flow;
 use wap_vars::Vars;
 

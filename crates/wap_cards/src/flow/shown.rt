@@ -11,7 +11,7 @@ use crate::{fill, is_field, is_word, plain_value};
 use std::alloc::Global;
 use std::marker::Model;
 use wap_base::{NoMemory, Rows};
-use wap_good::{AttrName, Run, Tag, View};
+use wap_deck::good::{AttrName, Run, Tag, View};
 use wap_layout::Flow;
 use wap_vars::Vars;
 

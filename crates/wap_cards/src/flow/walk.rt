@@ -8,7 +8,7 @@ use crate::flow::shown::Shown;
 use crate::{is_open, may_have_text};
 use std::alloc::Global;
 use wap_base::{NoMemory, Rows};
-use wap_good::{Child, Run, Tag, View};
+use wap_deck::good::{Child, Run, Tag, View};
 use wap_vars::Vars;
 
 /// What shows so far, and the dos that began.

@@ -20,7 +20,7 @@ use crate::inputs::pieces::pieces_of;
 use crate::{Texts, is_true, is_word, number_in, text_under, value_if, variable_in};
 use std::alloc::Global;
 use wap_base::{NoMemory, Rows, Text};
-use wap_good::{AttrName, View};
+use wap_deck::good::{AttrName, View};
 use wap_vars::Vars;
 
 /// How many options a select has; what lists them has fewer than the greatest number of its type.

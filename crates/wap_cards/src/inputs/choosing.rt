@@ -13,7 +13,7 @@ use crate::{numbered_view, onpick};
 use std::alloc::Global;
 use wap_base::{NoMemory, Rows};
 use wap_cardrules::Chosen;
-use wap_good::{Tag, View};
+use wap_deck::good::{Tag, View};
 use wap_vars::{VarFault, Vars};
 
 /// The choice of a select with the option of a number.

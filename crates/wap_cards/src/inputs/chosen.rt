@@ -12,7 +12,7 @@ use crate::inputs::pieces::join_all;
 use crate::variable_in;
 use std::alloc::Global;
 use wap_base::{NoMemory, Rows, Text};
-use wap_good::{AttrName, View};
+use wap_deck::good::{AttrName, View};
 use wap_vars::Vars;
 
 /// Appends a text, if it is to be.

@@ -15,7 +15,7 @@ use crate::inputs::setting::set_one;
 use crate::{fields_of, text_under, value_if};
 use std::alloc::Global;
 use wap_base::{Name, NameFault, NoMemory, Rows, Text};
-use wap_good::{AttrName, Tag, View};
+use wap_deck::good::{AttrName, Tag, View};
 use wap_vars::{VarFault, Vars};
 
 /// Whether an input takes the text that its variable has.

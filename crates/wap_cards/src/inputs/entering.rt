@@ -9,7 +9,7 @@ use crate::{fields_of, numbered_view};
 use std::alloc::Global;
 use wap_base::{NoMemory, Text};
 use wap_cardrules::Entered;
-use wap_good::{Tag, View};
+use wap_deck::good::{Tag, View};
 use wap_vars::{VarFault, Vars};
 
 /// The field of a number, if it has a tag.

@@ -11,7 +11,7 @@ ghost use Rattle.wap_cardrules.specs.Inputs.{is_short, takes, is_password, shown
 use crate::{is_filled, is_true, number_in, plain_value, text_under, value_if};
 use std::alloc::Global;
 use wap_base::{NoMemory, Text};
-use wap_good::{AttrName, View};
+use wap_deck::good::{AttrName, View};
 use wap_mask::Mask;
 use wap_vars::Vars;
 

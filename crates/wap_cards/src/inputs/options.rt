@@ -7,7 +7,7 @@ ghost use Rattle.wap_cardrules.specs.Selects.{options_of, values_of};
 use crate::fill_value;
 use std::alloc::Global;
 use wap_base::{NoMemory, Rows, Text};
-use wap_good::{AttrName, Child, Tag, View};
+use wap_deck::good::{AttrName, Child, Tag, View};
 use wap_markup::LEVEL_LIMIT;
 use wap_vars::Vars;
 

@@ -8,7 +8,7 @@ use crate::inputs::chosen::{choice_text, index_text, set_under};
 use crate::inputs::setting::set_if;
 use std::alloc::Global;
 use wap_base::{NoMemory, Rows, Text};
-use wap_good::{AttrName, View};
+use wap_deck::good::{AttrName, View};
 use wap_vars::{VarFault, Vars};
 
 /// A variable and its text, where there is one.

@@ -3,7 +3,7 @@ ghost use Rattle.std.specs.Prelude.{◌≡◌};
 ghost use Rattle.wap_world.specs.scripting.Views.{place_with};
 
 use std::marker::Model;
-use wap_good::{GoodDeck, View};
+use wap_deck::good::{GoodDeck, View};
 use wap_state::State;
 use wap_url::Url;
 use wap_world::site::Shared;

@@ -10,7 +10,7 @@ use std::alloc::Global;
 use std::marker::Model;
 use wap_base::{NoMemory, Text};
 use wap_cards::{first_with, value_if};
-use wap_good::{AttrName, GoodDeck, Tag, View};
+use wap_deck::good::{AttrName, GoodDeck, Tag, View};
 use wap_url::{Access, Url, join};
 use wap_vars::Vars;
 

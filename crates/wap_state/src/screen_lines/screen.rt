@@ -13,7 +13,7 @@ use std::alloc::Global;
 use wap_base::{NoMemory, Rows, Text};
 use wap_cards::flow::flow_and_dos;
 use wap_cards::{active_dos, title};
-use wap_good::{GoodDeck, View};
+use wap_deck::good::{GoodDeck, View};
 use wap_layout::{Flow, lines as laid_lines};
 use wap_lines::Lines;
 use wap_vars::Vars;

@@ -3,7 +3,7 @@ ghost use Rattle.std.specs.Prelude.{◌≡◌, IfOk};
 
 use crate::site::Shared;
 use wap_base::{NoMemory, Text};
-use wap_good::GoodDeck;
+use wap_deck::good::GoodDeck;
 use wap_verify::Verified;
 
 /// What a page is to a browser. A contract sees the deck, the unit or the text.

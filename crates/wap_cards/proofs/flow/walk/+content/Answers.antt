@@ -1,8 +1,8 @@
 use Rattle.std.proofs.Common.{List, ◌∷◌, sym, ap, ◌∙◌}
 use Rattle.std.specs.List.{fold}
 use Rattle.wap_markup.specs.Good.{is_among}
-use Rattle.wap_good.specs.Lent.{item_of}
-use Rattle.wap_good.specs.declared.kids.Child.{Child}
+use Rattle.wap_deck.specs.good.Lent.{item_of}
+use Rattle.wap_deck.specs.declared.good.kids.Child.{Child}
 use Rattle.wap_cardrules.specs.Content.{Mark, shown_tags, marks_in}
 use Rattle.wap_cards.proofs.Marks.{left_marks, marks_closed}
 use Rattle.wap_cards.specs.flow.inside.Walks.{walked}

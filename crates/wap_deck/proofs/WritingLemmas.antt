@@ -1,0 +1,9 @@
+pub mod Lists
+pub mod Parts
+pub mod Starts
+pub mod Content
+pub mod Emptiness
+pub mod Naming
+pub mod Characters
+pub mod DeckTexts
+pub mod DocumentTexts

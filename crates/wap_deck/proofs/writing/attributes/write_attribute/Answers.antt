@@ -1,0 +1,49 @@
+use Rattle.std.proofs.Common.{List, ◌∷◌, ap, ◌∙◌, sym}
+use Rattle.wap_base.specs.declared.name.Part.{Part}
+use Rattle.wap_base.specs.Numbers.{mb_spelling}
+use Rattle.wap_markup.specs.declared.codes.TheConstants.{LITERAL}
+use Rattle.wap_markup.specs.Writing.{whole_code}
+use Rattle.wap_spelling.specs.Names.{place_of}
+use Rattle.wap_spelling.specs.Writings.{plain, each}
+use Rattle.wap_spelling.specs.inside.Written.{written}
+use Rattle.wap_deck.specs.writing.inside.Parts.{part_spelling}
+use Rattle.wap_deck.proofs.WritingLemmas.Starts.{by_own, by_whole, by_name}
+use Rattle.wap_deck.proofs.writing.attributes.write_attribute.Goals as goal
+
+pub returns-in-Some : goal.returns-in-Some
+returns-in-Some c =
+    by_own c.args.attribute.now c.args.table.now c.args.output.now c.go_to_attribute_page.new.self
+    c.in_ok-go_to_attribute_page.ensures.ok c.in-Some.code (sym c.own_code.ensures ∙ c.in-Some.is)
+    c.push.new.self c.write_parts.new.output c.in_ok-push.ensures.ok
+    (c.in_ok-write_parts.ensures
+    ∙ ap (λ (parts : List Part). written (each part_spelling parts) c.push.new.self)
+    c.as_slice-parts.ensures)
+
+pub returns-in-Some-whole_code : goal.returns-in-Some-whole_code
+returns-in-Some-whole_code c =
+    by_whole c.args.attribute.now c.args.table.now c.args.output.now c.go_to_attribute_page.new.self
+    c.in_ok-go_to_attribute_page.ensures.ok c.in-Some-whole_code.code
+    (sym c.own_code.ensures ∙ c.in_default.is)
+    (sym (c.whole_code.ensures
+    ∙ ap (λ (parts : List Part). whole_code c.args.attribute.now.0 parts) c.as_slice-parts.ensures)
+    ∙ c.in-Some-whole_code.is)
+    c.push-in-Some-whole_code.new.self c.in_ok-push-2.ensures.ok
+
+pub returns : goal.returns
+returns c =
+    let name = c.args.attribute.now.0 in
+    let text =
+    c.in_ok-text.ensures ∙ c.name_of_attr.ensures.characters ∙ c.name_of_attr.ensures.name in
+    let place = c.place_of.ensures ∙ ap (place_of c.args.table.now) text in
+    by_name c.args.attribute.now c.args.table.now c.args.output.now c.go_to_attribute_page.new.self
+    c.in_ok-go_to_attribute_page.ensures.ok (sym c.own_code.ensures ∙ c.in_default.is)
+    (sym (c.whole_code.ensures
+    ∙ ap (λ (parts : List Part). whole_code name parts) c.as_slice-parts.ensures)
+    ∙ c.in_default-whole_code.is)
+    c.write_number.new.self c.write_parts-2.new.output
+    (c.in_ok-write_number.ensures.ok
+    ∙ ap
+    (λ place. written (plain (LITERAL ∷ mb_spelling place)) c.go_to_attribute_page.new.self) place)
+    (c.in_ok-write_parts-2.ensures
+    ∙ ap (λ (parts : List Part). written (each part_spelling parts) c.write_number.new.self)
+    c.as_slice-parts.ensures)

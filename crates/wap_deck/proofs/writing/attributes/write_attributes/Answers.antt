@@ -1,0 +1,44 @@
+use Rattle.std.proofs.Common.{ap, ◌∙◌, List}
+use Rattle.wap_base.specs.declared.name.Part.{Part}
+use Rattle.wap_markup.specs.declared.name.AttrName.{AttrName}
+use Rattle.wap_markup.specs.Writing.{attr_of}
+use Rattle.wap_spelling.specs.Writings.{Writing}
+use Rattle.wap_spelling.specs.Spelling.{attr_spelling}
+use Rattle.wap_spelling.specs.inside.Written.{written}
+use Rattle.wap_spelling.proofs.Appending.{each_none, each_step, ended_none, ended_some}
+use Rattle.wap_deck.proofs.WritingLemmas.Lists.{ended_map}
+use Rattle.wap_deck.proofs.writing.attributes.write_attributes.Goals as goal
+
+pub loop-attribute-init : goal.loop-attribute-init
+loop-attribute-init c =
+    each_none (λ (one : AttrName × List Part). attr_spelling c.args.table.now (attr_of one))
+    c.args.output.now
+
+pub loop-attribute-preserved : goal.loop-attribute-preserved
+loop-attribute-preserved c =
+    each_step (λ (one : AttrName × List Part). attr_spelling c.args.table.now (attr_of one))
+    c.args.attributes.now
+    c.args.output.now c.loop-attribute.attribute-index c.attribute-item.result
+    c.loop-attribute.output
+    c.write_attribute.new.output c.loop-attribute-test.true c.attribute-item.is
+    c.loop-attribute.invariant
+    c.in_ok-write_attribute.ensures
+
+pub returns-then-is_empty : goal.returns-then-is_empty
+returns-then-is_empty c =
+    ended_none (λ (one : AttrName × List Part). attr_spelling c.args.table.now (attr_of one))
+    c.args.attributes.now
+    c.args.output.now c.loop-attribute.attribute-index c.loop-attribute.output c.if-is_empty.ensures
+    c.loop-attribute.invariant
+    ∙ ap (λ (w : Writing). written w c.args.output.now)
+    (ended_map (attr_spelling c.args.table.now) attr_of c.args.attributes.now)
+
+pub returns : goal.returns
+returns c =
+    ended_some (λ (one : AttrName × List Part). attr_spelling c.args.table.now (attr_of one))
+    c.args.attributes.now
+    c.args.output.now c.loop-attribute.attribute-index c.loop-attribute.output c.push.new.self
+    c.loop-attribute-test.false c.if-is_empty.ensures c.loop-attribute.invariant
+    c.in_ok-push.ensures.ok
+    ∙ ap (λ (w : Writing). written w c.args.output.now)
+    (ended_map (attr_spelling c.args.table.now) attr_of c.args.attributes.now)

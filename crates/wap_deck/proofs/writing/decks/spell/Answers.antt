@@ -1,0 +1,17 @@
+use Rattle.std.proofs.Common.{List, ℕ, ◌++◌, ap, ◌∙◌}
+use Rattle.wap_markup.specs.Writing.{document_of}
+use Rattle.wap_spelling.specs.declared.output.Output.{Output}
+use Rattle.wap_spelling.specs.Spelling.{header_spelling, root_spelling, spelling}
+use Rattle.wap_deck.proofs.writing.decks.spell.Goals as goal
+
+pub returns : goal.returns
+unfolding spelling
+returns c =
+    let root = (document_of c.args.deck.now).root in
+    let table = c.in_ok-table.table in
+    ap (λ (output : Output). output.bytes) c.in_ok-write_node.ensures
+    ∙ ap (λ (bytes : List ℕ). bytes ++ root_spelling table root)
+    (c.in_ok-write_header.ensures.ok
+    ∙ ap (λ (bytes : List ℕ). bytes ++ header_spelling 10 table) c.new-2.ensures)
+    ∙ ap (λ (names : List (List ℕ)). header_spelling 10 names ++ root_spelling names root)
+    (c.in_ok-table.ensures ∙ c.in_ok-names_of.ensures)

@@ -1,0 +1,13 @@
+use Rattle.std.proofs.Common.{List, ℕ, Option, Some, ap, ◌∙◌, sym}
+use Rattle.wap_spelling.specs.Writings.{each}
+use Rattle.wap_spelling.specs.inside.Written.{written}
+use Rattle.wap_deck.specs.writing.inside.Parts.{run_spelling}
+use Rattle.wap_deck.proofs.WritingLemmas.Lists.{each_one}
+use Rattle.wap_deck.proofs.writing.texts.write_literal.Goals as goal
+
+pub returns-then-is_string : goal.returns-then-is_string
+returns-then-is_string c =
+    c.in_ok-write_text.ensures.ok
+    ∙ each_one run_spelling (Some c.args.text.now) c.args.output.now
+    ∙ ap (λ (runs : List (Option (List ℕ))). written (each run_spelling runs) c.args.output.now)
+    (sym (c.is_string.ensures.0 c.if-is_string.true))

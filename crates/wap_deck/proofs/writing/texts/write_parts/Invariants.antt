@@ -1,0 +1,9 @@
+use Rattle.std.proofs.Common.{◌≡◌, take}
+use Rattle.wap_spelling.specs.Writings.{each}
+use Rattle.wap_spelling.specs.inside.Written.{written}
+use Rattle.wap_deck.specs.writing.inside.Parts.{part_spelling}
+use Rattle.wap_deck.proofs.writing.texts.write_parts.Given as goal
+
+abbrev pub invariant-loop-part : goal.invariant-loop-part
+invariant-loop-part l =
+    l.output ≡ written (each part_spelling (take l.part-index l.parts)) l.initial.output

@@ -1,8 +1,0 @@
-use Rattle.std.proofs.Common.{◌∙◌}
-use Rattle.wap_markup.specs.Tables.{name_rows}
-use Rattle.wap_good.proofs.Named.{by_bytes}
-use Rattle.wap_good.proofs.attrs.attr_named.Goals as goal
-
-pub returns : goal.returns
-unfolding name_rows
-returns c = c.attr_beside.ensures ∙ by_bytes c.args.name.now

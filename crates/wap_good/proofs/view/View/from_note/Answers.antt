@@ -1,4 +1,0 @@
-use Rattle.wap_good.proofs.view.View.from_note.Goals as goal
-
-pub invariant_of-result : goal.invariant_of-result
-invariant_of-result c = record { lent = c.requires.lent; head = c.requires.head }

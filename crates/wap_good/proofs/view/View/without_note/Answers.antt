@@ -1,4 +1,0 @@
-use Rattle.wap_good.proofs.view.View.without_note.Goals as goal
-
-pub invariant_of-result : goal.invariant_of-result
-invariant_of-result c = record { lent = c.requires; head = c.known_at.ensures }

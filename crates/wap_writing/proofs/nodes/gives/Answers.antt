@@ -1,5 +1,0 @@
-use Rattle.wap_writing.proofs.Content.{node_gives}
-use Rattle.wap_writing.proofs.nodes.gives.Goals as goal
-
-pub returns-in-Node : goal.returns-in-Node
-returns-in-Node c = node_gives c.args.levels c.args.item.now c.in-Node.field-0 c.in-Node.is

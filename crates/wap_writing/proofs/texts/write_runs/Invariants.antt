@@ -1,9 +1,0 @@
-use Rattle.std.proofs.Common.{◌≡◌, take}
-use Rattle.wap_spelling.specs.Writings.{each}
-use Rattle.wap_spelling.specs.inside.Written.{written}
-use Rattle.wap_writing.specs.inside.Parts.{run_spelling}
-use Rattle.wap_writing.proofs.texts.write_runs.Given as goal
-
-abbrev pub invariant-loop-run : goal.invariant-loop-run
-invariant-loop-run l =
-    l.output ≡ written (each run_spelling (take l.run-index l.runs)) l.initial.output
