@@ -1,3 +1,9 @@
 pub mod Plain
 pub mod Readings
 pub mod Pushing
+pub mod Latest
+pub mod Keys
+pub mod Steps
+pub mod Entries
+pub mod One
+pub mod Winner

@@ -4,3 +4,4 @@ pub mod Indications
 pub mod Reading
 pub mod Pushes
 pub mod inside
+pub mod Inbox

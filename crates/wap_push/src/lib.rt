@@ -1,5 +1,5 @@
-//! Service indications (WAP-167): the short notices that sites push to a handset, read from the
-//! bytes that are pushed.
+//! Service indications (WAP-167), the short notices that sites push to a handset: read from the
+//! bytes that are pushed, and kept in an inbox.
 #![tactic(auto)]
 
 mod codes;
@@ -7,7 +7,9 @@ mod content;
 mod created;
 mod fault;
 mod fields;
+mod inbox;
 mod indication;
+pub mod laws;
 mod names;
 mod pushes;
 mod reading;
@@ -15,6 +17,7 @@ mod tables;
 mod values;
 
 pub use fault::PushFault;
+pub use inbox::Inbox;
 pub use indication::{Action, Indication};
 pub use names::{PushField, PushTag};
 pub use pushes::read_push;

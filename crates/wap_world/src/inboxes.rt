@@ -14,7 +14,7 @@ ghost use Rattle.wap_world.specs.World.{World};
 ghost use Rattle.wap_world.specs.Steps.{still, quiet};
 ghost use Rattle.wap_world.specs.Keys.{ignored, renewed, react};
 ghost use Rattle.wap_world.specs.Sessions.{played};
-ghost use Rattle.wap_inbox.specs.Inbox.{HaveWinners, alerts, IsAlert};
+ghost use Rattle.wap_push.specs.Inbox.{HaveWinners, alerts, IsAlert};
 ghost use Rattle.wap_world.specs.inboxes.Winners.{winners_of, Alike};
 ghost use Rattle.wap_world.specs.inboxes.Notices.{is_latest, no_push_line, notice_lines};
 ghost use Rattle.wap_world.specs.inboxes.Inboxes.{Handset, taking_none, telling, url_at};

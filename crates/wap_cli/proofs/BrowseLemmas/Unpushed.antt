@@ -16,7 +16,7 @@ use Rattle.wap_world.specs.scripting.Waiting.{Waits}
 use Rattle.wap_world.proofs.ScriptingLawsLemmas.Keeping.{units_few}
 use Rattle.wap_context.specs.Sites.{fragment_call, site_of, IfOver}
 use Rattle.wap_session.proofs.Alone.{none_of, turned_none}
-use Rattle.wap_inbox.specs.Inbox.{HaveWinners}
+use Rattle.wap_push.specs.Inbox.{HaveWinners}
 use Rattle.wap_world.specs.inboxes.Inboxes.{Handset, Stepped, react_with}
 use Rattle.wap_world.proofs.InboxesLemmas.Counting.{few_with}
 use Rattle.wap_world.proofs.InboxesLemmas.Winning.{exactly}

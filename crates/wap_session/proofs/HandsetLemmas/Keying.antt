@@ -20,7 +20,7 @@ use Rattle.wap_context.specs.Sites.{fragment_call, site_of, IfOver}
 use Rattle.wap_session.specs.declared.fault.SessionFault.{SessionFault}
 use Rattle.wap_session.specs.Feeding as session
 use Rattle.wap_session.specs.Feeding.{TurnsTo}
-use Rattle.wap_inbox.specs.Inbox.{inbox_of, entry_at, HaveWinners}
+use Rattle.wap_push.specs.Inbox.{inbox_of, entry_at, HaveWinners}
 use Rattle.wap_world.specs.inboxes.Winners.{winners_of}
 use Rattle.wap_world.specs.inboxes.Notices.{entry_lines}
 use Rattle.wap_world.specs.inboxes.Inboxes.{telling, take_push, url_at, is_of_inbox}

@@ -22,7 +22,7 @@ use Rattle.wap_context.proofs.Missing.{Asks-missed}
 use Rattle.wap_session.specs.declared.fault.SessionFault.{SessionFault}
 use Rattle.wap_session.specs.declared.fault.SessionFault.TheVariants.{NoMemory}
 use Rattle.wap_session.specs.Feeding.{left_open}
-use Rattle.wap_inbox.specs.Inbox.{HaveWinners}
+use Rattle.wap_push.specs.Inbox.{HaveWinners}
 use Rattle.wap_world.specs.inboxes.Winners.{winners_of, Alike}
 use Rattle.wap_world.specs.inboxes.Inboxes.{Stepped}
 use Rattle.wap_world.proofs.InboxesLemmas.Winning.{exactly}

@@ -17,7 +17,7 @@ use Rattle.wap_world.specs.scripting.Waiting.{Waits, inside}
 use Rattle.wap_world.specs.scripting.Feeding.{Fed, meaning}
 use Rattle.wap_world.proofs.ScriptingLawsLemmas.Replying.{stay_means}
 use Rattle.wap_context.specs.Sites.{fragment_call, site_of}
-use Rattle.wap_inbox.specs.Inbox.{HaveWinners}
+use Rattle.wap_push.specs.Inbox.{HaveWinners}
 use Rattle.wap_world.specs.inboxes.Inboxes.{is_of_inbox}
 use Rattle.wap_world.specs.inboxes.Sessions.{session_with, StepAlike}
 use Rattle.wap_session.specs.handset.Holding.{played_with_from}

@@ -22,7 +22,7 @@ use Rattle.wap_session.specs.declared.fault.SessionFault.TheVariants.{NoMemory}
 use Rattle.wap_session.specs.Feeding as session
 use Rattle.wap_session.specs.Feeding.{left_open, TurnsTo}
 use Rattle.wap_session.proofs.Alone.{alone, turned_none, none_of}
-use Rattle.wap_inbox.specs.Inbox.{HaveWinners}
+use Rattle.wap_push.specs.Inbox.{HaveWinners}
 use Rattle.wap_world.specs.inboxes.Winners.{winners_of, Alike}
 use Rattle.wap_world.specs.inboxes.Inboxes.{Stepped, telling, react_with}
 use Rattle.wap_world.specs.inboxes.Sessions.{StepAlike}

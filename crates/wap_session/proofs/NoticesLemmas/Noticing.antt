@@ -3,7 +3,7 @@ use Rattle.std.proofs.Common.{◌≡◌, ℕ, Bool, true, false, cond, List, [],
 use Rattle.std.proofs.Common.{◌&&◌}
 use Rattle.std.specs.Prelude.{IsTrue, ◌↔◌}
 use Rattle.wap_push.specs.declared.indication.Indication.{Indication}
-use Rattle.wap_inbox.specs.Inbox.{alerts, IsAlert}
+use Rattle.wap_push.specs.Inbox.{alerts, IsAlert}
 use Rattle.wap_world.specs.inboxes.Notices.{is_latest, notice_line, notice_lines}
 use Rattle.wap_world.proofs.InboxesLemmas.Alerts.{alert_is}
 

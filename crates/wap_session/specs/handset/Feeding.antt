@@ -15,7 +15,7 @@ use Rattle.wap_context.specs.Sites.{IfOver}
 use Rattle.wap_session.specs.declared.fault.SessionFault.{SessionFault}
 use Rattle.wap_session.specs.declared.fault.SessionFault.TheVariants.{Store, Ended}
 use Rattle.wap_session.specs.Feeding.{State as Session, left_open}
-use Rattle.wap_inbox.specs.Inbox.{HaveWinners}
+use Rattle.wap_push.specs.Inbox.{HaveWinners}
 use Rattle.wap_world.specs.inboxes.Winners.{Alike}
 use Rattle.wap_world.specs.inboxes.Inboxes.{Stepped}
 use Rattle.wap_session.specs.handset.Holding.{Held, played_with_from}

@@ -4,7 +4,7 @@ use Rattle.std.specs.Prelude.{ℕ, List, [], ◌∷◌, ◌++◌, Result, Ok, Er
 use Rattle.std.specs.Option.{option_and_then}
 use Rattle.wap_push.specs.declared.indication.Indication.{Indication}
 use Rattle.wap_push.specs.declared.fault.PushFault.{PushFault}
-use Rattle.wap_inbox.specs.Inbox.{inbox_of, entry_at}
+use Rattle.wap_push.specs.Inbox.{inbox_of, entry_at}
 use Rattle.wap_world.specs.inboxes.Notices.{no_push_line, notice_lines}
 
 -- the lines of what was pushed, after these pushes

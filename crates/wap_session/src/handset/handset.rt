@@ -8,7 +8,7 @@ ghost use Rattle.wap_context.specs.Sites.{IfOver};
 ghost use Rattle.wap_world.specs.site.Asking.{Seen};
 ghost use Rattle.wap_world.specs.declared.refusal.Refusal.TheVariants.{Ignored};
 ghost use Rattle.wap_world.specs.Lines.{refusal_line};
-ghost use Rattle.wap_inbox.specs.Inbox.{HaveWinners};
+ghost use Rattle.wap_push.specs.Inbox.{HaveWinners};
 ghost use Rattle.wap_session.specs.handset.Feeding.{with_session, session_of};
 ghost use Rattle.wap_session.specs.handset.Feeding.{beginning, step_of, Plays, MissedAt, ShowsOn};
 ghost use Rattle.wap_session.specs.handset.Ignoring.{ignores};
@@ -18,8 +18,8 @@ use crate::{Key, Session, SessionFault};
 use std::alloc::Global;
 use std::marker::Model;
 use wap_base::{Limits, NoMemory};
-use wap_inbox::Inbox;
 use wap_lines::Lines;
+use wap_push::Inbox;
 use wap_world::site::Pages;
 
 /// A session with an inbox. A contract sees its state between two keys.

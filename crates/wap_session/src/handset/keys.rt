@@ -5,7 +5,7 @@ ghost use Rattle.std.specs.Option.{option_map};
 ghost use Rattle.wap_context.specs.Missing.{Missed};
 ghost use Rattle.wap_context.specs.Sites.{IfOver};
 ghost use Rattle.wap_world.specs.Lines.{shown_line};
-ghost use Rattle.wap_inbox.specs.Inbox.{HaveWinners};
+ghost use Rattle.wap_push.specs.Inbox.{HaveWinners};
 ghost use Rattle.wap_world.specs.inboxes.Inboxes.{is_of_inbox};
 ghost use Rattle.wap_session.specs.handset.Feeding.{step_of, Plays};
 ghost use Rattle.wap_session.specs.handset.inside.Turns.{state_of, followed_url, inbox_lines};
@@ -15,8 +15,8 @@ use crate::notices::{entry_lines, take_push, url_in};
 use crate::{Key, Session, SessionFault, shown_lines};
 use std::alloc::Global;
 use wap_base::{NoMemory, Text};
-use wap_inbox::Inbox;
 use wap_lines::Lines;
+use wap_push::Inbox;
 use wap_world::site::Pages;
 
 /// The URL that a key follows, if it is of the inbox and there is one.

@@ -10,7 +10,7 @@ ghost use Rattle.wap_world.specs.Steps.{quiet};
 ghost use Rattle.wap_world.specs.scripting.UnitSites.{Pages};
 ghost use Rattle.wap_world.specs.scripting.Waiting.{Waits};
 ghost use Rattle.wap_context.specs.Sites.{site_of};
-ghost use Rattle.wap_inbox.specs.Inbox.{HaveWinners};
+ghost use Rattle.wap_push.specs.Inbox.{HaveWinners};
 ghost use Rattle.wap_world.specs.inboxes.Inboxes.{is_of_inbox};
 ghost use Rattle.wap_world.specs.inboxes.Sessions.{session_with, StepAlike};
 ghost use Rattle.wap_session.specs.handset.Holding.{played_with_from};

@@ -4,7 +4,7 @@ ghost use Rattle.wap_session.specs.notices.Taking.{url_in};
 
 use std::alloc::Global;
 use wap_base::{NoMemory, Text};
-use wap_inbox::Inbox;
+use wap_push::Inbox;
 
 /// The URL of the entry of a number, if there is such an entry and it has one.
 pub fn url_in(inbox: &Inbox, alloc: Global, number: usize) -> Result<Option<Text>, NoMemory>

@@ -1,7 +1,7 @@
 //! Lines of service indications.
 ghost use Rattle.std.specs.Prelude.{◌≡◌, ◌∷◌, ◌++◌, [], replicate, IfOk, OnOk};
 ghost use Rattle.wap_base.specs.Ascii.{digit_zero};
-ghost use Rattle.wap_inbox.specs.Inbox.{inbox_of};
+ghost use Rattle.wap_push.specs.Inbox.{inbox_of};
 ghost use Rattle.wap_world.specs.inboxes.Notices.{no_push_line, notice_line, time_text, entry_line};
 ghost use Rattle.wap_world.specs.inboxes.Notices.{entry_lines};
 
@@ -9,9 +9,8 @@ use itoa::Buffer;
 use std::alloc::Global;
 use wap_base::{NoMemory, Text};
 use wap_faults::push_fault_text;
-use wap_inbox::Inbox;
 use wap_lines::Lines;
-use wap_push::{Indication, PushFault};
+use wap_push::{Inbox, Indication, PushFault};
 
 /// One line.
 pub(crate) fn one_line(alloc: Global, line: &Text) -> Result<Lines, NoMemory>

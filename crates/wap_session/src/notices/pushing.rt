@@ -1,16 +1,15 @@
 //! What is pushed.
 ghost use Rattle.std.specs.Prelude.{◌≡◌, ◌∷◌, ◌++◌, [], IfOk, OnOk, OnErr};
 ghost use Rattle.wap_push.specs.Pushes.{push_at};
-ghost use Rattle.wap_inbox.specs.Inbox.{HaveWinners};
+ghost use Rattle.wap_push.specs.Inbox.{HaveWinners};
 ghost use Rattle.wap_world.specs.inboxes.Notices.{notice_lines};
 ghost use Rattle.wap_session.specs.notices.Taking.{push_lines, pushes_with};
 
 use crate::notices::lines::{no_push_line, notice_line, one_line};
 use std::alloc::Global;
 use wap_base::NoMemory;
-use wap_inbox::Inbox;
 use wap_lines::Lines;
-use wap_push::{Indication, PushFault, read_push};
+use wap_push::{Inbox, Indication, PushFault, read_push};
 
 /// Takes an indication, and gives the line that is shown of it, if one is.
 fn take(inbox: &mut Inbox, alloc: Global, pushed: Indication) -> Result<Lines, NoMemory>

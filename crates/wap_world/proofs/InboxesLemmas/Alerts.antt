@@ -6,9 +6,9 @@ use Rattle.std.specs.Prelude.{not, ◌↔◌}
 use Rattle.std.proofs.lemmas.Bool.{and_parts, leb-true, leb-false, le-leb}
 use Rattle.std.specs.Cmp.Lexicographic.{bytes_decides}
 use Rattle.wap_push.specs.declared.indication.Indication.{Indication}
-use Rattle.wap_inbox.specs.Inbox.{is_of, alerts, later, winner_of, IsAlert}
-use Rattle.wap_inbox.proofs.Latest.{after, winner_here}
-use Rattle.wap_inbox.proofs.Winner.{own_first, other_first}
+use Rattle.wap_push.specs.Inbox.{is_of, alerts, later, winner_of, IsAlert}
+use Rattle.wap_push.proofs.Latest.{after, winner_here}
+use Rattle.wap_push.proofs.Winner.{own_first, other_first}
 use Rattle.wap_world.specs.inboxes.Notices.{is_latest}
 
 -- whether a winner, if there is one, was made no later

@@ -13,10 +13,10 @@ use Rattle.wap_input.specs.declared.key.Key.{Key}
 use Rattle.wap_input.specs.declared.key.Key.TheVariants as key
 use Rattle.wap_push.specs.declared.indication.Indication.{Indication}
 use Rattle.wap_push.specs.declared.fault.PushFault.{PushFault}
-use Rattle.wap_inbox.specs.Inbox.{is_of, alerts, later, winner_of, inbox_of, entry_at}
-use Rattle.wap_inbox.specs.Inbox.{HaveWinners}
-use Rattle.wap_inbox.proofs.Latest.{after, winner_here, winner_elsewhere}
-use Rattle.wap_inbox.proofs.Winner.{own_first, other_first}
+use Rattle.wap_push.specs.Inbox.{is_of, alerts, later, winner_of, inbox_of, entry_at}
+use Rattle.wap_push.specs.Inbox.{HaveWinners}
+use Rattle.wap_push.proofs.Latest.{after, winner_here, winner_elsewhere}
+use Rattle.wap_push.proofs.Winner.{own_first, other_first}
 use Rattle.wap_world.specs.Sites.{Site}
 use Rattle.wap_world.specs.World.{World}
 use Rattle.wap_world.specs.Steps.{Step, joined}

@@ -12,9 +12,9 @@ use Rattle.std.specs.Cmp.Lexicographic.{bytes_decides, nat_list_cmp_total}
 use Rattle.std.proofs.lemmas.Map.Lookups.{exact_bytes}
 use Rattle.wap_base.specs.Texts.{is_same_text, text_cmp}
 use Rattle.wap_push.specs.declared.indication.Indication.{Indication}
-use Rattle.wap_inbox.specs.Inbox.{is_of, later, winner_of, HaveWinners}
-use Rattle.wap_inbox.proofs.Winner.{own_first, other_first, winner_found}
-use Rattle.wap_inbox.proofs.One.{one}
+use Rattle.wap_push.specs.Inbox.{is_of, later, winner_of, HaveWinners}
+use Rattle.wap_push.proofs.Winner.{own_first, other_first, winner_found}
+use Rattle.wap_push.proofs.One.{one}
 use Rattle.wap_world.specs.inboxes.Winners.{ids_of, winners_of}
 
 -- ---- identifiers in ascending order

@@ -4,7 +4,7 @@ use Rattle.std.specs.List.{filter_map}
 use Rattle.std.specs.BTreeSet.{insert_key}
 use Rattle.wap_base.specs.Texts.{text_cmp}
 use Rattle.wap_push.specs.declared.indication.Indication.{Indication}
-use Rattle.wap_inbox.specs.Inbox.{winner_of, inbox_of}
+use Rattle.wap_push.specs.Inbox.{winner_of, inbox_of}
 
 -- the identifiers of pushes, each once, in ascending order
 abbrev pub ids_of : List Indication → List (List ℕ)

@@ -9,7 +9,7 @@ use Rattle.wap_world.specs.scripting.UnitSites.{Pages}
 use Rattle.wap_world.specs.scripting.Waiting.{Waits, resumed_step}
 use Rattle.wap_context.specs.Sites.{fragment_call, site_of}
 use Rattle.wap_session.specs.Feeding.{State as SessionState}
-use Rattle.wap_inbox.specs.Inbox.{inbox_of, HaveWinners}
+use Rattle.wap_push.specs.Inbox.{inbox_of, HaveWinners}
 use Rattle.wap_world.specs.inboxes.Notices.{entry_lines}
 use Rattle.wap_world.specs.inboxes.Inboxes.{Stepped, react_with}
 use Rattle.wap_session.specs.notices.Taking.{push_lines, pushes_with, url_in}

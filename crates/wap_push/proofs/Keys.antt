@@ -12,8 +12,8 @@ use Rattle.std.specs.Cmp.Lexicographic.{texts_ties}
 use Rattle.std.proofs.lemmas.Map.Lookups.{exact_bytes}
 use Rattle.wap_base.specs.Texts.{is_same_text, text_cmp}
 use Rattle.wap_push.specs.declared.indication.Indication.{Indication}
-use Rattle.wap_inbox.specs.Inbox.{is_of}
-use Rattle.wap_inbox.specs.inside.Keyed.{Entry, IsUnder}
+use Rattle.wap_push.specs.Inbox.{is_of}
+use Rattle.wap_push.specs.inside.Keyed.{Entry, IsUnder}
 
 -- an identifier is looked up as the winners are searched for it
 pub found_by_id : (id : List ℕ) (entries : List Entry) → AllByRecursion IsUnder entries

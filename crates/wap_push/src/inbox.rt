@@ -4,15 +4,15 @@ ghost use Rattle.std.specs.Prelude.{IsTrue, ◌↔◌, IfOk, IfErr, OnOk, OnErr}
 ghost use Rattle.std.specs.Option.{option_copied};
 ghost use Rattle.std.specs.Map.{values_of};
 ghost use Rattle.wap_push.specs.declared.indication.Indication.{Indication};
-ghost use Rattle.wap_inbox.specs.Inbox.{is_of, alerts, is_kept, inbox_of, entry_at, HaveWinners};
-ghost use Rattle.wap_inbox.specs.Inbox.{IsAlert};
-ghost use Rattle.wap_inbox.specs.inside.Keyed.{loses};
+ghost use Rattle.wap_push.specs.Inbox.{is_of, alerts, is_kept, inbox_of, entry_at, HaveWinners};
+ghost use Rattle.wap_push.specs.Inbox.{IsAlert};
+ghost use Rattle.wap_push.specs.inside.Keyed.{loses};
 
+use crate::{Action, Indication};
 use std::alloc::Global;
 use std::collections::BTreeMap;
 use std::marker::Model;
 use wap_base::{NoMemory, Text};
-use wap_push::{Action, Indication};
 
 /// The indications that were pushed and count. A contract sees the winner of each identifier, also
 /// where that is a delete, in ascending order of identifiers.
@@ -26,7 +26,7 @@ impl Model for Inbox {
     ghost use Rattle.std.specs.Prelude.{List};
     ghost use Rattle.std.specs.Map.{values_of};
     ghost use Rattle.wap_push.specs.declared.indication.Indication.{Indication};
-    ghost use Rattle.wap_inbox.specs.inside.Keyed.{AreKeyed};
+    ghost use Rattle.wap_push.specs.inside.Keyed.{AreKeyed};
 
     ghost Value = { List Indication };
 

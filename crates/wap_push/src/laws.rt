@@ -3,7 +3,7 @@
 ghost use Rattle.std.specs.Prelude.{◌≡◌, ℕ, List, Some, None, true};
 ghost use Rattle.std.specs.List.{AllByRecursion};
 ghost use Rattle.wap_push.specs.declared.indication.Indication.{Indication};
-ghost use Rattle.wap_inbox.specs.Inbox.{is_of, winner_of, HaveWinners, IsWinner};
+ghost use Rattle.wap_push.specs.Inbox.{is_of, winner_of, HaveWinners, IsWinner};
 
 /// The winners of a list of pushes are one list, so its inbox is one too.
 pub fn winners_are_one()

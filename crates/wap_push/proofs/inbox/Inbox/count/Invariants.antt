@@ -1,6 +1,6 @@
 use Rattle.std.proofs.Common.{◌≡◌, ◌+◌, length}
-use Rattle.wap_inbox.specs.Inbox.{inbox_of}
-use Rattle.wap_inbox.proofs.inbox.Inbox.count.Given as goal
+use Rattle.wap_push.specs.Inbox.{inbox_of}
+use Rattle.wap_push.proofs.inbox.Inbox.count.Given as goal
 
 -- the entries so far, and all winners that are left
 abbrev pub invariant-loop-winner : goal.invariant-loop-winner

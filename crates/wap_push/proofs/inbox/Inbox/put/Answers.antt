@@ -1,6 +1,6 @@
 use Rattle.std.proofs.Common.{◌∙◌, sym}
-use Rattle.wap_inbox.proofs.Steps.{late_push, not_alert, keyed_after, winners_after, alert_where}
-use Rattle.wap_inbox.proofs.inbox.Inbox.put.Goals as goal
+use Rattle.wap_push.proofs.Steps.{late_push, not_alert, keyed_after, winners_after, alert_where}
+use Rattle.wap_push.proofs.inbox.Inbox.put.Goals as goal
 
 -- ---- a push that loses
 

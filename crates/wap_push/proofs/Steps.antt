@@ -10,10 +10,10 @@ use Rattle.std.specs.Cmp.Lexicographic.{texts_ties, bytes_decides, nat_list_eq_e
 use Rattle.std.proofs.lemmas.Bool.{ltb-true, ltb-false, le-leb, lt-leb}
 use Rattle.wap_base.specs.Texts.{is_same_text, text_cmp}
 use Rattle.wap_push.specs.declared.indication.Indication.{Indication}
-use Rattle.wap_inbox.specs.Inbox.{is_of, winner_of, HaveWinners, alerts, IsAlert}
-use Rattle.wap_inbox.specs.inside.Keyed.{Entry, IsUnder, AreKeyed, loses}
-use Rattle.wap_inbox.proofs.Latest.{after, winner_here, winner_elsewhere}
-use Rattle.wap_inbox.proofs.Keys.{found_by_id, ids_are_keys, keyed_with}
+use Rattle.wap_push.specs.Inbox.{is_of, winner_of, HaveWinners, alerts, IsAlert}
+use Rattle.wap_push.specs.inside.Keyed.{Entry, IsUnder, AreKeyed, loses}
+use Rattle.wap_push.proofs.Latest.{after, winner_here, winner_elsewhere}
+use Rattle.wap_push.proofs.Keys.{found_by_id, ids_are_keys, keyed_with}
 
 -- a winner that was made later stays
 pub stays_winner : (winner more : Indication) → nat_lt more.created winner.created ≡ true

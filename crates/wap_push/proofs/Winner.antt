@@ -4,7 +4,7 @@ use Rattle.std.proofs.Common.{Option, Some, None, refl, ap, sym, subst, ◌∙�
 use Rattle.std.specs.List.{AllByRecursion, filter}
 use Rattle.std.proofs.lemmas.Bool.{leb-true, leb-false}
 use Rattle.wap_push.specs.declared.indication.Indication.{Indication}
-use Rattle.wap_inbox.specs.Inbox.{is_of, later, latest, winner_of, IsWinner}
+use Rattle.wap_push.specs.Inbox.{is_of, later, latest, winner_of, IsWinner}
 
 module _ (id : List ℕ) where
   abbrev NoneOf : List Indication → Type 0

@@ -18,9 +18,9 @@ use Rattle.std.proofs.lemmas.Map.Entries.{lookup_head, lookup_tail, none_past_he
 use Rattle.std.proofs.lemmas.Map.Lookups.{exact_bytes}
 use Rattle.wap_base.specs.Texts.{text_cmp}
 use Rattle.wap_push.specs.declared.indication.Indication.{Indication}
-use Rattle.wap_inbox.specs.Inbox.{is_of, winner_of, HaveWinners}
-use Rattle.wap_inbox.specs.inside.Keyed.{Entry, IsUnder}
-use Rattle.wap_inbox.proofs.Keys.{found_by_id, ids_are_keys}
+use Rattle.wap_push.specs.Inbox.{is_of, winner_of, HaveWinners}
+use Rattle.wap_push.specs.inside.Keyed.{Entry, IsUnder}
+use Rattle.wap_push.proofs.Keys.{found_by_id, ids_are_keys}
 
 -- ---- entries in order: equal look-ups give equal entries
 

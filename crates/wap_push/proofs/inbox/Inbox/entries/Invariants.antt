@@ -1,8 +1,8 @@
 use Rattle.std.proofs.Common.{◌≡◌, ◌++◌, map}
 use Rattle.std.specs.Borrow.{Bor}
 use Rattle.wap_push.specs.declared.indication.Indication.{Indication}
-use Rattle.wap_inbox.specs.Inbox.{inbox_of}
-use Rattle.wap_inbox.proofs.inbox.Inbox.entries.Given as goal
+use Rattle.wap_push.specs.Inbox.{inbox_of}
+use Rattle.wap_push.proofs.inbox.Inbox.entries.Given as goal
 
 -- the entries so far, and those among the winners that are left
 abbrev pub invariant-loop-winner : goal.invariant-loop-winner

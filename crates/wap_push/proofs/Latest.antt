@@ -6,7 +6,7 @@ use Rattle.std.proofs.lemmas.Bool.{leb-true, leb-false, le-leb, lt-leb}
 use Rattle.std.proofs.lemmas.List.Elements.{filter-append}
 use Rattle.std.proofs.lemmas.List.{append-nil}
 use Rattle.wap_push.specs.declared.indication.Indication.{Indication}
-use Rattle.wap_inbox.specs.Inbox.{is_of, later, latest, winner_of}
+use Rattle.wap_push.specs.Inbox.{is_of, later, latest, winner_of}
 
 -- the winner after one more push of its identifier
 abbrev pub after : Option Indication → Indication → Indication

@@ -1,10 +1,10 @@
 use Rattle.std.proofs.Common.{◌≡◌, ◌∙◌, ap, sym, List, Option, Some, None}
 use Rattle.std.specs.Prelude.{find}
 use Rattle.wap_push.specs.declared.indication.Indication.{Indication}
-use Rattle.wap_inbox.specs.Inbox.{is_of}
-use Rattle.wap_inbox.specs.inside.Keyed.{loses}
-use Rattle.wap_inbox.proofs.Keys.{found_by_id}
-use Rattle.wap_inbox.proofs.inbox.Inbox.is_late.Goals as goal
+use Rattle.wap_push.specs.Inbox.{is_of}
+use Rattle.wap_push.specs.inside.Keyed.{loses}
+use Rattle.wap_push.proofs.Keys.{found_by_id}
+use Rattle.wap_push.proofs.inbox.Inbox.is_late.Goals as goal
 
 pub returns-in-Some : goal.returns-in-Some
 returns-in-Some c =

@@ -2,7 +2,7 @@
 use Rattle.std.proofs.Common.{◌≡◌, ℕ, suc, ◌+◌, ◌-◌, ◌≤◌, Bool, true, false, cond}
 use Rattle.std.proofs.Common.{List, [], ◌∷◌, length, refl, ap, ◌∙◌, arith}
 use Rattle.wap_push.specs.declared.indication.Indication.{Indication}
-use Rattle.wap_inbox.specs.Inbox.{is_kept, inbox_of}
+use Rattle.wap_push.specs.Inbox.{is_kept, inbox_of}
 
 pub kept : (w : Indication) (ws : List Indication) → is_kept w ≡ true
     → inbox_of (w ∷ ws) ≡ w ∷ inbox_of ws

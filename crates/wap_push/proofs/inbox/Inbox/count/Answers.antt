@@ -1,7 +1,7 @@
 use Rattle.std.proofs.Common.{◌≡◌, ◌-◌, ◌∙◌, sym, length, arith}
-use Rattle.wap_inbox.specs.Inbox.{inbox_of}
-use Rattle.wap_inbox.proofs.Entries.{step_passed}
-use Rattle.wap_inbox.proofs.inbox.Inbox.count.Goals as goal
+use Rattle.wap_push.specs.Inbox.{inbox_of}
+use Rattle.wap_push.proofs.Entries.{step_passed}
+use Rattle.wap_push.proofs.inbox.Inbox.count.Goals as goal
 
 pub loop-winner-preserved-then-not-is_kept : goal.loop-winner-preserved-then-not-is_kept
 loop-winner-preserved-then-not-is_kept c =
