@@ -36,9 +36,9 @@ use Rattle.wap_unit.proofs.UnitLaws.{unit_takes, unit_again, unit_stops, unit_fa
 use Rattle.wap_verify.specs.declared.fault.VerifyFault.{VerifyFault}
 use Rattle.wap_verify.specs.Sound.{IsVerified}
 use Rattle.wap_verify.specs.Faults.{IsFault}
-use Rattle.wap_runnable.specs.Runnable.{may_run, AreAlike}
-use Rattle.wap_runnable.proofs.Deciding.{passes, fails}
-use Rattle.wap_runnable.proofs.Alike.{alike}
+use Rattle.wap_verify.specs.runnable.Runnable.{may_run, AreAlike}
+use Rattle.wap_verify.proofs.RunnableLemmas.Deciding.{passes, fails}
+use Rattle.wap_verify.proofs.RunnableLemmas.Alike.{alike}
 use Rattle.wap_program.specs.declared.program.Program.{Program}
 use Rattle.wap_meaning.specs.compiled.Units.{compiled}
 use Rattle.wap_meaning.specs.accepted.Reading.{accepted_in}

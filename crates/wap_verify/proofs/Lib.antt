@@ -1,3 +1,4 @@
 pub mod Walks
 pub mod Working
 pub mod Verifying
+pub mod RunnableLemmas

@@ -5,3 +5,4 @@ pub mod Faults
 pub mod Kept
 pub mod Ready
 pub mod inside
+pub mod runnable

@@ -1,4 +1,6 @@
-//! The verifier: which units may be run, and what such a unit tells.
+//! Which units may be run: a test, what it says, and its law.
+//!
+//! - `runnable`: Whether a unit may be run, as a test on the unit alone that takes no memory.
 #![tactic(auto)]
 
 mod depths;
@@ -7,6 +9,7 @@ mod function;
 mod laws;
 mod places;
 mod pragmas;
+pub mod runnable;
 mod step;
 mod strings;
 mod targets;

@@ -13,8 +13,8 @@ use Rattle.wap_verify.specs.Steps.{step_at}
 use Rattle.wap_verify.specs.Sound.{Runs, is_aimed, IsSplit}
 use Rattle.wap_verify.specs.Faults.{IsFunctionFault, item, target}
 use Rattle.wap_verify.proofs.Walks.{runs_push}
-use Rattle.wap_runnable.specs.Runnable.{places_after, places_from, are_aimed, is_split}
-use Rattle.wap_runnable.proofs.Onward.{goes_on}
+use Rattle.wap_verify.specs.runnable.Runnable.{places_after, places_from, are_aimed, is_split}
+use Rattle.wap_verify.proofs.RunnableLemmas.Onward.{goes_on}
 
 -- one more passes the test
 all_push : (test : ℕ → Bool) (xs : List ℕ) (x : ℕ) → list_all test xs ≡ true → test x ≡ true

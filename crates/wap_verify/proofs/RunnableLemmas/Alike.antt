@@ -16,7 +16,7 @@ use Rattle.wap_verify.specs.Faults.{IsFunctionFault, item, target, underflow, de
 use Rattle.wap_verify.specs.Faults.{IsFault, pragma, function}
 use Rattle.wap_verify.proofs.Walks.{runs_same}
 use Rattle.wap_verify.proofs.Working.{is_here, runs_has, stands_at}
-use Rattle.wap_runnable.specs.Runnable.{is_of_depths, AreAlike}
+use Rattle.wap_verify.specs.runnable.Runnable.{is_of_depths, AreAlike}
 
 module _ (unit : Unit) (index : ℕ) (code : Code) where
   -- ---- split code

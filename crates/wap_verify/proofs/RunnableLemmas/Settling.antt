@@ -24,11 +24,13 @@ use Rattle.wap_verify.proofs.Working.{stands_reached, kept_within, Here, too_few
 use Rattle.wap_verify.proofs.Working.{can_jump, sane_on, conflict_fault, visited}
 use Rattle.wap_verify.proofs.Working.{popped_sane, popped_here, works_on, sound_at_end}
 use Rattle.wap_verify.proofs.Working.{works_first}
-use Rattle.wap_runnable.specs.Runnable.{is_same_depth, agrees, may_follow, both_followed, visits}
-use Rattle.wap_runnable.specs.Runnable.{beside, last_of, without_last, visits_last, works_out}
-use Rattle.wap_runnable.specs.Runnable.{begun, has_depths}
-use Rattle.wap_runnable.proofs.Onward.{goes_on}
-use Rattle.wap_runnable.proofs.Splitting.{HasFault}
+use Rattle.wap_verify.specs.runnable.Runnable.{is_same_depth, agrees, may_follow, both_followed}
+use Rattle.wap_verify.specs.runnable.Runnable.{visits}
+use Rattle.wap_verify.specs.runnable.Runnable.{beside, last_of, without_last, visits_last}
+use Rattle.wap_verify.specs.runnable.Runnable.{works_out}
+use Rattle.wap_verify.specs.runnable.Runnable.{begun, has_depths}
+use Rattle.wap_verify.proofs.RunnableLemmas.Onward.{goes_on}
+use Rattle.wap_verify.proofs.RunnableLemmas.Splitting.{HasFault}
 
 -- ---- lists
 

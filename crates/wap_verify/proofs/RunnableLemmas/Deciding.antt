@@ -12,9 +12,9 @@ use Rattle.wap_verify.specs.declared.fault.VerifyFault.TheVariants as fault
 use Rattle.wap_verify.specs.Sound.{IsSound, stray_pragma, AreSound, IsVerified}
 use Rattle.wap_verify.specs.Faults.{IsFault, pragma, function}
 use Rattle.wap_verify.proofs.Verifying.{unverified}
-use Rattle.wap_runnable.specs.Runnable.{is_split, has_depths, is_sound, are_sound, may_run}
-use Rattle.wap_runnable.proofs.Splitting.{HasFault, split_or_fault}
-use Rattle.wap_runnable.proofs.Settling.{fails_at, Sound, sound_or_fault}
+use Rattle.wap_verify.specs.runnable.Runnable.{is_split, has_depths, is_sound, are_sound, may_run}
+use Rattle.wap_verify.proofs.RunnableLemmas.Splitting.{HasFault, split_or_fault}
+use Rattle.wap_verify.proofs.RunnableLemmas.Settling.{fails_at, Sound, sound_or_fault}
 
 -- ---- a function
 

@@ -1,6 +1,6 @@
-use Rattle.wap_runnable.proofs.Alike.{alike}
-use Rattle.wap_runnable.proofs.Deciding.{passes, fails}
-use Rattle.wap_runnable.proofs.units_may_be_run_or_have_a_fault.Goals as goal
+use Rattle.wap_verify.proofs.RunnableLemmas.Alike.{alike}
+use Rattle.wap_verify.proofs.RunnableLemmas.Deciding.{passes, fails}
+use Rattle.wap_verify.proofs.runnable.units_may_be_run_or_have_a_fault.Goals as goal
 
 pub returns-clause-passes : goal.returns-clause-passes
 returns-clause-passes c = passes

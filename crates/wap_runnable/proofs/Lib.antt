@@ -1,5 +1,0 @@
-mod Onward
-mod Splitting
-mod Settling
-pub mod Deciding
-pub mod Alike

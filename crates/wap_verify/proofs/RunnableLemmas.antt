@@ -1,0 +1,5 @@
+pub mod Onward
+pub mod Splitting
+pub mod Settling
+pub mod Deciding
+pub mod Alike
