@@ -17,7 +17,7 @@ use Rattle.wap_execution.specs.declared.fatal.Fatal.{Fatal}
 use Rattle.wap_execution.specs.declared.fatal.Fatal.TheVariants as fatal
 use Rattle.wap_execution.specs.Frames.{Function, Frame, code_at, begun}
 use Rattle.wap_execution.specs.Running.{finished, resumed}
-use Rattle.wap_execution_laws.specs.Settings.{uncounted}
+use Rattle.wap_execution.specs.laws.Settings.{uncounted}
 use Rattle.wap_machine.specs.Standing.{CanEnter}
 use Rattle.wap_machine.specs.Stacks.{Stack, stack, answered, IsEntered}
 use Rattle.wap_cardrules.specs.Values.{Pairs}

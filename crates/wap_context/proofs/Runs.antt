@@ -12,9 +12,9 @@ use Rattle.wap_base.specs.Count.{greatest_count, raised, Rose}
 use Rattle.wap_url.specs.declared.url.Url.{Url}
 use Rattle.wap_input.specs.declared.key.Key.{Key}
 use Rattle.wap_execution.specs.Outcomes.{Outcome as Meant, value, exit, fatal, waits, stuck, Ended}
-use Rattle.wap_execution_laws.specs.Settings.{uncounted}
-use Rattle.wap_execution_laws.specs.Simulation.{ComeToSame, IsKin}
-use Rattle.wap_execution_laws.proofs.RunLaws.{Keeps, finished_follows}
+use Rattle.wap_execution.specs.laws.Settings.{uncounted}
+use Rattle.wap_execution.specs.laws.Simulation.{ComeToSame, IsKin}
+use Rattle.wap_execution.proofs.LawsLemmas.RunLaws.{Keeps, finished_follows}
 use Rattle.wap_machine.specs.Hosts.{AtMost, Fetches}
 use Rattle.wap_machine.specs.Stacks.{Stack}
 use Rattle.wap_machine.specs.Runs.{run_of as machine_run, IsEnd, KeepsLimits}

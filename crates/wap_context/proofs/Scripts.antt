@@ -11,7 +11,7 @@ use Rattle.wap_code.specs.declared.unit.Unit.{Unit}
 use Rattle.wap_execution.specs.Frames.{Function, code_at}
 use Rattle.wap_execution.specs.Running.{finished}
 use Rattle.wap_execution.specs.declared.fatal.Fatal.TheVariants as fatal
-use Rattle.wap_execution_laws.specs.Settings.{uncounted}
+use Rattle.wap_execution.specs.laws.Settings.{uncounted}
 use Rattle.wap_input.specs.declared.key.Key.{Key}
 use Rattle.wap_cardrules.specs.Values.{Pairs}
 use Rattle.wap_world.specs.declared.site.page.Page.TheVariants as page

@@ -9,7 +9,7 @@ use Rattle.wap_value.specs.declared.value.Value.{Value}
 use Rattle.wap_input.specs.declared.key.Key.{Key}
 use Rattle.wap_execution.specs.declared.fatal.Fatal.TheVariants.{Stopped}
 use Rattle.wap_execution.specs.Running.{resumed}
-use Rattle.wap_execution_laws.specs.Settings.{uncounted}
+use Rattle.wap_execution.specs.laws.Settings.{uncounted}
 use Rattle.wap_world.specs.site.Asking.{Seen, Stays, Asks}
 use Rattle.wap_world.specs.World.{World}
 use Rattle.wap_world.specs.Steps.{Step, still, quiet}

@@ -3,3 +3,4 @@ pub mod Frames
 pub mod Effects
 pub mod Outcomes
 pub mod Running
+pub mod laws

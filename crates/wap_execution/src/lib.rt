@@ -1,13 +1,13 @@
-//! What the instructions of compiled units mean (WAP-193, sections 9 and 10). There is no code
-//! here: `src/` has the types that machines and definitions share, and `specs/` what each
-//! instruction does, what a run of a function comes to, and how a run goes on after a dialog. The
-//! machine is proved against these definitions.
+//! What instructions do, what runs come to, and the laws of both.
+//!
+//! - `laws`: Laws of runs of compiled units, each the contract of a function that does nothing.
 #![tactic(auto)]
 
 mod action;
 mod dialog;
 mod fatal;
 mod found;
+pub mod laws;
 mod library;
 
 pub use action::Action;

@@ -2,10 +2,10 @@
 use Rattle.std.proofs.Common.{◌≡◌, ℕ, ◌-◌, ◌≤◌, [], length, Option, Some, None, IfSome}
 use Rattle.std.proofs.Common.{ap, sym, subst, ◌∙◌}
 use Rattle.wap_execution.specs.Outcomes.{Ended, Hosting}
-use Rattle.wap_execution_laws.specs.Settings.{Counted}
-use Rattle.wap_execution_laws.specs.Bounds.{started, most_instructions}
-use Rattle.wap_execution_laws.proofs.BoundLaws.{bounded}
-use Rattle.wap_execution_laws.proofs.CountLaws.{agrees}
+use Rattle.wap_execution.specs.laws.Settings.{Counted}
+use Rattle.wap_execution.specs.laws.Bounds.{started, most_instructions}
+use Rattle.wap_execution.proofs.LawsLemmas.BoundLaws.{bounded}
+use Rattle.wap_execution.proofs.LawsLemmas.CountLaws.{agrees}
 use Rattle.wap_machine.specs.declared.machine.Outcome.{Outcome}
 use Rattle.wap_machine.specs.Stacks.{Stack}
 use Rattle.wap_machine.specs.Runs.{run_of, IsEnd, counted_run_of, IsBounded}

@@ -21,9 +21,9 @@ use Rattle.wap_machine.specs.inside.Steps.{rest, Same, calls_from, CanCallFrom, 
 use Rattle.wap_machine.specs.inside.Steps.{GoesInto, GoesLocally, GoesFound, IsInOrderFor}
 use Rattle.wap_machine.specs.inside.Advances.{gives}
 use Rattle.wap_machine.specs.inside.Efforts.{IsLight}
-use Rattle.wap_execution_laws.proofs.RunLaws.{Keeps, Follows, enter_follows}
-use Rattle.wap_execution_laws.proofs.RunLaws.{returned_follows, resumed_follows}
-use Rattle.wap_execution_laws.proofs.FrameLaws.{inner, enters}
+use Rattle.wap_execution.proofs.LawsLemmas.RunLaws.{Keeps, Follows, enter_follows}
+use Rattle.wap_execution.proofs.LawsLemmas.RunLaws.{returned_follows, resumed_follows}
+use Rattle.wap_execution.proofs.LawsLemmas.FrameLaws.{inner, enters}
 
 module _ {S : Type 0} (set : Setting S) where
   -- a value that is given, after a function or to frames that wait

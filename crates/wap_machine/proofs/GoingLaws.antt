@@ -9,8 +9,8 @@ use Rattle.wap_execution.specs.declared.fatal.Fatal.TheVariants.{Budget}
 use Rattle.wap_execution.specs.Frames.{Function, Frame, code_of}
 use Rattle.wap_execution.specs.Outcomes.{Ended, Hosting, Setting}
 use Rattle.wap_execution.specs.Running.{finished}
-use Rattle.wap_execution_laws.specs.Settings.{uncounted}
-use Rattle.wap_execution_laws.proofs.FrameLaws.{goes_onward}
+use Rattle.wap_execution.specs.laws.Settings.{uncounted}
+use Rattle.wap_execution.proofs.LawsLemmas.FrameLaws.{goes_onward}
 use Rattle.wap_machine.specs.declared.next.Callee.{Callee}
 use Rattle.wap_machine.specs.Seen.{called_of}
 use Rattle.wap_machine.specs.declared.next.Next.TheVariants.{Onward}

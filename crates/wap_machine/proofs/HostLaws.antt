@@ -5,8 +5,8 @@ use Rattle.wap_value.specs.declared.value.Value.{Value}
 use Rattle.wap_url.specs.declared.url.Url.{Url}
 use Rattle.wap_execution.specs.Outcomes.{Hosting}
 use Rattle.wap_machine.specs.Hosts.{Grows, GrowsTold, Gives}
-use Rattle.wap_execution_laws.specs.Settings.{uncounted}
-use Rattle.wap_execution_laws.proofs.RunLaws.{Keeps}
+use Rattle.wap_execution.specs.laws.Settings.{uncounted}
+use Rattle.wap_execution.proofs.LawsLemmas.RunLaws.{Keeps}
 use Rattle.wap_machine.proofs.CallLaws.{Grown, grows_same, grows_chained}
 
 -- no run takes a fetch back

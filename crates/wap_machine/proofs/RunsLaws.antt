@@ -9,7 +9,7 @@ use Rattle.wap_machine.specs.declared.machine.Outcome.{Outcome}
 use Rattle.wap_machine.specs.declared.machine.Step.TheVariants.{Goes, Ends}
 use Rattle.wap_machine.specs.Hosts.{Grows, GrowsTold, Fetches}
 use Rattle.wap_machine.specs.Stacks.{Stack}
-use Rattle.wap_execution_laws.specs.Settings.{uncounted}
+use Rattle.wap_execution.specs.laws.Settings.{uncounted}
 use Rattle.wap_machine.specs.Runs.{run_of, IsEnd}
 use Rattle.wap_machine.specs.inside.Steps.{rest, Same}
 use Rattle.wap_machine.proofs.CallLaws.{grows_chained}

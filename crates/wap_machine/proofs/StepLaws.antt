@@ -20,7 +20,7 @@ use Rattle.wap_machine.specs.declared.machine.Wanted.TheVariants.{Nothing, Turn,
 use Rattle.wap_machine.specs.Hosts.{Fetches}
 use Rattle.wap_machine.specs.Seen.{called_of}
 use Rattle.wap_machine.specs.Stacks.{Stack, stack}
-use Rattle.wap_execution_laws.specs.Settings.{uncounted}
+use Rattle.wap_execution.specs.laws.Settings.{uncounted}
 use Rattle.wap_machine.specs.Standing.{CanCall, Onwards}
 use Rattle.wap_machine.specs.Doing.{AreFew, Acts}
 use Rattle.wap_machine.specs.inside.Weights.{weight, heavy}
@@ -28,9 +28,9 @@ use Rattle.wap_machine.specs.inside.Efforts.{effort, GoesBelow, IsLight}
 use Rattle.wap_machine.specs.inside.Advances.{gives, wanted_for, HasStepped, at_end, done}
 use Rattle.wap_machine.specs.inside.Steps.{rest, Same, calls_from, CanCallFrom}
 use Rattle.wap_machine.specs.inside.Steps.{LimitsStay, IsWithoutBudget, Wants}
-use Rattle.wap_execution_laws.proofs.FrameLaws.{ends_whole, returns_value, ends_fatally}
-use Rattle.wap_execution_laws.proofs.FrameLaws.{goes_onward, back_without, goes_back}
-use Rattle.wap_execution_laws.proofs.FrameLaws.{calls_without, makes_call}
+use Rattle.wap_execution.proofs.LawsLemmas.FrameLaws.{ends_whole, returns_value, ends_fatally}
+use Rattle.wap_execution.proofs.LawsLemmas.FrameLaws.{goes_onward, back_without, goes_back}
+use Rattle.wap_execution.proofs.LawsLemmas.FrameLaws.{calls_without, makes_call}
 use Rattle.wap_machine.proofs.CallLaws.{gives_same}
 use Rattle.wap_machine.proofs.Ready.{stands_for, code_is}
 use Rattle.wap_machine.proofs.Weighing.{light}

@@ -5,8 +5,8 @@ use Rattle.wap_execution.specs.Outcomes.{Outcome as Meant, value, exit}
 use Rattle.wap_execution.specs.Outcomes.{fatal, waits, Ended, Hosting}
 use Rattle.wap_execution.specs.declared.fatal.Fatal.TheVariants.{Budget}
 use Rattle.wap_execution.specs.Running.{finished}
-use Rattle.wap_execution_laws.specs.Settings.{uncounted, Counted, counting}
-use Rattle.wap_execution_laws.specs.Bounds.{started, most_instructions}
+use Rattle.wap_execution.specs.laws.Settings.{uncounted, Counted, counting}
+use Rattle.wap_execution.specs.laws.Bounds.{started, most_instructions}
 use Rattle.wap_machine.specs.Stacks.{Stack}
 use Rattle.wap_machine.specs.declared.machine.Outcome.{Outcome}
 use Rattle.wap_machine.specs.declared.machine.Outcome.TheVariants.{Done, Exited, Fatal, Asks}

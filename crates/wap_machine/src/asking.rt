@@ -5,7 +5,7 @@ ghost use Rattle.wap_execution.specs.Effects.{library, external};
 ghost use Rattle.wap_machine.specs.Seen.{called_of};
 ghost use Rattle.wap_machine.specs.Doing.{AreFew};
 ghost use Rattle.wap_machine.specs.Hosts.{Fetches, GrowsTold};
-ghost use Rattle.wap_execution_laws.specs.Settings.{uncounted};
+ghost use Rattle.wap_execution.specs.laws.Settings.{uncounted};
 ghost use Rattle.wap_machine.specs.inside.Steps.{rest, Same, called_from};
 ghost use Rattle.wap_machine.specs.inside.Steps.{CanCallFrom, IsInOrderFor};
 

@@ -2,7 +2,7 @@
 ghost use Rattle.std.specs.Prelude.{◌≡◌, ◌≤◌, IfOk, OnOk, IsErrOf, IfSome};
 ghost use Rattle.wap_base.specs.Count.{Rose};
 ghost use Rattle.wap_machine.specs.Hosts.{Fetches, GrowsTold};
-ghost use Rattle.wap_execution_laws.specs.Settings.{uncounted};
+ghost use Rattle.wap_execution.specs.laws.Settings.{uncounted};
 ghost use Rattle.wap_machine.specs.Runs.{run_of};
 ghost use Rattle.wap_machine.specs.inside.Efforts.{effort, GoesBelow};
 ghost use Rattle.wap_machine.specs.inside.Steps.{rest, Same, LimitsStay, Wants};

@@ -9,9 +9,9 @@ use Rattle.wap_code.specs.declared.unit.Code.{Code}
 use Rattle.wap_execution.specs.Frames.{Function, code_at, begun}
 use Rattle.wap_execution.specs.Outcomes.{Outcome, value, exit, fatal, waits, stuck, Hosting}
 use Rattle.wap_execution.specs.Running.{ended, Calls, called, goes, began, enter}
-use Rattle.wap_execution_laws.specs.Settings.{uncounted}
-use Rattle.wap_execution_laws.specs.Forgetting.{forgotten_by, forgotten}
-use Rattle.wap_execution_laws.proofs.ForgetLaws as forget_laws
+use Rattle.wap_execution.specs.laws.Settings.{uncounted}
+use Rattle.wap_execution.specs.laws.Forgetting.{forgotten_by, forgotten}
+use Rattle.wap_execution.proofs.LawsLemmas.ForgetLaws as forget_laws
 use Rattle.wap_meaning.specs.Functions.{plain_ways, code_runs, unit_runs, calls_among_units}
 use Rattle.wap_meaning.specs.Functions.{RunsAsMachines}
 

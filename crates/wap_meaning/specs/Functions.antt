@@ -13,8 +13,8 @@ use Rattle.wap_program.specs.declared.program.Program.{Program}
 use Rattle.wap_execution.specs.Frames.{Function, code_at, begun}
 use Rattle.wap_execution.specs.Outcomes.{value, stuck, Ended, Hosting}
 use Rattle.wap_execution.specs.Running.{ended, Calls, Ways, called, goes, enter}
-use Rattle.wap_execution_laws.specs.Settings.{uncounted}
-use Rattle.wap_execution_laws.specs.Forgetting.{forgotten}
+use Rattle.wap_execution.specs.laws.Settings.{uncounted}
+use Rattle.wap_execution.specs.laws.Forgetting.{forgotten}
 use Rattle.wap_meaning.specs.Names.{locals, names_in}
 use Rattle.wap_meaning.specs.Parts.{done}
 use Rattle.wap_meaning.specs.Expressions.{Around}

@@ -6,8 +6,8 @@ use Rattle.wap_input.specs.declared.key.Key.{Key}
 use Rattle.wap_input.specs.declared.key.Key.TheVariants as key
 use Rattle.wap_value.specs.declared.value.Value.{Value}
 use Rattle.wap_execution.specs.declared.dialog.Dialog.{Dialog}
-use Rattle.wap_execution_laws.specs.Settings.{uncounted}
-use Rattle.wap_execution_laws.specs.Keyed.{gone_on}
+use Rattle.wap_execution.specs.laws.Settings.{uncounted}
+use Rattle.wap_execution.specs.laws.Keyed.{gone_on}
 use Rattle.wap_world.specs.site.Pages.{Pages as JudgedPages}
 use Rattle.wap_world.specs.site.Misses.{Asked}
 use Rattle.wap_world.specs.site.Asking.{Seen, Asks}

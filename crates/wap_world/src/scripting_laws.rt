@@ -9,7 +9,7 @@ ghost use Rattle.wap_input.specs.declared.key.Key.{Key};
 ghost use Rattle.wap_execution.specs.declared.fatal.Fatal.TheVariants.{Denied, Stopped};
 ghost use Rattle.wap_execution.specs.declared.found.Found.TheVariants.{Not};
 ghost use Rattle.wap_execution.specs.Running.{resumed};
-ghost use Rattle.wap_execution_laws.specs.Settings.{uncounted};
+ghost use Rattle.wap_execution.specs.laws.Settings.{uncounted};
 ghost use Rattle.wap_world.specs.Shelves.{Shelf, Entrance, script_page};
 ghost use Rattle.wap_world.specs.Sites.{Call, failed};
 ghost use Rattle.wap_world.specs.Steps.{Step, still, quiet, joined};

@@ -17,7 +17,7 @@ use Rattle.wap_program.specs.declared.statement.Stmt.{Stmt}
 use Rattle.wap_execution.specs.Frames.{Function, code_of, code_at, begun}
 use Rattle.wap_execution.specs.Outcomes.{value, stuck, Ended}
 use Rattle.wap_execution.specs.Running.{ended, Calls, at_place, goes}
-use Rattle.wap_execution_laws.specs.Forgetting.{forgotten}
+use Rattle.wap_execution.specs.laws.Forgetting.{forgotten}
 use Rattle.wap_meaning.specs.Names.{names_in}
 use Rattle.wap_meaning.specs.Statements.{Ending, goes_on, breaks, continues, returns, in_order, run}
 use Rattle.wap_meaning.specs.Functions.{result_of, run_body, first_values, function_runs}

@@ -10,12 +10,12 @@ use Rattle.wap_execution.specs.Effects.{stuck as nowhere, effect_at}
 use Rattle.wap_execution.specs.Outcomes.{Outcome, value, exit, fatal, waits, stuck, Ended}
 use Rattle.wap_execution.specs.Running.{ended, returned_by, Onward, Ways, at_place, followed_by}
 use Rattle.wap_execution.specs.Running.{forward_by, looping_by, Calls}
-use Rattle.wap_execution_laws.proofs.PlaceLaws.{IsBehind, leads_behind}
+use Rattle.wap_execution.proofs.LawsLemmas.PlaceLaws.{IsBehind, leads_behind}
 use Rattle.wap_meaning.specs.Functions.{plain_ways}
 use Rattle.wap_meaning.specs.Parts.{turn, came_by, calling, done}
-use Rattle.wap_execution_laws.specs.Forgetting.{forgotten}
+use Rattle.wap_execution.specs.laws.Forgetting.{forgotten}
 use Rattle.wap_meaning.specs.Keeping.{GiveNoTurns}
-use Rattle.wap_execution_laws.proofs.Going.{going, goes_end, here, on_there, again_there}
+use Rattle.wap_execution.proofs.LawsLemmas.Going.{going, goes_end, here, on_there, again_there}
 
 -- a call is over with what it gives, and the frames that wait are forgotten
 returned_forgotten : {S : Type 0} (frames : List Frame) (next : Value → ℕ → S → Ended S)

@@ -17,7 +17,7 @@ use Rattle.wap_execution.specs.declared.fatal.Fatal.TheVariants as fatal
 use Rattle.wap_execution.specs.Frames.{Function, code_at}
 use Rattle.wap_execution.specs.Outcomes.{Ended}
 use Rattle.wap_execution.specs.Running.{finished}
-use Rattle.wap_execution_laws.specs.Settings.{uncounted}
+use Rattle.wap_execution.specs.laws.Settings.{uncounted}
 use Rattle.wap_machine.specs.Standing.{CanEnter}
 use Rattle.wap_machine.specs.Stacks.{Stack}
 use Rattle.wap_machine.specs.Runs.{meant, KeepsLimits}

@@ -23,7 +23,7 @@ use Rattle.wap_machine.specs.Stacks.{Stack, stack, answered}
 use Rattle.wap_machine.specs.Seen.{function_in}
 use Rattle.wap_machine.specs.Standing.{CanCall}
 use Rattle.wap_machine.specs.inside.Efforts.{IsLight}
-use Rattle.wap_execution_laws.specs.Settings.{uncounted}
+use Rattle.wap_execution.specs.laws.Settings.{uncounted}
 use Rattle.wap_machine.specs.Runs.{meant, KeepsLimits, WantsNoTurn}
 
 -- ---- what goes on

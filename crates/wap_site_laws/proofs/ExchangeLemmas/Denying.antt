@@ -21,10 +21,10 @@ use Rattle.wap_execution.specs.declared.library.HostOut.TheVariants as out
 use Rattle.wap_execution.specs.Frames.{Function, Frame, code_at}
 use Rattle.wap_execution.specs.Outcomes.{Ended, Hosting}
 use Rattle.wap_execution.specs.Running.{finished}
-use Rattle.wap_execution_laws.specs.Settings.{uncounted}
-use Rattle.wap_execution_laws.specs.Keyed.{answered_in}
-use Rattle.wap_execution_laws.specs.Simulation.{Stays, Both, AreAlike, ComeToSame}
-use Rattle.wap_execution_laws.proofs.SimLaws as sim_laws
+use Rattle.wap_execution.specs.laws.Settings.{uncounted}
+use Rattle.wap_execution.specs.laws.Keyed.{answered_in}
+use Rattle.wap_execution.specs.laws.Simulation.{Stays, Both, AreAlike, ComeToSame}
+use Rattle.wap_execution.proofs.LawsLemmas.SimLaws as sim_laws
 use Rattle.wap_code.specs.declared.unit.Unit.{Unit as CodeUnit}
 use Rattle.wap_cardrules.specs.declared.task.Task.{Task}
 use Rattle.wap_cardrules.specs.declared.task.Task.TheVariants as task
@@ -73,7 +73,7 @@ use Rattle.wap_world.proofs.Joining.{joined_nothing}
 use Rattle.wap_world.specs.Access.{may_enter}
 use Rattle.wap_world.proofs.ScriptingLawsLemmas.Plain.{fronted}
 use Rattle.wap_world.specs.Requests.{ask, test}
-use Rattle.wap_execution_laws.specs.Keyed.{keyed}
+use Rattle.wap_execution.specs.laws.Keyed.{keyed}
 use Rattle.wap_world.specs.scripting.Dialogs.{Reply, answers, ends_it, passes, reply_to, meanwhile}
 use Rattle.wap_world.specs.scripting.Dialogs.{after_reply, answered_by, by_keys}
 use Rattle.wap_world.specs.scripting.UnitSites.{Pages, shelf_of, externals_of, unit_under}

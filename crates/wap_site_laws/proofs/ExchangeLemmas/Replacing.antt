@@ -27,12 +27,12 @@ use Rattle.wap_execution.specs.Outcomes.{Outcome, value, exit, fatal, waits, stu
 use Rattle.wap_execution.specs.Outcomes.{HostingOf, Setting, SettingOf}
 use Rattle.wap_execution.specs.Running.{ended, returned_by, library_gave, entered, called, Calls}
 use Rattle.wap_execution.specs.Running.{began, goes, run_by, enter, resumed, finished}
-use Rattle.wap_execution_laws.specs.Settings.{uncounted}
-use Rattle.wap_execution_laws.specs.Keyed.{answered_in}
-use Rattle.wap_execution_laws.specs.Forgetting.{forgotten_by, forgotten}
-use Rattle.wap_execution_laws.proofs.ForgetLaws as forget_laws
-use Rattle.wap_execution_laws.proofs.FrameLaws.{enters}
-use Rattle.wap_execution_laws.proofs.RunLaws.{Any, any_keeps, called_follows, enter_follows}
+use Rattle.wap_execution.specs.laws.Settings.{uncounted}
+use Rattle.wap_execution.specs.laws.Keyed.{answered_in}
+use Rattle.wap_execution.specs.laws.Forgetting.{forgotten_by, forgotten}
+use Rattle.wap_execution.proofs.LawsLemmas.ForgetLaws as forget_laws
+use Rattle.wap_execution.proofs.LawsLemmas.FrameLaws.{enters}
+use Rattle.wap_execution.proofs.LawsLemmas.RunLaws.{Any, any_keeps, called_follows, enter_follows}
 use Rattle.wap_world.specs.declared.refusal.Refusal.{Refusal}
 use Rattle.wap_world.specs.Shelves.{Shelf, Shelved, deck_page, script_page, text_page}
 use Rattle.wap_world.specs.Shelves.{refused_page, no_page}

@@ -24,10 +24,10 @@ use Rattle.wap_execution.specs.declared.library.HostOut.TheVariants as out
 use Rattle.wap_execution.specs.Frames.{Function, Frame, code_at}
 use Rattle.wap_execution.specs.Outcomes.{Ended, Hosting}
 use Rattle.wap_execution.specs.Running.{finished}
-use Rattle.wap_execution_laws.specs.Settings.{uncounted}
-use Rattle.wap_execution_laws.specs.Keyed.{answered_in, keyed}
-use Rattle.wap_execution_laws.specs.Simulation.{Stays, Both, AreAlike, ComeToSame}
-use Rattle.wap_execution_laws.proofs.SimLaws as sim_laws
+use Rattle.wap_execution.specs.laws.Settings.{uncounted}
+use Rattle.wap_execution.specs.laws.Keyed.{answered_in, keyed}
+use Rattle.wap_execution.specs.laws.Simulation.{Stays, Both, AreAlike, ComeToSame}
+use Rattle.wap_execution.proofs.LawsLemmas.SimLaws as sim_laws
 use Rattle.wap_libs.specs.Row.{argument}
 use Rattle.wap_world.specs.declared.history.Entry.{Entry}
 use Rattle.wap_world.specs.declared.refusal.Refusal.{Refusal}

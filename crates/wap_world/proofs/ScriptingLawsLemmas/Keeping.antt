@@ -18,9 +18,9 @@ use Rattle.wap_execution.specs.declared.library.HostOut.{HostOut}
 use Rattle.wap_execution.specs.declared.library.HostOut.TheVariants as out
 use Rattle.wap_execution.specs.Frames.{Function, code_at}
 use Rattle.wap_execution.specs.Running.{finished}
-use Rattle.wap_execution_laws.specs.Settings.{uncounted}
-use Rattle.wap_execution_laws.specs.Keyed.{answered_in}
-use Rattle.wap_execution_laws.proofs.RunLaws.{Keeps, Follows, finished_follows}
+use Rattle.wap_execution.specs.laws.Settings.{uncounted}
+use Rattle.wap_execution.specs.laws.Keyed.{answered_in}
+use Rattle.wap_execution.proofs.LawsLemmas.RunLaws.{Keeps, Follows, finished_follows}
 use Rattle.wap_world.specs.declared.timer.Timer.{Timer}
 use Rattle.wap_world.specs.declared.timer.Timer.TheVariants.{NotStarted, Running, Off, Expired}
 use Rattle.wap_world.specs.Shelves.{Shelf}

@@ -13,11 +13,11 @@ use Rattle.wap_execution.specs.declared.library.HostOut.TheVariants as out
 use Rattle.wap_execution.specs.Frames.{Frame}
 use Rattle.wap_execution.specs.Outcomes.{Outcome, value, exit, fatal, waits, stuck, Ended, Hosting}
 use Rattle.wap_execution.specs.Running.{ended, resumed, finished}
-use Rattle.wap_execution_laws.specs.Settings.{uncounted}
-use Rattle.wap_execution_laws.specs.Keyed.{answered_in, gone_on, unrolled}
-use Rattle.wap_execution_laws.specs.Simulation.{Stays, Both, AreAlike, ComeToSame}
-use Rattle.wap_execution_laws.proofs.KeyedLaws as keyed_laws
-use Rattle.wap_execution_laws.proofs.SimLaws as sim_laws
+use Rattle.wap_execution.specs.laws.Settings.{uncounted}
+use Rattle.wap_execution.specs.laws.Keyed.{answered_in, gone_on, unrolled}
+use Rattle.wap_execution.specs.laws.Simulation.{Stays, Both, AreAlike, ComeToSame}
+use Rattle.wap_execution.proofs.LawsLemmas.KeyedLaws as keyed_laws
+use Rattle.wap_execution.proofs.LawsLemmas.SimLaws as sim_laws
 use Rattle.wap_world.specs.declared.timer.Timer.{Timer}
 use Rattle.wap_world.specs.declared.timer.Timer.TheVariants.{NotStarted, Running, Off, Expired}
 use Rattle.wap_world.specs.Shelves.{Shelf}

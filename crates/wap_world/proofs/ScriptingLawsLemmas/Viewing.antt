@@ -8,8 +8,8 @@ use Rattle.wap_value.specs.declared.value.Value.{Value}
 use Rattle.wap_value.specs.declared.value.Value.TheVariants.{Invalid}
 use Rattle.wap_markup.specs.declared.deck.Deck.{Deck}
 use Rattle.wap_execution.specs.declared.library.HostOut.{HostOut}
-use Rattle.wap_execution_laws.specs.Simulation.{Both, AreAlike, RunAlike}
-use Rattle.wap_execution_laws.proofs.SimLaws as sim_laws
+use Rattle.wap_execution.specs.laws.Simulation.{Both, AreAlike, RunAlike}
+use Rattle.wap_execution.proofs.LawsLemmas.SimLaws as sim_laws
 use Rattle.wap_world.specs.site.Misses.{Asked}
 use Rattle.wap_world.specs.declared.history.Entry.{Entry}
 use Rattle.wap_world.specs.Shelves.{Shelf}

@@ -8,7 +8,7 @@ use Rattle.wap_value.specs.declared.value.Value.{Value}
 use Rattle.wap_execution.specs.Frames.{Frame}
 use Rattle.wap_execution.specs.Outcomes.{Outcome, value, exit, fatal, waits, stuck, Ended}
 use Rattle.wap_execution.specs.Running.{ended, resumed, finished}
-use Rattle.wap_execution_laws.specs.Settings.{uncounted}
+use Rattle.wap_execution.specs.laws.Settings.{uncounted}
 use Rattle.wap_world.specs.Shelves.{Shelf}
 use Rattle.wap_world.specs.World.{World}
 use Rattle.wap_world.specs.Steps.{Scene, Step, Once, still, quiet, settled, after_step}

@@ -4,7 +4,7 @@ use Rattle.std.specs.Map.{lookup}
 use Rattle.wap_base.specs.Texts.{is_same_text}
 use Rattle.wap_markup.specs.declared.deck.Deck.{Deck}
 use Rattle.wap_execution.specs.Outcomes.{HostingOf}
-use Rattle.wap_execution_laws.specs.Keyed.{answered_in}
+use Rattle.wap_execution.specs.laws.Keyed.{answered_in}
 use Rattle.wap_world.specs.Shelves.{Entrance, Shelf, Shelved, deck_page, script_page, text_page}
 use Rattle.wap_world.specs.Shelves.{refused_page, no_page}
 use Rattle.wap_world.specs.World.{place_now}

@@ -9,7 +9,7 @@ use Rattle.wap_code.specs.declared.unit.Code.{Code}
 use Rattle.wap_execution.specs.Frames.{Function, Frame, code_at, begun}
 use Rattle.wap_execution.specs.Outcomes.{Outcome, value, exit, fatal, waits, stuck, Ended, Hosting}
 use Rattle.wap_execution.specs.Running.{finished}
-use Rattle.wap_execution_laws.specs.Settings.{uncounted}
+use Rattle.wap_execution.specs.laws.Settings.{uncounted}
 use Rattle.wap_world.specs.site.Pages.{Pages as JudgedPages}
 use Rattle.wap_world.specs.declared.site.page.Page.{Page}
 use Rattle.wap_world.specs.declared.site.page.Page.TheVariants as page

@@ -6,7 +6,7 @@ use Rattle.std.specs.Option.{option_map, option_and_then}
 use Rattle.wap_markup.specs.declared.deck.Deck.{Deck}
 use Rattle.wap_base.specs.declared.limits.Limits.{Limits}
 use Rattle.wap_execution.specs.Outcomes.{Hosting}
-use Rattle.wap_execution_laws.specs.Simulation.{RunAlike}
+use Rattle.wap_execution.specs.laws.Simulation.{RunAlike}
 use Rattle.wap_world.specs.site.Misses.{Cache, Asked, is_miss, after_asking}
 use Rattle.wap_world.specs.site.Asking.{raised_by}
 use Rattle.wap_world.specs.declared.history.Entry.{Entry}

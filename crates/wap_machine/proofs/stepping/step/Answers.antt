@@ -3,7 +3,7 @@ use Rattle.std.proofs.lemmas.Result.{IfOk-weaker}
 use Rattle.wap_base.specs.declared.limits.Limits.{Limits}
 use Rattle.wap_machine.specs.declared.machine.Step.TheVariants.{Goes}
 use Rattle.wap_machine.specs.Hosts.{Fetches, GrowsTold}
-use Rattle.wap_execution_laws.specs.Settings.{uncounted}
+use Rattle.wap_execution.specs.laws.Settings.{uncounted}
 use Rattle.wap_machine.specs.Runs.{run_of}
 use Rattle.wap_machine.specs.Seen.{called_of}
 use Rattle.wap_machine.specs.inside.Advances.{IsAdvanced}

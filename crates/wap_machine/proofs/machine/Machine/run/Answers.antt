@@ -4,7 +4,7 @@ use Rattle.wap_base.specs.declared.fault.RunErr.TheVariants.{Store}
 use Rattle.wap_machine.specs.declared.machine.Outcome.{Outcome}
 use Rattle.wap_machine.specs.declared.machine.Step.{Step}
 use Rattle.wap_machine.specs.Stacks.{Stack}
-use Rattle.wap_execution_laws.specs.Settings.{uncounted}
+use Rattle.wap_execution.specs.laws.Settings.{uncounted}
 use Rattle.wap_machine.specs.Runs.{run_of}
 use Rattle.wap_machine.specs.inside.Efforts.{effort, GoesBelow}
 use Rattle.wap_machine.specs.inside.Steps.{rest, Same, LimitsStay}
