@@ -5,7 +5,7 @@ mod resting;
 ghost use Rattle.std.specs.Prelude.{◌≡◌, ◌<◌, IfOk};
 ghost use Rattle.wap_base.specs.Outcome.{Meets};
 ghost use Rattle.wap_image.specs.Images.{IsImage};
-ghost use Rattle.wap_parts.specs.declared.fault.SaveFault.TheVariants.{NoMemory};
+ghost use Rattle.wap_image.specs.declared.context_parts.fault.SaveFault.TheVariants.{NoMemory};
 ghost use Rattle.wap_state.specs.Saved.{parts_of, saved_world, IsAtRest};
 ghost use Rattle.wap_cli.specs.saving.Saving.{image_of};
 
@@ -13,8 +13,8 @@ pub use resting::keys_leave_worlds_at_rest;
 use std::alloc::Global;
 use wap_base::Bytes;
 use wap_context::Context;
+use wap_image::context_parts::SaveFault;
 use wap_image::save_parts;
-use wap_parts::SaveFault;
 
 /// The image of a context whose keys have so many turns: the one spelling of its parts.
 ///

@@ -23,6 +23,6 @@ mod waiting;
 pub use context::Context;
 pub use saved::Revived;
 pub use waiting::{Step, Ticked, Waiting};
-pub use wap_parts::ContextParts;
+pub use wap_image::context_parts::ContextParts;
 pub use wap_world::Timer;
 pub use wap_world::site::{Page, Pages};

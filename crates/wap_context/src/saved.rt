@@ -12,7 +12,7 @@ use crate::entering::in_deck;
 use std::alloc::Global;
 use wap_base::{NoMemory, RunErr};
 use wap_deck::good::GoodDeck;
-use wap_parts::ContextParts;
+use wap_image::context_parts::ContextParts;
 use wap_state::State;
 use wap_state::page_urls::PageEntry;
 use wap_url::name_of;

@@ -7,10 +7,10 @@ use Rattle.wap_wbxml.specs.declared.fault.DocFault.{DocFault}
 use Rattle.wap_wbxml.specs.declared.fault.DocFault.TheVariants as document
 use Rattle.wap_push.specs.declared.fault.PushFault.{PushFault}
 use Rattle.wap_push.specs.declared.fault.PushFault.TheVariants as push
-use Rattle.wap_parts.specs.declared.fault.ImageFault.{ImageFault}
-use Rattle.wap_parts.specs.declared.fault.ImageFault.TheVariants as image
-use Rattle.wap_parts.specs.declared.fault.SaveFault.{SaveFault}
-use Rattle.wap_parts.specs.declared.fault.SaveFault.TheVariants as save
+use Rattle.wap_image.specs.declared.context_parts.fault.ImageFault.{ImageFault}
+use Rattle.wap_image.specs.declared.context_parts.fault.ImageFault.TheVariants as image
+use Rattle.wap_image.specs.declared.context_parts.fault.SaveFault.{SaveFault}
+use Rattle.wap_image.specs.declared.context_parts.fault.SaveFault.TheVariants as save
 
 -- a field, after a space
 abbrev pub field_text : ℕ → List ℕ

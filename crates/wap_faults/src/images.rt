@@ -4,7 +4,7 @@ ghost use Rattle.wap_faults.specs.Faults.{image_text, save_text};
 
 use crate::printing::{print_name, print_one};
 use wap_devices::{Failed, Sink};
-use wap_parts::{ImageFault, SaveFault};
+use wap_image::context_parts::{ImageFault, SaveFault};
 
 /// Prints why bytes are no image.
 pub fn print_image_fault<O: Sink>(out: &mut O, fault: ImageFault) -> Result<(), Failed>

@@ -8,8 +8,8 @@ use Rattle.std.proofs.lemmas.Bool.{ltb-true, ltb-false, lt-ltb}
 use Rattle.std.proofs.lemmas.List.{append-nil, nil_from_length}
 use Rattle.wap_base.specs.Outcome.{◌>>=◌, Meets}
 use Rattle.wap_base.proofs.Choices.{chosen, bind_ok, bind_err, ok_same}
-use Rattle.wap_parts.specs.declared.fault.ImageFault.{ImageFault}
-use Rattle.wap_parts.specs.declared.fault.ImageFault.TheVariants as fault
+use Rattle.wap_image.specs.declared.context_parts.fault.ImageFault.{ImageFault}
+use Rattle.wap_image.specs.declared.context_parts.fault.ImageFault.TheVariants as fault
 use Rattle.wap_image.specs.Images.{Saved, IsImage}
 use Rattle.wap_image.specs.Refusal.{IsRefused, inside, beyond}
 use Rattle.wap_image.specs.inside.Reading.{items_at, ended, image_at}

@@ -2,8 +2,8 @@
 use Rattle.std.proofs.Common.{◌≡◌, ◌≢◌, ℕ, suc, ◌+◌, ◌-◌, ◌<◌, List, [], ◌∷◌, ◌++◌, Result, Ok}
 use Rattle.std.proofs.Common.{Err, sym, ap, subst, ◌∙◌, arith}
 use Rattle.wap_base.specs.Outcome.{◌>>=◌, Meets}
-use Rattle.wap_parts.specs.declared.fault.ImageFault.{ImageFault}
-use Rattle.wap_parts.specs.declared.fault.ImageFault.TheVariants.{NoMemory}
+use Rattle.wap_image.specs.declared.context_parts.fault.ImageFault.{ImageFault}
+use Rattle.wap_image.specs.declared.context_parts.fault.ImageFault.TheVariants.{NoMemory}
 use Rattle.wap_image.specs.inside.Steps.{Reader, many}
 
 -- what comes of reading

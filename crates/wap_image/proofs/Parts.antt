@@ -5,9 +5,10 @@ use Rattle.wap_base.specs.Charsets.{text_in}
 use Rattle.wap_base.specs.Numbers.{IsMb}
 use Rattle.wap_base.specs.declared.charset.Charset.TheVariants.{Utf8}
 use Rattle.wap_base.specs.declared.limits.Limits.{Limits}
-use Rattle.wap_parts.specs.declared.fault.ImageFault.TheVariants as fault
-use Rattle.wap_parts.specs.declared.parts.SavedTimer.{SavedTimer}
-use Rattle.wap_parts.specs.declared.parts.SavedTimer.TheVariants.{NotStarted, Running, Off}
+use Rattle.wap_image.specs.declared.context_parts.fault.ImageFault.TheVariants as fault
+use Rattle.wap_image.specs.declared.context_parts.parts.SavedTimer.{SavedTimer}
+use Rattle.wap_image.specs.declared.context_parts.parts.SavedTimer.TheVariants.{NotStarted, Running}
+use Rattle.wap_image.specs.declared.context_parts.parts.SavedTimer.TheVariants.{Off}
 use Rattle.wap_image.specs.declared.kind.TimerKind.{TimerKind}
 use Rattle.wap_image.specs.declared.kind.TimerKind.TheVariants as kind
 use Rattle.wap_image.specs.Sequences.{IsByte, Passing}

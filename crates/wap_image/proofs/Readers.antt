@@ -13,8 +13,8 @@ use Rattle.wap_base.specs.declared.number.ReadFault.TheVariants as number
 use Rattle.wap_base.proofs.Choices.{chosen, bind_ok, bind_err, ok_same}
 use Rattle.wap_base.proofs.NumberLaws.{mb_takes, mb_again, mb_stops_short, mb_fails_short}
 use Rattle.wap_base.proofs.NumberLaws.{mb_stops_over, mb_fails_over}
-use Rattle.wap_parts.specs.declared.fault.ImageFault.{ImageFault}
-use Rattle.wap_parts.specs.declared.fault.ImageFault.TheVariants as fault
+use Rattle.wap_image.specs.declared.context_parts.fault.ImageFault.{ImageFault}
+use Rattle.wap_image.specs.declared.context_parts.fault.ImageFault.TheVariants as fault
 use Rattle.wap_image.specs.Sequences.{Then, IsByte, AreBytes, Passing, Made, MadeIf, IsRow, AreMany}
 use Rattle.wap_image.specs.Refusal.{Refusal, Never, LacksByte, LacksBytes, RefusesNumber}
 use Rattle.wap_image.specs.Refusal.{RefusesInTurn, RefusesPassing, RefusesMadeIf, RefusesRow}

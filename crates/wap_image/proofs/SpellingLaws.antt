@@ -23,9 +23,10 @@ use Rattle.wap_base.proofs.NumberSpelling.{IsShortest-mb_spelling}
 use Rattle.wap_base.proofs.Utf8Lengths.{length-encode_utf8_all}
 use Rattle.wap_filling.specs.Variables.{AreVars}
 use Rattle.wap_filling.specs.declared.limits.TheConstants.{TEXT_LIMIT}
-use Rattle.wap_parts.specs.declared.parts.ContextParts.{ContextParts}
-use Rattle.wap_parts.specs.declared.parts.SavedTimer.{SavedTimer}
-use Rattle.wap_parts.specs.declared.parts.SavedTimer.TheVariants.{NotStarted, Running, Off}
+use Rattle.wap_image.specs.declared.context_parts.parts.ContextParts.{ContextParts}
+use Rattle.wap_image.specs.declared.context_parts.parts.SavedTimer.{SavedTimer}
+use Rattle.wap_image.specs.declared.context_parts.parts.SavedTimer.TheVariants.{NotStarted, Running}
+use Rattle.wap_image.specs.declared.context_parts.parts.SavedTimer.TheVariants.{Off}
 use Rattle.wap_image.specs.declared.kind.TimerKind.TheVariants as kind
 use Rattle.wap_image.specs.declared.kind.TheConstants.{NOT_STARTED, RUNNING, OFF}
 use Rattle.wap_image.specs.Sequences.{IsRow, Passing}

@@ -15,8 +15,9 @@ use Rattle.wap_url.specs.declared.url.Url.{Url}
 use Rattle.wap_url.specs.declared.fault.UrlFault.{UrlFault}
 use Rattle.wap_url.specs.Reading.{url_at}
 use Rattle.wap_url.specs.Printing.{printed}
-use Rattle.wap_parts.specs.declared.parts.SavedTimer.{SavedTimer}
-use Rattle.wap_parts.specs.declared.parts.SavedTimer.TheVariants.{NotStarted, Running, Off}
+use Rattle.wap_image.specs.declared.context_parts.parts.SavedTimer.{SavedTimer}
+use Rattle.wap_image.specs.declared.context_parts.parts.SavedTimer.TheVariants.{NotStarted, Running}
+use Rattle.wap_image.specs.declared.context_parts.parts.SavedTimer.TheVariants.{Off}
 use Rattle.wap_image.specs.declared.kind.TimerKind.{TimerKind}
 use Rattle.wap_image.specs.declared.kind.TimerKind.TheVariants as kind
 use Rattle.wap_image.specs.declared.kind.TheConstants.{LETTER_W, LETTER_I, FORMAT, NOT_STARTED}

@@ -5,9 +5,9 @@ use Rattle.std.specs.Prelude.{encode_utf8_all}
 use Rattle.std.specs.List.{AllByRecursion, list_all}
 use Rattle.wap_base.specs.Limits.{AreInRange}
 use Rattle.wap_filling.specs.Variables.{AreVars}
-use Rattle.wap_parts.specs.declared.parts.ContextParts.{ContextParts}
-use Rattle.wap_parts.specs.declared.parts.SavedTimer.{SavedTimer}
-use Rattle.wap_parts.specs.declared.parts.SavedTimer.TheVariants.{NotStarted, Running}
+use Rattle.wap_image.specs.declared.context_parts.parts.ContextParts.{ContextParts}
+use Rattle.wap_image.specs.declared.context_parts.parts.SavedTimer.{SavedTimer}
+use Rattle.wap_image.specs.declared.context_parts.parts.SavedTimer.TheVariants.{NotStarted, Running}
 use Rattle.wap_image.specs.Items.{is_drawn, is_entry_text}
 
 -- the parts of a context at rest: the limits may be chosen, variables are as they are kept, the

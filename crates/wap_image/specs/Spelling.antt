@@ -5,9 +5,10 @@ use Rattle.std.specs.List.{flat_map}
 use Rattle.std.specs.Int.{w64, to_be_bytes}
 use Rattle.wap_base.specs.Numbers.{mb_spelling}
 use Rattle.wap_base.specs.declared.limits.Limits.{Limits}
-use Rattle.wap_parts.specs.declared.parts.ContextParts.{ContextParts}
-use Rattle.wap_parts.specs.declared.parts.SavedTimer.{SavedTimer}
-use Rattle.wap_parts.specs.declared.parts.SavedTimer.TheVariants.{NotStarted, Running, Off}
+use Rattle.wap_image.specs.declared.context_parts.parts.ContextParts.{ContextParts}
+use Rattle.wap_image.specs.declared.context_parts.parts.SavedTimer.{SavedTimer}
+use Rattle.wap_image.specs.declared.context_parts.parts.SavedTimer.TheVariants.{NotStarted, Running}
+use Rattle.wap_image.specs.declared.context_parts.parts.SavedTimer.TheVariants.{Off}
 use Rattle.wap_image.specs.declared.kind.TheConstants.{NOT_STARTED, RUNNING, OFF}
 use Rattle.wap_image.specs.Items.{head}
 

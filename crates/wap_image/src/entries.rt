@@ -1,17 +1,17 @@
 //! The entries of the history.
 ghost use Rattle.std.specs.Prelude.{◌≡◌, []};
 ghost use Rattle.wap_base.specs.Outcome.{Meets};
-ghost use Rattle.wap_parts.specs.declared.fault.ImageFault.TheVariants.{NoMemory};
+ghost use Rattle.wap_image.specs.declared.context_parts.fault.ImageFault.TheVariants.{NoMemory};
 ghost use Rattle.wap_image.specs.Items.{is_not_started, is_entry_count};
 ghost use Rattle.wap_image.specs.inside.Steps.{many};
 ghost use Rattle.wap_image.specs.inside.Reading.{url_at, entry_at, entry_count_at, entries_at};
 
+use crate::context_parts::{ImageFault, SavedTimer};
 use crate::items::is_entry_text;
 use crate::steps::{byte, number, place};
 use crate::texts::read_text;
 use std::alloc::Global;
 use wap_base::{Limits, Rows, Text};
-use wap_parts::{ImageFault, SavedTimer};
 
 /// The entries, after their number, which the limit and the timer may refuse.
 #[tactic(auto, unfolding(crate::specs::inside::Reading::entries_at))]

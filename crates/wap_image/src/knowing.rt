@@ -4,8 +4,8 @@ ghost use Rattle.std.specs.Prelude.{◌<◌, ◌^◌};
 ghost use Rattle.std.specs.List.{AllByRecursion};
 ghost use Rattle.wap_image.specs.inside.Fitting.{FitsTimer, OfVariable, OfEntry};
 
+use crate::context_parts::SavedTimer;
 use wap_base::Text;
-use wap_parts::SavedTimer;
 
 /// A number of 32 bits is below their power.
 pub(crate) fn know_number(number: u32)

@@ -1,7 +1,7 @@
 //! What holds of all bytes: they are the image of some parts or have a first fault, never both, and
 //! never two.
 ghost use Rattle.std.specs.Prelude.{◌≡◌, ◌⊎◌, ℕ, List};
-ghost use Rattle.wap_parts.specs.declared.fault.ImageFault.{ImageFault};
+ghost use Rattle.wap_image.specs.declared.context_parts.fault.ImageFault.{ImageFault};
 ghost use Rattle.wap_image.specs.Images.{Saved, IsImage};
 ghost use Rattle.wap_image.specs.Refusal.{IsRefused};
 

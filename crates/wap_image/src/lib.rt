@@ -1,6 +1,9 @@
-//! Images of contexts: reading the parts of a context from bytes, and writing them.
+//! Saved contexts: their parts, and their bytes, written and read.
+//!
+//! - `context_parts`: The parts of a context that is saved, and why they aren't written or read.
 #![tactic(auto)]
 
+pub mod context_parts;
 mod entries;
 mod items;
 mod kind;
@@ -20,5 +23,4 @@ pub use laws::{
     what_is_no_image_has_a_fault,
 };
 pub use reading::read;
-pub use wap_parts::{ContextParts, ImageFault, SaveFault, SavedTimer};
 pub use writing::save_parts;

@@ -1,14 +1,14 @@
 //! The limits of a run.
 ghost use Rattle.wap_base.specs.Outcome.{Meets};
-ghost use Rattle.wap_parts.specs.declared.fault.ImageFault.TheVariants.{NoMemory};
+ghost use Rattle.wap_image.specs.declared.context_parts.fault.ImageFault.TheVariants.{NoMemory};
 ghost use Rattle.wap_image.specs.inside.Reading.{string_limit_at, history_limit_at};
 ghost use Rattle.wap_image.specs.inside.Reading.{depth_limit_at, limits_at};
 
+use crate::context_parts::ImageFault;
 use crate::steps::{byte, number, place};
 use wap_base::{
     LEAST_DEPTH, LEAST_HISTORY, LEAST_STRING, Limits, MOST_DEPTH, MOST_HISTORY, MOST_STRING,
 };
-use wap_parts::ImageFault;
 
 /// The limits of strings, of the history and of calls.
 #[tactic(auto, unfolding(crate::specs::inside::Reading::limits_at))]

@@ -1,14 +1,15 @@
 //! Reading an image from its bytes.
 ghost use Rattle.std.specs.Prelude.{◌≢◌, IfOk, IfErr, Ok, Err};
 ghost use Rattle.wap_base.specs.Outcome.{Meets};
-ghost use Rattle.wap_parts.specs.declared.fault.ImageFault.{ImageFault};
-ghost use Rattle.wap_parts.specs.declared.fault.ImageFault.TheVariants.{NoMemory};
+ghost use Rattle.wap_image.specs.declared.context_parts.fault.ImageFault.{ImageFault};
+ghost use Rattle.wap_image.specs.declared.context_parts.fault.ImageFault.TheVariants.{NoMemory};
 ghost use Rattle.wap_image.specs.Images.{Saved, IsImage};
 ghost use Rattle.wap_image.specs.Refusal.{IsRefused};
 ghost use Rattle.wap_image.specs.Rules.{MayBeSaved};
 ghost use Rattle.wap_image.specs.inside.Reading.{head_at, drawn_at, budget_at};
 ghost use Rattle.wap_image.specs.inside.Reading.{lists_at, items_at, image_at};
 
+use crate::context_parts::{ContextParts, ImageFault};
 use crate::entries::read_entries;
 use crate::items::is_head;
 use crate::limits::read_limits;
@@ -16,7 +17,6 @@ use crate::steps::{number, place, take_bytes};
 use crate::timer::read_timer;
 use crate::variables::read_variables;
 use std::alloc::Global;
-use wap_parts::{ContextParts, ImageFault};
 
 /// The parts of which the bytes are the image, all of them, and the turns of a key. Of a text no
 /// more is copied than there are bytes.

@@ -4,8 +4,8 @@ ghost use Rattle.std.specs.List.{list_all};
 ghost use Rattle.wap_image.specs.Rules.{is_short_number, is_short_text, is_short_variable};
 ghost use Rattle.wap_image.specs.Rules.{is_short_entry, are_short};
 
+use crate::context_parts::ContextParts;
 use wap_base::Text;
-use wap_parts::ContextParts;
 
 /// Whether each name, each URL and each number of a card is written in four bytes.
 pub(crate) fn are_short(parts: &ContextParts) -> bool

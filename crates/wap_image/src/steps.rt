@@ -1,11 +1,11 @@
 //! What bytes begin with: one byte, so many, and a number.
 ghost use Rattle.std.specs.Prelude.{◌≡◌, ◌-◌, length, IfOk};
 ghost use Rattle.wap_base.specs.Outcome.{Meets};
-ghost use Rattle.wap_parts.specs.declared.fault.ImageFault.TheVariants.{NoMemory};
+ghost use Rattle.wap_image.specs.declared.context_parts.fault.ImageFault.TheVariants.{NoMemory};
 ghost use Rattle.wap_image.specs.inside.Steps.{byte_at, taken_at, number_at};
 
+use crate::context_parts::ImageFault;
 use wap_base::{ReadFault, read_mb};
-use wap_parts::ImageFault;
 
 /// The place of the first of the bytes that are left of an input of this length.
 pub(crate) fn place(end: usize, bytes: &[u8]) -> usize

@@ -1,14 +1,14 @@
 //! Texts after the number of their bytes.
 ghost use Rattle.wap_base.specs.Outcome.{Meets};
-ghost use Rattle.wap_parts.specs.declared.fault.ImageFault.TheVariants.{NoMemory};
+ghost use Rattle.wap_image.specs.declared.context_parts.fault.ImageFault.TheVariants.{NoMemory};
 ghost use Rattle.wap_image.specs.inside.Steps.{number_at};
 ghost use Rattle.wap_image.specs.inside.Reading.{sized_at, text_at, value_length_at};
 
+use crate::context_parts::ImageFault;
 use crate::steps::{number, place, take_bytes};
 use std::alloc::Global;
 use wap_base::{Charset, Text};
 use wap_filling::TEXT_LIMIT;
-use wap_parts::ImageFault;
 
 /// A text after the number of its bytes.
 #[tactic(auto, unfolding(crate::specs::inside::Reading::text_at, crate::specs::inside::Reading::sized_at))]

@@ -1,12 +1,12 @@
 //! The timer of the current card.
 ghost use Rattle.wap_base.specs.Outcome.{Meets};
-ghost use Rattle.wap_parts.specs.declared.fault.ImageFault.TheVariants.{NoMemory};
+ghost use Rattle.wap_image.specs.declared.context_parts.fault.ImageFault.TheVariants.{NoMemory};
 ghost use Rattle.wap_image.specs.inside.Reading.{time_left_at, timer_of_at, timer_kind_at};
 ghost use Rattle.wap_image.specs.inside.Reading.{timer_at};
 
+use crate::context_parts::{ImageFault, SavedTimer};
 use crate::kind::{TimerKind, timer_kind};
 use crate::steps::{byte, number, place};
-use wap_parts::{ImageFault, SavedTimer};
 
 /// The byte of its kind, and for a timer that runs the tenths that are left.
 #[tactic(auto, unfolding(crate::specs::inside::Reading::timer_at))]

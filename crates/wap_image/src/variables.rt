@@ -1,18 +1,18 @@
 //! The variables of a context.
 ghost use Rattle.std.specs.Prelude.{[]};
 ghost use Rattle.wap_base.specs.Outcome.{Meets};
-ghost use Rattle.wap_parts.specs.declared.fault.ImageFault.TheVariants.{NoMemory};
+ghost use Rattle.wap_image.specs.declared.context_parts.fault.ImageFault.TheVariants.{NoMemory};
 ghost use Rattle.wap_image.specs.inside.Steps.{many};
 ghost use Rattle.wap_image.specs.inside.Reading.{name_at, variable_at, variable_count_at};
 ghost use Rattle.wap_image.specs.inside.Reading.{variables_at};
 
+use crate::context_parts::ImageFault;
 use crate::items::is_next_name;
 use crate::steps::{number, place};
 use crate::texts::{read_text, read_value};
 use std::alloc::Global;
 use wap_base::{Rows, Text};
 use wap_filling::VAR_LIMIT;
-use wap_parts::ImageFault;
 
 /// The variables, after their number.
 #[tactic(auto, unfolding(crate::specs::inside::Reading::variables_at))]

@@ -3,7 +3,7 @@ ghost use Rattle.std.specs.Prelude.{◌≡◌, ◌<◌, ◌^◌, ◌∷◌, ◌+
 ghost use Rattle.std.specs.Prelude.{IfOk, OnOk, IsErrOf};
 ghost use Rattle.std.specs.List.{flat_map, AllByRecursion};
 ghost use Rattle.wap_base.specs.Numbers.{mb_spelling};
-ghost use Rattle.wap_parts.specs.declared.fault.SaveFault.TheVariants.{Drawn, Card};
+ghost use Rattle.wap_image.specs.declared.context_parts.fault.SaveFault.TheVariants.{Drawn, Card};
 ghost use Rattle.wap_image.specs.Items.{is_drawn};
 ghost use Rattle.wap_image.specs.Images.{IsImage};
 ghost use Rattle.wap_image.specs.Rules.{AreParts, are_short};
@@ -12,12 +12,12 @@ ghost use Rattle.wap_image.specs.Spelling.{variable_spelling, entry_spelling};
 ghost use Rattle.wap_image.specs.Spelling.{variables_spelling, entries_spelling, spelling};
 ghost use Rattle.wap_image.specs.inside.Fitting.{FitsText, FitsVariable, FitsEntry, FitsParts};
 
+use crate::context_parts::{ContextParts, SaveFault, SavedTimer};
 use crate::kind::{FORMAT, LETTER_I, LETTER_W, NOT_STARTED, OFF, RUNNING};
 use crate::knowing::{know_entries, know_number, know_timer, know_variables};
 use crate::short::are_short;
 use std::alloc::Global;
 use wap_base::{Bytes, Limits, NoMemory, Text, write_mb};
-use wap_parts::{ContextParts, SaveFault, SavedTimer};
 
 /// The one spelling of the parts of a context and of the turns of a key, with the shortest numbers.
 pub fn save_parts(alloc: Global, parts: &ContextParts, budget: u32) -> Result<Bytes, SaveFault>

@@ -6,7 +6,7 @@ ghost use Rattle.wap_pages.specs.declared.fault.PageErr.TheVariants.{NoMemory};
 
 use wap_codegen::CompileFault;
 use wap_deckcheck::DeckFault;
-use wap_parts::{ImageFault, SaveFault};
+use wap_image::context_parts::{ImageFault, SaveFault};
 use wap_unit::UnitFault;
 use wap_verify::VerifyFault;
 use wap_wbxml::DocFault;

@@ -27,9 +27,9 @@ use Rattle.wap_filling.specs.declared.limits.TheConstants.{VAR_LIMIT, TEXT_LIMIT
 use Rattle.wap_filling.specs.Variables.{Variables, AreInOrder, AreVars, updated}
 use Rattle.wap_filling.specs.Setting.{set_in, has_no_room}
 use Rattle.wap_libs.specs.Generator.{Generator, most_drawn}
-use Rattle.wap_parts.specs.declared.parts.ContextParts.{ContextParts}
-use Rattle.wap_parts.specs.declared.parts.SavedTimer.{SavedTimer}
-use Rattle.wap_parts.specs.declared.parts.SavedTimer.TheVariants as saved
+use Rattle.wap_image.specs.declared.context_parts.parts.ContextParts.{ContextParts}
+use Rattle.wap_image.specs.declared.context_parts.parts.SavedTimer.{SavedTimer}
+use Rattle.wap_image.specs.declared.context_parts.parts.SavedTimer.TheVariants as saved
 use Rattle.wap_image.specs.Items.{is_drawn, is_entry, is_text_of, is_entry_text}
 use Rattle.wap_image.specs.Rules.{AreParts}
 use Rattle.wap_world.specs.declared.history.Entry.{Entry}

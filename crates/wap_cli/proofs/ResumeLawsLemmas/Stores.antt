@@ -16,7 +16,7 @@ use Rattle.wap_input.specs.declared.key.Key.TheVariants.{Open}
 use Rattle.wap_markup.specs.declared.deck.Deck.{Deck}
 use Rattle.wap_push.specs.Pushes.{push_at}
 use Rattle.wap_url.specs.Printing.{name_for}
-use Rattle.wap_parts.specs.declared.parts.ContextParts.{ContextParts}
+use Rattle.wap_image.specs.declared.context_parts.parts.ContextParts.{ContextParts}
 use Rattle.wap_world.specs.declared.site.page.Page.{Page}
 use Rattle.wap_world.specs.declared.site.page.Page.TheVariants as judge
 use Rattle.wap_world.specs.site.Misses.{Asked}

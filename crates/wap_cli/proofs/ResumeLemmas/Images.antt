@@ -7,7 +7,7 @@ use Rattle.wap_devices.specs.Sinks.{SinkSeen}
 use Rattle.wap_devices.specs.Transfer.{Appends, AppendsPrefix}
 use Rattle.wap_input.specs.declared.key.Key.{Key}
 use Rattle.wap_keys.specs.Lines.{keys_of}
-use Rattle.wap_parts.specs.declared.fault.SaveFault.{SaveFault}
+use Rattle.wap_image.specs.declared.context_parts.fault.SaveFault.{SaveFault}
 use Rattle.wap_pages.specs.declared.fault.PageFault.TheVariants.{Save}
 use Rattle.wap_world.specs.World.{World}
 use Rattle.wap_world.specs.Steps.{joined}

@@ -8,7 +8,7 @@ use Rattle.std.specs.Option.{option_and_then, option_map_or, option_to_list}
 use Rattle.wap_markup.specs.declared.deck.Deck.{Deck}
 use Rattle.wap_markup.specs.declared.deck.Node.{Node}
 use Rattle.wap_markup.specs.Cards.{cards_of}
-use Rattle.wap_parts.specs.declared.parts.ContextParts.{ContextParts}
+use Rattle.wap_image.specs.declared.context_parts.parts.ContextParts.{ContextParts}
 use Rattle.wap_world.specs.declared.history.Entry.{Entry}
 use Rattle.wap_world.specs.Shelves.{Shelf}
 use Rattle.wap_world.specs.World.{World, Place, place_in, place_of, last_entry, deck_at}

@@ -10,7 +10,7 @@ use Rattle.wap_url.specs.declared.url.Url.{Url}
 use Rattle.wap_url.specs.declared.fault.UrlFault.{UrlFault}
 use Rattle.wap_url.specs.Reading.{url_at}
 use Rattle.wap_url.specs.Printing.{name_for}
-use Rattle.wap_parts.specs.declared.parts.ContextParts.{ContextParts}
+use Rattle.wap_image.specs.declared.context_parts.parts.ContextParts.{ContextParts}
 use Rattle.wap_image.specs.Items.{is_text_of, is_entry_text}
 use Rattle.wap_world.specs.declared.history.Entry.{Entry}
 use Rattle.wap_world.proofs.Entries.{last_pushed}

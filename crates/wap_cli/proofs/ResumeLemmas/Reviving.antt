@@ -12,7 +12,7 @@ use Rattle.wap_devices.specs.Sinks.{SinkSeen}
 use Rattle.wap_devices.proofs.Transfers.{Appends-nil}
 use Rattle.wap_input.specs.declared.key.Key.{Key}
 use Rattle.wap_world.specs.inboxes.Sessions.{played_with}
-use Rattle.wap_parts.specs.declared.parts.ContextParts.{ContextParts}
+use Rattle.wap_image.specs.declared.context_parts.parts.ContextParts.{ContextParts}
 use Rattle.wap_world.specs.declared.site.page.Page.{Page}
 use Rattle.wap_world.specs.declared.site.page.Page.TheVariants as page
 use Rattle.wap_world.specs.site.Pages.{Pages as JudgedPages, page_of, AreSitePages}

@@ -3,9 +3,10 @@ use Rattle.std.proofs.Common.{◌≡◌, ◌↔◌, ◌∙◌, ℕ, Bool, true, 
 use Rattle.std.proofs.Common.{sym, ap, Result, Ok, Err}
 use Rattle.std.specs.Prelude.{IfOk}
 use Rattle.wap_base.specs.Outcome.{Meets}
-use Rattle.wap_parts.specs.declared.parts.ContextParts.{ContextParts}
-use Rattle.wap_parts.specs.declared.fault.SaveFault.{SaveFault}
-use Rattle.wap_parts.specs.declared.fault.SaveFault.TheVariants.{Drawn, Card, NoMemory}
+use Rattle.wap_image.specs.declared.context_parts.parts.ContextParts.{ContextParts}
+use Rattle.wap_image.specs.declared.context_parts.fault.SaveFault.{SaveFault}
+use Rattle.wap_image.specs.declared.context_parts.fault.SaveFault.TheVariants.{Drawn, Card}
+use Rattle.wap_image.specs.declared.context_parts.fault.SaveFault.TheVariants.{NoMemory}
 use Rattle.wap_image.specs.Items.{is_drawn}
 use Rattle.wap_image.specs.Rules.{are_short}
 use Rattle.wap_image.specs.Spelling.{spelling}

@@ -7,8 +7,8 @@ use Rattle.wap_base.specs.Count.{raised, Rose}
 use Rattle.wap_base.specs.Contents.{Contents, page_named}
 use Rattle.wap_url.specs.Printing.{name_for}
 use Rattle.wap_markup.specs.declared.deck.Deck.{Deck}
-use Rattle.wap_parts.specs.declared.parts.ContextParts.{ContextParts}
-use Rattle.wap_parts.specs.declared.fault.ImageFault.{ImageFault}
+use Rattle.wap_image.specs.declared.context_parts.parts.ContextParts.{ContextParts}
+use Rattle.wap_image.specs.declared.context_parts.fault.ImageFault.{ImageFault}
 use Rattle.wap_image.specs.Images.{Saved, IsImage}
 use Rattle.wap_image.specs.Refusal.{IsRefused}
 use Rattle.wap_input.specs.declared.key.Key.{Key}

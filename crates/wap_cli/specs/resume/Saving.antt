@@ -9,8 +9,8 @@ use Rattle.wap_input.specs.declared.key.Key.{Key}
 use Rattle.wap_push.specs.Pushes.{push_at}
 use Rattle.wap_world.specs.inboxes.Sessions.{session_with, played_with}
 use Rattle.wap_keys.specs.Lines.{keys_of}
-use Rattle.wap_parts.specs.declared.fault.SaveFault.{SaveFault}
-use Rattle.wap_parts.specs.declared.parts.ContextParts.{ContextParts}
+use Rattle.wap_image.specs.declared.context_parts.fault.SaveFault.{SaveFault}
+use Rattle.wap_image.specs.declared.context_parts.parts.ContextParts.{ContextParts}
 use Rattle.wap_pages.specs.declared.fault.PageFault.TheVariants.{Save}
 use Rattle.wap_world.specs.World.{World}
 use Rattle.wap_world.specs.Steps.{Step, joined}

@@ -1,8 +1,8 @@
 -- The image that is saved of a context, or why none is. This project's own.
 use Rattle.std.specs.Prelude.{ℕ, if◌then◌else◌, List, Result, Ok, Err}
-use Rattle.wap_parts.specs.declared.parts.ContextParts.{ContextParts}
-use Rattle.wap_parts.specs.declared.fault.SaveFault.{SaveFault}
-use Rattle.wap_parts.specs.declared.fault.SaveFault.TheVariants.{Drawn, Card}
+use Rattle.wap_image.specs.declared.context_parts.parts.ContextParts.{ContextParts}
+use Rattle.wap_image.specs.declared.context_parts.fault.SaveFault.{SaveFault}
+use Rattle.wap_image.specs.declared.context_parts.fault.SaveFault.TheVariants.{Drawn, Card}
 use Rattle.wap_image.specs.Items.{is_drawn}
 use Rattle.wap_image.specs.Rules.{are_short}
 use Rattle.wap_image.specs.Spelling.{spelling}

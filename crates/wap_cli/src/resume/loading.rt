@@ -9,9 +9,9 @@ use std::alloc::Global;
 use wap_base::Text;
 use wap_context::ContextParts;
 use wap_devices::{Fetched, Store, StoreErr};
+use wap_image::context_parts::ImageFault;
 use wap_image::read;
 use wap_pages::PageFault;
-use wap_parts::ImageFault;
 
 /// What was saved as these bytes, or how the command ends.
 fn read_saved(alloc: Global, bytes: &[u8]) -> Result<(ContextParts, u32), Status>

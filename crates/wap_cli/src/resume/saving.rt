@@ -9,8 +9,8 @@ use crate::saving::save;
 use std::alloc::Global;
 use wap_context::Context;
 use wap_devices::{Failed, Sink, write_all};
+use wap_image::context_parts::SaveFault;
 use wap_pages::PageFault;
-use wap_parts::SaveFault;
 
 /// Writes the image of a context whose keys have so many turns.
 pub(crate) fn save_context<O: Sink>(

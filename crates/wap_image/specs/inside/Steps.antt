@@ -5,8 +5,8 @@ use Rattle.wap_base.specs.Outcome.{◌>>=◌}
 use Rattle.wap_base.specs.Numbers.{mb_at}
 use Rattle.wap_base.specs.declared.number.ReadFault.{ReadFault}
 use Rattle.wap_base.specs.declared.number.ReadFault.TheVariants as number
-use Rattle.wap_parts.specs.declared.fault.ImageFault.{ImageFault}
-use Rattle.wap_parts.specs.declared.fault.ImageFault.TheVariants as fault
+use Rattle.wap_image.specs.declared.context_parts.fault.ImageFault.{ImageFault}
+use Rattle.wap_image.specs.declared.context_parts.fault.ImageFault.TheVariants as fault
 
 -- a value and the bytes after it, given the length of the input and what is left of it
 abbrev pub Reader : Type 0 → Type 0

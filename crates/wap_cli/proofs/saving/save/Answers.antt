@@ -1,8 +1,8 @@
 use Rattle.std.proofs.Common.{◌≡◌, subst}
 use Rattle.std.specs.Prelude.{IfOk}
 use Rattle.wap_base.specs.Outcome.{Meets}
-use Rattle.wap_parts.specs.declared.parts.ContextParts.{ContextParts}
-use Rattle.wap_parts.specs.declared.fault.SaveFault.TheVariants.{NoMemory}
+use Rattle.wap_image.specs.declared.context_parts.parts.ContextParts.{ContextParts}
+use Rattle.wap_image.specs.declared.context_parts.fault.SaveFault.TheVariants.{NoMemory}
 use Rattle.wap_image.specs.Images.{IsImage}
 use Rattle.wap_image.specs.Items.{is_drawn}
 use Rattle.wap_state.specs.Saved.{saved_world, IsAtRest}

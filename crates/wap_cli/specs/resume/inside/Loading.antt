@@ -4,7 +4,7 @@ use Rattle.wap_base.specs.Count.{raised, Rose}
 use Rattle.wap_base.specs.Contents.{Contents, names_of, page_named}
 use Rattle.wap_base.specs.Texts.{AreDistinct}
 use Rattle.wap_devices.specs.Stores.{StoreSeen}
-use Rattle.wap_parts.specs.declared.fault.ImageFault.{ImageFault}
+use Rattle.wap_image.specs.declared.context_parts.fault.ImageFault.{ImageFault}
 use Rattle.wap_image.specs.Images.{Saved, IsImage}
 use Rattle.wap_image.specs.Rules.{MayBeSaved}
 use Rattle.wap_image.specs.Refusal.{IsRefused}

@@ -1,7 +1,7 @@
 use Rattle.std.proofs.Common.{subst, Result}
 use Rattle.wap_base.specs.Outcome.{Meets}
-use Rattle.wap_parts.specs.declared.fault.ImageFault.{ImageFault}
-use Rattle.wap_parts.specs.declared.fault.ImageFault.TheVariants.{NoMemory}
+use Rattle.wap_image.specs.declared.context_parts.fault.ImageFault.{ImageFault}
+use Rattle.wap_image.specs.declared.context_parts.fault.ImageFault.TheVariants.{NoMemory}
 use Rattle.wap_image.specs.Images.{Saved}
 use Rattle.wap_image.proofs.ImageLaws.{found_is, refused_is, image_again, image_fails}
 use Rattle.wap_image.proofs.RulesLaws.{kept_is}

@@ -27,7 +27,7 @@ pub enum ImageFault {
 }
 
 impl From<NoMemory> for ImageFault {
-    ghost use Rattle.wap_parts.specs.declared.fault.ImageFault.TheVariants as image;
+    ghost use Rattle.wap_image.specs.declared.context_parts.fault.ImageFault.TheVariants as image;
 
     ghost from_gives = { λ _ fault. fault ≡ image.NoMemory };
 
@@ -47,7 +47,7 @@ pub enum SaveFault {
 }
 
 impl From<NoMemory> for SaveFault {
-    ghost use Rattle.wap_parts.specs.declared.fault.SaveFault.TheVariants as save;
+    ghost use Rattle.wap_image.specs.declared.context_parts.fault.SaveFault.TheVariants as save;
 
     ghost from_gives = { λ _ fault. fault ≡ save.NoMemory };
 

@@ -1,6 +1,5 @@
 //! The parts of a context that is saved, and why they aren't written or read. There is no code here
 //! but types.
-#![tactic(auto)]
 
 mod fault;
 mod parts;
