@@ -5,21 +5,21 @@ use denote.Struct.Declared.{shape}
 use Rattle.std.proofs.Crossing.{crosses}
 use Rattle.std.proofs.option.Option.TheSendSync as option
 use Rattle.wap_base.proofs.rows.Rows.TheSendSync as rows
-use Rattle.wap_program.specs.contracts.expression.Expr as Expr
-use Rattle.wap_program.specs.contracts.statement.Stmt as Stmt
-use Rattle.wap_program.specs.contracts.program.Function as Function
-use Rattle.wap_program.specs.contracts.program.Id as Id
-use Rattle.wap_program.specs.contracts.program.Program as Program
-use Rattle.wap_program.specs.contracts.program.Use as Use
+use Rattle.wap_grammar.specs.contracts.program.expression.Expr as Expr
+use Rattle.wap_grammar.specs.contracts.program.statement.Stmt as Stmt
+use Rattle.wap_grammar.specs.contracts.program.program.Function as Function
+use Rattle.wap_grammar.specs.contracts.program.program.Id as Id
+use Rattle.wap_grammar.specs.contracts.program.program.Program as Program
+use Rattle.wap_grammar.specs.contracts.program.program.Use as Use
 use Rattle.wap_scope.specs.contracts.scoped.Scoped as Scoped
 use Rattle.wap_scope.specs.contracts.scoped.Scoped.TheInside as inside
-use Rattle.wap_program.proofs.boxed.Boxed.TheSendSync as boxed
-use Rattle.wap_program.proofs.program.Id.TheSendSync as id
-use Rattle.wap_program.proofs.program.Span.TheSendSync as span
-use Rattle.wap_program.proofs.program.Use.TheSendSync as pragma
-use Rattle.wap_program.proofs.expression.Literal.TheSendSync as literal
-use Rattle.wap_program.proofs.expression.Expr.TheLaws.TheKnot as expr
-use Rattle.wap_program.proofs.statement.Stmt.TheLaws.TheKnot as stmt
+use Rattle.wap_grammar.proofs.program.boxed.Boxed.TheSendSync as boxed
+use Rattle.wap_grammar.proofs.program.program.Id.TheSendSync as id
+use Rattle.wap_grammar.proofs.program.program.Span.TheSendSync as span
+use Rattle.wap_grammar.proofs.program.program.Use.TheSendSync as pragma
+use Rattle.wap_grammar.proofs.program.expression.Literal.TheSendSync as literal
+use Rattle.wap_grammar.proofs.program.expression.Expr.TheLaws.TheKnot as expr
+use Rattle.wap_grammar.proofs.program.statement.Stmt.TheLaws.TheKnot as stmt
 
 -- ---- sent
 

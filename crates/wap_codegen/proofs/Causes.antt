@@ -18,8 +18,8 @@ use Rattle.wap_grammar.specs.Depth.{IsFirstBelow}
 use Rattle.wap_grammar.specs.inside.Statements.{statement_at}
 use Rattle.wap_grammar.specs.inside.Programs.{program_at}
 use Rattle.wap_grammar.proofs.Unique.{one}
-use Rattle.wap_program.specs.declared.program.Function.{Function}
-use Rattle.wap_program.specs.declared.program.Program.{Program}
+use Rattle.wap_grammar.specs.declared.program.program.Function.{Function}
+use Rattle.wap_grammar.specs.declared.program.program.Program.{Program}
 use Rattle.wap_scope.specs.declared.fault.ScopeFault.{ScopeFault}
 use Rattle.wap_scope.specs.declared.fault.ScopeFault.TheVariants as scope
 use Rattle.wap_scope.specs.Scoped.{IsScoped}

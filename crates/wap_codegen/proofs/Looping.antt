@@ -4,8 +4,8 @@ use Rattle.std.proofs.Common.{All, sym, ap, ◌∙◌, subst}
 use Rattle.std.proofs.lemmas.List.{map_more}
 use Rattle.std.proofs.lemmas.List.Elements.{All-more}
 use Rattle.wap_code.specs.declared.unit.Code.{Code}
-use Rattle.wap_program.specs.declared.program.Function.{Function}
-use Rattle.wap_program.specs.declared.program.Program.{Program}
+use Rattle.wap_grammar.specs.declared.program.program.Function.{Function}
+use Rattle.wap_grammar.specs.declared.program.program.Program.{Program}
 use Rattle.wap_meaning.specs.compiled.Units.{compiled_function}
 use Rattle.wap_meaning.specs.compiled.Wide.{function_wide}
 use Rattle.wap_meaning.specs.compiled.Accepted.{most_code}

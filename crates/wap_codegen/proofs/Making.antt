@@ -5,15 +5,15 @@ use Rattle.std.proofs.lemmas.List.{length-append}
 use Rattle.wap_asm.specs.declared.form.Form.{Form}
 use Rattle.wap_asm.specs.Placing.{wide, placed}
 use Rattle.wap_code.specs.declared.unit.Code.{Code}
-use Rattle.wap_program.specs.declared.program.Id.{Id}
-use Rattle.wap_program.specs.declared.program.Function.{Function}
-use Rattle.wap_program.specs.declared.program.Program.{Program}
+use Rattle.wap_grammar.specs.declared.program.program.Id.{Id}
+use Rattle.wap_grammar.specs.declared.program.program.Function.{Function}
+use Rattle.wap_grammar.specs.declared.program.program.Program.{Program}
 use Rattle.wap_scope.specs.accepted.Known.{variables}
 use Rattle.wap_scope.proofs.AcceptedLemmas.Known.{parameters_first}
 use Rattle.wap_meaning.specs.Names.{locals}
 use Rattle.wap_meaning.specs.coding.Constants.{Numbers}
 use Rattle.wap_meaning.specs.coding.Compiled.{function_code, numbers_in}
-use Rattle.wap_program.specs.declared.expression.Literal.{Literal}
+use Rattle.wap_grammar.specs.declared.program.expression.Literal.{Literal}
 use Rattle.wap_meaning.specs.compiled.Pool.{pool}
 use Rattle.wap_meaning.specs.compiled.Units.{forms_of, compiled_function}
 use Rattle.wap_meaning.specs.compiled.Wide.{function_wide}

@@ -1,6 +1,6 @@
 -- The program of a source has a unit that may be written and run.
 use Rattle.std.proofs.Common.{◌≡◌, ℕ, ◌<◌, ◌^◌, List, length, sym, subst}
-use Rattle.wap_program.specs.declared.program.Program.{Program}
+use Rattle.wap_grammar.specs.declared.program.program.Program.{Program}
 use Rattle.wap_scope.specs.Scoped.{IsScoped}
 use Rattle.wap_code.specs.declared.unit.Unit.{Unit as CodeUnit}
 use Rattle.wap_unit.specs.Spelling.{HasSpelling}

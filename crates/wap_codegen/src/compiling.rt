@@ -3,7 +3,7 @@ ghost use Rattle.std.specs.Prelude.{◌≡◌, ◌<◌, ◌^◌, length, Ok, IfO
 ghost use Rattle.wap_base.specs.Outcome.{Meets};
 ghost use Rattle.wap_unit.specs.Spelling.{HasSpelling};
 ghost use Rattle.wap_verify.specs.Sound.{IsVerified};
-ghost use Rattle.wap_program.specs.declared.program.Program.{Program};
+ghost use Rattle.wap_grammar.specs.declared.program.program.Program.{Program};
 ghost use Rattle.wap_meaning.specs.compiled.Units.{compiled};
 ghost use Rattle.wap_meaning.specs.compiled.Accepted.{IsAccepted};
 ghost use Rattle.wap_codegen.specs.Faults.{IsCompileFault};

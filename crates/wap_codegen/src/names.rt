@@ -4,7 +4,7 @@ ghost use Rattle.wap_meaning.specs.compiled.Units.{is_short, entries};
 
 use std::alloc::Global;
 use wap_base::{NoMemory, Rows, Text};
-use wap_program::Function;
+use wap_grammar::program::Function;
 
 /// A name in a unit has fewer bytes than this, since its length has one byte.
 const NAME_END: usize = 256;

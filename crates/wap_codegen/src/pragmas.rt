@@ -8,7 +8,7 @@ use crate::pool::Numbering;
 use std::alloc::Global;
 use wap_base::{NoMemory, Rows, Text};
 use wap_code::Pragma;
-use wap_program::Use;
+use wap_grammar::program::Use;
 
 /// The index of a constant, which has 32 bits: more aren't in any memory.
 fn index_of(alloc: Global, numbering: &Numbering, text: &Text) -> Result<u32, NoMemory>

@@ -1,9 +1,9 @@
 //! How many bytes statements save that don't load their variable again.
 ghost use Rattle.std.specs.Prelude.{◌≡◌, ◌<◌, ◌^◌, sum_by};
-ghost use Rattle.wap_program.specs.declared.expression.Expr.{out-Expr};
+ghost use Rattle.wap_grammar.specs.declared.program.expression.Expr.{out-Expr};
 ghost use Rattle.wap_meaning.specs.compiled.Savings.{effect_saves, effect_saves_if, stmt_saves};
 
-use wap_program::{Expr, Stmt};
+use wap_grammar::program::{Expr, Stmt};
 
 /// How many bytes an expression that is a statement saves.
 fn effect_saves(expression: &Expr) -> u64

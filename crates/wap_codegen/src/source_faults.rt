@@ -1,7 +1,7 @@
 //! Why sources aren't compiled: each that isn't accepted has a fault, and none that is. The
 //! functions here do nothing, and carry the laws alone.
 ghost use Rattle.std.specs.Prelude.{◌≡◌, ◌<◌, ◌^◌, ℕ, List, length};
-ghost use Rattle.wap_program.specs.declared.program.Program.{Program};
+ghost use Rattle.wap_grammar.specs.declared.program.program.Program.{Program};
 ghost use Rattle.wap_meaning.specs.compiled.Accepted.{IsAccepted};
 ghost use Rattle.wap_codegen.specs.declared.fault.CompileFault.{CompileFault};
 ghost use Rattle.wap_codegen.specs.source_faults.Faults.{IsFaultOf};

@@ -6,9 +6,9 @@ ghost use Rattle.wap_codegen.specs.Faults.{IsCompileFault};
 
 use crate::CompileFault;
 use std::alloc::Global;
+use wap_grammar::program::Program;
 use wap_lex::{Token, lex};
 use wap_parse::parse;
-use wap_program::Program;
 use wap_scope::{Scoped, resolve};
 
 /// The tokens of a source.

@@ -17,7 +17,7 @@ use crate::pragmas::pragmas_of;
 use std::alloc::Global;
 use wap_base::{NoMemory, Rows};
 use wap_code::{Code, Unit};
-use wap_program::Program;
+use wap_grammar::program::Program;
 
 /// How many constants a unit may have.
 const CONSTANT_LIMIT: u64 = 65536;

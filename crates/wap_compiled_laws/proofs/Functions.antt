@@ -21,10 +21,10 @@ use Rattle.wap_asm.specs.Placed.{Leads, ArePlaceable, start}
 use Rattle.wap_asm.specs.declared.form.Form.{Form}
 use Rattle.wap_asm.specs.declared.form.Form.TheVariants.{Op, Jump, Label}
 use Rattle.wap_asm.proofs.PlacedLaws.{is_placed}
-use Rattle.wap_program.specs.declared.program.Id.{Id}
-use Rattle.wap_program.specs.declared.program.Function.{Function}
-use Rattle.wap_program.specs.declared.program.Program.{Program}
-use Rattle.wap_program.specs.declared.expression.Literal.{Literal}
+use Rattle.wap_grammar.specs.declared.program.program.Id.{Id}
+use Rattle.wap_grammar.specs.declared.program.program.Function.{Function}
+use Rattle.wap_grammar.specs.declared.program.program.Program.{Program}
+use Rattle.wap_grammar.specs.declared.program.expression.Literal.{Literal}
 use Rattle.wap_scope.specs.declared.limits.TheConstants.{VARIABLE_LIMIT, FUNCTION_LIMIT}
 use Rattle.wap_scope.specs.Names.{Mention, Declares, Refers, Jumps, said, declared, mentions}
 use Rattle.wap_scope.specs.Names.{names_declared}

@@ -9,10 +9,10 @@ use Rattle.wap_code.specs.declared.unit.Constant.{Constant}
 use Rattle.wap_code.specs.declared.unit.Constant.TheVariants as constant
 use Rattle.wap_code.specs.declared.unit.Pragma.{Pragma}
 use Rattle.wap_code.specs.Strings.{string_of, string_at, holds_text, is_string}
-use Rattle.wap_program.specs.declared.program.Use.{Use}
-use Rattle.wap_program.specs.declared.program.Use.TheVariants.{Url, Access, Agent, Note}
-use Rattle.wap_program.specs.declared.expression.Literal.{Literal}
-use Rattle.wap_program.specs.declared.expression.Literal.TheVariants.{Str}
+use Rattle.wap_grammar.specs.declared.program.program.Use.{Use}
+use Rattle.wap_grammar.specs.declared.program.program.Use.TheVariants.{Url, Access, Agent, Note}
+use Rattle.wap_grammar.specs.declared.program.expression.Literal.{Literal}
+use Rattle.wap_grammar.specs.declared.program.expression.Literal.TheVariants.{Str}
 use Rattle.wap_meaning.specs.coding.Constants.{HasPool}
 use Rattle.wap_compiled_laws.proofs.BodiesLemmas.Pooled.{text_at}
 use Rattle.wap_verify.specs.Sound.{indexes, stray_pragma}

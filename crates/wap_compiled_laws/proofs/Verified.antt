@@ -3,8 +3,8 @@ use Rattle.std.proofs.Common.{◌≡◌, ℕ, Option, Some, None, refl, sym, ◌
 use Rattle.std.proofs.Common.{slice_get}
 use Rattle.std.proofs.lemmas.Option.{same_Some}
 use Rattle.wap_code.specs.declared.unit.Code.{Code}
-use Rattle.wap_program.specs.declared.program.Function.{Function}
-use Rattle.wap_program.specs.declared.program.Program.{Program}
+use Rattle.wap_grammar.specs.declared.program.program.Function.{Function}
+use Rattle.wap_grammar.specs.declared.program.program.Program.{Program}
 use Rattle.wap_scope.specs.Scoped.{IsScoped}
 use Rattle.wap_compiled_laws.proofs.RunnableLemmas.Whole.{sound}
 use Rattle.wap_verify.specs.Sound.{IsSound, IsVerified}

@@ -4,8 +4,8 @@ use Rattle.wap_url.specs.declared.url.Url.{Url}
 use Rattle.wap_value.specs.declared.value.Value.{Value}
 use Rattle.wap_asm.specs.Placing.{wide}
 use Rattle.wap_asm.specs.Placed.{ArePlaceable, start, IsPlaced}
-use Rattle.wap_program.specs.declared.program.Function.{Function}
-use Rattle.wap_program.specs.declared.program.Program.{Program}
+use Rattle.wap_grammar.specs.declared.program.program.Function.{Function}
+use Rattle.wap_grammar.specs.declared.program.program.Program.{Program}
 use Rattle.wap_execution.specs.Running.{Calls}
 use Rattle.wap_meaning.specs.Functions.{program_runs, unit_runs}
 use Rattle.wap_meaning.specs.Keeping.{GiveNoTurns}

@@ -21,7 +21,7 @@
 
 ghost use Rattle.std.specs.Prelude.{◌≤◌, ℕ, List, length};
 ghost use Rattle.std.specs.List.{All};
-ghost use Rattle.wap_program.specs.declared.program.Program.{Program as TheProgram};
+ghost use Rattle.wap_grammar.specs.declared.program.program.Program.{Program as TheProgram};
 ghost use Rattle.wap_scope.specs.Scoped.{IsScoped};
 ghost use Rattle.wap_meaning.specs.coding.Compiled.{IsCompiled};
 ghost use Rattle.wap_verify.specs.Sound.{IsVerified};

@@ -3,9 +3,9 @@
 ghost use Rattle.std.specs.Prelude.{ℕ, List};
 ghost use Rattle.wap_code.specs.declared.unit.Code.{Code as TheCode};
 ghost use Rattle.wap_code.specs.declared.unit.Unit.{Unit as TheUnit};
-ghost use Rattle.wap_program.specs.declared.expression.Literal.{Literal as TheLiteral};
-ghost use Rattle.wap_program.specs.declared.program.Function.{Function as TheFunction};
-ghost use Rattle.wap_program.specs.declared.program.Program.{Program as TheProgram};
+ghost use Rattle.wap_grammar.specs.declared.program.expression.Literal.{Literal as TheLiteral};
+ghost use Rattle.wap_grammar.specs.declared.program.program.Function.{Function as TheFunction};
+ghost use Rattle.wap_grammar.specs.declared.program.program.Program.{Program as TheProgram};
 ghost use Rattle.wap_meaning.specs.coding.Compiled.{IsCodeOf};
 ghost use Rattle.wap_verify.specs.Sound.{IsSound};
 

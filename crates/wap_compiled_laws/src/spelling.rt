@@ -1,7 +1,7 @@
 //! The unit that a program is compiled to has a spelling: a law, the contract of a function that
 //! does nothing.
 ghost use Rattle.std.specs.Prelude.{ℕ, List};
-ghost use Rattle.wap_program.specs.declared.program.Program.{Program as TheProgram};
+ghost use Rattle.wap_grammar.specs.declared.program.program.Program.{Program as TheProgram};
 ghost use Rattle.wap_unit.specs.Spelling.{HasSpelling};
 ghost use Rattle.wap_meaning.specs.compiled.Units.{compiled};
 ghost use Rattle.wap_meaning.specs.compiled.Accepted.{IsAccepted};

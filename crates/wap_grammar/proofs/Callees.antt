@@ -2,8 +2,8 @@
 use Rattle.std.proofs.Common.{◌≡◌, ℕ, ◌<◌, true, false, cond, List, ◌∷◌, length, Ok}
 use Rattle.std.proofs.Common.{refl, sym, ap, subst, ◌∙◌, inl, inr, ◌⊎◌, arith}
 use Rattle.wap_base.proofs.Choices.{chosen, bind_ok}
-use Rattle.wap_program.specs.declared.program.Span.{Span}
-use Rattle.wap_program.specs.declared.program.Id.{Id}
+use Rattle.wap_grammar.specs.declared.program.program.Span.{Span}
+use Rattle.wap_grammar.specs.declared.program.program.Id.{Id}
 use Rattle.wap_grammar.specs.declared.callee.Callee.{Callee}
 use Rattle.wap_grammar.specs.declared.callee.Callee.TheVariants as callee
 use Rattle.wap_grammar.specs.declared.lexeme.Lexeme.{Lexeme}

@@ -2,7 +2,7 @@
 use Rattle.std.proofs.Common.{◌≡◌, ◌≤◌, List, ◌∷◌, length, Option, Some, None, Ok, refl, sym}
 use Rattle.std.proofs.Common.{ap, subst, inl, inr, arith}
 use Rattle.wap_base.proofs.Choices.{chosen}
-use Rattle.wap_program.specs.declared.statement.Stmt.{Stmt}
+use Rattle.wap_grammar.specs.declared.program.statement.Stmt.{Stmt}
 use Rattle.wap_grammar.specs.declared.lexeme.Lexeme.{Lexeme}
 use Rattle.wap_grammar.specs.declared.word.Sign.TheVariants as signs
 use Rattle.wap_grammar.specs.Words.{word_of, is_sign}

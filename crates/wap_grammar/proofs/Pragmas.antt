@@ -3,10 +3,10 @@ use Rattle.std.proofs.Common.{◌≡◌, ℕ, ◌<◌, true, false, cond, List, 
 use Rattle.std.proofs.Common.{None, Ok, refl, sym, ap, subst, ◌∙◌, inl, inr, ◌⊎◌, arith}
 use Rattle.wap_base.specs.Outcome.{◌>>=◌}
 use Rattle.wap_base.proofs.Choices.{chosen, bind_ok, some_same}
-use Rattle.wap_program.specs.declared.program.Span.{Span}
-use Rattle.wap_program.specs.declared.program.Id.{Id}
-use Rattle.wap_program.specs.declared.program.Use.{Use}
-use Rattle.wap_program.specs.declared.program.Use.TheVariants as pragma
+use Rattle.wap_grammar.specs.declared.program.program.Span.{Span}
+use Rattle.wap_grammar.specs.declared.program.program.Id.{Id}
+use Rattle.wap_grammar.specs.declared.program.program.Use.{Use}
+use Rattle.wap_grammar.specs.declared.program.program.Use.TheVariants as pragma
 use Rattle.wap_grammar.specs.declared.lexeme.Lexeme.{Lexeme}
 use Rattle.wap_grammar.specs.declared.word.Word.{Word}
 use Rattle.wap_grammar.specs.declared.word.Word.TheVariants as word

@@ -1,7 +1,7 @@
 -- No tokens are spelled by two programs.
 use Rattle.std.proofs.Common.{◌≡◌, ℕ, ◌+◌, List, sym, ◌∙◌, arith}
 use Rattle.wap_base.proofs.Choices.{ok_same}
-use Rattle.wap_program.specs.declared.program.Program.{Program}
+use Rattle.wap_grammar.specs.declared.program.program.Program.{Program}
 use Rattle.wap_grammar.specs.declared.lexeme.Lexeme.{Lexeme}
 use Rattle.wap_grammar.specs.Programs.{Spells}
 use Rattle.wap_grammar.proofs.Whole.{program_again}

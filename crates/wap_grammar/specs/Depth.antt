@@ -1,7 +1,7 @@
 -- Where the first part of a program begins that is deeper than so many levels. This project's own.
 use Rattle.std.specs.Prelude.{ℕ, zero, suc, ◌<◌, List, length}
-use Rattle.wap_program.specs.declared.program.Program.{Program}
-use Rattle.wap_program.specs.declared.statement.Stmt.{Stmt}
+use Rattle.wap_grammar.specs.declared.program.program.Program.{Program}
+use Rattle.wap_grammar.specs.declared.program.statement.Stmt.{Stmt}
 use Rattle.wap_grammar.specs.declared.lexeme.Lexeme.{Lexeme}
 use Rattle.wap_grammar.specs.Spellings.{Spelling}
 use Rattle.wap_grammar.specs.Expressions.{Expressions, IsPart, IsExpression}

@@ -9,3 +9,5 @@ pub mod Refusal
 pub mod Programs
 pub mod Depth
 pub mod inside
+pub mod program
+pub mod formers

@@ -1,7 +1,7 @@
 -- Tokens that spell something: those from one place up to another. This project's own.
 use Rattle.std.specs.Prelude.{List, [], ◌∷◌}
 use Rattle.wap_value.specs.declared.operator.BinOp.TheVariants as op
-use Rattle.wap_program.specs.declared.program.Span.{Span}
+use Rattle.wap_grammar.specs.declared.program.program.Span.{Span}
 use Rattle.wap_grammar.specs.declared.lexeme.Lexeme.{Lexeme}
 use Rattle.wap_grammar.specs.declared.word.Word.{Word}
 use Rattle.wap_grammar.specs.declared.word.Word.TheVariants as word

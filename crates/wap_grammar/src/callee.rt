@@ -1,5 +1,5 @@
 //! What a call names.
-use wap_program::Id;
+use crate::program::Id;
 
 /// What a call names (WAP-193, section 6.4): a function of the unit, a unit and a function of it,
 /// or a library and a function of it.

@@ -7,7 +7,7 @@ ghost use Rattle.wap_grammar.specs.declared.lexeme.Lexeme.{Lexeme};
 ghost use Rattle.wap_grammar.specs.Programs.{Spells};
 ghost use Rattle.wap_grammar.specs.Texts.{StandsForText};
 ghost use Rattle.wap_grammar.specs.Words.{word_rows, text_in, lexeme_of};
-ghost use Rattle.wap_program.specs.declared.program.Program.{Program};
+ghost use Rattle.wap_grammar.specs.declared.program.program.Program.{Program};
 
 use crate::WORDS;
 

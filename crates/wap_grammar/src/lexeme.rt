@@ -1,6 +1,6 @@
 //! Tokens as the grammar sees them.
+use crate::program::Span;
 use crate::word::Word;
-use wap_program::Span;
 
 /// A token: what it is to the grammar, and where it stands.
 #[derive(Clone, Copy, Debug, PartialEq, Eq)]

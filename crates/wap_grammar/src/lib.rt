@@ -1,4 +1,7 @@
-//! The grammar of WMLScript (WAP-193): what each token is to it, and which programs spell tokens.
+//! Source programs, and which of them tokens spell.
+//!
+//! - `program`: The types of programs as WMLScript sources spell them (WAP-193), each name with its
+//!   place.
 #![tactic(auto)]
 
 mod callee;
@@ -6,6 +9,7 @@ mod fault;
 mod laws;
 mod lexeme;
 mod precedence;
+pub mod program;
 mod start;
 mod word;
 mod words;

@@ -10,15 +10,15 @@ use Rattle.wap_value.specs.declared.operator.BinOp.TheVariants.{And, Or, Comma}
 use Rattle.wap_value.specs.Conversion.{boolean_of}
 use Rattle.wap_value.specs.Unary.{unary_of}
 use Rattle.wap_value.specs.Binary.{binary_of}
-use Rattle.wap_program.specs.declared.program.Id.{Id}
-use Rattle.wap_program.specs.declared.program.Program.{Program}
-use Rattle.wap_program.specs.declared.program.Function.{Function as SourceFunction}
-use Rattle.wap_program.specs.declared.expression.Expr.{Expr, roll-Expr, map-Expr}
-use Rattle.wap_program.specs.declared.expression.Expr.TheOpen.{Expr-F}
-use Rattle.wap_program.specs.declared.expression.Expr.TheFolds.{fold-roll-Expr, ind-Expr}
-use Rattle.wap_program.specs.declared.statement.Stmt.{Stmt, roll-Stmt, map-Stmt}
-use Rattle.wap_program.specs.declared.statement.Stmt.TheOpen.{Stmt-F}
-use Rattle.wap_program.specs.declared.statement.Stmt.TheFolds.{fold-roll-Stmt, ind-Stmt}
+use Rattle.wap_grammar.specs.declared.program.program.Id.{Id}
+use Rattle.wap_grammar.specs.declared.program.program.Program.{Program}
+use Rattle.wap_grammar.specs.declared.program.program.Function.{Function as SourceFunction}
+use Rattle.wap_grammar.specs.declared.program.expression.Expr.{Expr, roll-Expr, map-Expr}
+use Rattle.wap_grammar.specs.declared.program.expression.Expr.TheOpen.{Expr-F}
+use Rattle.wap_grammar.specs.declared.program.expression.Expr.TheFolds.{fold-roll-Expr, ind-Expr}
+use Rattle.wap_grammar.specs.declared.program.statement.Stmt.{Stmt, roll-Stmt, map-Stmt}
+use Rattle.wap_grammar.specs.declared.program.statement.Stmt.TheOpen.{Stmt-F}
+use Rattle.wap_grammar.specs.declared.program.statement.Stmt.TheFolds.{fold-roll-Stmt, ind-Stmt}
 use Rattle.wap_execution.specs.Effects.{Called, jumps_at}
 use Rattle.wap_execution.specs.Outcomes.{value, stuck}
 use Rattle.wap_execution.specs.Running.{ended, Calls}

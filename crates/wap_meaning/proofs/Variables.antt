@@ -1,8 +1,8 @@
 -- A function's variables are its parameters, and then those that it declares.
 use Rattle.std.proofs.Common.{◌≡◌, ◌+◌, false, List, [], ◌∷◌, ◌++◌, length, map, arith}
 use Rattle.std.specs.List.{flat_map}
-use Rattle.wap_program.specs.declared.program.Id.{Id}
-use Rattle.wap_program.specs.declared.program.Function.{Function}
+use Rattle.wap_grammar.specs.declared.program.program.Id.{Id}
+use Rattle.wap_grammar.specs.declared.program.program.Function.{Function}
 use Rattle.wap_scope.specs.Names.{Mention, Declares, mentions, said, names_declared}
 use Rattle.wap_meaning.specs.Names.{locals}
 

@@ -11,21 +11,21 @@ use Rattle.wap_value.specs.declared.operator.UnOp.TheVariants.{TypeOf}
 use Rattle.wap_value.specs.declared.operator.BinOp.{BinOp}
 use Rattle.wap_value.specs.Unary.{unary_of}
 use Rattle.wap_value.specs.declared.operator.BinOp.TheVariants as bin
-use Rattle.wap_program.specs.declared.program.Id.{Id}
-use Rattle.wap_program.specs.declared.expression.Literal.{Literal}
-use Rattle.wap_program.specs.declared.expression.Literal.TheVariants as literal
-use Rattle.wap_program.specs.declared.expression.Expr.{Expr, roll-Expr}
-use Rattle.wap_program.specs.declared.expression.Expr.TheOpen.{Expr-F}
-use Rattle.wap_program.specs.declared.expression.Expr.TheFolds.{fold-roll-Expr}
-use Rattle.wap_program.specs.declared.statement.Stmt.{Stmt, roll-Stmt}
-use Rattle.wap_program.specs.declared.statement.Stmt.TheOpen.{Stmt-F}
-use Rattle.wap_program.specs.declared.statement.Stmt.TheFolds.{fold-roll-Stmt}
+use Rattle.wap_grammar.specs.declared.program.program.Id.{Id}
+use Rattle.wap_grammar.specs.declared.program.expression.Literal.{Literal}
+use Rattle.wap_grammar.specs.declared.program.expression.Literal.TheVariants as literal
+use Rattle.wap_grammar.specs.declared.program.expression.Expr.{Expr, roll-Expr}
+use Rattle.wap_grammar.specs.declared.program.expression.Expr.TheOpen.{Expr-F}
+use Rattle.wap_grammar.specs.declared.program.expression.Expr.TheFolds.{fold-roll-Expr}
+use Rattle.wap_grammar.specs.declared.program.statement.Stmt.{Stmt, roll-Stmt}
+use Rattle.wap_grammar.specs.declared.program.statement.Stmt.TheOpen.{Stmt-F}
+use Rattle.wap_grammar.specs.declared.program.statement.Stmt.TheFolds.{fold-roll-Stmt}
 use Rattle.wap_execution.specs.declared.fatal.Fatal.TheVariants.{Budget, TooLong}
 use Rattle.wap_execution.specs.Effects.{local, jumps_at}
 use Rattle.wap_execution.specs.Effects.{library, external}
 use Rattle.wap_execution.specs.Outcomes.{value, fatal}
 use Rattle.wap_execution.specs.Running.{ended}
-use Rattle.wap_program.specs.declared.program.Span.{Span}
+use Rattle.wap_grammar.specs.declared.program.program.Span.{Span}
 use Rattle.wap_meaning.specs.Functions.{result_of, run_body}
 use Rattle.wap_meaning.specs.Parts.{Does, gave, over, ◌>>=◌, give, kept, load, store, calling}
 use Rattle.wap_meaning.specs.Parts.{done}

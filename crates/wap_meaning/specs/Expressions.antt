@@ -11,11 +11,11 @@ use Rattle.wap_value.specs.declared.operator.BinOp.TheVariants as bin
 use Rattle.wap_value.specs.Conversion.{boolean_of}
 use Rattle.wap_value.specs.Unary.{unary_of}
 use Rattle.wap_value.specs.Binary.{binary_of}
-use Rattle.wap_program.specs.declared.expression.Literal.{Literal}
-use Rattle.wap_program.specs.declared.expression.Literal.TheVariants as literal
-use Rattle.wap_program.specs.declared.expression.Expr.{Expr}
-use Rattle.wap_program.specs.declared.expression.Expr.TheOpen.{Expr-F}
-use Rattle.wap_program.specs.declared.expression.Expr.TheFolds.{fold-Expr}
+use Rattle.wap_grammar.specs.declared.program.expression.Literal.{Literal}
+use Rattle.wap_grammar.specs.declared.program.expression.Literal.TheVariants as literal
+use Rattle.wap_grammar.specs.declared.program.expression.Expr.{Expr}
+use Rattle.wap_grammar.specs.declared.program.expression.Expr.TheOpen.{Expr-F}
+use Rattle.wap_grammar.specs.declared.program.expression.Expr.TheFolds.{fold-Expr}
 use Rattle.wap_execution.specs.Effects.{jumps_at}
 use Rattle.wap_execution.specs.Running.{Calls}
 use Rattle.wap_meaning.specs.Names.{Names, variable_at, callee_local, callee_external}

@@ -7,9 +7,9 @@ use Rattle.wap_base.specs.declared.limits.TheConstants.{MOST_DEPTH}
 use Rattle.wap_value.specs.declared.value.Value.{Value}
 use Rattle.wap_value.specs.declared.value.Value.TheVariants.{Str}
 use Rattle.wap_code.specs.declared.unit.Code.{Code}
-use Rattle.wap_program.specs.declared.statement.Stmt.{Stmt}
-use Rattle.wap_program.specs.declared.program.Function.{Function as SourceFunction}
-use Rattle.wap_program.specs.declared.program.Program.{Program}
+use Rattle.wap_grammar.specs.declared.program.statement.Stmt.{Stmt}
+use Rattle.wap_grammar.specs.declared.program.program.Function.{Function as SourceFunction}
+use Rattle.wap_grammar.specs.declared.program.program.Program.{Program}
 use Rattle.wap_execution.specs.Frames.{Function, code_at, begun}
 use Rattle.wap_execution.specs.Outcomes.{value, stuck, Ended, Hosting}
 use Rattle.wap_execution.specs.Running.{ended, Calls, Ways, called, goes, enter}

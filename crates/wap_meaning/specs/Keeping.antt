@@ -2,9 +2,9 @@
 -- project's own.
 use Rattle.std.specs.Prelude.{◌≡◌, ℕ, ◌≤◌, List, length}
 use Rattle.wap_value.specs.declared.value.Value.{Value}
-use Rattle.wap_program.specs.declared.expression.Expr.{Expr}
-use Rattle.wap_program.specs.declared.statement.Stmt.{Stmt}
-use Rattle.wap_program.specs.declared.program.Program.{Program}
+use Rattle.wap_grammar.specs.declared.program.expression.Expr.{Expr}
+use Rattle.wap_grammar.specs.declared.program.statement.Stmt.{Stmt}
+use Rattle.wap_grammar.specs.declared.program.program.Program.{Program}
 use Rattle.wap_execution.specs.Effects.{Called}
 use Rattle.wap_execution.specs.Running.{Calls}
 use Rattle.wap_meaning.specs.Parts.{Came, gave, over, Does}

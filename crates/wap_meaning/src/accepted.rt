@@ -1,7 +1,7 @@
 //! The program of a source that is accepted, by calculation. It says nothing new of sources: it lets
 //! definitions speak of the pages of a store as a function of their bytes.
 ghost use Rattle.std.specs.Prelude.{◌≡◌, ◌↔◌, ℕ, List, Some, None};
-ghost use Rattle.wap_program.specs.declared.program.Program.{Program};
+ghost use Rattle.wap_grammar.specs.declared.program.program.Program.{Program};
 ghost use Rattle.wap_meaning.specs.compiled.Accepted.{IsAccepted};
 ghost use Rattle.wap_meaning.specs.accepted.Reading.{accepted_in};
 

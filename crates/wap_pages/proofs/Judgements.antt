@@ -39,7 +39,7 @@ use Rattle.wap_verify.specs.Faults.{IsFault}
 use Rattle.wap_verify.specs.runnable.Runnable.{may_run, AreAlike}
 use Rattle.wap_verify.proofs.RunnableLemmas.Deciding.{passes, fails}
 use Rattle.wap_verify.proofs.RunnableLemmas.Alike.{alike}
-use Rattle.wap_program.specs.declared.program.Program.{Program}
+use Rattle.wap_grammar.specs.declared.program.program.Program.{Program}
 use Rattle.wap_meaning.specs.compiled.Units.{compiled}
 use Rattle.wap_meaning.specs.accepted.Reading.{accepted_in}
 use Rattle.wap_meaning.proofs.AcceptedLemmas.Accepting as accepting

@@ -20,7 +20,7 @@ use Rattle.wap_unit.specs.declared.fault.UnitFault.TheVariants as unit
 use Rattle.wap_verify.specs.Faults.{IsFault}
 use Rattle.wap_verify.specs.declared.fault.VerifyFault.{VerifyFault}
 use Rattle.wap_verify.specs.declared.fault.VerifyFault.TheVariants as verify
-use Rattle.wap_program.specs.declared.program.Program.{Program}
+use Rattle.wap_grammar.specs.declared.program.program.Program.{Program}
 use Rattle.wap_meaning.specs.compiled.Units.{compiled}
 use Rattle.wap_codegen.specs.Faults.{IsCompileFault}
 use Rattle.wap_codegen.specs.declared.fault.CompileFault.{CompileFault}

@@ -22,7 +22,7 @@ use Rattle.wap_unit.specs.declared.fault.UnitFault.{UnitFault}
 use Rattle.wap_unit.specs.inside.Reading.{unit_at}
 use Rattle.wap_verify.specs.Sound.{IsVerified}
 use Rattle.wap_verify.specs.runnable.Runnable.{may_run, is_of_depths}
-use Rattle.wap_program.specs.declared.program.Program.{Program}
+use Rattle.wap_grammar.specs.declared.program.program.Program.{Program}
 use Rattle.wap_meaning.specs.compiled.Units.{compiled}
 use Rattle.wap_meaning.specs.compiled.Accepted.{IsAccepted}
 use Rattle.wap_meaning.specs.accepted.Reading.{accepted_in}

@@ -13,7 +13,7 @@ use Rattle.wap_lex.specs.declared.fault.LexFault.{LexFault}
 use Rattle.wap_lex.specs.declared.fault.LexFault.TheVariants as lex
 use Rattle.wap_grammar.specs.declared.fault.ParseFault.{ParseFault}
 use Rattle.wap_grammar.specs.declared.fault.ParseFault.TheVariants as parse
-use Rattle.wap_program.specs.declared.program.Span.{Span}
+use Rattle.wap_grammar.specs.declared.program.program.Span.{Span}
 use Rattle.wap_scope.specs.declared.fault.ScopeFault.{ScopeFault}
 use Rattle.wap_scope.specs.declared.fault.ScopeFault.TheVariants as scope
 use Rattle.wap_codegen.specs.declared.fault.CompileFault.{CompileFault}

@@ -8,8 +8,8 @@ use wap_codegen::CompileFault;
 use wap_devices::{Failed, Sink};
 use wap_faults::{print_fault, print_name, print_one};
 use wap_grammar::ParseFault;
+use wap_grammar::program::Span;
 use wap_lex::LexFault;
-use wap_program::Span;
 use wap_scope::ScopeFault;
 
 pub(crate) fn print_compile_fault<O: Sink>(out: &mut O, fault: CompileFault) -> Result<(), Failed>

@@ -2,7 +2,7 @@
 //! their ends (WAP-193, section 6.5).
 ghost use Rattle.std.specs.Prelude.{◌≡◌};
 ghost use Rattle.wap_base.specs.Outcome.{Meets};
-ghost use Rattle.wap_program.specs.declared.statement.Stmt.TheVariants as stmt;
+ghost use Rattle.wap_grammar.specs.declared.program.statement.Stmt.TheVariants as stmt;
 ghost use Rattle.wap_grammar.specs.declared.fault.ParseFault.TheVariants as faults;
 ghost use Rattle.wap_grammar.specs.declared.word.Sign.TheVariants as signs;
 ghost use Rattle.wap_grammar.specs.Statements.{done_first};
@@ -16,8 +16,8 @@ use crate::expressions::{
     after, close, expect, is_sign, join, read_expression, read_variables, span_of,
 };
 use std::alloc::Global;
+use wap_grammar::program::{Boxed, Expr, Stmt};
 use wap_grammar::{COMMA, Lexeme, ParseFault, Sign};
-use wap_program::{Boxed, Expr, Stmt};
 
 /// An expression, and a sign after it.
 #[tactic(auto, unfolding(wap_grammar::specs::inside::Statements::closed_at))]

@@ -12,8 +12,8 @@ use crate::expressions::{after, close, expect, is_comma, is_sign, list_of_one, r
 use crate::statements::read_block;
 use std::alloc::Global;
 use wap_base::Rows;
+use wap_grammar::program::{Function, Id, Stmt};
 use wap_grammar::{Lexeme, ParseFault, Sign};
-use wap_program::{Function, Id, Stmt};
 
 /// The functions up to the end.
 pub(crate) fn read_functions<'a>(

@@ -17,4 +17,4 @@ mod statements;
 
 pub use programs::parse;
 pub use wap_grammar::ParseFault;
-pub use wap_program::{Boxed, Expr, Function, Id, Literal, Program, Span, Stmt, Use};
+pub use wap_grammar::program::{Boxed, Expr, Function, Id, Literal, Program, Span, Stmt, Use};

@@ -1,11 +1,11 @@
 //! Statements made of their parts.
 ghost use Rattle.std.specs.Prelude.{◌≡◌, IfOk};
-ghost use Rattle.wap_program.specs.declared.statement.Stmt.TheVariants as stmt;
+ghost use Rattle.wap_grammar.specs.declared.program.statement.Stmt.TheVariants as stmt;
 
 use crate::clauses::Header;
 use std::alloc::Global;
 use wap_base::NoMemory;
-use wap_program::{Boxed, Expr, Stmt};
+use wap_grammar::program::{Boxed, Expr, Stmt};
 
 /// `if`, from its condition and what is done where it holds, and what is done else.
 pub(crate) fn if_of(

@@ -1,7 +1,7 @@
 //! Programs (WAP-193, sections 6.4 and 6.7).
 ghost use Rattle.std.specs.Prelude.{◌≡◌, ℕ, Ok, IfOk, IfErr};
 ghost use Rattle.wap_base.specs.Outcome.{Meets};
-ghost use Rattle.wap_program.specs.declared.program.Program.{Program};
+ghost use Rattle.wap_grammar.specs.declared.program.program.Program.{Program};
 ghost use Rattle.wap_lex.specs.Tokens.{AreTokens};
 ghost use Rattle.wap_grammar.specs.declared.fault.ParseFault.TheVariants as faults;
 ghost use Rattle.wap_grammar.specs.Words.{lexemes_of};
@@ -15,9 +15,9 @@ use crate::expressions::{lexemes_of, read_uses, syntax_fault};
 use crate::functions::read_functions;
 use std::alloc::Global;
 use wap_base::Rows;
+use wap_grammar::program::{Function, Program, Use};
 use wap_grammar::{LEVEL_LIMIT, Lexeme, ParseFault};
 use wap_lex::Token;
-use wap_program::{Function, Program, Use};
 
 /// The program that the tokens of a source spell. Each of its strings stands for a text
 /// (`wap_grammar::strings_are_texts`), so `NoMemory` is answered only where memory runs out.

@@ -1,6 +1,6 @@
 //! Statements (WAP-193, section 6.5).
 ghost use Rattle.wap_base.specs.Outcome.{Meets};
-ghost use Rattle.wap_program.specs.declared.statement.Stmt.TheVariants as stmt;
+ghost use Rattle.wap_grammar.specs.declared.program.statement.Stmt.TheVariants as stmt;
 ghost use Rattle.wap_grammar.specs.declared.fault.ParseFault.TheVariants as faults;
 ghost use Rattle.wap_grammar.specs.inside.Steps.{told, items_at};
 ghost use Rattle.wap_grammar.specs.inside.Expressions.{expression_at};
@@ -16,8 +16,8 @@ use crate::making::{for_of, if_of, while_of};
 use crate::starts::start_of;
 use std::alloc::Global;
 use wap_base::Rows;
+use wap_grammar::program::{Boxed, Expr, Stmt};
 use wap_grammar::{Lexeme, ParseFault, Sign, Start};
-use wap_program::{Boxed, Expr, Stmt};
 
 /// A statement with so many levels left for it and its parts.
 #[cycle(statements)]

@@ -4,12 +4,12 @@ use Rattle.std.proofs.Common.{length, Option, Some, None, refl, sym, subst, â—Œâ
 use Rattle.std.specs.Option.{is_some}
 use Rattle.std.proofs.lemmas.Bool.Decides.{nat_tests}
 use Rattle.wap_code.specs.Libraries.{lib_named}
-use Rattle.wap_program.specs.declared.program.Span.{Span}
-use Rattle.wap_program.specs.declared.program.Id.{Id}
-use Rattle.wap_program.specs.declared.program.Use.{Use}
-use Rattle.wap_program.specs.declared.program.Use.TheVariants.{Url, Access}
-use Rattle.wap_program.specs.declared.program.Function.{Function}
-use Rattle.wap_program.specs.declared.program.Program.{Program}
+use Rattle.wap_grammar.specs.declared.program.program.Span.{Span}
+use Rattle.wap_grammar.specs.declared.program.program.Id.{Id}
+use Rattle.wap_grammar.specs.declared.program.program.Use.{Use}
+use Rattle.wap_grammar.specs.declared.program.program.Use.TheVariants.{Url, Access}
+use Rattle.wap_grammar.specs.declared.program.program.Function.{Function}
+use Rattle.wap_grammar.specs.declared.program.program.Program.{Program}
 use Rattle.wap_scope.specs.declared.limits.TheConstants.{VARIABLE_LIMIT, FUNCTION_LIMIT}
 use Rattle.wap_scope.specs.declared.limits.TheConstants.{ARGUMENT_LIMIT}
 use Rattle.wap_scope.specs.declared.fault.ScopeFault.{ScopeFault}

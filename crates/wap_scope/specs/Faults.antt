@@ -4,10 +4,10 @@ use Rattle.std.specs.Prelude.{ℕ, Bool, true, false, not, nat_le, List, []}
 use Rattle.std.specs.Prelude.{◌∷◌, ◌++◌, length, Option, Some, None}
 use Rattle.std.specs.Option.{is_some, is_none}
 use Rattle.wap_code.specs.Libraries.{lib_named}
-use Rattle.wap_program.specs.declared.program.Use.{Use}
-use Rattle.wap_program.specs.declared.program.Use.TheVariants.{Url, Access, Agent, Note}
-use Rattle.wap_program.specs.declared.program.Function.{Function}
-use Rattle.wap_program.specs.declared.program.Program.{Program}
+use Rattle.wap_grammar.specs.declared.program.program.Use.{Use}
+use Rattle.wap_grammar.specs.declared.program.program.Use.TheVariants.{Url, Access, Agent, Note}
+use Rattle.wap_grammar.specs.declared.program.program.Function.{Function}
+use Rattle.wap_grammar.specs.declared.program.program.Program.{Program}
 use Rattle.wap_scope.specs.declared.limits.TheConstants.{VARIABLE_LIMIT, FUNCTION_LIMIT}
 use Rattle.wap_scope.specs.declared.limits.TheConstants.{ARGUMENT_LIMIT}
 use Rattle.wap_scope.specs.declared.fault.ScopeFault.{ScopeFault}

@@ -2,8 +2,8 @@
 //! them. The functions here do nothing, and carry the laws alone.
 ghost use Rattle.std.specs.Prelude.{◌≡◌, ◌++◌, false, map};
 ghost use Rattle.std.specs.List.{flat_map};
-ghost use Rattle.wap_program.specs.declared.program.Function.{Function};
-ghost use Rattle.wap_program.specs.declared.program.Program.{Program};
+ghost use Rattle.wap_grammar.specs.declared.program.program.Function.{Function};
+ghost use Rattle.wap_grammar.specs.declared.program.program.Program.{Program};
 ghost use Rattle.wap_scope.specs.Names.{mentions, names_declared};
 ghost use Rattle.wap_scope.specs.Scoped.{IsScoped};
 ghost use Rattle.wap_scope.specs.accepted.Known.{variables, AllCanBeCoded};

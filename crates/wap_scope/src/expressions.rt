@@ -11,7 +11,7 @@ use crate::globals::Globals;
 use crate::limits::ARGUMENT_LIMIT;
 use crate::names::Names;
 use wap_asm::lib_named;
-use wap_program::{Expr, Id};
+use wap_grammar::program::{Expr, Id};
 use wap_value::BinOp;
 
 /// Judges the use of a variable, where these are known.

@@ -1,6 +1,6 @@
 //! Why the names of a program aren't in order.
 use wap_base::NoMemory;
-use wap_program::Span;
+use wap_grammar::program::Span;
 
 /// A fault of a program's names, with the place of the name at which it is seen.
 #[derive(Clone, Copy, Debug, PartialEq, Eq)]

@@ -14,7 +14,7 @@ use crate::limits::FUNCTION_LIMIT;
 use crate::names::Names;
 use crate::statements::{declare, judge_statements};
 use std::alloc::Global;
-use wap_program::{Function, Id, Program, Use};
+use wap_grammar::program::{Function, Id, Program, Use};
 
 /// Judges a pragma after others, of which the units are known and whether they say who may call the
 /// unit.

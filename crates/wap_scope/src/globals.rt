@@ -9,7 +9,7 @@ use indexmap::IndexMap;
 use std::alloc::Global;
 use std::marker::Model;
 use wap_base::{NoMemory, Text};
-use wap_program::Function;
+use wap_grammar::program::Function;
 
 /// What every function of a program may name.
 #[derive(Drop)]

@@ -7,7 +7,7 @@ use crate::ScopeFault;
 use crate::functions::judge;
 use std::alloc::Global;
 use std::marker::Model;
-use wap_program::Program;
+use wap_grammar::program::Program;
 
 /// A program whose names are in order. A contract sees the program.
 #[derive(Drop)]
@@ -16,8 +16,8 @@ pub struct Scoped {
 }
 
 impl Model for Scoped {
-    ghost use Rattle.wap_program.specs.declared.program.Program.{Program};
-    ghost use Rattle.wap_program.specs.contracts.statement.Stmt as statement;
+    ghost use Rattle.wap_grammar.specs.declared.program.program.Program.{Program};
+    ghost use Rattle.wap_grammar.specs.contracts.program.statement.Stmt as statement;
     ghost use Rattle.std.specs.Coded.{codes};
 
     ghost Value = { Program };

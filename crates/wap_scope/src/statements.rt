@@ -12,7 +12,7 @@ use crate::globals::Globals;
 use crate::limits::VARIABLE_LIMIT;
 use crate::names::Names;
 use std::alloc::Global;
-use wap_program::{Expr, Id, Span, Stmt};
+use wap_grammar::program::{Expr, Id, Span, Stmt};
 
 /// Judges the declaration of a variable, and makes it known.
 pub(crate) fn declare(

@@ -1,7 +1,7 @@
 //! Sites whose scripts are sources of programs, beside the sites of the units that these are
 //! compiled to. These functions do nothing when they are called.
 ghost use Rattle.std.specs.Prelude.{◌≡◌, ℕ, Bool, false, List, Option};
-ghost use Rattle.wap_program.specs.declared.program.Program.{Program as TheProgram};
+ghost use Rattle.wap_grammar.specs.declared.program.program.Program.{Program as TheProgram};
 ghost use Rattle.wap_input.specs.declared.key.Key.{Key};
 ghost use Rattle.wap_world.specs.Sites.{Call};
 ghost use Rattle.wap_world.specs.World.{World};

@@ -3,12 +3,12 @@ use Rattle.std.proofs.Common.{◌≡◌, List, Option, Some, None, Bool, refl, s
 use Rattle.wap_value.specs.declared.operator.BinOp.{BinOp}
 use Rattle.wap_value.specs.declared.operator.BinOp.TheVariants as bin
 use Rattle.wap_value.specs.declared.operator.UnOp.{UnOp}
-use Rattle.wap_program.specs.declared.program.Id.{Id}
-use Rattle.wap_program.specs.declared.expression.Literal.{Literal}
-use Rattle.wap_program.specs.declared.expression.Expr.{Expr, out-Expr, out-roll-Expr}
-use Rattle.wap_program.specs.declared.expression.Expr.TheOpen.{Expr-F}
-use Rattle.wap_program.specs.declared.expression.Expr.TheVariants as expr
-use Rattle.wap_program.specs.declared.expression.Expr.TheVariants.{
+use Rattle.wap_grammar.specs.declared.program.program.Id.{Id}
+use Rattle.wap_grammar.specs.declared.program.expression.Literal.{Literal}
+use Rattle.wap_grammar.specs.declared.program.expression.Expr.{Expr, out-Expr, out-roll-Expr}
+use Rattle.wap_grammar.specs.declared.program.expression.Expr.TheOpen.{Expr-F}
+use Rattle.wap_grammar.specs.declared.program.expression.Expr.TheVariants as expr
+use Rattle.wap_grammar.specs.declared.program.expression.Expr.TheVariants.{
   rolls-Lit,
   rolls-Var,
   rolls-Assign,
@@ -20,7 +20,7 @@ use Rattle.wap_program.specs.declared.expression.Expr.TheVariants.{
   rolls-External,
   rolls-Library,
 }
-use Rattle.wap_program.specs.declared.statement.Stmt.TheVariants as stmt
+use Rattle.wap_grammar.specs.declared.program.statement.Stmt.TheVariants as stmt
 use Rattle.wap_meaning.specs.coding.Coded.{Coded, with_operand}
 use Rattle.wap_meaning.specs.coding.Constants.{Numbers}
 use Rattle.wap_meaning.specs.coding.Expressions.{change_name, expr_code}

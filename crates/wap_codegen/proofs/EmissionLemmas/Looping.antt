@@ -8,7 +8,7 @@ use Rattle.std.proofs.lemmas.List.{get_or_default}
 use Rattle.wap_code.specs.declared.row.OpName.TheVariants as op
 use Rattle.wap_asm.specs.declared.form.Form.{Form}
 use Rattle.wap_asm.specs.declared.form.Form.TheVariants.{Jump, Label}
-use Rattle.wap_program.specs.declared.expression.Expr.{Expr}
+use Rattle.wap_grammar.specs.declared.program.expression.Expr.{Expr}
 use Rattle.wap_meaning.specs.coding.Coded.{Exits, Coded, ◌⨾◌, one, label, jump_over, jump_before}
 use Rattle.wap_meaning.specs.coding.Coded.{within}
 use Rattle.wap_meaning.specs.coding.Constants.{Numbers}

@@ -1,14 +1,14 @@
 -- The code of statements, by their parts.
 use Rattle.std.proofs.Common.{◌≡◌, List, map, Option, Some, None, sym, ap, ◌∙◌}
 use Rattle.wap_code.specs.declared.row.OpName.TheVariants as op
-use Rattle.wap_program.specs.declared.program.Span.{Span}
-use Rattle.wap_program.specs.declared.program.Id.{Id}
-use Rattle.wap_program.specs.declared.expression.Expr.{Expr, out-Expr}
-use Rattle.wap_program.specs.declared.statement.Stmt.{Stmt}
-use Rattle.wap_program.specs.declared.statement.Stmt.TheOpen.{Stmt-F}
-use Rattle.wap_program.specs.declared.statement.Stmt.TheFolds.{fold-roll-Stmt}
-use Rattle.wap_program.specs.declared.statement.Stmt.TheVariants as stmt
-use Rattle.wap_program.specs.declared.statement.Stmt.TheVariants.{
+use Rattle.wap_grammar.specs.declared.program.program.Span.{Span}
+use Rattle.wap_grammar.specs.declared.program.program.Id.{Id}
+use Rattle.wap_grammar.specs.declared.program.expression.Expr.{Expr, out-Expr}
+use Rattle.wap_grammar.specs.declared.program.statement.Stmt.{Stmt}
+use Rattle.wap_grammar.specs.declared.program.statement.Stmt.TheOpen.{Stmt-F}
+use Rattle.wap_grammar.specs.declared.program.statement.Stmt.TheFolds.{fold-roll-Stmt}
+use Rattle.wap_grammar.specs.declared.program.statement.Stmt.TheVariants as stmt
+use Rattle.wap_grammar.specs.declared.program.statement.Stmt.TheVariants.{
   rolls-Empty,
   rolls-Expr,
   rolls-Block,

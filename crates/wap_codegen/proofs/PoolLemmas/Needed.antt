@@ -3,12 +3,12 @@ use Rattle.std.proofs.Common.{◌≡◌, List, [], ◌∷◌, ◌++◌, Option, 
 use Rattle.std.specs.List.{flat_map, filter_map}
 use Rattle.std.proofs.Common.{ℕ}
 use Rattle.std.proofs.lemmas.Grind.{flat_map-append}
-use Rattle.wap_program.specs.declared.program.Use.{Use}
-use Rattle.wap_program.specs.declared.program.Use.TheVariants.{Url, Access, Agent, Note}
-use Rattle.wap_program.specs.declared.program.Function.{Function}
-use Rattle.wap_program.specs.declared.program.Program.{Program}
-use Rattle.wap_program.specs.declared.expression.Literal.{Literal}
-use Rattle.wap_program.specs.declared.expression.Literal.TheVariants as literal
+use Rattle.wap_grammar.specs.declared.program.program.Use.{Use}
+use Rattle.wap_grammar.specs.declared.program.program.Use.TheVariants.{Url, Access, Agent, Note}
+use Rattle.wap_grammar.specs.declared.program.program.Function.{Function}
+use Rattle.wap_grammar.specs.declared.program.program.Program.{Program}
+use Rattle.wap_grammar.specs.declared.program.expression.Literal.{Literal}
+use Rattle.wap_grammar.specs.declared.program.expression.Literal.TheVariants as literal
 use Rattle.wap_meaning.specs.Names.{Names, names_in, url_in, url_of}
 use Rattle.wap_meaning.specs.coding.Constants.{pooled}
 use Rattle.wap_meaning.specs.coding.Needs.{Need, Constant, Operator, Variable, Local, Other}

@@ -5,11 +5,11 @@ use Rattle.std.specs.List.{filter_map}
 use Rattle.std.proofs.lemmas.List.{map-append}
 use Rattle.indexmap.specs.IndexMap.{insert_entry}
 use Rattle.wap_base.specs.Texts.{is_same_text}
-use Rattle.wap_program.specs.declared.program.Id.{Id}
-use Rattle.wap_program.specs.declared.program.Use.{Use}
-use Rattle.wap_program.specs.declared.program.Use.TheVariants.{Url, Access, Agent, Note}
-use Rattle.wap_program.specs.declared.program.Function.{Function}
-use Rattle.wap_program.specs.declared.program.Program.{Program}
+use Rattle.wap_grammar.specs.declared.program.program.Id.{Id}
+use Rattle.wap_grammar.specs.declared.program.program.Use.{Use}
+use Rattle.wap_grammar.specs.declared.program.program.Use.TheVariants.{Url, Access, Agent, Note}
+use Rattle.wap_grammar.specs.declared.program.program.Function.{Function}
+use Rattle.wap_grammar.specs.declared.program.program.Program.{Program}
 use Rattle.wap_scope.specs.Names.{Mention, Declares, Refers, Jumps, declared, names_declared, said}
 use Rattle.wap_scope.specs.Names.{function_named, units}
 use Rattle.wap_scope.specs.Scoped.{is_among, IsScoped}

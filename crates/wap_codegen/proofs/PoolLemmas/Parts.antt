@@ -4,14 +4,14 @@ use Rattle.std.proofs.Common.{Option, Some, None, refl, sym, ap, ◌∙◌}
 use Rattle.std.specs.List.{flat_map}
 use Rattle.wap_value.specs.declared.operator.BinOp.{BinOp}
 use Rattle.wap_value.specs.declared.operator.UnOp.{UnOp}
-use Rattle.wap_program.specs.declared.program.Span.{Span}
-use Rattle.wap_program.specs.declared.program.Id.{Id}
-use Rattle.wap_program.specs.declared.expression.Literal.{Literal}
-use Rattle.wap_program.specs.declared.expression.Expr.{Expr}
-use Rattle.wap_program.specs.declared.expression.Expr.TheOpen.{Expr-F}
-use Rattle.wap_program.specs.declared.expression.Expr.TheFolds.{fold-roll-Expr}
-use Rattle.wap_program.specs.declared.expression.Expr.TheVariants as expr
-use Rattle.wap_program.specs.declared.expression.Expr.TheVariants.{
+use Rattle.wap_grammar.specs.declared.program.program.Span.{Span}
+use Rattle.wap_grammar.specs.declared.program.program.Id.{Id}
+use Rattle.wap_grammar.specs.declared.program.expression.Literal.{Literal}
+use Rattle.wap_grammar.specs.declared.program.expression.Expr.{Expr}
+use Rattle.wap_grammar.specs.declared.program.expression.Expr.TheOpen.{Expr-F}
+use Rattle.wap_grammar.specs.declared.program.expression.Expr.TheFolds.{fold-roll-Expr}
+use Rattle.wap_grammar.specs.declared.program.expression.Expr.TheVariants as expr
+use Rattle.wap_grammar.specs.declared.program.expression.Expr.TheVariants.{
   rolls-Lit,
   rolls-Var,
   rolls-Assign,
@@ -23,11 +23,11 @@ use Rattle.wap_program.specs.declared.expression.Expr.TheVariants.{
   rolls-External,
   rolls-Library,
 }
-use Rattle.wap_program.specs.declared.statement.Stmt.{Stmt}
-use Rattle.wap_program.specs.declared.statement.Stmt.TheOpen.{Stmt-F}
-use Rattle.wap_program.specs.declared.statement.Stmt.TheFolds.{fold-roll-Stmt}
-use Rattle.wap_program.specs.declared.statement.Stmt.TheVariants as stmt
-use Rattle.wap_program.specs.declared.statement.Stmt.TheVariants.{
+use Rattle.wap_grammar.specs.declared.program.statement.Stmt.{Stmt}
+use Rattle.wap_grammar.specs.declared.program.statement.Stmt.TheOpen.{Stmt-F}
+use Rattle.wap_grammar.specs.declared.program.statement.Stmt.TheFolds.{fold-roll-Stmt}
+use Rattle.wap_grammar.specs.declared.program.statement.Stmt.TheVariants as stmt
+use Rattle.wap_grammar.specs.declared.program.statement.Stmt.TheVariants.{
   rolls-Empty,
   rolls-Expr,
   rolls-Block,

@@ -1,7 +1,7 @@
 -- The names of programs as they are collected, each where it stands first. This project's own.
 use Rattle.std.specs.Prelude.{◌≡◌, ℕ, if◌then◌else◌, List, [], ◌∷◌, ◌++◌}
 use Rattle.std.specs.List.{filter_map}
-use Rattle.wap_program.specs.declared.program.Program.{Program}
+use Rattle.wap_grammar.specs.declared.program.program.Program.{Program}
 use Rattle.wap_scope.specs.Scoped.{is_among}
 use Rattle.wap_scope.specs.Meanings.{function_names}
 use Rattle.wap_meaning.specs.Names.{Names, url_in}

@@ -1,6 +1,6 @@
 //! The code of expressions.
 ghost use Rattle.std.specs.Prelude.{◌≡◌, map, IfOk, OnOk};
-ghost use Rattle.wap_program.specs.declared.expression.Literal.TheVariants as literal;
+ghost use Rattle.wap_grammar.specs.declared.program.expression.Literal.TheVariants as literal;
 ghost use Rattle.wap_meaning.specs.coding.Coded.{all_code, one, instr, ◌⨾◌};
 ghost use Rattle.wap_asm.specs.declared.form.Form.TheVariants.{Op};
 ghost use Rattle.wap_meaning.specs.Names.{numbers_of};
@@ -19,7 +19,7 @@ use std::alloc::Global;
 use wap_asm::{Form, lib_named};
 use wap_base::{NoMemory, Text};
 use wap_code::OpName;
-use wap_program::{Expr, Id, Literal};
+use wap_grammar::program::{Expr, Id, Literal};
 use wap_value::{BinOp, UnOp};
 
 /// Adds the code of a text.

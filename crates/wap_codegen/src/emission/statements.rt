@@ -8,7 +8,7 @@ ghost use Rattle.wap_meaning.specs.coding.Statements.{loop_code};
 ghost use Rattle.wap_meaning.specs.coding.Statements.{update_code};
 ghost use Rattle.wap_meaning.specs.coding.Compiled.{function_code};
 ghost use Rattle.wap_codegen.specs.emission.inside.Adding.{Adds, Extends};
-ghost use Rattle.wap_program.specs.declared.statement.Stmt.TheVariants as stmt;
+ghost use Rattle.wap_grammar.specs.declared.program.statement.Stmt.TheVariants as stmt;
 ghost use Rattle.wap_meaning.specs.coding.Expressions.{expr_code, store_code};
 ghost use Rattle.wap_codegen.specs.emission.inside.Exits.{exits_in};
 ghost use Rattle.wap_codegen.specs.emission.inside.Loops.{Tests, closed, change_of, named_code};
@@ -25,7 +25,7 @@ use std::alloc::Global;
 use wap_asm::Form;
 use wap_base::NoMemory;
 use wap_code::OpName;
-use wap_program::{Expr, Function, Id, Stmt};
+use wap_grammar::program::{Expr, Function, Id, Stmt};
 use wap_value::BinOp;
 
 /// Adds the code of the declaration of a variable.

@@ -4,7 +4,7 @@ ghost use Rattle.std.specs.List.{list_any};
 ghost use Rattle.wap_meaning.specs.coding.Statements.{writes};
 
 use crate::pool::Numbering;
-use wap_program::Expr;
+use wap_grammar::program::Expr;
 use wap_value::BinOp;
 
 /// Whether an expression writes the variable of a number.

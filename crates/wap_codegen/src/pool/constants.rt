@@ -1,6 +1,6 @@
 //! Constants as units spell them.
 ghost use Rattle.std.specs.Prelude.{◌≡◌, IfOk, map};
-ghost use Rattle.wap_program.specs.declared.expression.Literal.TheVariants as literal;
+ghost use Rattle.wap_grammar.specs.declared.program.expression.Literal.TheVariants as literal;
 ghost use Rattle.wap_meaning.specs.coding.Constants.{integer_constant, constant_for};
 ghost use Rattle.wap_codegen.specs.pool.inside.Contents.{literal_of};
 

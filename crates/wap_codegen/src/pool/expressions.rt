@@ -1,14 +1,14 @@
 //! The constants that expressions need.
 ghost use Rattle.std.specs.Prelude.{[], ◌∷◌, OnOk};
 ghost use Rattle.std.specs.List.{flat_map};
-ghost use Rattle.wap_program.specs.declared.expression.Literal.TheVariants as literal;
+ghost use Rattle.wap_grammar.specs.declared.program.expression.Literal.TheVariants as literal;
 ghost use Rattle.wap_meaning.specs.coding.Needs.{expr_needs, literal_needs, Other};
 ghost use Rattle.wap_codegen.specs.pool.inside.Pools.{Pools};
 
 use crate::pool::numbering::Numbering;
 use std::alloc::Global;
 use wap_base::{NoMemory, Text};
-use wap_program::{Expr, Id, Literal};
+use wap_grammar::program::{Expr, Id, Literal};
 use wap_value::BinOp;
 
 /// Adds a text that stands in the source, unless it is empty.

@@ -1,6 +1,6 @@
 //! What the names in a function mean, and the constants of its unit, by their numbers.
 ghost use Rattle.std.specs.Prelude.{◌≡◌, IfOk, OnOk, OnErr, [], length, map};
-ghost use Rattle.wap_program.specs.declared.expression.Literal.TheVariants as literal;
+ghost use Rattle.wap_grammar.specs.declared.program.expression.Literal.TheVariants as literal;
 ghost use Rattle.wap_scope.specs.Scoped.{IsScoped};
 ghost use Rattle.wap_scope.specs.accepted.Known.{variables};
 ghost use Rattle.wap_meaning.specs.Names.{variable_at, function_at, url_of};
@@ -22,7 +22,7 @@ use std::alloc::Global;
 use std::marker::Model;
 use wap_base::{NoMemory, Rows, Text};
 use wap_code::Constant;
-use wap_program::{Function, Id, Program};
+use wap_grammar::program::{Function, Id, Program};
 
 /// What the names in a function mean, and the constants of its unit. A contract sees both.
 #[derive(Drop)]

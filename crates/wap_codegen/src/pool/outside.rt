@@ -8,7 +8,7 @@ use crate::pool::named::Named;
 use indexmap::IndexMap;
 use std::alloc::Global;
 use wap_base::{NoMemory, Text};
-use wap_program::{Function, Use};
+use wap_grammar::program::{Function, Use};
 
 /// The names of functions.
 pub(crate) fn functions_of(alloc: Global, functions: &[Function]) -> Result<Named, NoMemory>

@@ -8,7 +8,7 @@ use crate::pool::numbering::Numbering;
 use crate::pool::statements::add_statements;
 use std::alloc::Global;
 use wap_base::{NoMemory, Text};
-use wap_program::{Function, Program, Use};
+use wap_grammar::program::{Function, Program, Use};
 
 /// Adds a text of a pragma, if it has it.
 fn add_text(alloc: Global, numbering: &mut Numbering, text: &Option<Text>) -> Result<(), NoMemory>

@@ -8,7 +8,7 @@ use crate::pool::expressions::add_expression;
 use crate::pool::numbering::Numbering;
 use std::alloc::Global;
 use wap_base::NoMemory;
-use wap_program::{Expr, Id, Stmt};
+use wap_grammar::program::{Expr, Id, Stmt};
 
 /// Adds those of an expression, if there is one.
 fn add_optional(

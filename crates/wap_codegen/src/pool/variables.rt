@@ -7,7 +7,7 @@ ghost use Rattle.wap_codegen.specs.pool.inside.Declaring.{Declaring};
 use crate::pool::named::Named;
 use std::alloc::Global;
 use wap_base::NoMemory;
-use wap_program::{Expr, Function, Id, Stmt};
+use wap_grammar::program::{Expr, Function, Id, Stmt};
 
 /// Adds the names of declarations.
 fn add_declarations(

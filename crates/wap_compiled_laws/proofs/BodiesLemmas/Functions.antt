@@ -10,10 +10,10 @@ use Rattle.wap_value.specs.declared.value.Value.{Value}
 use Rattle.wap_value.specs.declared.value.Value.TheVariants.{Str}
 use Rattle.wap_code.specs.declared.unit.Code.{Code}
 use Rattle.wap_asm.specs.Placed.{IsPlaced}
-use Rattle.wap_program.specs.declared.expression.Literal.{Literal}
-use Rattle.wap_program.specs.declared.program.Function.{Function as SourceFunction}
-use Rattle.wap_program.specs.declared.program.Program.{Program}
-use Rattle.wap_program.specs.declared.statement.Stmt.{Stmt}
+use Rattle.wap_grammar.specs.declared.program.expression.Literal.{Literal}
+use Rattle.wap_grammar.specs.declared.program.program.Function.{Function as SourceFunction}
+use Rattle.wap_grammar.specs.declared.program.program.Program.{Program}
+use Rattle.wap_grammar.specs.declared.program.statement.Stmt.{Stmt}
 use Rattle.wap_execution.specs.Frames.{Function, code_of, code_at, begun}
 use Rattle.wap_execution.specs.Outcomes.{value, stuck, Ended}
 use Rattle.wap_execution.specs.Running.{ended, Calls, at_place, goes}

@@ -8,12 +8,12 @@ use Rattle.wap_value.specs.declared.value.Value.TheVariants.{Int}
 use Rattle.wap_code.specs.declared.unit.Unit.{Unit as CodeUnit}
 use Rattle.wap_code.specs.declared.unit.Constant.{Constant}
 use Rattle.wap_code.specs.Strings.{string_of, string_at}
-use Rattle.wap_program.specs.declared.expression.Literal.{Literal}
+use Rattle.wap_grammar.specs.declared.program.expression.Literal.{Literal}
 use Rattle.wap_execution.specs.Frames.{constant_of, constant_at}
 use Rattle.wap_meaning.specs.Expressions.{value_of}
 use Rattle.wap_meaning.specs.coding.Constants.{same_literal, is_in, place_in, with_literal, pooled}
 use Rattle.wap_meaning.specs.coding.Constants.{integer_constant, constant_for, HasPool}
-use Rattle.wap_program.specs.declared.expression.Literal.TheVariants as literal
+use Rattle.wap_grammar.specs.declared.program.expression.Literal.TheVariants as literal
 
 -- ---- literals of a pool
 

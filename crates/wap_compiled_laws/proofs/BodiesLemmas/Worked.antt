@@ -1,12 +1,12 @@
 -- The forms of `function f(a) { a += 2; return a; }`.
 use Rattle.std.proofs.Common.{◌≡◌, ℕ, [], ◌∷◌, Some, None, ap, ◌∙◌, pos, Bool, false, cond}
-use Rattle.wap_program.specs.declared.program.Id.{Id}
-use Rattle.wap_program.specs.declared.expression.Expr.{Expr, roll-Expr, out-roll-Expr}
-use Rattle.wap_program.specs.declared.expression.Expr.TheOpen.{Expr-F}
-use Rattle.wap_program.specs.declared.expression.Expr.TheFolds.{fold-roll-Expr}
-use Rattle.wap_program.specs.declared.statement.Stmt.{Stmt, roll-Stmt}
-use Rattle.wap_program.specs.declared.statement.Stmt.TheOpen.{Stmt-F}
-use Rattle.wap_program.specs.declared.statement.Stmt.TheFolds.{fold-roll-Stmt}
+use Rattle.wap_grammar.specs.declared.program.program.Id.{Id}
+use Rattle.wap_grammar.specs.declared.program.expression.Expr.{Expr, roll-Expr, out-roll-Expr}
+use Rattle.wap_grammar.specs.declared.program.expression.Expr.TheOpen.{Expr-F}
+use Rattle.wap_grammar.specs.declared.program.expression.Expr.TheFolds.{fold-roll-Expr}
+use Rattle.wap_grammar.specs.declared.program.statement.Stmt.{Stmt, roll-Stmt}
+use Rattle.wap_grammar.specs.declared.program.statement.Stmt.TheOpen.{Stmt-F}
+use Rattle.wap_grammar.specs.declared.program.statement.Stmt.TheFolds.{fold-roll-Stmt}
 use Rattle.wap_asm.specs.declared.form.Form.TheVariants.{Op}
 use Rattle.wap_meaning.specs.coding.Coded.{Coded, instr, ◌⨾◌, plain, with_operand}
 use Rattle.wap_meaning.specs.coding.Constants.{Numbers}
@@ -16,7 +16,7 @@ use Rattle.wap_meaning.specs.coding.Statements.{writes_by}
 use Rattle.wap_meaning.specs.coding.Statements.{dropped_code}
 use Rattle.wap_value.specs.declared.operator.BinOp.TheVariants as bin
 use Rattle.wap_code.specs.declared.row.OpName.TheVariants as op
-use Rattle.wap_program.specs.declared.expression.Literal.TheVariants as literal
+use Rattle.wap_grammar.specs.declared.program.expression.Literal.TheVariants as literal
 
 -- the variable
 a : Id

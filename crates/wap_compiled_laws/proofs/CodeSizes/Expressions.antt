@@ -22,14 +22,14 @@ use Rattle.wap_code.specs.Libraries.{lib_args, lib_named}
 use Rattle.wap_asm.specs.Spellings.{operation_of, longest}
 use Rattle.wap_asm.specs.Placing.{wide_size}
 use Rattle.wap_asm.specs.declared.form.Form.TheVariants.{Op}
-use Rattle.wap_program.specs.declared.program.Id.{Id}
-use Rattle.wap_program.specs.declared.program.Function.{Function}
-use Rattle.wap_program.specs.declared.program.Program.{Program}
-use Rattle.wap_program.specs.declared.expression.Literal.{Literal}
-use Rattle.wap_program.specs.declared.expression.Literal.TheVariants as literal
-use Rattle.wap_program.specs.declared.expression.Expr.{Expr, roll-Expr, map-Expr}
-use Rattle.wap_program.specs.declared.expression.Expr.TheOpen.{Expr-F}
-use Rattle.wap_program.specs.declared.expression.Expr.TheFolds.{fold-roll-Expr, ind-Expr}
+use Rattle.wap_grammar.specs.declared.program.program.Id.{Id}
+use Rattle.wap_grammar.specs.declared.program.program.Function.{Function}
+use Rattle.wap_grammar.specs.declared.program.program.Program.{Program}
+use Rattle.wap_grammar.specs.declared.program.expression.Literal.{Literal}
+use Rattle.wap_grammar.specs.declared.program.expression.Literal.TheVariants as literal
+use Rattle.wap_grammar.specs.declared.program.expression.Expr.{Expr, roll-Expr, map-Expr}
+use Rattle.wap_grammar.specs.declared.program.expression.Expr.TheOpen.{Expr-F}
+use Rattle.wap_grammar.specs.declared.program.expression.Expr.TheFolds.{fold-roll-Expr, ind-Expr}
 use Rattle.wap_scope.specs.Names.{Reference, references, references_by}
 use Rattle.wap_scope.specs.Scoped.{library_arity}
 use Rattle.wap_scope.specs.accepted.Known.{variables, IsKnown, IsAmong}

@@ -16,10 +16,10 @@ use Rattle.wap_value.specs.Binary.{binary_of, on_integers}
 use Rattle.wap_value.specs.Integer.{in_range}
 use Rattle.wap_value.specs.Conversion.{integer_of, integer_value}
 use Rattle.wap_value.specs.TooLong.{kept_within}
-use Rattle.wap_program.specs.declared.expression.Literal.{Literal}
-use Rattle.wap_program.specs.declared.expression.Expr.{Expr, roll-Expr, map-Expr}
-use Rattle.wap_program.specs.declared.expression.Expr.TheOpen.{Expr-F}
-use Rattle.wap_program.specs.declared.expression.Expr.TheFolds.{fold-roll-Expr, ind-Expr}
+use Rattle.wap_grammar.specs.declared.program.expression.Literal.{Literal}
+use Rattle.wap_grammar.specs.declared.program.expression.Expr.{Expr, roll-Expr, map-Expr}
+use Rattle.wap_grammar.specs.declared.program.expression.Expr.TheOpen.{Expr-F}
+use Rattle.wap_grammar.specs.declared.program.expression.Expr.TheFolds.{fold-roll-Expr, ind-Expr}
 use Rattle.wap_execution.specs.Frames.{constant_at}
 use Rattle.wap_execution.specs.Effects.{onward, effect_of}
 use Rattle.wap_meaning.specs.Parts.{Does, ◌>>=◌, give, kept, kept_by, calling}
@@ -47,7 +47,7 @@ use Rattle.wap_meaning.proofs.Steps.{give_keeps, kept_keeps}
 use Rattle.wap_value.specs.declared.operator.UnOp.TheVariants as un
 use Rattle.wap_value.specs.declared.operator.BinOp.TheVariants as bin
 use Rattle.wap_code.specs.declared.row.OpName.TheVariants as op
-use Rattle.wap_program.specs.declared.expression.Literal.TheVariants as literal
+use Rattle.wap_grammar.specs.declared.program.expression.Literal.TheVariants as literal
 
 module _ {S : Type 0} (site : Site S) (numbers : Numbers) where
   -- what parts depend on at a site

@@ -7,9 +7,9 @@ use Rattle.wap_code.specs.declared.unit.Unit.{Unit as CodeUnit}
 use Rattle.wap_code.specs.declared.unit.Code.{Code}
 use Rattle.wap_asm.specs.declared.form.Form.{Form}
 use Rattle.wap_asm.specs.declared.form.Form.TheVariants.{Op, Jump, Label}
-use Rattle.wap_program.specs.declared.expression.Literal.{Literal}
-use Rattle.wap_program.specs.declared.program.Function.{Function as SourceFunction}
-use Rattle.wap_program.specs.declared.program.Program.{Program}
+use Rattle.wap_grammar.specs.declared.program.expression.Literal.{Literal}
+use Rattle.wap_grammar.specs.declared.program.program.Function.{Function as SourceFunction}
+use Rattle.wap_grammar.specs.declared.program.program.Program.{Program}
 use Rattle.wap_meaning.specs.coding.Coded.{Coded}
 use Rattle.wap_meaning.specs.coding.Compiled.{function_code, numbers_in, IsCodeOf}
 use Rattle.wap_compiled_laws.proofs.Pieces.Pieces.{Holds, holds_all}

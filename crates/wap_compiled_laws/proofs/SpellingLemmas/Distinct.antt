@@ -5,8 +5,8 @@ use Rattle.std.specs.List.{AllByRecursion, sum_by}
 use Rattle.std.specs.Cmp.{signed_Decides}
 use Rattle.std.specs.Cmp.Lexicographic.{bytes_decides}
 use Rattle.std.proofs.lemmas.List.Sums.{sum_by-cons, sum_by-append}
-use Rattle.wap_program.specs.declared.expression.Literal.{Literal}
-use Rattle.wap_program.specs.declared.expression.Literal.TheVariants as literal
+use Rattle.wap_grammar.specs.declared.program.expression.Literal.{Literal}
+use Rattle.wap_grammar.specs.declared.program.expression.Literal.TheVariants as literal
 use Rattle.wap_meaning.specs.coding.Constants.{same_literal, is_in, with_literal, pooled}
 use Rattle.wap_compiled_laws.proofs.SourceSizes.Sizes.{text_size}
 

@@ -16,12 +16,12 @@ use Rattle.wap_code.specs.declared.unit.Pragma.{Pragma}
 use Rattle.wap_code.specs.declared.unit.Pragma.TheVariants as pragma
 use Rattle.wap_asm.specs.Placing.{wide}
 use Rattle.wap_asm.proofs.PlacedLaws.{no_longer}
-use Rattle.wap_program.specs.declared.program.Use.{Use}
-use Rattle.wap_program.specs.declared.program.Use.TheVariants.{Url, Access, Agent, Note}
-use Rattle.wap_program.specs.declared.program.Function.{Function}
-use Rattle.wap_program.specs.declared.program.Program.{Program}
-use Rattle.wap_program.specs.declared.expression.Literal.{Literal}
-use Rattle.wap_program.specs.declared.expression.Literal.TheVariants.{Str}
+use Rattle.wap_grammar.specs.declared.program.program.Use.{Use}
+use Rattle.wap_grammar.specs.declared.program.program.Use.TheVariants.{Url, Access, Agent, Note}
+use Rattle.wap_grammar.specs.declared.program.program.Function.{Function}
+use Rattle.wap_grammar.specs.declared.program.program.Program.{Program}
+use Rattle.wap_grammar.specs.declared.program.expression.Literal.{Literal}
+use Rattle.wap_grammar.specs.declared.program.expression.Literal.TheVariants.{Str}
 use Rattle.wap_scope.specs.Scoped.{IsScoped}
 use Rattle.wap_scope.proofs.AcceptedLemmas.Places.{all_by_places}
 use Rattle.wap_meaning.proofs.Variables.{variables_first}

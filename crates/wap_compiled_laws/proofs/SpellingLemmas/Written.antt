@@ -25,9 +25,10 @@ use Rattle.wap_code.specs.declared.unit.Pragma.TheVariants.{Domain, Path, Proper
 use Rattle.wap_code.specs.declared.unit.Code.{Code}
 use Rattle.wap_unit.specs.declared.kind.TheConstants.{INT8, INT16, INT32}
 use Rattle.wap_unit.specs.declared.kind.TheConstants.{DOMAIN, PATH, PROPERTY, SCHEME}
-use Rattle.wap_program.specs.declared.expression.Literal.{Literal}
-use Rattle.wap_program.specs.declared.expression.Literal.TheVariants.{Int, Float, Str, Invalid}
-use Rattle.wap_program.specs.declared.expression.Literal.TheVariants.{Bool as Truth}
+use Rattle.wap_grammar.specs.declared.program.expression.Literal.{Literal}
+use Rattle.wap_grammar.specs.declared.program.expression.Literal.TheVariants.{Int, Float, Str}
+use Rattle.wap_grammar.specs.declared.program.expression.Literal.TheVariants.{Invalid}
+use Rattle.wap_grammar.specs.declared.program.expression.Literal.TheVariants.{Bool as Truth}
 use Rattle.wap_meaning.specs.coding.Constants.{integer_constant, constant_for}
 use Rattle.wap_compiled_laws.proofs.SourceSizes.Sizes.{text_size, CanBeSaid}
 use Rattle.wap_unit.specs.Sequences.{InTurn, After, IsSized, IsRow}

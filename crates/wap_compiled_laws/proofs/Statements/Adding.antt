@@ -17,9 +17,9 @@ use Rattle.wap_value.specs.Unary.{unary_of}
 use Rattle.wap_value.specs.Binary.{binary_of}
 use Rattle.wap_value.specs.TooLong.{kept_within}
 use Rattle.wap_code.specs.declared.row.OpName.{OpName}
-use Rattle.wap_program.specs.declared.expression.Expr.{Expr, roll-Expr, map-Expr}
-use Rattle.wap_program.specs.declared.expression.Expr.TheOpen.{Expr-F}
-use Rattle.wap_program.specs.declared.expression.Expr.TheFolds.{fold-roll-Expr, ind-Expr}
+use Rattle.wap_grammar.specs.declared.program.expression.Expr.{Expr, roll-Expr, map-Expr}
+use Rattle.wap_grammar.specs.declared.program.expression.Expr.TheOpen.{Expr-F}
+use Rattle.wap_grammar.specs.declared.program.expression.Expr.TheFolds.{fold-roll-Expr, ind-Expr}
 use Rattle.wap_execution.specs.declared.action.Action.TheVariants.{AssignVariable}
 use Rattle.wap_execution.specs.Actions.{action_of}
 use Rattle.wap_execution.specs.Effects.{Called, stored, jumps_at, effect_of}

@@ -4,10 +4,11 @@ use Rattle.std.proofs.Common.{Some, None, map, refl, sym, ap, ◌∙◌, subst, 
 use Rattle.std.specs.List.{flat_map}
 use Rattle.wap_value.specs.declared.value.Value.{Value}
 use Rattle.wap_value.specs.declared.value.Value.TheVariants.{Str}
-use Rattle.wap_program.specs.declared.program.Id.{Id}
-use Rattle.wap_program.specs.declared.expression.Expr.{Expr, roll-Expr, out-Expr, roll-out-Expr}
-use Rattle.wap_program.specs.declared.expression.Expr.TheOpen.{Expr-F}
-use Rattle.wap_program.specs.declared.expression.Expr.TheFolds.{fold-roll-Expr}
+use Rattle.wap_grammar.specs.declared.program.program.Id.{Id}
+use Rattle.wap_grammar.specs.declared.program.expression.Expr.{Expr, roll-Expr, out-Expr}
+use Rattle.wap_grammar.specs.declared.program.expression.Expr.{roll-out-Expr}
+use Rattle.wap_grammar.specs.declared.program.expression.Expr.TheOpen.{Expr-F}
+use Rattle.wap_grammar.specs.declared.program.expression.Expr.TheFolds.{fold-roll-Expr}
 use Rattle.wap_value.specs.declared.operator.BinOp.{BinOp}
 use Rattle.wap_code.specs.declared.row.OpName.{OpName}
 use Rattle.wap_execution.specs.declared.action.Action.TheVariants.{AssignVariable}
@@ -32,9 +33,9 @@ use Rattle.wap_compiled_laws.proofs.Statements.Statements.{assigned_runs, steppe
 use Rattle.wap_compiled_laws.proofs.Statements.Statements.{returned_runs, ended_runs, break_runs}
 use Rattle.wap_compiled_laws.proofs.Statements.Statements.{continue_runs}
 use Rattle.wap_compiled_laws.proofs.Statements.Statements.{choice_runs}
-use Rattle.wap_program.specs.declared.statement.Stmt.{Stmt, roll-Stmt, map-Stmt}
-use Rattle.wap_program.specs.declared.statement.Stmt.TheOpen.{Stmt-F}
-use Rattle.wap_program.specs.declared.statement.Stmt.TheFolds.{fold-roll-Stmt, ind-Stmt}
+use Rattle.wap_grammar.specs.declared.program.statement.Stmt.{Stmt, roll-Stmt, map-Stmt}
+use Rattle.wap_grammar.specs.declared.program.statement.Stmt.TheOpen.{Stmt-F}
+use Rattle.wap_grammar.specs.declared.program.statement.Stmt.TheFolds.{fold-roll-Stmt, ind-Stmt}
 use Rattle.wap_meaning.specs.Parts.{Came, gave, over, Does, from, give, done}
 use Rattle.wap_meaning.specs.Names.{variable_at}
 use Rattle.std.specs.Prelude.{if◌then◌else◌}

@@ -2,8 +2,8 @@
 use Rattle.std.specs.Prelude.{ℕ, zero, suc, if◌then◌else◌, List, [], ◌∷◌}
 use Rattle.std.specs.Prelude.{length, Option, Some, None, Result, Ok, Err}
 use Rattle.wap_base.specs.Outcome.{◌>>=◌}
-use Rattle.wap_program.specs.declared.program.Span.{Span}
-use Rattle.wap_program.specs.declared.program.Id.{Id}
+use Rattle.wap_grammar.specs.declared.program.program.Span.{Span}
+use Rattle.wap_grammar.specs.declared.program.program.Id.{Id}
 use Rattle.wap_grammar.specs.declared.fault.ParseFault.{ParseFault}
 use Rattle.wap_grammar.specs.declared.fault.ParseFault.TheVariants as fault
 use Rattle.wap_grammar.specs.declared.lexeme.Lexeme.{Lexeme}

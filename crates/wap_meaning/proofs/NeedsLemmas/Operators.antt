@@ -9,8 +9,8 @@ use Rattle.wap_value.specs.declared.operator.BinOp.{BinOp}
 use Rattle.wap_value.specs.declared.operator.BinOp.TheVariants as bin
 use Rattle.wap_value.specs.Binary.{TakesBoth}
 use Rattle.wap_base.specs.Texts.{is_same_text}
-use Rattle.wap_program.specs.declared.program.Function.{Function}
-use Rattle.wap_program.specs.declared.program.Program.{Program}
+use Rattle.wap_grammar.specs.declared.program.program.Function.{Function}
+use Rattle.wap_grammar.specs.declared.program.program.Program.{Program}
 use Rattle.wap_lex.specs.declared.token.Kind.{Kind}
 use Rattle.wap_lex.specs.declared.token.Kind.TheVariants as kind
 use Rattle.wap_lex.specs.declared.token.Token.{Token}

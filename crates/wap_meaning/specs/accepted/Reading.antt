@@ -12,8 +12,8 @@ use Rattle.wap_grammar.specs.declared.precedence.TheConstants.{LEVEL_LIMIT}
 use Rattle.wap_grammar.specs.Words.{lexemes_of}
 use Rattle.wap_grammar.specs.inside.Statements.{statement_at}
 use Rattle.wap_grammar.specs.inside.Programs.{program_at}
-use Rattle.wap_program.specs.declared.program.Program.{Program}
-use Rattle.wap_program.specs.declared.program.Function.{Function}
+use Rattle.wap_grammar.specs.declared.program.program.Program.{Program}
+use Rattle.wap_grammar.specs.declared.program.program.Function.{Function}
 use Rattle.wap_scope.specs.Faults.{faults, first_fault}
 use Rattle.wap_meaning.specs.compiled.Pool.{pool}
 use Rattle.wap_meaning.specs.compiled.Wide.{function_wide}

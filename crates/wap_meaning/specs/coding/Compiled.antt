@@ -7,9 +7,9 @@ use Rattle.wap_value.specs.declared.value.Value.{Value}
 use Rattle.wap_asm.specs.Placed.{IsPlaced}
 use Rattle.wap_execution.specs.Frames.{Function}
 use Rattle.wap_execution.specs.Running.{Calls}
-use Rattle.wap_program.specs.declared.expression.Literal.{Literal}
-use Rattle.wap_program.specs.declared.program.Function.{Function as SourceFunction}
-use Rattle.wap_program.specs.declared.program.Program.{Program}
+use Rattle.wap_grammar.specs.declared.program.expression.Literal.{Literal}
+use Rattle.wap_grammar.specs.declared.program.program.Function.{Function as SourceFunction}
+use Rattle.wap_grammar.specs.declared.program.program.Program.{Program}
 use Rattle.wap_meaning.specs.Names.{locals, names_in}
 use Rattle.wap_meaning.specs.Functions.{program_runs, unit_runs}
 use Rattle.wap_meaning.specs.Keeping.{GiveNoTurns}

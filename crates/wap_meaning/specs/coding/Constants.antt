@@ -7,9 +7,9 @@ use Rattle.wap_base.specs.Texts.{is_same_text}
 use Rattle.wap_code.specs.declared.unit.Unit.{Unit as CodeUnit}
 use Rattle.wap_code.specs.declared.unit.Constant.{Constant}
 use Rattle.wap_code.specs.declared.unit.Constant.TheVariants as constant
-use Rattle.wap_program.specs.declared.program.Id.{Id}
-use Rattle.wap_program.specs.declared.expression.Literal.{Literal}
-use Rattle.wap_program.specs.declared.expression.Literal.TheVariants as literal
+use Rattle.wap_grammar.specs.declared.program.program.Id.{Id}
+use Rattle.wap_grammar.specs.declared.program.expression.Literal.{Literal}
+use Rattle.wap_grammar.specs.declared.program.expression.Literal.TheVariants as literal
 use Rattle.wap_meaning.specs.Names.{Names, url_of}
 
 -- ---- which constants there are

@@ -10,15 +10,15 @@ use Rattle.wap_code.specs.declared.unit.Unit.{Unit as CodeUnit}
 use Rattle.wap_code.specs.declared.unit.Code.{Code}
 use Rattle.wap_code.specs.Libraries.{lib_args}
 use Rattle.wap_code.specs.Strings.{string_at}
-use Rattle.wap_program.specs.declared.program.Id.{Id}
-use Rattle.wap_program.specs.declared.expression.Literal.{Literal}
-use Rattle.wap_program.specs.declared.expression.Literal.TheVariants as literal
-use Rattle.wap_program.specs.declared.expression.Expr.{Expr}
-use Rattle.wap_program.specs.declared.expression.Expr.TheOpen.{Expr-F}
-use Rattle.wap_program.specs.declared.expression.Expr.TheFolds.{fold-Expr}
-use Rattle.wap_program.specs.declared.statement.Stmt.{Stmt}
-use Rattle.wap_program.specs.declared.statement.Stmt.TheOpen.{Stmt-F}
-use Rattle.wap_program.specs.declared.statement.Stmt.TheFolds.{fold-Stmt}
+use Rattle.wap_grammar.specs.declared.program.program.Id.{Id}
+use Rattle.wap_grammar.specs.declared.program.expression.Literal.{Literal}
+use Rattle.wap_grammar.specs.declared.program.expression.Literal.TheVariants as literal
+use Rattle.wap_grammar.specs.declared.program.expression.Expr.{Expr}
+use Rattle.wap_grammar.specs.declared.program.expression.Expr.TheOpen.{Expr-F}
+use Rattle.wap_grammar.specs.declared.program.expression.Expr.TheFolds.{fold-Expr}
+use Rattle.wap_grammar.specs.declared.program.statement.Stmt.{Stmt}
+use Rattle.wap_grammar.specs.declared.program.statement.Stmt.TheOpen.{Stmt-F}
+use Rattle.wap_grammar.specs.declared.program.statement.Stmt.TheFolds.{fold-Stmt}
 use Rattle.wap_execution.specs.Frames.{constant_at}
 use Rattle.wap_meaning.specs.Names.{Names, variable_at, function_at, url_of, numbers_of}
 use Rattle.wap_meaning.specs.Expressions.{value_of}

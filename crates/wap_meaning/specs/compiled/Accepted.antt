@@ -6,7 +6,7 @@ use Rattle.wap_lex.specs.Tokens.{AreTokens}
 use Rattle.wap_grammar.specs.declared.precedence.TheConstants.{LEVEL_LIMIT}
 use Rattle.wap_grammar.specs.Words.{lexemes_of}
 use Rattle.wap_grammar.specs.Programs.{IsProgram}
-use Rattle.wap_program.specs.declared.program.Program.{Program}
+use Rattle.wap_grammar.specs.declared.program.program.Program.{Program}
 use Rattle.wap_scope.specs.Scoped.{IsScoped}
 use Rattle.wap_meaning.specs.compiled.Pool.{pool}
 use Rattle.wap_meaning.specs.compiled.Wide.{function_wide}

@@ -4,12 +4,12 @@ use Rattle.wap_code.specs.declared.row.OpName.{OpName}
 use Rattle.wap_code.specs.declared.row.OpName.TheVariants.{AddAsg, SubAsg}
 use Rattle.wap_asm.specs.declared.form.Form.{Form}
 use Rattle.wap_asm.specs.declared.form.Form.TheVariants.{Op, Jump, Label}
-use Rattle.wap_program.specs.declared.program.Function.{Function}
-use Rattle.wap_program.specs.declared.expression.Expr.{Expr, out-Expr}
-use Rattle.wap_program.specs.declared.expression.Expr.TheOpen.{Expr-F}
-use Rattle.wap_program.specs.declared.statement.Stmt.{Stmt}
-use Rattle.wap_program.specs.declared.statement.Stmt.TheOpen.{Stmt-F}
-use Rattle.wap_program.specs.declared.statement.Stmt.TheFolds.{fold-Stmt}
+use Rattle.wap_grammar.specs.declared.program.program.Function.{Function}
+use Rattle.wap_grammar.specs.declared.program.expression.Expr.{Expr, out-Expr}
+use Rattle.wap_grammar.specs.declared.program.expression.Expr.TheOpen.{Expr-F}
+use Rattle.wap_grammar.specs.declared.program.statement.Stmt.{Stmt}
+use Rattle.wap_grammar.specs.declared.program.statement.Stmt.TheOpen.{Stmt-F}
+use Rattle.wap_grammar.specs.declared.program.statement.Stmt.TheFolds.{fold-Stmt}
 
 -- ---- operations
 

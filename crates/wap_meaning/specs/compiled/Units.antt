@@ -9,12 +9,12 @@ use Rattle.wap_code.specs.declared.unit.Pragma.{Pragma}
 use Rattle.wap_code.specs.declared.unit.Pragma.TheVariants.{Domain, Path, Property, Scheme}
 use Rattle.wap_asm.specs.declared.form.Form.{Form}
 use Rattle.wap_asm.specs.Placing.{placed}
-use Rattle.wap_program.specs.declared.program.Use.{Use}
-use Rattle.wap_program.specs.declared.program.Use.TheVariants.{Url, Access, Agent, Note}
-use Rattle.wap_program.specs.declared.program.Function.{Function}
-use Rattle.wap_program.specs.declared.program.Program.{Program}
-use Rattle.wap_program.specs.declared.expression.Literal.{Literal}
-use Rattle.wap_program.specs.declared.expression.Literal.TheVariants.{Str}
+use Rattle.wap_grammar.specs.declared.program.program.Use.{Use}
+use Rattle.wap_grammar.specs.declared.program.program.Use.TheVariants.{Url, Access, Agent, Note}
+use Rattle.wap_grammar.specs.declared.program.program.Function.{Function}
+use Rattle.wap_grammar.specs.declared.program.program.Program.{Program}
+use Rattle.wap_grammar.specs.declared.program.expression.Literal.{Literal}
+use Rattle.wap_grammar.specs.declared.program.expression.Literal.TheVariants.{Str}
 use Rattle.wap_meaning.specs.Names.{locals}
 use Rattle.wap_meaning.specs.coding.Constants.{constant_for, place_in}
 use Rattle.wap_meaning.specs.coding.Compiled.{function_code, numbers_in}

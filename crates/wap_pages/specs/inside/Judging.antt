@@ -10,7 +10,7 @@ use Rattle.wap_markup.specs.Good.{IsGood}
 use Rattle.wap_unit.specs.Units.{IsUnit}
 use Rattle.wap_verify.specs.Sound.{IsVerified}
 use Rattle.wap_code.specs.declared.unit.Unit.{Unit}
-use Rattle.wap_program.specs.declared.program.Program.{Program}
+use Rattle.wap_grammar.specs.declared.program.program.Program.{Program}
 use Rattle.wap_meaning.specs.compiled.Units.{compiled}
 use Rattle.wap_meaning.specs.compiled.Accepted.{IsAccepted}
 use Rattle.wap_world.specs.declared.site.page.Page.{Page}

@@ -6,7 +6,7 @@ use Rattle.std.specs.Result.{result_ok}
 use Rattle.wap_base.specs.Outcome.{◌>>=◌}
 use Rattle.wap_base.proofs.Choices.{chosen, bind_ok, ok_same, some_same}
 use Rattle.wap_value.specs.declared.value.Value.{Value}
-use Rattle.wap_program.specs.declared.program.Id.{Id}
+use Rattle.wap_grammar.specs.declared.program.program.Id.{Id}
 use Rattle.wap_lex.specs.declared.token.Token.{Token}
 use Rattle.wap_lex.specs.declared.fault.LexFault.{LexFault}
 use Rattle.wap_lex.specs.Reading.{pieces_at}

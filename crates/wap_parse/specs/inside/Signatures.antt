@@ -1,7 +1,7 @@
 -- What stands before a function's statements. This project's own.
 use Rattle.std.specs.Prelude.{ℕ, Bool, List, Ok}
 use Rattle.wap_base.specs.Outcome.{◌>>=◌}
-use Rattle.wap_program.specs.declared.program.Id.{Id}
+use Rattle.wap_grammar.specs.declared.program.program.Id.{Id}
 use Rattle.wap_grammar.specs.declared.lexeme.Lexeme.{Lexeme}
 use Rattle.wap_grammar.specs.declared.word.Sign.TheVariants as sign
 use Rattle.wap_grammar.specs.inside.Steps.{Reading, expect_at, id_at}

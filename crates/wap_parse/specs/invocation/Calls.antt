@@ -10,9 +10,9 @@ use Rattle.wap_value.specs.declared.value.Value.TheVariants as value
 use Rattle.wap_value.specs.declared.operator.BinOp.{BinOp}
 use Rattle.wap_value.specs.declared.operator.UnOp.{UnOp}
 use Rattle.wap_value.specs.Unary.{unary_of}
-use Rattle.wap_program.specs.declared.program.Span.{Span}
-use Rattle.wap_program.specs.declared.expression.Literal.{Literal}
-use Rattle.wap_program.specs.declared.expression.Literal.TheVariants as lit
+use Rattle.wap_grammar.specs.declared.program.program.Span.{Span}
+use Rattle.wap_grammar.specs.declared.program.expression.Literal.{Literal}
+use Rattle.wap_grammar.specs.declared.program.expression.Literal.TheVariants as lit
 use Rattle.wap_lex.specs.declared.token.Token.{Token}
 use Rattle.wap_lex.specs.Tokens.{Lexes}
 use Rattle.wap_grammar.specs.declared.lexeme.Lexeme.{Lexeme}

@@ -11,8 +11,8 @@ use crate::expressions::steps::{read_id, syntax_fault};
 use crate::expressions::words::{after, is_sign, step_of, word_of};
 use std::alloc::Global;
 use wap_base::Rows;
+use wap_grammar::program::{Expr, Id};
 use wap_grammar::{Callee, Lexeme, ParseFault, Sign};
-use wap_program::{Expr, Id};
 
 /// What a call names.
 #[inline(always)]

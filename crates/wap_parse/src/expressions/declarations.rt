@@ -13,8 +13,8 @@ use crate::expressions::steps::{expect, read_id};
 use crate::expressions::words::{after, is_comma, is_equals};
 use std::alloc::Global;
 use wap_base::Rows;
+use wap_grammar::program::{Expr, Id, Stmt};
 use wap_grammar::{ASSIGNMENT, Lexeme, ParseFault, Sign};
-use wap_program::{Expr, Id, Stmt};
 
 /// What `var` declares, after the word, and the tokens after its `;`. A string whose bytes stand
 /// for no text is answered as `NoMemory`.

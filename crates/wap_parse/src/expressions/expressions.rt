@@ -20,8 +20,8 @@ use crate::expressions::words::{
 };
 use std::alloc::Global;
 use wap_base::Rows;
+use wap_grammar::program::{Boxed, Expr};
 use wap_grammar::{ASSIGNMENT, COMMA, CONDITIONAL, Lexeme, ParseFault, Sign, UNARY};
-use wap_program::{Boxed, Expr};
 use wap_value::BinOp;
 
 /// An expression of a level of precedence, with so many levels left for it and its parts, and the

@@ -7,9 +7,9 @@ ghost use Rattle.wap_grammar.specs.declared.word.Word.TheVariants.{Unused};
 
 use std::alloc::Global;
 use wap_base::{NoMemory, Rows};
+use wap_grammar::program::Span;
 use wap_grammar::{Lexeme, WORDS, Word};
 use wap_lex::{Kind, Token};
-use wap_program::Span;
 
 /// The tokens of a source as the grammar sees them.
 pub fn lexemes_of(alloc: Global, src: &[u8], tokens: &[Token]) -> Result<Rows<Lexeme>, NoMemory>

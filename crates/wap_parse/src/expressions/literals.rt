@@ -7,8 +7,8 @@ ghost use Rattle.wap_grammar.specs.Values.{literal_of, integer_of};
 use crate::expressions::lexemes::text_in;
 use crate::expressions::strings::string_of;
 use std::alloc::Global;
+use wap_grammar::program::{Literal, Span};
 use wap_grammar::{ParseFault, Word};
-use wap_program::{Literal, Span};
 
 /// The literal that a word is, if it is one.
 #[inline(always)]

@@ -4,7 +4,7 @@ ghost use Rattle.wap_grammar.specs.inside.Expressions.{chained};
 
 use std::alloc::Global;
 use wap_base::{NoMemory, Rows};
-use wap_program::{Boxed, Expr};
+use wap_grammar::program::{Boxed, Expr};
 use wap_value::BinOp;
 
 /// Operands, which are the first alone where there is no other.

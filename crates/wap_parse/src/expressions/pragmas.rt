@@ -13,8 +13,8 @@ use crate::expressions::texts::{read_access, read_ended, read_text};
 use crate::expressions::words::{after, is_sign, span_of};
 use std::alloc::Global;
 use wap_base::Rows;
+use wap_grammar::program::{Span, Use};
 use wap_grammar::{Lexeme, ParseFault, Sign};
-use wap_program::{Span, Use};
 
 /// The pragmas that tokens begin with, and the tokens after them. A string whose bytes stand for no
 /// text is answered as `NoMemory`.

@@ -10,8 +10,8 @@ use crate::expressions::lexemes::text_in;
 use crate::expressions::words::{after, is_name, is_sign, span_of};
 use std::alloc::Global;
 use wap_base::Text;
+use wap_grammar::program::{Id, Span};
 use wap_grammar::{Lexeme, ParseFault, Sign};
-use wap_program::{Id, Span};
 
 /// Where the first token begins, or the source ends.
 fn place_of(src: &[u8], lexemes: &[Lexeme]) -> usize

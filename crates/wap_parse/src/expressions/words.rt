@@ -6,8 +6,8 @@ ghost use Rattle.wap_grammar.specs.Words.{is_text, is_comma, is_equals};
 ghost use Rattle.wap_grammar.specs.inside.Steps.{span_of, after};
 ghost use Rattle.wap_parse.specs.expressions.inside.Climbing.{looser_of};
 
+use wap_grammar::program::Span;
 use wap_grammar::{COMMA, Lexeme, Sign, Word};
-use wap_program::Span;
 use wap_value::{BinOp, UnOp};
 
 /// What the first token is.

@@ -13,8 +13,8 @@ use crate::expressions::{
 use crate::invocation::literals::{read_literal, value_of};
 use std::alloc::Global;
 use wap_base::Rows;
+use wap_grammar::program::Span;
 use wap_grammar::{Lexeme, ParseFault, Sign, Word};
-use wap_program::Span;
 use wap_value::{BinOp, UnOp, Value, unary};
 
 /// The sign that a word may be.

@@ -10,9 +10,9 @@ use crate::invocation::arguments::read_arguments;
 use crate::invocation::blanks::is_spaced;
 use std::alloc::Global;
 use wap_base::{NoMemory, Rows, Text};
+use wap_grammar::program::Id;
 use wap_grammar::{Lexeme, ParseFault, Sign};
 use wap_lex::{LexFault, Token, lex};
-use wap_program::Id;
 use wap_value::Value;
 
 /// The most bytes of a fragment whose tokens are read.

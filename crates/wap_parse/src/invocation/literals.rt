@@ -8,8 +8,8 @@ ghost use Rattle.wap_parse.specs.invocation.inside.Literals.{is_literal};
 
 use crate::expressions::{read_expression, syntax_fault, word_of};
 use std::alloc::Global;
+use wap_grammar::program::{Expr, Literal};
 use wap_grammar::{Lexeme, ParseFault, UNARY, Word};
-use wap_program::{Expr, Literal};
 use wap_value::Value;
 
 /// Whether a word may be a literal.

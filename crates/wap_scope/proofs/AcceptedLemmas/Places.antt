@@ -7,7 +7,7 @@ use Rattle.std.specs.Cmp.Lexicographic.{bytes_decides}
 use Rattle.std.proofs.lemmas.List.Elements.{All-nil, All-cons}
 use Rattle.std.proofs.lemmas.List.Folds.{find_at, list_any-append}
 use Rattle.wap_base.specs.Texts.{is_same_text}
-use Rattle.wap_program.specs.declared.program.Function.{Function}
+use Rattle.wap_grammar.specs.declared.program.program.Function.{Function}
 use Rattle.wap_scope.specs.Names.{function_named}
 use Rattle.wap_scope.specs.accepted.Known.{place_of, IsAmong}
 

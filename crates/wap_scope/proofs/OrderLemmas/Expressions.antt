@@ -2,9 +2,9 @@
 use Rattle.std.proofs.Common.{◌≡◌, ℕ, zero, suc, true, false, List, [], ◌∷◌, ◌++◌, refl, ap}
 use Rattle.std.specs.List.{flat_map}
 use Rattle.wap_value.specs.declared.operator.BinOp.TheVariants as op
-use Rattle.wap_program.specs.declared.program.Span.{Span}
-use Rattle.wap_program.specs.declared.expression.Expr.{Expr}
-use Rattle.wap_program.specs.declared.expression.Expr.TheVariants as expr
+use Rattle.wap_grammar.specs.declared.program.program.Span.{Span}
+use Rattle.wap_grammar.specs.declared.program.expression.Expr.{Expr}
+use Rattle.wap_grammar.specs.declared.program.expression.Expr.TheVariants as expr
 use Rattle.wap_grammar.specs.declared.callee.Callee.{Callee}
 use Rattle.wap_grammar.specs.declared.callee.Callee.TheVariants as callee
 use Rattle.wap_grammar.specs.declared.precedence.TheConstants.{UNARY, ASSIGNMENT, COMMA}

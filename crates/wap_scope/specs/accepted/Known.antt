@@ -4,8 +4,8 @@ use Rattle.std.specs.Prelude.{◌≡◌, ℕ, ◌<◌, ◌≤◌, true, List, le
 use Rattle.std.specs.List.{All, position_or_len}
 use Rattle.std.specs.Option.{option_map}
 use Rattle.wap_base.specs.Texts.{is_same_text}
-use Rattle.wap_program.specs.declared.program.Function.{Function}
-use Rattle.wap_program.specs.declared.program.Program.{Program}
+use Rattle.wap_grammar.specs.declared.program.program.Function.{Function}
+use Rattle.wap_grammar.specs.declared.program.program.Program.{Program}
 use Rattle.wap_scope.specs.declared.limits.TheConstants.{ARGUMENT_LIMIT}
 use Rattle.wap_scope.specs.Names.{Reference, Variable, Local, External, Library}
 use Rattle.wap_scope.specs.Names.{Mention, Declares, Refers, Jumps, said, names_declared, units}

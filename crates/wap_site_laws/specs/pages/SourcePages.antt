@@ -5,7 +5,7 @@ use Rattle.std.specs.List.{AllZip}
 use Rattle.wap_base.specs.Contents.{Contents}
 use Rattle.wap_markup.specs.declared.deck.Deck.{Deck}
 use Rattle.wap_code.specs.declared.unit.Unit.{Unit}
-use Rattle.wap_program.specs.declared.program.Program.{Program}
+use Rattle.wap_grammar.specs.declared.program.program.Program.{Program}
 use Rattle.wap_meaning.specs.compiled.Accepted.{IsAccepted}
 use Rattle.wap_world.specs.scripting.ScriptPages.{PageOf, deck, script, words, refused}
 use Rattle.wap_world.specs.scripting.Sources.{Script, of_unit, of_source, AllPages}

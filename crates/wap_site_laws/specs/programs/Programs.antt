@@ -1,7 +1,7 @@
 -- Programs of sources among the scripts of a browser. This project's own.
 use Rattle.std.specs.Prelude.{ℕ, List}
 use Rattle.wap_code.specs.declared.unit.Unit.{Unit as CodeUnit}
-use Rattle.wap_program.specs.declared.program.Program.{Program}
+use Rattle.wap_grammar.specs.declared.program.program.Program.{Program}
 use Rattle.wap_meaning.specs.Functions.{program_runs}
 use Rattle.wap_meaning.specs.compiled.Units.{compiled}
 use Rattle.wap_meaning.specs.compiled.Accepted.{IsAccepted}

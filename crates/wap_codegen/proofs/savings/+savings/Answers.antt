@@ -1,7 +1,7 @@
 use Rattle.std.proofs.Common.{List, Option, sym, ap, ◌∙◌, arith}
 use Rattle.std.specs.List.{sum_by}
-use Rattle.wap_program.specs.declared.statement.Stmt.{Stmt}
-use Rattle.wap_program.specs.declared.statement.Stmt.TheVariants as stmt
+use Rattle.wap_grammar.specs.declared.program.statement.Stmt.{Stmt}
+use Rattle.wap_grammar.specs.declared.program.statement.Stmt.TheVariants as stmt
 use Rattle.wap_meaning.specs.compiled.Savings.{stmt_saves}
 use Rattle.wap_codegen.proofs.Saving.{of_empty, of_value, of_block, of_variables, of_if, of_else}
 use Rattle.wap_codegen.proofs.Saving.{of_while, of_for, of_break, of_continue, of_return}

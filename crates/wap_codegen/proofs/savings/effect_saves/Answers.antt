@@ -1,6 +1,6 @@
 use Rattle.std.proofs.Common.{Option, sym, ap, ◌∙◌}
 use Rattle.wap_value.specs.declared.operator.BinOp.{BinOp}
-use Rattle.wap_program.specs.declared.expression.Expr.TheOpen.{Expr-F}
+use Rattle.wap_grammar.specs.declared.program.expression.Expr.TheOpen.{Expr-F}
 use Rattle.wap_meaning.specs.compiled.Savings.{effect_saves}
 use Rattle.wap_codegen.proofs.Saving.{of_assignment, of_step, of_literal, of_variable, of_unary}
 use Rattle.wap_codegen.proofs.Saving.{of_chain, of_choice, of_local, of_external, of_library}

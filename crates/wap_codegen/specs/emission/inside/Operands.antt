@@ -6,7 +6,7 @@ use Rattle.wap_code.specs.declared.row.OpName.{OpName}
 use Rattle.wap_code.specs.declared.row.OpName.TheVariants as op
 use Rattle.wap_asm.specs.declared.form.Form.{Form}
 use Rattle.wap_asm.specs.declared.form.Form.TheVariants.{Jump}
-use Rattle.wap_program.specs.declared.expression.Expr.{Expr}
+use Rattle.wap_grammar.specs.declared.program.expression.Expr.{Expr}
 use Rattle.wap_meaning.specs.coding.Coded.{Exits, Coded, empty, ◌⨾◌, all_code, plain, label}
 use Rattle.wap_meaning.specs.coding.Constants.{Numbers}
 use Rattle.wap_meaning.specs.coding.Expressions.{short_code, load_code, store_code, binary_name}

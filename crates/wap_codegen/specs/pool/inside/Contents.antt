@@ -1,6 +1,6 @@
 -- The literals of constants. This project's own.
-use Rattle.wap_program.specs.declared.expression.Literal.{Literal}
-use Rattle.wap_program.specs.declared.expression.Literal.TheVariants as literal
+use Rattle.wap_grammar.specs.declared.program.expression.Literal.{Literal}
+use Rattle.wap_grammar.specs.declared.program.expression.Literal.TheVariants as literal
 use Rattle.wap_codegen.specs.declared.pool.content.Content.{Content}
 use Rattle.wap_codegen.specs.declared.pool.content.Content.TheVariants as content
 

@@ -1,5 +1,5 @@
 use Rattle.std.proofs.Common.{length, Option, Ok, ap, ◌∙◌}
-use Rattle.wap_program.specs.declared.program.Function.{Function}
+use Rattle.wap_grammar.specs.declared.program.program.Function.{Function}
 use Rattle.wap_grammar.specs.inside.Steps.{items_at}
 use Rattle.wap_grammar.specs.inside.Statements.{statement_at}
 use Rattle.wap_grammar.specs.inside.Programs.{next_function}

@@ -3,7 +3,7 @@ use Rattle.std.specs.Prelude.{ℕ, zero, suc, nat_lt, nat_le, ◌&&◌, if◌the
 use Rattle.std.specs.Prelude.{List, Option, Some, None, Ok}
 use Rattle.wap_base.specs.Outcome.{◌>>=◌}
 use Rattle.wap_value.specs.declared.operator.BinOp.{BinOp}
-use Rattle.wap_program.specs.declared.expression.Expr.{Expr}
+use Rattle.wap_grammar.specs.declared.program.expression.Expr.{Expr}
 use Rattle.wap_grammar.specs.declared.lexeme.Lexeme.{Lexeme}
 use Rattle.wap_grammar.specs.declared.word.Word.{Word}
 use Rattle.wap_grammar.specs.declared.word.Word.TheVariants as word

@@ -1,6 +1,6 @@
 use Rattle.std.proofs.Common.{◌≡◌, drop}
 use Rattle.wap_value.specs.declared.operator.BinOp.{BinOp}
-use Rattle.wap_program.specs.declared.expression.Expr.{Expr}
+use Rattle.wap_grammar.specs.declared.program.expression.Expr.{Expr}
 use Rattle.wap_scope.specs.Names.{refers}
 use Rattle.wap_scope.specs.inside.Globals.{scope_by}
 use Rattle.wap_scope.specs.inside.Walks.{walked_each}

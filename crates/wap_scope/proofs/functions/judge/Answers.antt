@@ -1,6 +1,6 @@
 use Rattle.std.proofs.Common.{◌≡◌, List, [], Ok, subst}
-use Rattle.wap_program.specs.declared.program.Function.{Function}
-use Rattle.wap_program.specs.declared.program.Use.{Use}
+use Rattle.wap_grammar.specs.declared.program.program.Function.{Function}
+use Rattle.wap_grammar.specs.declared.program.program.Use.{Use}
 use Rattle.wap_scope.specs.Names.{units}
 use Rattle.wap_scope.specs.Faults.{one_by_one, use_rule}
 use Rattle.wap_scope.specs.inside.Globals.{Counts}

@@ -1,5 +1,5 @@
 use Rattle.std.proofs.Common.{rules, Some, None, ap, ◌∙◌}
-use Rattle.wap_program.specs.declared.statement.Stmt.TheVariants as stmt
+use Rattle.wap_grammar.specs.declared.program.statement.Stmt.TheVariants as stmt
 use Rattle.wap_scope.specs.inside.Globals.{scope_by}
 use Rattle.wap_scope.proofs.StatementParts.{empty_parts, value_parts, block_parts, variables_parts}
 use Rattle.wap_scope.proofs.StatementParts.{if_parts, while_parts, for_parts, break_parts}

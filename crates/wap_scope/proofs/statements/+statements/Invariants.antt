@@ -1,5 +1,5 @@
 use Rattle.std.proofs.Common.{◌≡◌, ◌+◌, ◌*◌, drop}
-use Rattle.wap_program.specs.declared.statement.Stmt.{Stmt}
+use Rattle.wap_grammar.specs.declared.program.statement.Stmt.{Stmt}
 use Rattle.wap_scope.specs.Names.{mentions}
 use Rattle.wap_scope.specs.inside.Globals.{scope_by}
 use Rattle.wap_scope.specs.inside.Walks.{walked_each}

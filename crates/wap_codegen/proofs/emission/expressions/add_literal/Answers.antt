@@ -1,6 +1,6 @@
 use Rattle.std.proofs.Common.{◌≡◌, rules, sym, ap, ◌∙◌, to_z, of_z, w32}
 use Rattle.wap_code.specs.declared.row.OpName.TheVariants as op
-use Rattle.wap_program.specs.declared.expression.Literal.TheVariants as literal
+use Rattle.wap_grammar.specs.declared.program.expression.Literal.TheVariants as literal
 use Rattle.wap_meaning.specs.coding.Coded.{with_operand, plain}
 use Rattle.wap_meaning.specs.coding.Constants.{number_of}
 use Rattle.wap_meaning.specs.coding.Expressions.{literal_code}

@@ -4,10 +4,10 @@ use Rattle.std.specs.Option.{option_copied}
 use Rattle.std.proofs.lemmas.List.{length_push}
 use Rattle.wap_code.specs.declared.row.OpName.TheVariants as op
 use Rattle.wap_asm.specs.declared.form.Form.TheVariants.{Jump}
-use Rattle.wap_program.specs.declared.program.Id.{Id}
-use Rattle.wap_program.specs.declared.expression.Expr.{Expr}
-use Rattle.wap_program.specs.declared.statement.Stmt.{Stmt}
-use Rattle.wap_program.specs.declared.statement.Stmt.TheVariants as stmt
+use Rattle.wap_grammar.specs.declared.program.program.Id.{Id}
+use Rattle.wap_grammar.specs.declared.program.expression.Expr.{Expr}
+use Rattle.wap_grammar.specs.declared.program.statement.Stmt.{Stmt}
+use Rattle.wap_grammar.specs.declared.program.statement.Stmt.TheVariants as stmt
 use Rattle.wap_meaning.specs.coding.Coded.{empty, ◌⨾◌, all_code}
 use Rattle.wap_meaning.specs.coding.Expressions.{expr_code, cond_code}
 use Rattle.wap_meaning.specs.coding.Statements.{stmt_code, branch_code, declared_code, loop_code}

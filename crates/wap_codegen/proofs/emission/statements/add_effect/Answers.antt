@@ -1,5 +1,5 @@
 use Rattle.std.proofs.Common.{◌∙◌, ap}
-use Rattle.wap_program.specs.declared.expression.Expr.{Expr}
+use Rattle.wap_grammar.specs.declared.program.expression.Expr.{Expr}
 use Rattle.wap_meaning.specs.Names.{variable_at}
 use Rattle.wap_meaning.specs.coding.Coded.{with_operand}
 use Rattle.wap_meaning.specs.coding.Expressions.{change_name, expr_code}

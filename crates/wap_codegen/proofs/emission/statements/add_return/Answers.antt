@@ -1,6 +1,6 @@
 use Rattle.std.proofs.Common.{sym, ap, ◌∙◌}
-use Rattle.wap_program.specs.declared.statement.Stmt.TheVariants as stmt
-use Rattle.wap_program.specs.declared.expression.Expr.{Expr}
+use Rattle.wap_grammar.specs.declared.program.statement.Stmt.TheVariants as stmt
+use Rattle.wap_grammar.specs.declared.program.expression.Expr.{Expr}
 use Rattle.std.proofs.Common.{Option}
 use Rattle.wap_meaning.specs.coding.Statements.{stmt_code}
 use Rattle.wap_codegen.proofs.EmissionLemmas.StatementParts.{of_return, of_return_of}

@@ -2,7 +2,7 @@ use Rattle.std.proofs.Common.{◌≡◌, Bool, true, false, eqb, ◌||◌, List,
 use Rattle.std.proofs.Common.{eq-eqb, ne_eqb}
 use Rattle.std.specs.List.{list_any}
 use Rattle.wap_value.specs.declared.operator.BinOp.{BinOp}
-use Rattle.wap_program.specs.declared.expression.Expr.{Expr}
+use Rattle.wap_grammar.specs.declared.program.expression.Expr.{Expr}
 use Rattle.wap_meaning.specs.coding.Statements.{writes}
 use Rattle.wap_codegen.proofs.EmissionLemmas.WritingParts.{of_literal, of_variable, of_assignment}
 use Rattle.wap_codegen.proofs.EmissionLemmas.WritingParts.{of_step}

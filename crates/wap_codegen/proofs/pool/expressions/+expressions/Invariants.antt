@@ -1,5 +1,5 @@
 use Rattle.wap_value.specs.declared.operator.BinOp.{BinOp}
-use Rattle.wap_program.specs.declared.expression.Expr.{Expr}
+use Rattle.wap_grammar.specs.declared.program.expression.Expr.{Expr}
 use Rattle.wap_meaning.specs.coding.Needs.{expr_needs}
 use Rattle.wap_codegen.specs.pool.inside.Leaves.{Leaves}
 use Rattle.wap_codegen.proofs.pool.expressions.+expressions.Given as goal

@@ -1,5 +1,5 @@
 use Rattle.std.proofs.Common.{◌≡◌, [], ◌∷◌, rules, refl, sym, ap, ◌∙◌, to_z, of_z, w32}
-use Rattle.wap_program.specs.declared.expression.Literal.TheVariants as literal
+use Rattle.wap_grammar.specs.declared.program.expression.Literal.TheVariants as literal
 use Rattle.wap_meaning.specs.coding.Needs.{Constant, literal_needs}
 use Rattle.wap_codegen.proofs.PoolLemmas.Pooling.{pools_none, pools_same, after_same, after_one}
 use Rattle.wap_codegen.proofs.pool.expressions.add_literal.Goals as goal

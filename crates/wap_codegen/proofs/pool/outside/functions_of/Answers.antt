@@ -1,6 +1,6 @@
 use Rattle.std.proofs.Common.{[], ◌∙◌, map, sym}
 use Rattle.std.proofs.lemmas.List.{at_drop_all}
-use Rattle.wap_program.specs.declared.program.Function.{Function}
+use Rattle.wap_grammar.specs.declared.program.program.Function.{Function}
 use Rattle.wap_codegen.specs.pool.Names.{with_names}
 use Rattle.wap_codegen.proofs.PoolLemmas.Declared.{functions_more}
 use Rattle.wap_codegen.proofs.pool.outside.functions_of.Goals as goal

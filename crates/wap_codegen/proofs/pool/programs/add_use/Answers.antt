@@ -1,5 +1,5 @@
 use Rattle.std.proofs.Common.{[], ◌∷◌, ◌++◌, refl, sym, ap}
-use Rattle.wap_program.specs.declared.expression.Literal.TheVariants as literal
+use Rattle.wap_grammar.specs.declared.program.expression.Literal.TheVariants as literal
 use Rattle.wap_meaning.specs.coding.Needs.{Constant}
 use Rattle.wap_codegen.specs.pool.inside.Pools.{text_needs, use_needs}
 use Rattle.wap_codegen.proofs.PoolLemmas.Pooling.{pools_none, pools_one, pools_same, after_same}

@@ -1,9 +1,9 @@
 use Rattle.std.proofs.Common.{[], ◌++◌, List, Option, sym, refl, ap, ◌∙◌}
 use Rattle.std.specs.List.{flat_map}
-use Rattle.wap_program.specs.declared.program.Id.{Id}
-use Rattle.wap_program.specs.declared.expression.Expr.{Expr}
-use Rattle.wap_program.specs.declared.statement.Stmt.{Stmt}
-use Rattle.wap_program.specs.declared.statement.Stmt.TheVariants as stmt
+use Rattle.wap_grammar.specs.declared.program.program.Id.{Id}
+use Rattle.wap_grammar.specs.declared.program.expression.Expr.{Expr}
+use Rattle.wap_grammar.specs.declared.program.statement.Stmt.{Stmt}
+use Rattle.wap_grammar.specs.declared.program.statement.Stmt.TheVariants as stmt
 use Rattle.wap_meaning.specs.coding.Needs.{Need, expr_needs, optional_needs, declared_needs}
 use Rattle.wap_meaning.specs.coding.Needs.{stmt_needs}
 use Rattle.wap_codegen.proofs.PoolLemmas.Parts.{of_empty, of_value, of_block, of_variables, of_if}

@@ -1,9 +1,9 @@
 use Rattle.std.proofs.Common.{Bool, true, [], ◌++◌, List, Option, sym, refl, ap, ◌∙◌}
 use Rattle.std.specs.List.{flat_map}
-use Rattle.wap_program.specs.declared.program.Id.{Id}
-use Rattle.wap_program.specs.declared.expression.Expr.{Expr}
-use Rattle.wap_program.specs.declared.statement.Stmt.{Stmt}
-use Rattle.wap_program.specs.declared.statement.Stmt.TheVariants as stmt
+use Rattle.wap_grammar.specs.declared.program.program.Id.{Id}
+use Rattle.wap_grammar.specs.declared.program.expression.Expr.{Expr}
+use Rattle.wap_grammar.specs.declared.program.statement.Stmt.{Stmt}
+use Rattle.wap_grammar.specs.declared.program.statement.Stmt.TheVariants as stmt
 use Rattle.wap_scope.specs.Names.{Mention, refers, refers_if, declares, mentions, names_declared}
 use Rattle.wap_scope.proofs.Parts.{of_empty, of_value, of_block, of_variables, of_if, of_else}
 use Rattle.wap_scope.proofs.Parts.{of_while, of_for, of_break, of_continue, of_return}

@@ -1,5 +1,5 @@
 use Rattle.std.proofs.Common.{[], ◌∷◌, map}
-use Rattle.wap_program.specs.declared.program.Id.{Id}
+use Rattle.wap_grammar.specs.declared.program.program.Id.{Id}
 use Rattle.wap_scope.specs.Names.{Declares}
 use Rattle.wap_codegen.proofs.PoolLemmas.Declared.{leaves_all, leaves_more, leaves_none}
 use Rattle.wap_codegen.proofs.PoolLemmas.Declared.{declares_parameter}

@@ -1,7 +1,7 @@
 use Rattle.std.proofs.Common.{false, ℕ, List, ◌++◌, map, ap, ◌∙◌, subst}
 use Rattle.std.specs.List.{flat_map}
-use Rattle.wap_program.specs.declared.program.Id.{Id}
-use Rattle.wap_program.specs.declared.statement.Stmt.{Stmt}
+use Rattle.wap_grammar.specs.declared.program.program.Id.{Id}
+use Rattle.wap_grammar.specs.declared.program.statement.Stmt.{Stmt}
 use Rattle.wap_scope.specs.Names.{Declares, mentions, said}
 use Rattle.wap_codegen.specs.pool.inside.Declaring.{Declaring}
 use Rattle.wap_codegen.proofs.PoolLemmas.Declared.{declaring_same, declaring_both}

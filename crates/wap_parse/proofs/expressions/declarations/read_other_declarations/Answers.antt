@@ -1,7 +1,7 @@
 use Rattle.std.proofs.Common.{◌≡◌, true, false, List, length, ◌∷◌, Option, Err, ap, ◌∙◌}
 use Rattle.std.proofs.lemmas.Result.{err_from_is_err_and}
-use Rattle.wap_program.specs.declared.expression.Expr.{Expr}
-use Rattle.wap_program.specs.declared.program.Id.{Id}
+use Rattle.wap_grammar.specs.declared.program.expression.Expr.{Expr}
+use Rattle.wap_grammar.specs.declared.program.program.Id.{Id}
 use Rattle.wap_grammar.specs.Words.{word_of, is_comma}
 use Rattle.wap_grammar.specs.inside.Steps.{Reading, after, told, items_at}
 use Rattle.wap_grammar.specs.inside.Expressions.{expression_at}

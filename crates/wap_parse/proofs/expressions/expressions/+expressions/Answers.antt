@@ -1,6 +1,6 @@
 use Rattle.std.proofs.Common.{◌≡◌, true, false, List, length, ◌∷◌, Err, sym, ap, ◌∙◌, arith}
 use Rattle.std.proofs.lemmas.Result.{err_from_is_err_and}
-use Rattle.wap_program.specs.declared.expression.Expr.{Expr}
+use Rattle.wap_grammar.specs.declared.program.expression.Expr.{Expr}
 use Rattle.wap_grammar.specs.declared.precedence.TheConstants.{ASSIGNMENT, COMMA}
 use Rattle.wap_grammar.specs.Words.{word_of, operator_of, is_comma}
 use Rattle.wap_grammar.specs.inside.Steps.{Reading, after, told, items_at}

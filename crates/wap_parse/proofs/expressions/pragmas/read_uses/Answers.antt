@@ -1,6 +1,6 @@
 use Rattle.std.proofs.Common.{◌≡◌, true, false, List, length, Err, refl, ap, ◌∙◌}
 use Rattle.std.proofs.lemmas.Result.{err_from_is_err_and}
-use Rattle.wap_program.specs.declared.program.Use.{Use}
+use Rattle.wap_grammar.specs.declared.program.program.Use.{Use}
 use Rattle.wap_grammar.specs.declared.word.Sign.TheVariants as sign
 use Rattle.wap_grammar.specs.Words.{word_of, is_sign}
 use Rattle.wap_grammar.specs.inside.Steps.{Reading, span_of, after, items_at}

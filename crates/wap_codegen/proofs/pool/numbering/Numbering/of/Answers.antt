@@ -1,7 +1,7 @@
 -- of
 use Rattle.std.proofs.Common.{List, ap, ◌∙◌}
 use Rattle.std.specs.List.{flat_map}
-use Rattle.wap_program.specs.declared.expression.Literal.{Literal}
+use Rattle.wap_grammar.specs.declared.program.expression.Literal.{Literal}
 use Rattle.wap_meaning.specs.coding.Constants.{pooled}
 use Rattle.wap_meaning.specs.coding.Needs.{literals_of}
 use Rattle.wap_codegen.specs.pool.inside.Pools.{program_needs}

@@ -1,7 +1,7 @@
 -- without_constants
 use Rattle.std.proofs.Common.{ℕ, List, [], map, ap, ◌∙◌}
-use Rattle.wap_program.specs.declared.program.Use.{Use}
-use Rattle.wap_program.specs.declared.program.Function.{Function}
+use Rattle.wap_grammar.specs.declared.program.program.Use.{Use}
+use Rattle.wap_grammar.specs.declared.program.program.Function.{Function}
 use Rattle.wap_meaning.specs.Names.{Names, url_in}
 use Rattle.wap_codegen.specs.pool.Names.{with_names}
 use Rattle.wap_codegen.specs.pool.inside.Declaring.{with_urls}

@@ -1,7 +1,7 @@
 //! Statements (WAP-193, section 6.5).
-use crate::boxed::Boxed;
-use crate::expression::Expr;
-use crate::program::{Id, Span};
+use crate::program::boxed::Boxed;
+use crate::program::expression::Expr;
+use crate::program::program::{Id, Span};
 use wap_base::Rows;
 
 /// A statement.

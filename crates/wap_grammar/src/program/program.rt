@@ -1,5 +1,5 @@
 //! Programs: pragmas and functions (WAP-193, sections 6.7 and 6.4).
-use crate::statement::Stmt;
+use crate::program::statement::Stmt;
 use wap_base::{Rows, Text};
 
 /// A program of one unit.

@@ -1,6 +1,6 @@
 //! Expressions (WAP-193, section 6.3).
-use crate::boxed::Boxed;
-use crate::program::Id;
+use crate::program::boxed::Boxed;
+use crate::program::program::Id;
 use wap_base::{Rows, Text};
 use wap_value::{BinOp, UnOp};
 

@@ -1,5 +1,4 @@
 //! The types of programs as WMLScript sources spell them (WAP-193), each name with its place.
-#![tactic(auto)]
 
 mod boxed;
 mod expression;

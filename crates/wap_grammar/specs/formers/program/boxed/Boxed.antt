@@ -17,10 +17,10 @@ use Rattle.std.specs.contracts.boxed.Box as box
 use Rattle.std.specs.declared.alloc.Global.{Global}
 use Rattle.std.specs.contracts.alloc.Global as heap
 use Rattle.std.specs.contracts.impls.GlobalAllocator.TheImpl.{ghosts}
-use Rattle.wap_program.specs.declared.boxed.Boxed.TheInside.{Inside}
-use Rattle.wap_program.specs.declared.boxed.Boxed.TheView.{view, invariant}
-use Rattle.wap_program.specs.contracts.boxed.Boxed as C
-use Rattle.wap_program.specs.contracts.boxed.Boxed.TheInside as I
+use Rattle.wap_grammar.specs.declared.program.boxed.Boxed.TheInside.{Inside}
+use Rattle.wap_grammar.specs.declared.program.boxed.Boxed.TheView.{view, invariant}
+use Rattle.wap_grammar.specs.contracts.program.boxed.Boxed as C
+use Rattle.wap_grammar.specs.contracts.program.boxed.Boxed.TheInside as I
 
 abbrev pub the_former : Former {0} → Former {0}
 the_former g = g
