@@ -1,9 +1,13 @@
-//! What the programs of cases share: bytes and texts as they are spelled in lines, lines of calls,
-//! counting, and telling what differs.
+//! Cases: how they are spelled, read, played and compared.
+//!
+//! - `files`: Files of cases, for the program that plays them: blocks of lines that say what a run
+//!   begins with and what is wanted of it, decks as texts of WML, the devices of a run in memory,
+//!   and in what a run or a call differs from what is wanted.
 #![tactic(auto)]
 
 mod call;
 mod fault;
+pub mod files;
 mod items;
 mod pieces;
 mod quotes;

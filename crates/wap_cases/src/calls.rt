@@ -2,7 +2,7 @@
 use crate::{fragments, library, machines, messages, operators, placing};
 use std::alloc::Global;
 use wap_base::DEFAULT_STRING;
-use wap_case_files::Played;
+use wap_casebook::files::Played;
 use wap_casebook::{Call, CaseFault, meaning_of, split_word};
 
 /// A call that has a name of its own.

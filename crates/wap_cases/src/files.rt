@@ -5,8 +5,8 @@ use std::process::ExitCode;
 use std::rt::{Env, Files};
 use std::thread::Threads;
 use std::{env, fs};
-use wap_case_files::Played;
 use wap_casebook::Tally;
+use wap_casebook::files::Played;
 
 /// The status where nothing differs.
 const ALIKE: u8 = 0;

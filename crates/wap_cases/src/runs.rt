@@ -1,8 +1,8 @@
 //! Runs of the program over the devices of cases.
 use std::alloc::Global;
 use std::thread::Threads;
-use wap_case_files::{Case, Outcome, Played, Reading, Told};
 use wap_casebook::CaseFault;
+use wap_casebook::files::{Case, Outcome, Played, Reading, Told};
 use wap_cli::{Status, run};
 use wap_devices::{MemSource, MemStore, NoGate};
 

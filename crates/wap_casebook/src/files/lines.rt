@@ -1,9 +1,9 @@
 //! The lines of a case.
-use crate::Case;
-use crate::case::{add_both, add_spelled, read_mark};
-use crate::numbers::Subject;
+use crate::files::Case;
+use crate::files::case::{add_both, add_spelled, read_mark};
+use crate::files::numbers::Subject;
+use crate::{CaseFault, Pieces};
 use std::alloc::Global;
-use wap_casebook::{CaseFault, Pieces};
 
 /// What a line says.
 #[derive(Clone, Copy)]

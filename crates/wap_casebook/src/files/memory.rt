@@ -1,10 +1,10 @@
 //! The devices of a case in memory.
-use crate::Case;
-use crate::case::Page;
-use crate::numbers::{Numbers, Subject};
+use crate::CaseFault;
+use crate::files::Case;
+use crate::files::case::Page;
+use crate::files::numbers::{Numbers, Subject};
 use std::alloc::Global;
 use wap_base::{Bytes, NoMemory, Text};
-use wap_casebook::CaseFault;
 use wap_devices::{MemSink, MemSource, MemStore, are_pages};
 
 /// The most bytes that a call moves, where a case says nothing of it.

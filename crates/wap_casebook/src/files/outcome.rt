@@ -1,6 +1,6 @@
 //! What comes of a run over the devices of a case.
-use crate::Case;
-use crate::numbers::Subject;
+use crate::files::Case;
+use crate::files::numbers::Subject;
 use std::alloc::Global;
 use wap_base::{Bytes, NoMemory};
 use wap_devices::{MemSource, MemStore, Source, Store, StoreErr};

@@ -1,11 +1,9 @@
 //! A case, as its lines say it.
-use crate::numbers::Numbers;
-use crate::wml::deck_bytes;
+use crate::files::numbers::Numbers;
+use crate::files::wml::deck_bytes;
+use crate::{CaseFault, Pieces, range, spelled_bytes, spelled_text, split_value, split_word, text};
 use std::alloc::Global;
 use wap_base::{Bytes, Text};
-use wap_casebook::{
-    CaseFault, Pieces, range, spelled_bytes, spelled_text, split_value, split_word, text,
-};
 
 /// A page of the store.
 #[derive(Drop)]

@@ -1,10 +1,10 @@
 //! The cases or calls of a file, one after the other, and what is told of them.
-use crate::Case;
-use crate::lines::read;
-use crate::telling::Told;
+use crate::files::Case;
+use crate::files::lines::read;
+use crate::files::telling::Told;
+use crate::{Call, CaseFault, Pieces, Tally};
 use std::alloc::Global;
 use std::mem;
-use wap_casebook::{Call, CaseFault, Pieces, Tally};
 
 /// What is told of the cases or calls that were played, and how many they are.
 #[derive(Drop)]

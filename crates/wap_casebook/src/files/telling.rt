@@ -1,8 +1,8 @@
 //! What is told of cases and calls that differ.
-use crate::numbers::Subject;
-use crate::{Case, Outcome};
+use crate::files::numbers::Subject;
+use crate::files::{Case, Outcome};
+use crate::{Call, CaseFault};
 use std::alloc::{AllocError, Global};
-use wap_casebook::{Call, CaseFault};
 
 /// The most bytes that are shown of what differs.
 const MOST: usize = 400;

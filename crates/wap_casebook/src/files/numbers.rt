@@ -1,7 +1,7 @@
 //! The numbers that a case says of its devices, and of what is wanted of them.
+use crate::{CaseFault, number};
 use std::alloc::Global;
 use wap_base::NoMemory;
-use wap_casebook::{CaseFault, number};
 
 /// What numbers are said of.
 #[derive(Clone, Copy, PartialEq)]

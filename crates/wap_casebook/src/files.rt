@@ -1,7 +1,6 @@
 //! Files of cases, for the program that plays them: blocks of lines that say what a run begins with
 //! and what is wanted of it, decks as texts of WML, the devices of a run in memory, and in what a
 //! run or a call differs from what is wanted.
-#![tactic(auto)]
 
 mod case;
 mod lines;
