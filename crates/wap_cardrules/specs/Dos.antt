@@ -12,8 +12,8 @@ use Rattle.wap_markup.specs.Tables.{is_same_tag}
 use Rattle.wap_markup.specs.Trees.{value_of}
 use Rattle.wap_markup.specs.Tasks.{task_of}
 use Rattle.wap_markup.specs.Good.{name_of_do}
-use Rattle.wap_filling.specs.Variables.{Variables}
-use Rattle.wap_filling.specs.Filling.{value_text}
+use Rattle.wap_vars.specs.Variables.{Variables}
+use Rattle.wap_vars.specs.Filling.{value_text}
 use Rattle.wap_cardrules.specs.declared.task.Task.{Task}
 use Rattle.wap_cardrules.specs.Values.{Pairs}
 use Rattle.wap_cardrules.specs.Content.{elements_of}

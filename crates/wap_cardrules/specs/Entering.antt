@@ -3,10 +3,10 @@
 use Rattle.std.specs.Prelude.{ℕ, if◌then◌else◌, List, Option, Some, None, Result, Ok, Err}
 use Rattle.wap_markup.specs.declared.deck.Node.{Node}
 use Rattle.wap_markup.specs.declared.name.Tag.TheVariants as tags
-use Rattle.wap_filling.specs.declared.fault.VarFault.{VarFault}
-use Rattle.wap_filling.specs.declared.fault.VarFault.TheVariants as faults
-use Rattle.wap_filling.specs.Variables.{Variables}
-use Rattle.wap_filling.specs.Setting.{set_in}
+use Rattle.wap_vars.specs.declared.fault.VarFault.{VarFault}
+use Rattle.wap_vars.specs.declared.fault.VarFault.TheVariants as faults
+use Rattle.wap_vars.specs.Variables.{Variables}
+use Rattle.wap_vars.specs.Setting.{set_in}
 use Rattle.wap_cardrules.specs.declared.answers.Entered.{Entered}
 use Rattle.wap_cardrules.specs.declared.answers.Entered.TheVariants as entered
 use Rattle.wap_cardrules.specs.declared.answers.Chosen.{Chosen}

@@ -11,7 +11,7 @@ use Rattle.wap_markup.specs.declared.name.AttrName.{AttrName}
 use Rattle.wap_markup.specs.declared.name.AttrName.TheVariants as attrs
 use Rattle.wap_markup.specs.Trees.{node_with, first_with, is_text}
 use Rattle.wap_markup.specs.Cards.{type_of}
-use Rattle.wap_filling.specs.Variables.{Variables}
+use Rattle.wap_vars.specs.Variables.{Variables}
 use Rattle.wap_cardrules.specs.declared.event.Event.{Event}
 use Rattle.wap_cardrules.specs.declared.event.Event.TheVariants.{Forward, Backward, Timer}
 use Rattle.wap_cardrules.specs.declared.task.Task.{Task}

@@ -14,8 +14,8 @@ use Rattle.wap_markup.specs.Tables.{is_same_tag}
 use Rattle.wap_markup.specs.Trees.{value_of, plain_value, words_of}
 use Rattle.wap_layout.specs.declared.flow.Flow.{Flow}
 use Rattle.wap_layout.specs.declared.flow.Flow.TheVariants.{Words, Hard, Soft, Wrap, NoWrap, Pre}
-use Rattle.wap_filling.specs.Variables.{Variables}
-use Rattle.wap_filling.specs.Filling.{filled, value_text}
+use Rattle.wap_vars.specs.Variables.{Variables}
+use Rattle.wap_vars.specs.Filling.{filled, value_text}
 use Rattle.wap_cardrules.specs.Content.{Mark, words, begins, ends, content_of}
 use Rattle.wap_cardrules.specs.Fields.{is_field}
 use Rattle.wap_cardrules.specs.Inputs.{shown_text}

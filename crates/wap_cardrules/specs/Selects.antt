@@ -16,8 +16,8 @@ use Rattle.wap_markup.specs.declared.name.AttrName.TheVariants as attrs
 use Rattle.wap_markup.specs.Tables.{is_same_tag}
 use Rattle.wap_markup.specs.Trees.{value_of}
 use Rattle.wap_markup.specs.Good.{nodes_in}
-use Rattle.wap_filling.specs.Variables.{Variables, text_of}
-use Rattle.wap_filling.specs.Filling.{value_text}
+use Rattle.wap_vars.specs.Variables.{Variables, text_of}
+use Rattle.wap_vars.specs.Filling.{value_text}
 use Rattle.wap_cardrules.specs.Values.{value_if, is_true, variable_in, number_in}
 
 -- its options, those in groups too, in the order of the document

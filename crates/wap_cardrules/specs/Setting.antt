@@ -7,9 +7,9 @@ use Rattle.wap_markup.specs.declared.deck.Node.{Node}
 use Rattle.wap_markup.specs.declared.name.Tag.TheVariants as tags
 use Rattle.wap_markup.specs.declared.name.AttrName.TheVariants as attrs
 use Rattle.wap_markup.specs.Tables.{is_same_tag}
-use Rattle.wap_filling.specs.declared.fault.VarFault.{VarFault}
-use Rattle.wap_filling.specs.Variables.{Variables, text_of, removed}
-use Rattle.wap_filling.specs.Setting.{set_in}
+use Rattle.wap_vars.specs.declared.fault.VarFault.{VarFault}
+use Rattle.wap_vars.specs.Variables.{Variables, text_of, removed}
+use Rattle.wap_vars.specs.Setting.{set_in}
 use Rattle.wap_cardrules.specs.Values.{value_if, Pairs}
 use Rattle.wap_cardrules.specs.Fields.{fields_of}
 use Rattle.wap_cardrules.specs.Inputs.{input_variable, takes}

@@ -9,8 +9,8 @@ use Rattle.wap_markup.specs.declared.name.AttrName.TheVariants as attrs
 use Rattle.wap_markup.specs.Tables.{is_same_tag}
 use Rattle.wap_markup.specs.Trees.{value_of, node_with, plain_value, is_text}
 use Rattle.wap_markup.specs.Tasks.{setvars_of, task_of}
-use Rattle.wap_filling.specs.Variables.{Variables}
-use Rattle.wap_filling.specs.Filling.{value_text}
+use Rattle.wap_vars.specs.Variables.{Variables}
+use Rattle.wap_vars.specs.Filling.{value_text}
 use Rattle.wap_cardrules.specs.declared.task.Task.{Task}
 use Rattle.wap_cardrules.specs.declared.task.Task.TheVariants.{Go, Prev, Refresh}
 use Rattle.wap_cardrules.specs.declared.task.Go.{Go as GoTask}

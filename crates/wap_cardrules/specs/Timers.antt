@@ -5,8 +5,8 @@ use Rattle.wap_markup.specs.declared.deck.Node.{Node}
 use Rattle.wap_markup.specs.declared.name.Tag.TheVariants as tags
 use Rattle.wap_markup.specs.declared.name.AttrName.TheVariants as attrs
 use Rattle.wap_markup.specs.Trees.{first_with, value_of}
-use Rattle.wap_filling.specs.Variables.{Variables, text_of}
-use Rattle.wap_filling.specs.Filling.{value_text}
+use Rattle.wap_vars.specs.Variables.{Variables, text_of}
+use Rattle.wap_vars.specs.Filling.{value_text}
 use Rattle.wap_cardrules.specs.Values.{variable_in, number_in}
 
 -- the element

@@ -8,8 +8,8 @@ use Rattle.std.specs.Str.Parse.{digits_value}
 use Rattle.wap_markup.specs.declared.deck.Node.{Node}
 use Rattle.wap_markup.specs.declared.name.AttrName.{AttrName}
 use Rattle.wap_markup.specs.Trees.{value_of, plain_value, is_text}
-use Rattle.wap_filling.specs.Variables.{Variables}
-use Rattle.wap_filling.specs.Filling.{filled}
+use Rattle.wap_vars.specs.Variables.{Variables}
+use Rattle.wap_vars.specs.Filling.{filled}
 
 -- the value of an attribute, filled, if the node has the attribute
 abbrev pub value_if : Variables → AttrName → Node → Option (List ℕ)

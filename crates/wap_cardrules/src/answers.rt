@@ -1,7 +1,7 @@
 //! What comes of a text that is entered, and of an option that is chosen.
 use crate::Task;
 use wap_base::Rows;
-use wap_filling::VarFault;
+use wap_vars::VarFault;
 
 /// What comes of a text that is entered into a field.
 #[derive(Clone, Copy, Debug, PartialEq, Eq)]

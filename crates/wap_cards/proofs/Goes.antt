@@ -5,8 +5,8 @@ use Rattle.wap_base.specs.Texts.{is_same_text}
 use Rattle.wap_markup.specs.declared.deck.Node.{Node}
 use Rattle.wap_markup.specs.declared.name.AttrName.TheVariants as attrs
 use Rattle.wap_markup.specs.Trees.{value_of, plain_value, is_text}
-use Rattle.wap_filling.specs.Variables.{Variables}
-use Rattle.wap_filling.specs.Filling.{value_text}
+use Rattle.wap_vars.specs.Variables.{Variables}
+use Rattle.wap_vars.specs.Filling.{value_text}
 use Rattle.wap_cardrules.specs.declared.task.Go.{Go}
 use Rattle.wap_cardrules.specs.Values.{is_true}
 use Rattle.wap_cardrules.specs.Tasks.{go_in, posts_in, sets_in}

@@ -7,7 +7,7 @@ use Rattle.std.specs.Cmp.Lexicographic.{bytes_decides}
 use Rattle.std.proofs.lemmas.List.Elements.{All-head, All-tail}
 use Rattle.wap_base.specs.Names.{is_name}
 use Rattle.wap_base.specs.Texts.{is_same_text}
-use Rattle.wap_filling.specs.Variables.{Variables, text_of, removed, AreVars}
+use Rattle.wap_vars.specs.Variables.{Variables, text_of, removed, AreVars}
 
 module _ (name : List ℕ) (no_name : is_name name ≡ false) where
   other : (known : List ℕ) (same : Bool) → is_same_text name known ≡ same

@@ -9,8 +9,8 @@ use Rattle.wap_markup.specs.Decks.{before}
 use Rattle.wap_markup.specs.Trees.{plain_text}
 use Rattle.wap_deck.specs.declared.good.bits.Bit.{Bit}
 use Rattle.wap_deck.specs.good.Runs.{part_of, IsFirstBit}
-use Rattle.wap_filling.specs.Variables.{Variables}
-use Rattle.wap_filling.specs.Filling.{filled, part_text}
+use Rattle.wap_vars.specs.Variables.{Variables}
+use Rattle.wap_vars.specs.Filling.{filled, part_text}
 
 -- ---- filled
 

@@ -1,7 +1,7 @@
 //! The timer of a card (WAP-191, section 11.7).
 ghost use Rattle.std.specs.Prelude.{◌≡◌, IfOk};
 ghost use Rattle.std.specs.Option.{option_and_then};
-ghost use Rattle.wap_filling.specs.Variables.{text_of};
+ghost use Rattle.wap_vars.specs.Variables.{text_of};
 ghost use Rattle.wap_cardrules.specs.Timers.{time_in, timer_variable, timer_text, timer_of};
 
 use crate::filling::fill_value;

@@ -22,8 +22,8 @@ use Rattle.wap_base.specs.Utf8.{utf8_len}
 use Rattle.wap_base.specs.declared.limits.Limits.{Limits}
 use Rattle.wap_base.proofs.Choices.{chosen, some_same}
 use Rattle.wap_base.proofs.Utf8Lengths.{length-encode_utf8_all}
-use Rattle.wap_filling.specs.Variables.{AreVars}
-use Rattle.wap_filling.specs.declared.limits.TheConstants.{TEXT_LIMIT}
+use Rattle.wap_vars.specs.Variables.{AreVars}
+use Rattle.wap_vars.specs.declared.limits.TheConstants.{TEXT_LIMIT}
 use Rattle.wap_image.specs.declared.context_parts.parts.SavedTimer.{SavedTimer}
 use Rattle.wap_image.specs.declared.context_parts.parts.SavedTimer.TheVariants.{NotStarted, Running}
 use Rattle.wap_image.specs.declared.context_parts.parts.SavedTimer.TheVariants.{Off}

@@ -21,8 +21,8 @@ use Rattle.wap_base.specs.declared.limits.Limits.{Limits}
 use Rattle.wap_base.proofs.CharsetLaws.{text_in-utf8}
 use Rattle.wap_base.proofs.NumberSpelling.{IsShortest-mb_spelling}
 use Rattle.wap_base.proofs.Utf8Lengths.{length-encode_utf8_all}
-use Rattle.wap_filling.specs.Variables.{AreVars}
-use Rattle.wap_filling.specs.declared.limits.TheConstants.{TEXT_LIMIT}
+use Rattle.wap_vars.specs.Variables.{AreVars}
+use Rattle.wap_vars.specs.declared.limits.TheConstants.{TEXT_LIMIT}
 use Rattle.wap_image.specs.declared.context_parts.parts.ContextParts.{ContextParts}
 use Rattle.wap_image.specs.declared.context_parts.parts.SavedTimer.{SavedTimer}
 use Rattle.wap_image.specs.declared.context_parts.parts.SavedTimer.TheVariants.{NotStarted, Running}

@@ -10,7 +10,7 @@ use Rattle.wap_base.specs.Names.{is_name}
 use Rattle.wap_base.specs.Texts.{is_same_text, text_cmp}
 use Rattle.wap_base.specs.declared.limits.TheConstants.{LEAST_STRING, MOST_STRING, LEAST_HISTORY}
 use Rattle.wap_base.specs.declared.limits.TheConstants.{MOST_HISTORY, LEAST_DEPTH, MOST_DEPTH}
-use Rattle.wap_filling.specs.declared.limits.TheConstants.{VAR_LIMIT, TEXT_LIMIT}
+use Rattle.wap_vars.specs.declared.limits.TheConstants.{VAR_LIMIT, TEXT_LIMIT}
 use Rattle.wap_url.specs.declared.url.Url.{Url}
 use Rattle.wap_url.specs.declared.fault.UrlFault.{UrlFault}
 use Rattle.wap_url.specs.Reading.{url_at}

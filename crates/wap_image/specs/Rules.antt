@@ -4,7 +4,7 @@ use Rattle.std.specs.Prelude.{◌≡◌, ℕ, ◌<◌, ◌≤◌, ◌^◌, true,
 use Rattle.std.specs.Prelude.{encode_utf8_all}
 use Rattle.std.specs.List.{AllByRecursion, list_all}
 use Rattle.wap_base.specs.Limits.{AreInRange}
-use Rattle.wap_filling.specs.Variables.{AreVars}
+use Rattle.wap_vars.specs.Variables.{AreVars}
 use Rattle.wap_image.specs.declared.context_parts.parts.ContextParts.{ContextParts}
 use Rattle.wap_image.specs.declared.context_parts.parts.SavedTimer.{SavedTimer}
 use Rattle.wap_image.specs.declared.context_parts.parts.SavedTimer.TheVariants.{NotStarted, Running}

@@ -8,7 +8,7 @@ use crate::context_parts::ImageFault;
 use crate::steps::{number, place, take_bytes};
 use std::alloc::Global;
 use wap_base::{Charset, Text};
-use wap_filling::TEXT_LIMIT;
+use wap_vars::TEXT_LIMIT;
 
 /// A text after the number of its bytes.
 #[tactic(auto, unfolding(crate::specs::inside::Reading::text_at, crate::specs::inside::Reading::sized_at))]

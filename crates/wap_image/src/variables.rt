@@ -12,7 +12,7 @@ use crate::steps::{number, place};
 use crate::texts::{read_text, read_value};
 use std::alloc::Global;
 use wap_base::{Rows, Text};
-use wap_filling::VAR_LIMIT;
+use wap_vars::VAR_LIMIT;
 
 /// The variables, after their number.
 #[tactic(auto, unfolding(crate::specs::inside::Reading::variables_at))]

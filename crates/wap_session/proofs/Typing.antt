@@ -7,7 +7,7 @@ use Rattle.wap_cardrules.specs.Dos.{do_task}
 use Rattle.wap_cardrules.specs.Fields.{link_task}
 use Rattle.wap_cardrules.specs.declared.task.Task.TheVariants.{Prev}
 use Rattle.std.specs.List.{flat_map}
-use Rattle.wap_filling.specs.declared.fault.VarFault.{VarFault}
+use Rattle.wap_vars.specs.declared.fault.VarFault.{VarFault}
 use Rattle.wap_input.specs.declared.key.Key.TheVariants as key
 use Rattle.wap_cardrules.specs.declared.answers.Entered.{Entered}
 use Rattle.wap_cardrules.specs.declared.answers.Entered.TheVariants as entered

@@ -21,11 +21,11 @@ use Rattle.wap_url.specs.declared.url.Url.{Url}
 use Rattle.wap_url.specs.declared.fault.UrlFault.{UrlFault}
 use Rattle.wap_url.specs.Reading.{url_at}
 use Rattle.wap_url.specs.Printing.{printed, IsNormal}
-use Rattle.wap_filling.specs.declared.fault.VarFault.{VarFault}
-use Rattle.wap_filling.specs.declared.fault.VarFault.TheVariants.{BadName, TooLong, Full}
-use Rattle.wap_filling.specs.declared.limits.TheConstants.{VAR_LIMIT, TEXT_LIMIT}
-use Rattle.wap_filling.specs.Variables.{Variables, AreInOrder, AreVars, updated}
-use Rattle.wap_filling.specs.Setting.{set_in, has_no_room}
+use Rattle.wap_vars.specs.declared.fault.VarFault.{VarFault}
+use Rattle.wap_vars.specs.declared.fault.VarFault.TheVariants.{BadName, TooLong, Full}
+use Rattle.wap_vars.specs.declared.limits.TheConstants.{VAR_LIMIT, TEXT_LIMIT}
+use Rattle.wap_vars.specs.Variables.{Variables, AreInOrder, AreVars, updated}
+use Rattle.wap_vars.specs.Setting.{set_in, has_no_room}
 use Rattle.wap_libs.specs.Generator.{Generator, most_drawn}
 use Rattle.wap_image.specs.declared.context_parts.parts.ContextParts.{ContextParts}
 use Rattle.wap_image.specs.declared.context_parts.parts.SavedTimer.{SavedTimer}
@@ -83,7 +83,7 @@ placed_last (first ∷ done) name text rest ordered =
 no_room_false : (done : Variables) (name : List ℕ) → length done < VAR_LIMIT
     → has_no_room done name ≡ false
 no_room_false done name few =
-    ap (λ full. full && not (is_some (Rattle.wap_filling.specs.Variables.text_of done name)))
+    ap (λ full. full && not (is_some (Rattle.wap_vars.specs.Variables.text_of done name)))
     (full_false (length done) few) where
       full_false : (n : ℕ) → n < VAR_LIMIT → nat_le VAR_LIMIT n ≡ false
       full_false n few = grind (arith, nat_tests)

@@ -1,8 +1,8 @@
 -- Sets that were stopped because memory ran out: the first of them stand.
 use Rattle.std.proofs.Common.{◌≡◌, ℕ, List, [], ◌∷◌, ◌++◌, length, take, refl, sym, ap, subst, ◌∙◌}
 use Rattle.std.proofs.Common.{ap₂, append_assoc}
-use Rattle.wap_filling.specs.declared.fault.VarFault.{VarFault}
-use Rattle.wap_filling.specs.Variables.{Variables}
+use Rattle.wap_vars.specs.declared.fault.VarFault.{VarFault}
+use Rattle.wap_vars.specs.Variables.{Variables}
 use Rattle.wap_markup.specs.declared.deck.Node.{Node}
 use Rattle.wap_cardrules.specs.Fields.{fields_of}
 use Rattle.wap_cardrules.specs.Values.{Pairs}

@@ -3,8 +3,8 @@ ghost use Rattle.std.specs.Prelude.{◌≡◌, ◌≤◌, ◌<◌, ◌++◌, ◌
 ghost use Rattle.std.specs.Prelude.{IfOk, OnOk};
 ghost use Rattle.std.specs.List.{AllByRecursion};
 ghost use Rattle.wap_url.specs.Reading.{url_at};
-ghost use Rattle.wap_filling.specs.Variables.{AreVars};
-ghost use Rattle.wap_filling.specs.Setting.{set_in};
+ghost use Rattle.wap_vars.specs.Variables.{AreVars};
+ghost use Rattle.wap_vars.specs.Setting.{set_in};
 ghost use Rattle.wap_image.specs.Items.{is_drawn, is_entry_text};
 ghost use Rattle.wap_image.specs.Rules.{AreParts};
 ghost use Rattle.wap_state.specs.Saved.{saved_timer, timer_in, timer_of, entry_with, entries_of};

@@ -5,7 +5,7 @@ use Rattle.std.proofs.lemmas.List.Concat.{flat_map-append}
 use Rattle.wap_base.specs.declared.name.Part.{Part}
 use Rattle.wap_base.specs.declared.name.Part.TheVariants.{Lit, Var}
 use Rattle.wap_base.specs.declared.name.Conv.TheVariants.{Escape, Plain}
-use Rattle.wap_filling.specs.Filling.{part_text, filled}
+use Rattle.wap_vars.specs.Filling.{part_text, filled}
 
 pub filled_append : (vars : List (List ℕ × List ℕ)) (front rest : List Part)
     → filled vars (front ++ rest) ≡ filled vars front ++ filled vars rest

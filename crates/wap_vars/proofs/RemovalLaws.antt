@@ -8,7 +8,7 @@ use Rattle.std.specs.Cmp.Lexicographic.{nat_list_cmp_total}
 use Rattle.std.proofs.lemmas.Map.{lookup-remove_entry}
 use Rattle.std.proofs.lemmas.Map.Keys.{IsDistinct-from_sorted}
 use Rattle.wap_base.specs.Texts.{text_cmp}
-use Rattle.wap_filling.specs.Variables.{text_of, removed}
+use Rattle.wap_vars.specs.Variables.{text_of, removed}
 use Rattle.wap_vars.proofs.TextLaws.{lookup_by_order, removed_by_order, other_place}
 use Rattle.wap_vars.proofs.UpdateLaws.{at_itself}
 

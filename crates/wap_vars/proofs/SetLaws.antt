@@ -11,11 +11,11 @@ use Rattle.std.proofs.lemmas.Map.Views.{All-map-remove_entry}
 use Rattle.wap_base.specs.Names.{is_name}
 use Rattle.wap_base.specs.Texts.{text_cmp}
 use Rattle.wap_base.specs.Utf8.{utf8_len}
-use Rattle.wap_filling.specs.declared.limits.TheConstants.{VAR_LIMIT, TEXT_LIMIT}
-use Rattle.wap_filling.specs.declared.fault.VarFault.{VarFault}
-use Rattle.wap_filling.specs.declared.fault.VarFault.TheVariants.{Full}
-use Rattle.wap_filling.specs.Variables.{text_of, updated, AreVars}
-use Rattle.wap_filling.specs.Setting.{set_in}
+use Rattle.wap_vars.specs.declared.limits.TheConstants.{VAR_LIMIT, TEXT_LIMIT}
+use Rattle.wap_vars.specs.declared.fault.VarFault.{VarFault}
+use Rattle.wap_vars.specs.declared.fault.VarFault.TheVariants.{Full}
+use Rattle.wap_vars.specs.Variables.{text_of, updated, AreVars}
+use Rattle.wap_vars.specs.Setting.{set_in}
 
 pub set_ok : (vars : List (List ℕ × List ℕ)) (name text : List ℕ) → is_name name ≡ true
     → utf8_len text ≤ TEXT_LIMIT → (VAR_LIMIT ≤ length vars → is_some (text_of vars name) ≡ true)

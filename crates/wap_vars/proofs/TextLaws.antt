@@ -12,7 +12,7 @@ use Rattle.std.specs.Cmp.Lexicographic.{texts_ties}
 use Rattle.std.proofs.lemmas.List.Elements.{All-head, All-tail}
 use Rattle.std.proofs.lemmas.Map.Lookups.{exact_bytes}
 use Rattle.wap_base.specs.Texts.{is_same_text, text_cmp}
-use Rattle.wap_filling.specs.Variables.{text_of, removed}
+use Rattle.wap_vars.specs.Variables.{text_of, removed}
 use denote.Ref.{Bor}
 
 -- a name is found by the order as it is by being the same

@@ -12,7 +12,7 @@ use Rattle.std.specs.Cmp.Lexicographic.{nat_list_cmp_total}
 use Rattle.std.proofs.lemmas.Cmp.{tied_itself}
 use Rattle.std.proofs.lemmas.Map.Lookups.{exact_bytes}
 use Rattle.wap_base.specs.Texts.{text_cmp}
-use Rattle.wap_filling.specs.Variables.{text_of, updated}
+use Rattle.wap_vars.specs.Variables.{text_of, updated}
 use Rattle.wap_vars.proofs.TextLaws.{lookup_by_order, other_place}
 
 pub at_itself : (name : List ℕ) → is_at (text_cmp name) name ≡ true

@@ -1,7 +1,7 @@
 //! Values filled from variables.
 ghost use Rattle.std.specs.Prelude.{◌≡◌, ◌++◌, IfOk, OnOk};
 ghost use Rattle.std.specs.Option.{option_copied};
-ghost use Rattle.wap_filling.specs.Filling.{converted, filled, value_text};
+ghost use Rattle.wap_vars.specs.Filling.{converted, filled, value_text};
 
 use crate::Vars;
 use std::alloc::Global;

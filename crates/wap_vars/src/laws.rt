@@ -2,8 +2,8 @@
 //! None of these functions does anything.
 ghost use Rattle.std.specs.Prelude.{◌≡◌, ◌≢◌, ℕ, List, ◌++◌, Some, None};
 ghost use Rattle.wap_base.specs.declared.name.Part.{Part};
-ghost use Rattle.wap_filling.specs.Variables.{text_of, updated, removed, AreInOrder};
-ghost use Rattle.wap_filling.specs.Filling.{filled};
+ghost use Rattle.wap_vars.specs.Variables.{text_of, updated, removed, AreInOrder};
+ghost use Rattle.wap_vars.specs.Filling.{filled};
 
 /// An update is read back under its name, and touches no other.
 #[tactic(auto, using(crate::proofs::UpdateLaws::updated_here, crate::proofs::UpdateLaws::updated_elsewhere, crate::proofs::UpdateLaws::updated_in_order))]

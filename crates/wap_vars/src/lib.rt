@@ -1,10 +1,13 @@
-//! The variables of the browser: a map from names to texts with its limits, and the filling of
-//! values that refer to them. What both mean stands in `wap_filling`.
+//! The variables of the browser: what they are, what setting one gives, what a value comes to that
+//! refers to them, and a map from names to texts with its limits.
 #![tactic(auto)]
 
+mod fault;
 mod filling;
 pub mod laws;
+mod limits;
 mod vars;
 
+pub use fault::VarFault;
+pub use limits::{TEXT_LIMIT, VAR_LIMIT};
 pub use vars::Vars;
-pub use wap_filling::{TEXT_LIMIT, VAR_LIMIT, VarFault};

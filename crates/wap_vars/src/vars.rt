@@ -5,14 +5,14 @@ ghost use Rattle.std.specs.Option.{option_copied};
 ghost use Rattle.wap_base.specs.Names.{is_name};
 ghost use Rattle.wap_base.specs.Outcome.{Meets};
 ghost use Rattle.wap_base.specs.Utf8.{utf8_len};
-ghost use Rattle.wap_filling.specs.Variables.{text_of, updated, removed, AreVars};
-ghost use Rattle.wap_filling.specs.Setting.{set_in};
+ghost use Rattle.wap_vars.specs.Variables.{text_of, updated, removed, AreVars};
+ghost use Rattle.wap_vars.specs.Setting.{set_in};
 
+use crate::{TEXT_LIMIT, VAR_LIMIT, VarFault};
 use std::alloc::Global;
 use std::collections::BTreeMap;
 use std::marker::Model;
 use wap_base::{Name, NoMemory, Text, is_name};
-use wap_filling::{TEXT_LIMIT, VAR_LIMIT, VarFault};
 
 /// The variables of the browser (WAP-191, section 10.3). A contract sees the pairs of a name and
 /// its text, in ascending order of names.
@@ -27,7 +27,7 @@ impl Model for Vars {
 
     ghost Value = { List (List ℕ × List ℕ) };
 
-    ghost use Rattle.wap_filling.specs.Variables.{AreVars};
+    ghost use Rattle.wap_vars.specs.Variables.{AreVars};
 
     ghost view = { λ vars. vars.texts.entries };
 

@@ -1,7 +1,7 @@
 -- The screen of a card (WAP-191, section 11.5), and when it is shown. Its form is this project's
 -- own.
 use Rattle.std.specs.Prelude.{ℕ, List, [], ◌∷◌, ◌++◌, map, Option, Some, None}
-use Rattle.wap_filling.specs.Variables.{Variables}
+use Rattle.wap_vars.specs.Variables.{Variables}
 use Rattle.wap_layout.specs.Calculation.{lines_of}
 use Rattle.wap_cardrules.specs.Setting.{defaults}
 use Rattle.wap_cardrules.specs.Dos.{do_labels}

@@ -6,7 +6,7 @@ use Rattle.std.proofs.lemmas.List.{take_all, flat_map_more, get_or_default}
 use Rattle.std.proofs.lemmas.Slice.Zip.{length-zip, get_or-zip}
 use Rattle.wap_markup.specs.declared.deck.Node.{Node}
 use Rattle.wap_layout.specs.declared.flow.Flow.{Flow}
-use Rattle.wap_filling.specs.Variables.{Variables}
+use Rattle.wap_vars.specs.Variables.{Variables}
 use Rattle.wap_cards.proofs.InputsLemmas.Marking.{enumerate_next}
 use Rattle.wap_cardrules.specs.Flow.{option_flow}
 

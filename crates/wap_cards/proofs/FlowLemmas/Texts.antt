@@ -8,8 +8,8 @@ use Rattle.wap_markup.specs.declared.deck.Item.TheVariants as item
 use Rattle.wap_markup.specs.Trees.{ItemLevel, words_from, words_of}
 use Rattle.wap_layout.specs.declared.flow.Flow.{Flow}
 use Rattle.wap_layout.specs.declared.flow.Flow.TheVariants.{Words}
-use Rattle.wap_filling.specs.Variables.{Variables}
-use Rattle.wap_filling.specs.Filling.{filled}
+use Rattle.wap_vars.specs.Variables.{Variables}
+use Rattle.wap_vars.specs.Filling.{filled}
 use Rattle.wap_deck.proofs.GoodLemmas.Layers.{out_node, out_text}
 
 abbrev pub texts_flow : Variables → List Item → List Flow

@@ -11,7 +11,7 @@ use Rattle.wap_markup.specs.declared.deck.Item.{Item}
 use Rattle.wap_markup.specs.declared.deck.Item.TheVariants as item
 use Rattle.wap_markup.specs.declared.name.Tag.TheVariants as tags
 use Rattle.wap_markup.specs.Tables.{is_same_tag}
-use Rattle.wap_filling.specs.Variables.{Variables}
+use Rattle.wap_vars.specs.Variables.{Variables}
 use Rattle.wap_cardrules.specs.Content.{Mark, words, begins, ends, element_marks, begun_by}
 use Rattle.wap_cardrules.specs.Flow.{shown_with}
 use Rattle.wap_cards.proofs.Marks.{left_marks, marks_text, marks_no_text, marks_node}

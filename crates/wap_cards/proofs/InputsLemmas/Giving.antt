@@ -10,7 +10,7 @@ use Rattle.wap_cards.specs.inputs.Stopped.{FirstStand, default_sets, DefaultsSta
 use Rattle.std.proofs.lemmas.List.{append-nil, take_more}
 use Rattle.wap_markup.specs.declared.deck.Node.{Node}
 use Rattle.wap_markup.specs.declared.name.AttrName.TheVariants as attrs
-use Rattle.wap_filling.specs.Variables.{Variables, removed}
+use Rattle.wap_vars.specs.Variables.{Variables, removed}
 use Rattle.wap_cardrules.specs.Values.{value_if}
 use Rattle.wap_cardrules.specs.Inputs.{input_variable, takes}
 use Rattle.wap_cardrules.specs.Setting.{set_one, accepted, default_text, set_each, default}

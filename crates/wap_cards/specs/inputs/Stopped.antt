@@ -5,7 +5,7 @@ use Rattle.std.specs.Option.{option_map_or}
 use Rattle.wap_markup.specs.declared.deck.Node.{Node}
 use Rattle.wap_markup.specs.declared.name.Tag.TheVariants as tags
 use Rattle.wap_markup.specs.Tables.{is_same_tag}
-use Rattle.wap_filling.specs.Variables.{Variables}
+use Rattle.wap_vars.specs.Variables.{Variables}
 use Rattle.wap_cardrules.specs.Fields.{fields_of, field_with}
 use Rattle.wap_cardrules.specs.Selects.{choice_of, choice_with}
 use Rattle.wap_cardrules.specs.Setting.{set_all, set_each, default, choice_sets}

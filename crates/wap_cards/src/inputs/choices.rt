@@ -6,7 +6,7 @@ ghost use Rattle.std.specs.Option.{option_and_then, option_or};
 ghost use Rattle.wap_base.specs.Texts.{is_same_text};
 ghost use Rattle.wap_base.specs.Ascii.{digit_zero};
 ghost use Rattle.wap_base.specs.Cuts.{begins_with};
-ghost use Rattle.wap_filling.specs.Variables.{text_of};
+ghost use Rattle.wap_vars.specs.Variables.{text_of};
 ghost use Rattle.wap_cardrules.specs.Values.{value_if, variable_in};
 ghost use Rattle.wap_cardrules.specs.Selects.{options_of, is_multiple, pieces_of, chosen};
 ghost use Rattle.wap_cardrules.specs.Selects.{number_of, numbers_in, numbers_of, choice_if};

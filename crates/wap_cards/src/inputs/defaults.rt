@@ -1,7 +1,7 @@
 //! The variables that a card's fields have when it is shown (WAP-191, sections 11.6.2 and 11.6.3).
 ghost use Rattle.std.specs.Prelude.{◌≡◌, ◌++◌, false, IfOk, OnOk, OnErr};
 ghost use Rattle.std.specs.Option.{option_map_or};
-ghost use Rattle.wap_filling.specs.Variables.{text_of, removed};
+ghost use Rattle.wap_vars.specs.Variables.{text_of, removed};
 ghost use Rattle.wap_cardrules.specs.Values.{value_if};
 ghost use Rattle.wap_cardrules.specs.Inputs.{input_variable, takes};
 ghost use Rattle.wap_cardrules.specs.Setting.{default_text, default_input, default, defaults};

@@ -2,7 +2,7 @@
 ghost use Rattle.std.specs.Prelude.{◌≡◌, Some, IfOk, OnOk, OnErr};
 ghost use Rattle.wap_cardrules.specs.Fields.{field_with};
 ghost use Rattle.wap_cardrules.specs.Entering.{entered_by, enter_in, enter_text};
-ghost use Rattle.wap_filling.specs.Setting.{set_in};
+ghost use Rattle.wap_vars.specs.Setting.{set_in};
 
 use crate::inputs::inputs::{input_variable, takes};
 use crate::{fields_of, numbered_view};

@@ -5,10 +5,10 @@ use Rattle.std.specs.Prelude.{Result, Ok, Err, codes}
 use Rattle.std.specs.List.{starts_with}
 use Rattle.std.specs.Option.{option_map_or, option_and_then}
 use Rattle.wap_base.specs.declared.limits.Limits.{Limits}
-use Rattle.wap_filling.specs.Variables.{Variables}
-use Rattle.wap_filling.specs.Setting.{set_in}
-use Rattle.wap_filling.specs.declared.fault.VarFault.{VarFault}
-use Rattle.wap_filling.specs.declared.fault.VarFault.TheVariants as fault
+use Rattle.wap_vars.specs.Variables.{Variables}
+use Rattle.wap_vars.specs.Setting.{set_in}
+use Rattle.wap_vars.specs.declared.fault.VarFault.{VarFault}
+use Rattle.wap_vars.specs.declared.fault.VarFault.TheVariants as fault
 use Rattle.wap_input.specs.declared.key.Key.{Key}
 use Rattle.wap_input.specs.declared.key.Key.TheVariants as key
 use Rattle.wap_url.specs.declared.url.Url.{Url}

@@ -8,7 +8,7 @@ use Rattle.std.specs.List.{list_any}
 use Rattle.wap_cardrules.specs.Timers.{timer_in, timer_variable}
 use Rattle.wap_cardrules.specs.Dos.{do_task}
 use Rattle.wap_cardrules.specs.Fields.{link_task}
-use Rattle.wap_filling.specs.Variables.{Variables}
+use Rattle.wap_vars.specs.Variables.{Variables}
 use Rattle.wap_input.specs.declared.key.Key.{Key}
 use Rattle.wap_input.specs.declared.key.Key.TheVariants as key
 use Rattle.wap_url.specs.declared.url.Url.{Url}

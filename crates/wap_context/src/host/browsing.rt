@@ -2,7 +2,7 @@
 ghost use Rattle.std.specs.Prelude.{◌≡◌, ◌++◌, [], codes, is_some, IfOk, OnOk};
 ghost use Rattle.std.specs.Option.{option_map_or};
 ghost use Rattle.wap_value.specs.declared.value.Value.TheVariants.{Invalid};
-ghost use Rattle.wap_filling.specs.Setting.{set_in};
+ghost use Rattle.wap_vars.specs.Setting.{set_in};
 ghost use Rattle.wap_cardrules.specs.Values.{value_if};
 ghost use Rattle.wap_world.specs.Screens.{screen};
 ghost use Rattle.wap_libs.specs.Row.{argument};

@@ -14,10 +14,10 @@ use Rattle.wap_url.specs.Printing.{name_for}
 use Rattle.wap_value.specs.declared.value.Value.{Value}
 use Rattle.wap_value.specs.declared.value.Value.TheVariants.{Bool as Boolean, Str, Invalid}
 use Rattle.wap_value.specs.Conversion.{text_of}
-use Rattle.wap_filling.specs.declared.fault.VarFault.{VarFault}
-use Rattle.wap_filling.specs.declared.fault.VarFault.TheVariants as fault
-use Rattle.wap_filling.specs.Variables.{Variables}
-use Rattle.wap_filling.specs.Setting.{set_in}
+use Rattle.wap_vars.specs.declared.fault.VarFault.{VarFault}
+use Rattle.wap_vars.specs.declared.fault.VarFault.TheVariants as fault
+use Rattle.wap_vars.specs.Variables.{Variables}
+use Rattle.wap_vars.specs.Setting.{set_in}
 use Rattle.wap_cardrules.specs.declared.task.Task.{Task}
 use Rattle.wap_execution.specs.declared.library.HostOut.{HostOut}
 use Rattle.wap_execution.specs.declared.library.HostOut.TheVariants as out

@@ -12,8 +12,8 @@ use Rattle.wap_markup.specs.declared.name.Tag.TheVariants as tags
 use Rattle.wap_markup.specs.Tables.{is_same_tag}
 use Rattle.wap_layout.specs.declared.flow.Flow.{Flow}
 use Rattle.wap_layout.specs.declared.flow.Flow.TheVariants.{Words}
-use Rattle.wap_filling.specs.Variables.{Variables}
-use Rattle.wap_filling.specs.Filling.{filled}
+use Rattle.wap_vars.specs.Variables.{Variables}
+use Rattle.wap_vars.specs.Filling.{filled}
 use Rattle.wap_cardrules.specs.Content.{Mark, words, begins, ends, content_of, begun_by}
 use Rattle.wap_cardrules.specs.Fields.{is_field, fields_of, numbered}
 use Rattle.wap_cardrules.specs.Flow.{Shown, followed_by, with_field, with_mode, mode_of}

@@ -3,7 +3,7 @@ ghost use Rattle.std.specs.Prelude.{◌≡◌, ◌+◌, true, ◌++◌, ◌∷�
 ghost use Rattle.std.specs.List.{fold};
 ghost use Rattle.wap_url.specs.Segments.{IsPrefix};
 ghost use Rattle.wap_markup.specs.declared.deck.Node.{Node};
-ghost use Rattle.wap_filling.specs.Variables.{Variables};
+ghost use Rattle.wap_vars.specs.Variables.{Variables};
 ghost use Rattle.wap_cardrules.specs.Content.{Mark, begins, content_of};
 ghost use Rattle.wap_cardrules.specs.Fields.{is_field, fields_of, numbered};
 ghost use Rattle.wap_cardrules.specs.Flow.{shown_with, nothing_shown, field_flow, flow_of};

@@ -1,5 +1,5 @@
 use Rattle.std.proofs.Common.{◌≡◌, ◌++◌}
-use Rattle.wap_filling.specs.Filling.{filled}
+use Rattle.wap_vars.specs.Filling.{filled}
 use Rattle.wap_cards.proofs.filling.fill.Given as goal
 
 abbrev pub invariant-loop-bit : goal.invariant-loop-bit

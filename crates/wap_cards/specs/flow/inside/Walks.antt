@@ -3,7 +3,7 @@ use Rattle.std.specs.Prelude.{if◌then◌else◌, List, [], ◌∷◌, ◌++◌
 use Rattle.wap_markup.specs.declared.deck.Node.{Node}
 use Rattle.wap_markup.specs.declared.name.Tag.TheVariants as tags
 use Rattle.wap_markup.specs.Tables.{is_same_tag}
-use Rattle.wap_filling.specs.Variables.{Variables}
+use Rattle.wap_vars.specs.Variables.{Variables}
 use Rattle.wap_cardrules.specs.Content.{Mark, words, begins, ends}
 use Rattle.wap_cardrules.specs.Flow.{shown_with}
 use Rattle.wap_cards.specs.declared.flow.walk.Walk.{Walk}

@@ -1,6 +1,6 @@
 use Rattle.std.proofs.Common.{List, ◌++◌, sym, ap, ap₂, ◌∙◌}
-use Rattle.wap_filling.specs.declared.fault.VarFault.{VarFault}
-use Rattle.wap_filling.specs.Variables.{Variables}
+use Rattle.wap_vars.specs.declared.fault.VarFault.{VarFault}
+use Rattle.wap_vars.specs.Variables.{Variables}
 use Rattle.wap_cardrules.specs.Setting.{default}
 use Rattle.wap_cards.specs.inputs.Stopped.{DefaultsStand}
 use Rattle.wap_cards.proofs.InputsLemmas.Giving.{vars_next, refused_next, stopped_at, on_err}

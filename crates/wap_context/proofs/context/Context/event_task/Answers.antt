@@ -1,5 +1,5 @@
 use Rattle.std.proofs.Common.{◌∙◌, sym, ap₂}
-use Rattle.wap_filling.specs.Variables.{Variables}
+use Rattle.wap_vars.specs.Variables.{Variables}
 use Rattle.wap_cardrules.specs.Events.{binding}
 use Rattle.wap_state.specs.Held.{Held}
 use Rattle.wap_context.proofs.Plays.{if_ok, event_here}

@@ -1,6 +1,6 @@
 use Rattle.std.proofs.Common.{◌≡◌, ◌<◌, subst}
 use Rattle.std.specs.List.{AllByRecursion}
-use Rattle.wap_filling.specs.Variables.{AreVars}
+use Rattle.wap_vars.specs.Variables.{AreVars}
 use Rattle.wap_libs.specs.Generator.{most_drawn}
 use Rattle.wap_world.specs.World.{World}
 use Rattle.wap_state.specs.page_urls.PageUrls.{IsPageEntry}

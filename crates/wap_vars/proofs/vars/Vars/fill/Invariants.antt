@@ -1,5 +1,5 @@
 use Rattle.std.proofs.Common.{◌≡◌, take}
-use Rattle.wap_filling.specs.Filling.{filled}
+use Rattle.wap_vars.specs.Filling.{filled}
 use Rattle.wap_vars.proofs.vars.Vars.fill.Given as goal
 
 abbrev pub invariant-loop-part : goal.invariant-loop-part

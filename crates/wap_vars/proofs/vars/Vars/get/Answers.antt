@@ -1,8 +1,8 @@
 use Rattle.std.proofs.Common.{◌≤◌, ◌∙◌, ap, sym, subst, List, ℕ, Option}
 use Rattle.std.specs.Option.{IfSome}
 use Rattle.wap_base.specs.Utf8.{utf8_len}
-use Rattle.wap_filling.specs.declared.limits.TheConstants.{TEXT_LIMIT}
-use Rattle.wap_filling.specs.Variables.{text_of}
+use Rattle.wap_vars.specs.declared.limits.TheConstants.{TEXT_LIMIT}
+use Rattle.wap_vars.specs.Variables.{text_of}
 use Rattle.wap_vars.proofs.TextLaws.{lookup_by_order, found_text, if_copied}
 use Rattle.wap_vars.proofs.vars.Vars.get.Goals as goal
 

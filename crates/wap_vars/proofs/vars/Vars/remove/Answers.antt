@@ -1,5 +1,5 @@
 use Rattle.std.proofs.Common.{◌∙◌, ap, sym, List, ℕ, arith}
-use Rattle.wap_filling.specs.Variables.{text_of, removed}
+use Rattle.wap_vars.specs.Variables.{text_of, removed}
 use Rattle.wap_vars.proofs.TextLaws.{lookup_by_order, removed_by_order, other_place}
 use Rattle.wap_vars.proofs.SetLaws.{vars_removed}
 use Rattle.wap_vars.proofs.vars.Vars.remove.Goals as goal

@@ -4,8 +4,8 @@ use Rattle.std.specs.BTreeMap.{BTreeMap}
 use Rattle.std.specs.Option.{is_some}
 use Rattle.wap_base.specs.Names.{is_name}
 use Rattle.wap_base.specs.Utf8.{utf8_len}
-use Rattle.wap_filling.specs.declared.limits.TheConstants.{VAR_LIMIT, TEXT_LIMIT}
-use Rattle.wap_filling.specs.Variables.{text_of, updated}
+use Rattle.wap_vars.specs.declared.limits.TheConstants.{VAR_LIMIT, TEXT_LIMIT}
+use Rattle.wap_vars.specs.Variables.{text_of, updated}
 use Rattle.wap_vars.proofs.TextLaws.{lookup_by_order}
 use Rattle.wap_vars.proofs.SetLaws.{set_ok, set_full, set_seen, vars_updated}
 use Rattle.wap_vars.proofs.UpdateLaws.{replaced_updated, updated_here, updated_elsewhere}

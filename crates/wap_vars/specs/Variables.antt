@@ -8,7 +8,7 @@ use Rattle.std.specs.BTreeMap.{insert_entry}
 use Rattle.wap_base.specs.Names.{is_name}
 use Rattle.wap_base.specs.Texts.{is_same_text, text_cmp}
 use Rattle.wap_base.specs.Utf8.{utf8_len}
-use Rattle.wap_filling.specs.declared.limits.TheConstants.{VAR_LIMIT, TEXT_LIMIT}
+use Rattle.wap_vars.specs.declared.limits.TheConstants.{VAR_LIMIT, TEXT_LIMIT}
 
 -- pairs of a name and its text
 abbrev pub Variables : Type 0

@@ -8,7 +8,7 @@ use Rattle.wap_base.specs.declared.name.Conv.TheVariants.{Escape, Unescape, Plai
 use Rattle.wap_base.specs.declared.name.Part.{Part}
 use Rattle.wap_base.specs.declared.name.Part.TheVariants.{Lit, Var}
 use Rattle.wap_url.specs.Escapes.{escaped, unescaped}
-use Rattle.wap_filling.specs.Variables.{Variables, text_of}
+use Rattle.wap_vars.specs.Variables.{Variables, text_of}
 
 -- the text as the reference asks for it (section 10.3.1): with escapes, with the bytes that escapes
 -- stand for, or as it is. Unescaped bytes that are no UTF-8 are read as the Unicode Standard

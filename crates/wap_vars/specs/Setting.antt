@@ -6,10 +6,10 @@ use Rattle.wap_base.specs.Names.{is_name}
 use Rattle.wap_base.specs.Utf8.{utf8_len}
 use Rattle.wap_base.specs.declared.name.NameFault.{NameFault}
 use Rattle.wap_base.specs.declared.name.NameFault.TheVariants as name_faults
-use Rattle.wap_filling.specs.declared.fault.VarFault.{VarFault}
-use Rattle.wap_filling.specs.declared.fault.VarFault.TheVariants.{BadName, TooLong, Full, NoMemory}
-use Rattle.wap_filling.specs.declared.limits.TheConstants.{VAR_LIMIT, TEXT_LIMIT}
-use Rattle.wap_filling.specs.Variables.{Variables, text_of, updated}
+use Rattle.wap_vars.specs.declared.fault.VarFault.{VarFault}
+use Rattle.wap_vars.specs.declared.fault.VarFault.TheVariants.{BadName, TooLong, Full, NoMemory}
+use Rattle.wap_vars.specs.declared.limits.TheConstants.{VAR_LIMIT, TEXT_LIMIT}
+use Rattle.wap_vars.specs.Variables.{Variables, text_of, updated}
 
 -- as many names are kept as may be, and this is none of them
 abbrev pub has_no_room : Variables → List ℕ → Bool

@@ -22,7 +22,7 @@ pub enum VarFault {
 }
 
 impl From<NameFault> for VarFault {
-    ghost use Rattle.wap_filling.specs.Setting.{fault_of_name};
+    ghost use Rattle.wap_vars.specs.Setting.{fault_of_name};
 
     ghost from_gives = { λ fault_of fault. fault ≡ fault_of_name fault_of };
 
@@ -35,7 +35,7 @@ impl From<NameFault> for VarFault {
 }
 
 impl From<NoMemory> for VarFault {
-    ghost use Rattle.wap_filling.specs.declared.fault.VarFault.TheVariants as fault_variants;
+    ghost use Rattle.wap_vars.specs.declared.fault.VarFault.TheVariants as fault_variants;
 
     ghost from_gives = { λ _ fault. fault ≡ fault_variants.NoMemory };
 
@@ -45,7 +45,7 @@ impl From<NoMemory> for VarFault {
 }
 
 impl<T: Drop> From<AllocFailed<T>> for VarFault {
-    ghost use Rattle.wap_filling.specs.declared.fault.VarFault.TheVariants as fault_variants;
+    ghost use Rattle.wap_vars.specs.declared.fault.VarFault.TheVariants as fault_variants;
 
     ghost from_gives = { λ _ fault. fault ≡ fault_variants.NoMemory };
 
