@@ -13,7 +13,7 @@ use Rattle.wap_markup.specs.declared.deck.Deck.{Deck}
 use Rattle.wap_markup.specs.declared.deck.Item.{Item}
 use Rattle.wap_markup.specs.declared.deck.Item.TheVariants as item
 use Rattle.wap_markup.specs.Writing.{document_of}
-use Rattle.wap_spelling.specs.Spelling.{spelling}
+use Rattle.wap_wbxml.specs.spelling.Spelling.{spelling}
 
 -- ---- numbers
 

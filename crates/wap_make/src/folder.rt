@@ -7,7 +7,7 @@ use crate::texts::{deck_count, deck_name, script, script_name};
 use std::alloc::Global;
 use wap_base::{Bytes, NoMemory, Text};
 use wap_deck::writing::spell;
-use wap_spelling::decks_are_spellable;
+use wap_wbxml::spelling::decks_are_spellable;
 
 /// The page of a deck.
 fn deck_page(alloc: Global, n: u32, k: u32) -> Result<(Text, Bytes), NoMemory>

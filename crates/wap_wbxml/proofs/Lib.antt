@@ -11,3 +11,4 @@ pub mod LeadLaws
 pub mod ElementLaws
 pub mod DocumentLaws
 pub mod Answering
+pub mod SpellingLemmas

@@ -1,4 +1,6 @@
-//! WBXML (WAP-192): the documents that bytes spell.
+//! Documents in WBXML: read from bytes, and written.
+//!
+//! - `spelling`: How documents are written as WBXML (WAP-192, section 5).
 #![tactic(auto)]
 
 mod attributes;
@@ -10,6 +12,7 @@ mod header;
 mod input;
 mod leaves;
 mod marks;
+pub mod spelling;
 mod state;
 
 pub use attributes::{is_end, read_attributes_when, read_instruction, read_pieces, read_start};

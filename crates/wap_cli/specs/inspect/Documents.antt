@@ -6,7 +6,7 @@ use Rattle.wap_markup.specs.declared.deck.Deck.{Deck}
 use Rattle.wap_markup.specs.Decks.{deck_of}
 use Rattle.wap_markup.specs.Cards.{cards_of}
 use Rattle.wap_markup.specs.Good.{IsGood}
-use Rattle.wap_spelling.specs.Spelling.{spelling}
+use Rattle.wap_wbxml.specs.spelling.Spelling.{spelling}
 
 -- the bytes are a document, and this is its one spelling
 abbrev pub IsCanonical : List ℕ → List ℕ → Type 0

@@ -17,7 +17,7 @@ use wap_base::{Bytes, NoMemory};
 use wap_deckcheck::{card_count, judge_deck};
 use wap_markup::Deck;
 use wap_pages::{PageErr, deck_in, document_in};
-use wap_spelling::{documents_are_spellable, encode};
+use wap_wbxml::spelling::{documents_are_spellable, encode};
 
 /// The one spelling of a page that is a document.
 pub fn canonical(alloc: Global, bytes: &[u8]) -> Result<Bytes, PageErr>

@@ -29,10 +29,11 @@ use Rattle.wap_markup.specs.Normal.{IsAttribute}
 use Rattle.wap_markup.specs.Writing.{part_pieces, attr_without, whole_code, attr_with, attr_of}
 use Rattle.wap_tokens.proofs.AttributeTable.{name}
 use Rattle.wap_deck.proofs.DocumentsLemmas.Values.{attribute_read}
-use Rattle.wap_spelling.specs.Names.{table_of, place_of}
-use Rattle.wap_spelling.specs.Writings.{◌⨾◌, plain, each, on_attribute_page}
-use Rattle.wap_spelling.specs.Spelling.{start_spelling, piece_spelling, attr_spelling, first_pages}
-use Rattle.wap_spelling.proofs.Strings.{indexed_read}
+use Rattle.wap_wbxml.specs.spelling.Names.{table_of, place_of}
+use Rattle.wap_wbxml.specs.spelling.Writings.{◌⨾◌, plain, each, on_attribute_page}
+use Rattle.wap_wbxml.specs.spelling.Spelling.{start_spelling, piece_spelling, attr_spelling}
+use Rattle.wap_wbxml.specs.spelling.Spelling.{first_pages}
+use Rattle.wap_wbxml.proofs.SpellingLemmas.Strings.{indexed_read}
 use Rattle.wap_deck.proofs.WritingLemmas.Characters.{known_name}
 use Rattle.wap_deck.specs.good.Readers.{◌>>=◌, number_from, number_at, all_of}
 use Rattle.wap_deck.specs.good.Texts.{part_at, value_at, behind_value}

@@ -17,17 +17,17 @@ use Rattle.wap_markup.specs.Grammar.{table_size}
 use Rattle.wap_markup.specs.Good.{IsGood}
 use Rattle.wap_markup.specs.Normal.{IsNormal}
 use Rattle.wap_markup.specs.Writing.{items_kids, node_kids, element_of, document_of}
-use Rattle.wap_spelling.specs.Names.{table_of, with_element, names_of}
-use Rattle.wap_spelling.specs.Spelling.{header_spelling, root_spelling, spelling}
-use Rattle.wap_spelling.specs.Spelling.{element_spelling, first_pages}
-use Rattle.wap_spelling.specs.Spelling.{canon}
-use Rattle.wap_spelling.specs.Spellable.{IsSpellable, HasTexts}
+use Rattle.wap_wbxml.specs.spelling.Names.{table_of, with_element, names_of}
+use Rattle.wap_wbxml.specs.spelling.Spelling.{header_spelling, root_spelling, spelling}
+use Rattle.wap_wbxml.specs.spelling.Spelling.{element_spelling, first_pages}
+use Rattle.wap_wbxml.specs.spelling.Spelling.{canon}
+use Rattle.wap_wbxml.specs.spelling.Spellable.{IsSpellable, HasTexts}
 use Rattle.wap_deck.specs.good.inside.Nodes.{node_at}
 use Rattle.wap_deck.specs.good.Characters.{OfNode}
 use Rattle.wap_deck.specs.good.inside.Header.{HasTable}
 use Rattle.wap_deck.specs.good.inside.Held.{table_in, deck_in, IsHeld}
-use Rattle.wap_spelling.proofs.Growing.{grows_same}
-use Rattle.wap_spelling.proofs.Tables.{length-table}
+use Rattle.wap_wbxml.proofs.SpellingLemmas.Growing.{grows_same}
+use Rattle.wap_wbxml.proofs.SpellingLemmas.Tables.{length-table}
 use Rattle.wap_deck.proofs.GoodLemmas.Opening.{seen}
 use Rattle.wap_deck.proofs.GoodLemmas.NodeLaw.{node_bytes, node_read, IsGoodElement, IsGoodNode}
 use Rattle.wap_deck.proofs.GoodLemmas.FitLaw.{deck_fits}

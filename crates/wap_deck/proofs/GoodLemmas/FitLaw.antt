@@ -13,7 +13,7 @@ use Rattle.wap_markup.specs.declared.name.AttrName.{AttrName}
 use Rattle.wap_markup.specs.Trees.{ItemLevel}
 use Rattle.wap_markup.specs.Normal.{IsPart, IsAttribute, IsItem, IsNode, IsNormal}
 use Rattle.wap_markup.specs.Writing.{document_of}
-use Rattle.wap_spelling.specs.Spellable.{HasTexts}
+use Rattle.wap_wbxml.specs.spelling.Spellable.{HasTexts}
 use Rattle.wap_deck.proofs.WritingLemmas.DeckTexts.{TextPart, TextAttribute, TextItem, TextOpened}
 use Rattle.wap_deck.proofs.WritingLemmas.DeckTexts.{TextNode}
 use Rattle.wap_deck.proofs.WritingLemmas.DocumentTexts.{document_texts}

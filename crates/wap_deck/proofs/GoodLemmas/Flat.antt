@@ -2,9 +2,9 @@
 use Rattle.std.proofs.Common.{◌≡◌, ℕ, List, [], ◌∷◌, ◌++◌, refl, sym, ap, subst, ◌∙◌, append_assoc}
 use Rattle.std.specs.List.{flat_map, AllByRecursion}
 use Rattle.wap_markup.specs.declared.codes.TheConstants.{END}
-use Rattle.wap_spelling.specs.declared.output.Pages.{Pages}
-use Rattle.wap_spelling.specs.Writings.{Writing, plain, ◌⨾◌, each, ended}
-use Rattle.wap_spelling.specs.Spelling.{first_pages}
+use Rattle.wap_wbxml.specs.declared.spelling.output.Pages.{Pages}
+use Rattle.wap_wbxml.specs.spelling.Writings.{Writing, plain, ◌⨾◌, each, ended}
+use Rattle.wap_wbxml.specs.spelling.Spelling.{first_pages}
 
 abbrev pub Flat : Writing → List ℕ → Type 0
 Flat write bytes = write first_pages ≡ (bytes, first_pages)

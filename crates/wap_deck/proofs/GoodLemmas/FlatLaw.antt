@@ -22,10 +22,12 @@ use Rattle.wap_markup.specs.Trees.{ItemLevel}
 use Rattle.wap_markup.specs.Normal.{IsPart}
 use Rattle.wap_markup.specs.Writing.{runs_of, run_piece, run_kid, part_pieces, part_kids, attr_of}
 use Rattle.wap_markup.specs.Writing.{kids_from, item_kids, items_kids, node_kids, element_of}
-use Rattle.wap_spelling.specs.Writings.{Writing, plain, ◌⨾◌, each, ended, on_tag_page}
-use Rattle.wap_spelling.specs.Names.{KidLevel}
-use Rattle.wap_spelling.specs.Spelling.{bit, bits, tag_spelling, attr_spelling, opened_spelling}
-use Rattle.wap_spelling.specs.Spelling.{kid_spelling, element_by, element_spelling, first_pages}
+use Rattle.wap_wbxml.specs.spelling.Writings.{Writing, plain, ◌⨾◌, each, ended, on_tag_page}
+use Rattle.wap_wbxml.specs.spelling.Names.{KidLevel}
+use Rattle.wap_wbxml.specs.spelling.Spelling.{bit, bits, tag_spelling, attr_spelling}
+use Rattle.wap_wbxml.specs.spelling.Spelling.{opened_spelling}
+use Rattle.wap_wbxml.specs.spelling.Spelling.{kid_spelling, element_by, element_spelling}
+use Rattle.wap_wbxml.specs.spelling.Spelling.{first_pages}
 use Rattle.wap_deck.proofs.GoodLemmas.Flat.{Flat, flat_on, flat_both, flat_one, Filled, flat_ended}
 use Rattle.wap_deck.proofs.GoodLemmas.PartLaw.{piece_bytes, runs_filled}
 use Rattle.wap_deck.proofs.GoodLemmas.AttrLaw.{IsGoodAttr, attr_bytes, attr_flat}

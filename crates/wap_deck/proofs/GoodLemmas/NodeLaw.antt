@@ -25,8 +25,8 @@ use Rattle.wap_markup.specs.Normal.{IsValue}
 use Rattle.wap_markup.specs.Writing.{part_pieces}
 use Rattle.wap_tokens.proofs.TagTable.{coded}
 use Rattle.wap_deck.proofs.DocumentsLemmas.Values as values
-use Rattle.wap_spelling.specs.Names.{table_of}
-use Rattle.wap_spelling.specs.Spelling.{bit}
+use Rattle.wap_wbxml.specs.spelling.Names.{table_of}
+use Rattle.wap_wbxml.specs.spelling.Spelling.{bit}
 use Rattle.wap_deck.specs.good.Readers.{Reader, ◌>>=◌, after, all_of, closed, closed_if}
 use Rattle.wap_deck.specs.good.Texts.{part_at, value_at, behind_value}
 use Rattle.wap_deck.specs.good.inside.Nodes.{attr_at, node, node_by, item_by, node_at, item_at}

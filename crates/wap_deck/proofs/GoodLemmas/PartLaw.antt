@@ -20,10 +20,10 @@ use Rattle.wap_markup.specs.Strings.{is_not_zero}
 use Rattle.wap_markup.specs.Decks.{literal, joined, piece_part, value_after}
 use Rattle.wap_markup.specs.Normal.{IsPart}
 use Rattle.wap_markup.specs.Writing.{run_before, runs_of, run_piece, part_pieces}
-use Rattle.wap_spelling.specs.Names.{string}
-use Rattle.wap_spelling.specs.Spellable.{IsString}
-use Rattle.wap_spelling.specs.Spelling.{variable, piece_spelling, first_pages}
-use Rattle.wap_spelling.proofs.Strings.{and_parts, text_bytes}
+use Rattle.wap_wbxml.specs.spelling.Names.{string}
+use Rattle.wap_wbxml.specs.spelling.Spellable.{IsString}
+use Rattle.wap_wbxml.specs.spelling.Spelling.{variable, piece_spelling, first_pages}
+use Rattle.wap_wbxml.proofs.SpellingLemmas.Strings.{and_parts, text_bytes}
 use Rattle.wap_deck.proofs.WritingLemmas.Characters.{name_string, RunFits, runs_fit}
 use Rattle.wap_deck.specs.good.Readers.{◌>>=◌, after, zero_place, ended_at, all_of}
 use Rattle.wap_deck.specs.good.Texts.{string_part, name_part, string_at, reference_at}

@@ -23,7 +23,7 @@ use Rattle.wap_markup.specs.Tables.{attr_start, attr_named, value_rows, attr_val
 use Rattle.wap_markup.specs.Decks.{start_of}
 use Rattle.wap_markup.specs.Writing.{run_before, runs_of}
 use Rattle.wap_tokens.proofs.Found.{found_passes}
-use Rattle.wap_spelling.specs.Spellable.{IsString}
+use Rattle.wap_wbxml.specs.spelling.Spellable.{IsString}
 
 abbrev pub OfCharacters : List ℕ → Type 0
 OfCharacters text = all_scalars text ≡ true

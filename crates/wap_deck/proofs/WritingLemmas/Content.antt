@@ -17,11 +17,12 @@ use Rattle.wap_markup.specs.declared.name.Tag.TheVariants as tags
 use Rattle.wap_markup.specs.Tables.{tag_rows, code_of}
 use Rattle.wap_markup.specs.Writing.{attr_of, kids_from, item_kids}
 use Rattle.wap_markup.specs.Writing.{items_kids, element_of, node_kids}
-use Rattle.wap_spelling.specs.declared.output.Output.{Output}
-use Rattle.wap_spelling.specs.Writings.{Writing, plain, ◌⨾◌, each, ended, on_tag_page}
-use Rattle.wap_spelling.specs.Spelling.{bit, bits, attr_spelling, kid_spelling, element_spelling}
-use Rattle.wap_spelling.specs.inside.Written.{written}
-use Rattle.wap_spelling.proofs.Appending.{in_turn, each_none}
+use Rattle.wap_wbxml.specs.declared.spelling.output.Output.{Output}
+use Rattle.wap_wbxml.specs.spelling.Writings.{Writing, plain, ◌⨾◌, each, ended, on_tag_page}
+use Rattle.wap_wbxml.specs.spelling.Spelling.{bit, bits, attr_spelling, kid_spelling}
+use Rattle.wap_wbxml.specs.spelling.Spelling.{element_spelling}
+use Rattle.wap_wbxml.specs.spelling.inside.Written.{written}
+use Rattle.wap_wbxml.proofs.SpellingLemmas.Appending.{in_turn, each_none}
 use Rattle.wap_deck.specs.writing.inside.Parts.{part_spelling, content_bit, has_any}
 use Rattle.wap_deck.proofs.WritingLemmas.Lists.{each_one, each_flat}
 use Rattle.wap_deck.proofs.WritingLemmas.Parts.{opened, parts_kids}

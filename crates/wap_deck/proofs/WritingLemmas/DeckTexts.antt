@@ -58,8 +58,8 @@ use Rattle.wap_markup.specs.Decks.{
   deck_of,
 }
 use Rattle.wap_tokens.proofs.TagTable.{tag_of-known, tag_named-known}
-use Rattle.wap_spelling.specs.Spellable.{IsString, FitsPiece, FitsAttr, FitsOpened, FitsKid}
-use Rattle.wap_spelling.specs.Spellable.{FitsElementOf, FitsElement, HasTexts}
+use Rattle.wap_wbxml.specs.spelling.Spellable.{IsString, FitsPiece, FitsAttr, FitsOpened, FitsKid}
+use Rattle.wap_wbxml.specs.spelling.Spellable.{FitsElementOf, FitsElement, HasTexts}
 use Rattle.wap_deck.proofs.WritingLemmas.Characters.{OfCharacters, text_append, value_text}
 use Rattle.wap_deck.proofs.WritingLemmas.Characters.{start_text}
 

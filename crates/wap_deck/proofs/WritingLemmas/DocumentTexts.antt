@@ -27,9 +27,9 @@ use Rattle.wap_markup.specs.Writing.{runs_of, run_piece, run_kid, part_pieces, a
 use Rattle.wap_markup.specs.Writing.{whole_code, attr_with, attr_of, part_kids, kids_from}
 use Rattle.wap_markup.specs.Writing.{item_kids, items_kids, element_of, node_kids, document_of}
 use Rattle.wap_tokens.proofs.Found.{found_passes}
-use Rattle.wap_spelling.specs.Names.{KidLevel}
-use Rattle.wap_spelling.specs.Spellable.{IsString, FitsPiece, FitsAttr, FitsOpened}
-use Rattle.wap_spelling.specs.Spellable.{FitsKid, FitsElement, HasTexts}
+use Rattle.wap_wbxml.specs.spelling.Names.{KidLevel}
+use Rattle.wap_wbxml.specs.spelling.Spellable.{IsString, FitsPiece, FitsAttr, FitsOpened}
+use Rattle.wap_wbxml.specs.spelling.Spellable.{FitsKid, FitsElement, HasTexts}
 use Rattle.wap_deck.proofs.WritingLemmas.Characters.{known_name, name_string, RunFits, runs_fit}
 use Rattle.wap_deck.proofs.WritingLemmas.DeckTexts.{TextPart, TextAttribute, TextItem}
 use Rattle.wap_deck.proofs.WritingLemmas.DeckTexts.{TextOpened, TextNode, TextDeck}

@@ -2,10 +2,10 @@
 use Rattle.std.proofs.Common.{◌≡◌, List, [], ◌∷◌, ◌++◌, map, refl, sym, ap, ◌∙◌}
 use Rattle.std.specs.List.{flat_map}
 use Rattle.wap_markup.specs.declared.codes.TheConstants.{END}
-use Rattle.wap_spelling.specs.declared.output.Output.{Output}
-use Rattle.wap_spelling.specs.Writings.{Writing, plain, ◌⨾◌, each, ended}
-use Rattle.wap_spelling.specs.inside.Written.{written}
-use Rattle.wap_spelling.proofs.Appending.{written_then, written_none}
+use Rattle.wap_wbxml.specs.declared.spelling.output.Output.{Output}
+use Rattle.wap_wbxml.specs.spelling.Writings.{Writing, plain, ◌⨾◌, each, ended}
+use Rattle.wap_wbxml.specs.spelling.inside.Written.{written}
+use Rattle.wap_wbxml.proofs.SpellingLemmas.Appending.{written_then, written_none}
 
 module _ {A : Type 0} (write : A → Writing) where
   each_both : (xs ys : List A) (output : Output)

@@ -14,8 +14,8 @@ use Rattle.wap_markup.specs.declared.deck.Item.{Item, out-Item}
 use Rattle.wap_markup.specs.declared.deck.Item.TheVariants as item
 use Rattle.wap_markup.specs.Writing.{attr_of, runs_of, run_kid, part_kids, kids_from}
 use Rattle.wap_markup.specs.Writing.{item_kids, items_kids, element_of, node_kids}
-use Rattle.wap_spelling.specs.Names.{KidLevel, Naming, with_attr, with_opened}
-use Rattle.wap_spelling.specs.Names.{with_kid, with_element}
+use Rattle.wap_wbxml.specs.spelling.Names.{KidLevel, Naming, with_attr, with_opened}
+use Rattle.wap_wbxml.specs.spelling.Names.{with_kid, with_element}
 
 abbrev pub Names : Type 0
 Names = List (List ℕ)

@@ -10,11 +10,11 @@ use Rattle.wap_markup.specs.declared.document.Kid.{Kid, out-Kid}
 use Rattle.wap_markup.specs.declared.document.Kid.TheOpen.{Kid-F}
 use Rattle.wap_markup.specs.declared.document.Kid.TheVariants as kid
 use Rattle.wap_markup.specs.Writing.{runs_of, run_piece, run_kid, part_pieces, part_kids}
-use Rattle.wap_spelling.specs.declared.output.Output.{Output}
-use Rattle.wap_spelling.specs.Writings.{Writing, ◌⨾◌, each}
-use Rattle.wap_spelling.specs.Names.{KidLevel}
-use Rattle.wap_spelling.specs.Spelling.{piece_spelling, opened_spelling, kid_spelling}
-use Rattle.wap_spelling.specs.inside.Written.{written}
+use Rattle.wap_wbxml.specs.declared.spelling.output.Output.{Output}
+use Rattle.wap_wbxml.specs.spelling.Writings.{Writing, ◌⨾◌, each}
+use Rattle.wap_wbxml.specs.spelling.Names.{KidLevel}
+use Rattle.wap_wbxml.specs.spelling.Spelling.{piece_spelling, opened_spelling, kid_spelling}
+use Rattle.wap_wbxml.specs.spelling.inside.Written.{written}
 use Rattle.wap_deck.specs.writing.inside.Parts.{run_spelling, part_spelling}
 use Rattle.wap_deck.proofs.WritingLemmas.Lists.{each_one, each_flat}
 

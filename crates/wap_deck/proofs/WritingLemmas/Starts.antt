@@ -11,12 +11,12 @@ use Rattle.wap_markup.specs.declared.name.AttrName.{AttrName}
 use Rattle.wap_markup.specs.Tables.{code_of_start, name_of_attr}
 use Rattle.wap_markup.specs.Writing.{part_pieces, coded_attr, attr_without}
 use Rattle.wap_markup.specs.Writing.{whole_code, attr_with, attr_of}
-use Rattle.wap_spelling.specs.declared.output.Output.{Output}
-use Rattle.wap_spelling.specs.Writings.{plain, ◌⨾◌, each, on_attribute_page}
-use Rattle.wap_spelling.specs.Names.{place_of}
-use Rattle.wap_spelling.specs.Spelling.{piece_spelling, attr_spelling}
-use Rattle.wap_spelling.specs.inside.Written.{written}
-use Rattle.wap_spelling.proofs.Appending.{in_turn, written_none}
+use Rattle.wap_wbxml.specs.declared.spelling.output.Output.{Output}
+use Rattle.wap_wbxml.specs.spelling.Writings.{plain, ◌⨾◌, each, on_attribute_page}
+use Rattle.wap_wbxml.specs.spelling.Names.{place_of}
+use Rattle.wap_wbxml.specs.spelling.Spelling.{piece_spelling, attr_spelling}
+use Rattle.wap_wbxml.specs.spelling.inside.Written.{written}
+use Rattle.wap_wbxml.proofs.SpellingLemmas.Appending.{in_turn, written_none}
 use Rattle.wap_deck.specs.writing.inside.Parts.{part_spelling}
 use Rattle.wap_deck.proofs.WritingLemmas.Parts.{parts_pieces}
 

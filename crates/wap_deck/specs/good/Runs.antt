@@ -9,7 +9,7 @@ use Rattle.wap_base.specs.declared.name.Part.TheVariants.{Lit, Var}
 use Rattle.wap_base.specs.Texts.{is_same_text}
 use Rattle.wap_markup.specs.Decks.{before}
 use Rattle.wap_markup.specs.Normal.{IsPart}
-use Rattle.wap_spelling.specs.Spellable.{HasNoZero}
+use Rattle.wap_wbxml.specs.spelling.Spellable.{HasNoZero}
 use Rattle.wap_deck.specs.good.Texts.{value_at}
 use Rattle.wap_deck.specs.declared.good.bits.Bit.{Bit}
 use Rattle.wap_deck.specs.declared.good.bits.Bit.TheVariants as bit

@@ -12,7 +12,7 @@ use Rattle.wap_base.specs.declared.name.Part.{Part}
 use Rattle.wap_base.specs.declared.name.Part.TheVariants.{Lit, Var}
 use Rattle.wap_markup.specs.declared.codes.TheConstants.{ENTITY, STR_I, EXT_I_0, EXT_I_1, EXT_I_2}
 use Rattle.wap_markup.specs.Decks.{literal, joined}
-use Rattle.wap_spelling.specs.Spellable.{HasNoZero}
+use Rattle.wap_wbxml.specs.spelling.Spellable.{HasNoZero}
 use Rattle.wap_deck.specs.good.Readers.{Reader, ◌>>=◌, first_at, after, ended_at, behind_zero}
 use Rattle.wap_deck.specs.good.Readers.{all_of}
 

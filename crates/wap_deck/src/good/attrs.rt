@@ -4,7 +4,7 @@ ghost use Rattle.std.specs.Map.{lookup};
 ghost use Rattle.std.specs.Str.{chars, bytes_eq};
 ghost use Rattle.wap_markup.specs.Tables.{attr_named};
 ghost use Rattle.wap_tokens.specs.Rows.{attrs_by_name};
-ghost use Rattle.wap_spelling.specs.Spellable.{HasNoZero};
+ghost use Rattle.wap_wbxml.specs.spelling.Spellable.{HasNoZero};
 ghost use Rattle.wap_deck.specs.good.Readers.{Reads, Ends, all_of};
 ghost use Rattle.wap_deck.specs.good.inside.Nodes.{named_at, start_at, attr_at};
 ghost use Rattle.wap_deck.specs.good.inside.Starts.{start_seen, value_in};

@@ -2,8 +2,8 @@
 ghost use Rattle.std.specs.Prelude.{◌≡◌, ◌≤◌, ◌-◌, length, slice_get, Ok, IfOk, IfErr};
 ghost use Rattle.wap_base.specs.Numbers.{mb_at};
 ghost use Rattle.wap_markup.specs.Writing.{document_of};
-ghost use Rattle.wap_spelling.specs.Spelling.{spelling};
-ghost use Rattle.wap_spelling.specs.Spellable.{IsSpellable};
+ghost use Rattle.wap_wbxml.specs.spelling.Spelling.{spelling};
+ghost use Rattle.wap_wbxml.specs.spelling.Spellable.{IsSpellable};
 ghost use Rattle.wap_markup.specs.Cards.{cards_of, id_of, card_numbered};
 ghost use Rattle.wap_markup.specs.Trees.{is_text, first_with};
 ghost use Rattle.wap_markup.specs.Good.{IsGood};
@@ -22,8 +22,8 @@ use std::alloc::Global;
 use std::marker::Model;
 use wap_base::{Bytes, NoMemory, Rows, Text, read_mb};
 use wap_markup::{AttrName, Deck, LEVEL_LIMIT, Tag};
-use wap_spelling::{decks_are_spellable, spelling_is_read};
 use wap_wbxml::DocFault;
+use wap_wbxml::spelling::{decks_are_spellable, spelling_is_read};
 
 /// A good deck (WAP-191, section 11), kept as the bytes that spell its document. A contract sees
 /// the deck.

@@ -2,17 +2,17 @@
 ghost use Rattle.std.specs.Prelude.{◌≡◌, [], map, OnOk};
 ghost use Rattle.wap_markup.specs.Tables.{code_of_start};
 ghost use Rattle.wap_markup.specs.Writing.{attr_of};
-ghost use Rattle.wap_spelling.specs.Writings.{ended};
-ghost use Rattle.wap_spelling.specs.Spelling.{attr_spelling};
-ghost use Rattle.wap_spelling.specs.inside.Written.{written};
+ghost use Rattle.wap_wbxml.specs.spelling.Writings.{ended};
+ghost use Rattle.wap_wbxml.specs.spelling.Spelling.{attr_spelling};
+ghost use Rattle.wap_wbxml.specs.spelling.inside.Written.{written};
 
 use crate::documents::whole_code;
 use crate::writing::texts::write_parts;
 use std::alloc::Global;
 use wap_base::{NoMemory, Part, Rows, Text};
 use wap_markup::{AttrName, END, LITERAL};
-use wap_spelling::{Output, Table};
 use wap_tokens::{code_of_start, name_of_attr};
+use wap_wbxml::spelling::{Output, Table};
 
 /// The code of an attribute with nothing before its value.
 pub(crate) fn own_code(name: AttrName) -> Option<u8>

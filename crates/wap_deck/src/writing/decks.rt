@@ -1,15 +1,15 @@
 //! Writing a deck.
 ghost use Rattle.std.specs.Prelude.{◌≡◌, IfOk};
 ghost use Rattle.wap_markup.specs.Writing.{document_of};
-ghost use Rattle.wap_spelling.specs.Spelling.{spelling};
-ghost use Rattle.wap_spelling.specs.Spellable.{IsSpellable};
+ghost use Rattle.wap_wbxml.specs.spelling.Spelling.{spelling};
+ghost use Rattle.wap_wbxml.specs.spelling.Spellable.{IsSpellable};
 
 use crate::writing::names::names_of;
 use crate::writing::nodes::write_node;
 use std::alloc::Global;
 use wap_base::{Bytes, NoMemory};
 use wap_markup::{Deck, LEVEL_LIMIT, WML_1_3};
-use wap_spelling::{Output, Pages, Table, write_header};
+use wap_wbxml::spelling::{Output, Pages, Table, write_header};
 
 /// The one spelling of a deck's document, which isn't built.
 pub fn spell(alloc: Global, deck: &Deck) -> Result<Bytes, NoMemory>

@@ -6,9 +6,9 @@ ghost use Rattle.wap_markup.specs.declared.name.Tag.{Tag};
 ghost use Rattle.wap_markup.specs.Documents.{IsDocument};
 ghost use Rattle.wap_markup.specs.Decks.{deck_of};
 ghost use Rattle.wap_markup.specs.Writing.{document_of};
-ghost use Rattle.wap_spelling.specs.Spelling.{spelling};
+ghost use Rattle.wap_wbxml.specs.spelling.Spelling.{spelling};
 
-use wap_spelling::{decks_are_spellable, documents_are_spellable, spelling_is_read};
+use wap_wbxml::spelling::{decks_are_spellable, documents_are_spellable, spelling_is_read};
 
 /// The document of a deck that a document means is one that bytes spell, unless the deck's root is
 /// unknown.

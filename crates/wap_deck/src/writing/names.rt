@@ -2,7 +2,7 @@
 ghost use Rattle.std.specs.Prelude.{◌≡◌, map, suc, fold, OnOk, IfOk};
 ghost use Rattle.wap_markup.specs.Writing.{attr_of, item_kids, items_kids};
 ghost use Rattle.wap_markup.specs.Writing.{node_kids, element_of, document_of};
-ghost use Rattle.wap_spelling.specs.Names.{with_attr, with_kid, with_element, names_of};
+ghost use Rattle.wap_wbxml.specs.spelling.Names.{with_attr, with_kid, with_element, names_of};
 
 use crate::documents::whole_code;
 use crate::writing::attributes::own_code;
@@ -10,8 +10,8 @@ use indexmap::IndexSet;
 use std::alloc::Global;
 use wap_base::{NoMemory, Part, Rows, Text};
 use wap_markup::{AttrName, Deck, Item, LEVEL_LIMIT, Node};
-use wap_spelling::add_name;
 use wap_tokens::name_of_attr;
+use wap_wbxml::spelling::add_name;
 
 /// Adds the name of an attribute, if it is written by its name.
 fn add_attribute(

@@ -1,9 +1,9 @@
 //! Nodes and their content.
 ghost use Rattle.std.specs.Prelude.{◌≡◌, ◌+◌, suc, OnOk};
 ghost use Rattle.wap_markup.specs.Writing.{item_kids, items_kids, node_kids, element_of};
-ghost use Rattle.wap_spelling.specs.Writings.{each, ended};
-ghost use Rattle.wap_spelling.specs.Spelling.{bit, kid_spelling, element_spelling};
-ghost use Rattle.wap_spelling.specs.inside.Written.{written};
+ghost use Rattle.wap_wbxml.specs.spelling.Writings.{each, ended};
+ghost use Rattle.wap_wbxml.specs.spelling.Spelling.{bit, kid_spelling, element_spelling};
+ghost use Rattle.wap_wbxml.specs.spelling.inside.Written.{written};
 ghost use Rattle.wap_deck.specs.writing.inside.Parts.{content_bit, has_any};
 
 use crate::writing::attributes::write_attributes;
@@ -11,8 +11,8 @@ use crate::writing::texts::{have_content, write_parts};
 use std::alloc::Global;
 use wap_base::NoMemory;
 use wap_markup::{END, Item, Node};
-use wap_spelling::{Output, Table};
 use wap_tokens::code_of;
+use wap_wbxml::spelling::{Output, Table};
 
 /// Whether an item, a node with so many levels, gives content.
 fn gives(levels: u32, item: &Item) -> bool

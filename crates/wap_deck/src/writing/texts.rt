@@ -2,14 +2,14 @@
 ghost use Rattle.std.specs.Prelude.{◌≡◌, OnOk};
 ghost use Rattle.std.specs.List.{flat_map};
 ghost use Rattle.wap_markup.specs.Writing.{runs_of, part_kids};
-ghost use Rattle.wap_spelling.specs.Writings.{each};
-ghost use Rattle.wap_spelling.specs.inside.Written.{written};
+ghost use Rattle.wap_wbxml.specs.spelling.Writings.{each};
+ghost use Rattle.wap_wbxml.specs.spelling.inside.Written.{written};
 ghost use Rattle.wap_deck.specs.writing.inside.Parts.{run_spelling, part_spelling, has_any};
 
 use crate::documents::{is_string, runs_of};
 use std::alloc::Global;
 use wap_base::{NoMemory, Part, Text};
-use wap_spelling::Output;
+use wap_wbxml::spelling::Output;
 
 /// Writes a string, or a U+0000 by its number.
 fn write_run(output: &mut Output, run: &Option<Text>) -> Result<(), NoMemory>

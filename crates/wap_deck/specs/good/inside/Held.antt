@@ -11,7 +11,7 @@ use Rattle.wap_markup.specs.Trees.{node_with}
 use Rattle.wap_markup.specs.Good.{IsGood}
 use Rattle.wap_markup.specs.Normal.{IsNormal}
 use Rattle.wap_markup.specs.Writing.{document_of}
-use Rattle.wap_spelling.specs.Spelling.{spelling}
+use Rattle.wap_wbxml.specs.spelling.Spelling.{spelling}
 use Rattle.wap_deck.specs.good.Characters.{OfNode}
 use Rattle.wap_deck.specs.declared.good.cards.Place.{Place}
 use Rattle.wap_deck.specs.declared.good.cards.Cards.{Cards}

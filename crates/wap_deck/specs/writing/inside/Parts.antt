@@ -5,9 +5,9 @@ use Rattle.wap_base.specs.declared.name.Part.{Part}
 use Rattle.wap_base.specs.declared.name.Part.TheVariants.{Lit, Var}
 use Rattle.wap_markup.specs.declared.codes.TheConstants.{ENTITY, STR_I}
 use Rattle.wap_markup.specs.Writing.{runs_of}
-use Rattle.wap_spelling.specs.Writings.{Writing, plain, each}
-use Rattle.wap_spelling.specs.Names.{string}
-use Rattle.wap_spelling.specs.Spelling.{variable}
+use Rattle.wap_wbxml.specs.spelling.Writings.{Writing, plain, each}
+use Rattle.wap_wbxml.specs.spelling.Names.{string}
+use Rattle.wap_wbxml.specs.spelling.Spelling.{variable}
 
 -- a string, or a U+0000 by its number
 abbrev pub run_spelling : Option (List ℕ) → Writing

@@ -1,7 +1,7 @@
 use Rattle.std.proofs.Common.{sym, subst}
 use Rattle.wap_markup.specs.declared.deck.Deck.{Deck}
 use Rattle.wap_markup.specs.Writing.{document_of}
-use Rattle.wap_spelling.specs.Spellable.{IsSpellable}
+use Rattle.wap_wbxml.specs.spelling.Spellable.{IsSpellable}
 use Rattle.wap_make.specs.Folders.{deck_of}
 use Rattle.wap_make.proofs.Normal.{made_is_normal, root_known}
 use Rattle.wap_make.proofs.folder.deck_page.Goals as goal

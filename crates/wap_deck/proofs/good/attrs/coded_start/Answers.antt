@@ -1,6 +1,6 @@
 use Rattle.std.proofs.Common.{sym, subst, ap, ◌∙◌, ℕ, List, Some, Option}
 use Rattle.wap_markup.specs.Tables.{Start}
-use Rattle.wap_spelling.specs.Spellable.{HasNoZero}
+use Rattle.wap_wbxml.specs.spelling.Spellable.{HasNoZero}
 use Rattle.wap_deck.proofs.GoodLemmas.HeadLaw.{coded_start}
 use Rattle.wap_deck.proofs.WritingLemmas.Characters.{coded_text}
 use Rattle.wap_deck.proofs.good.attrs.coded_start.Goals as goal

@@ -3,9 +3,9 @@ use Rattle.wap_base.specs.declared.name.Part.{Part}
 use Rattle.wap_base.specs.Numbers.{mb_spelling}
 use Rattle.wap_markup.specs.declared.codes.TheConstants.{LITERAL}
 use Rattle.wap_markup.specs.Writing.{whole_code}
-use Rattle.wap_spelling.specs.Names.{place_of}
-use Rattle.wap_spelling.specs.Writings.{plain, each}
-use Rattle.wap_spelling.specs.inside.Written.{written}
+use Rattle.wap_wbxml.specs.spelling.Names.{place_of}
+use Rattle.wap_wbxml.specs.spelling.Writings.{plain, each}
+use Rattle.wap_wbxml.specs.spelling.inside.Written.{written}
 use Rattle.wap_deck.specs.writing.inside.Parts.{part_spelling}
 use Rattle.wap_deck.proofs.WritingLemmas.Starts.{by_own, by_whole, by_name}
 use Rattle.wap_deck.proofs.writing.attributes.write_attribute.Goals as goal

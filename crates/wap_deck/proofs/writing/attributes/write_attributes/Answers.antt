@@ -2,10 +2,10 @@ use Rattle.std.proofs.Common.{ap, ◌∙◌, List}
 use Rattle.wap_base.specs.declared.name.Part.{Part}
 use Rattle.wap_markup.specs.declared.name.AttrName.{AttrName}
 use Rattle.wap_markup.specs.Writing.{attr_of}
-use Rattle.wap_spelling.specs.Writings.{Writing}
-use Rattle.wap_spelling.specs.Spelling.{attr_spelling}
-use Rattle.wap_spelling.specs.inside.Written.{written}
-use Rattle.wap_spelling.proofs.Appending.{each_none, each_step, ended_none, ended_some}
+use Rattle.wap_wbxml.specs.spelling.Writings.{Writing}
+use Rattle.wap_wbxml.specs.spelling.Spelling.{attr_spelling}
+use Rattle.wap_wbxml.specs.spelling.inside.Written.{written}
+use Rattle.wap_wbxml.proofs.SpellingLemmas.Appending.{each_none, each_step, ended_none, ended_some}
 use Rattle.wap_deck.proofs.WritingLemmas.Lists.{ended_map}
 use Rattle.wap_deck.proofs.writing.attributes.write_attributes.Goals as goal
 

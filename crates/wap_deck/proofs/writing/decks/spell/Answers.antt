@@ -1,7 +1,7 @@
 use Rattle.std.proofs.Common.{List, ℕ, ◌++◌, ap, ◌∙◌}
 use Rattle.wap_markup.specs.Writing.{document_of}
-use Rattle.wap_spelling.specs.declared.output.Output.{Output}
-use Rattle.wap_spelling.specs.Spelling.{header_spelling, root_spelling, spelling}
+use Rattle.wap_wbxml.specs.declared.spelling.output.Output.{Output}
+use Rattle.wap_wbxml.specs.spelling.Spelling.{header_spelling, root_spelling, spelling}
 use Rattle.wap_deck.proofs.writing.decks.spell.Goals as goal
 
 pub returns : goal.returns

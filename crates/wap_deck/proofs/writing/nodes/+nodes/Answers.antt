@@ -5,10 +5,10 @@ use Rattle.wap_base.specs.declared.name.Part.{Part}
 use Rattle.wap_markup.specs.declared.name.AttrName.{AttrName}
 use Rattle.wap_markup.specs.declared.deck.Item.{Item}
 use Rattle.wap_markup.specs.Writing.{attr_of, item_kids, items_kids, node_kids}
-use Rattle.wap_spelling.specs.Writings.{plain, each, ended}
-use Rattle.wap_spelling.specs.Spelling.{bit, attr_spelling, kid_spelling, element_spelling}
-use Rattle.wap_spelling.specs.inside.Written.{written}
-use Rattle.wap_spelling.proofs.Appending.{each_none, each_step}
+use Rattle.wap_wbxml.specs.spelling.Writings.{plain, each, ended}
+use Rattle.wap_wbxml.specs.spelling.Spelling.{bit, attr_spelling, kid_spelling, element_spelling}
+use Rattle.wap_wbxml.specs.spelling.inside.Written.{written}
+use Rattle.wap_wbxml.proofs.SpellingLemmas.Appending.{each_none, each_step}
 use Rattle.wap_deck.specs.writing.inside.Parts.{part_spelling, content_bit, has_any}
 use Rattle.wap_deck.proofs.WritingLemmas.Content.{code_small, bit_within, content_within, bits_are}
 use Rattle.wap_deck.proofs.WritingLemmas.Content.{text_written, none_written, node_written}

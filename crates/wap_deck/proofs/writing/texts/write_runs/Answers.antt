@@ -1,4 +1,4 @@
-use Rattle.wap_spelling.proofs.Appending.{each_none, each_step}
+use Rattle.wap_wbxml.proofs.SpellingLemmas.Appending.{each_none, each_step}
 use Rattle.wap_deck.specs.writing.inside.Parts.{run_spelling}
 use Rattle.wap_deck.proofs.writing.texts.write_runs.Goals as goal
 

@@ -1,9 +1,0 @@
-use Rattle.std.proofs.Common.{◌≡◌, take}
-use Rattle.wap_spelling.specs.Writings.{each}
-use Rattle.wap_spelling.specs.Spelling.{attr_spelling}
-use Rattle.wap_spelling.specs.inside.Written.{written}
-use Rattle.wap_spelling.proofs.attributes.write_attributes.Given as goal
-
-abbrev pub invariant-loop-attr : goal.invariant-loop-attr
-invariant-loop-attr l =
-    l.output ≡ written (each (attr_spelling l.table) (take l.attr-index l.attrs)) l.initial.output

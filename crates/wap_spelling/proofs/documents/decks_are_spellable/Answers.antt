@@ -1,9 +1,0 @@
-use Rattle.std.proofs.Common.{refl}
-use Rattle.wap_spelling.proofs.DeckLaws.{deck_spellable}
-use Rattle.wap_spelling.proofs.documents.decks_are_spellable.Goals as goal
-
-pub returns-clause-spellable : goal.returns-clause-spellable
-returns-clause-spellable c = deck_spellable
-
-pub returns-clause-same : goal.returns-clause-same
-returns-clause-same c = λ deck. refl

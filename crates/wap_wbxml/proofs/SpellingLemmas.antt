@@ -1,0 +1,14 @@
+pub mod Appending
+pub mod Tables
+pub mod Levels
+pub mod Strings
+pub mod Growing
+pub mod States
+pub mod AttributeLaws
+pub mod ElementLaws
+pub mod DocumentLaws
+pub mod Taken
+pub mod TakenElements
+pub mod TakenDocuments
+pub mod NameBounds
+pub mod DeckLaws
