@@ -3,7 +3,7 @@ use Rattle.std.proofs.Common.{◌≡◌, ◌≢◌, arith, ℕ, List, Some}
 use Rattle.std.proofs.Common.{Result, Ok, Err, refl}
 use Rattle.wap_devices.specs.Sinks.{SinkSeen, Puts}
 use Rattle.wap_devices.specs.declared.fault.Failed.{Failed}
-use Rattle.wap_words.specs.declared.words.PageCommand.{PageCommand}
+use Rattle.wap_keys.specs.declared.words.words.PageCommand.{PageCommand}
 use Rattle.wap_pages.specs.declared.fault.PageFault.{PageFault}
 use Rattle.wap_pages.specs.declared.fault.PageErr.{PageErr}
 use Rattle.wap_pages.specs.declared.fault.PageErr.TheVariants as error

@@ -3,10 +3,10 @@ use Rattle.std.proofs.Common.{◌≡◌, ◌≢◌, ℕ, List, Option, Some, Non
 use Rattle.std.specs.Prelude.{IfSome}
 use Rattle.wap_base.specs.Contents.{Contents, page_named}
 use Rattle.wap_devices.specs.Sinks.{SinkSeen}
-use Rattle.wap_words.specs.declared.words.Command.{Command}
-use Rattle.wap_words.specs.declared.words.Command.TheVariants.{Browse, Image, Resume, Page}
-use Rattle.wap_words.specs.declared.words.Command.TheVariants.{Prepare, Make, Replay}
-use Rattle.wap_words.specs.declared.words.PageCommand.{PageCommand}
+use Rattle.wap_keys.specs.declared.words.words.Command.{Command}
+use Rattle.wap_keys.specs.declared.words.words.Command.TheVariants.{Browse, Image, Resume, Page}
+use Rattle.wap_keys.specs.declared.words.words.Command.TheVariants.{Prepare, Make, Replay}
+use Rattle.wap_keys.specs.declared.words.words.PageCommand.{PageCommand}
 use Rattle.wap_cli.specs.declared.status.Status.{Status}
 use Rattle.wap_cli.specs.declared.status.Status.TheVariants.{Done, Usage, Refused, StoreFault}
 use Rattle.wap_cli.specs.declared.status.Status.TheVariants.{KeyReadFault, WriteFault, NoMemory}

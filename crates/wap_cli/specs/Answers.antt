@@ -7,8 +7,8 @@ use Rattle.wap_base.specs.Contents.{Contents, page_named}
 use Rattle.wap_base.specs.Count.{Rose}
 use Rattle.wap_devices.specs.Transfer.{Appends, AppendsPrefix}
 use Rattle.wap_devices.specs.Sinks.{SinkSeen}
-use Rattle.wap_words.specs.declared.words.PageCommand.{PageCommand}
-use Rattle.wap_words.specs.declared.words.PageCommand.TheVariants as command
+use Rattle.wap_keys.specs.declared.words.words.PageCommand.{PageCommand}
+use Rattle.wap_keys.specs.declared.words.words.PageCommand.TheVariants as command
 use Rattle.wap_pages.specs.declared.fault.PageErr.{PageErr}
 use Rattle.wap_pages.specs.declared.fault.PageErr.TheVariants as error
 use Rattle.wap_pages.specs.declared.fault.PageFault.{PageFault}

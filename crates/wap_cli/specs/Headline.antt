@@ -4,12 +4,12 @@ use Rattle.wap_base.specs.Count.{raised, Rose}
 use Rattle.wap_devices.specs.Stores.{StoreSeen}
 use Rattle.wap_devices.specs.Sinks.{SinkSeen}
 use Rattle.wap_pages.specs.declared.fault.PageFault.{PageFault}
-use Rattle.wap_words.specs.declared.words.Browse.{Browse as Browsing}
-use Rattle.wap_words.specs.declared.words.Command.{Command}
-use Rattle.wap_words.specs.declared.words.Replay.{Replay as Replaying}
-use Rattle.wap_words.specs.declared.words.Command.TheVariants.{Browse, Image, Resume, Page}
-use Rattle.wap_words.specs.declared.words.Command.TheVariants.{Prepare, Make, Replay}
-use Rattle.wap_words.specs.declared.words.PageCommand.{PageCommand}
+use Rattle.wap_keys.specs.declared.words.words.Browse.{Browse as Browsing}
+use Rattle.wap_keys.specs.declared.words.words.Command.{Command}
+use Rattle.wap_keys.specs.declared.words.words.Replay.{Replay as Replaying}
+use Rattle.wap_keys.specs.declared.words.words.Command.TheVariants.{Browse, Image, Resume, Page}
+use Rattle.wap_keys.specs.declared.words.words.Command.TheVariants.{Prepare, Make, Replay}
+use Rattle.wap_keys.specs.declared.words.words.PageCommand.{PageCommand}
 use Rattle.wap_world.specs.Sessions.{Begun}
 use Rattle.wap_cli.specs.declared.status.Status.{Status}
 use Rattle.wap_cli.specs.declared.status.Status.TheVariants.{Done, Usage, Refused, StoreFault}

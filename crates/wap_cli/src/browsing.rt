@@ -10,8 +10,8 @@ use crate::browse::Beginning;
 use std::alloc::Global;
 use wap_base::NoMemory;
 use wap_devices::{Sink, Source, Store};
+use wap_keys::words::Browse;
 use wap_pages::Cached;
-use wap_words::Browse;
 
 /// Browses as the words say, over the pages of the store, and gives the store back.
 pub(crate) fn browse<S: Store, I: Source, O: Sink>(

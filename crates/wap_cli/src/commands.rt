@@ -1,5 +1,5 @@
 //! Running a command.
-ghost use Rattle.wap_words.specs.Words.{command};
+ghost use Rattle.wap_keys.specs.words.Words.{command};
 ghost use Rattle.wap_cli.specs.Headline.{Runs};
 
 use crate::Status;
@@ -13,7 +13,7 @@ use std::alloc::Global;
 use std::thread::Threads;
 use wap_base::{NoMemory, Text};
 use wap_devices::{Gate, Sink, Source, Store};
-use wap_words::{Command, read_words};
+use wap_keys::words::{Command, read_words};
 
 /// Runs the command that the words are, over the pages of the store and the key lines of the
 /// source, and gives the store back. The first word is that of the command, as `browse`: the

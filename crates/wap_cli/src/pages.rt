@@ -13,7 +13,7 @@ use std::alloc::Global;
 use wap_base::Text;
 use wap_devices::{Failed, Fetched, Sink, Store, StoreErr, write_all};
 use wap_dis::listing;
-use wap_words::PageCommand;
+use wap_keys::words::PageCommand;
 
 /// How a command ends that writes nothing.
 fn refused_by(error: PageErr) -> Status

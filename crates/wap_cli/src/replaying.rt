@@ -9,7 +9,7 @@ use crate::replay::Beginning;
 use std::alloc::Global;
 use std::thread::Threads;
 use wap_devices::{Gate, Sink, Source, Store};
-use wap_words::Replay;
+use wap_keys::words::Replay;
 
 /// Replays the lists of keys of the source as the words say, over the pages of the store.
 pub(crate) fn replay<R: Threads + Sync, S: Store, I: Source, O: Sink, G: Gate + Sync>(

@@ -1,5 +1,5 @@
 //! Saving a session, and going on with one that was saved, over a store.
-ghost use Rattle.wap_words.specs.Ranges.{BrowsesInRange, ResumesInRange};
+ghost use Rattle.wap_keys.specs.words.Ranges.{BrowsesInRange, ResumesInRange};
 ghost use Rattle.wap_cli.specs.Headline.{begun_by};
 ghost use Rattle.wap_cli.specs.SavedSessions.{ImagesOver, ResumesOver};
 
@@ -8,8 +8,8 @@ use crate::browse::Beginning;
 use std::alloc::Global;
 use wap_base::NoMemory;
 use wap_devices::{Sink, Source, Store};
+use wap_keys::words::{Browse, Resume};
 use wap_pages::Cached;
-use wap_words::{Browse, Resume};
 
 /// Browses as the words say, over the pages of the store, and saves the context in which that ends;
 /// gives the store back.

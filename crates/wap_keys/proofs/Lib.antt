@@ -9,3 +9,5 @@ pub mod WholeLaws
 pub mod FaultLaws
 mod SpellLaws
 mod WordLaws
+pub mod ListsLemmas
+pub mod WordsLemmas

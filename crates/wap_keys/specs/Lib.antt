@@ -7,3 +7,5 @@ pub mod Prefixes
 pub mod Read
 pub mod Reading
 pub mod inside
+pub mod lists
+pub mod words

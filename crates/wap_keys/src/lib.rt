@@ -1,4 +1,8 @@
-//! Key lines: the recorded keys of a session, one a line.
+//! What the program is given: the words of its command line, key lines, the keys of a source, and
+//! lists of keys.
+//!
+//! - `lists`: Lists of keys: the recorded keys of several sessions.
+//! - `words`: The words of the program's commands.
 #![tactic(auto)]
 
 mod decimal;
@@ -7,10 +11,12 @@ mod fault;
 mod key;
 mod limits;
 mod line;
+pub mod lists;
 mod prefix;
 mod reader;
 mod reading;
 mod word;
+pub mod words;
 
 pub use decimal::decimal_of;
 pub use ending::{Ending, Next};

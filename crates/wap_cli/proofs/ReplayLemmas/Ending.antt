@@ -16,8 +16,8 @@ use Rattle.wap_keys.specs.declared.fault.KeyFault.TheVariants as key
 use Rattle.wap_keys.specs.declared.ending.Ending.{Ending}
 use Rattle.wap_keys.specs.declared.ending.Ending.TheVariants as ending
 use Rattle.wap_keys.specs.Read.{TakesAtMost, AtMostOnce}
-use Rattle.wap_lists.specs.Lists.{all_of, lists_of}
-use Rattle.wap_lists.specs.Read.{AreRead, ReadsLists}
+use Rattle.wap_keys.specs.lists.Lists.{all_of, lists_of}
+use Rattle.wap_keys.specs.lists.Read.{AreRead, ReadsLists}
 use Rattle.wap_pages.specs.declared.fault.PageFault.{PageFault}
 use Rattle.wap_world.specs.site.Asking.{raised_by}
 use Rattle.wap_world.specs.Sites.{Site}

@@ -17,7 +17,7 @@ use Rattle.wap_world.specs.declared.site.page.Page.{Page}
 use Rattle.wap_world.specs.declared.site.page.Page.TheVariants as page
 use Rattle.wap_pages.specs.Judged.{judged}
 use Rattle.wap_make.specs.Folders.{folder, deck_count}
-use Rattle.wap_words.specs.declared.numbers.TheConstants.{DEFAULT_SEED, DEFAULT_BUDGET}
+use Rattle.wap_keys.specs.declared.words.numbers.TheConstants.{DEFAULT_SEED, DEFAULT_BUDGET}
 use Rattle.wap_world.specs.Sites.{Site}
 use Rattle.wap_world.specs.Sessions.{Begun, session, shown_by}
 use Rattle.wap_world.specs.scripting.UnitSites.{unit_pages}

@@ -10,7 +10,7 @@ use Rattle.wap_keys.specs.declared.fault.KeyFault.TheVariants as key
 use Rattle.wap_keys.specs.declared.ending.Ending.{Ending}
 use Rattle.wap_keys.specs.declared.ending.Ending.TheVariants as ending
 use Rattle.wap_keys.specs.Read.{TakesAtMost, AtMostOnce}
-use Rattle.wap_lists.specs.Lists.{all_of, lists_of}
+use Rattle.wap_keys.specs.lists.Lists.{all_of, lists_of}
 use Rattle.wap_pages.specs.declared.fault.PageFault.{PageFault}
 use Rattle.wap_world.specs.Sites.{Site}
 use Rattle.wap_world.specs.Sessions.{Begun}

@@ -12,9 +12,9 @@ use crate::made::report::report_on;
 use std::alloc::Global;
 use wap_base::{Bytes, NoMemory, RunErr, Text};
 use wap_devices::{Failed, MemStore, Sink, are_pages, write_all};
+use wap_keys::words::DEFAULT_CACHE;
 use wap_make::folder_of;
 use wap_pages::Cached;
-use wap_words::DEFAULT_CACHE;
 use wap_world::site::Pages;
 
 /// What the judging and the browsing of a made folder came to.

@@ -8,9 +8,9 @@ ghost use Rattle.wap_cli.specs.made.inside.Tours.{IsPlayed};
 use std::alloc::Global;
 use wap_base::{Limits, NoMemory, RunErr};
 use wap_input::Key;
+use wap_keys::words::{DEFAULT_BUDGET, DEFAULT_SEED};
 use wap_lines::Lines;
 use wap_session::{Session, SessionFault};
-use wap_words::{DEFAULT_BUDGET, DEFAULT_SEED};
 use wap_world::site::Pages;
 
 /// What the keys of a session came to.

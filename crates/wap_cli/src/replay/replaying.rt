@@ -21,8 +21,8 @@ use std::marker::Sync;
 use std::thread::Threads;
 use wap_base::{NoMemory, Rows};
 use wap_devices::{Failed, Gate, Sink, Source, Store, StoreErr};
+use wap_keys::lists::read_lists;
 use wap_keys::{Ending, Key};
-use wap_lists::read_lists;
 use wap_pages::pages_are_judged;
 
 /// Plays lists over pages that are ready, and writes what each comes to once all are played.

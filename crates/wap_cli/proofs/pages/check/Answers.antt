@@ -1,5 +1,5 @@
 use Rattle.std.proofs.Common.{ℕ, List, Some, Err, ap, sym, subst}
-use Rattle.wap_words.specs.declared.words.PageCommand.TheVariants as command
+use Rattle.wap_keys.specs.declared.words.words.PageCommand.TheVariants as command
 use Rattle.wap_cli.specs.declared.status.Status.{Status}
 use Rattle.wap_devices.specs.Sinks.{Puts}
 use Rattle.wap_cli.specs.Answers.{Answers}

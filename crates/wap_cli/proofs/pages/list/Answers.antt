@@ -1,6 +1,6 @@
 use Rattle.std.proofs.Common.{Some, Err, ap, sym, subst, refl}
 use Rattle.wap_dis.specs.Listing.{listing}
-use Rattle.wap_words.specs.declared.words.PageCommand.TheVariants as command
+use Rattle.wap_keys.specs.declared.words.words.PageCommand.TheVariants as command
 use Rattle.wap_cli.specs.declared.status.Status.{Status}
 use Rattle.wap_cli.specs.Answers.{Answers}
 use Rattle.wap_cli.proofs.Answering.{answers_text, answers_error, no_value}

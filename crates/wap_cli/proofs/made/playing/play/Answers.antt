@@ -1,6 +1,6 @@
 use Rattle.std.proofs.Common.{ap, ◌∙◌}
 use Rattle.wap_base.specs.declared.limits.Limits.{Limits}
-use Rattle.wap_words.specs.declared.numbers.TheConstants.{DEFAULT_SEED, DEFAULT_BUDGET}
+use Rattle.wap_keys.specs.declared.words.numbers.TheConstants.{DEFAULT_SEED, DEFAULT_BUDGET}
 use Rattle.wap_session.specs.Feeding.{beginning}
 use Rattle.wap_cli.specs.made.Making.{first_url}
 use Rattle.wap_cli.proofs.MadeLemmas.Touring.{is_played}

@@ -3,7 +3,7 @@ use Rattle.std.specs.declared.alloc.Global.{Global}
 use Rattle.wap_input.specs.declared.key.Key.{Key}
 use Rattle.wap_keys.specs.declared.ending.Ending.{Ending}
 use Rattle.wap_keys.specs.declared.ending.Ending.TheVariants as ending
-use Rattle.wap_lists.specs.Read.{ReadsLists}
+use Rattle.wap_keys.specs.lists.Read.{ReadsLists}
 use Rattle.wap_cli.specs.declared.status.Status.{Status}
 use Rattle.wap_cli.specs.browse.Beginning.{begun_with}
 use Rattle.wap_cli.specs.replay.Headline.{ended, ReplaysSeen}

@@ -1,0 +1,55 @@
+//! The words that commands begin with.
+ghost use Rattle.std.specs.Prelude.{◌≡◌};
+ghost use Rattle.std.specs.Map.{lookup};
+ghost use Rattle.std.specs.Str.{bytes_eq};
+ghost use Rattle.wap_keys.specs.words.Words.{word_named};
+ghost use Rattle.wap_keys.specs.words.inside.Matching.{by_name};
+
+use crate::words::PageCommand;
+
+/// What a command's word says.
+#[derive(Clone, Copy, Debug, PartialEq, Eq)]
+pub(crate) enum Word {
+    Browse,
+    Image,
+    Resume,
+    /// One page is looked at.
+    Page(PageCommand),
+    Prepare,
+    Make,
+    Replay,
+}
+
+/// The word of each command.
+pub(crate) static WORDS: [(&str, Word); 11] = [
+    ("browse", Word::Browse),
+    ("image", Word::Image),
+    ("resume", Word::Resume),
+    ("verify", Word::Page(PageCommand::Verify)),
+    ("list", Word::Page(PageCommand::List)),
+    ("check", Word::Page(PageCommand::Check)),
+    ("canon", Word::Page(PageCommand::Canon)),
+    ("prepare", Word::Prepare),
+    ("make", Word::Make),
+    ("compile", Word::Page(PageCommand::Compile)),
+    ("replay", Word::Replay),
+];
+
+/// The word beside a name.
+fn word_beside(rows: &[(&str, Word)], name: &str) -> Option<Word>
+    ensures { result ≡ lookup (bytes_eq name.now) (by_name rows.now) }
+{
+    for row in rows {
+        if name == row.0 {
+            return Some(row.1);
+        }
+    }
+    None
+}
+
+/// The word of a name.
+pub(crate) fn word_named(name: &str) -> Option<Word>
+    ensures { result ≡ word_named name.now }
+{
+    word_beside(&WORDS, name)
+}

@@ -1,4 +1,0 @@
-mod Adding
-mod Lines
-mod Taking
-mod Sources

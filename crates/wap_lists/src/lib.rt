@@ -1,9 +1,0 @@
-//! Lists of keys: the recorded keys of several sessions.
-#![tactic(auto)]
-
-mod begun;
-mod line;
-mod reading;
-
-pub use line::Said;
-pub use reading::read_lists;
