@@ -1,12 +1,12 @@
 //! The store over folders of the system.
-use crate::expected::{expect, row_of, word_of};
+use crate::FolderStore;
+use crate::tests::expected::{expect, row_of, word_of};
 use std::fs::File;
 use std::os::unix::fs::symlink;
 use std::test::Fail;
 use std::{env, fs, io, process};
 use wap_base::Text;
 use wap_devices::Store;
-use wap_system::FolderStore;
 
 /// A folder of the test's own, which isn't there yet.
 fn scratch(rt: &HostRuntime, name: &str) -> io::Result<String> {

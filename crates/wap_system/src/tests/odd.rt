@@ -1,5 +1,6 @@
 //! The store over a system that gives odd answers.
-use crate::expected::{expect, row_of, word_of};
+use crate::FolderStore;
+use crate::tests::expected::{expect, row_of, word_of};
 use std::alloc::{Allocator, Global};
 use std::fs::{File, Metadata, OpenOptions};
 use std::io;
@@ -8,7 +9,6 @@ use std::rt::Files;
 use std::test::Fail;
 use wap_base::Text;
 use wap_devices::Store;
-use wap_system::FolderStore;
 
 /// A system whose folders hold these names, each ended by a NUL, and whose files have this length
 /// and can't be opened, for this reason. The empty path is a folder's.

@@ -1,8 +1,8 @@
 //! The source and the sink over standard streams, and over streams that break.
+use crate::{StdinSource, StdoutSink};
 use std::io;
 use std::io::{Error, ErrorKind, Read, Write};
 use wap_devices::{Failed, Sink, Source, write_all};
-use wap_system::{StdinSource, StdoutSink};
 
 /// What breaks after its first byte, and takes none before that.
 #[derive(Drop)]
