@@ -7,7 +7,7 @@ ghost use Rattle.wap_calling.specs.Calling.{begun};
 use crate::terminal::{BUDGET, SEED};
 use std::alloc::Global;
 use wap_base::Limits;
-use wap_lines::Lines;
+use wap_layout::buffer::Lines;
 use wap_session::handset::{Handset, Key, SessionFault};
 use wap_world::site::Pages;
 

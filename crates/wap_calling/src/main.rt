@@ -20,7 +20,7 @@ use std::io;
 use std::process::ExitCode;
 use terminal::{accept_dialog, new_session, visit};
 use wap_base::{Bytes, NoMemory, Text};
-use wap_lines::Lines;
+use wap_layout::buffer::Lines;
 use wap_pages::{PageErr, judge};
 use wap_session::{Key, Session, SessionFault};
 use wap_world::site::Page;

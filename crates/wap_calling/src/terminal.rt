@@ -9,7 +9,7 @@ ghost use Rattle.wap_calling.specs.Calling.{begun};
 
 use std::alloc::Global;
 use wap_base::{Limits, Text};
-use wap_lines::Lines;
+use wap_layout::buffer::Lines;
 use wap_session::{Key, Session, SessionFault};
 use wap_world::site::Pages;
 

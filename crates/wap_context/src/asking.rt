@@ -7,7 +7,7 @@ ghost use Rattle.wap_context.specs.inside.Moving.{Asked, deck_answer, page_answe
 use std::alloc::Global;
 use wap_base::{NoMemory, RunErr};
 use wap_deck::good::GoodDeck;
-use wap_lines::Lines;
+use wap_layout::buffer::Lines;
 use wap_state::page_urls::{PageEntry, PageRequest, PageUrl};
 use wap_state::requests::{Entrance, may_enter as may_be_entered, request_line};
 use wap_url::{Url, name_of};

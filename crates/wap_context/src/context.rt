@@ -18,7 +18,7 @@ use wap_base::{Limits, NoMemory, RunErr, Text};
 use wap_cardrules::{Chosen, Entered, Task};
 use wap_deck::good::{GoodDeck, View};
 use wap_execution::Fatal;
-use wap_lines::Lines;
+use wap_layout::buffer::Lines;
 use wap_machine::Outcome;
 use wap_state::{State, here};
 use wap_value::Value;

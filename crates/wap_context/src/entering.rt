@@ -18,7 +18,7 @@ use wap_base::{NoMemory, Rows, Text};
 use wap_cardrules::{Event, Task};
 use wap_cards::{binding, is_true};
 use wap_deck::good::{AttrName, GoodDeck};
-use wap_lines::Lines;
+use wap_layout::buffer::Lines;
 use wap_state::page_urls::{PageEntry, PageUrl};
 use wap_state::requests::entrance_of;
 use wap_url::Url;

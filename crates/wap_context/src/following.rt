@@ -5,7 +5,7 @@ use crate::context::Context;
 use crate::waiting::{Step, Went};
 use std::alloc::Global;
 use wap_base::RunErr;
-use wap_lines::Lines;
+use wap_layout::buffer::Lines;
 use wap_world::site::Pages;
 
 impl Context {

@@ -18,7 +18,7 @@ use std::alloc::Global;
 use wap_base::{NoMemory, Rows, RunErr, Text};
 use wap_cardrules::{Go, Task};
 use wap_deck::good::GoodDeck;
-use wap_lines::Lines;
+use wap_layout::buffer::Lines;
 use wap_state::page_urls::{PageEntry, PageRequest, PageUrl, plain, target};
 use wap_state::requests::is_same_page;
 use wap_url::Url;

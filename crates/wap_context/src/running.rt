@@ -18,7 +18,7 @@ use std::mem::replace;
 use wap_base::{Limits, NoMemory, RunErr};
 use wap_cardrules::{Event, Task};
 use wap_execution::Fatal;
-use wap_lines::Lines;
+use wap_layout::buffer::Lines;
 use wap_machine::{Machine, Outcome};
 use wap_state::State;
 use wap_state::page_urls::PageUrl;

@@ -11,7 +11,7 @@ ghost use Rattle.wap_world.specs.Setting.{set_variables};
 use crate::context::Context;
 use std::alloc::Global;
 use wap_base::{NoMemory, Rows, Text};
-use wap_lines::Lines;
+use wap_layout::buffer::Lines;
 use wap_state::screen_lines::add_refusal;
 use wap_state::{Current, here};
 use wap_world::Refusal;

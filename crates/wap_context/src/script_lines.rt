@@ -5,7 +5,7 @@ ghost use Rattle.wap_world.specs.Starting.{script_line};
 use std::alloc::Global;
 use wap_base::{NoMemory, Text};
 use wap_execution::Fatal;
-use wap_lines::Lines;
+use wap_layout::buffer::Lines;
 
 /// The line of a script that ends for a reason.
 #[tactic(auto, using(crate::proofs::Words::words))]

@@ -23,7 +23,7 @@ use crate::waiting::Went;
 use std::alloc::Global;
 use wap_base::{NoMemory, Rows, RunErr, Text};
 use wap_execution::Fatal;
-use wap_lines::Lines;
+use wap_layout::buffer::Lines;
 use wap_machine::Machine;
 use wap_parse::invocation::{Invocation, read_call};
 use wap_state::page_urls::PageUrl;

@@ -12,7 +12,7 @@ use crate::waiting::{Step, went_to};
 use std::alloc::Global;
 use wap_base::{NoMemory, RunErr};
 use wap_cardrules::Event;
-use wap_lines::Lines;
+use wap_layout::buffer::Lines;
 use wap_state::here;
 use wap_state::screen_lines::add_refusal;
 use wap_world::site::Pages;

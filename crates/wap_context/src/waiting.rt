@@ -10,7 +10,7 @@ use std::marker::Model;
 use wap_base::NoMemory;
 use wap_cardrules::Task;
 use wap_execution::Dialog;
-use wap_lines::Lines;
+use wap_layout::buffer::Lines;
 use wap_machine::Waiting as Machine;
 use wap_state::page_urls::PageUrl;
 

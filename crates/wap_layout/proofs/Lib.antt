@@ -14,3 +14,4 @@ pub mod Visible
 pub mod Groups
 pub mod Merging
 mod Examples
+pub mod BufferLemmas

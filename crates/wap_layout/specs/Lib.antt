@@ -3,3 +3,4 @@ pub mod Pieces
 pub mod Layout
 pub mod Calculation
 pub mod inside
+pub mod buffer

@@ -6,11 +6,11 @@ ghost use Rattle.wap_layout.specs.Words.{words_of, unless_empty};
 ghost use Rattle.wap_layout.specs.Calculation.{cut_word, fill, filled, has_room};
 ghost use Rattle.wap_layout.specs.inside.Slices.{fill_text};
 
+use crate::buffer::Lines;
 use crate::first::first_line;
 use crate::words::{add_unless_empty, columns_of, first_word};
 use std::alloc::Global;
 use wap_base::{NoMemory, Text};
-use wap_lines::Lines;
 
 /// An empty line, with room for so many characters of US-ASCII.
 fn empty_line(alloc: Global, columns: usize) -> Result<Text, NoMemory>

@@ -8,11 +8,11 @@ ghost use Rattle.wap_layout.specs.Layout.{AllFit, AreLaid};
 ghost use Rattle.wap_layout.specs.Calculation.{lines_of};
 
 use crate::Flow;
+use crate::buffer::Lines;
 use crate::flow::Ending;
 use crate::page::Page;
 use std::alloc::Global;
 use wap_base::{NoMemory, Rows};
-use wap_lines::Lines;
 
 /// The lines of a flow at a width of so many columns, of which each character takes one. Only text
 /// that is not wrapped, or is preformatted, may have longer lines.

@@ -1,9 +1,9 @@
-//! The layout of a card's text: lines of a width, a column for each character.
+//! Lines: flows of words and breaks laid out on them, and lines in one buffer as they are written.
 //!
-//! A card's content comes as a flow of texts, breaks and paragraph modes. Contracts see a line as
-//! the list of its characters, and say of the words alone which of them stand on which line.
+//! - `buffer`: Lines of text in one buffer, as they are written.
 #![tactic(auto)]
 
+pub mod buffer;
 mod fill;
 mod first;
 mod flow;

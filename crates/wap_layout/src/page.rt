@@ -8,13 +8,13 @@ ghost use Rattle.wap_layout.specs.Layout.{closed};
 ghost use Rattle.wap_layout.specs.Calculation.{laid, piece_lines};
 ghost use Rattle.wap_layout.specs.inside.Endings.{is_hard};
 
+use crate::buffer::Lines;
 use crate::fill::add_filled;
 use crate::flow::Ending;
 use crate::words::{add_unless_empty, cut_at_feed};
 use crate::{Flow, Mode};
 use std::alloc::Global;
 use wap_base::{NoMemory, Text};
-use wap_lines::Lines;
 
 /// Adds the lines of a text, or none where nothing is to be seen. What is not wrapped stands on a
 /// line that is wide enough for all of it.

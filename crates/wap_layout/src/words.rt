@@ -7,8 +7,8 @@ ghost use Rattle.std.specs.Str.{chars, IsAscii};
 ghost use Rattle.wap_layout.specs.Words.{is_blank, is_line_feed, words_of, unless_empty};
 ghost use Rattle.wap_layout.specs.inside.Slices.{IsCutAtBlank, IsCutAtFeed, ends_word};
 
+use crate::buffer::Lines;
 use wap_base::NoMemory;
-use wap_lines::Lines;
 
 /// Whether a character separates words.
 pub(crate) fn is_blank(character: char) -> bool

@@ -11,7 +11,7 @@ use Rattle.std.proofs.lemmas.List.Sums.{sum_by-append}
 use Rattle.std.proofs.lemmas.Str.{encode_ascii}
 use Rattle.wap_base.proofs.Utf8Cuts.{AllHigh, high_bytes}
 use Rattle.wap_base.specs.Ascii.{full_stop, line_feed}
-use Rattle.wap_lines.specs.Written.{lines_bytes}
+use Rattle.wap_layout.specs.buffer.Written.{lines_bytes}
 use Rattle.wap_world.specs.Lines.{shown_line}
 use Rattle.wap_session.specs.inside.Dots.{is_control}
 

@@ -7,7 +7,7 @@ ghost use Rattle.wap_session.specs.inside.Dots.{is_control};
 
 use std::alloc::Global;
 use wap_base::{NoMemory, Text};
-use wap_lines::Lines;
+use wap_layout::buffer::Lines;
 
 /// Whether a character is a control character.
 fn is_control(character: char) -> bool

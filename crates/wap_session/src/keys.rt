@@ -25,7 +25,7 @@ use wap_cardrules::{Chosen, Entered, Task};
 use wap_cards::{do_task, link_task};
 use wap_context::{Context, Step};
 use wap_input::Key;
-use wap_lines::Lines;
+use wap_layout::buffer::Lines;
 use wap_state::screen_lines::add_fault_lines;
 use wap_world::Refusal;
 use wap_world::site::Pages;

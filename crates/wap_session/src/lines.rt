@@ -4,7 +4,7 @@ ghost use Rattle.wap_world.specs.Lines.{refusal_line, variable_line};
 
 use std::alloc::Global;
 use wap_base::{NoMemory, Text};
-use wap_lines::Lines;
+use wap_layout::buffer::Lines;
 use wap_state::screen_lines::add_refusal;
 use wap_vars::Vars;
 use wap_world::Refusal;

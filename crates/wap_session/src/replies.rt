@@ -16,7 +16,7 @@ use wap_base::{NoMemory, RunErr, Text};
 use wap_context::{Context, Step, Ticked, Waiting};
 use wap_execution::Dialog;
 use wap_input::Key;
-use wap_lines::Lines;
+use wap_layout::buffer::Lines;
 use wap_value::Value;
 use wap_world::Refusal;
 use wap_world::site::Pages;

@@ -20,7 +20,7 @@ use std::mem;
 use wap_base::{Limits, NoMemory};
 use wap_context::Context;
 use wap_input::Key;
-use wap_lines::Lines;
+use wap_layout::buffer::Lines;
 use wap_world::site::Pages;
 
 /// A browser that is played by keys: it is at rest, waits for the answer to a dialog, or is over. A

@@ -15,7 +15,7 @@ use wap_base::{NoMemory, RunErr};
 use wap_context::{Context, Step, Waiting};
 use wap_execution::Dialog;
 use wap_input::Key;
-use wap_lines::Lines;
+use wap_layout::buffer::Lines;
 use wap_world::site::Pages;
 
 /// A dialog, and the script that goes on with its answer.

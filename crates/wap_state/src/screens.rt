@@ -14,7 +14,7 @@ use std::alloc::Global;
 use wap_base::NoMemory;
 use wap_cards::inputs::apply_defaults;
 use wap_deck::good::View;
-use wap_lines::Lines;
+use wap_layout::buffer::Lines;
 
 impl State {
     /// Adds the screen of a card.

@@ -10,7 +10,7 @@ use crate::state::State;
 use std::alloc::Global;
 use wap_base::{NoMemory, Rows, Text};
 use wap_cards::inputs::set_one;
-use wap_lines::Lines;
+use wap_layout::buffer::Lines;
 use wap_vars::{VarFault, Vars};
 
 /// Sets variables in order, and tells why others were refused.

@@ -15,7 +15,7 @@ use std::alloc::Global;
 use wap_base::{NoMemory, Rows, Text};
 use wap_cards::{first_with, timer_of, variable_in};
 use wap_deck::good::{AttrName, Tag, View};
-use wap_lines::Lines;
+use wap_layout::buffer::Lines;
 use wap_world::Timer;
 
 /// A timer that starts; 0 is no time.

@@ -9,7 +9,7 @@ use Rattle.wap_input.specs.declared.key.Key.{Key}
 use Rattle.wap_input.specs.declared.key.Key.TheVariants.{Open}
 use Rattle.wap_devices.proofs.Putting.{flat_map-append}
 use Rattle.wap_world.specs.site.Pages.{Pages}
-use Rattle.wap_lines.specs.Written.{line_bytes, lines_bytes}
+use Rattle.wap_layout.specs.buffer.Written.{line_bytes, lines_bytes}
 use Rattle.wap_world.specs.Steps.{Step}
 use Rattle.wap_world.specs.Sessions.{Begun, shown_by}
 use Rattle.wap_world.specs.scripting.UnitSites.{unit_pages}

@@ -9,7 +9,7 @@ use Rattle.wap_push.specs.Pushes.{push_at}
 use Rattle.wap_image.specs.declared.context_parts.parts.ContextParts.{ContextParts}
 use Rattle.wap_world.specs.Shelves.{Shelf}
 use Rattle.wap_world.specs.World.{World}
-use Rattle.wap_lines.specs.Written.{lines_bytes}
+use Rattle.wap_layout.specs.buffer.Written.{lines_bytes}
 use Rattle.wap_world.specs.Lines.{shown_line}
 use Rattle.wap_world.specs.Steps.{joined}
 use Rattle.wap_world.specs.Sites.{Site}

@@ -6,7 +6,7 @@ use Rattle.wap_devices.specs.Transfer.{Appends}
 use Rattle.wap_input.specs.declared.key.Key.{Key}
 use Rattle.wap_world.specs.site.Misses.{Asked, Cache, misses}
 use Rattle.wap_world.specs.site.Asking.{raised_by}
-use Rattle.wap_lines.specs.Written.{lines_bytes}
+use Rattle.wap_layout.specs.buffer.Written.{lines_bytes}
 use Rattle.wap_world.specs.Steps.{Step}
 use Rattle.wap_world.specs.Sessions.{shown_by}
 use Rattle.wap_cli.specs.browse.Outside.{Outside}

@@ -5,7 +5,7 @@ use Rattle.wap_base.specs.Contents.{Contents}
 use Rattle.wap_input.specs.declared.key.Key.{Key}
 use Rattle.wap_pages.specs.Judged.{judged}
 use Rattle.wap_world.specs.Sites.{Site}
-use Rattle.wap_lines.specs.Written.{lines_bytes}
+use Rattle.wap_layout.specs.buffer.Written.{lines_bytes}
 use Rattle.wap_world.specs.Steps.{Step}
 use Rattle.wap_world.specs.Sessions.{Begun, shown_by}
 use Rattle.wap_push.specs.Pushes.{push_at}

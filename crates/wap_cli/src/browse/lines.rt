@@ -1,9 +1,9 @@
 //! Lines as they are written.
 ghost use Rattle.std.specs.Prelude.{◌≡◌, ◌++◌, OnOk, OnErr};
-ghost use Rattle.wap_lines.specs.Written.{lines_bytes};
+ghost use Rattle.wap_layout.specs.buffer.Written.{lines_bytes};
 
 use wap_base::NoMemory;
-use wap_lines::Lines;
+use wap_layout::buffer::Lines;
 
 /// Appends lines as they are written. When out of memory nothing is added.
 pub fn add_lines(text: &mut Vec<u8>, lines: &Lines) -> Result<(), NoMemory>

@@ -7,7 +7,7 @@ ghost use Rattle.wap_cli.specs.browse.inside.Played.{Plays};
 use crate::Status;
 use std::alloc::Global;
 use wap_devices::{Failed, Sink, write_all};
-use wap_lines::Lines;
+use wap_layout::buffer::Lines;
 use wap_session::handset::{Handset, Key, SessionFault};
 use wap_world::site::Pages;
 

@@ -9,7 +9,7 @@ use std::alloc::Global;
 use wap_base::{Limits, NoMemory, RunErr};
 use wap_input::Key;
 use wap_keys::words::{DEFAULT_BUDGET, DEFAULT_SEED};
-use wap_lines::Lines;
+use wap_layout::buffer::Lines;
 use wap_session::{Session, SessionFault};
 use wap_world::site::Pages;
 

@@ -3,7 +3,7 @@ ghost use Rattle.std.specs.Prelude.{◌≡◌, ◌<◌, ◌++◌, IfOk, OnOk};
 ghost use Rattle.std.specs.List.{enumerate_from, flat_map};
 ghost use Rattle.wap_base.specs.Limits.{AreInRange};
 ghost use Rattle.wap_input.specs.declared.key.Key.TheVariants.{Open};
-ghost use Rattle.wap_lines.specs.Written.{lines_bytes};
+ghost use Rattle.wap_layout.specs.buffer.Written.{lines_bytes};
 ghost use Rattle.wap_world.specs.Sessions.{shown_by};
 ghost use Rattle.wap_world.specs.scripting.UnitSites.{unit_pages};
 ghost use Rattle.wap_context.specs.Sites.{site_of};
@@ -21,7 +21,7 @@ use std::thread::Threads;
 use wap_base::{NoMemory, Rows, Text};
 use wap_devices::Gate;
 use wap_folder::{Work, run_jobs};
-use wap_lines::Lines;
+use wap_layout::buffer::Lines;
 use wap_session::handset::{Handset, Key, SessionFault};
 
 /// Appends the line before a list's transcript: the number of the list, and how its session ended.

@@ -26,7 +26,7 @@ use wap_cardrules::{Go, Task};
 use wap_cards::value_if;
 use wap_deck::good::AttrName;
 use wap_execution::HostOut;
-use wap_lines::Lines;
+use wap_layout::buffer::Lines;
 use wap_state::State;
 use wap_state::screen_lines::add_screen;
 use wap_url::{Url, relative};

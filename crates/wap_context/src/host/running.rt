@@ -10,7 +10,7 @@ use std::marker::Model;
 use wap_base::{RunErr, Text};
 use wap_deck::good::GoodDeck;
 use wap_execution::{Found, HostOut};
-use wap_lines::Lines;
+use wap_layout::buffer::Lines;
 use wap_machine::Host;
 use wap_state::State;
 use wap_url::Url;

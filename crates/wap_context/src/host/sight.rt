@@ -10,7 +10,7 @@ use std::marker::Model;
 use wap_base::{NoMemory, RunErr};
 use wap_deck::good::GoodDeck;
 use wap_execution::{Fatal, HostOut};
-use wap_lines::Lines;
+use wap_layout::buffer::Lines;
 use wap_state::State;
 use wap_state::requests::{plain_get, request_line};
 use wap_url::{Url, name_of};

@@ -18,7 +18,7 @@ use crate::{Key, Session, SessionFault};
 use std::alloc::Global;
 use std::marker::Model;
 use wap_base::{Limits, NoMemory};
-use wap_lines::Lines;
+use wap_layout::buffer::Lines;
 use wap_push::Inbox;
 use wap_world::site::Pages;
 

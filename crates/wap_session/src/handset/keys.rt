@@ -15,7 +15,7 @@ use crate::notices::{entry_lines, take_push, url_in};
 use crate::{Key, Session, SessionFault, shown_lines};
 use std::alloc::Global;
 use wap_base::{NoMemory, Text};
-use wap_lines::Lines;
+use wap_layout::buffer::Lines;
 use wap_push::Inbox;
 use wap_world::site::Pages;
 

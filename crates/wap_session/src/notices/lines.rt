@@ -9,7 +9,7 @@ use itoa::Buffer;
 use std::alloc::Global;
 use wap_base::{NoMemory, Text};
 use wap_faults::push_fault_text;
-use wap_lines::Lines;
+use wap_layout::buffer::Lines;
 use wap_push::{Inbox, Indication, PushFault};
 
 /// One line.

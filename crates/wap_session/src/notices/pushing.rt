@@ -8,7 +8,7 @@ ghost use Rattle.wap_session.specs.notices.Taking.{push_lines, pushes_with};
 use crate::notices::lines::{no_push_line, notice_line, one_line};
 use std::alloc::Global;
 use wap_base::NoMemory;
-use wap_lines::Lines;
+use wap_layout::buffer::Lines;
 use wap_push::{Inbox, Indication, PushFault, read_push};
 
 /// Takes an indication, and gives the line that is shown of it, if one is.

@@ -8,7 +8,7 @@ ghost use Rattle.wap_world.specs.Setting.{fault_lines};
 
 use std::alloc::Global;
 use wap_base::{NoMemory, Text};
-use wap_lines::Lines;
+use wap_layout::buffer::Lines;
 use wap_vars::VarFault;
 use wap_world::Refusal;
 

@@ -14,8 +14,8 @@ use wap_base::{NoMemory, Rows, Text};
 use wap_cards::flow::flow_and_dos;
 use wap_cards::{active_dos, title};
 use wap_deck::good::{GoodDeck, View};
+use wap_layout::buffer::Lines;
 use wap_layout::{Flow, lines as laid_lines};
-use wap_lines::Lines;
 use wap_vars::Vars;
 use wap_world::COLUMNS;
 

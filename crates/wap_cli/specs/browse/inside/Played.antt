@@ -5,7 +5,7 @@ use Rattle.wap_devices.specs.Sinks.{SinkSeen}
 use Rattle.wap_devices.specs.Transfer.{Appends, AppendsPrefix}
 use Rattle.wap_input.specs.declared.key.Key.{Key}
 use Rattle.wap_world.specs.site.Asking.{Seen, Stays, Asks}
-use Rattle.wap_lines.specs.Written.{lines_bytes}
+use Rattle.wap_layout.specs.buffer.Written.{lines_bytes}
 use Rattle.wap_world.specs.Steps.{Step}
 use Rattle.wap_world.specs.Sessions.{shown_by}
 use Rattle.wap_world.specs.scripting.UnitSites.{Pages, shelf_of}

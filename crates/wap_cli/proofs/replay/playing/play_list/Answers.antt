@@ -1,6 +1,6 @@
 use Rattle.std.proofs.Common.{ℕ, Bool, List, ◌++◌, ap₂, ◌∙◌}
 use Rattle.std.proofs.lemmas.Result.{IfOk-weaker}
-use Rattle.wap_lines.specs.Written.{lines_bytes}
+use Rattle.wap_layout.specs.buffer.Written.{lines_bytes}
 use Rattle.wap_cli.specs.replay.Texts.{header}
 use Rattle.wap_cli.proofs.replay.playing.play_list.Goals as goal
 

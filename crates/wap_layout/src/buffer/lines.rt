@@ -2,9 +2,9 @@
 ghost use Rattle.std.specs.Prelude.{◌≡◌, [], ◌∷◌, ◌++◌, length, take, OnOk, OnErr};
 ghost use Rattle.std.specs.Str.{chars};
 ghost use Rattle.wap_base.specs.Ascii.{line_feed};
-ghost use Rattle.wap_lines.specs.Written.{lines_bytes};
+ghost use Rattle.wap_layout.specs.buffer.Written.{lines_bytes};
 
-use crate::EachLine;
+use crate::buffer::EachLine;
 use smallvec::SmallVec;
 use std::alloc::Global;
 use std::marker::Model;
@@ -25,7 +25,7 @@ pub struct Lines {
 
 impl Model for Lines {
     ghost use Rattle.std.specs.Prelude.{List, ℕ};
-    ghost use Rattle.wap_lines.specs.inside.Cuts.{lines_at, AreLines};
+    ghost use Rattle.wap_layout.specs.buffer.inside.Cuts.{lines_at, AreLines};
 
     ghost Value = { List (List ℕ) };
 
@@ -58,7 +58,7 @@ impl Lines {
     }
 
     /// How many lines there are.
-    #[tactic(auto, using(crate::proofs::CutLaws::many_lines))]
+    #[tactic(auto, using(crate::proofs::BufferLemmas::CutLaws::many_lines))]
     pub fn len(&self) -> usize
         ensures { result ≡ length self.now }
     {

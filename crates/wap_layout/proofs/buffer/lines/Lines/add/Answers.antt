@@ -1,8 +1,8 @@
 use Rattle.std.proofs.Common.{◌∷◌, ◌++◌, [], length, sym, ap₂, subst₂, ◌∙◌}
 use Rattle.wap_base.specs.Ascii.{line_feed}
-use Rattle.wap_lines.specs.inside.Cuts.{lines_at, AreLines}
-use Rattle.wap_lines.proofs.CutLaws.{more_lines, are_more_lines, line_at, is_one}
-use Rattle.wap_lines.proofs.lines.Lines.add.Goals as goal
+use Rattle.wap_layout.specs.buffer.inside.Cuts.{lines_at, AreLines}
+use Rattle.wap_layout.proofs.BufferLemmas.CutLaws.{more_lines, are_more_lines, line_at, is_one}
+use Rattle.wap_layout.proofs.buffer.lines.Lines.add.Goals as goal
 
 pub invariant_of-self-in-Ok : goal.invariant_of-self-in-Ok
 invariant_of-self-in-Ok c =

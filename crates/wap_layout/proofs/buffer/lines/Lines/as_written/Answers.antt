@@ -1,7 +1,7 @@
 use Rattle.std.proofs.Common.{ap, ◌∙◌}
-use Rattle.wap_lines.specs.Written.{lines_bytes}
-use Rattle.wap_lines.proofs.CutLaws.{written_again}
-use Rattle.wap_lines.proofs.lines.Lines.as_written.Goals as goal
+use Rattle.wap_layout.specs.buffer.Written.{lines_bytes}
+use Rattle.wap_layout.proofs.BufferLemmas.CutLaws.{written_again}
+use Rattle.wap_layout.proofs.buffer.lines.Lines.as_written.Goals as goal
 
 pub returns : goal.returns
 returns c =

@@ -1,5 +1,4 @@
 //! Lines of text in one buffer, as they are written. A contract sees the list of them.
-#![tactic(auto)]
 
 mod each;
 mod lines;

@@ -1,6 +1,6 @@
 //! Lines, one by one.
 ghost use Rattle.std.specs.Prelude.{◌≡◌, [], MatchOption};
-ghost use Rattle.wap_lines.specs.inside.Cuts.{lines_at, AreLines, IsNext};
+ghost use Rattle.wap_layout.specs.buffer.inside.Cuts.{lines_at, AreLines, IsNext};
 
 use std::marker::Model;
 
@@ -13,7 +13,7 @@ pub struct EachLine<'a> {
 
 impl<'a> Model for EachLine<'a> {
     ghost use Rattle.std.specs.Prelude.{List, ℕ};
-    ghost use Rattle.wap_lines.specs.inside.Cuts.{lines_at, AreLines};
+    ghost use Rattle.wap_layout.specs.buffer.inside.Cuts.{lines_at, AreLines};
 
     ghost Value = { List (List ℕ) };
 

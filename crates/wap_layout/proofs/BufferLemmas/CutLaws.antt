@@ -7,8 +7,8 @@ use Rattle.std.proofs.Math.Seq.{take-append_seam, drop-append_seam, drop-append-
 use Rattle.std.specs.Str.{chars, IsUtf8}
 use Rattle.std.proofs.lemmas.Str.{encodes-chars}
 use Rattle.wap_base.specs.Ascii.{line_feed}
-use Rattle.wap_lines.specs.Written.{lines_bytes}
-use Rattle.wap_lines.specs.inside.Cuts.{lines_at, IsLine, AreLines}
+use Rattle.wap_layout.specs.buffer.Written.{lines_bytes}
+use Rattle.wap_layout.specs.buffer.inside.Cuts.{lines_at, IsLine, AreLines}
 
 -- ---- lines that follow others
 

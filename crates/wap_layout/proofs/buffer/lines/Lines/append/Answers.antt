@@ -1,7 +1,7 @@
 use Rattle.std.proofs.Common.{◌≡◌, ◌++◌, sym, ap, ap₂, subst₂, ◌∙◌}
-use Rattle.wap_lines.specs.inside.Cuts.{lines_at, AreLines}
-use Rattle.wap_lines.proofs.CutLaws.{more_lines, are_more_lines}
-use Rattle.wap_lines.proofs.lines.Lines.append.Goals as goal
+use Rattle.wap_layout.specs.buffer.inside.Cuts.{lines_at, AreLines}
+use Rattle.wap_layout.proofs.BufferLemmas.CutLaws.{more_lines, are_more_lines}
+use Rattle.wap_layout.proofs.buffer.lines.Lines.append.Goals as goal
 
 pub invariant_of-self-in-Ok : goal.invariant_of-self-in-Ok
 invariant_of-self-in-Ok c =
