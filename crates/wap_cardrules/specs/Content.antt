@@ -5,14 +5,14 @@ use Rattle.std.specs.Prelude.{ℕ, zero, suc, Bool, if◌then◌else◌, List, [
 use Rattle.std.specs.Prelude.{◌∷◌, ◌++◌, Option, Some, None}
 use Rattle.std.specs.List.{flat_map, filter_map}
 use Rattle.wap_base.specs.declared.name.Part.{Part}
-use Rattle.wap_markup.specs.declared.document.TheConstants.{LEVEL_LIMIT}
-use Rattle.wap_markup.specs.declared.deck.Node.{Node}
-use Rattle.wap_markup.specs.declared.deck.Item.{out-Item}
-use Rattle.wap_markup.specs.declared.deck.Item.TheOpen.{Item-F}
-use Rattle.wap_markup.specs.declared.name.Tag.{Tag}
-use Rattle.wap_markup.specs.declared.name.Tag.TheVariants as tags
-use Rattle.wap_markup.specs.Trees.{ItemLevel}
-use Rattle.wap_markup.specs.Good.{rule_of, is_among}
+use Rattle.wap_tokens.specs.declared.markup.document.TheConstants.{LEVEL_LIMIT}
+use Rattle.wap_tokens.specs.declared.markup.deck.Node.{Node}
+use Rattle.wap_tokens.specs.declared.markup.deck.Item.{out-Item}
+use Rattle.wap_tokens.specs.declared.markup.deck.Item.TheOpen.{Item-F}
+use Rattle.wap_tokens.specs.declared.markup.name.Tag.{Tag}
+use Rattle.wap_tokens.specs.declared.markup.name.Tag.TheVariants as tags
+use Rattle.wap_tokens.specs.markup.Trees.{ItemLevel}
+use Rattle.wap_tokens.specs.markup.Good.{rule_of, is_among}
 
 -- a text, an element that begins, or one that ends
 pub data Mark : Type 0 where

@@ -4,9 +4,9 @@ use Rattle.std.specs.Prelude.{replicate, List, [], length, Option, codes}
 use Rattle.std.specs.Option.{option_map_or, option_and_then}
 use Rattle.wap_base.specs.Texts.{is_same_text}
 use Rattle.wap_base.specs.Ascii.{asterisk}
-use Rattle.wap_markup.specs.declared.deck.Node.{Node}
-use Rattle.wap_markup.specs.declared.name.AttrName.TheVariants as attrs
-use Rattle.wap_markup.specs.Trees.{value_of, plain_value}
+use Rattle.wap_tokens.specs.declared.markup.deck.Node.{Node}
+use Rattle.wap_tokens.specs.declared.markup.name.AttrName.TheVariants as attrs
+use Rattle.wap_tokens.specs.markup.Trees.{value_of, plain_value}
 use Rattle.wap_mask.specs.declared.symbol.Symbol.{Symbol}
 use Rattle.wap_mask.specs.Grammar.{any_text}
 use Rattle.wap_mask.specs.Reading.{mask_of, is_taken}

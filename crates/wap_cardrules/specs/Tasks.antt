@@ -3,12 +3,12 @@ use Rattle.std.specs.Prelude.{ℕ, false, if◌then◌else◌, map, List, [], Op
 use Rattle.std.specs.List.{filter_map}
 use Rattle.std.specs.Option.{option_and_then}
 use Rattle.wap_base.specs.Texts.{is_same_text}
-use Rattle.wap_markup.specs.declared.deck.Node.{Node}
-use Rattle.wap_markup.specs.declared.name.Tag.TheVariants as tags
-use Rattle.wap_markup.specs.declared.name.AttrName.TheVariants as attrs
-use Rattle.wap_markup.specs.Tables.{is_same_tag}
-use Rattle.wap_markup.specs.Trees.{value_of, node_with, plain_value, is_text}
-use Rattle.wap_markup.specs.Tasks.{setvars_of, task_of}
+use Rattle.wap_tokens.specs.declared.markup.deck.Node.{Node}
+use Rattle.wap_tokens.specs.declared.markup.name.Tag.TheVariants as tags
+use Rattle.wap_tokens.specs.declared.markup.name.AttrName.TheVariants as attrs
+use Rattle.wap_tokens.specs.markup.Tables.{is_same_tag}
+use Rattle.wap_tokens.specs.markup.Trees.{value_of, node_with, plain_value, is_text}
+use Rattle.wap_tokens.specs.markup.Tasks.{setvars_of, task_of}
 use Rattle.wap_vars.specs.Variables.{Variables}
 use Rattle.wap_vars.specs.Filling.{value_text}
 use Rattle.wap_cardrules.specs.declared.task.Task.{Task}

@@ -1,10 +1,10 @@
 -- The timer of a card (WAP-191, section 11.7): it counts tenths of a second down.
 use Rattle.std.specs.Prelude.{ℕ, min, unwrap_or, List, Option, ◌-◌, ◌^◌}
 use Rattle.std.specs.Option.{option_map, option_map_or, option_and_then}
-use Rattle.wap_markup.specs.declared.deck.Node.{Node}
-use Rattle.wap_markup.specs.declared.name.Tag.TheVariants as tags
-use Rattle.wap_markup.specs.declared.name.AttrName.TheVariants as attrs
-use Rattle.wap_markup.specs.Trees.{first_with, value_of}
+use Rattle.wap_tokens.specs.declared.markup.deck.Node.{Node}
+use Rattle.wap_tokens.specs.declared.markup.name.Tag.TheVariants as tags
+use Rattle.wap_tokens.specs.declared.markup.name.AttrName.TheVariants as attrs
+use Rattle.wap_tokens.specs.markup.Trees.{first_with, value_of}
 use Rattle.wap_vars.specs.Variables.{Variables, text_of}
 use Rattle.wap_vars.specs.Filling.{value_text}
 use Rattle.wap_cardrules.specs.Values.{variable_in, number_in}

@@ -5,7 +5,7 @@ use Rattle.std.specs.Prelude.{find}
 use Rattle.std.specs.Option.{option_or}
 use Rattle.std.proofs.lemmas.List.Elements.{filter-append}
 use Rattle.std.proofs.lemmas.List.Folds.{find-append}
-use Rattle.wap_markup.specs.declared.deck.Node.{Node}
+use Rattle.wap_tokens.specs.declared.markup.deck.Node.{Node}
 
 module _ (same active : Node → Bool) (own others : List Node) where
   both : find same (filter active (own ++ others))

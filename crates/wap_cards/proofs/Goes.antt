@@ -2,9 +2,9 @@
 use Rattle.std.proofs.Common.{◌≡◌, ℕ, Bool, List, codes, ap, ◌∙◌}
 use Rattle.std.specs.Str.{chars}
 use Rattle.wap_base.specs.Texts.{is_same_text}
-use Rattle.wap_markup.specs.declared.deck.Node.{Node}
-use Rattle.wap_markup.specs.declared.name.AttrName.TheVariants as attrs
-use Rattle.wap_markup.specs.Trees.{value_of, plain_value, is_text}
+use Rattle.wap_tokens.specs.declared.markup.deck.Node.{Node}
+use Rattle.wap_tokens.specs.declared.markup.name.AttrName.TheVariants as attrs
+use Rattle.wap_tokens.specs.markup.Trees.{value_of, plain_value, is_text}
 use Rattle.wap_vars.specs.Variables.{Variables}
 use Rattle.wap_vars.specs.Filling.{value_text}
 use Rattle.wap_cardrules.specs.declared.task.Go.{Go}

@@ -3,10 +3,10 @@ use Rattle.std.proofs.Common.{◌≡◌, ℕ, zero, suc, ◌-◌, ◌<◌, Bool,
 use Rattle.std.proofs.Common.{◌++◌, refl, ap, subst, arith}
 use Rattle.std.specs.List.{flat_map}
 use Rattle.wap_base.specs.declared.name.Part.{Part}
-use Rattle.wap_markup.specs.declared.deck.Node.{Node}
-use Rattle.wap_markup.specs.declared.deck.Item.{Item, out-Item}
-use Rattle.wap_markup.specs.declared.deck.Item.TheVariants as item
-use Rattle.wap_markup.specs.Good.{is_among}
+use Rattle.wap_tokens.specs.declared.markup.deck.Node.{Node}
+use Rattle.wap_tokens.specs.declared.markup.deck.Item.{Item, out-Item}
+use Rattle.wap_tokens.specs.declared.markup.deck.Item.TheVariants as item
+use Rattle.wap_tokens.specs.markup.Good.{is_among}
 use Rattle.wap_cardrules.specs.Content.{Mark, words, begins, ends, shown_tags}
 use Rattle.wap_cardrules.specs.Content.{marks_from, marks_in, kids_marks}
 use Rattle.wap_deck.proofs.GoodLemmas.Layers.{out_node, out_text}

@@ -5,8 +5,8 @@ use Rattle.std.proofs.lemmas.List.{append-nil}
 use Rattle.std.specs.Option.{option_map}
 use Rattle.wap_base.specs.declared.name.Part.{Part}
 use Rattle.wap_base.specs.declared.name.Part.TheVariants.{Lit, Var}
-use Rattle.wap_markup.specs.Decks.{before}
-use Rattle.wap_markup.specs.Trees.{plain_text}
+use Rattle.wap_tokens.specs.markup.Decks.{before}
+use Rattle.wap_tokens.specs.markup.Trees.{plain_text}
 use Rattle.wap_deck.specs.declared.good.bits.Bit.{Bit}
 use Rattle.wap_deck.specs.good.Runs.{part_of, IsFirstBit}
 use Rattle.wap_vars.specs.Variables.{Variables}

@@ -1,12 +1,12 @@
 //! Which elements show what they hold, and which may hold texts.
 ghost use Rattle.std.specs.Prelude.{◌≡◌};
 ghost use Rattle.std.specs.Map.{lookup};
-ghost use Rattle.wap_markup.specs.Good.{is_among, rule_of};
-ghost use Rattle.wap_markup.specs.Tables.{is_same_tag};
+ghost use Rattle.wap_tokens.specs.markup.Good.{is_among, rule_of};
+ghost use Rattle.wap_tokens.specs.markup.Tables.{is_same_tag};
 ghost use Rattle.wap_cardrules.specs.Content.{shown_tags};
 ghost use Rattle.wap_cards.specs.inside.Rows.{has_text, rule_rows};
 
-use wap_markup::{AttrName, RULES, Tag};
+use wap_tokens::markup::{AttrName, RULES, Tag};
 
 /// Whether the content of an element shows.
 pub fn is_open(tag: Tag) -> bool

@@ -2,9 +2,9 @@
 ghost use Rattle.std.specs.Prelude.{◌≡◌, ◌++◌, not, filter, find, is_some, IfOk, OnOk, ℕ, List};
 ghost use Rattle.std.specs.List.{list_any};
 ghost use Rattle.wap_base.specs.Texts.{is_same_text};
-ghost use Rattle.wap_markup.specs.Trees.{value_of};
-ghost use Rattle.wap_markup.specs.Tasks.{task_of};
-ghost use Rattle.wap_markup.specs.Good.{first_of, name_of_do};
+ghost use Rattle.wap_tokens.specs.markup.Trees.{value_of};
+ghost use Rattle.wap_tokens.specs.markup.Tasks.{task_of};
+ghost use Rattle.wap_tokens.specs.markup.Good.{first_of, name_of_do};
 ghost use Rattle.wap_cardrules.specs.Dos.{dos_in, do_name, has_do, others_beside, active_beside};
 ghost use Rattle.wap_cardrules.specs.Dos.{active_dos, label_of, labels_beside, do_task};
 

@@ -8,7 +8,7 @@ use crate::fields::is_field;
 use std::alloc::Global;
 use wap_base::{NoMemory, Rows};
 use wap_deck::good::{Child, Tag, View};
-use wap_markup::LEVEL_LIMIT;
+use wap_tokens::markup::LEVEL_LIMIT;
 
 /// What is looked for.
 #[derive(Clone, Copy)]

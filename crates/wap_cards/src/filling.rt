@@ -2,7 +2,7 @@
 ghost use Rattle.std.specs.Prelude.{◌≡◌, ◌++◌, true, IfOk, OnOk};
 ghost use Rattle.std.specs.Str.{chars};
 ghost use Rattle.wap_base.specs.Names.{is_name};
-ghost use Rattle.wap_markup.specs.Trees.{value_of};
+ghost use Rattle.wap_tokens.specs.markup.Trees.{value_of};
 ghost use Rattle.wap_vars.specs.Filling.{filled, part_text, value_text};
 ghost use Rattle.wap_cardrules.specs.Values.{value_if};
 

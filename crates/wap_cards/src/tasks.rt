@@ -4,8 +4,8 @@ ghost use Rattle.std.specs.List.{filter_map};
 ghost use Rattle.std.specs.Str.{chars};
 ghost use Rattle.wap_base.specs.Texts.{is_same_text};
 ghost use Rattle.wap_vars.specs.Filling.{value_text};
-ghost use Rattle.wap_markup.specs.Trees.{node_with, is_text, plain_value, value_of};
-ghost use Rattle.wap_markup.specs.Tasks.{is_task, task_of};
+ghost use Rattle.wap_tokens.specs.markup.Trees.{node_with, is_text, plain_value, value_of};
+ghost use Rattle.wap_tokens.specs.markup.Tasks.{is_task, task_of};
 ghost use Rattle.wap_cardrules.specs.Tasks.{pair_in, sets_in, go_in};
 ghost use Rattle.wap_cardrules.specs.Tasks.{go_to, task_from, task_in};
 

@@ -2,7 +2,7 @@
 ghost use Rattle.std.specs.Prelude.{◌≡◌, IfOk};
 ghost use Rattle.std.specs.Option.{option_copied};
 ghost use Rattle.std.specs.Str.{chars};
-ghost use Rattle.wap_markup.specs.Trees.{plain_text, plain_value, is_text};
+ghost use Rattle.wap_tokens.specs.markup.Trees.{plain_text, plain_value, is_text};
 ghost use Rattle.wap_cardrules.specs.Values.{is_true, variable_in};
 
 use std::alloc::Global;

@@ -15,13 +15,13 @@ use wap_layout::{Flow, Mode};
 use wap_lex::{Kind, LexFault, Token};
 use wap_libs::{Gen, LibFault, LibOut};
 use wap_machine::{Machine, Outcome, Waiting};
-use wap_markup::{Attr, Deck, Document, Element, Kid, Piece};
 use wap_mask::{Class, Mask, Symbol};
 use wap_parse::invocation::Invocation;
 use wap_parse::{Expr, Function, ParseFault, Program, Stmt, Use};
 use wap_push::{Inbox, Indication, PushFault};
 use wap_scope::{ScopeFault, Scoped};
 use wap_session::SessionFault;
+use wap_tokens::markup::{Attr, Deck, Document, Element, Kid, Piece};
 use wap_unit::UnitFault;
 use wap_url::{Access, Url, UrlFault};
 use wap_value::{BinOp, UnOp, Value, ValueFault};
@@ -124,7 +124,7 @@ fn scoped_crosses() {
 fn documents_cross() {
     crosses::<Document>();
     crosses::<Element>();
-    crosses::<wap_markup::Token>();
+    crosses::<wap_tokens::markup::Token>();
     crosses::<Attr>();
     crosses::<Kid>();
     crosses::<Piece>();

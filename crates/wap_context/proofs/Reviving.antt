@@ -7,7 +7,7 @@ use Rattle.std.specs.Option.{option_map, option_map_or, option_to_list}
 use Rattle.wap_base.specs.declared.fault.RunErr.{RunErr}
 use Rattle.wap_base.specs.declared.fault.RunErr.TheVariants.{Store, NoMemory}
 use Rattle.wap_url.specs.Printing.{name_for}
-use Rattle.wap_markup.specs.declared.deck.Deck.{Deck}
+use Rattle.wap_tokens.specs.declared.markup.deck.Deck.{Deck}
 use Rattle.wap_image.specs.declared.context_parts.parts.ContextParts.{ContextParts}
 use Rattle.wap_world.specs.declared.site.page.Page.{Page}
 use Rattle.wap_world.specs.declared.site.page.Page.TheVariants as page
@@ -18,7 +18,7 @@ use Rattle.wap_world.proofs.SiteLemmas.Asking.{Stays-same}
 use Rattle.wap_world.specs.declared.history.Entry.{Entry}
 use Rattle.wap_world.specs.World.{World, last_entry, deck_at, deck_in}
 use Rattle.wap_world.specs.History.{all_but_last, in_deck}
-use Rattle.wap_markup.specs.Cards.{cards_of}
+use Rattle.wap_tokens.specs.markup.Cards.{cards_of}
 use Rattle.wap_world.proofs.Entries.{last_pushed, earlier_url}
 use Rattle.wap_world.specs.scripting.UnitSites.{shelf_of, unit_pages}
 use Rattle.wap_state.specs.Saved.{saved_world}

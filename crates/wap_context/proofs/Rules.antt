@@ -5,8 +5,8 @@ use Rattle.std.specs.Prelude.{Result, if◌then◌else◌, nat_lt, length, drop}
 use Rattle.std.specs.Option.{option_and_then}
 use Rattle.wap_url.specs.declared.url.Url.{Url}
 use Rattle.wap_url.specs.Printing.{name_for}
-use Rattle.wap_markup.specs.declared.deck.Deck.{Deck}
-use Rattle.wap_markup.specs.Cards.{cards_of}
+use Rattle.wap_tokens.specs.declared.markup.deck.Deck.{Deck}
+use Rattle.wap_tokens.specs.markup.Cards.{cards_of}
 use Rattle.wap_input.specs.declared.key.Key.{Key}
 use Rattle.wap_cardrules.specs.declared.event.Event.{Event}
 use Rattle.wap_cardrules.specs.declared.event.Event.TheVariants.{Forward, Backward}

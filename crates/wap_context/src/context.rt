@@ -40,7 +40,7 @@ impl Model for Context {
     ghost use Rattle.wap_world.specs.World.{last_entry};
     ghost use Rattle.wap_state.specs.Standing.{StandsIn};
     ghost use Rattle.wap_context.specs.Browsers.{Browser};
-    ghost use Rattle.wap_markup.specs.contracts.deck.Item as item;
+    ghost use Rattle.wap_tokens.specs.contracts.markup.deck.Item as item;
     ghost use Rattle.std.specs.Coded.{codes};
 
     ghost Value = { Browser };

@@ -1,7 +1,7 @@
 //! Entering a card (WAP-191, sections 9.2, 9.5 and 9.10).
 ghost use Rattle.std.specs.Prelude.{◌≡◌, ◌<◌, length, Some, Ok, IfOk, OnOk};
 ghost use Rattle.std.specs.Option.{option_map};
-ghost use Rattle.wap_markup.specs.Cards.{cards_of};
+ghost use Rattle.wap_tokens.specs.markup.Cards.{cards_of};
 ghost use Rattle.wap_world.specs.Steps.{then_task};
 ghost use Rattle.wap_world.specs.Tasks.{card_for, is_new_context, in_context};
 ghost use Rattle.wap_world.specs.History.{pushed, entry_of, in_deck, back_at};

@@ -14,5 +14,5 @@ pub use pieces::{add_any, begin_value, character, decode_part, literal, referenc
 pub use room::rows_for;
 pub use runs::{is_string, runs_of};
 pub use starts::whole_code;
-pub use wap_markup::{AttrName, Deck, Item, Node, Tag};
+pub use wap_tokens::markup::{AttrName, Deck, Item, Node, Tag};
 pub use writing::document_of;

@@ -23,4 +23,4 @@ pub use kids::{Child, Kids};
 pub use run::Run;
 pub use view::View;
 pub use walk::{has_reference, holds_tagged};
-pub use wap_markup::{AttrName, Deck, Tag};
+pub use wap_tokens::markup::{AttrName, Deck, Tag};

@@ -4,15 +4,15 @@ use Rattle.std.proofs.Common.{◌∷◌, ◌++◌, length, Option, Some, None, r
 use Rattle.std.proofs.Common.{◌∙◌, append_assoc, length-append, arith, inl, inr}
 use Rattle.std.specs.List.{filter_map, flat_map, cons_option}
 use Rattle.std.proofs.lemmas.List.Elements.{filter_map-append}
-use Rattle.wap_markup.specs.declared.document.TheConstants.{LEVEL_LIMIT}
-use Rattle.wap_markup.specs.declared.deck.Deck.{Deck}
-use Rattle.wap_markup.specs.declared.deck.Node.{Node}
-use Rattle.wap_markup.specs.declared.deck.Item.{Item}
-use Rattle.wap_markup.specs.declared.name.Tag.TheVariants as tags
-use Rattle.wap_markup.specs.Tables.{is_same_tag}
-use Rattle.wap_markup.specs.Trees.{node_of}
-use Rattle.wap_markup.specs.Cards.{cards_of}
-use Rattle.wap_markup.specs.Good.{Rule, rule_of, has_needs, names_of, holds_dos}
+use Rattle.wap_tokens.specs.declared.markup.document.TheConstants.{LEVEL_LIMIT}
+use Rattle.wap_tokens.specs.declared.markup.deck.Deck.{Deck}
+use Rattle.wap_tokens.specs.declared.markup.deck.Node.{Node}
+use Rattle.wap_tokens.specs.declared.markup.deck.Item.{Item}
+use Rattle.wap_tokens.specs.declared.markup.name.Tag.TheVariants as tags
+use Rattle.wap_tokens.specs.markup.Tables.{is_same_tag}
+use Rattle.wap_tokens.specs.markup.Trees.{node_of}
+use Rattle.wap_tokens.specs.markup.Cards.{cards_of}
+use Rattle.wap_tokens.specs.markup.Good.{Rule, rule_of, has_needs, names_of, holds_dos}
 use Rattle.wap_deckcheck.specs.declared.fault.DeckFault.{DeckFault}
 use Rattle.wap_deckcheck.specs.declared.fault.DeckFault.TheVariants as fault
 use Rattle.wap_deckcheck.specs.Places.{Place, Level, inner_places, path_behind, items_places}

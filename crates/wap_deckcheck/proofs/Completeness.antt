@@ -6,19 +6,20 @@ use Rattle.std.specs.Prelude.{◌≢◌, filter, slice_get, Result, Ok, Err, IfE
 use Rattle.std.specs.List.{filter_map, flat_map, cons_option, list_any, AllByRecursion, IsDistinct}
 use Rattle.std.specs.Option.{option_to_list}
 use Rattle.wap_base.specs.Texts.{AreDistinct}
-use Rattle.wap_markup.specs.declared.name.AttrName.{AttrName}
-use Rattle.wap_markup.specs.declared.document.TheConstants.{LEVEL_LIMIT}
-use Rattle.wap_markup.specs.declared.deck.Deck.{Deck}
-use Rattle.wap_markup.specs.declared.deck.Node.{Node}
-use Rattle.wap_markup.specs.declared.deck.Item.{Item, out-Item}
-use Rattle.wap_markup.specs.declared.deck.Item.TheOpen.{Item-F}
-use Rattle.wap_markup.specs.declared.name.Tag.TheVariants as tags
-use Rattle.wap_markup.specs.Tables.{is_same_tag, is_same_attr}
-use Rattle.wap_markup.specs.Trees.{ItemLevel, node_from, node_of, words_of}
-use Rattle.wap_markup.specs.Cards.{cards_of}
-use Rattle.wap_markup.specs.Good.{Rule, rule_of, stands, StandsAt, names_of, has_needs, has_forms}
-use Rattle.wap_markup.specs.Good.{IsGoodNode, nodes_in, names_of_dos, holds_dos, IsGood}
-use Rattle.wap_markup.specs.Normal.{IsItem, IsNode, IsNormal}
+use Rattle.wap_tokens.specs.declared.markup.name.AttrName.{AttrName}
+use Rattle.wap_tokens.specs.declared.markup.document.TheConstants.{LEVEL_LIMIT}
+use Rattle.wap_tokens.specs.declared.markup.deck.Deck.{Deck}
+use Rattle.wap_tokens.specs.declared.markup.deck.Node.{Node}
+use Rattle.wap_tokens.specs.declared.markup.deck.Item.{Item, out-Item}
+use Rattle.wap_tokens.specs.declared.markup.deck.Item.TheOpen.{Item-F}
+use Rattle.wap_tokens.specs.declared.markup.name.Tag.TheVariants as tags
+use Rattle.wap_tokens.specs.markup.Tables.{is_same_tag, is_same_attr}
+use Rattle.wap_tokens.specs.markup.Trees.{ItemLevel, node_from, node_of, words_of}
+use Rattle.wap_tokens.specs.markup.Cards.{cards_of}
+use Rattle.wap_tokens.specs.markup.Good.{Rule, rule_of, stands, StandsAt, names_of, has_needs}
+use Rattle.wap_tokens.specs.markup.Good.{has_forms}
+use Rattle.wap_tokens.specs.markup.Good.{IsGoodNode, nodes_in, names_of_dos, holds_dos, IsGood}
+use Rattle.wap_tokens.specs.markup.Normal.{IsItem, IsNode, IsNormal}
 use Rattle.wap_deckcheck.specs.declared.fault.DeckFault.{DeckFault}
 use Rattle.wap_deckcheck.specs.declared.fault.DeckFault.TheVariants as fault
 use Rattle.wap_deckcheck.specs.Places.{own_id, ids_among, own_name, names_among, Place, Level}

@@ -6,13 +6,13 @@ use Rattle.std.specs.List.{list_any, list_all, filter_map, cons_option}
 use Rattle.std.proofs.lemmas.Bool.Decides.{nat_tests}
 use Rattle.std.proofs.lemmas.List.Folds.{list_all-append}
 use Rattle.wap_base.specs.declared.name.Part.{Part}
-use Rattle.wap_markup.specs.declared.name.Tag.{Tag}
-use Rattle.wap_markup.specs.declared.deck.Node.{Node}
-use Rattle.wap_markup.specs.declared.deck.Item.{Item, out-Item}
-use Rattle.wap_markup.specs.declared.deck.Item.TheOpen.{Item-F}
-use Rattle.wap_markup.specs.Trees.{node_from, node_of}
-use Rattle.wap_markup.specs.Good.{Rule, is_among, place_in, is_not_behind}
-use Rattle.wap_markup.specs.Good.{may_precede, may_follow, tags_of}
+use Rattle.wap_tokens.specs.declared.markup.name.Tag.{Tag}
+use Rattle.wap_tokens.specs.declared.markup.deck.Node.{Node}
+use Rattle.wap_tokens.specs.declared.markup.deck.Item.{Item, out-Item}
+use Rattle.wap_tokens.specs.declared.markup.deck.Item.TheOpen.{Item-F}
+use Rattle.wap_tokens.specs.markup.Trees.{node_from, node_of}
+use Rattle.wap_tokens.specs.markup.Good.{Rule, is_among, place_in, is_not_behind}
+use Rattle.wap_tokens.specs.markup.Good.{may_precede, may_follow, tags_of}
 use Rattle.wap_deckcheck.specs.inside.Reached.{HasReached, IsReachedBy}
 use Rattle.wap_deckcheck.proofs.Tests.{and_true, all_and, all_or, all_not}
 use Rattle.wap_deckcheck.proofs.Tests.{all_apart, all_all, all_same}

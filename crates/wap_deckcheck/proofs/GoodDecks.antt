@@ -6,17 +6,17 @@ use Rattle.std.specs.List.{filter_map, cons_option, AllByRecursion, IsDistinct}
 use Rattle.std.specs.Option.{option_to_list}
 use denote.Enum.Bare.{same_true}
 use Rattle.wap_base.specs.Texts.{AreDistinct}
-use Rattle.wap_markup.specs.declared.document.TheConstants.{LEVEL_LIMIT}
-use Rattle.wap_markup.specs.declared.deck.Deck.{Deck}
-use Rattle.wap_markup.specs.declared.deck.Node.{Node}
-use Rattle.wap_markup.specs.declared.deck.Item.{Item}
-use Rattle.wap_markup.specs.contracts.name.Tag as type
-use Rattle.wap_markup.specs.declared.name.Tag.TheVariants as tags
-use Rattle.wap_markup.specs.Tables.{is_same_tag}
-use Rattle.wap_markup.specs.Trees.{node_of, if_tagged, node_with}
-use Rattle.wap_markup.specs.Cards.{cards_of, id_of}
-use Rattle.wap_markup.specs.Good.{Rule, rule_of, nodes_in, name_of_do}
-use Rattle.wap_markup.specs.Good.{names_of_dos, holds_dos, IsGood}
+use Rattle.wap_tokens.specs.declared.markup.document.TheConstants.{LEVEL_LIMIT}
+use Rattle.wap_tokens.specs.declared.markup.deck.Deck.{Deck}
+use Rattle.wap_tokens.specs.declared.markup.deck.Node.{Node}
+use Rattle.wap_tokens.specs.declared.markup.deck.Item.{Item}
+use Rattle.wap_tokens.specs.contracts.markup.name.Tag as type
+use Rattle.wap_tokens.specs.declared.markup.name.Tag.TheVariants as tags
+use Rattle.wap_tokens.specs.markup.Tables.{is_same_tag}
+use Rattle.wap_tokens.specs.markup.Trees.{node_of, if_tagged, node_with}
+use Rattle.wap_tokens.specs.markup.Cards.{cards_of, id_of}
+use Rattle.wap_tokens.specs.markup.Good.{Rule, rule_of, nodes_in, name_of_do}
+use Rattle.wap_tokens.specs.markup.Good.{names_of_dos, holds_dos, IsGood}
 use Rattle.wap_deckcheck.specs.declared.fault.DeckFault.TheVariants as fault
 use Rattle.wap_deckcheck.specs.Places.{own_id, ids_among, own_name, Place, path_behind}
 use Rattle.wap_deckcheck.specs.Places.{node_places, ids_level, places}

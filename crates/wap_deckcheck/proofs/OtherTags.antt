@@ -1,8 +1,8 @@
 -- Elements whose attributes have no form.
 use Rattle.std.proofs.Common.{◌≡◌, ◌≢◌, true, refl}
-use Rattle.wap_markup.specs.declared.deck.Node.{Node}
-use Rattle.wap_markup.specs.declared.name.Tag.{Tag}
-use Rattle.wap_markup.specs.declared.name.Tag.TheVariants as tags
+use Rattle.wap_tokens.specs.declared.markup.deck.Node.{Node}
+use Rattle.wap_tokens.specs.declared.markup.name.Tag.{Tag}
+use Rattle.wap_tokens.specs.declared.markup.name.Tag.TheVariants as tags
 use Rattle.wap_deckcheck.specs.inside.Rows.{has_forms_as}
 
 pub other_tags : (tag : Tag) → tag ≢ tags.Go → tag ≢ tags.P → tag ≢ tags.Card → tag ≢ tags.Do

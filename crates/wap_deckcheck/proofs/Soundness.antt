@@ -5,13 +5,13 @@ use Rattle.std.specs.Prelude.{slice_get}
 use Rattle.std.specs.List.{filter_map, flat_map, cons_option, list_any, AllByRecursion, IsDistinct}
 use Rattle.std.specs.Option.{option_to_list}
 use Rattle.wap_base.specs.Texts.{AreDistinct}
-use Rattle.wap_markup.specs.declared.name.AttrName.{AttrName}
-use Rattle.wap_markup.specs.declared.deck.Node.{Node}
-use Rattle.wap_markup.specs.declared.deck.Item.{Item}
-use Rattle.wap_markup.specs.Tables.{is_same_attr}
-use Rattle.wap_markup.specs.Trees.{node_of, words_of}
-use Rattle.wap_markup.specs.Good.{Rule, rule_of, stands, StandsAt, names_of}
-use Rattle.wap_markup.specs.Good.{has_needs, has_forms, IsGoodNode, nodes_in}
+use Rattle.wap_tokens.specs.declared.markup.name.AttrName.{AttrName}
+use Rattle.wap_tokens.specs.declared.markup.deck.Node.{Node}
+use Rattle.wap_tokens.specs.declared.markup.deck.Item.{Item}
+use Rattle.wap_tokens.specs.markup.Tables.{is_same_attr}
+use Rattle.wap_tokens.specs.markup.Trees.{node_of, words_of}
+use Rattle.wap_tokens.specs.markup.Good.{Rule, rule_of, stands, StandsAt, names_of}
+use Rattle.wap_tokens.specs.markup.Good.{has_needs, has_forms, IsGoodNode, nodes_in}
 use Rattle.wap_deckcheck.specs.declared.fault.DeckFault.{DeckFault}
 use Rattle.wap_deckcheck.specs.declared.fault.DeckFault.TheVariants as fault
 use Rattle.wap_deckcheck.specs.Places.{own_name, names_among, Level, path_behind}

@@ -5,18 +5,18 @@ use Rattle.std.proofs.Common.{Result, Ok, Err, refl, sym, ap, subst, ◌∙◌, 
 use Rattle.std.specs.Prelude.{OnOk}
 use Rattle.std.specs.List.{filter_map, flat_map, cons_option, list_all}
 use Rattle.std.proofs.Math.Seq.{take-suc}
-use Rattle.wap_markup.specs.declared.deck.Item.TheVariants.{outs-Node}
-use Rattle.wap_markup.specs.declared.deck.Item.TheVariants as item
+use Rattle.wap_tokens.specs.declared.markup.deck.Item.TheVariants.{outs-Node}
+use Rattle.wap_tokens.specs.declared.markup.deck.Item.TheVariants as item
 use Rattle.wap_deckcheck.specs.declared.walk.Walk.{Walk}
 use Rattle.wap_deckcheck.specs.inside.Reached.{HasReached}
 use Rattle.std.specs.Option.{option_and_then, option_to_list}
 use Rattle.std.proofs.lemmas.Grind.{flat_map-append}
 use Rattle.std.proofs.lemmas.List.Elements.{filter_map-append}
-use Rattle.wap_markup.specs.declared.deck.Node.{Node}
-use Rattle.wap_markup.specs.declared.deck.Item.{Item, out-Item}
-use Rattle.wap_markup.specs.declared.deck.Item.TheOpen.{Item-F}
-use Rattle.wap_markup.specs.Trees.{node_from, node_of}
-use Rattle.wap_markup.specs.Good.{Rule, rule_of, nodes_in, place_in, is_not_behind, tags_of}
+use Rattle.wap_tokens.specs.declared.markup.deck.Node.{Node}
+use Rattle.wap_tokens.specs.declared.markup.deck.Item.{Item, out-Item}
+use Rattle.wap_tokens.specs.declared.markup.deck.Item.TheOpen.{Item-F}
+use Rattle.wap_tokens.specs.markup.Trees.{node_from, node_of}
+use Rattle.wap_tokens.specs.markup.Good.{Rule, rule_of, nodes_in, place_in, is_not_behind, tags_of}
 use Rattle.wap_deckcheck.specs.declared.fault.DeckFault.{DeckFault}
 use Rattle.wap_deckcheck.specs.declared.fault.DeckFault.TheVariants as fault
 use Rattle.wap_deckcheck.specs.Places.{own_id, ids_among, own_name, names_among}

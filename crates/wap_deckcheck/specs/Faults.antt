@@ -4,15 +4,15 @@ use Rattle.std.specs.Prelude.{◌≡◌, ◌≢◌, ℕ, Bool, true, false, not,
 use Rattle.std.specs.Prelude.{◌++◌, Option, Some, None, Result, Ok, Err}
 use Rattle.std.specs.List.{list_any, flat_map}
 use Rattle.wap_base.specs.Texts.{is_same_text}
-use Rattle.wap_markup.specs.declared.deck.Deck.{Deck}
-use Rattle.wap_markup.specs.declared.deck.Node.{Node}
-use Rattle.wap_markup.specs.declared.deck.Item.{Item}
-use Rattle.wap_markup.specs.declared.name.Tag.TheVariants as tags
-use Rattle.wap_markup.specs.declared.name.AttrName.{AttrName}
-use Rattle.wap_markup.specs.Tables.{is_same_tag, is_same_attr}
-use Rattle.wap_markup.specs.Trees.{node_of, words_of}
-use Rattle.wap_markup.specs.Cards.{cards_of}
-use Rattle.wap_markup.specs.Good.{Rule, rule_of, stands, names_of, has_needs, has_forms}
+use Rattle.wap_tokens.specs.declared.markup.deck.Deck.{Deck}
+use Rattle.wap_tokens.specs.declared.markup.deck.Node.{Node}
+use Rattle.wap_tokens.specs.declared.markup.deck.Item.{Item}
+use Rattle.wap_tokens.specs.declared.markup.name.Tag.TheVariants as tags
+use Rattle.wap_tokens.specs.declared.markup.name.AttrName.{AttrName}
+use Rattle.wap_tokens.specs.markup.Tables.{is_same_tag, is_same_attr}
+use Rattle.wap_tokens.specs.markup.Trees.{node_of, words_of}
+use Rattle.wap_tokens.specs.markup.Cards.{cards_of}
+use Rattle.wap_tokens.specs.markup.Good.{Rule, rule_of, stands, names_of, has_needs, has_forms}
 use Rattle.wap_deckcheck.specs.declared.fault.DeckFault.{DeckFault}
 use Rattle.wap_deckcheck.specs.declared.fault.DeckFault.TheVariants as fault
 use Rattle.wap_deckcheck.specs.Places.{Place, places}

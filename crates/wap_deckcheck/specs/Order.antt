@@ -2,7 +2,7 @@
 -- numbers. This project's own.
 use Rattle.std.specs.Prelude.{◌≡◌, ℕ, ◌<◌, ◌⊎◌, List, [], ◌∷◌, Option, Some, None}
 use Rattle.std.specs.List.{filter_map}
-use Rattle.wap_markup.specs.declared.deck.Deck.{Deck}
+use Rattle.wap_tokens.specs.declared.markup.deck.Deck.{Deck}
 use Rattle.wap_deckcheck.specs.declared.fault.DeckFault.{DeckFault}
 use Rattle.wap_deckcheck.specs.declared.fault.DeckFault.TheVariants as fault
 use Rattle.wap_deckcheck.specs.Faults.{faults}

@@ -4,11 +4,11 @@
 -- may hold fields and fieldsets too, and td these and tables; alt and src of img, content of meta
 -- and columns of table may be absent.
 use Rattle.std.specs.Prelude.{Bool, true, false, List, [], ◌∷◌}
-use Rattle.wap_markup.specs.declared.name.Tag.{Tag}
-use Rattle.wap_markup.specs.declared.name.Tag.TheVariants as tag
-use Rattle.wap_markup.specs.declared.name.AttrName.{AttrName}
-use Rattle.wap_markup.specs.declared.name.AttrName.TheVariants as attr
-use Rattle.wap_markup.specs.Good.{Rule}
+use Rattle.wap_tokens.specs.declared.markup.name.Tag.{Tag}
+use Rattle.wap_tokens.specs.declared.markup.name.Tag.TheVariants as tag
+use Rattle.wap_tokens.specs.declared.markup.name.AttrName.{AttrName}
+use Rattle.wap_tokens.specs.declared.markup.name.AttrName.TheVariants as attr
+use Rattle.wap_tokens.specs.markup.Good.{Rule}
 
 -- ---- groups of elements
 

@@ -2,10 +2,10 @@
 ghost use Rattle.std.specs.Prelude.{◌≡◌, length};
 ghost use Rattle.std.specs.Option.{is_some};
 ghost use Rattle.std.specs.List.{filter_map};
-ghost use Rattle.wap_markup.specs.Trees.{node_with};
-ghost use Rattle.wap_markup.specs.Cards.{cards_of};
+ghost use Rattle.wap_tokens.specs.markup.Trees.{node_with};
+ghost use Rattle.wap_tokens.specs.markup.Cards.{cards_of};
 
-use wap_markup::{Deck, Item, Tag};
+use wap_tokens::markup::{Deck, Item, Tag};
 
 /// Whether an item is a card.
 fn is_card(item: &Item) -> bool

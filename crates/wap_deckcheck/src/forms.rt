@@ -3,14 +3,14 @@ ghost use Rattle.std.specs.Prelude.{◌≡◌, ◌||◌, [], true, not, map};
 ghost use Rattle.std.specs.List.{list_any, list_all};
 ghost use Rattle.std.specs.Str.{bytes_eq};
 ghost use Rattle.wap_base.specs.Texts.{is_same_text};
-ghost use Rattle.wap_markup.specs.Trees.{plain_text};
-ghost use Rattle.wap_markup.specs.Tables.{is_same_attr};
-ghost use Rattle.wap_markup.specs.Good.{text_has, value_has, all_have, names_of, has_forms};
+ghost use Rattle.wap_tokens.specs.markup.Trees.{plain_text};
+ghost use Rattle.wap_tokens.specs.markup.Tables.{is_same_attr};
+ghost use Rattle.wap_tokens.specs.markup.Good.{text_has, value_has, all_have, names_of, has_forms};
 ghost use Rattle.wap_deckcheck.specs.inside.Rows.{words_of, has_plain_words, form_of, has_forms_as};
 ghost use Rattle.wap_deckcheck.specs.Faults.{has_twice};
 
 use wap_base::{Part, Rows, Text, is_name};
-use wap_markup::{AttrName, Node, Tag};
+use wap_tokens::markup::{AttrName, Node, Tag};
 
 /// What a value has to be.
 #[derive(Clone, Copy)]

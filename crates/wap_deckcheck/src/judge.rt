@@ -1,7 +1,7 @@
 //! Whether a deck is good, and what is wrong with it if not.
 ghost use Rattle.std.specs.Prelude.{◌≡◌, ◌≢◌, [], Some, IfOk, OnOk, IfErr};
-ghost use Rattle.wap_markup.specs.Good.{IsGood};
-ghost use Rattle.wap_markup.specs.Normal.{IsNormal};
+ghost use Rattle.wap_tokens.specs.markup.Good.{IsGood};
+ghost use Rattle.wap_tokens.specs.markup.Normal.{IsNormal};
 ghost use Rattle.wap_deckcheck.specs.Faults.{faults, first_fault};
 
 use crate::DeckFault;
@@ -9,7 +9,7 @@ use crate::walk::walk_deck;
 use std::alloc::Global;
 use wap_base::NoMemory;
 use wap_deck::good::GoodDeck;
-use wap_markup::Deck;
+use wap_tokens::markup::Deck;
 
 /// The deck as a good one, or the first of its faults (WAP-191, section 11). Nodes and texts come
 /// in the order of the document, a node before what is in it; at one the kinds of faults come in

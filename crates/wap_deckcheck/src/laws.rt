@@ -1,9 +1,9 @@
 //! What good decks and faults have to do with each other, and that the rules are those that are
 //! listed. The functions here do nothing, and carry the laws alone.
 ghost use Rattle.std.specs.Prelude.{◌≡◌, ◌↔◌, []};
-ghost use Rattle.wap_markup.specs.declared.deck.Deck.{Deck};
-ghost use Rattle.wap_markup.specs.Good.{IsGood, rules};
-ghost use Rattle.wap_markup.specs.Normal.{IsNormal};
+ghost use Rattle.wap_tokens.specs.declared.markup.deck.Deck.{Deck};
+ghost use Rattle.wap_tokens.specs.markup.Good.{IsGood, rules};
+ghost use Rattle.wap_tokens.specs.markup.Normal.{IsNormal};
 ghost use Rattle.wap_deckcheck.specs.Faults.{faults};
 ghost use Rattle.wap_deckcheck.specs.Order.{FaultsAscend};
 ghost use Rattle.wap_deckcheck.specs.Profile.{profile};

@@ -4,8 +4,8 @@ ghost use Rattle.std.specs.List.{list_any};
 ghost use Rattle.std.specs.Str.{chars, all_scalars};
 ghost use Rattle.wap_base.specs.Texts.{is_same_text};
 ghost use Rattle.std.specs.Option.{option_to_list, option_copied};
-ghost use Rattle.wap_markup.specs.Good.{name_of_do};
-ghost use Rattle.wap_markup.specs.Trees.{value_of, plain_text, plain_value};
+ghost use Rattle.wap_tokens.specs.markup.Good.{name_of_do};
+ghost use Rattle.wap_tokens.specs.markup.Trees.{value_of, plain_text, plain_value};
 ghost use Rattle.wap_deckcheck.specs.Faults.{is_taken};
 ghost use Rattle.wap_deckcheck.specs.Places.{own_id, own_name};
 
@@ -14,7 +14,7 @@ use std::alloc::Global;
 use std::hash::{Hash, Hasher};
 use std::marker::Model;
 use wap_base::{NoMemory, Part, Rows, Text};
-use wap_markup::{AttrName, Node, Tag};
+use wap_tokens::markup::{AttrName, Node, Tag};
 
 /// An id or a name that a deck has. A contract sees its text.
 #[derive(Drop)]

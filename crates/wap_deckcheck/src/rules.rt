@@ -4,17 +4,18 @@ ghost use Rattle.std.specs.Prelude.{is_some, IfSome};
 ghost use Rattle.std.specs.Map.{lookup};
 ghost use Rattle.std.specs.List.{list_any, list_all, position_from};
 ghost use Rattle.std.specs.Str.{chars};
-ghost use Rattle.wap_markup.specs.Good.{is_among, place_in, tags_of, rule_of, may_follow, stands};
-ghost use Rattle.wap_markup.specs.Good.{is_blank, is_blank_text, has_attribute};
-ghost use Rattle.wap_markup.specs.Good.{has_needs, holds_dos};
-ghost use Rattle.wap_markup.specs.Tables.{is_same_tag};
-ghost use Rattle.wap_markup.specs.Trees.{node_of, words_of};
+ghost use Rattle.wap_tokens.specs.markup.Good.{is_among, place_in, tags_of, rule_of, may_follow};
+ghost use Rattle.wap_tokens.specs.markup.Good.{stands};
+ghost use Rattle.wap_tokens.specs.markup.Good.{is_blank, is_blank_text, has_attribute};
+ghost use Rattle.wap_tokens.specs.markup.Good.{has_needs, holds_dos};
+ghost use Rattle.wap_tokens.specs.markup.Tables.{is_same_tag};
+ghost use Rattle.wap_tokens.specs.markup.Trees.{node_of, words_of};
 ghost use Rattle.wap_deckcheck.specs.inside.Rows.{groups_of, rule_row};
 ghost use Rattle.wap_deckcheck.specs.inside.Reached.{is_used_with, HasReached, IsReachedBy};
 
 use std::marker::Model;
 use wap_base::Part;
-use wap_markup::{AttrName, Item, Node, RULES, Tag};
+use wap_tokens::markup::{AttrName, Item, Node, RULES, Tag};
 
 /// What may stand in an element. A contract sees the rule.
 #[derive(Drop)]
@@ -28,7 +29,7 @@ pub struct Rule {
 }
 
 impl Model for Rule {
-    ghost use Rattle.wap_markup.specs.Good.{Rule as Told};
+    ghost use Rattle.wap_tokens.specs.markup.Good.{Rule as Told};
     ghost use Rattle.wap_deckcheck.specs.inside.Rows.{groups_of};
 
     ghost Value = { Told };

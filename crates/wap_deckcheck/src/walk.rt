@@ -1,7 +1,7 @@
 //! The walk over a deck, in the order of the document.
 ghost use Rattle.std.specs.Prelude.{◌≡◌, [], ◌∷◌, ◌++◌, suc, IfOk, OnOk};
-ghost use Rattle.wap_markup.specs.Good.{rule_of};
-ghost use Rattle.wap_markup.specs.Trees.{node_of, node_with};
+ghost use Rattle.wap_tokens.specs.markup.Good.{rule_of};
+ghost use Rattle.wap_tokens.specs.markup.Trees.{node_of, node_with};
 ghost use Rattle.std.specs.Option.{option_to_list};
 ghost use Rattle.std.specs.List.{filter_map};
 ghost use Rattle.wap_deckcheck.specs.Places.{own_id, own_name, ids_among, names_among, path_behind};
@@ -19,7 +19,7 @@ use crate::rules::{Rule, has_needs, holds_dos};
 use std::alloc::Global;
 use std::mem::replace;
 use wap_base::Rows;
-use wap_markup::{Deck, Item, LEVEL_LIMIT, Node, Tag};
+use wap_tokens::markup::{Deck, Item, LEVEL_LIMIT, Node, Tag};
 
 /// Where a walk is, and the ids or names that are taken there.
 #[derive(Drop)]

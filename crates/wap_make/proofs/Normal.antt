@@ -3,17 +3,17 @@ use Rattle.std.proofs.Common.{◌≡◌, ◌≢◌, ℕ, suc, ◌-◌, List, [],
 use Rattle.std.proofs.Common.{ap₂}
 use Rattle.std.specs.Prelude.{codes}
 use Rattle.wap_base.specs.declared.name.Part.TheVariants.{Lit}
-use Rattle.wap_markup.specs.declared.document.TheConstants.{LEVEL_LIMIT}
-use Rattle.wap_markup.specs.declared.name.Tag.TheVariants as tags
-use Rattle.wap_markup.specs.declared.name.AttrName.TheVariants as attr
-use Rattle.wap_markup.specs.declared.deck.Node.{Node}
-use Rattle.wap_markup.specs.declared.deck.Item.{Item, out-Item}
-use Rattle.wap_markup.specs.declared.deck.Item.TheVariants.{outs-Text, outs-Node}
-use Rattle.wap_markup.specs.declared.deck.Item.TheVariants as item
-use Rattle.wap_markup.specs.Trees.{ItemLevel}
-use Rattle.wap_markup.specs.Decks.{Mark, part, node, items_of}
-use Rattle.wap_markup.specs.Normal.{IsNormal, IsContent, IsValue, IsNode, IsItem}
-use Rattle.wap_markup.specs.Normal.{marks_in, marks_of}
+use Rattle.wap_tokens.specs.declared.markup.document.TheConstants.{LEVEL_LIMIT}
+use Rattle.wap_tokens.specs.declared.markup.name.Tag.TheVariants as tags
+use Rattle.wap_tokens.specs.declared.markup.name.AttrName.TheVariants as attr
+use Rattle.wap_tokens.specs.declared.markup.deck.Node.{Node}
+use Rattle.wap_tokens.specs.declared.markup.deck.Item.{Item, out-Item}
+use Rattle.wap_tokens.specs.declared.markup.deck.Item.TheVariants.{outs-Text, outs-Node}
+use Rattle.wap_tokens.specs.declared.markup.deck.Item.TheVariants as item
+use Rattle.wap_tokens.specs.markup.Trees.{ItemLevel}
+use Rattle.wap_tokens.specs.markup.Decks.{Mark, part, node, items_of}
+use Rattle.wap_tokens.specs.markup.Normal.{IsNormal, IsContent, IsValue, IsNode, IsItem}
+use Rattle.wap_tokens.specs.markup.Normal.{marks_in, marks_of}
 use Rattle.wap_make.specs.Folders.{literal, call_of, title_of, shown_of, deck_of}
 
 -- ---- content of no, one and two items

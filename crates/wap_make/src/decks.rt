@@ -6,7 +6,7 @@ ghost use Rattle.wap_make.specs.Folders.{card_of, deck_of};
 use crate::texts::{call_of, shown_of, title_of};
 use std::alloc::Global;
 use wap_base::{NoMemory, Part, Rows, Text};
-use wap_markup::{AttrName, Deck, Item, Node, Tag};
+use wap_tokens::markup::{AttrName, Deck, Item, Node, Tag};
 
 /// A text without references to variables.
 fn literal(alloc: Global, text: Text) -> Result<Rows<Part>, NoMemory>

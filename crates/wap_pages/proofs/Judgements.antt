@@ -12,12 +12,12 @@ use Rattle.wap_base.specs.Charsets.{text_in}
 use Rattle.wap_base.specs.Outcome.{Meets}
 use Rattle.wap_base.specs.declared.charset.Charset.TheVariants.{Utf8}
 use Rattle.wap_base.proofs.Choices.{ok_same, err_same, some_same}
-use Rattle.wap_markup.specs.declared.document.Document.{Document}
-use Rattle.wap_markup.specs.declared.deck.Deck.{Deck}
-use Rattle.wap_markup.specs.declared.mark.DocumentType.TheVariants.{Wml}
-use Rattle.wap_markup.specs.Documents.{IsDocument}
-use Rattle.wap_markup.specs.Decks.{deck_of}
-use Rattle.wap_markup.specs.Good.{IsGood}
+use Rattle.wap_tokens.specs.declared.markup.document.Document.{Document}
+use Rattle.wap_tokens.specs.declared.markup.deck.Deck.{Deck}
+use Rattle.wap_tokens.specs.declared.markup.mark.DocumentType.TheVariants.{Wml}
+use Rattle.wap_tokens.specs.markup.Documents.{IsDocument}
+use Rattle.wap_tokens.specs.markup.Decks.{deck_of}
+use Rattle.wap_tokens.specs.markup.Good.{IsGood}
 use Rattle.wap_wbxml.specs.reading.Whole.{document_at}
 use Rattle.wap_wbxml.specs.declared.fault.DocFault.{DocFault}
 use Rattle.wap_wbxml.specs.Refusal.{IsRefused}

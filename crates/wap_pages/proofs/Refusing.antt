@@ -2,10 +2,10 @@
 -- refused, and that they are none. Memory that ran out says nothing.
 use Rattle.std.proofs.Common.{◌≡◌, ◌≢◌, ℕ, List, Result, Ok, Err, refl, subst}
 use Rattle.std.specs.Prelude.{Some}
-use Rattle.wap_markup.specs.declared.document.Document.{Document}
-use Rattle.wap_markup.specs.declared.deck.Deck.{Deck}
-use Rattle.wap_markup.specs.Documents.{IsDocument}
-use Rattle.wap_markup.specs.Decks.{deck_of}
+use Rattle.wap_tokens.specs.declared.markup.document.Document.{Document}
+use Rattle.wap_tokens.specs.declared.markup.deck.Deck.{Deck}
+use Rattle.wap_tokens.specs.markup.Documents.{IsDocument}
+use Rattle.wap_tokens.specs.markup.Decks.{deck_of}
 use Rattle.wap_wbxml.specs.Refusal as documents
 use Rattle.wap_wbxml.specs.declared.fault.DocFault.{DocFault}
 use Rattle.wap_wbxml.specs.declared.fault.DocFault.TheVariants as document

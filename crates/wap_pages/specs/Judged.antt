@@ -7,11 +7,11 @@ use Rattle.std.specs.List.{ends_with, AllByRecursion}
 use Rattle.wap_base.specs.Contents.{Contents}
 use Rattle.wap_base.specs.Charsets.{text_in}
 use Rattle.wap_base.specs.declared.charset.Charset.TheVariants.{Utf8}
-use Rattle.wap_markup.specs.declared.document.Document.{Document}
-use Rattle.wap_markup.specs.declared.deck.Deck.{Deck}
-use Rattle.wap_markup.specs.Documents.{IsDocument}
-use Rattle.wap_markup.specs.Decks.{deck_of}
-use Rattle.wap_markup.specs.Good.{IsGood}
+use Rattle.wap_tokens.specs.declared.markup.document.Document.{Document}
+use Rattle.wap_tokens.specs.declared.markup.deck.Deck.{Deck}
+use Rattle.wap_tokens.specs.markup.Documents.{IsDocument}
+use Rattle.wap_tokens.specs.markup.Decks.{deck_of}
+use Rattle.wap_tokens.specs.markup.Good.{IsGood}
 use Rattle.wap_wbxml.specs.reading.Whole.{document_at}
 use Rattle.wap_wbxml.specs.declared.fault.DocFault.{DocFault}
 use Rattle.wap_deckcheck.specs.Faults.{faults, first_fault}

@@ -1,10 +1,10 @@
 -- Why bytes are refused: as a source, as a unit, as one that may be run, as a document, as a
 -- document whose deck is good. This project's own.
 use Rattle.std.specs.Prelude.{◌≡◌, ℕ, List, Some}
-use Rattle.wap_markup.specs.declared.document.Document.{Document}
-use Rattle.wap_markup.specs.declared.deck.Deck.{Deck}
-use Rattle.wap_markup.specs.Documents.{IsDocument}
-use Rattle.wap_markup.specs.Decks.{deck_of}
+use Rattle.wap_tokens.specs.declared.markup.document.Document.{Document}
+use Rattle.wap_tokens.specs.declared.markup.deck.Deck.{Deck}
+use Rattle.wap_tokens.specs.markup.Documents.{IsDocument}
+use Rattle.wap_tokens.specs.markup.Decks.{deck_of}
 use Rattle.wap_deckcheck.specs.Faults.{faults, first_fault}
 use Rattle.wap_code.specs.declared.unit.Unit.{Unit}
 use Rattle.wap_unit.specs.Units.{IsUnit}

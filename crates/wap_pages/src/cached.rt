@@ -35,7 +35,7 @@ pub struct Cached<S: Store> {
 }
 
 impl<S: Store> Model for Cached<S> {
-    ghost use Rattle.wap_markup.specs.contracts.deck.Item as item;
+    ghost use Rattle.wap_tokens.specs.contracts.markup.deck.Item as item;
     ghost use Rattle.std.specs.Coded.{codes};
     ghost use Rattle.wap_pages.specs.Caches.{CachedPages};
     ghost use Rattle.wap_pages.specs.inside.Keeping.{IsSound};

@@ -1,7 +1,7 @@
 //! Judging a page by its name and bytes.
 ghost use Rattle.std.specs.Prelude.{◌≡◌, ◌<◌, ◌^◌, false, length, IfOk, Err};
 ghost use Rattle.wap_base.specs.Outcome.{Meets};
-ghost use Rattle.wap_markup.specs.Normal.{IsNormal};
+ghost use Rattle.wap_tokens.specs.markup.Normal.{IsNormal};
 ghost use Rattle.wap_pages.specs.Judged.{page_of_bytes, Refuses, may_differ};
 ghost use Rattle.wap_pages.specs.inside.Judging.{Judges, JudgesDeck};
 ghost use Rattle.wap_pages.specs.declared.fault.PageErr.TheVariants as error;
@@ -11,7 +11,7 @@ use crate::{Kind, PageErr, PageFault};
 use std::alloc::Global;
 use wap_base::{Charset, Text};
 use wap_deckcheck::check;
-use wap_markup::Deck;
+use wap_tokens::markup::Deck;
 use wap_world::site::{Page, Shared};
 
 /// The page of a name with these bytes, of which there have to be fewer than 2^31. It is never

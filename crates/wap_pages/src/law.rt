@@ -2,7 +2,7 @@
 ghost use Rattle.std.specs.Prelude.{◌≡◌, ◌≢◌, ◌<◌, ◌^◌, ◌↔◌, ◌⊎◌, ℕ, true, List, length};
 ghost use Rattle.wap_base.specs.Contents.{Contents, names_of, page_named};
 ghost use Rattle.wap_base.specs.Texts.{AreDistinct};
-ghost use Rattle.wap_markup.specs.declared.deck.Deck.{Deck};
+ghost use Rattle.wap_tokens.specs.declared.markup.deck.Deck.{Deck};
 ghost use Rattle.wap_code.specs.declared.unit.Unit.{Unit};
 ghost use Rattle.wap_grammar.specs.declared.program.program.Program.{Program};
 ghost use Rattle.wap_world.specs.site.Pages.{page_of, AreSitePages};

@@ -1,10 +1,10 @@
 //! What bytes are read as: documents, units, and sources with the units that they are compiled to.
 ghost use Rattle.std.specs.Prelude.{◌≡◌, ◌<◌, ◌^◌, length, IfOk, Ok, Err};
 ghost use Rattle.wap_base.specs.Outcome.{Meets};
-ghost use Rattle.wap_markup.specs.declared.document.Document.{Document};
-ghost use Rattle.wap_markup.specs.Documents.{IsDocument};
-ghost use Rattle.wap_markup.specs.Decks.{deck_of};
-ghost use Rattle.wap_markup.specs.Normal.{IsNormal};
+ghost use Rattle.wap_tokens.specs.declared.markup.document.Document.{Document};
+ghost use Rattle.wap_tokens.specs.markup.Documents.{IsDocument};
+ghost use Rattle.wap_tokens.specs.markup.Decks.{deck_of};
+ghost use Rattle.wap_tokens.specs.markup.Normal.{IsNormal};
 ghost use Rattle.wap_code.specs.declared.unit.Unit.{Unit};
 ghost use Rattle.wap_unit.specs.Units.{IsUnit};
 ghost use Rattle.wap_verify.specs.Sound.{IsVerified};
@@ -20,7 +20,7 @@ use crate::PageErr;
 use std::alloc::Global;
 use wap_codegen::compile;
 use wap_deck::reading::read_deck;
-use wap_markup::{Deck, Document};
+use wap_tokens::markup::{Deck, Document};
 use wap_unit::Unit;
 use wap_verify::{Verified, verify};
 

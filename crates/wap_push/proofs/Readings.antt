@@ -4,8 +4,8 @@ use Rattle.std.proofs.Common.{Option, Some, None, Ok, Err, refl, subst, ◌&&◌
 use Rattle.std.specs.Prelude.{Result, IfOk, IfErr}
 use Rattle.std.proofs.lemmas.Bool.{and_parts}
 use Rattle.wap_base.specs.Outcome.{Meets}
-use Rattle.wap_markup.specs.declared.document.Document.{Document}
-use Rattle.wap_markup.specs.declared.document.Element.{Element}
+use Rattle.wap_tokens.specs.declared.markup.document.Document.{Document}
+use Rattle.wap_tokens.specs.declared.markup.document.Element.{Element}
 use Rattle.wap_push.specs.declared.indication.Indication.{Indication}
 use Rattle.wap_push.specs.declared.names.PushTag.TheVariants as tag
 use Rattle.wap_push.specs.declared.fault.PushFault.{PushFault}

@@ -1,8 +1,8 @@
 -- Which indication a document is, and why it is none (WAP-167, sections 5.1 and 5.2; the order of
 -- the faults is this project's own).
 use Rattle.std.specs.Prelude.{◌≡◌, ℕ, Bool, true, false, List, [], ◌∷◌, Some, None}
-use Rattle.wap_markup.specs.declared.document.Document.{Document}
-use Rattle.wap_markup.specs.declared.document.Element.{Element}
+use Rattle.wap_tokens.specs.declared.markup.document.Document.{Document}
+use Rattle.wap_tokens.specs.declared.markup.document.Element.{Element}
 use Rattle.wap_push.specs.declared.indication.Indication.{Indication}
 use Rattle.wap_push.specs.declared.names.PushTag.TheVariants as tag
 use Rattle.wap_push.specs.declared.fault.PushFault.{PushFault}

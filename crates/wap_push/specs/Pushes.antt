@@ -1,9 +1,9 @@
 -- Pushed bytes, as the document of indications that they spell (WAP-167, section 8).
 use Rattle.std.specs.Prelude.{ℕ, List, Result, Ok, Err}
-use Rattle.wap_markup.specs.declared.document.Document.{Document}
-use Rattle.wap_markup.specs.declared.mark.DocumentType.{DocumentType}
-use Rattle.wap_markup.specs.declared.mark.DocumentType.TheVariants.{Other}
-use Rattle.wap_markup.specs.Documents.{IsDocumentOf}
+use Rattle.wap_tokens.specs.declared.markup.document.Document.{Document}
+use Rattle.wap_tokens.specs.declared.markup.mark.DocumentType.{DocumentType}
+use Rattle.wap_tokens.specs.declared.markup.mark.DocumentType.TheVariants.{Other}
+use Rattle.wap_tokens.specs.markup.Documents.{IsDocumentOf}
 use Rattle.wap_wbxml.specs.declared.fault.DocFault.{DocFault}
 use Rattle.wap_wbxml.specs.declared.fault.DocFault.TheVariants as document_fault
 use Rattle.wap_wbxml.specs.Refusal.{IsRefusedAs}

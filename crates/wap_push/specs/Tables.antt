@@ -5,8 +5,8 @@ use Rattle.std.specs.Prelude.{ℕ, Bool, ◌==◌, nat_eq, if◌then◌else◌, 
 use Rattle.std.specs.Prelude.{List, Option, None}
 use Rattle.std.specs.Map.{lookup}
 use Rattle.wap_base.specs.Texts.{is_same_text}
-use Rattle.wap_markup.specs.declared.document.Token.{Token}
-use Rattle.wap_markup.specs.declared.document.Token.TheVariants.{Code, Literal}
+use Rattle.wap_tokens.specs.declared.markup.document.Token.{Token}
+use Rattle.wap_tokens.specs.declared.markup.document.Token.TheVariants.{Code, Literal}
 use Rattle.wap_push.specs.declared.indication.Action.{Action}
 use Rattle.wap_push.specs.declared.names.PushTag.{PushTag}
 use Rattle.wap_push.specs.declared.names.PushField.{PushField}

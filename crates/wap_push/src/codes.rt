@@ -10,7 +10,7 @@ ghost use Rattle.wap_push.specs.inside.Rows.{actions_by_text};
 use crate::indication::Action;
 use crate::names::{PushField, PushTag};
 use crate::tables::{PUSH_ACTIONS, PUSH_STARTS, PUSH_TAGS, PUSH_VALUES};
-use wap_markup::Token;
+use wap_tokens::markup::Token;
 
 /// The tag beside a code.
 fn tag_beside(rows: &[(u8, PushTag)], code: u8) -> Option<PushTag>

@@ -7,7 +7,7 @@ use crate::names::PushTag;
 use crate::values::add_character;
 use std::alloc::Global;
 use wap_base::{NoMemory, Text};
-use wap_markup::{Element, Kid};
+use wap_tokens::markup::{Element, Kid};
 
 /// Appends the text of a part of content.
 fn add_kid(text: &mut Text, kid: &Kid) -> Result<(), NoMemory>

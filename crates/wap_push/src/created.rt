@@ -3,7 +3,7 @@ ghost use Rattle.std.specs.Prelude.{◌≡◌, ◌≤◌, get_or};
 ghost use Rattle.std.specs.List.{list_all};
 ghost use Rattle.wap_push.specs.Fields.{is_pair, is_time, pair, digits_of, time_of, time_in};
 
-use wap_markup::Piece;
+use wap_tokens::markup::Piece;
 
 /// Whether a byte is two decimal digits.
 fn is_pair(byte: u8) -> bool

@@ -11,7 +11,7 @@ use crate::names::PushField;
 use crate::values::value_text;
 use std::alloc::Global;
 use wap_base::{NoMemory, Text};
-use wap_markup::Attr;
+use wap_tokens::markup::Attr;
 
 /// Whether an attribute is this one.
 fn is_named(name: PushField, attr: &Attr) -> bool

@@ -12,7 +12,7 @@ use crate::fields::{action_of, created_of, href_of, identifier_of};
 use crate::indication::Indication;
 use crate::names::PushTag;
 use std::alloc::Global;
-use wap_markup::{Document, Element, Kid};
+use wap_tokens::markup::{Document, Element, Kid};
 
 /// Whether the elements in content are at most one `info`.
 fn is_info(kids: &[Kid]) -> bool

@@ -6,7 +6,7 @@ ghost use Rattle.wap_push.specs.Fields.{character, piece_text, value_text};
 use crate::codes::{start_in, value_of};
 use std::alloc::Global;
 use wap_base::{NoMemory, Text};
-use wap_markup::{Attr, Piece};
+use wap_tokens::markup::{Attr, Piece};
 
 /// Appends a character by its number, if it is one.
 pub(crate) fn add_character(text: &mut Text, number: u32) -> Result<(), NoMemory>

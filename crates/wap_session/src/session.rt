@@ -34,7 +34,7 @@ pub struct Session {
 impl Model for Session {
     ghost use Rattle.wap_session.specs.Feeding.{State};
     ghost use Rattle.wap_session.specs.inside.Turns.{state_of};
-    ghost use Rattle.wap_markup.specs.contracts.deck.Item as item;
+    ghost use Rattle.wap_tokens.specs.contracts.markup.deck.Item as item;
     ghost use Rattle.std.specs.Coded.{codes};
 
     ghost Value = { State };

@@ -17,7 +17,7 @@ pub struct Current<'a> {
 
 impl<'a> Model for Current<'a> {
     ghost use Rattle.wap_state.specs.Held.{Held};
-    ghost use Rattle.wap_markup.specs.contracts.deck.Item as item;
+    ghost use Rattle.wap_tokens.specs.contracts.markup.deck.Item as item;
     ghost use Rattle.std.specs.Coded.{codes};
 
     ghost Value = { Held };

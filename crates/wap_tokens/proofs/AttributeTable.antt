@@ -11,13 +11,13 @@ use Rattle.std.specs.Cmp.Lexicographic.{bytes_decides}
 use Rattle.std.proofs.lemmas.Bool.{agree_below, agree_below_at, eqb-true}
 use Rattle.std.proofs.lemmas.Bool.{cases_Bool, cond-false, and_parts}
 use Rattle.wap_base.specs.Texts.{is_same_text}
-use Rattle.wap_markup.specs.declared.name.AttrName.{AttrName}
-use Rattle.wap_markup.specs.declared.name.AttrName.TheVariants as attrs
-use Rattle.wap_markup.specs.contracts.name.AttrName as type
-use Rattle.wap_markup.specs.Tables.{StartRow, Start, is_same_attr, is_same_start, name_rows}
-use Rattle.wap_markup.specs.Tables.{attr_by_name, attr_named, name_of_attr, start_rows}
-use Rattle.wap_markup.specs.Tables.{start_by_code, code_by_start, attr_start, code_of_start}
-use Rattle.wap_markup.specs.Tables.{first_code, start_code}
+use Rattle.wap_tokens.specs.declared.markup.name.AttrName.{AttrName}
+use Rattle.wap_tokens.specs.declared.markup.name.AttrName.TheVariants as attrs
+use Rattle.wap_tokens.specs.contracts.markup.name.AttrName as type
+use Rattle.wap_tokens.specs.markup.Tables.{StartRow, Start, is_same_attr, is_same_start, name_rows}
+use Rattle.wap_tokens.specs.markup.Tables.{attr_by_name, attr_named, name_of_attr, start_rows}
+use Rattle.wap_tokens.specs.markup.Tables.{start_by_code, code_by_start, attr_start, code_of_start}
+use Rattle.wap_tokens.specs.markup.Tables.{first_code, start_code}
 use Rattle.wap_tokens.specs.inside.Places.{start_place}
 use Rattle.wap_tokens.specs.Rows.{lent_start}
 use Rattle.wap_tokens.proofs.Found.{found_passes, lookup_alike, is_same_option, same_option}

@@ -9,11 +9,11 @@ use Rattle.std.specs.Str.{chars, bytes_eq}
 use Rattle.std.specs.Cmp.Lexicographic.{bytes_decides}
 use Rattle.std.proofs.lemmas.Bool.{agree_below, agree_below_at, eqb-true, cases_Bool, cond-false}
 use Rattle.wap_base.specs.Texts.{is_same_text}
-use Rattle.wap_markup.specs.declared.name.Tag.{Tag}
-use Rattle.wap_markup.specs.declared.name.Tag.TheVariants as tags
-use Rattle.wap_markup.specs.contracts.name.Tag as type
-use Rattle.wap_markup.specs.Tables.{TagRow, is_same_tag, tag_rows, tag_by_code, tag_by_name}
-use Rattle.wap_markup.specs.Tables.{tag_of, code_of, tag_named, name_of_tag}
+use Rattle.wap_tokens.specs.declared.markup.name.Tag.{Tag}
+use Rattle.wap_tokens.specs.declared.markup.name.Tag.TheVariants as tags
+use Rattle.wap_tokens.specs.contracts.markup.name.Tag as type
+use Rattle.wap_tokens.specs.markup.Tables.{TagRow, is_same_tag, tag_rows, tag_by_code, tag_by_name}
+use Rattle.wap_tokens.specs.markup.Tables.{tag_of, code_of, tag_named, name_of_tag}
 use Rattle.wap_tokens.specs.inside.Places.{tag_place}
 use Rattle.wap_tokens.proofs.Found.{found_passes, lookup_alike, is_same_option, same_option}
 use Rattle.wap_tokens.proofs.Plain.{is_plain, same-plain}

@@ -10,7 +10,7 @@ use Rattle.std.specs.Str.{chars}
 use Rattle.std.specs.Cmp.Lexicographic.{bytes_decides}
 use Rattle.std.proofs.lemmas.Bool.{agree_below, agree_below_at, eqb-true, cases_Bool, cond-false}
 use Rattle.wap_base.specs.Texts.{is_same_text}
-use Rattle.wap_markup.specs.Tables.{ValueRow, value_rows, attr_value}
+use Rattle.wap_tokens.specs.markup.Tables.{ValueRow, value_rows, attr_value}
 use Rattle.wap_tokens.specs.inside.Places.{value_place}
 use Rattle.wap_tokens.proofs.Found.{found_passes, is_same_option, same_option}
 use Rattle.wap_tokens.proofs.Plain.{is_plain, chars-plain}

@@ -1,9 +1,9 @@
 -- WML's names and codes as the standard lists them (WAP-191, section 14.3), once more beside the
 -- tables of the program: no row of these can change unseen.
 use Rattle.std.specs.Prelude.{codes, List, [], ◌∷◌}
-use Rattle.wap_markup.specs.declared.name.Tag.TheVariants as tag
-use Rattle.wap_markup.specs.declared.name.AttrName.TheVariants as attr
-use Rattle.wap_markup.specs.Tables.{TagRow, NameRow, StartRow, ValueRow}
+use Rattle.wap_tokens.specs.declared.markup.name.Tag.TheVariants as tag
+use Rattle.wap_tokens.specs.declared.markup.name.AttrName.TheVariants as attr
+use Rattle.wap_tokens.specs.markup.Tables.{TagRow, NameRow, StartRow, ValueRow}
 
 -- the elements: the code, the tag, and the name
 abbrev pub elements : List TagRow

@@ -3,14 +3,14 @@ ghost use Rattle.std.specs.Prelude.{◌≡◌, ◌&&◌, [], unwrap_or, slice_ge
 ghost use Rattle.std.specs.Map.{lookup};
 ghost use Rattle.std.specs.Option.{option_map};
 ghost use Rattle.std.specs.Str.{chars, bytes_eq};
-ghost use Rattle.wap_markup.specs.Tables.{is_same_attr, name_of_attr, attr_named};
-ghost use Rattle.wap_markup.specs.Tables.{attr_start, code_of_start, start_code};
+ghost use Rattle.wap_tokens.specs.markup.Tables.{is_same_attr, name_of_attr, attr_named};
+ghost use Rattle.wap_tokens.specs.markup.Tables.{attr_start, code_of_start, start_code};
 ghost use Rattle.wap_tokens.specs.Rows.{attrs_by_name, names_by_attr, starts};
 ghost use Rattle.wap_tokens.specs.Rows.{codes_by_start, codes_by_attr, lent_start};
 
+use crate::markup::{ATTR_NAMES, ATTR_STARTS, AttrName};
 use crate::places::start_place;
 use wap_base::Text;
-use wap_markup::{ATTR_NAMES, ATTR_STARTS, AttrName};
 
 /// The start of the row at a place.
 fn start_at(rows: &[(u8, AttrName, &'static str)], place: usize) -> Option<(AttrName, &'static str)>

@@ -1,6 +1,6 @@
 //! What the tables promise. The functions here do nothing, and carry the laws alone.
 ghost use Rattle.std.specs.Prelude.{◌≡◌};
-ghost use Rattle.wap_markup.specs.Tables.{tag_rows, name_rows, start_rows, value_rows};
+ghost use Rattle.wap_tokens.specs.markup.Tables.{tag_rows, name_rows, start_rows, value_rows};
 ghost use Rattle.wap_tokens.specs.Agreement.{TagsAgree, AttributesAgree, ValuesAgree};
 ghost use Rattle.wap_tokens.specs.Listed.{elements, attributes, starts, values};
 

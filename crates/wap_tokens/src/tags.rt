@@ -2,12 +2,12 @@
 ghost use Rattle.std.specs.Prelude.{◌≡◌, map, unwrap_or, slice_get};
 ghost use Rattle.std.specs.Map.{lookup};
 ghost use Rattle.std.specs.Str.{bytes_eq};
-ghost use Rattle.wap_markup.specs.Tables.{is_same_tag, tag_of, tag_named, code_of};
+ghost use Rattle.wap_tokens.specs.markup.Tables.{is_same_tag, tag_of, tag_named, code_of};
 ghost use Rattle.wap_tokens.specs.Rows.{tags_by_name, codes_by_tag};
 
+use crate::markup::{TAGS, Tag};
 use crate::places::tag_place;
 use wap_base::Text;
-use wap_markup::{TAGS, Tag};
 
 /// The tag of the row at a place.
 fn tag_at(rows: &[(u8, Tag, &str)], place: usize) -> Option<Tag>
@@ -64,7 +64,7 @@ fn code_beside(rows: &[(u8, Tag, &str)], tag: Tag) -> u8
 }
 
 /// The code of a tag. `Tag::Other` has none, and gets 0.
-#[tactic(auto, unfolding(wap_markup::specs::Tables::code_of, wap_markup::specs::Tables::tag_rows))]
+#[tactic(auto, unfolding(crate::specs::markup::Tables::code_of, crate::specs::markup::Tables::tag_rows))]
 pub fn code_of(tag: Tag) -> u8
     ensures { result ≡ code_of tag }
 {

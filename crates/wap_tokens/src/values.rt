@@ -2,11 +2,11 @@
 ghost use Rattle.std.specs.Prelude.{◌≡◌, slice_get, IfSome};
 ghost use Rattle.std.specs.Option.{option_map};
 ghost use Rattle.std.specs.Str.{chars};
-ghost use Rattle.wap_markup.specs.Tables.{attr_value};
+ghost use Rattle.wap_tokens.specs.markup.Tables.{attr_value};
 ghost use Rattle.wap_tokens.specs.Rows.{texts};
 
+use crate::markup::ATTR_VALUES;
 use crate::places::value_place;
-use wap_markup::ATTR_VALUES;
 
 /// The text of the row at a place.
 fn text_at(rows: &[(u8, &'static str)], place: usize) -> Option<&'static str>

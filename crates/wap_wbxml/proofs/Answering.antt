@@ -2,9 +2,9 @@
 use Rattle.std.proofs.Common.{◌≢◌, List, ℕ, Result, Ok, Err}
 use Rattle.std.specs.Prelude.{IfOk, IfErr}
 use Rattle.wap_base.specs.Outcome.{Meets}
-use Rattle.wap_markup.specs.declared.document.Document.{Document}
-use Rattle.wap_markup.specs.declared.mark.DocumentType.{DocumentType}
-use Rattle.wap_markup.specs.Documents.{IsDocumentOf}
+use Rattle.wap_tokens.specs.declared.markup.document.Document.{Document}
+use Rattle.wap_tokens.specs.declared.markup.mark.DocumentType.{DocumentType}
+use Rattle.wap_tokens.specs.markup.Documents.{IsDocumentOf}
 use Rattle.wap_wbxml.specs.declared.fault.DocFault.{DocFault}
 use Rattle.wap_wbxml.specs.declared.fault.DocFault.TheVariants.{NoMemory}
 use Rattle.wap_wbxml.specs.Refusal.{IsRefusedAs}

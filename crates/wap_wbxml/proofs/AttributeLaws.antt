@@ -7,35 +7,36 @@ use Rattle.std.proofs.lemmas.Bool.{eqb-true}
 use Rattle.std.proofs.lemmas.List.{length-append}
 use Rattle.wap_base.specs.Outcome.{◌>>=◌}
 use Rattle.wap_base.proofs.Choices.{bind_ok, bind_err, some_same}
-use Rattle.wap_markup.specs.declared.codes.TheConstants.{END, LITERAL, SWITCH_PAGE}
-use Rattle.wap_markup.specs.declared.document.Attr.{Attr}
-use Rattle.wap_markup.specs.declared.document.Piece.{Piece}
-use Rattle.wap_markup.specs.declared.document.Piece.TheVariants as piece
-use Rattle.wap_markup.specs.declared.document.Token.{Token}
-use Rattle.wap_markup.specs.declared.document.Token.TheVariants.{Code}
-use Rattle.wap_markup.specs.declared.mark.Lead.{Lead}
-use Rattle.wap_markup.specs.declared.mark.Leaf.TheVariants as leaf
-use Rattle.wap_markup.specs.declared.mark.LeafMark.{LeafMark}
-use Rattle.wap_markup.specs.declared.mark.LeafMark.TheVariants as mark
-use Rattle.wap_markup.specs.declared.mark.AttributeMark.{AttributeMark}
-use Rattle.wap_markup.specs.declared.mark.AttributeMark.TheVariants as attribute
-use Rattle.wap_markup.specs.Codes.{attribute_mark, attribute_leaf, leaf_behind, leaf_mark}
-use Rattle.wap_markup.specs.Spellings.{Then, Told, Given, Never, ManyOf}
-use Rattle.wap_markup.specs.Grammar.{State, IsLead, IsLeaf, leaf_of, literal, IsStartBehind}
-use Rattle.wap_markup.specs.Grammar.{IsPieceBehind, IsPiece, IsAttribute, IsAttributes}
-use Rattle.wap_markup.specs.Grammar.{IsInstruction, attribute_of, piece_of, on_attribute_page}
+use Rattle.wap_tokens.specs.declared.markup.codes.TheConstants.{END, LITERAL, SWITCH_PAGE}
+use Rattle.wap_tokens.specs.declared.markup.document.Attr.{Attr}
+use Rattle.wap_tokens.specs.declared.markup.document.Piece.{Piece}
+use Rattle.wap_tokens.specs.declared.markup.document.Piece.TheVariants as piece
+use Rattle.wap_tokens.specs.declared.markup.document.Token.{Token}
+use Rattle.wap_tokens.specs.declared.markup.document.Token.TheVariants.{Code}
+use Rattle.wap_tokens.specs.declared.markup.mark.Lead.{Lead}
+use Rattle.wap_tokens.specs.declared.markup.mark.Leaf.TheVariants as leaf
+use Rattle.wap_tokens.specs.declared.markup.mark.LeafMark.{LeafMark}
+use Rattle.wap_tokens.specs.declared.markup.mark.LeafMark.TheVariants as mark
+use Rattle.wap_tokens.specs.declared.markup.mark.AttributeMark.{AttributeMark}
+use Rattle.wap_tokens.specs.declared.markup.mark.AttributeMark.TheVariants as attribute
+use Rattle.wap_tokens.specs.markup.Codes.{attribute_mark, attribute_leaf, leaf_behind, leaf_mark}
+use Rattle.wap_tokens.specs.markup.Spellings.{Then, Told, Given, Never, ManyOf}
+use Rattle.wap_tokens.specs.markup.Grammar.{State, IsLead, IsLeaf, leaf_of, literal, IsStartBehind}
+use Rattle.wap_tokens.specs.markup.Grammar.{IsPieceBehind, IsPiece, IsAttribute, IsAttributes}
+use Rattle.wap_tokens.specs.markup.Grammar.{IsInstruction, attribute_of, piece_of}
+use Rattle.wap_tokens.specs.markup.Grammar.{on_attribute_page}
 use Rattle.wap_wbxml.specs.declared.fault.DocFault.{DocFault}
 use Rattle.wap_wbxml.specs.declared.fault.DocFault.TheVariants as doc
 use Rattle.wap_wbxml.specs.reading.Steps.{Reading, told}
 use Rattle.wap_wbxml.specs.Places.{Input, place_before}
 use Rattle.wap_wbxml.specs.reading.Fronts.{lead_in, lead_at, inline_at, indexed_at, character_at}
-use Rattle.wap_markup.specs.Codes.{is_end}
+use Rattle.wap_tokens.specs.markup.Codes.{is_end}
 use Rattle.wap_wbxml.specs.reading.Parts.{no_token, as_none, as_short, leaf_at, start_at}
 use Rattle.wap_wbxml.specs.reading.Parts.{some_piece, piece_from, piece_led, next_piece}
 use Rattle.wap_wbxml.specs.reading.Parts.{pieces_at, attribute_behind, next_attribute}
 use Rattle.wap_wbxml.specs.reading.Parts.{attributes_at, end_from, end_at, instruction_at}
 use Rattle.wap_wbxml.specs.Refusals.{Anything, RefusedThen}
-use Rattle.wap_markup.specs.Codes.{begins_piece}
+use Rattle.wap_tokens.specs.markup.Codes.{begins_piece}
 use Rattle.wap_wbxml.specs.Refusal.{RefusedLead, RefusedLeaf, NoToken, RefusedStart}
 use Rattle.wap_wbxml.specs.Refusal.{RefusedPieceBehind, RefusedPiece, ValueEnds, AttributeEnds}
 use Rattle.wap_wbxml.specs.Refusal.{RefusedValue, RefusedAttribute, RefusedUnless, RefusedNext}

@@ -6,27 +6,28 @@ use Rattle.std.proofs.lemmas.Bool.{eqb-true}
 use Rattle.std.proofs.lemmas.List.{append-nil}
 use Rattle.wap_base.specs.Outcome.{◌>>=◌}
 use Rattle.wap_base.proofs.Choices.{chosen, bind_ok, bind_err, ok_same, err_same}
-use Rattle.wap_markup.specs.declared.codes.TheConstants.{PI, SWITCH_PAGE}
-use Rattle.wap_markup.specs.declared.document.Attr.{Attr}
-use Rattle.wap_markup.specs.declared.document.TheConstants.{LEVEL_LIMIT}
-use Rattle.wap_markup.specs.declared.document.Document.{Document}
-use Rattle.wap_markup.specs.declared.document.Element.{Element}
+use Rattle.wap_tokens.specs.declared.markup.codes.TheConstants.{PI, SWITCH_PAGE}
+use Rattle.wap_tokens.specs.declared.markup.document.Attr.{Attr}
+use Rattle.wap_tokens.specs.declared.markup.document.TheConstants.{LEVEL_LIMIT}
+use Rattle.wap_tokens.specs.declared.markup.document.Document.{Document}
+use Rattle.wap_tokens.specs.declared.markup.document.Element.{Element}
 use Rattle.wap_base.specs.declared.charset.Charset.{Charset}
-use Rattle.wap_markup.specs.declared.mark.DocumentType.{DocumentType}
-use Rattle.wap_markup.specs.declared.mark.Identifier.{Identifier}
-use Rattle.wap_markup.specs.declared.mark.Identifier.TheVariants.{Numbered, Named}
-use Rattle.wap_markup.specs.declared.mark.Lead.{Lead}
-use Rattle.wap_markup.specs.declared.mark.ContentMark.{ContentMark}
-use Rattle.wap_markup.specs.declared.mark.ContentMark.TheVariants as content
+use Rattle.wap_tokens.specs.declared.markup.mark.DocumentType.{DocumentType}
+use Rattle.wap_tokens.specs.declared.markup.mark.Identifier.{Identifier}
+use Rattle.wap_tokens.specs.declared.markup.mark.Identifier.TheVariants.{Numbered, Named}
+use Rattle.wap_tokens.specs.declared.markup.mark.Lead.{Lead}
+use Rattle.wap_tokens.specs.declared.markup.mark.ContentMark.{ContentMark}
+use Rattle.wap_tokens.specs.declared.markup.mark.ContentMark.TheVariants as content
 use Rattle.wap_base.specs.Charsets.{charset_of}
-use Rattle.wap_markup.specs.Codes.{content_mark}
-use Rattle.wap_markup.specs.Spellings.{Then, Told, Given, ManyOf}
-use Rattle.wap_markup.specs.Strings.{string_from}
-use Rattle.wap_markup.specs.Grammar.{State, IsLead, IsInstruction}
-use Rattle.wap_markup.specs.Documents.{is_version, IsVersion, is_numbered, is_by_name, public_named}
-use Rattle.wap_markup.specs.Documents.{IsIdentifierBehind, IsIdentifier, IsPublic, IsCharset}
-use Rattle.wap_markup.specs.Documents.{IsOuter, IsRootBehind, IsRoot, first_state, into_root}
-use Rattle.wap_markup.specs.Documents.{out_of_root, IsBody, IsDocumentOf}
+use Rattle.wap_tokens.specs.markup.Codes.{content_mark}
+use Rattle.wap_tokens.specs.markup.Spellings.{Then, Told, Given, ManyOf}
+use Rattle.wap_tokens.specs.markup.Strings.{string_from}
+use Rattle.wap_tokens.specs.markup.Grammar.{State, IsLead, IsInstruction}
+use Rattle.wap_tokens.specs.markup.Documents.{is_version, IsVersion, is_numbered, is_by_name}
+use Rattle.wap_tokens.specs.markup.Documents.{public_named}
+use Rattle.wap_tokens.specs.markup.Documents.{IsIdentifierBehind, IsIdentifier, IsPublic, IsCharset}
+use Rattle.wap_tokens.specs.markup.Documents.{IsOuter, IsRootBehind, IsRoot, first_state, into_root}
+use Rattle.wap_tokens.specs.markup.Documents.{out_of_root, IsBody, IsDocumentOf}
 use Rattle.wap_wbxml.specs.declared.fault.DocFault.{DocFault}
 use Rattle.wap_wbxml.specs.declared.fault.DocFault.TheVariants as doc
 use Rattle.wap_wbxml.specs.reading.Steps.{Reading, some, told}

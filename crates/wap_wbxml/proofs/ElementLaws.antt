@@ -4,20 +4,20 @@ use Rattle.std.proofs.Common.{[], Option, Some, None, Ok, Err, refl, sym, inl, i
 use Rattle.std.specs.Prelude.{not, ◌&&◌}
 use Rattle.std.proofs.lemmas.Bool.{eqb-true}
 use Rattle.wap_base.specs.Outcome.{◌>>=◌}
-use Rattle.wap_markup.specs.declared.codes.TheConstants.{END, PI, LITERAL}
-use Rattle.wap_markup.specs.declared.document.Token.TheVariants.{Code}
-use Rattle.wap_markup.specs.declared.document.Kid.{Kid}
-use Rattle.wap_markup.specs.declared.document.Kid.TheVariants as kid
-use Rattle.wap_markup.specs.declared.mark.Lead.{Lead}
-use Rattle.wap_markup.specs.declared.mark.LeafMark.{LeafMark}
-use Rattle.wap_markup.specs.declared.mark.ContentMark.{ContentMark}
-use Rattle.wap_markup.specs.declared.mark.ContentMark.TheVariants as content
-use Rattle.wap_markup.specs.Codes.{content_mark, content_leaf, leaf_behind, leaf_mark}
-use Rattle.wap_markup.specs.Codes.{is_named, has_attributes, has_content}
-use Rattle.wap_markup.specs.Spellings.{When, Ended}
-use Rattle.wap_markup.specs.Grammar.{State, IsLead, literal, kid_of, of_kid, on_tag_page}
-use Rattle.wap_markup.specs.Grammar.{Elements, IsTagBehind, IsKidBehind, IsKid, element_of}
-use Rattle.wap_markup.specs.Grammar.{IsElementOf, IsElement}
+use Rattle.wap_tokens.specs.declared.markup.codes.TheConstants.{END, PI, LITERAL}
+use Rattle.wap_tokens.specs.declared.markup.document.Token.TheVariants.{Code}
+use Rattle.wap_tokens.specs.declared.markup.document.Kid.{Kid}
+use Rattle.wap_tokens.specs.declared.markup.document.Kid.TheVariants as kid
+use Rattle.wap_tokens.specs.declared.markup.mark.Lead.{Lead}
+use Rattle.wap_tokens.specs.declared.markup.mark.LeafMark.{LeafMark}
+use Rattle.wap_tokens.specs.declared.markup.mark.ContentMark.{ContentMark}
+use Rattle.wap_tokens.specs.declared.markup.mark.ContentMark.TheVariants as content
+use Rattle.wap_tokens.specs.markup.Codes.{content_mark, content_leaf, leaf_behind, leaf_mark}
+use Rattle.wap_tokens.specs.markup.Codes.{is_named, has_attributes, has_content}
+use Rattle.wap_tokens.specs.markup.Spellings.{When, Ended}
+use Rattle.wap_tokens.specs.markup.Grammar.{State, IsLead, literal, kid_of, of_kid, on_tag_page}
+use Rattle.wap_tokens.specs.markup.Grammar.{Elements, IsTagBehind, IsKidBehind, IsKid, element_of}
+use Rattle.wap_tokens.specs.markup.Grammar.{IsElementOf, IsElement}
 use Rattle.wap_wbxml.specs.declared.fault.DocFault.{DocFault}
 use Rattle.wap_wbxml.specs.declared.fault.DocFault.TheVariants as doc
 use Rattle.wap_wbxml.specs.reading.Steps.{Reading, some, told}

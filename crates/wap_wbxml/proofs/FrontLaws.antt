@@ -12,10 +12,10 @@ use Rattle.wap_base.specs.Numbers.{IsMb, mb_at}
 use Rattle.wap_base.proofs.NumberLaws.{mb_takes, mb_again, mb_stops_short, mb_fails_short}
 use Rattle.wap_base.proofs.NumberLaws.{mb_stops_over, mb_fails_over}
 use Rattle.wap_base.proofs.Choices.{chosen, err_same}
-use Rattle.wap_markup.specs.declared.codes.TheConstants.{SWITCH_PAGE}
-use Rattle.wap_markup.specs.declared.mark.Lead.{Lead}
-use Rattle.wap_markup.specs.Charsets.{is_character}
-use Rattle.wap_markup.specs.Grammar.{IsLead, IsOpaque, IsCharacter}
+use Rattle.wap_tokens.specs.declared.markup.codes.TheConstants.{SWITCH_PAGE}
+use Rattle.wap_tokens.specs.declared.markup.mark.Lead.{Lead}
+use Rattle.wap_tokens.specs.markup.Charsets.{is_character}
+use Rattle.wap_tokens.specs.markup.Grammar.{IsLead, IsOpaque, IsCharacter}
 use Rattle.wap_wbxml.specs.declared.fault.DocFault.{DocFault}
 use Rattle.wap_wbxml.specs.declared.fault.DocFault.TheVariants as doc
 use Rattle.wap_wbxml.specs.reading.Steps.{Reading}

@@ -5,10 +5,10 @@ use Rattle.std.proofs.Common.{append_assoc, inl, inr, arith, true≢false}
 use Rattle.std.proofs.lemmas.List.{length-append}
 use Rattle.wap_base.specs.Outcome.{◌>>=◌}
 use Rattle.wap_base.proofs.Choices.{bind_ok, bind_err, ok_same, some_same}
-use Rattle.wap_markup.specs.declared.codes.TheConstants.{END, SWITCH_PAGE}
-use Rattle.wap_markup.specs.declared.mark.Lead.{Lead}
-use Rattle.wap_markup.specs.Spellings.{Then}
-use Rattle.wap_markup.specs.Grammar.{IsLead}
+use Rattle.wap_tokens.specs.declared.markup.codes.TheConstants.{END, SWITCH_PAGE}
+use Rattle.wap_tokens.specs.declared.markup.mark.Lead.{Lead}
+use Rattle.wap_tokens.specs.markup.Spellings.{Then}
+use Rattle.wap_tokens.specs.markup.Grammar.{IsLead}
 use Rattle.wap_wbxml.specs.declared.fault.DocFault.{DocFault}
 use Rattle.wap_wbxml.specs.reading.Steps.{Reading, Next, some, told, chained}
 use Rattle.wap_wbxml.specs.reading.Fronts.{lead_in, or_short, lead_at}

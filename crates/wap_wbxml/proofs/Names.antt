@@ -6,7 +6,7 @@ use Rattle.std.specs.List.{list_any}
 use Rattle.indexmap.specs.IndexSet.{insert_key}
 use Rattle.wap_base.specs.Texts.{is_same_text}
 use Rattle.wap_base.specs.Utf8.{utf8_len}
-use Rattle.wap_markup.specs.Grammar.{State, with_name, counted, table_size}
+use Rattle.wap_tokens.specs.markup.Grammar.{State, with_name, counted, table_size}
 use Rattle.wap_wbxml.specs.declared.fault.DocFault.TheVariants as fault
 use Rattle.wap_wbxml.specs.reading.Fronts.{counted_at}
 

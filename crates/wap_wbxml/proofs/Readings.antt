@@ -4,7 +4,7 @@ use Rattle.std.proofs.Common.{◌≡◌, ℕ, Bool, true, false, cond, List, [],
 use Rattle.std.proofs.Common.{refl, sym, ap, subst, ◌∙◌, append_assoc, inl, inr}
 use Rattle.wap_base.specs.Outcome.{◌>>=◌}
 use Rattle.wap_base.proofs.Choices.{chosen, bind_ok, bind_err, ok_same, err_same}
-use Rattle.wap_markup.specs.Spellings.{Then, Told, Given, Never}
+use Rattle.wap_tokens.specs.markup.Spellings.{Then, Told, Given, Never}
 use Rattle.wap_wbxml.specs.declared.fault.DocFault.{DocFault}
 use Rattle.wap_wbxml.specs.Refusals.{Refusal, NotRefused, EitherRefused}
 use Rattle.wap_wbxml.specs.Refusals.{BehindWhole, RefusedThen, Anything}

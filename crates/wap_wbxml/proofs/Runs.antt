@@ -5,7 +5,7 @@ use Rattle.std.proofs.Common.{subst, ◌∙◌, append_assoc, inl, inr, arith}
 use Rattle.std.proofs.lemmas.List.{length-append}
 use Rattle.wap_base.specs.Outcome.{◌>>=◌}
 use Rattle.wap_base.proofs.Choices.{bind_ok, bind_err}
-use Rattle.wap_markup.specs.Spellings.{Many, none, more, ManyOf, Ended}
+use Rattle.wap_tokens.specs.markup.Spellings.{Many, none, more, ManyOf, Ended}
 use Rattle.wap_wbxml.specs.declared.fault.DocFault.{DocFault}
 use Rattle.wap_wbxml.specs.Refusals.{Refusal, RefusedAmong, here, later, Anything}
 use Rattle.wap_wbxml.specs.reading.Steps.{Reading, Next, told, chained, run_at, all_by}

@@ -11,9 +11,9 @@ use Rattle.std.proofs.lemmas.List.{take_at, drop_at, take-append-drop}
 use Rattle.wap_base.specs.Outcome.{◌>>=◌}
 use Rattle.wap_base.proofs.Choices.{chosen, bind_ok, bind_err, ok_same, err_same}
 use Rattle.wap_base.specs.declared.charset.Charset.{Charset}
-use Rattle.wap_markup.specs.Charsets.{IsText}
-use Rattle.wap_markup.specs.Strings.{Strings, IsInline, IsIndexed, is_not_zero, string_from}
-use Rattle.wap_markup.specs.Grammar.{State, IsCounted, IsName, counted, table_size}
+use Rattle.wap_tokens.specs.markup.Charsets.{IsText}
+use Rattle.wap_tokens.specs.markup.Strings.{Strings, IsInline, IsIndexed, is_not_zero, string_from}
+use Rattle.wap_tokens.specs.markup.Grammar.{State, IsCounted, IsName, counted, table_size}
 use Rattle.wap_wbxml.specs.declared.fault.DocFault.{DocFault}
 use Rattle.wap_wbxml.specs.declared.fault.DocFault.TheVariants as doc
 use Rattle.wap_wbxml.specs.reading.Steps.{Reading, told}

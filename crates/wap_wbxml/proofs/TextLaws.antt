@@ -9,7 +9,7 @@ use Rattle.std.proofs.lemmas.Str.{scalars-chars, encodes-chars, chars_from_encod
 use Rattle.wap_base.proofs.Choices.{chosen, some_same}
 use Rattle.wap_base.specs.declared.charset.Charset.{Charset}
 use Rattle.wap_base.specs.declared.charset.Charset.TheVariants.{Ascii, Latin1, Utf8}
-use Rattle.wap_markup.specs.Charsets.{IsText}
+use Rattle.wap_tokens.specs.markup.Charsets.{IsText}
 use Rattle.wap_base.specs.Charsets.{is_ascii, text_in}
 
 pub and_parts : (a b : Bool) → (a && b) ≡ true → (a ≡ true) × (b ≡ true)

@@ -1,7 +1,7 @@
 -- Places in the whole input, counted in bytes from its beginning. This project's own.
 use Rattle.std.specs.Prelude.{ℕ, ◌-◌, List, length}
 use Rattle.wap_base.specs.declared.charset.Charset.{Charset}
-use Rattle.wap_markup.specs.Strings.{Strings}
+use Rattle.wap_tokens.specs.markup.Strings.{Strings}
 
 -- how long the whole input is, and what it says of its strings
 pub record Input : Type 0 where

@@ -4,35 +4,36 @@ use Rattle.std.specs.Prelude.{◌≡◌, ◌≢◌, ℕ, zero, suc, ◌<◌, ◌
 use Rattle.std.specs.Prelude.{◌==◌, ◌⊎◌, List, [], ◌∷◌, ◌++◌, length, None}
 use Rattle.std.specs.List.{list_all}
 use Rattle.wap_base.specs.Numbers.{IsMb, EndsInside, IsTooLong}
-use Rattle.wap_markup.specs.declared.codes.TheConstants.{SWITCH_PAGE, PI}
-use Rattle.wap_markup.specs.declared.document.Attr.{Attr}
-use Rattle.wap_markup.specs.declared.document.TheConstants.{LEVEL_LIMIT}
+use Rattle.wap_tokens.specs.declared.markup.codes.TheConstants.{SWITCH_PAGE, PI}
+use Rattle.wap_tokens.specs.declared.markup.document.Attr.{Attr}
+use Rattle.wap_tokens.specs.declared.markup.document.TheConstants.{LEVEL_LIMIT}
 use Rattle.wap_base.specs.declared.charset.Charset.{Charset}
-use Rattle.wap_markup.specs.declared.mark.DocumentType.{DocumentType}
-use Rattle.wap_markup.specs.declared.mark.DocumentType.TheVariants.{Wml}
-use Rattle.wap_markup.specs.declared.mark.Identifier.{Identifier}
-use Rattle.wap_markup.specs.declared.mark.Identifier.TheVariants.{Numbered, Named}
-use Rattle.wap_markup.specs.declared.mark.Lead.{Lead}
-use Rattle.wap_markup.specs.declared.mark.LeafMark.{LeafMark}
-use Rattle.wap_markup.specs.declared.mark.LeafMark.TheVariants as mark
-use Rattle.wap_markup.specs.declared.mark.ContentMark.{ContentMark}
-use Rattle.wap_markup.specs.declared.mark.ContentMark.TheVariants as content
-use Rattle.wap_markup.specs.declared.mark.AttributeMark.{AttributeMark}
-use Rattle.wap_markup.specs.declared.mark.AttributeMark.TheVariants as attribute
+use Rattle.wap_tokens.specs.declared.markup.mark.DocumentType.{DocumentType}
+use Rattle.wap_tokens.specs.declared.markup.mark.DocumentType.TheVariants.{Wml}
+use Rattle.wap_tokens.specs.declared.markup.mark.Identifier.{Identifier}
+use Rattle.wap_tokens.specs.declared.markup.mark.Identifier.TheVariants.{Numbered, Named}
+use Rattle.wap_tokens.specs.declared.markup.mark.Lead.{Lead}
+use Rattle.wap_tokens.specs.declared.markup.mark.LeafMark.{LeafMark}
+use Rattle.wap_tokens.specs.declared.markup.mark.LeafMark.TheVariants as mark
+use Rattle.wap_tokens.specs.declared.markup.mark.ContentMark.{ContentMark}
+use Rattle.wap_tokens.specs.declared.markup.mark.ContentMark.TheVariants as content
+use Rattle.wap_tokens.specs.declared.markup.mark.AttributeMark.{AttributeMark}
+use Rattle.wap_tokens.specs.declared.markup.mark.AttributeMark.TheVariants as attribute
 use Rattle.wap_base.specs.Charsets.{charset_of}
-use Rattle.wap_markup.specs.Charsets.{IsText, is_character}
-use Rattle.wap_markup.specs.Codes.{content_mark, attribute_mark, is_end, begins_piece}
-use Rattle.wap_markup.specs.Codes.{is_named, has_attributes, has_content}
-use Rattle.wap_markup.specs.Spellings.{When, ManyOf}
-use Rattle.wap_markup.specs.Strings.{Strings, IsIndexed, is_not_zero, string_from}
-use Rattle.wap_markup.specs.Grammar as grammar
-use Rattle.wap_markup.specs.Grammar.{State, IsLead, IsPiece, IsAttribute, IsAttributes}
-use Rattle.wap_markup.specs.Grammar.{IsKid, IsElement, Elements, counted, table_size}
-use Rattle.wap_markup.specs.Grammar.{on_attribute_page, on_tag_page}
-use Rattle.wap_markup.specs.Documents as documents
-use Rattle.wap_markup.specs.Documents.{is_version, is_numbered, is_by_name, public_named, IsVersion}
-use Rattle.wap_markup.specs.Documents.{IsIdentifier, IsCharset, IsPublic, IsOuter, IsRoot}
-use Rattle.wap_markup.specs.Documents.{first_state, into_root, out_of_root}
+use Rattle.wap_tokens.specs.markup.Charsets.{IsText, is_character}
+use Rattle.wap_tokens.specs.markup.Codes.{content_mark, attribute_mark, is_end, begins_piece}
+use Rattle.wap_tokens.specs.markup.Codes.{is_named, has_attributes, has_content}
+use Rattle.wap_tokens.specs.markup.Spellings.{When, ManyOf}
+use Rattle.wap_tokens.specs.markup.Strings.{Strings, IsIndexed, is_not_zero, string_from}
+use Rattle.wap_tokens.specs.markup.Grammar as grammar
+use Rattle.wap_tokens.specs.markup.Grammar.{State, IsLead, IsPiece, IsAttribute, IsAttributes}
+use Rattle.wap_tokens.specs.markup.Grammar.{IsKid, IsElement, Elements, counted, table_size}
+use Rattle.wap_tokens.specs.markup.Grammar.{on_attribute_page, on_tag_page}
+use Rattle.wap_tokens.specs.markup.Documents as documents
+use Rattle.wap_tokens.specs.markup.Documents.{is_version, is_numbered, is_by_name, public_named}
+use Rattle.wap_tokens.specs.markup.Documents.{IsVersion}
+use Rattle.wap_tokens.specs.markup.Documents.{IsIdentifier, IsCharset, IsPublic, IsOuter, IsRoot}
+use Rattle.wap_tokens.specs.markup.Documents.{first_state, into_root, out_of_root}
 use Rattle.wap_wbxml.specs.declared.fault.DocFault.{DocFault}
 use Rattle.wap_wbxml.specs.declared.fault.DocFault.TheVariants as doc
 use Rattle.wap_wbxml.specs.Places.{Input, place, place_before, input_of}

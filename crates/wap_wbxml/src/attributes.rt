@@ -2,8 +2,8 @@
 ghost use Rattle.std.specs.Prelude.{◌≡◌};
 ghost use Rattle.wap_base.specs.Outcome.{Meets};
 ghost use Rattle.wap_wbxml.specs.declared.fault.DocFault.TheVariants.{NoMemory};
-ghost use Rattle.wap_markup.specs.Codes.{attribute_mark};
-ghost use Rattle.wap_markup.specs.Codes.{is_end};
+ghost use Rattle.wap_tokens.specs.markup.Codes.{attribute_mark};
+ghost use Rattle.wap_tokens.specs.markup.Codes.{is_end};
 ghost use Rattle.wap_wbxml.specs.reading.Parts.{start_at, next_piece, pieces_at, attribute_behind};
 ghost use Rattle.wap_wbxml.specs.reading.Parts.{next_attribute, attributes_at, when, end_at};
 ghost use Rattle.wap_wbxml.specs.reading.Parts.{instruction_at};
@@ -16,7 +16,7 @@ use crate::marks::attribute_mark;
 use crate::state::State;
 use std::alloc::Global;
 use wap_base::Rows;
-use wap_markup::{Attr, AttributeMark, Lead, Piece, Token};
+use wap_tokens::markup::{Attr, AttributeMark, Lead, Piece, Token};
 
 /// A processing instruction after its byte: one attribute and an end.
 #[tactic(auto, unfolding(crate::specs::reading::Parts::instruction_at))]

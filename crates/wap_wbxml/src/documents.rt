@@ -1,10 +1,10 @@
 //! Reading a document from the left.
 ghost use Rattle.std.specs.Prelude.{◌≡◌, ◌≢◌, ◌↔◌, ℕ, List, IfOk, IfErr, Ok, Err};
 ghost use Rattle.wap_base.specs.Outcome.{Meets};
-ghost use Rattle.wap_markup.specs.declared.document.Document.{Document};
-ghost use Rattle.wap_markup.specs.declared.mark.DocumentType.{DocumentType};
-ghost use Rattle.wap_markup.specs.declared.mark.DocumentType.TheVariants.{Other};
-ghost use Rattle.wap_markup.specs.Documents.{IsDocument, IsDocumentOf};
+ghost use Rattle.wap_tokens.specs.declared.markup.document.Document.{Document};
+ghost use Rattle.wap_tokens.specs.declared.markup.mark.DocumentType.{DocumentType};
+ghost use Rattle.wap_tokens.specs.declared.markup.mark.DocumentType.TheVariants.{Other};
+ghost use Rattle.wap_tokens.specs.markup.Documents.{IsDocument, IsDocumentOf};
 ghost use Rattle.wap_wbxml.specs.declared.fault.DocFault.{DocFault};
 ghost use Rattle.wap_wbxml.specs.declared.fault.DocFault.TheVariants.{NoMemory};
 ghost use Rattle.wap_wbxml.specs.Refusal.{IsRefused, IsRefusedAs};
@@ -21,7 +21,7 @@ use crate::marks::content_mark;
 use crate::state::State;
 use std::alloc::Global;
 use wap_base::Rows;
-use wap_markup::{Attr, ContentMark, Document, DocumentType, Element, LEVEL_LIMIT, PI};
+use wap_tokens::markup::{Attr, ContentMark, Document, DocumentType, Element, LEVEL_LIMIT, PI};
 
 /// The document that the bytes spell, or the first thing in them, from the left, that can't stand
 /// where it does. Processing instructions outside the root are read and left out.

@@ -2,7 +2,7 @@
 ghost use Rattle.std.specs.Prelude.{◌≡◌};
 ghost use Rattle.wap_base.specs.Outcome.{Meets};
 ghost use Rattle.wap_wbxml.specs.declared.fault.DocFault.TheVariants.{NoMemory};
-ghost use Rattle.wap_markup.specs.Codes.{is_named};
+ghost use Rattle.wap_tokens.specs.markup.Codes.{is_named};
 ghost use Rattle.wap_wbxml.specs.reading.Parts.{tag_at, when, next_kid, kids_at};
 ghost use Rattle.wap_wbxml.specs.reading.Parts.{element_by, element_at};
 
@@ -15,7 +15,7 @@ use crate::marks::{content_mark, has_attributes, has_content, is_named};
 use crate::state::State;
 use std::alloc::Global;
 use wap_base::Rows;
-use wap_markup::{ContentMark, Element, Kid, Lead, Token};
+use wap_tokens::markup::{ContentMark, Element, Kid, Lead, Token};
 
 /// An element of so many levels at most, after the byte of its tag.
 #[cycle(elements)]

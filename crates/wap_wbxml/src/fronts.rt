@@ -2,8 +2,8 @@
 ghost use Rattle.std.specs.Prelude.{◌≡◌, ◌≤◌, ◌<◌, length, None, Some, MatchOption};
 ghost use Rattle.wap_base.specs.Charsets.{text_in};
 ghost use Rattle.wap_base.specs.Outcome.{Meets};
-ghost use Rattle.wap_markup.specs.Charsets.{is_character};
-ghost use Rattle.wap_markup.specs.Strings.{string_from};
+ghost use Rattle.wap_tokens.specs.markup.Charsets.{is_character};
+ghost use Rattle.wap_tokens.specs.markup.Strings.{string_from};
 ghost use Rattle.wap_wbxml.specs.declared.fault.DocFault.TheVariants.{NoMemory};
 ghost use Rattle.wap_wbxml.specs.reading.Fronts.{lead_in, lead_at, number_at, opaque_at};
 ghost use Rattle.wap_wbxml.specs.reading.Fronts.{or_no_text, zero_place, inline_at};
@@ -14,7 +14,7 @@ use crate::input::Input;
 use crate::state::State;
 use std::alloc::Global;
 use wap_base::{Bytes, Charset, ReadFault, Text, read_mb};
-use wap_markup::{Lead, SWITCH_PAGE};
+use wap_tokens::markup::{Lead, SWITCH_PAGE};
 
 /// The byte that an item begins with, if there is one, with its page: this one, or the one after a
 /// switch.

@@ -3,15 +3,15 @@
 ghost use Rattle.std.specs.Prelude.{◌≡◌, codes};
 ghost use Rattle.std.specs.Option.{option_map};
 ghost use Rattle.wap_base.specs.Outcome.{Meets};
-ghost use Rattle.wap_markup.specs.Documents.{is_version, is_public, public_named};
-ghost use Rattle.wap_markup.specs.Documents.{is_numbered, is_by_name};
+ghost use Rattle.wap_tokens.specs.markup.Documents.{is_version, is_public, public_named};
+ghost use Rattle.wap_tokens.specs.markup.Documents.{is_numbered, is_by_name};
 ghost use Rattle.wap_wbxml.specs.declared.fault.DocFault.TheVariants.{NoMemory};
 ghost use Rattle.wap_wbxml.specs.reading.Whole.{version_at, identifier_at, charset_at, public_of};
 
 use crate::DocFault;
 use crate::fronts::{read_number, string_from};
 use wap_base::Charset;
-use wap_markup::{DocumentType, Identifier, VERSION, WML_1_1, WML_1_2, WML_1_3};
+use wap_tokens::markup::{DocumentType, Identifier, VERSION, WML_1_1, WML_1_2, WML_1_3};
 
 /// The version.
 #[tactic(auto, unfolding(crate::specs::reading::Whole::version_at))]
@@ -100,7 +100,7 @@ pub fn find_public(table: &[u8], identifier: Identifier) -> Result<u32, DocFault
     }
 }
 
-#[tactic(auto, unfolding(wap_markup::specs::Documents::public_named))]
+#[tactic(auto, unfolding(wap_tokens::specs::markup::Documents::public_named))]
 fn public_named(name: &[u8]) -> Option<u32>
     ensures { result ≡ public_named name.now }
 {

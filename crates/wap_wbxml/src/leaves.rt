@@ -1,7 +1,7 @@
 //! What stands in content and in the value of an attribute alike.
 ghost use Rattle.std.specs.Prelude.{◌≡◌};
 ghost use Rattle.wap_base.specs.Outcome.{Meets};
-ghost use Rattle.wap_markup.specs.Grammar.{leaf_of, piece_of, kid_of};
+ghost use Rattle.wap_tokens.specs.markup.Grammar.{leaf_of, piece_of, kid_of};
 ghost use Rattle.wap_wbxml.specs.declared.fault.DocFault.TheVariants.{NoMemory};
 ghost use Rattle.wap_wbxml.specs.reading.Parts.{leaf_at};
 
@@ -10,7 +10,7 @@ use crate::fronts::{read_character, read_indexed, read_inline, read_opaque};
 use crate::input::Input;
 use std::alloc::Global;
 use wap_base::{Bytes, Text};
-use wap_markup::{Kid, Leaf, LeafMark, Piece, Role};
+use wap_tokens::markup::{Kid, Leaf, LeafMark, Piece, Role};
 
 /// A string, a character, a reference, an extension or opaque data, after the byte that says so.
 #[tactic(auto, unfolding(crate::specs::reading::Parts::leaf_at))]

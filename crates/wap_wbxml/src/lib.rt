@@ -25,4 +25,4 @@ pub use input::Input;
 pub use leaves::read_leaf;
 pub use marks::{attribute_mark, content_mark, has_attributes, has_content};
 pub use state::State;
-pub use wap_markup::{Attr, Document, Element, Kid, Piece, Token};
+pub use wap_tokens::markup::{Attr, Document, Element, Kid, Piece, Token};

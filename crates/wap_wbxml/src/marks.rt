@@ -1,16 +1,17 @@
 //! What a byte says, by the code that it is.
 ghost use Rattle.std.specs.Prelude.{◌≡◌};
-ghost use Rattle.wap_markup.specs.Codes.{leaf_mark, leaf_behind, is_extension, content_mark};
-ghost use Rattle.wap_markup.specs.Codes.{attribute_mark, is_named, has_attributes, has_content};
+ghost use Rattle.wap_tokens.specs.markup.Codes.{leaf_mark, leaf_behind, is_extension, content_mark};
+ghost use Rattle.wap_tokens.specs.markup.Codes.{attribute_mark, is_named, has_attributes};
+ghost use Rattle.wap_tokens.specs.markup.Codes.{has_content};
 
 use wap_base::Conv;
-use wap_markup::{
+use wap_tokens::markup::{
     AttributeMark, ContentMark, END, ENTITY, EXT_0, EXT_1, EXT_2, EXT_I_0, EXT_I_1, EXT_I_2,
     EXT_T_0, EXT_T_1, EXT_T_2, LITERAL, Lead, LeafMark, OPAQUE, PI, Role, STR_I, STR_T,
 };
 
 /// What a byte says in content.
-#[tactic(auto, unfolding(wap_markup::specs::Codes::content_mark))]
+#[tactic(auto, unfolding(wap_tokens::specs::markup::Codes::content_mark))]
 pub fn content_mark(lead: Lead) -> ContentMark
     ensures { result ≡ content_mark lead }
 {
@@ -30,7 +31,7 @@ pub fn content_mark(lead: Lead) -> ContentMark
 }
 
 /// What a byte says in attributes.
-#[tactic(auto, unfolding(wap_markup::specs::Codes::attribute_mark))]
+#[tactic(auto, unfolding(wap_tokens::specs::markup::Codes::attribute_mark))]
 pub fn attribute_mark(lead: Lead) -> AttributeMark
     ensures { result ≡ attribute_mark lead }
 {
@@ -63,7 +64,7 @@ fn leaf_behind(lead: Lead) -> Option<LeafMark>
     Some(mark)
 }
 
-#[tactic(auto, unfolding(wap_markup::specs::Codes::leaf_mark))]
+#[tactic(auto, unfolding(wap_tokens::specs::markup::Codes::leaf_mark))]
 fn leaf_mark(byte: u8) -> Option<LeafMark>
     ensures { result ≡ leaf_mark byte }
 {

@@ -3,8 +3,8 @@ ghost use Rattle.std.specs.Prelude.{◌≡◌, OnOk, OnErr};
 ghost use Rattle.indexmap.specs.IndexSet.{insert_key};
 ghost use Rattle.wap_base.specs.Outcome.{Meets};
 ghost use Rattle.wap_base.specs.Texts.{is_same_text};
-ghost use Rattle.wap_markup.specs.Documents.{first_state, into_root, out_of_root};
-ghost use Rattle.wap_markup.specs.Grammar.{on_tag_page, on_attribute_page};
+ghost use Rattle.wap_tokens.specs.markup.Documents.{first_state, into_root, out_of_root};
+ghost use Rattle.wap_tokens.specs.markup.Grammar.{on_tag_page, on_attribute_page};
 ghost use Rattle.wap_wbxml.specs.declared.fault.DocFault.TheVariants as fault;
 ghost use Rattle.wap_wbxml.specs.reading.Fronts.{counted_at};
 
@@ -27,7 +27,7 @@ pub struct State {
 
 impl Model for State {
     ghost use Rattle.std.specs.Prelude.{◌≡◌};
-    ghost use Rattle.wap_markup.specs.Grammar.{State as Settled, table_size};
+    ghost use Rattle.wap_tokens.specs.markup.Grammar.{State as Settled, table_size};
 
     ghost Value = { Settled };
 

@@ -6,9 +6,9 @@ use Rattle.std.specs.List.{last_or}
 use Rattle.std.specs.Option.{option_map, option_and_then}
 use Rattle.std.proofs.lemmas.Option.{slice_get-get_or}
 use Rattle.std.proofs.lemmas.List.Quantifiers.{position-Some}
-use Rattle.wap_markup.specs.declared.deck.Deck.{Deck}
-use Rattle.wap_markup.specs.Trees.{is_text}
-use Rattle.wap_markup.specs.Cards.{cards_of, id_of, card_numbered}
+use Rattle.wap_tokens.specs.declared.markup.deck.Deck.{Deck}
+use Rattle.wap_tokens.specs.markup.Trees.{is_text}
+use Rattle.wap_tokens.specs.markup.Cards.{cards_of, id_of, card_numbered}
 use Rattle.wap_world.specs.declared.history.Entry.{Entry}
 
 -- ---- the last item of a list

@@ -7,7 +7,7 @@ use Rattle.std.specs.Option.{option_and_then}
 use Rattle.wap_input.specs.declared.key.Key.{Key}
 use Rattle.wap_url.specs.declared.url.Url.{Url}
 use Rattle.wap_url.specs.Printing.{name_for}
-use Rattle.wap_markup.specs.declared.deck.Deck.{Deck}
+use Rattle.wap_tokens.specs.declared.markup.deck.Deck.{Deck}
 use Rattle.wap_execution.specs.declared.fatal.Fatal.TheVariants as fatal
 use Rattle.wap_cardrules.specs.Values.{Pairs}
 use Rattle.wap_world.specs.site.Pages.{Pages}

@@ -6,7 +6,7 @@ use Rattle.std.specs.List.{flat_map}
 use Rattle.wap_input.specs.declared.key.Key.{Key}
 use Rattle.wap_input.specs.declared.key.Key.TheVariants as key
 use Rattle.wap_url.specs.declared.url.Url.{Url}
-use Rattle.wap_markup.specs.declared.deck.Deck.{Deck}
+use Rattle.wap_tokens.specs.declared.markup.deck.Deck.{Deck}
 use Rattle.wap_cardrules.specs.declared.answers.Chosen.{Chosen}
 use Rattle.wap_cardrules.specs.declared.answers.Chosen.TheVariants as chosen
 use Rattle.wap_cardrules.specs.declared.event.Event.{Event}

@@ -9,9 +9,9 @@ use Rattle.wap_input.specs.declared.key.Key.TheVariants.{Open}
 use Rattle.wap_url.specs.declared.url.Url.{Url}
 use Rattle.wap_layout.specs.declared.flow.Flow.TheVariants.{Words, Wrap}
 use Rattle.wap_layout.specs.Calculation.{lines_of}
-use Rattle.wap_markup.specs.declared.name.AttrName.TheVariants as attrs
-use Rattle.wap_markup.specs.Tables.{is_same_tag}
-use Rattle.wap_markup.specs.Tasks.{task_of}
+use Rattle.wap_tokens.specs.declared.markup.name.AttrName.TheVariants as attrs
+use Rattle.wap_tokens.specs.markup.Tables.{is_same_tag}
+use Rattle.wap_tokens.specs.markup.Tasks.{task_of}
 use Rattle.wap_cardrules.specs.Values.{is_true}
 use Rattle.wap_cardrules.specs.Content.{begun_by}
 use Rattle.wap_cardrules.specs.Dos.{dos_in, do_name, label_of, do_labels}
@@ -30,12 +30,12 @@ use Rattle.wap_world.specs.Entering.{event_task, entered, enter}
 use Rattle.wap_base.specs.Limits.{default_limits}
 use Rattle.wap_base.specs.declared.name.Part.{Part}
 use Rattle.wap_base.specs.declared.name.Part.TheVariants.{Lit}
-use Rattle.wap_markup.specs.declared.deck.Deck.{Deck}
-use Rattle.wap_markup.specs.declared.deck.Node.{Node}
-use Rattle.wap_markup.specs.declared.deck.Item.TheVariants as item
-use Rattle.wap_markup.specs.declared.name.Tag.TheVariants as tags
-use Rattle.wap_markup.specs.Good.{rule_of, rules}
-use Rattle.wap_markup.specs.Cards.{cards_of}
+use Rattle.wap_tokens.specs.declared.markup.deck.Deck.{Deck}
+use Rattle.wap_tokens.specs.declared.markup.deck.Node.{Node}
+use Rattle.wap_tokens.specs.declared.markup.deck.Item.TheVariants as item
+use Rattle.wap_tokens.specs.declared.markup.name.Tag.TheVariants as tags
+use Rattle.wap_tokens.specs.markup.Good.{rule_of, rules}
+use Rattle.wap_tokens.specs.markup.Cards.{cards_of}
 use Rattle.wap_cardrules.specs.declared.event.Event.TheVariants.{Forward}
 use Rattle.wap_cardrules.specs.Content.{words, begins, ends, content_of}
 use Rattle.wap_cardrules.specs.Events.{template_of, binding}

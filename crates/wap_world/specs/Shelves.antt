@@ -1,7 +1,7 @@
 -- What stands under the names of pages, as the rules see it: of a script only who may call it. What
 -- it does when it is called stands apart (`Sites`). This project's own.
 use Rattle.std.specs.Prelude.{ℕ, List, Option}
-use Rattle.wap_markup.specs.declared.deck.Deck.{Deck}
+use Rattle.wap_tokens.specs.declared.markup.deck.Deck.{Deck}
 
 -- who may come: a domain and a path, each where it is given
 pub record Entrance : Type 0 where

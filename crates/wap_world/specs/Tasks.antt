@@ -22,9 +22,9 @@ use Rattle.std.specs.Prelude.{unwrap_or, slice_get, List, [], Option, Some, None
 use Rattle.std.specs.Option.{option_map, option_map_or, option_and_then}
 use Rattle.wap_input.specs.declared.key.Key.{Key}
 use Rattle.wap_url.specs.declared.url.Url.{Url}
-use Rattle.wap_markup.specs.declared.deck.Deck.{Deck}
-use Rattle.wap_markup.specs.declared.name.AttrName.TheVariants as attrs
-use Rattle.wap_markup.specs.Cards.{cards_of, card_numbered}
+use Rattle.wap_tokens.specs.declared.markup.deck.Deck.{Deck}
+use Rattle.wap_tokens.specs.declared.markup.name.AttrName.TheVariants as attrs
+use Rattle.wap_tokens.specs.markup.Cards.{cards_of, card_numbered}
 use Rattle.wap_cardrules.specs.declared.task.Task.{Task}
 use Rattle.wap_cardrules.specs.declared.task.Task.TheVariants as task
 use Rattle.wap_cardrules.specs.declared.task.Go.{Go}

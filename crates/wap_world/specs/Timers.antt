@@ -2,7 +2,7 @@
 use Rattle.std.specs.Prelude.{ℕ, zero, suc, List, [], ◌∷◌, Option, Some, None}
 use Rattle.std.specs.Fmt.{decimal}
 use Rattle.std.specs.Option.{option_and_then}
-use Rattle.wap_markup.specs.declared.deck.Node.{Node}
+use Rattle.wap_tokens.specs.declared.markup.deck.Node.{Node}
 use Rattle.wap_cardrules.specs.Timers.{timer_in, timer_variable, timer_of}
 use Rattle.wap_world.specs.declared.timer.Timer.{Timer}
 use Rattle.wap_world.specs.declared.timer.Timer.TheVariants.{NotStarted, Running, Off, Expired}

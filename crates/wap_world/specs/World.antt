@@ -5,9 +5,9 @@ use Rattle.std.specs.List.{last_or}
 use Rattle.wap_base.specs.declared.limits.Limits.{Limits}
 use Rattle.wap_url.specs.declared.url.Url.{Url}
 use Rattle.wap_url.specs.Printing.{name_for}
-use Rattle.wap_markup.specs.declared.deck.Deck.{Deck}
-use Rattle.wap_markup.specs.declared.deck.Node.{Node}
-use Rattle.wap_markup.specs.Cards.{cards_of}
+use Rattle.wap_tokens.specs.declared.markup.deck.Deck.{Deck}
+use Rattle.wap_tokens.specs.declared.markup.deck.Node.{Node}
+use Rattle.wap_tokens.specs.markup.Cards.{cards_of}
 use Rattle.wap_libs.specs.Generator.{Generator, started_from}
 use Rattle.wap_vars.specs.Variables.{Variables}
 use Rattle.wap_cardrules.specs.declared.task.Task.{Task}

@@ -4,7 +4,7 @@ use Rattle.std.proofs.Common.{length, take, get_or, sym, ap, ap₂, ◌∙◌, a
 use Rattle.std.specs.List.{flat_map, zip, enumerate_from}
 use Rattle.std.proofs.lemmas.List.{take_all, flat_map_more, get_or_default}
 use Rattle.std.proofs.lemmas.Slice.Zip.{length-zip, get_or-zip}
-use Rattle.wap_markup.specs.declared.deck.Node.{Node}
+use Rattle.wap_tokens.specs.declared.markup.deck.Node.{Node}
 use Rattle.wap_layout.specs.declared.flow.Flow.{Flow}
 use Rattle.wap_vars.specs.Variables.{Variables}
 use Rattle.wap_cards.proofs.InputsLemmas.Marking.{enumerate_next}

@@ -8,8 +8,8 @@ use Rattle.std.proofs.lemmas.Option.{slice_get-get_or}
 use Rattle.wap_cardrules.specs.Fields.{fields_of}
 use Rattle.wap_cards.specs.inputs.Stopped.{FirstStand, default_sets, DefaultsStand}
 use Rattle.std.proofs.lemmas.List.{append-nil, take_more}
-use Rattle.wap_markup.specs.declared.deck.Node.{Node}
-use Rattle.wap_markup.specs.declared.name.AttrName.TheVariants as attrs
+use Rattle.wap_tokens.specs.declared.markup.deck.Node.{Node}
+use Rattle.wap_tokens.specs.declared.markup.name.AttrName.TheVariants as attrs
 use Rattle.wap_vars.specs.Variables.{Variables, removed}
 use Rattle.wap_cardrules.specs.Values.{value_if}
 use Rattle.wap_cardrules.specs.Inputs.{input_variable, takes}

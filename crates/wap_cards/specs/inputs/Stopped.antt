@@ -2,9 +2,9 @@
 -- changed. This project's own.
 use Rattle.std.specs.Prelude.{◌≡◌, ℕ, take, if◌then◌else◌, slice_get, List, []}
 use Rattle.std.specs.Option.{option_map_or}
-use Rattle.wap_markup.specs.declared.deck.Node.{Node}
-use Rattle.wap_markup.specs.declared.name.Tag.TheVariants as tags
-use Rattle.wap_markup.specs.Tables.{is_same_tag}
+use Rattle.wap_tokens.specs.declared.markup.deck.Node.{Node}
+use Rattle.wap_tokens.specs.declared.markup.name.Tag.TheVariants as tags
+use Rattle.wap_tokens.specs.markup.Tables.{is_same_tag}
 use Rattle.wap_vars.specs.Variables.{Variables}
 use Rattle.wap_cardrules.specs.Fields.{fields_of, field_with}
 use Rattle.wap_cardrules.specs.Selects.{choice_of, choice_with}

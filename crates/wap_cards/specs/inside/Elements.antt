@@ -1,9 +1,9 @@
 -- The elements that are looked for, among marks. This project's own.
 use Rattle.std.specs.Prelude.{Bool, List, filter}
 use Rattle.std.specs.List.{filter_map}
-use Rattle.wap_markup.specs.declared.deck.Node.{Node}
-use Rattle.wap_markup.specs.declared.name.Tag.TheVariants as tags
-use Rattle.wap_markup.specs.Tables.{is_same_tag}
+use Rattle.wap_tokens.specs.declared.markup.deck.Node.{Node}
+use Rattle.wap_tokens.specs.declared.markup.name.Tag.TheVariants as tags
+use Rattle.wap_tokens.specs.markup.Tables.{is_same_tag}
 use Rattle.wap_cardrules.specs.Content.{Mark, begun_by}
 use Rattle.wap_cardrules.specs.Fields.{is_field}
 use Rattle.wap_cards.specs.declared.elements.Sought.{Sought}

@@ -1,12 +1,12 @@
 -- Onevents, looked for by their type. This project's own.
 use Rattle.std.specs.Prelude.{ℕ, Bool, ◌&&◌, find, List, Option}
 use Rattle.std.specs.List.{filter_map}
-use Rattle.wap_markup.specs.declared.deck.Node.{Node}
-use Rattle.wap_markup.specs.declared.deck.Item.{Item}
-use Rattle.wap_markup.specs.declared.name.Tag.TheVariants as tags
-use Rattle.wap_markup.specs.Tables.{is_same_tag}
-use Rattle.wap_markup.specs.Trees.{node_with, is_text}
-use Rattle.wap_markup.specs.Cards.{type_of}
+use Rattle.wap_tokens.specs.declared.markup.deck.Node.{Node}
+use Rattle.wap_tokens.specs.declared.markup.deck.Item.{Item}
+use Rattle.wap_tokens.specs.declared.markup.name.Tag.TheVariants as tags
+use Rattle.wap_tokens.specs.markup.Tables.{is_same_tag}
+use Rattle.wap_tokens.specs.markup.Trees.{node_with, is_text}
+use Rattle.wap_tokens.specs.markup.Cards.{type_of}
 
 abbrev pub is_onevent : List ℕ → Node → Bool
 is_onevent kind node = is_same_tag node.tag tags.Onevent && is_text kind (type_of node)

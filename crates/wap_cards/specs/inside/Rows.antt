@@ -1,9 +1,9 @@
 -- The rows of the rules as a program has them, their lists lent. This project's own.
 use Rattle.std.specs.Prelude.{Bool, List, map, Option}
 use Rattle.std.specs.Borrow.{Bor}
-use Rattle.wap_markup.specs.declared.name.Tag.{Tag}
-use Rattle.wap_markup.specs.declared.name.AttrName.{AttrName}
-use Rattle.wap_markup.specs.Good.{Rule, rule_or_none}
+use Rattle.wap_tokens.specs.declared.markup.name.Tag.{Tag}
+use Rattle.wap_tokens.specs.declared.markup.name.AttrName.{AttrName}
+use Rattle.wap_tokens.specs.markup.Good.{Rule, rule_or_none}
 
 abbrev pub LentRule : Type 0
 LentRule =

@@ -9,7 +9,7 @@ use std::alloc::Global;
 use wap_base::{NoMemory, Rows};
 use wap_deck::good::View;
 use wap_layout::Flow;
-use wap_markup::LEVEL_LIMIT;
+use wap_tokens::markup::LEVEL_LIMIT;
 use wap_vars::Vars;
 
 /// What a card shows: its words, with those of its fields, and the breaks and modes between them;

@@ -2,7 +2,7 @@
 ghost use Rattle.std.specs.Prelude.{◌≡◌, ◌∷◌, ◌++◌, map, IfOk, OnOk};
 ghost use Rattle.std.specs.List.{flat_map, filter_map, zip, enumerate_from};
 ghost use Rattle.wap_layout.specs.declared.flow.Flow.TheVariants as flows;
-ghost use Rattle.wap_markup.specs.Trees.{words_of};
+ghost use Rattle.wap_tokens.specs.markup.Trees.{words_of};
 ghost use Rattle.wap_vars.specs.Filling.{filled};
 ghost use Rattle.wap_cardrules.specs.Flow.{option_mark, option_flow, select_flow};
 

@@ -1,14 +1,14 @@
 //! The options of a select (WAP-191, section 11.6.2).
 ghost use Rattle.std.specs.Prelude.{◌≡◌, ◌∷◌, [], ◌++◌, filter, IfOk, OnOk};
-ghost use Rattle.wap_markup.specs.Good.{nodes_in};
-ghost use Rattle.wap_markup.specs.Tables.{is_same_tag};
+ghost use Rattle.wap_tokens.specs.markup.Good.{nodes_in};
+ghost use Rattle.wap_tokens.specs.markup.Tables.{is_same_tag};
 ghost use Rattle.wap_cardrules.specs.Selects.{options_of, values_of};
 
 use crate::fill_value;
 use std::alloc::Global;
 use wap_base::{NoMemory, Rows, Text};
 use wap_deck::good::{AttrName, Child, Tag, View};
-use wap_markup::LEVEL_LIMIT;
+use wap_tokens::markup::LEVEL_LIMIT;
 use wap_vars::Vars;
 
 /// Appends an option.

@@ -2,7 +2,9 @@
 use crate::{CaseFault, number, split_by};
 use std::alloc::Global;
 use wap_base::{Bytes, NoMemory};
-use wap_markup::{ATTR_NAMES, ATTR_STARTS, AttrName, END, EXT_I_0, EXT_I_1, EXT_I_2, STR_I, TAGS};
+use wap_tokens::markup::{
+    ATTR_NAMES, ATTR_STARTS, AttrName, END, EXT_I_0, EXT_I_1, EXT_I_2, STR_I, TAGS,
+};
 
 /// What a document begins with: WBXML 1.3, WML 1.3, UTF-8, no string table, and the root.
 static HEAD: &[u8] = b"\x03\x0a\x6a\x00\xff\x01";

@@ -13,7 +13,7 @@ use Rattle.wap_base.specs.Contents.{Contents}
 use Rattle.wap_base.specs.Texts.{is_same_text}
 use Rattle.wap_input.specs.declared.key.Key.{Key}
 use Rattle.wap_input.specs.declared.key.Key.TheVariants.{Open}
-use Rattle.wap_markup.specs.declared.deck.Deck.{Deck}
+use Rattle.wap_tokens.specs.declared.markup.deck.Deck.{Deck}
 use Rattle.wap_push.specs.Pushes.{push_at}
 use Rattle.wap_url.specs.Printing.{name_for}
 use Rattle.wap_image.specs.declared.context_parts.parts.ContextParts.{ContextParts}

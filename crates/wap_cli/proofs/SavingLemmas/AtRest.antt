@@ -14,8 +14,8 @@ use Rattle.wap_input.specs.declared.key.Key.TheVariants as key
 use Rattle.wap_url.specs.declared.url.Url.{Url}
 use Rattle.wap_url.specs.Printing.{name_for, without_fragment}
 use Rattle.wap_value.specs.declared.value.Value.{Value}
-use Rattle.wap_markup.specs.declared.deck.Deck.{Deck}
-use Rattle.wap_markup.specs.declared.deck.Node.{Node}
+use Rattle.wap_tokens.specs.declared.markup.deck.Deck.{Deck}
+use Rattle.wap_tokens.specs.declared.markup.deck.Node.{Node}
 use Rattle.wap_execution.specs.declared.fatal.Fatal.TheVariants as fatal
 use Rattle.wap_cardrules.specs.declared.answers.Entered.{Entered}
 use Rattle.wap_cardrules.specs.declared.answers.Entered.TheVariants as entered

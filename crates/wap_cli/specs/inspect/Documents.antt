@@ -1,11 +1,11 @@
 -- What the commands on a document write. This project's own.
 use Rattle.std.specs.Prelude.{◌≡◌, ℕ, List, length, ◌++◌, codes, decimal}
-use Rattle.wap_markup.specs.declared.document.Document.{Document}
-use Rattle.wap_markup.specs.Documents.{IsDocument}
-use Rattle.wap_markup.specs.declared.deck.Deck.{Deck}
-use Rattle.wap_markup.specs.Decks.{deck_of}
-use Rattle.wap_markup.specs.Cards.{cards_of}
-use Rattle.wap_markup.specs.Good.{IsGood}
+use Rattle.wap_tokens.specs.declared.markup.document.Document.{Document}
+use Rattle.wap_tokens.specs.markup.Documents.{IsDocument}
+use Rattle.wap_tokens.specs.declared.markup.deck.Deck.{Deck}
+use Rattle.wap_tokens.specs.markup.Decks.{deck_of}
+use Rattle.wap_tokens.specs.markup.Cards.{cards_of}
+use Rattle.wap_tokens.specs.markup.Good.{IsGood}
 use Rattle.wap_wbxml.specs.spelling.Spelling.{spelling}
 
 -- the bytes are a document, and this is its one spelling

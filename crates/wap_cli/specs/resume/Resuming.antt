@@ -6,7 +6,7 @@ use Rattle.std.specs.Option.{option_and_then, option_map_or}
 use Rattle.wap_base.specs.Count.{raised, Rose}
 use Rattle.wap_base.specs.Contents.{Contents, page_named}
 use Rattle.wap_url.specs.Printing.{name_for}
-use Rattle.wap_markup.specs.declared.deck.Deck.{Deck}
+use Rattle.wap_tokens.specs.declared.markup.deck.Deck.{Deck}
 use Rattle.wap_image.specs.declared.context_parts.parts.ContextParts.{ContextParts}
 use Rattle.wap_image.specs.declared.context_parts.fault.ImageFault.{ImageFault}
 use Rattle.wap_image.specs.Images.{Saved, IsImage}

@@ -1,11 +1,11 @@
 //! Commands on a document.
 ghost use Rattle.std.specs.Prelude.{◌≡◌, ℕ, List, IfOk, OnOk, Ok, Err};
 ghost use Rattle.wap_base.specs.Outcome.{Meets};
-ghost use Rattle.wap_markup.specs.declared.document.Document.{Document};
-ghost use Rattle.wap_markup.specs.Documents.{IsDocument};
-ghost use Rattle.wap_markup.specs.Decks.{deck_of};
-ghost use Rattle.wap_markup.specs.Good.{IsGood};
-ghost use Rattle.wap_markup.specs.Normal.{IsNormal};
+ghost use Rattle.wap_tokens.specs.declared.markup.document.Document.{Document};
+ghost use Rattle.wap_tokens.specs.markup.Documents.{IsDocument};
+ghost use Rattle.wap_tokens.specs.markup.Decks.{deck_of};
+ghost use Rattle.wap_tokens.specs.markup.Good.{IsGood};
+ghost use Rattle.wap_tokens.specs.markup.Normal.{IsNormal};
 ghost use Rattle.wap_cli.specs.inspect.Documents.{IsCanonical, deck_line, IsDeckOf, IsCheckLine};
 ghost use Rattle.wap_pages.specs.Refusals.{RefusesDocument, IsDeckRefused, RefusesCheck};
 ghost use Rattle.wap_pages.specs.declared.fault.PageErr.TheVariants as error;
@@ -15,8 +15,8 @@ use itoa::Buffer;
 use std::alloc::Global;
 use wap_base::{Bytes, NoMemory};
 use wap_deckcheck::{card_count, judge_deck};
-use wap_markup::Deck;
 use wap_pages::{PageErr, deck_in, document_in};
+use wap_tokens::markup::Deck;
 use wap_wbxml::spelling::{documents_are_spellable, encode};
 
 /// The one spelling of a page that is a document.

@@ -17,7 +17,7 @@ pub struct Prepared {
 }
 
 impl Model for Prepared {
-    ghost use Rattle.wap_markup.specs.contracts.deck.Item as item;
+    ghost use Rattle.wap_tokens.specs.contracts.markup.deck.Item as item;
     ghost use Rattle.std.specs.Coded.{codes};
     ghost use Rattle.wap_world.specs.site.Pages.{Pages};
     ghost use Rattle.wap_cli.specs.prepared.Prepared.{ArePrepared};

@@ -130,7 +130,7 @@ pub(crate) struct Playing<'a> {
 
 impl<'a> Model for Playing<'a> {
     ghost use Rattle.std.specs.Coded.{codes};
-    ghost use Rattle.wap_markup.specs.contracts.deck.Item as item;
+    ghost use Rattle.wap_tokens.specs.contracts.markup.deck.Item as item;
     ghost use Rattle.wap_base.specs.Limits.{AreInRange};
     ghost use Rattle.wap_cli.specs.browse.Beginning.{begun_with};
     ghost use Rattle.wap_cli.specs.replay.inside.Jobs.{Stage};

@@ -12,7 +12,7 @@ use Rattle.wap_base.specs.declared.fault.RunErr.{RunErr}
 use Rattle.wap_base.specs.declared.fault.RunErr.TheVariants.{Store, NoMemory}
 use Rattle.wap_url.specs.declared.url.Url.{Url}
 use Rattle.wap_url.specs.Printing.{name_for}
-use Rattle.wap_markup.specs.declared.deck.Deck.{Deck}
+use Rattle.wap_tokens.specs.declared.markup.deck.Deck.{Deck}
 use Rattle.wap_execution.specs.declared.library.HostOut.{HostOut}
 use Rattle.wap_execution.specs.declared.library.HostOut.TheVariants as out
 use Rattle.wap_value.specs.declared.value.Value.TheVariants.{Invalid}

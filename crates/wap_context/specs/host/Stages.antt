@@ -3,7 +3,7 @@
 use Rattle.std.specs.Prelude.{ℕ, List, Option, min}
 use Rattle.std.specs.Option.{option_map}
 use Rattle.wap_base.specs.Count.{greatest_count}
-use Rattle.wap_markup.specs.declared.deck.Deck.{Deck}
+use Rattle.wap_tokens.specs.declared.markup.deck.Deck.{Deck}
 use Rattle.wap_world.specs.site.Asking.{Seen}
 use Rattle.wap_world.specs.World.{World}
 use Rattle.wap_world.specs.scripting.UnitSites.{unit_pages}

@@ -29,7 +29,7 @@ pub struct Running {
 
 impl Model for Running {
     ghost use Rattle.wap_context.specs.host.Stages.{Stage};
-    ghost use Rattle.wap_markup.specs.contracts.deck.Item as item;
+    ghost use Rattle.wap_tokens.specs.contracts.markup.deck.Item as item;
     ghost use Rattle.std.specs.Coded.{codes};
 
     ghost Value = { Stage };

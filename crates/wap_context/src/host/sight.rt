@@ -31,7 +31,7 @@ impl Model for Sight {
     ghost use Rattle.wap_world.specs.World.{last_entry};
     ghost use Rattle.wap_state.specs.Standing.{StandsIn};
     ghost use Rattle.wap_context.specs.host.Stages.{Sight as Shown};
-    ghost use Rattle.wap_markup.specs.contracts.deck.Item as item;
+    ghost use Rattle.wap_tokens.specs.contracts.markup.deck.Item as item;
     ghost use Rattle.std.specs.Coded.{codes};
 
     ghost Value = { Shown };

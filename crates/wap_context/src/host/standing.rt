@@ -18,7 +18,7 @@ pub(crate) struct Standing<'a> {
 
 impl<'a> Model for Standing<'a> {
     ghost use Rattle.wap_world.specs.World.{Place};
-    ghost use Rattle.wap_markup.specs.contracts.deck.Item as item;
+    ghost use Rattle.wap_tokens.specs.contracts.markup.deck.Item as item;
     ghost use Rattle.std.specs.Coded.{codes};
 
     ghost Value = { Place };

@@ -1,10 +1,10 @@
 -- Items, opened.
 use Rattle.std.proofs.Common.{◌≡◌, List, Some, None, ap}
 use Rattle.wap_base.specs.declared.name.Part.{Part}
-use Rattle.wap_markup.specs.declared.deck.Node.{Node}
-use Rattle.wap_markup.specs.declared.deck.Item.TheVariants.{Text, outs-Text, outs-Node}
-use Rattle.wap_markup.specs.declared.deck.Item.TheVariants as item
-use Rattle.wap_markup.specs.Trees.{words_from, words_of}
+use Rattle.wap_tokens.specs.declared.markup.deck.Node.{Node}
+use Rattle.wap_tokens.specs.declared.markup.deck.Item.TheVariants.{Text, outs-Text, outs-Node}
+use Rattle.wap_tokens.specs.declared.markup.deck.Item.TheVariants as item
+use Rattle.wap_tokens.specs.markup.Trees.{words_from, words_of}
 
 pub words_of-Text : (parts : List Part) → words_of (item.Text parts) ≡ Some parts
 words_of-Text parts = ap words_from (outs-Text parts)

@@ -6,14 +6,15 @@ use Rattle.std.proofs.lemmas.List.{append-nil}
 use Rattle.std.proofs.lemmas.List.Elements.{filter_map-append}
 use Rattle.wap_base.specs.declared.name.Part.{Part}
 use Rattle.wap_base.specs.declared.name.Part.TheVariants.{Lit, Var}
-use Rattle.wap_markup.specs.declared.document.Piece.{Piece}
-use Rattle.wap_markup.specs.declared.deck.Node.{Node}
-use Rattle.wap_markup.specs.declared.deck.Item.{Item}
-use Rattle.wap_markup.specs.declared.deck.Item.TheVariants as item
-use Rattle.wap_markup.specs.Trees.{words_of}
+use Rattle.wap_tokens.specs.declared.markup.document.Piece.{Piece}
+use Rattle.wap_tokens.specs.declared.markup.deck.Node.{Node}
+use Rattle.wap_tokens.specs.declared.markup.deck.Item.{Item}
+use Rattle.wap_tokens.specs.declared.markup.deck.Item.TheVariants as item
+use Rattle.wap_tokens.specs.markup.Trees.{words_of}
 use Rattle.wap_deck.proofs.DocumentsLemmas.Items.{words_of-Text, words_of-Node}
-use Rattle.wap_markup.specs.Decks.{literal, piece_part, value_after, before, joined, Mark, part}
-use Rattle.wap_markup.specs.Decks.{node, text_before, part_before, mark_before, items_of}
+use Rattle.wap_tokens.specs.markup.Decks.{literal, piece_part, value_after, before, joined, Mark}
+use Rattle.wap_tokens.specs.markup.Decks.{part}
+use Rattle.wap_tokens.specs.markup.Decks.{node, text_before, part_before, mark_before, items_of}
 use Rattle.wap_deck.specs.documents.inside.Adding.{part_added, any_added, after_last}
 use Rattle.wap_deck.specs.documents.inside.Adding.{part_after, mark_after, marks_after}
 

@@ -4,28 +4,31 @@ use Rattle.std.proofs.Common.{map, Option, Some, None, refl, sym, ap, ◌∙◌}
 use Rattle.std.specs.Prelude.{unwrap_or}
 use Rattle.std.specs.List.{filter_map, flat_map, cons_option, AllByRecursion}
 use Rattle.std.proofs.lemmas.Grind.{flat_map-append}
-use Rattle.wap_markup.specs.declared.document.TheConstants.{LEVEL_LIMIT}
+use Rattle.wap_tokens.specs.declared.markup.document.TheConstants.{LEVEL_LIMIT}
 use Rattle.wap_base.specs.declared.name.Part.{Part}
 use Rattle.wap_base.specs.declared.name.Part.TheVariants.{Lit, Var}
-use Rattle.wap_markup.specs.declared.document.Element.{Element}
-use Rattle.wap_markup.specs.declared.document.Kid.{Kid}
-use Rattle.wap_markup.specs.declared.document.Kid.TheVariants.{outs-Element, outs-Str}
-use Rattle.wap_markup.specs.declared.document.Kid.TheVariants.{outs-Entity, outs-Var}
-use Rattle.wap_markup.specs.declared.deck.Deck.{Deck}
-use Rattle.wap_markup.specs.declared.deck.Node.{Node}
-use Rattle.wap_markup.specs.declared.deck.Item.{Item, out-Item}
-use Rattle.wap_markup.specs.declared.deck.Item.TheOpen.{Item-F}
-use Rattle.wap_markup.specs.declared.deck.Item.TheVariants as item
-use Rattle.wap_markup.specs.declared.name.Tag.{Tag}
-use Rattle.wap_markup.specs.declared.name.Tag.TheVariants as tags
-use Rattle.wap_markup.specs.declared.name.AttrName.{AttrName}
-use Rattle.wap_markup.specs.Trees.{ItemLevel, words_of}
-use Rattle.wap_markup.specs.Decks.{before, attribute, Mark, part, node, text_before, part_before}
-use Rattle.wap_markup.specs.Decks.{mark_before, items_of, part_marks, marks_from, kid_marks}
-use Rattle.wap_markup.specs.Decks.{kids_marks, element_from, element_marks, deck_of}
-use Rattle.wap_markup.specs.Normal.{IsPart, marks_in, marks_of, IsItem, IsContent, IsNode, IsNormal}
-use Rattle.wap_markup.specs.Writing.{runs_of, run_kid, part_kids, kids_from, item_kids, items_kids}
-use Rattle.wap_markup.specs.Writing.{element_of, node_kids, document_of, attr_of}
+use Rattle.wap_tokens.specs.declared.markup.document.Element.{Element}
+use Rattle.wap_tokens.specs.declared.markup.document.Kid.{Kid}
+use Rattle.wap_tokens.specs.declared.markup.document.Kid.TheVariants.{outs-Element, outs-Str}
+use Rattle.wap_tokens.specs.declared.markup.document.Kid.TheVariants.{outs-Entity, outs-Var}
+use Rattle.wap_tokens.specs.declared.markup.deck.Deck.{Deck}
+use Rattle.wap_tokens.specs.declared.markup.deck.Node.{Node}
+use Rattle.wap_tokens.specs.declared.markup.deck.Item.{Item, out-Item}
+use Rattle.wap_tokens.specs.declared.markup.deck.Item.TheOpen.{Item-F}
+use Rattle.wap_tokens.specs.declared.markup.deck.Item.TheVariants as item
+use Rattle.wap_tokens.specs.declared.markup.name.Tag.{Tag}
+use Rattle.wap_tokens.specs.declared.markup.name.Tag.TheVariants as tags
+use Rattle.wap_tokens.specs.declared.markup.name.AttrName.{AttrName}
+use Rattle.wap_tokens.specs.markup.Trees.{ItemLevel, words_of}
+use Rattle.wap_tokens.specs.markup.Decks.{before, attribute, Mark, part, node, text_before}
+use Rattle.wap_tokens.specs.markup.Decks.{part_before}
+use Rattle.wap_tokens.specs.markup.Decks.{mark_before, items_of, part_marks, marks_from, kid_marks}
+use Rattle.wap_tokens.specs.markup.Decks.{kids_marks, element_from, element_marks, deck_of}
+use Rattle.wap_tokens.specs.markup.Normal.{IsPart, marks_in, marks_of, IsItem, IsContent, IsNode}
+use Rattle.wap_tokens.specs.markup.Normal.{IsNormal}
+use Rattle.wap_tokens.specs.markup.Writing.{runs_of, run_kid, part_kids, kids_from, item_kids}
+use Rattle.wap_tokens.specs.markup.Writing.{items_kids}
+use Rattle.wap_tokens.specs.markup.Writing.{element_of, node_kids, document_of, attr_of}
 use Rattle.wap_tokens.proofs.TagTable as table
 use Rattle.wap_deck.proofs.DocumentsLemmas.Items.{words_of-Text}
 use Rattle.wap_deck.proofs.DocumentsLemmas.Strings.{run_part, put_by, Joins, put_runs, before-joins}

@@ -10,8 +10,8 @@ use Rattle.std.proofs.lemmas.Str.{encode_ascii}
 use Rattle.wap_base.proofs.Utf8Cuts.{AllHigh, high_bytes}
 use Rattle.wap_base.specs.declared.name.Part.{Part}
 use Rattle.wap_base.specs.declared.name.Part.TheVariants.{Lit, Var}
-use Rattle.wap_markup.specs.Decks.{literal, character, before}
-use Rattle.wap_markup.specs.Writing.{run_before, runs_of}
+use Rattle.wap_tokens.specs.markup.Decks.{literal, character, before}
+use Rattle.wap_tokens.specs.markup.Writing.{run_before, runs_of}
 use Rattle.wap_deck.specs.documents.inside.Adding.{has_zero, string_after, character_after}
 
 -- what a string of a text, or a U+0000, is read as

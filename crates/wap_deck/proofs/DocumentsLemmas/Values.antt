@@ -6,15 +6,15 @@ use Rattle.std.specs.Option.{option_map}
 use Rattle.std.proofs.lemmas.List.Elements.{filter_map-append}
 use Rattle.wap_base.specs.declared.name.Part.{Part}
 use Rattle.wap_base.specs.declared.name.Part.TheVariants.{Lit, Var}
-use Rattle.wap_markup.specs.declared.document.Piece.{Piece}
-use Rattle.wap_markup.specs.declared.document.Attr.{Attr}
-use Rattle.wap_markup.specs.declared.name.AttrName.{AttrName}
-use Rattle.wap_markup.specs.Tables.{Start, code_of_start}
-use Rattle.wap_markup.specs.Decks.{literal, before, joined, piece_part}
-use Rattle.wap_markup.specs.Decks.{value_after, attribute_from, attribute}
-use Rattle.wap_markup.specs.Normal.{IsPart, IsValue, IsAttribute}
-use Rattle.wap_markup.specs.Writing.{runs_of, run_piece, part_pieces, coded_attr}
-use Rattle.wap_markup.specs.Writing.{attr_without, whole_code, attr_with, attr_of}
+use Rattle.wap_tokens.specs.declared.markup.document.Piece.{Piece}
+use Rattle.wap_tokens.specs.declared.markup.document.Attr.{Attr}
+use Rattle.wap_tokens.specs.declared.markup.name.AttrName.{AttrName}
+use Rattle.wap_tokens.specs.markup.Tables.{Start, code_of_start}
+use Rattle.wap_tokens.specs.markup.Decks.{literal, before, joined, piece_part}
+use Rattle.wap_tokens.specs.markup.Decks.{value_after, attribute_from, attribute}
+use Rattle.wap_tokens.specs.markup.Normal.{IsPart, IsValue, IsAttribute}
+use Rattle.wap_tokens.specs.markup.Writing.{runs_of, run_piece, part_pieces, coded_attr}
+use Rattle.wap_tokens.specs.markup.Writing.{attr_without, whole_code, attr_with, attr_of}
 use Rattle.wap_tokens.proofs.AttributeTable as table
 use Rattle.wap_deck.proofs.DocumentsLemmas.Strings.{run_part, put_by, put_runs, before-joins}
 

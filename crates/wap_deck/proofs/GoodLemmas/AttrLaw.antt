@@ -12,21 +12,22 @@ use Rattle.wap_base.specs.Numbers.{IsMb, mb_spelling}
 use Rattle.wap_base.specs.Texts.{is_same_text}
 use Rattle.wap_base.specs.declared.name.Part.{Part}
 use Rattle.wap_base.proofs.NumberLaws.{mb_again}
-use Rattle.wap_markup.specs.declared.codes.TheConstants.{END, ENTITY, STR_I, LITERAL}
-use Rattle.wap_markup.specs.declared.codes.TheConstants.{EXT_I_0, EXT_I_1, EXT_I_2}
-use Rattle.wap_markup.specs.declared.document.Attr.{Attr}
-use Rattle.wap_markup.specs.declared.document.Piece.{Piece}
-use Rattle.wap_markup.specs.declared.document.Token.{Token}
-use Rattle.wap_markup.specs.declared.document.Token.TheVariants.{Code, Literal}
-use Rattle.wap_markup.specs.declared.name.AttrName.{AttrName}
-use Rattle.wap_markup.specs.declared.name.AttrName.TheVariants as names
-use Rattle.wap_markup.specs.Grammar.{table_size}
-use Rattle.wap_markup.specs.Strings.{string_from}
-use Rattle.wap_markup.specs.Tables.{Start, start_rows, name_rows, attr_start}
-use Rattle.wap_markup.specs.Tables.{attr_named, name_of_attr}
-use Rattle.wap_markup.specs.Decks.{value_after, start_of, attribute_from}
-use Rattle.wap_markup.specs.Normal.{IsAttribute}
-use Rattle.wap_markup.specs.Writing.{part_pieces, attr_without, whole_code, attr_with, attr_of}
+use Rattle.wap_tokens.specs.declared.markup.codes.TheConstants.{END, ENTITY, STR_I, LITERAL}
+use Rattle.wap_tokens.specs.declared.markup.codes.TheConstants.{EXT_I_0, EXT_I_1, EXT_I_2}
+use Rattle.wap_tokens.specs.declared.markup.document.Attr.{Attr}
+use Rattle.wap_tokens.specs.declared.markup.document.Piece.{Piece}
+use Rattle.wap_tokens.specs.declared.markup.document.Token.{Token}
+use Rattle.wap_tokens.specs.declared.markup.document.Token.TheVariants.{Code, Literal}
+use Rattle.wap_tokens.specs.declared.markup.name.AttrName.{AttrName}
+use Rattle.wap_tokens.specs.declared.markup.name.AttrName.TheVariants as names
+use Rattle.wap_tokens.specs.markup.Grammar.{table_size}
+use Rattle.wap_tokens.specs.markup.Strings.{string_from}
+use Rattle.wap_tokens.specs.markup.Tables.{Start, start_rows, name_rows, attr_start}
+use Rattle.wap_tokens.specs.markup.Tables.{attr_named, name_of_attr}
+use Rattle.wap_tokens.specs.markup.Decks.{value_after, start_of, attribute_from}
+use Rattle.wap_tokens.specs.markup.Normal.{IsAttribute}
+use Rattle.wap_tokens.specs.markup.Writing.{part_pieces, attr_without, whole_code, attr_with}
+use Rattle.wap_tokens.specs.markup.Writing.{attr_of}
 use Rattle.wap_tokens.proofs.AttributeTable.{name}
 use Rattle.wap_deck.proofs.DocumentsLemmas.Values.{attribute_read}
 use Rattle.wap_wbxml.specs.spelling.Names.{table_of, place_of}

@@ -6,15 +6,15 @@ use Rattle.std.specs.Prelude.{if◌then◌else◌, is_some, slice_get, find, IfO
 use Rattle.std.specs.List.{filter_map, cons_option, position_from}
 use Rattle.std.proofs.lemmas.Iterator.Adapters.{position_from-zero}
 use Rattle.wap_base.specs.declared.name.Part.{Part}
-use Rattle.wap_markup.specs.declared.document.TheConstants.{LEVEL_LIMIT}
-use Rattle.wap_markup.specs.declared.deck.Deck.{Deck}
-use Rattle.wap_markup.specs.declared.deck.Node.{Node}
-use Rattle.wap_markup.specs.declared.deck.Item.{Item}
-use Rattle.wap_markup.specs.declared.deck.Item.TheVariants as item
-use Rattle.wap_markup.specs.declared.name.Tag.{Tag}
-use Rattle.wap_markup.specs.Trees.{node_from, if_tagged, node_with, is_text}
-use Rattle.wap_markup.specs.Tables.{is_same_tag}
-use Rattle.wap_markup.specs.Cards.{cards_of, id_of, card_numbered}
+use Rattle.wap_tokens.specs.declared.markup.document.TheConstants.{LEVEL_LIMIT}
+use Rattle.wap_tokens.specs.declared.markup.deck.Deck.{Deck}
+use Rattle.wap_tokens.specs.declared.markup.deck.Node.{Node}
+use Rattle.wap_tokens.specs.declared.markup.deck.Item.{Item}
+use Rattle.wap_tokens.specs.declared.markup.deck.Item.TheVariants as item
+use Rattle.wap_tokens.specs.declared.markup.name.Tag.{Tag}
+use Rattle.wap_tokens.specs.markup.Trees.{node_from, if_tagged, node_with, is_text}
+use Rattle.wap_tokens.specs.markup.Tables.{is_same_tag}
+use Rattle.wap_tokens.specs.markup.Cards.{cards_of, id_of, card_numbered}
 use Rattle.wap_deck.specs.good.Readers.{◌>>=◌, all_of, Ends, IsBehind}
 use Rattle.wap_deck.specs.good.Texts.{part_at, value_at, behind_value}
 use Rattle.wap_deck.specs.good.inside.Nodes.{item_by, node_at, item_at, front_node, IsRead}

@@ -15,8 +15,8 @@ use Rattle.wap_base.specs.Texts.{is_same_text}
 use Rattle.wap_base.specs.declared.name.Conv.{Conv}
 use Rattle.wap_base.specs.declared.name.Part.{Part}
 use Rattle.wap_base.specs.declared.name.Part.TheVariants.{Lit, Var}
-use Rattle.wap_markup.specs.Decks.{before}
-use Rattle.wap_markup.specs.Trees.{plain_text, is_text}
+use Rattle.wap_tokens.specs.markup.Decks.{before}
+use Rattle.wap_tokens.specs.markup.Trees.{plain_text, is_text}
 use Rattle.wap_deck.specs.good.Runs.{is_utf8_of, TakesPart}
 
 -- ---- texts and their bytes

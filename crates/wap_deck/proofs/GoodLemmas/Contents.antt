@@ -4,13 +4,14 @@ use Rattle.std.proofs.Common.{◌≡◌, ◌+◌, ◌<◌, ◌≤◌, List, [], 
 use Rattle.std.proofs.Common.{Option, Some, None, refl, sym, ap, ◌∙◌, arith}
 use Rattle.wap_base.specs.declared.name.Part.{Part}
 use Rattle.wap_base.specs.declared.name.Part.TheVariants.{Lit, Var}
-use Rattle.wap_markup.specs.declared.deck.Item.{Item, out-Item}
-use Rattle.wap_markup.specs.declared.deck.Item.TheOpen.{Item-F}
-use Rattle.wap_markup.specs.declared.deck.Item.TheVariants.{outs-Text}
-use Rattle.wap_markup.specs.declared.deck.Item.TheVariants as item
-use Rattle.wap_markup.specs.Trees.{ItemLevel, words_of, words_from}
-use Rattle.wap_markup.specs.Decks.{before, joined, Mark, part, text_before, part_before, items_of}
-use Rattle.wap_markup.specs.Normal.{marks_in, marks_of}
+use Rattle.wap_tokens.specs.declared.markup.deck.Item.{Item, out-Item}
+use Rattle.wap_tokens.specs.declared.markup.deck.Item.TheOpen.{Item-F}
+use Rattle.wap_tokens.specs.declared.markup.deck.Item.TheVariants.{outs-Text}
+use Rattle.wap_tokens.specs.declared.markup.deck.Item.TheVariants as item
+use Rattle.wap_tokens.specs.markup.Trees.{ItemLevel, words_of, words_from}
+use Rattle.wap_tokens.specs.markup.Decks.{before, joined, Mark, part, text_before, part_before}
+use Rattle.wap_tokens.specs.markup.Decks.{items_of}
+use Rattle.wap_tokens.specs.markup.Normal.{marks_in, marks_of}
 
 -- ---- a part before items joins the text that they begin with
 

@@ -7,16 +7,16 @@ use Rattle.wap_base.specs.Numbers.{mb_at, mb_spelling}
 use Rattle.wap_base.specs.declared.number.ReadFault.{ReadFault}
 use Rattle.wap_base.proofs.NumberLaws.{mb_again}
 use Rattle.wap_base.proofs.NumberSpelling.{IsShortest-mb_spelling}
-use Rattle.wap_markup.specs.declared.document.TheConstants.{LEVEL_LIMIT}
-use Rattle.wap_markup.specs.declared.document.Document.{Document}
-use Rattle.wap_markup.specs.declared.deck.Deck.{Deck}
-use Rattle.wap_markup.specs.declared.deck.Node.{Node}
-use Rattle.wap_markup.specs.declared.name.Tag.TheVariants as tags
-use Rattle.wap_markup.specs.Documents.{IsDocument}
-use Rattle.wap_markup.specs.Grammar.{table_size}
-use Rattle.wap_markup.specs.Good.{IsGood}
-use Rattle.wap_markup.specs.Normal.{IsNormal}
-use Rattle.wap_markup.specs.Writing.{items_kids, node_kids, element_of, document_of}
+use Rattle.wap_tokens.specs.declared.markup.document.TheConstants.{LEVEL_LIMIT}
+use Rattle.wap_tokens.specs.declared.markup.document.Document.{Document}
+use Rattle.wap_tokens.specs.declared.markup.deck.Deck.{Deck}
+use Rattle.wap_tokens.specs.declared.markup.deck.Node.{Node}
+use Rattle.wap_tokens.specs.declared.markup.name.Tag.TheVariants as tags
+use Rattle.wap_tokens.specs.markup.Documents.{IsDocument}
+use Rattle.wap_tokens.specs.markup.Grammar.{table_size}
+use Rattle.wap_tokens.specs.markup.Good.{IsGood}
+use Rattle.wap_tokens.specs.markup.Normal.{IsNormal}
+use Rattle.wap_tokens.specs.markup.Writing.{items_kids, node_kids, element_of, document_of}
 use Rattle.wap_wbxml.specs.spelling.Names.{table_of, with_element, names_of}
 use Rattle.wap_wbxml.specs.spelling.Spelling.{header_spelling, root_spelling, spelling}
 use Rattle.wap_wbxml.specs.spelling.Spelling.{element_spelling, first_pages}

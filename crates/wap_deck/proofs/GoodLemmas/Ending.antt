@@ -5,7 +5,7 @@ use Rattle.std.proofs.Common.{◌++◌, length, take, drop, Option, Some, None, 
 use Rattle.std.proofs.Common.{sym, ap, subst, ◌∙◌, append_assoc, eq-eqb, arith}
 use Rattle.wap_base.specs.Numbers.{mb_at}
 use Rattle.wap_base.specs.declared.number.ReadFault.{ReadFault}
-use Rattle.wap_markup.specs.Strings.{string_from}
+use Rattle.wap_tokens.specs.markup.Strings.{string_from}
 use Rattle.std.specs.Prelude.{is_some, if◌then◌else◌, ◌==◌, ◌%◌}
 use Rattle.std.proofs.lemmas.Bool.{eqb-true}
 use Rattle.std.proofs.lemmas.List.{append-nil, length-append, drop_at}
@@ -13,14 +13,15 @@ use Rattle.wap_base.specs.declared.name.Conv.{Conv}
 use Rattle.wap_base.specs.declared.name.Conv.TheVariants.{Escape, Unescape, Plain}
 use Rattle.wap_base.specs.declared.name.Part.{Part}
 use Rattle.wap_base.specs.declared.name.Part.TheVariants.{Lit}
-use Rattle.wap_markup.specs.declared.codes.TheConstants.{END, LITERAL, ENTITY, STR_I}
-use Rattle.wap_markup.specs.declared.codes.TheConstants.{EXT_I_0, EXT_I_1, EXT_I_2}
-use Rattle.wap_markup.specs.declared.deck.Node.{Node}
-use Rattle.wap_markup.specs.declared.deck.Item.{Item}
-use Rattle.wap_markup.specs.declared.deck.Item.TheVariants as item
-use Rattle.wap_markup.specs.declared.name.AttrName.{AttrName}
-use Rattle.wap_markup.specs.Codes.{has_attributes, has_content}
-use Rattle.wap_markup.specs.Tables.{Start, tag_of, attr_start, attr_named, tag_rows, start_rows}
+use Rattle.wap_tokens.specs.declared.markup.codes.TheConstants.{END, LITERAL, ENTITY, STR_I}
+use Rattle.wap_tokens.specs.declared.markup.codes.TheConstants.{EXT_I_0, EXT_I_1, EXT_I_2}
+use Rattle.wap_tokens.specs.declared.markup.deck.Node.{Node}
+use Rattle.wap_tokens.specs.declared.markup.deck.Item.{Item}
+use Rattle.wap_tokens.specs.declared.markup.deck.Item.TheVariants as item
+use Rattle.wap_tokens.specs.declared.markup.name.AttrName.{AttrName}
+use Rattle.wap_tokens.specs.markup.Codes.{has_attributes, has_content}
+use Rattle.wap_tokens.specs.markup.Tables.{Start, tag_of, attr_start, attr_named, tag_rows}
+use Rattle.wap_tokens.specs.markup.Tables.{start_rows}
 use Rattle.wap_deck.specs.good.Readers.{Reader, ◌>>=◌, first_at, after, number_from, number_at}
 use Rattle.wap_deck.specs.good.Readers.{ended_at}
 use Rattle.wap_deck.specs.good.Readers.{behind_zero, zero_place, IsBehind, run_step, run_at, all_of}

@@ -3,16 +3,16 @@ use Rattle.std.proofs.Common.{◌≡◌, ◌≢◌, ℕ, zero, suc, ◌-◌, Lis
 use Rattle.std.specs.List.{AllByRecursion}
 use Rattle.wap_base.specs.declared.name.Part.{Part}
 use Rattle.wap_base.specs.declared.name.Part.TheVariants.{Lit, Var}
-use Rattle.wap_markup.specs.declared.document.TheConstants.{LEVEL_LIMIT}
-use Rattle.wap_markup.specs.declared.deck.Deck.{Deck}
-use Rattle.wap_markup.specs.declared.deck.Node.{Node}
-use Rattle.wap_markup.specs.declared.deck.Item.{Item, out-Item}
-use Rattle.wap_markup.specs.declared.deck.Item.TheOpen.{Item-F}
-use Rattle.wap_markup.specs.declared.name.Tag.TheVariants as tags
-use Rattle.wap_markup.specs.declared.name.AttrName.{AttrName}
-use Rattle.wap_markup.specs.Trees.{ItemLevel}
-use Rattle.wap_markup.specs.Normal.{IsPart, IsAttribute, IsItem, IsNode, IsNormal}
-use Rattle.wap_markup.specs.Writing.{document_of}
+use Rattle.wap_tokens.specs.declared.markup.document.TheConstants.{LEVEL_LIMIT}
+use Rattle.wap_tokens.specs.declared.markup.deck.Deck.{Deck}
+use Rattle.wap_tokens.specs.declared.markup.deck.Node.{Node}
+use Rattle.wap_tokens.specs.declared.markup.deck.Item.{Item, out-Item}
+use Rattle.wap_tokens.specs.declared.markup.deck.Item.TheOpen.{Item-F}
+use Rattle.wap_tokens.specs.declared.markup.name.Tag.TheVariants as tags
+use Rattle.wap_tokens.specs.declared.markup.name.AttrName.{AttrName}
+use Rattle.wap_tokens.specs.markup.Trees.{ItemLevel}
+use Rattle.wap_tokens.specs.markup.Normal.{IsPart, IsAttribute, IsItem, IsNode, IsNormal}
+use Rattle.wap_tokens.specs.markup.Writing.{document_of}
 use Rattle.wap_wbxml.specs.spelling.Spellable.{HasTexts}
 use Rattle.wap_deck.proofs.WritingLemmas.DeckTexts.{TextPart, TextAttribute, TextItem, TextOpened}
 use Rattle.wap_deck.proofs.WritingLemmas.DeckTexts.{TextNode}

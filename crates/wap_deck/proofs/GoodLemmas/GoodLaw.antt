@@ -3,20 +3,20 @@ use Rattle.std.proofs.Common.{◌≡◌, ◌≢◌, ℕ, zero, suc, ◌^◌, ◌
 use Rattle.std.proofs.Common.{◌∷◌, ◌++◌, map, refl, subst}
 use Rattle.std.specs.List.{fold, AllByRecursion}
 use Rattle.wap_base.specs.declared.name.Part.{Part}
-use Rattle.wap_markup.specs.declared.document.Kid.{Kid}
-use Rattle.wap_markup.specs.declared.document.Kid.TheVariants as kid
-use Rattle.wap_markup.specs.declared.document.Token.{Token}
-use Rattle.wap_markup.specs.declared.document.Token.TheVariants.{Code, Literal}
-use Rattle.wap_markup.specs.declared.deck.Node.{Node}
-use Rattle.wap_markup.specs.declared.deck.Item.{Item, out-Item}
-use Rattle.wap_markup.specs.declared.deck.Item.TheOpen.{Item-F}
-use Rattle.wap_markup.specs.declared.name.Tag.TheVariants as tags
-use Rattle.wap_markup.specs.declared.name.AttrName.{AttrName}
-use Rattle.wap_markup.specs.Grammar.{with_name, table_size}
-use Rattle.wap_markup.specs.Trees.{ItemLevel}
-use Rattle.wap_markup.specs.Normal.{IsAttribute, IsItem, IsContent, IsNode}
-use Rattle.wap_markup.specs.Writing.{attr_of, kids_from, item_kids}
-use Rattle.wap_markup.specs.Writing.{items_kids, node_kids, element_of}
+use Rattle.wap_tokens.specs.declared.markup.document.Kid.{Kid}
+use Rattle.wap_tokens.specs.declared.markup.document.Kid.TheVariants as kid
+use Rattle.wap_tokens.specs.declared.markup.document.Token.{Token}
+use Rattle.wap_tokens.specs.declared.markup.document.Token.TheVariants.{Code, Literal}
+use Rattle.wap_tokens.specs.declared.markup.deck.Node.{Node}
+use Rattle.wap_tokens.specs.declared.markup.deck.Item.{Item, out-Item}
+use Rattle.wap_tokens.specs.declared.markup.deck.Item.TheOpen.{Item-F}
+use Rattle.wap_tokens.specs.declared.markup.name.Tag.TheVariants as tags
+use Rattle.wap_tokens.specs.declared.markup.name.AttrName.{AttrName}
+use Rattle.wap_tokens.specs.markup.Grammar.{with_name, table_size}
+use Rattle.wap_tokens.specs.markup.Trees.{ItemLevel}
+use Rattle.wap_tokens.specs.markup.Normal.{IsAttribute, IsItem, IsContent, IsNode}
+use Rattle.wap_tokens.specs.markup.Writing.{attr_of, kids_from, item_kids}
+use Rattle.wap_tokens.specs.markup.Writing.{items_kids, node_kids, element_of}
 use Rattle.wap_wbxml.specs.spelling.Names.{KidLevel, with_token, with_attr}
 use Rattle.wap_wbxml.specs.spelling.Names.{with_opened, with_kid, with_element}
 use Rattle.wap_deck.specs.good.Characters.{OfAttr, OfItem, OfOpened, OfNode}

@@ -8,10 +8,10 @@ use Rattle.std.proofs.Math.Nat.{eq_of_mul-eq-mul_right, zero-mul}
 use Rattle.std.proofs.lemmas.Nat.{pow_pos}
 use Rattle.std.proofs.lemmas.Nat.Bits.{bit_at_or, bit_at-pow_same, bit_at_ones, and_pow}
 use Rattle.wap_base.specs.declared.name.Part.{Part}
-use Rattle.wap_markup.specs.declared.codes.TheConstants.{LITERAL}
-use Rattle.wap_markup.specs.declared.name.AttrName.{AttrName}
-use Rattle.wap_markup.specs.Codes.{has_attributes, has_content}
-use Rattle.wap_markup.specs.Tables.{Start, attr_start, is_same_attr}
+use Rattle.wap_tokens.specs.declared.markup.codes.TheConstants.{LITERAL}
+use Rattle.wap_tokens.specs.declared.markup.name.AttrName.{AttrName}
+use Rattle.wap_tokens.specs.markup.Codes.{has_attributes, has_content}
+use Rattle.wap_tokens.specs.markup.Tables.{Start, attr_start, is_same_attr}
 use Rattle.wap_deck.specs.good.Readers.{◌>>=◌, first_at, is_end, all_of, Ends}
 use Rattle.wap_deck.specs.good.inside.Nodes.{named_at, start_at, attr_at, attrs_begin}
 use Rattle.wap_deck.specs.good.inside.Starts.{value_in}

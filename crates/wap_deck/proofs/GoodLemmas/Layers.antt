@@ -3,18 +3,18 @@ use Rattle.std.proofs.Common.{◌≡◌, ℕ, zero, suc, ◌-◌, ◌<◌, Bool,
 use Rattle.std.proofs.Common.{[], ◌∷◌, ◌++◌, refl, ap, subst, ◌∙◌, arith}
 use Rattle.std.specs.List.{filter_map, flat_map, cons_option, list_any}
 use Rattle.std.proofs.lemmas.List.Folds.{list_any-append}
-use Rattle.wap_markup.specs.Trees.{node_from, node_of}
-use Rattle.wap_markup.specs.Good.{nodes_in}
+use Rattle.wap_tokens.specs.markup.Trees.{node_from, node_of}
+use Rattle.wap_tokens.specs.markup.Good.{nodes_in}
 use Rattle.wap_base.specs.declared.name.Part.TheVariants.{Lit, Var}
-use Rattle.wap_markup.specs.Decks.{before}
+use Rattle.wap_tokens.specs.markup.Decks.{before}
 use Rattle.wap_deck.specs.good.Runs.{part_of, is_reference, IsFirstBit}
 use Rattle.wap_deck.specs.declared.good.bits.Bit.{Bit}
 use Rattle.wap_base.specs.declared.name.Part.{Part}
-use Rattle.wap_markup.specs.declared.deck.Node.{Node}
-use Rattle.wap_markup.specs.declared.deck.Item.{Item, out-Item}
-use Rattle.wap_markup.specs.declared.deck.Item.TheOpen.{Item-F}
-use Rattle.wap_markup.specs.declared.deck.Item.TheVariants.{outs-Text, outs-Node}
-use Rattle.wap_markup.specs.declared.deck.Item.TheVariants as item
+use Rattle.wap_tokens.specs.declared.markup.deck.Node.{Node}
+use Rattle.wap_tokens.specs.declared.markup.deck.Item.{Item, out-Item}
+use Rattle.wap_tokens.specs.declared.markup.deck.Item.TheOpen.{Item-F}
+use Rattle.wap_tokens.specs.declared.markup.deck.Item.TheVariants.{outs-Text, outs-Node}
+use Rattle.wap_tokens.specs.declared.markup.deck.Item.TheVariants as item
 
 pub out_text : (parts : List Part) → out-Item (item.Text parts) ≡ Item-F.Text parts
 out_text parts = outs-Text parts

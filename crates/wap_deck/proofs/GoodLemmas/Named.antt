@@ -7,7 +7,7 @@ use Rattle.std.specs.Str.{bytes_eq}
 use Rattle.std.specs.Cmp.Lexicographic.{bytes_decides}
 use Rattle.std.proofs.lemmas.Slice.Eq.{bytes_eq-Decides}
 use Rattle.wap_base.specs.Texts.{is_same_text}
-use Rattle.wap_markup.specs.Tables.{name_rows, attr_by_name, attr_named}
+use Rattle.wap_tokens.specs.markup.Tables.{name_rows, attr_by_name, attr_named}
 use Rattle.wap_tokens.proofs.Found.{lookup_alike}
 
 abbrev any_name : List ℕ → Bool

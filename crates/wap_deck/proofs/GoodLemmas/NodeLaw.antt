@@ -7,22 +7,22 @@ use Rattle.std.specs.List.{flat_map, AllByRecursion}
 use Rattle.std.proofs.lemmas.Bool.{and_parts}
 use Rattle.std.proofs.lemmas.Bool.Decides.{nat_tests, Decides-ltb}
 use Rattle.wap_base.specs.declared.name.Part.{Part}
-use Rattle.wap_markup.specs.declared.codes.TheConstants.{END, LITERAL}
-use Rattle.wap_markup.specs.declared.deck.Node.{Node}
-use Rattle.wap_markup.specs.declared.deck.Item.{Item, out-Item, roll-Item, roll-out-Item}
-use Rattle.wap_markup.specs.declared.deck.Item.TheOpen.{Item-F}
-use Rattle.wap_markup.specs.declared.deck.Item.TheVariants.{rolls-Text, rolls-Node}
-use Rattle.wap_markup.specs.declared.deck.Item.TheVariants as item
-use Rattle.wap_markup.specs.declared.name.Tag.{Tag}
-use Rattle.wap_markup.specs.declared.name.Tag.TheVariants as tags
-use Rattle.wap_markup.specs.declared.name.AttrName.{AttrName}
-use Rattle.wap_markup.specs.Codes.{has_attributes, has_content}
-use Rattle.wap_markup.specs.Grammar.{table_size}
-use Rattle.wap_markup.specs.Tables.{tag_rows, tag_of, code_of}
-use Rattle.wap_markup.specs.Trees.{ItemLevel}
-use Rattle.wap_markup.specs.Decks.{joined}
-use Rattle.wap_markup.specs.Normal.{IsValue}
-use Rattle.wap_markup.specs.Writing.{part_pieces}
+use Rattle.wap_tokens.specs.declared.markup.codes.TheConstants.{END, LITERAL}
+use Rattle.wap_tokens.specs.declared.markup.deck.Node.{Node}
+use Rattle.wap_tokens.specs.declared.markup.deck.Item.{Item, out-Item, roll-Item, roll-out-Item}
+use Rattle.wap_tokens.specs.declared.markup.deck.Item.TheOpen.{Item-F}
+use Rattle.wap_tokens.specs.declared.markup.deck.Item.TheVariants.{rolls-Text, rolls-Node}
+use Rattle.wap_tokens.specs.declared.markup.deck.Item.TheVariants as item
+use Rattle.wap_tokens.specs.declared.markup.name.Tag.{Tag}
+use Rattle.wap_tokens.specs.declared.markup.name.Tag.TheVariants as tags
+use Rattle.wap_tokens.specs.declared.markup.name.AttrName.{AttrName}
+use Rattle.wap_tokens.specs.markup.Codes.{has_attributes, has_content}
+use Rattle.wap_tokens.specs.markup.Grammar.{table_size}
+use Rattle.wap_tokens.specs.markup.Tables.{tag_rows, tag_of, code_of}
+use Rattle.wap_tokens.specs.markup.Trees.{ItemLevel}
+use Rattle.wap_tokens.specs.markup.Decks.{joined}
+use Rattle.wap_tokens.specs.markup.Normal.{IsValue}
+use Rattle.wap_tokens.specs.markup.Writing.{part_pieces}
 use Rattle.wap_tokens.proofs.TagTable.{coded}
 use Rattle.wap_deck.proofs.DocumentsLemmas.Values as values
 use Rattle.wap_wbxml.specs.spelling.Names.{table_of}

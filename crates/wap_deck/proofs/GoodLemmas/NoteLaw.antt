@@ -6,10 +6,10 @@ use Rattle.std.proofs.Common.{subst, ◌∙◌, arith}
 use Rattle.std.specs.List.{insert}
 use Rattle.std.proofs.lemmas.List.{drop-drop}
 use Rattle.std.proofs.lemmas.Bool.Decides.{nat_tests}
-use Rattle.wap_markup.specs.declared.codes.TheConstants.{END, ENTITY, STR_I}
-use Rattle.wap_markup.specs.declared.codes.TheConstants.{EXT_I_0, EXT_I_1, EXT_I_2}
-use Rattle.wap_markup.specs.declared.name.Tag.{Tag}
-use Rattle.wap_markup.specs.Tables.{tag_of, tag_rows}
+use Rattle.wap_tokens.specs.declared.markup.codes.TheConstants.{END, ENTITY, STR_I}
+use Rattle.wap_tokens.specs.declared.markup.codes.TheConstants.{EXT_I_0, EXT_I_1, EXT_I_2}
+use Rattle.wap_tokens.specs.declared.markup.name.Tag.{Tag}
+use Rattle.wap_tokens.specs.markup.Tables.{tag_of, tag_rows}
 use Rattle.wap_deck.specs.declared.good.notes.Note.{Note}
 use Rattle.wap_deck.specs.good.Readers.{IsBehind, first_at, is_end}
 use Rattle.wap_deck.specs.good.Texts.{part_at}

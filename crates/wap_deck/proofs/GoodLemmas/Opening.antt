@@ -3,13 +3,13 @@ use Rattle.std.proofs.Common.{◌≡◌, ℕ, zero, suc, ◌-◌, Bool, true, fa
 use Rattle.std.proofs.Common.{Option, Some, None, refl, sym, ap, subst, ◌∙◌, arith}
 use Rattle.std.specs.Prelude.{if◌then◌else◌, ◌%◌}
 use Rattle.wap_base.specs.declared.name.Part.{Part}
-use Rattle.wap_markup.specs.declared.codes.TheConstants.{END}
-use Rattle.wap_markup.specs.declared.deck.Node.{Node}
-use Rattle.wap_markup.specs.declared.deck.Item.{Item}
-use Rattle.wap_markup.specs.declared.name.Tag.{Tag}
-use Rattle.wap_markup.specs.declared.name.AttrName.{AttrName}
-use Rattle.wap_markup.specs.Codes.{has_attributes, has_content}
-use Rattle.wap_markup.specs.Tables.{tag_of}
+use Rattle.wap_tokens.specs.declared.markup.codes.TheConstants.{END}
+use Rattle.wap_tokens.specs.declared.markup.deck.Node.{Node}
+use Rattle.wap_tokens.specs.declared.markup.deck.Item.{Item}
+use Rattle.wap_tokens.specs.declared.markup.name.Tag.{Tag}
+use Rattle.wap_tokens.specs.declared.markup.name.AttrName.{AttrName}
+use Rattle.wap_tokens.specs.markup.Codes.{has_attributes, has_content}
+use Rattle.wap_tokens.specs.markup.Tables.{tag_of}
 use Rattle.wap_deck.specs.good.Readers.{Reader, ◌>>=◌, rest_of, first_at}
 use Rattle.wap_deck.specs.good.Readers.{after, all_of, closed, closed_if}
 use Rattle.wap_deck.specs.good.inside.Nodes.{attr_at, node, node_by, node_at, item_at, node_or}

@@ -13,13 +13,13 @@ use Rattle.wap_base.specs.declared.name.Conv.{Conv}
 use Rattle.wap_base.specs.declared.name.Conv.TheVariants.{Escape, Unescape, Plain}
 use Rattle.wap_base.specs.declared.name.Part.{Part}
 use Rattle.wap_base.specs.declared.name.Part.TheVariants.{Lit, Var}
-use Rattle.wap_markup.specs.declared.codes.TheConstants.{STR_I}
-use Rattle.wap_markup.specs.declared.document.Piece.{Piece}
-use Rattle.wap_markup.specs.declared.document.Piece.TheVariants as piece
-use Rattle.wap_markup.specs.Strings.{is_not_zero}
-use Rattle.wap_markup.specs.Decks.{literal, joined, piece_part, value_after}
-use Rattle.wap_markup.specs.Normal.{IsPart}
-use Rattle.wap_markup.specs.Writing.{run_before, runs_of, run_piece, part_pieces}
+use Rattle.wap_tokens.specs.declared.markup.codes.TheConstants.{STR_I}
+use Rattle.wap_tokens.specs.declared.markup.document.Piece.{Piece}
+use Rattle.wap_tokens.specs.declared.markup.document.Piece.TheVariants as piece
+use Rattle.wap_tokens.specs.markup.Strings.{is_not_zero}
+use Rattle.wap_tokens.specs.markup.Decks.{literal, joined, piece_part, value_after}
+use Rattle.wap_tokens.specs.markup.Normal.{IsPart}
+use Rattle.wap_tokens.specs.markup.Writing.{run_before, runs_of, run_piece, part_pieces}
 use Rattle.wap_wbxml.specs.spelling.Names.{string}
 use Rattle.wap_wbxml.specs.spelling.Spellable.{IsString}
 use Rattle.wap_wbxml.specs.spelling.Spelling.{variable, piece_spelling, first_pages}

@@ -13,9 +13,10 @@ use Rattle.wap_base.specs.declared.name.Conv.{Conv}
 use Rattle.wap_base.specs.declared.name.Conv.TheVariants.{Escape, Unescape, Plain}
 use Rattle.wap_base.specs.declared.name.Part.{Part}
 use Rattle.wap_base.specs.declared.name.Part.TheVariants.{Lit, Var}
-use Rattle.wap_markup.specs.declared.codes.TheConstants.{ENTITY, STR_I, EXT_I_0, EXT_I_1, EXT_I_2}
-use Rattle.wap_markup.specs.Decks.{literal, before, joined}
-use Rattle.wap_markup.specs.Normal.{IsPart}
+use Rattle.wap_tokens.specs.declared.markup.codes.TheConstants.{ENTITY, STR_I, EXT_I_0, EXT_I_1}
+use Rattle.wap_tokens.specs.declared.markup.codes.TheConstants.{EXT_I_2}
+use Rattle.wap_tokens.specs.markup.Decks.{literal, before, joined}
+use Rattle.wap_tokens.specs.markup.Normal.{IsPart}
 use Rattle.wap_wbxml.specs.spelling.Spellable.{HasNoZero}
 use Rattle.wap_deck.specs.good.Readers.{Reads, ◌>>=◌, first_at, after, ended_at}
 use Rattle.std.specs.Borrow.{Bor}

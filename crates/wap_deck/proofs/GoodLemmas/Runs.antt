@@ -3,7 +3,7 @@ use Rattle.std.proofs.Common.{◌≡◌, ℕ, zero, suc, ◌<◌, ◌≤◌, Lis
 use Rattle.std.proofs.Common.{Some, None, refl, sym, ap, subst, ◌∙◌, arith}
 use Rattle.wap_deck.specs.good.Readers.{Reader, ◌>>=◌, rest_of, after, run_step, run_at, all_of}
 use Rattle.wap_deck.specs.good.Readers.{closed}
-use Rattle.wap_markup.specs.declared.codes.TheConstants.{END}
+use Rattle.wap_tokens.specs.declared.markup.codes.TheConstants.{END}
 
 -- what holds of a value, where there is one
 abbrev pub Each : {A : Type 0} → (A → Type 0) → Option A → Type 0

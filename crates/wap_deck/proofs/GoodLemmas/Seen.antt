@@ -4,11 +4,11 @@ use Rattle.std.proofs.Common.{length, Some, None, sym, ap, subst, ◌∙◌, ari
 use Rattle.std.specs.Prelude.{if◌then◌else◌, ◌%◌, find}
 use Rattle.std.specs.Option.{option_map}
 use Rattle.wap_base.specs.declared.name.Part.{Part}
-use Rattle.wap_markup.specs.declared.deck.Node.{Node}
-use Rattle.wap_markup.specs.declared.name.AttrName.{AttrName}
-use Rattle.wap_markup.specs.Tables.{tag_of, is_same_attr}
-use Rattle.wap_markup.specs.Trees.{value_of}
-use Rattle.wap_markup.specs.Codes.{has_attributes, has_content}
+use Rattle.wap_tokens.specs.declared.markup.deck.Node.{Node}
+use Rattle.wap_tokens.specs.declared.markup.name.AttrName.{AttrName}
+use Rattle.wap_tokens.specs.markup.Tables.{tag_of, is_same_attr}
+use Rattle.wap_tokens.specs.markup.Trees.{value_of}
+use Rattle.wap_tokens.specs.markup.Codes.{has_attributes, has_content}
 use Rattle.wap_deck.specs.good.Readers.{first_at, all_of, Ends}
 use Rattle.wap_deck.specs.good.inside.Nodes.{attr_at, node_at, item_at, front_node}
 use Rattle.wap_deck.specs.good.inside.Nodes.{IsRead, attrs_begin, IsContent}

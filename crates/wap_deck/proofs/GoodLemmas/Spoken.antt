@@ -10,9 +10,10 @@ use Rattle.wap_base.specs.declared.name.Conv.{Conv}
 use Rattle.wap_base.specs.declared.name.Conv.TheVariants.{Escape, Unescape, Plain}
 use Rattle.wap_base.specs.declared.name.Part.{Part}
 use Rattle.wap_base.specs.declared.name.Part.TheVariants.{Lit, Var}
-use Rattle.wap_markup.specs.declared.codes.TheConstants.{ENTITY, STR_I, EXT_I_0, EXT_I_1, EXT_I_2}
-use Rattle.wap_markup.specs.Decks.{literal}
-use Rattle.wap_markup.specs.Strings.{is_not_zero}
+use Rattle.wap_tokens.specs.declared.markup.codes.TheConstants.{ENTITY, STR_I, EXT_I_0, EXT_I_1}
+use Rattle.wap_tokens.specs.declared.markup.codes.TheConstants.{EXT_I_2}
+use Rattle.wap_tokens.specs.markup.Decks.{literal}
+use Rattle.wap_tokens.specs.markup.Strings.{is_not_zero}
 use Rattle.wap_wbxml.specs.spelling.Spellable.{HasNoZero}
 use Rattle.wap_deck.specs.good.Readers.{◌>>=◌, first_at, after, zero_place, ended_at, behind_zero}
 use Rattle.wap_deck.specs.good.Texts.{string_part, name_part, string_at, reference_at, character_at}

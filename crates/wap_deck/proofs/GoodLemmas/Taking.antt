@@ -9,15 +9,15 @@ use Rattle.wap_base.specs.declared.name.Conv.{Conv}
 use Rattle.wap_base.specs.declared.name.Conv.TheVariants.{Escape, Unescape, Plain}
 use Rattle.wap_base.specs.declared.name.Part.{Part}
 use Rattle.wap_base.specs.declared.name.Part.TheVariants.{Lit}
-use Rattle.wap_markup.specs.declared.codes.TheConstants.{END, LITERAL, ENTITY, STR_I}
-use Rattle.wap_markup.specs.declared.codes.TheConstants.{EXT_I_0, EXT_I_1, EXT_I_2}
-use Rattle.wap_markup.specs.declared.deck.Node.{Node}
-use Rattle.wap_markup.specs.declared.deck.Item.{Item}
-use Rattle.wap_markup.specs.declared.deck.Item.TheVariants as item
-use Rattle.wap_markup.specs.declared.name.Tag.{Tag}
-use Rattle.wap_markup.specs.Codes.{has_attributes, has_content}
-use Rattle.wap_markup.specs.Strings.{string_from}
-use Rattle.wap_markup.specs.Tables.{tag_of, attr_start, attr_named}
+use Rattle.wap_tokens.specs.declared.markup.codes.TheConstants.{END, LITERAL, ENTITY, STR_I}
+use Rattle.wap_tokens.specs.declared.markup.codes.TheConstants.{EXT_I_0, EXT_I_1, EXT_I_2}
+use Rattle.wap_tokens.specs.declared.markup.deck.Node.{Node}
+use Rattle.wap_tokens.specs.declared.markup.deck.Item.{Item}
+use Rattle.wap_tokens.specs.declared.markup.deck.Item.TheVariants as item
+use Rattle.wap_tokens.specs.declared.markup.name.Tag.{Tag}
+use Rattle.wap_tokens.specs.markup.Codes.{has_attributes, has_content}
+use Rattle.wap_tokens.specs.markup.Strings.{string_from}
+use Rattle.wap_tokens.specs.markup.Tables.{tag_of, attr_start, attr_named}
 use Rattle.wap_deck.specs.good.Readers.{Reader, ◌>>=◌, first_at, after, number_from, number_at}
 use Rattle.wap_deck.specs.good.Readers.{zero_place, ended_at, all_of, closed, closed_if}
 use Rattle.wap_deck.specs.good.Texts.{string_part, name_part, string_at, reference_at, character_at}

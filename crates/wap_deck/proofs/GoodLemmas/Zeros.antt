@@ -9,7 +9,7 @@ use Rattle.std.proofs.Math.Dec.{eqb-suc-zero}
 use Rattle.std.proofs.lemmas.Bool.{eqb-true, and_from, and_parts}
 use Rattle.std.proofs.lemmas.Str.{chars-encodes}
 use lib.Utf8.{encode}
-use Rattle.wap_markup.specs.Strings.{is_not_zero}
+use Rattle.wap_tokens.specs.markup.Strings.{is_not_zero}
 use Rattle.wap_wbxml.specs.spelling.Spellable.{HasNoZero}
 use Rattle.std.proofs.lemmas.List.{take_rest, drop-drop, drop_more, drop_all}
 use Rattle.memchr.specs.Find.{Nowhere, Passes, IsFirstByte, is_byte}

@@ -2,12 +2,12 @@
 use Rattle.std.proofs.Common.{◌≡◌, ◌≢◌, List, [], ◌∷◌, length, ℕ, Result, Ok, Err, refl, sym, subst}
 use Rattle.std.specs.Prelude.{IfOk, IfErr}
 use Rattle.wap_base.specs.Outcome.{Meets, ◌>>=◌}
-use Rattle.wap_markup.specs.declared.deck.Deck.{Deck}
-use Rattle.wap_markup.specs.declared.document.Document.{Document}
-use Rattle.wap_markup.specs.declared.mark.DocumentType.TheVariants.{Wml}
-use Rattle.wap_markup.specs.Decks.{deck_of}
-use Rattle.wap_markup.specs.Documents.{IsDocument}
-use Rattle.wap_markup.specs.Normal.{IsNormal}
+use Rattle.wap_tokens.specs.declared.markup.deck.Deck.{Deck}
+use Rattle.wap_tokens.specs.declared.markup.document.Document.{Document}
+use Rattle.wap_tokens.specs.declared.markup.mark.DocumentType.TheVariants.{Wml}
+use Rattle.wap_tokens.specs.markup.Decks.{deck_of}
+use Rattle.wap_tokens.specs.markup.Documents.{IsDocument}
+use Rattle.wap_tokens.specs.markup.Normal.{IsNormal}
 use Rattle.wap_wbxml.specs.declared.fault.DocFault.{DocFault}
 use Rattle.wap_wbxml.specs.declared.fault.DocFault.TheVariants.{NoMemory}
 use Rattle.wap_wbxml.specs.Refusal.{IsRefused}

@@ -1,22 +1,22 @@
 -- What content gives, its parts gathered one by one.
 use Rattle.std.proofs.Common.{◌≡◌, ℕ, List, [], ◌∷◌, Bool, true, Ok, Err, refl, sym, ap, ◌∙◌}
 use Rattle.wap_base.specs.Outcome.{◌>>=◌}
-use Rattle.wap_markup.specs.declared.document.Attr.{Attr}
-use Rattle.wap_markup.specs.declared.document.Element.{Element}
-use Rattle.wap_markup.specs.declared.document.Kid.{Kid, out-Kid}
-use Rattle.wap_markup.specs.declared.document.Kid.TheOpen.{Kid-F}
-use Rattle.wap_markup.specs.declared.document.Kid.TheVariants as kid
-use Rattle.wap_markup.specs.declared.deck.Item.{Item}
-use Rattle.wap_markup.specs.declared.mark.Lead.{Lead}
-use Rattle.wap_markup.specs.declared.mark.Leaf.{Leaf}
-use Rattle.wap_markup.specs.declared.mark.Leaf.TheVariants as leaf
-use Rattle.wap_markup.specs.declared.mark.LeafMark.{LeafMark}
-use Rattle.wap_markup.specs.declared.mark.ContentMark.{ContentMark}
-use Rattle.wap_markup.specs.declared.mark.ContentMark.TheVariants as content
-use Rattle.wap_markup.specs.Codes.{content_mark}
-use Rattle.wap_markup.specs.Decks.{KidLevel, part_marks, piece_part, marks_from, kid_marks}
-use Rattle.wap_markup.specs.Decks.{kids_marks, element_marks}
-use Rattle.wap_markup.specs.Grammar.{State, on_tag_page, piece_of, kid_of, of_kid}
+use Rattle.wap_tokens.specs.declared.markup.document.Attr.{Attr}
+use Rattle.wap_tokens.specs.declared.markup.document.Element.{Element}
+use Rattle.wap_tokens.specs.declared.markup.document.Kid.{Kid, out-Kid}
+use Rattle.wap_tokens.specs.declared.markup.document.Kid.TheOpen.{Kid-F}
+use Rattle.wap_tokens.specs.declared.markup.document.Kid.TheVariants as kid
+use Rattle.wap_tokens.specs.declared.markup.deck.Item.{Item}
+use Rattle.wap_tokens.specs.declared.markup.mark.Lead.{Lead}
+use Rattle.wap_tokens.specs.declared.markup.mark.Leaf.{Leaf}
+use Rattle.wap_tokens.specs.declared.markup.mark.Leaf.TheVariants as leaf
+use Rattle.wap_tokens.specs.declared.markup.mark.LeafMark.{LeafMark}
+use Rattle.wap_tokens.specs.declared.markup.mark.ContentMark.{ContentMark}
+use Rattle.wap_tokens.specs.declared.markup.mark.ContentMark.TheVariants as content
+use Rattle.wap_tokens.specs.markup.Codes.{content_mark}
+use Rattle.wap_tokens.specs.markup.Decks.{KidLevel, part_marks, piece_part, marks_from, kid_marks}
+use Rattle.wap_tokens.specs.markup.Decks.{kids_marks, element_marks}
+use Rattle.wap_tokens.specs.markup.Grammar.{State, on_tag_page, piece_of, kid_of, of_kid}
 use Rattle.wap_wbxml.specs.Places.{Input}
 use Rattle.wap_wbxml.specs.reading.Steps.{Reading, told, some}
 use Rattle.wap_wbxml.specs.reading.Fronts.{lead_at}

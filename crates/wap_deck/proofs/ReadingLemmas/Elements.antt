@@ -4,21 +4,21 @@ use Rattle.std.proofs.Common.{Ok, Err, refl, sym, ap, ◌∙◌, arith}
 use Rattle.std.specs.Prelude.{unwrap_or}
 use Rattle.std.specs.List.{filter_map}
 use Rattle.wap_base.specs.Outcome.{◌>>=◌}
-use Rattle.wap_markup.specs.declared.document.Attr.{Attr}
-use Rattle.wap_markup.specs.declared.document.Element.{Element}
-use Rattle.wap_markup.specs.declared.document.Kid.{Kid}
-use Rattle.wap_markup.specs.declared.document.Token.{Token}
-use Rattle.wap_markup.specs.declared.document.TheConstants.{LEVEL_LIMIT}
-use Rattle.wap_markup.specs.declared.deck.Item.{Item}
-use Rattle.wap_markup.specs.declared.deck.Item.TheVariants as item
-use Rattle.wap_markup.specs.declared.deck.Node.{Node}
-use Rattle.wap_markup.specs.declared.mark.Lead.{Lead}
-use Rattle.wap_markup.specs.declared.name.Tag.{Tag}
-use Rattle.wap_markup.specs.declared.name.Tag.TheVariants as tags
-use Rattle.wap_markup.specs.Codes.{is_named, has_attributes, has_content}
-use Rattle.wap_markup.specs.Decks.{tag_in, attribute, element_from}
-use Rattle.wap_markup.specs.Decks.{kids_marks, element_marks}
-use Rattle.wap_markup.specs.Grammar.{State, on_tag_page, element_of}
+use Rattle.wap_tokens.specs.declared.markup.document.Attr.{Attr}
+use Rattle.wap_tokens.specs.declared.markup.document.Element.{Element}
+use Rattle.wap_tokens.specs.declared.markup.document.Kid.{Kid}
+use Rattle.wap_tokens.specs.declared.markup.document.Token.{Token}
+use Rattle.wap_tokens.specs.declared.markup.document.TheConstants.{LEVEL_LIMIT}
+use Rattle.wap_tokens.specs.declared.markup.deck.Item.{Item}
+use Rattle.wap_tokens.specs.declared.markup.deck.Item.TheVariants as item
+use Rattle.wap_tokens.specs.declared.markup.deck.Node.{Node}
+use Rattle.wap_tokens.specs.declared.markup.mark.Lead.{Lead}
+use Rattle.wap_tokens.specs.declared.markup.name.Tag.{Tag}
+use Rattle.wap_tokens.specs.declared.markup.name.Tag.TheVariants as tags
+use Rattle.wap_tokens.specs.markup.Codes.{is_named, has_attributes, has_content}
+use Rattle.wap_tokens.specs.markup.Decks.{tag_in, attribute, element_from}
+use Rattle.wap_tokens.specs.markup.Decks.{kids_marks, element_marks}
+use Rattle.wap_tokens.specs.markup.Grammar.{State, on_tag_page, element_of}
 use Rattle.wap_wbxml.specs.declared.fault.DocFault.{DocFault}
 use Rattle.wap_wbxml.specs.Places.{Input}
 use Rattle.wap_wbxml.specs.reading.Steps.{Reading, told}

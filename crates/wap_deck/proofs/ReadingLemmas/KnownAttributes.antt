@@ -5,15 +5,15 @@ use Rattle.std.specs.List.{filter_map, cons_option}
 use Rattle.std.proofs.lemmas.List.{append-nil}
 use Rattle.wap_base.specs.Outcome.{◌>>=◌}
 use Rattle.wap_base.specs.declared.name.Part.{Part}
-use Rattle.wap_markup.specs.declared.document.Attr.{Attr}
-use Rattle.wap_markup.specs.declared.document.Piece.{Piece}
-use Rattle.wap_markup.specs.declared.document.Token.{Token}
-use Rattle.wap_markup.specs.declared.mark.Lead.{Lead}
-use Rattle.wap_markup.specs.declared.name.AttrName.{AttrName}
-use Rattle.wap_markup.specs.Tables.{Start}
-use Rattle.wap_markup.specs.Decks.{start_of, value_after, attribute, attribute_from}
-use Rattle.wap_markup.specs.Codes.{attribute_mark}
-use Rattle.wap_markup.specs.Grammar.{State, on_attribute_page, attribute_of}
+use Rattle.wap_tokens.specs.declared.markup.document.Attr.{Attr}
+use Rattle.wap_tokens.specs.declared.markup.document.Piece.{Piece}
+use Rattle.wap_tokens.specs.declared.markup.document.Token.{Token}
+use Rattle.wap_tokens.specs.declared.markup.mark.Lead.{Lead}
+use Rattle.wap_tokens.specs.declared.markup.name.AttrName.{AttrName}
+use Rattle.wap_tokens.specs.markup.Tables.{Start}
+use Rattle.wap_tokens.specs.markup.Decks.{start_of, value_after, attribute, attribute_from}
+use Rattle.wap_tokens.specs.markup.Codes.{attribute_mark}
+use Rattle.wap_tokens.specs.markup.Grammar.{State, on_attribute_page, attribute_of}
 use Rattle.wap_wbxml.specs.Places.{Input}
 use Rattle.wap_wbxml.specs.reading.Steps.{Reading, told}
 use Rattle.wap_wbxml.specs.reading.Parts.{start_at, pieces_at, attribute_behind}

@@ -2,8 +2,8 @@
 use Rattle.std.proofs.Common.{◌≡◌, ℕ, List, [], ◌∷◌, ◌++◌, sym, ap, ◌∙◌, append_assoc}
 use Rattle.std.proofs.lemmas.List.{append-nil}
 use Rattle.wap_base.specs.declared.name.Part.{Part}
-use Rattle.wap_markup.specs.declared.document.Piece.{Piece}
-use Rattle.wap_markup.specs.Decks.{value_after}
+use Rattle.wap_tokens.specs.declared.markup.document.Piece.{Piece}
+use Rattle.wap_tokens.specs.markup.Decks.{value_after}
 use Rattle.wap_deck.proofs.DocumentsLemmas.Joining.{value_after_added}
 use Rattle.wap_deck.specs.reading.inside.Gathering.{gathered}
 use Rattle.wap_deck.specs.reading.inside.Parts.{piece_added}

@@ -13,15 +13,16 @@ use Rattle.std.proofs.lemmas.Bool.Decides.{nat_tests}
 use lib.Utf8.{scalar}
 use Rattle.wap_base.proofs.Choices.{chosen, some_same}
 use Rattle.wap_base.specs.Names.{is_name, begins_name, continues_name}
-use Rattle.wap_markup.specs.declared.document.Token.{Token}
-use Rattle.wap_markup.specs.declared.document.Token.TheVariants.{Code, Literal}
-use Rattle.wap_markup.specs.declared.name.AttrName.{AttrName}
-use Rattle.wap_markup.specs.declared.name.AttrName.TheVariants as attrs
-use Rattle.wap_markup.specs.Strings.{is_not_zero}
-use Rattle.wap_markup.specs.Tables.{name_rows, name_of_attr, Start, start_by_code, start_rows}
-use Rattle.wap_markup.specs.Tables.{attr_start, attr_named, value_rows, attr_value}
-use Rattle.wap_markup.specs.Decks.{start_of}
-use Rattle.wap_markup.specs.Writing.{run_before, runs_of}
+use Rattle.wap_tokens.specs.declared.markup.document.Token.{Token}
+use Rattle.wap_tokens.specs.declared.markup.document.Token.TheVariants.{Code, Literal}
+use Rattle.wap_tokens.specs.declared.markup.name.AttrName.{AttrName}
+use Rattle.wap_tokens.specs.declared.markup.name.AttrName.TheVariants as attrs
+use Rattle.wap_tokens.specs.markup.Strings.{is_not_zero}
+use Rattle.wap_tokens.specs.markup.Tables.{name_rows, name_of_attr, Start, start_by_code}
+use Rattle.wap_tokens.specs.markup.Tables.{start_rows}
+use Rattle.wap_tokens.specs.markup.Tables.{attr_start, attr_named, value_rows, attr_value}
+use Rattle.wap_tokens.specs.markup.Decks.{start_of}
+use Rattle.wap_tokens.specs.markup.Writing.{run_before, runs_of}
 use Rattle.wap_tokens.proofs.Found.{found_passes}
 use Rattle.wap_wbxml.specs.spelling.Spellable.{IsString}
 

@@ -4,19 +4,19 @@ use Rattle.std.proofs.Common.{◌∷◌, map, refl, sym, ap, ap₂, ◌∙◌, a
 use Rattle.std.specs.Prelude.{nat_lt}
 use Rattle.std.proofs.lemmas.Bool.{lt-ltb}
 use Rattle.wap_base.specs.declared.name.Part.{Part}
-use Rattle.wap_markup.specs.declared.codes.TheConstants.{END}
-use Rattle.wap_markup.specs.declared.document.Element.{Element}
-use Rattle.wap_markup.specs.declared.document.Kid.{Kid}
-use Rattle.wap_markup.specs.declared.document.Kid.TheOpen.{Kid-F}
-use Rattle.wap_markup.specs.declared.document.Kid.TheVariants as kid
-use Rattle.wap_markup.specs.declared.deck.Node.{Node}
-use Rattle.wap_markup.specs.declared.deck.Item.{Item, out-Item}
-use Rattle.wap_markup.specs.declared.deck.Item.TheVariants as item
-use Rattle.wap_markup.specs.declared.name.Tag.{Tag}
-use Rattle.wap_markup.specs.declared.name.Tag.TheVariants as tags
-use Rattle.wap_markup.specs.Tables.{tag_rows, code_of}
-use Rattle.wap_markup.specs.Writing.{attr_of, kids_from, item_kids}
-use Rattle.wap_markup.specs.Writing.{items_kids, element_of, node_kids}
+use Rattle.wap_tokens.specs.declared.markup.codes.TheConstants.{END}
+use Rattle.wap_tokens.specs.declared.markup.document.Element.{Element}
+use Rattle.wap_tokens.specs.declared.markup.document.Kid.{Kid}
+use Rattle.wap_tokens.specs.declared.markup.document.Kid.TheOpen.{Kid-F}
+use Rattle.wap_tokens.specs.declared.markup.document.Kid.TheVariants as kid
+use Rattle.wap_tokens.specs.declared.markup.deck.Node.{Node}
+use Rattle.wap_tokens.specs.declared.markup.deck.Item.{Item, out-Item}
+use Rattle.wap_tokens.specs.declared.markup.deck.Item.TheVariants as item
+use Rattle.wap_tokens.specs.declared.markup.name.Tag.{Tag}
+use Rattle.wap_tokens.specs.declared.markup.name.Tag.TheVariants as tags
+use Rattle.wap_tokens.specs.markup.Tables.{tag_rows, code_of}
+use Rattle.wap_tokens.specs.markup.Writing.{attr_of, kids_from, item_kids}
+use Rattle.wap_tokens.specs.markup.Writing.{items_kids, element_of, node_kids}
 use Rattle.wap_wbxml.specs.declared.spelling.output.Output.{Output}
 use Rattle.wap_wbxml.specs.spelling.Writings.{Writing, plain, ◌⨾◌, each, ended, on_tag_page}
 use Rattle.wap_wbxml.specs.spelling.Spelling.{bit, bits, attr_spelling, kid_spelling}

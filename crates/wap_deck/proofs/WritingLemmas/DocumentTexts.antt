@@ -7,25 +7,26 @@ use Rattle.std.specs.Option.{option_and_then}
 use Rattle.std.proofs.lemmas.Bool.{and_parts}
 use Rattle.wap_base.specs.declared.name.Part.{Part}
 use Rattle.wap_base.specs.declared.name.Part.TheVariants.{Lit, Var}
-use Rattle.wap_markup.specs.declared.codes.TheConstants.{LITERAL}
-use Rattle.wap_markup.specs.declared.document.TheConstants.{LEVEL_LIMIT}
-use Rattle.wap_markup.specs.declared.document.Piece.{Piece}
-use Rattle.wap_markup.specs.declared.document.Kid.{Kid, out-Kid}
-use Rattle.wap_markup.specs.declared.document.Kid.TheOpen.{Kid-F}
-use Rattle.wap_markup.specs.declared.document.Kid.TheVariants as kid
-use Rattle.wap_markup.specs.declared.deck.Deck.{Deck}
-use Rattle.wap_markup.specs.declared.deck.Node.{Node}
-use Rattle.wap_markup.specs.declared.deck.Item.{Item, out-Item}
-use Rattle.wap_markup.specs.declared.deck.Item.TheOpen.{Item-F}
-use Rattle.wap_markup.specs.declared.name.Tag.{Tag}
-use Rattle.wap_markup.specs.declared.name.Tag.TheVariants as tags
-use Rattle.wap_markup.specs.declared.name.AttrName.{AttrName}
-use Rattle.wap_markup.specs.Tables.{is_same_start, tag_rows, code_of, Start}
-use Rattle.wap_markup.specs.Tables.{start_rows, code_by_start, code_of_start}
-use Rattle.wap_markup.specs.Trees.{ItemLevel, plain_text}
-use Rattle.wap_markup.specs.Writing.{runs_of, run_piece, run_kid, part_pieces, attr_without}
-use Rattle.wap_markup.specs.Writing.{whole_code, attr_with, attr_of, part_kids, kids_from}
-use Rattle.wap_markup.specs.Writing.{item_kids, items_kids, element_of, node_kids, document_of}
+use Rattle.wap_tokens.specs.declared.markup.codes.TheConstants.{LITERAL}
+use Rattle.wap_tokens.specs.declared.markup.document.TheConstants.{LEVEL_LIMIT}
+use Rattle.wap_tokens.specs.declared.markup.document.Piece.{Piece}
+use Rattle.wap_tokens.specs.declared.markup.document.Kid.{Kid, out-Kid}
+use Rattle.wap_tokens.specs.declared.markup.document.Kid.TheOpen.{Kid-F}
+use Rattle.wap_tokens.specs.declared.markup.document.Kid.TheVariants as kid
+use Rattle.wap_tokens.specs.declared.markup.deck.Deck.{Deck}
+use Rattle.wap_tokens.specs.declared.markup.deck.Node.{Node}
+use Rattle.wap_tokens.specs.declared.markup.deck.Item.{Item, out-Item}
+use Rattle.wap_tokens.specs.declared.markup.deck.Item.TheOpen.{Item-F}
+use Rattle.wap_tokens.specs.declared.markup.name.Tag.{Tag}
+use Rattle.wap_tokens.specs.declared.markup.name.Tag.TheVariants as tags
+use Rattle.wap_tokens.specs.declared.markup.name.AttrName.{AttrName}
+use Rattle.wap_tokens.specs.markup.Tables.{is_same_start, tag_rows, code_of, Start}
+use Rattle.wap_tokens.specs.markup.Tables.{start_rows, code_by_start, code_of_start}
+use Rattle.wap_tokens.specs.markup.Trees.{ItemLevel, plain_text}
+use Rattle.wap_tokens.specs.markup.Writing.{runs_of, run_piece, run_kid, part_pieces, attr_without}
+use Rattle.wap_tokens.specs.markup.Writing.{whole_code, attr_with, attr_of, part_kids, kids_from}
+use Rattle.wap_tokens.specs.markup.Writing.{item_kids, items_kids, element_of, node_kids}
+use Rattle.wap_tokens.specs.markup.Writing.{document_of}
 use Rattle.wap_tokens.proofs.Found.{found_passes}
 use Rattle.wap_wbxml.specs.spelling.Names.{KidLevel}
 use Rattle.wap_wbxml.specs.spelling.Spellable.{IsString, FitsPiece, FitsAttr, FitsOpened}

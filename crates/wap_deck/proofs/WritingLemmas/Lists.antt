@@ -1,7 +1,7 @@
 -- What is written for lists that other lists give.
 use Rattle.std.proofs.Common.{◌≡◌, List, [], ◌∷◌, ◌++◌, map, refl, sym, ap, ◌∙◌}
 use Rattle.std.specs.List.{flat_map}
-use Rattle.wap_markup.specs.declared.codes.TheConstants.{END}
+use Rattle.wap_tokens.specs.declared.markup.codes.TheConstants.{END}
 use Rattle.wap_wbxml.specs.declared.spelling.output.Output.{Output}
 use Rattle.wap_wbxml.specs.spelling.Writings.{Writing, plain, ◌⨾◌, each, ended}
 use Rattle.wap_wbxml.specs.spelling.inside.Written.{written}

@@ -3,14 +3,14 @@ use Rattle.std.proofs.Common.{◌≡◌, ℕ, List, [], ◌∷◌, Option, Some,
 use Rattle.std.specs.List.{flat_map}
 use Rattle.wap_base.specs.Numbers.{mb_spelling}
 use Rattle.wap_base.specs.declared.name.Part.{Part}
-use Rattle.wap_markup.specs.declared.codes.TheConstants.{LITERAL}
-use Rattle.wap_markup.specs.declared.document.Attr.{Attr}
-use Rattle.wap_markup.specs.declared.document.Piece.{Piece}
-use Rattle.wap_markup.specs.declared.document.Token.TheVariants.{Literal}
-use Rattle.wap_markup.specs.declared.name.AttrName.{AttrName}
-use Rattle.wap_markup.specs.Tables.{code_of_start, name_of_attr}
-use Rattle.wap_markup.specs.Writing.{part_pieces, coded_attr, attr_without}
-use Rattle.wap_markup.specs.Writing.{whole_code, attr_with, attr_of}
+use Rattle.wap_tokens.specs.declared.markup.codes.TheConstants.{LITERAL}
+use Rattle.wap_tokens.specs.declared.markup.document.Attr.{Attr}
+use Rattle.wap_tokens.specs.declared.markup.document.Piece.{Piece}
+use Rattle.wap_tokens.specs.declared.markup.document.Token.TheVariants.{Literal}
+use Rattle.wap_tokens.specs.declared.markup.name.AttrName.{AttrName}
+use Rattle.wap_tokens.specs.markup.Tables.{code_of_start, name_of_attr}
+use Rattle.wap_tokens.specs.markup.Writing.{part_pieces, coded_attr, attr_without}
+use Rattle.wap_tokens.specs.markup.Writing.{whole_code, attr_with, attr_of}
 use Rattle.wap_wbxml.specs.declared.spelling.output.Output.{Output}
 use Rattle.wap_wbxml.specs.spelling.Writings.{plain, ◌⨾◌, each, on_attribute_page}
 use Rattle.wap_wbxml.specs.spelling.Names.{place_of}

@@ -1,8 +1,8 @@
 -- What the children of a node are seen as. This project's own.
 use Rattle.std.specs.Prelude.{ℕ, List}
 use Rattle.std.specs.Borrow.{Bor}
-use Rattle.wap_markup.specs.declared.deck.Item.{Item}
-use Rattle.wap_markup.specs.declared.deck.Item.TheVariants as item
+use Rattle.wap_tokens.specs.declared.markup.deck.Item.{Item}
+use Rattle.wap_tokens.specs.declared.markup.deck.Item.TheVariants as item
 use Rattle.wap_deck.specs.declared.good.kids.Child.{Child}
 use Rattle.wap_deck.specs.declared.good.notes.Note.{Note}
 use Rattle.wap_deck.specs.declared.good.kids.Child.TheVariants as child

@@ -4,8 +4,8 @@ use Rattle.std.specs.Prelude.{◌++◌, length, take, drop, Option, Some, None, 
 use Rattle.std.specs.List.{prefix_len}
 use Rattle.wap_base.specs.Numbers.{mb_at}
 use Rattle.wap_base.specs.declared.number.ReadFault.{ReadFault}
-use Rattle.wap_markup.specs.declared.codes.TheConstants.{END}
-use Rattle.wap_markup.specs.Strings.{is_not_zero}
+use Rattle.wap_tokens.specs.declared.markup.codes.TheConstants.{END}
+use Rattle.wap_tokens.specs.markup.Strings.{is_not_zero}
 
 -- what a call answered, seen by view, is what the reading gives
 abbrev pub Reads : {X Y : Type 0} → (X → Y) → Option X → Option Y → Type 0

@@ -7,8 +7,8 @@ use Rattle.std.specs.Str.{chars}
 use Rattle.wap_base.specs.declared.name.Part.{Part}
 use Rattle.wap_base.specs.declared.name.Part.TheVariants.{Lit, Var}
 use Rattle.wap_base.specs.Texts.{is_same_text}
-use Rattle.wap_markup.specs.Decks.{before}
-use Rattle.wap_markup.specs.Normal.{IsPart}
+use Rattle.wap_tokens.specs.markup.Decks.{before}
+use Rattle.wap_tokens.specs.markup.Normal.{IsPart}
 use Rattle.wap_wbxml.specs.spelling.Spellable.{HasNoZero}
 use Rattle.wap_deck.specs.good.Texts.{value_at}
 use Rattle.wap_deck.specs.declared.good.bits.Bit.{Bit}

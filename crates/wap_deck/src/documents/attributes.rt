@@ -2,10 +2,10 @@
 ghost use Rattle.std.specs.Prelude.{◌≡◌, IfSome};
 ghost use Rattle.std.specs.Option.{option_map};
 ghost use Rattle.std.specs.Str.{chars};
-ghost use Rattle.wap_markup.specs.Decks.{start_of};
+ghost use Rattle.wap_tokens.specs.markup.Decks.{start_of};
 ghost use Rattle.wap_tokens.specs.Rows.{lent_start};
 
-use wap_markup::{AttrName, Token};
+use wap_tokens::markup::{AttrName, Token};
 use wap_tokens::{attr_named, attr_start};
 
 /// The attribute that a token starts, and the text with which its value begins.

@@ -1,14 +1,14 @@
 //! Tags, and texts that are added to content.
 ghost use Rattle.std.specs.Prelude.{◌≡◌, [], ◌∷◌, ◌++◌, IfOk, OnOk};
 ghost use Rattle.wap_base.specs.declared.name.Part.{Part};
-ghost use Rattle.wap_markup.specs.Decks.{tag_in, part_marks};
+ghost use Rattle.wap_tokens.specs.markup.Decks.{tag_in, part_marks};
 ghost use Rattle.wap_deck.specs.documents.inside.Adding.{part_added, part_after, marks_after};
 
 use crate::documents::pieces::add_part;
 use crate::documents::room::rows_for;
 use std::alloc::Global;
 use wap_base::{NoMemory, Part, Rows};
-use wap_markup::{Item, Tag, Token};
+use wap_tokens::markup::{Item, Tag, Token};
 use wap_tokens::{tag_named, tag_of};
 
 /// The tag of a token, if it is known.

@@ -1,8 +1,8 @@
 //! Parts of values and texts.
 ghost use Rattle.std.specs.Prelude.{◌≡◌, [], ◌∷◌, ◌++◌, IfOk, OnOk};
-ghost use Rattle.wap_markup.specs.Decks.{literal, character, reference, before};
-ghost use Rattle.wap_markup.specs.Decks.{piece_part, value_after};
-ghost use Rattle.wap_markup.specs.declared.document.Piece.TheVariants.{Code};
+ghost use Rattle.wap_tokens.specs.markup.Decks.{literal, character, reference, before};
+ghost use Rattle.wap_tokens.specs.markup.Decks.{piece_part, value_after};
+ghost use Rattle.wap_tokens.specs.declared.markup.document.Piece.TheVariants.{Code};
 ghost use Rattle.wap_deck.specs.documents.inside.Adding.{part_added, any_added};
 ghost use Rattle.std.specs.Str.{chars};
 

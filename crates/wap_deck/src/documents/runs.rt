@@ -1,7 +1,7 @@
 //! The strings of a text, between its U+0000.
 ghost use Rattle.std.specs.Prelude.{◌≡◌, ℕ, [], ◌∷◌, ◌++◌, Some, IfOk, OnOk, IsTrue, ◌↔◌};
 ghost use Rattle.std.specs.Str.{chars};
-ghost use Rattle.wap_markup.specs.Writing.{runs_of};
+ghost use Rattle.wap_tokens.specs.markup.Writing.{runs_of};
 ghost use Rattle.wap_deck.specs.documents.inside.Adding.{has_zero, string_after, character_after};
 
 use std::alloc::Global;

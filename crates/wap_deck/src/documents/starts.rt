@@ -1,13 +1,13 @@
 //! Attributes of a document, for those of a deck.
 ghost use Rattle.std.specs.Prelude.{◌≡◌, ◌++◌, map, IfOk, OnOk};
 ghost use Rattle.std.specs.List.{flat_map};
-ghost use Rattle.wap_markup.specs.Writing.{run_piece, runs_of, part_pieces, whole_code};
-ghost use Rattle.wap_markup.specs.Writing.{attr_without, attr_with, attr_of};
+ghost use Rattle.wap_tokens.specs.markup.Writing.{run_piece, runs_of, part_pieces, whole_code};
+ghost use Rattle.wap_tokens.specs.markup.Writing.{attr_without, attr_with, attr_of};
 
 use crate::documents::runs::{is_string, runs_of};
 use std::alloc::Global;
 use wap_base::{NoMemory, Part, Rows, Text};
-use wap_markup::{Attr, AttrName, Piece, Token};
+use wap_tokens::markup::{Attr, AttrName, Piece, Token};
 use wap_tokens::{code_of_start, name_of_attr};
 
 /// A string of a value, or a U+0000.

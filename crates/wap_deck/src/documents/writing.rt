@@ -1,19 +1,20 @@
 //! From a deck to its document.
 ghost use Rattle.std.specs.Prelude.{◌≡◌, ◌≢◌, ◌++◌, [], map, IfOk, OnOk};
 ghost use Rattle.std.specs.List.{flat_map};
-ghost use Rattle.wap_markup.specs.Decks.{deck_of};
-ghost use Rattle.wap_markup.specs.Normal.{IsNormal};
-ghost use Rattle.wap_markup.specs.Writing.{run_kid, runs_of, part_kids, item_kids, items_kids};
-ghost use Rattle.wap_markup.specs.Writing.{node_kids, element_of, document_of};
+ghost use Rattle.wap_tokens.specs.markup.Decks.{deck_of};
+ghost use Rattle.wap_tokens.specs.markup.Normal.{IsNormal};
+ghost use Rattle.wap_tokens.specs.markup.Writing.{run_kid, runs_of, part_kids, item_kids};
+ghost use Rattle.wap_tokens.specs.markup.Writing.{items_kids};
+ghost use Rattle.wap_tokens.specs.markup.Writing.{node_kids, element_of, document_of};
 
 use crate::documents::runs::{is_string, runs_of};
 use crate::documents::starts::attrs_of;
 use std::alloc::Global;
 use wap_base::{NoMemory, Part, Rows, Text};
-use wap_markup::{
+use wap_tokens::code_of;
+use wap_tokens::markup::{
     CHARSET, Deck, Document, Element, Item, Kid, LEVEL_LIMIT, Node, Tag, Token, VERSION, WML_1_3,
 };
-use wap_tokens::code_of;
 
 /// A string of a text, or a U+0000.
 fn run_kid(run: Option<Text>) -> Kid

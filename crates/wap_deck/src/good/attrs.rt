@@ -2,7 +2,7 @@
 ghost use Rattle.std.specs.Prelude.{◌≡◌, ℕ, List, Some, IfSome};
 ghost use Rattle.std.specs.Map.{lookup};
 ghost use Rattle.std.specs.Str.{chars, bytes_eq};
-ghost use Rattle.wap_markup.specs.Tables.{attr_named};
+ghost use Rattle.wap_tokens.specs.markup.Tables.{attr_named};
 ghost use Rattle.wap_tokens.specs.Rows.{attrs_by_name};
 ghost use Rattle.wap_wbxml.specs.spelling.Spellable.{HasNoZero};
 ghost use Rattle.wap_deck.specs.good.Readers.{Reads, Ends, all_of};
@@ -13,8 +13,8 @@ use crate::good::bits::after_bits;
 use crate::good::front::{first, number, string_from};
 use crate::good::run::Run;
 use wap_base::Bytes;
-use wap_markup::{ATTR_NAMES, AttrName, LITERAL};
 use wap_tokens::attr_start;
+use wap_tokens::markup::{ATTR_NAMES, AttrName, LITERAL};
 
 /// What an attribute begins with: its name, the text with which its value begins, and the bytes of
 /// the rest of the value.

@@ -9,7 +9,7 @@ ghost use Rattle.wap_deck.specs.good.Runs.{part_of, IsOfKind};
 use crate::good::front::{after_first, after_zero, first, split_at_zero};
 use std::str;
 use wap_base::Conv;
-use wap_markup::{ENTITY, EXT_I_0, EXT_I_1, EXT_I_2, STR_I};
+use wap_tokens::markup::{ENTITY, EXT_I_0, EXT_I_1, EXT_I_2, STR_I};
 
 /// A bit of a text: some of its characters, at least one, or a reference to a variable.
 /// Neighbouring characters belong to one literal.

@@ -1,7 +1,7 @@
 //! Where the cards and the template of a deck begin in its bytes.
 ghost use Rattle.std.specs.Prelude.{◌≡◌, ◌≤◌, ◌-◌, length, drop, IfOk};
 ghost use Rattle.std.specs.List.{filter_map};
-ghost use Rattle.wap_markup.specs.Trees.{node_with};
+ghost use Rattle.wap_tokens.specs.markup.Trees.{node_with};
 ghost use Rattle.wap_deck.specs.good.Lent.{item_of};
 ghost use Rattle.wap_deck.specs.good.Readers.{all_of, IsBehind};
 ghost use Rattle.wap_deck.specs.good.inside.Nodes.{item_at, front_node, IsRead};
@@ -15,7 +15,7 @@ use crate::good::notes::{Note, notes_from, notes_left};
 use crate::good::view::View;
 use std::alloc::Global;
 use wap_base::{Bytes, NoMemory, Rows};
-use wap_markup::{LEVEL_LIMIT, Tag};
+use wap_tokens::markup::{LEVEL_LIMIT, Tag};
 
 /// The child as a node of this tag, if it is one.
 fn node_with(child: Child<'_>, tag: Tag) -> Option<View<'_>>

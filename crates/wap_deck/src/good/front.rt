@@ -1,12 +1,12 @@
 //! What bytes begin with.
 ghost use Rattle.std.specs.Prelude.{◌≡◌, ◌≤◌, length, drop};
-ghost use Rattle.wap_markup.specs.Strings.{string_from};
+ghost use Rattle.wap_tokens.specs.markup.Strings.{string_from};
 ghost use Rattle.wap_deck.specs.good.Readers.{Reads, first_at, number_at, zero_place};
 ghost use Rattle.wap_deck.specs.good.Readers.{ended_at, behind_zero, is_end};
 
 use memchr::memchr;
 use wap_base::read_mb;
-use wap_markup::END;
+use wap_tokens::markup::END;
 
 /// The first byte, and those after it.
 pub(crate) fn first(bytes: &[u8]) -> Option<(u8, &[u8])>

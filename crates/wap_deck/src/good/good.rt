@@ -1,13 +1,13 @@
 //! Good decks.
 ghost use Rattle.std.specs.Prelude.{◌≡◌, ◌≤◌, ◌-◌, length, slice_get, Ok, IfOk, IfErr};
 ghost use Rattle.wap_base.specs.Numbers.{mb_at};
-ghost use Rattle.wap_markup.specs.Writing.{document_of};
+ghost use Rattle.wap_tokens.specs.markup.Writing.{document_of};
 ghost use Rattle.wap_wbxml.specs.spelling.Spelling.{spelling};
 ghost use Rattle.wap_wbxml.specs.spelling.Spellable.{IsSpellable};
-ghost use Rattle.wap_markup.specs.Cards.{cards_of, id_of, card_numbered};
-ghost use Rattle.wap_markup.specs.Trees.{is_text, first_with};
-ghost use Rattle.wap_markup.specs.Good.{IsGood};
-ghost use Rattle.wap_markup.specs.Normal.{IsNormal};
+ghost use Rattle.wap_tokens.specs.markup.Cards.{cards_of, id_of, card_numbered};
+ghost use Rattle.wap_tokens.specs.markup.Trees.{is_text, first_with};
+ghost use Rattle.wap_tokens.specs.markup.Good.{IsGood};
+ghost use Rattle.wap_tokens.specs.markup.Normal.{IsNormal};
 ghost use Rattle.wap_deck.specs.declared.good.laws.TheConstants.{HEADER_LENGTH};
 ghost use Rattle.wap_deck.specs.good.inside.Header.{HasTable};
 
@@ -21,7 +21,7 @@ use crate::writing::spell;
 use std::alloc::Global;
 use std::marker::Model;
 use wap_base::{Bytes, NoMemory, Rows, Text, read_mb};
-use wap_markup::{AttrName, Deck, LEVEL_LIMIT, Tag};
+use wap_tokens::markup::{AttrName, Deck, LEVEL_LIMIT, Tag};
 use wap_wbxml::DocFault;
 use wap_wbxml::spelling::{decks_are_spellable, spelling_is_read};
 
@@ -41,8 +41,8 @@ pub struct GoodDeck {
 }
 
 impl Model for GoodDeck {
-    ghost use Rattle.wap_markup.specs.declared.deck.Deck.{Deck};
-    ghost use Rattle.wap_markup.specs.contracts.deck.Item as item;
+    ghost use Rattle.wap_tokens.specs.declared.markup.deck.Deck.{Deck};
+    ghost use Rattle.wap_tokens.specs.contracts.markup.deck.Item as item;
     ghost use Rattle.std.specs.Coded.{codes};
 
     ghost Value = { Deck };

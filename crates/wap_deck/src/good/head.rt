@@ -1,7 +1,7 @@
 //! What a node begins with, and where its parts begin.
 ghost use Rattle.std.specs.Prelude.{◌≡◌};
 ghost use Rattle.std.specs.Option.{option_map};
-ghost use Rattle.wap_markup.specs.Codes.{has_attributes, has_content};
+ghost use Rattle.wap_tokens.specs.markup.Codes.{has_attributes, has_content};
 ghost use Rattle.wap_deck.specs.good.Readers.{IsBehind};
 ghost use Rattle.wap_deck.specs.good.inside.Nodes.{IsContent};
 

@@ -1,8 +1,8 @@
 //! What nodes begin with: the names of their attributes, and where their content begins.
 ghost use Rattle.std.specs.Prelude.{◌≡◌, ℕ, List, ◌∷◌, ◌^◌, ◌<◌, ◌≤◌, length, drop, true, IfSome};
 ghost use Rattle.wap_base.specs.declared.name.Part.{Part};
-ghost use Rattle.wap_markup.specs.declared.name.AttrName.{AttrName};
-ghost use Rattle.wap_markup.specs.Codes.{has_attributes, has_content};
+ghost use Rattle.wap_tokens.specs.declared.markup.name.AttrName.{AttrName};
+ghost use Rattle.wap_tokens.specs.markup.Codes.{has_attributes, has_content};
 ghost use Rattle.wap_deck.specs.good.Readers.{Ends, Leaves, IsBehind, first_at, closed, closed_if};
 ghost use Rattle.wap_deck.specs.good.inside.Nodes.{attr_at, IsContent};
 ghost use Rattle.wap_deck.specs.good.inside.Notes.{mark_place, lacks, HaveNames, LacksName, IsHead};
@@ -12,8 +12,8 @@ use crate::good::front::{after_first, first, is_end};
 use crate::good::head::{has_attributes, has_content, kids_begin};
 use crate::good::notes::Known;
 use crate::good::skip::after_attrs;
-use wap_markup::{AttrName, LITERAL};
 use wap_tokens::attr_start;
+use wap_tokens::markup::{AttrName, LITERAL};
 
 /// The mark of a name, one bit of 16. Several names have the same.
 #[inline(always)]

@@ -22,9 +22,9 @@ pub struct Kids<'a> {
 
 impl<'a> Model for Kids<'a> {
     ghost use Rattle.std.specs.Prelude.{List};
-    ghost use Rattle.wap_markup.specs.declared.deck.Item.{Item};
+    ghost use Rattle.wap_tokens.specs.declared.markup.deck.Item.{Item};
     ghost use Rattle.std.specs.Coded.{codes};
-    ghost use Rattle.wap_markup.specs.contracts.deck.Item as item;
+    ghost use Rattle.wap_tokens.specs.contracts.markup.deck.Item as item;
 
     ghost Value = { List Item };
 

@@ -1,11 +1,11 @@
 //! What the bytes of a deck promise.
 ghost use Rattle.std.specs.Prelude.{◌≡◌, ◌≤◌, ◌-◌, ℕ, List, Ok, length};
 ghost use Rattle.wap_base.specs.Numbers.{mb_at};
-ghost use Rattle.wap_markup.specs.declared.deck.Deck.{Deck};
-ghost use Rattle.wap_markup.specs.declared.document.TheConstants.{LEVEL_LIMIT};
-ghost use Rattle.wap_markup.specs.Good.{IsGood};
-ghost use Rattle.wap_markup.specs.Normal.{IsNormal};
-ghost use Rattle.wap_markup.specs.Writing.{document_of};
+ghost use Rattle.wap_tokens.specs.declared.markup.deck.Deck.{Deck};
+ghost use Rattle.wap_tokens.specs.declared.markup.document.TheConstants.{LEVEL_LIMIT};
+ghost use Rattle.wap_tokens.specs.markup.Good.{IsGood};
+ghost use Rattle.wap_tokens.specs.markup.Normal.{IsNormal};
+ghost use Rattle.wap_tokens.specs.markup.Writing.{document_of};
 ghost use Rattle.wap_wbxml.specs.spelling.Spelling.{spelling};
 ghost use Rattle.wap_wbxml.specs.spelling.Spellable.{IsSpellable};
 ghost use Rattle.wap_deck.specs.good.Characters.{OfNode};

@@ -13,7 +13,7 @@ use crate::good::heads::known_of;
 use crate::good::skip::after_kids;
 use std::alloc::Global;
 use wap_base::{NoMemory, Rows};
-use wap_markup::LEVEL_LIMIT;
+use wap_tokens::markup::LEVEL_LIMIT;
 use wap_tokens::tag_of;
 
 /// Where a node begins and where it ends, by how many bytes are left there.

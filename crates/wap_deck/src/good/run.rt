@@ -1,7 +1,7 @@
 //! Texts and values of attributes, read bit by bit.
 ghost use Rattle.std.specs.Prelude.{◌≡◌, ◌↔◌, IsTrue, [], Some, IfSome};
 ghost use Rattle.std.specs.Str.{chars};
-ghost use Rattle.wap_markup.specs.Trees.{plain_text, is_text};
+ghost use Rattle.wap_tokens.specs.markup.Trees.{plain_text, is_text};
 ghost use Rattle.wap_wbxml.specs.spelling.Spellable.{HasNoZero};
 ghost use Rattle.wap_deck.specs.good.Texts.{part_at, value_at, AreParts, IsRun};
 ghost use Rattle.wap_deck.specs.good.Runs.{FindsBit, TakesPart, IsOfKind, part_of};

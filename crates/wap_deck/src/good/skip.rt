@@ -1,6 +1,6 @@
 //! What follows attributes, nodes and texts, told by marks, zeros and lengths alone.
 ghost use Rattle.std.specs.Prelude.{ℕ, ◌∷◌, List, drop};
-ghost use Rattle.wap_markup.specs.Codes.{has_attributes};
+ghost use Rattle.wap_tokens.specs.markup.Codes.{has_attributes};
 ghost use Rattle.wap_deck.specs.good.Readers.{Leaves, Ends, IsBehind, number_at, closed, closed_if};
 ghost use Rattle.wap_deck.specs.good.inside.Nodes.{attr_at, FollowsNode, FollowsContent};
 ghost use Rattle.wap_deck.specs.good.inside.Nodes.{FollowsItems, FollowsItem};
@@ -8,7 +8,7 @@ ghost use Rattle.wap_deck.specs.good.inside.Nodes.{FollowsItems, FollowsItem};
 use crate::good::bits::{after_bit, after_bits};
 use crate::good::front::{after_first, first, is_end, number};
 use crate::good::head::{has_attributes, has_content};
-use wap_markup::LITERAL;
+use wap_tokens::markup::LITERAL;
 
 /// What follows a number.
 #[tactic(auto, unfolding(crate::specs::good::Readers::number_at))]

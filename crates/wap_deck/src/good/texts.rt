@@ -3,7 +3,7 @@ ghost use Rattle.std.specs.List.{AllByRecursion};
 ghost use Rattle.wap_deck.specs.good.Characters.{OfPart, OfAttr, OfItem, OfOpened, OfNode};
 
 use wap_base::{Part, Rows};
-use wap_markup::{AttrName, Item, Node};
+use wap_tokens::markup::{AttrName, Item, Node};
 
 /// Tells it of a part.
 fn tell_part(part: &Part)

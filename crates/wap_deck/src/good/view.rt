@@ -1,6 +1,6 @@
 //! Nodes of a good deck.
 ghost use Rattle.std.specs.Prelude.{◌≡◌, ◌≤◌, length};
-ghost use Rattle.wap_markup.specs.Trees.{value_of};
+ghost use Rattle.wap_tokens.specs.markup.Trees.{value_of};
 ghost use Rattle.wap_deck.specs.good.inside.Nodes.{front_node};
 ghost use Rattle.wap_deck.specs.good.inside.Notes.{IsLent, IsHead};
 
@@ -13,7 +13,7 @@ use crate::good::notes::{Known, Note, own_note};
 use crate::good::run::Run;
 use std::marker::Model;
 use wap_base::Bytes;
-use wap_markup::{AttrName, Tag};
+use wap_tokens::markup::{AttrName, Tag};
 use wap_tokens::tag_of;
 
 /// A node of a good deck. A contract sees that node. What it lends lives as long as the deck is
@@ -30,9 +30,9 @@ pub struct View<'a> {
 }
 
 impl<'a> Model for View<'a> {
-    ghost use Rattle.wap_markup.specs.declared.deck.Node.{Node};
+    ghost use Rattle.wap_tokens.specs.declared.markup.deck.Node.{Node};
     ghost use Rattle.std.specs.Coded.{codes};
-    ghost use Rattle.wap_markup.specs.contracts.deck.Item as item;
+    ghost use Rattle.wap_tokens.specs.contracts.markup.deck.Item as item;
 
     ghost Value = { Node };
 

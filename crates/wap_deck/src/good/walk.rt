@@ -1,15 +1,15 @@
 //! Walks over whole decks and texts.
 ghost use Rattle.std.specs.Prelude.{◌≡◌};
 ghost use Rattle.std.specs.List.{list_any};
-ghost use Rattle.wap_markup.specs.Good.{nodes_in};
-ghost use Rattle.wap_markup.specs.Tables.{is_same_tag};
+ghost use Rattle.wap_tokens.specs.markup.Good.{nodes_in};
+ghost use Rattle.wap_tokens.specs.markup.Tables.{is_same_tag};
 ghost use Rattle.wap_deck.specs.good.Runs.{is_reference};
 
 use crate::good::bits::Bit;
 use crate::good::kids::Child;
 use crate::good::run::Run;
 use crate::good::view::View;
-use wap_markup::Tag;
+use wap_tokens::markup::Tag;
 
 /// Whether a node of this tag stands in a node, at most so many levels below it.
 #[tactic(auto, using(crate::proofs::GoodLemmas::Layers::found_here, crate::proofs::GoodLemmas::Layers::found_below, crate::proofs::GoodLemmas::Layers::found_behind, crate::proofs::GoodLemmas::Layers::found_after_text))]

@@ -3,7 +3,7 @@ ghost use Rattle.std.specs.Prelude.{◌≡◌, [], ◌∷◌, ◌++◌};
 ghost use Rattle.std.specs.List.{filter_map};
 ghost use Rattle.std.specs.Str.{chars};
 ghost use Rattle.wap_base.specs.Outcome.{Meets};
-ghost use Rattle.wap_markup.specs.Decks.{attribute, value_after};
+ghost use Rattle.wap_tokens.specs.markup.Decks.{attribute, value_after};
 ghost use Rattle.wap_wbxml.specs.declared.fault.DocFault.TheVariants.{NoMemory};
 ghost use Rattle.wap_wbxml.specs.reading.Parts.{pieces_at, attribute_behind};
 ghost use Rattle.wap_wbxml.specs.reading.Parts.{next_attribute, attributes_at, when};
@@ -15,7 +15,7 @@ use crate::reading::rows::add_to_few;
 use crate::reading::values::read_value;
 use std::alloc::Global;
 use wap_base::{Part, Rows};
-use wap_markup::{AttrName, Lead};
+use wap_tokens::markup::{AttrName, Lead};
 use wap_wbxml::{
     DocFault, Input, State, attribute_mark, is_end, read_lead, read_pieces, read_start,
 };

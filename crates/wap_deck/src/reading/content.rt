@@ -1,7 +1,7 @@
 //! Elements and their content.
 ghost use Rattle.std.specs.Prelude.{◌≡◌, suc, [], ◌∷◌, ◌++◌};
 ghost use Rattle.wap_base.specs.Outcome.{Meets};
-ghost use Rattle.wap_markup.specs.declared.deck.Item.{Item};
+ghost use Rattle.wap_tokens.specs.declared.markup.deck.Item.{Item};
 ghost use Rattle.wap_wbxml.specs.declared.fault.DocFault.TheVariants.{NoMemory};
 ghost use Rattle.wap_wbxml.specs.reading.Parts.{when, next_kid, kids_at};
 ghost use Rattle.wap_wbxml.specs.reading.Parts.{element_by, element_at};
@@ -15,7 +15,7 @@ use crate::reading::rows::add_to_few;
 use crate::reading::values::part_of;
 use std::alloc::Global;
 use wap_base::Rows;
-use wap_markup::{ContentMark, Item, Lead, Node, Tag};
+use wap_tokens::markup::{ContentMark, Item, Lead, Node, Tag};
 use wap_wbxml::{
     DocFault, Input, State, content_mark, has_attributes, has_content, read_instruction, read_lead,
     read_leaf, read_tag,

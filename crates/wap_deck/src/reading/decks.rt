@@ -1,11 +1,11 @@
 //! Reading a deck from the left.
 ghost use Rattle.std.specs.Prelude.{◌≡◌, ◌≢◌, length, IfOk, IfErr, Ok, Err};
 ghost use Rattle.wap_base.specs.Outcome.{Meets};
-ghost use Rattle.wap_markup.specs.declared.document.Document.{Document};
-ghost use Rattle.wap_markup.specs.declared.mark.DocumentType.TheVariants.{Wml};
-ghost use Rattle.wap_markup.specs.Decks.{deck_of};
-ghost use Rattle.wap_markup.specs.Documents.{IsDocument};
-ghost use Rattle.wap_markup.specs.Normal.{IsNormal};
+ghost use Rattle.wap_tokens.specs.declared.markup.document.Document.{Document};
+ghost use Rattle.wap_tokens.specs.declared.markup.mark.DocumentType.TheVariants.{Wml};
+ghost use Rattle.wap_tokens.specs.markup.Decks.{deck_of};
+ghost use Rattle.wap_tokens.specs.markup.Documents.{IsDocument};
+ghost use Rattle.wap_tokens.specs.markup.Normal.{IsNormal};
 ghost use Rattle.wap_wbxml.specs.declared.fault.DocFault.{DocFault};
 ghost use Rattle.wap_wbxml.specs.declared.fault.DocFault.TheVariants.{NoMemory};
 ghost use Rattle.wap_wbxml.specs.Refusal.{IsRefused};
@@ -19,7 +19,7 @@ ghost use Rattle.wap_deck.specs.reading.inside.Parts.{root_node, root_node_at, a
 use crate::documents::tag_in;
 use crate::reading::content::read_node;
 use std::alloc::Global;
-use wap_markup::{ContentMark, Deck, DocumentType, LEVEL_LIMIT, Lead, Node, Tag};
+use wap_tokens::markup::{ContentMark, Deck, DocumentType, LEVEL_LIMIT, Lead, Node, Tag};
 use wap_wbxml::{
     DocFault, Input, State, content_mark, find_public, read_charset, read_identifier, read_lead,
     read_opaque, read_outers, read_tag, read_version,

@@ -2,8 +2,8 @@
 ghost use Rattle.std.specs.Prelude.{◌≡◌, IfOk};
 ghost use Rattle.std.specs.Str.{chars};
 ghost use Rattle.wap_base.specs.Outcome.{Meets};
-ghost use Rattle.wap_markup.specs.Decks.{piece_part, value_after};
-ghost use Rattle.wap_markup.specs.Grammar.{piece_of};
+ghost use Rattle.wap_tokens.specs.markup.Decks.{piece_part, value_after};
+ghost use Rattle.wap_tokens.specs.markup.Grammar.{piece_of};
 ghost use Rattle.wap_wbxml.specs.declared.fault.DocFault.TheVariants as fault;
 ghost use Rattle.wap_wbxml.specs.reading.Parts.{next_piece, pieces_at};
 ghost use Rattle.wap_deck.specs.reading.inside.Gathering.{read_as, with_next};
@@ -12,7 +12,7 @@ ghost use Rattle.wap_deck.specs.reading.inside.Parts.{piece_added};
 use crate::documents::{add_any, begin_value, character, decode_part, literal, reference};
 use std::alloc::Global;
 use wap_base::{NoMemory, Part, Rows};
-use wap_markup::{AttributeMark, Leaf};
+use wap_tokens::markup::{AttributeMark, Leaf};
 use wap_wbxml::{DocFault, Input, State, attribute_mark, find_lead, read_leaf};
 
 /// The part that a string, a character or a reference gives. What else there may be gives none.

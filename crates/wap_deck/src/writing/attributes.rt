@@ -1,7 +1,7 @@
 //! Attributes.
 ghost use Rattle.std.specs.Prelude.{◌≡◌, [], map, OnOk};
-ghost use Rattle.wap_markup.specs.Tables.{code_of_start};
-ghost use Rattle.wap_markup.specs.Writing.{attr_of};
+ghost use Rattle.wap_tokens.specs.markup.Tables.{code_of_start};
+ghost use Rattle.wap_tokens.specs.markup.Writing.{attr_of};
 ghost use Rattle.wap_wbxml.specs.spelling.Writings.{ended};
 ghost use Rattle.wap_wbxml.specs.spelling.Spelling.{attr_spelling};
 ghost use Rattle.wap_wbxml.specs.spelling.inside.Written.{written};
@@ -10,7 +10,7 @@ use crate::documents::whole_code;
 use crate::writing::texts::write_parts;
 use std::alloc::Global;
 use wap_base::{NoMemory, Part, Rows, Text};
-use wap_markup::{AttrName, END, LITERAL};
+use wap_tokens::markup::{AttrName, END, LITERAL};
 use wap_tokens::{code_of_start, name_of_attr};
 use wap_wbxml::spelling::{Output, Table};
 

@@ -1,6 +1,6 @@
 //! Writing a deck.
 ghost use Rattle.std.specs.Prelude.{◌≡◌, IfOk};
-ghost use Rattle.wap_markup.specs.Writing.{document_of};
+ghost use Rattle.wap_tokens.specs.markup.Writing.{document_of};
 ghost use Rattle.wap_wbxml.specs.spelling.Spelling.{spelling};
 ghost use Rattle.wap_wbxml.specs.spelling.Spellable.{IsSpellable};
 
@@ -8,7 +8,7 @@ use crate::writing::names::names_of;
 use crate::writing::nodes::write_node;
 use std::alloc::Global;
 use wap_base::{Bytes, NoMemory};
-use wap_markup::{Deck, LEVEL_LIMIT, WML_1_3};
+use wap_tokens::markup::{Deck, LEVEL_LIMIT, WML_1_3};
 use wap_wbxml::spelling::{Output, Pages, Table, write_header};
 
 /// The one spelling of a deck's document, which isn't built.

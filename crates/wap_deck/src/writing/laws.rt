@@ -1,11 +1,11 @@
 //! The document of a deck that a document means is one that bytes spell. The function here does
 //! nothing, and carries the law alone.
 ghost use Rattle.std.specs.Prelude.{◌≢◌};
-ghost use Rattle.wap_markup.specs.declared.document.Document.{Document};
-ghost use Rattle.wap_markup.specs.declared.name.Tag.{Tag};
-ghost use Rattle.wap_markup.specs.Documents.{IsDocument};
-ghost use Rattle.wap_markup.specs.Decks.{deck_of};
-ghost use Rattle.wap_markup.specs.Writing.{document_of};
+ghost use Rattle.wap_tokens.specs.declared.markup.document.Document.{Document};
+ghost use Rattle.wap_tokens.specs.declared.markup.name.Tag.{Tag};
+ghost use Rattle.wap_tokens.specs.markup.Documents.{IsDocument};
+ghost use Rattle.wap_tokens.specs.markup.Decks.{deck_of};
+ghost use Rattle.wap_tokens.specs.markup.Writing.{document_of};
 ghost use Rattle.wap_wbxml.specs.spelling.Spelling.{spelling};
 
 use wap_wbxml::spelling::{decks_are_spellable, documents_are_spellable, spelling_is_read};

@@ -1,7 +1,7 @@
 //! The names that the document of a deck has in place of codes, which are those of attributes.
 ghost use Rattle.std.specs.Prelude.{◌≡◌, map, suc, fold, OnOk, IfOk};
-ghost use Rattle.wap_markup.specs.Writing.{attr_of, item_kids, items_kids};
-ghost use Rattle.wap_markup.specs.Writing.{node_kids, element_of, document_of};
+ghost use Rattle.wap_tokens.specs.markup.Writing.{attr_of, item_kids, items_kids};
+ghost use Rattle.wap_tokens.specs.markup.Writing.{node_kids, element_of, document_of};
 ghost use Rattle.wap_wbxml.specs.spelling.Names.{with_attr, with_kid, with_element, names_of};
 
 use crate::documents::whole_code;
@@ -9,7 +9,7 @@ use crate::writing::attributes::own_code;
 use indexmap::IndexSet;
 use std::alloc::Global;
 use wap_base::{NoMemory, Part, Rows, Text};
-use wap_markup::{AttrName, Deck, Item, LEVEL_LIMIT, Node};
+use wap_tokens::markup::{AttrName, Deck, Item, LEVEL_LIMIT, Node};
 use wap_tokens::name_of_attr;
 use wap_wbxml::spelling::add_name;
 

@@ -1,6 +1,6 @@
 //! Nodes and their content.
 ghost use Rattle.std.specs.Prelude.{◌≡◌, ◌+◌, suc, OnOk};
-ghost use Rattle.wap_markup.specs.Writing.{item_kids, items_kids, node_kids, element_of};
+ghost use Rattle.wap_tokens.specs.markup.Writing.{item_kids, items_kids, node_kids, element_of};
 ghost use Rattle.wap_wbxml.specs.spelling.Writings.{each, ended};
 ghost use Rattle.wap_wbxml.specs.spelling.Spelling.{bit, kid_spelling, element_spelling};
 ghost use Rattle.wap_wbxml.specs.spelling.inside.Written.{written};
@@ -10,8 +10,8 @@ use crate::writing::attributes::write_attributes;
 use crate::writing::texts::{have_content, write_parts};
 use std::alloc::Global;
 use wap_base::NoMemory;
-use wap_markup::{END, Item, Node};
 use wap_tokens::code_of;
+use wap_tokens::markup::{END, Item, Node};
 use wap_wbxml::spelling::{Output, Table};
 
 /// Whether an item, a node with so many levels, gives content.

@@ -1,9 +1,9 @@
 -- How far the elements before have come in the order of a rule's groups. This project's own.
 use Rattle.std.specs.Prelude.{◌≡◌, ℕ, Bool, ◌&&◌, Some, List, nat_le}
 use Rattle.std.specs.List.{list_any, list_all}
-use Rattle.wap_markup.specs.declared.deck.Item.{Item}
-use Rattle.wap_markup.specs.declared.name.Tag.{Tag}
-use Rattle.wap_markup.specs.Good.{Rule, is_among, place_in, is_not_behind, tags_of}
+use Rattle.wap_tokens.specs.declared.markup.deck.Item.{Item}
+use Rattle.wap_tokens.specs.declared.markup.name.Tag.{Tag}
+use Rattle.wap_tokens.specs.markup.Good.{Rule, is_among, place_in, is_not_behind, tags_of}
 
 -- none of these elements has a place after this one if and only if this one isn't before the one
 -- that is reached

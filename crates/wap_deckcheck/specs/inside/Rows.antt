@@ -2,12 +2,12 @@
 use Rattle.std.specs.Prelude.{ℕ, Bool, true, not, ◌||◌, nat_lt, List, map}
 use Rattle.std.specs.List.{list_all}
 use Rattle.std.specs.Borrow.{Bor}
-use Rattle.wap_markup.specs.declared.name.Tag.{Tag}
-use Rattle.wap_markup.specs.declared.name.AttrName.{AttrName}
-use Rattle.wap_markup.specs.declared.deck.Node.{Node}
-use Rattle.wap_markup.specs.Tables.{is_same_tag}
-use Rattle.wap_markup.specs.Good.{Rule, Form, words, variable, optional_variable}
-use Rattle.wap_markup.specs.Good.{plain, forms, all_have}
+use Rattle.wap_tokens.specs.declared.markup.name.Tag.{Tag}
+use Rattle.wap_tokens.specs.declared.markup.name.AttrName.{AttrName}
+use Rattle.wap_tokens.specs.declared.markup.deck.Node.{Node}
+use Rattle.wap_tokens.specs.markup.Tables.{is_same_tag}
+use Rattle.wap_tokens.specs.markup.Good.{Rule, Form, words, variable, optional_variable}
+use Rattle.wap_tokens.specs.markup.Good.{plain, forms, all_have}
 use Rattle.wap_deckcheck.specs.declared.forms.LentForm.{LentForm}
 use Rattle.wap_deckcheck.specs.declared.forms.LentForm.TheVariants as lent
 

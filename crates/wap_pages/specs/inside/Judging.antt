@@ -2,11 +2,11 @@
 use Rattle.std.specs.Prelude.{⊤, ◌≡◌, ℕ, List, Some, Result, Ok, Err}
 use Rattle.wap_base.specs.Charsets.{text_in}
 use Rattle.wap_base.specs.declared.charset.Charset.TheVariants.{Utf8}
-use Rattle.wap_markup.specs.declared.document.Document.{Document}
-use Rattle.wap_markup.specs.declared.deck.Deck.{Deck}
-use Rattle.wap_markup.specs.Documents.{IsDocument}
-use Rattle.wap_markup.specs.Decks.{deck_of}
-use Rattle.wap_markup.specs.Good.{IsGood}
+use Rattle.wap_tokens.specs.declared.markup.document.Document.{Document}
+use Rattle.wap_tokens.specs.declared.markup.deck.Deck.{Deck}
+use Rattle.wap_tokens.specs.markup.Documents.{IsDocument}
+use Rattle.wap_tokens.specs.markup.Decks.{deck_of}
+use Rattle.wap_tokens.specs.markup.Good.{IsGood}
 use Rattle.wap_unit.specs.Units.{IsUnit}
 use Rattle.wap_verify.specs.Sound.{IsVerified}
 use Rattle.wap_code.specs.declared.unit.Unit.{Unit}

@@ -33,7 +33,7 @@ pub struct Handset {
 impl Model for Handset {
     ghost use Rattle.wap_session.specs.handset.Feeding.{State};
     ghost use Rattle.wap_session.specs.handset.inside.Turns.{state_of, Stands};
-    ghost use Rattle.wap_markup.specs.contracts.deck.Item as item;
+    ghost use Rattle.wap_tokens.specs.contracts.markup.deck.Item as item;
     ghost use Rattle.std.specs.Coded.{codes};
 
     ghost Value = { State };

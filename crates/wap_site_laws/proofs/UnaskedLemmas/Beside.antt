@@ -7,8 +7,8 @@ use Rattle.std.specs.Option.{option_map, option_and_then, option_map_or}
 use Rattle.wap_cardrules.specs.declared.event.Event.{Event}
 use Rattle.wap_cardrules.specs.Events.{binding}
 use Rattle.wap_cardrules.specs.Values.{Pairs}
-use Rattle.wap_markup.specs.declared.deck.Deck.{Deck}
-use Rattle.wap_markup.specs.Cards.{cards_of}
+use Rattle.wap_tokens.specs.declared.markup.deck.Deck.{Deck}
+use Rattle.wap_tokens.specs.markup.Cards.{cards_of}
 use Rattle.wap_world.specs.site.Misses.{Asked}
 use Rattle.wap_url.specs.declared.url.Url.{Url}
 use Rattle.wap_url.specs.Printing.{name_for}

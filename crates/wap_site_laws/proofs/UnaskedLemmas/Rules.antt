@@ -13,7 +13,7 @@ use Rattle.wap_url.specs.Printing.{name_for, without_fragment}
 use Rattle.wap_value.specs.declared.value.Value.{Value}
 use Rattle.wap_execution.specs.declared.fatal.Fatal.{Fatal}
 use Rattle.wap_execution.specs.declared.fatal.Fatal.TheVariants as fatal
-use Rattle.wap_markup.specs.declared.deck.Deck.{Deck}
+use Rattle.wap_tokens.specs.declared.markup.deck.Deck.{Deck}
 use Rattle.wap_cardrules.specs.declared.answers.Entered.{Entered}
 use Rattle.wap_cardrules.specs.declared.answers.Entered.TheVariants as text
 use Rattle.wap_cardrules.specs.declared.answers.Chosen.{Chosen}

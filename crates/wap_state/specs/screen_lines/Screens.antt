@@ -1,8 +1,8 @@
 -- The screen of a card, whatever the URL of its deck. This project's own.
 use Rattle.std.specs.Prelude.{ℕ, List, ◌∷◌, ◌++◌, map}
 use Rattle.wap_vars.specs.Variables.{Variables}
-use Rattle.wap_markup.specs.declared.deck.Deck.{Deck}
-use Rattle.wap_markup.specs.declared.deck.Node.{Node}
+use Rattle.wap_tokens.specs.declared.markup.deck.Deck.{Deck}
+use Rattle.wap_tokens.specs.declared.markup.deck.Node.{Node}
 use Rattle.wap_layout.specs.Calculation.{lines_of}
 use Rattle.wap_cardrules.specs.Dos.{do_labels}
 use Rattle.wap_cardrules.specs.Flow.{flow_of, title_of}

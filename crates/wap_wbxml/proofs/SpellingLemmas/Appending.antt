@@ -4,7 +4,7 @@ use Rattle.std.proofs.Common.{List, [], ◌∷◌, ◌++◌, refl, sym, ap, ◌�
 use Rattle.std.specs.Prelude.{◌==◌}
 use Rattle.std.proofs.Math.Dec.{eqb-suc-zero}
 use Rattle.std.proofs.lemmas.List.{append-nil, take_more, take_all}
-use Rattle.wap_markup.specs.declared.codes.TheConstants.{END}
+use Rattle.wap_tokens.specs.declared.markup.codes.TheConstants.{END}
 use Rattle.wap_wbxml.specs.declared.spelling.output.Output.{Output}
 use Rattle.wap_wbxml.specs.declared.spelling.output.Pages.{Pages}
 use Rattle.wap_wbxml.specs.spelling.Writings.{Writing, plain, ◌⨾◌, each, ended}

@@ -9,27 +9,28 @@ use Rattle.std.proofs.lemmas.List.{append-nil}
 use Rattle.wap_base.specs.Numbers.{mb_spelling}
 use Rattle.wap_base.specs.declared.name.Conv.{Conv}
 use Rattle.wap_base.specs.declared.name.Conv.TheVariants.{Escape, Unescape, Plain}
-use Rattle.wap_markup.specs.declared.codes.TheConstants.{SWITCH_PAGE, ENTITY, STR_I}
-use Rattle.wap_markup.specs.declared.codes.TheConstants.{LITERAL, EXT_0, OPAQUE}
-use Rattle.wap_markup.specs.declared.document.Attr.{Attr}
-use Rattle.wap_markup.specs.declared.document.Token.{Token}
-use Rattle.wap_markup.specs.declared.document.Token.TheVariants.{Code, Literal}
-use Rattle.wap_markup.specs.declared.document.Piece.{Piece}
-use Rattle.wap_markup.specs.declared.document.Piece.TheVariants as piece
-use Rattle.wap_markup.specs.declared.mark.Lead.{Lead}
-use Rattle.wap_markup.specs.declared.mark.Leaf.{Leaf}
-use Rattle.wap_markup.specs.declared.mark.Leaf.TheVariants as leaf
-use Rattle.wap_markup.specs.declared.mark.LeafMark.{LeafMark}
-use Rattle.wap_markup.specs.declared.mark.LeafMark.TheVariants as mark
-use Rattle.wap_markup.specs.declared.mark.Role.TheVariants.{Shown, Variable}
-use Rattle.wap_markup.specs.declared.mark.AttributeMark.{AttributeMark}
-use Rattle.wap_markup.specs.declared.mark.AttributeMark.TheVariants as attribute
-use Rattle.wap_markup.specs.Charsets.{is_character}
-use Rattle.wap_markup.specs.Codes.{leaf_mark, attribute_mark}
-use Rattle.wap_markup.specs.Spellings.{Many}
-use Rattle.wap_markup.specs.Strings.{Strings}
-use Rattle.wap_markup.specs.Grammar.{with_name, table_size, IsLead, IsLeaf, IsName, IsStartBehind}
-use Rattle.wap_markup.specs.Grammar.{IsPieceBehind, piece_of, IsPiece, IsAttribute}
+use Rattle.wap_tokens.specs.declared.markup.codes.TheConstants.{SWITCH_PAGE, ENTITY, STR_I}
+use Rattle.wap_tokens.specs.declared.markup.codes.TheConstants.{LITERAL, EXT_0, OPAQUE}
+use Rattle.wap_tokens.specs.declared.markup.document.Attr.{Attr}
+use Rattle.wap_tokens.specs.declared.markup.document.Token.{Token}
+use Rattle.wap_tokens.specs.declared.markup.document.Token.TheVariants.{Code, Literal}
+use Rattle.wap_tokens.specs.declared.markup.document.Piece.{Piece}
+use Rattle.wap_tokens.specs.declared.markup.document.Piece.TheVariants as piece
+use Rattle.wap_tokens.specs.declared.markup.mark.Lead.{Lead}
+use Rattle.wap_tokens.specs.declared.markup.mark.Leaf.{Leaf}
+use Rattle.wap_tokens.specs.declared.markup.mark.Leaf.TheVariants as leaf
+use Rattle.wap_tokens.specs.declared.markup.mark.LeafMark.{LeafMark}
+use Rattle.wap_tokens.specs.declared.markup.mark.LeafMark.TheVariants as mark
+use Rattle.wap_tokens.specs.declared.markup.mark.Role.TheVariants.{Shown, Variable}
+use Rattle.wap_tokens.specs.declared.markup.mark.AttributeMark.{AttributeMark}
+use Rattle.wap_tokens.specs.declared.markup.mark.AttributeMark.TheVariants as attribute
+use Rattle.wap_tokens.specs.markup.Charsets.{is_character}
+use Rattle.wap_tokens.specs.markup.Codes.{leaf_mark, attribute_mark}
+use Rattle.wap_tokens.specs.markup.Spellings.{Many}
+use Rattle.wap_tokens.specs.markup.Strings.{Strings}
+use Rattle.wap_tokens.specs.markup.Grammar.{with_name, table_size, IsLead, IsLeaf, IsName}
+use Rattle.wap_tokens.specs.markup.Grammar.{IsStartBehind}
+use Rattle.wap_tokens.specs.markup.Grammar.{IsPieceBehind, piece_of, IsPiece, IsAttribute}
 use Rattle.wap_wbxml.specs.declared.spelling.output.Pages.{Pages}
 use Rattle.wap_wbxml.specs.spelling.Writings.{◌⨾◌, each, switch}
 use Rattle.wap_wbxml.specs.spelling.Names.{string, table_of, place_of, with_attr}

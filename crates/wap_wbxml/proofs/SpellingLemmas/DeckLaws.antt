@@ -12,32 +12,33 @@ use Rattle.wap_base.proofs.Choices.{chosen, some_same}
 use Rattle.wap_base.specs.declared.name.Part.{Part}
 use Rattle.wap_base.specs.declared.name.Part.TheVariants.{Lit, Var}
 use Rattle.wap_base.specs.Names.{is_name, begins_name, continues_name}
-use Rattle.wap_markup.specs.declared.codes.TheConstants.{LITERAL}
-use Rattle.wap_markup.specs.declared.document.TheConstants.{LEVEL_LIMIT}
-use Rattle.wap_markup.specs.declared.document.Attr.{Attr}
-use Rattle.wap_markup.specs.declared.document.Element.{Element}
-use Rattle.wap_markup.specs.declared.document.Piece.{Piece}
-use Rattle.wap_markup.specs.declared.document.Kid.{Kid, out-Kid}
-use Rattle.wap_markup.specs.declared.document.Kid.TheOpen.{Kid-F}
-use Rattle.wap_markup.specs.declared.document.Kid.TheVariants as kid
-use Rattle.wap_markup.specs.declared.deck.Deck.{Deck}
-use Rattle.wap_markup.specs.declared.deck.Node.{Node}
-use Rattle.wap_markup.specs.declared.deck.Item.{Item, out-Item}
-use Rattle.wap_markup.specs.declared.deck.Item.TheOpen.{Item-F}
-use Rattle.wap_markup.specs.declared.name.Tag.{Tag}
-use Rattle.wap_markup.specs.declared.name.Tag.TheVariants as tags
-use Rattle.wap_markup.specs.declared.name.AttrName.{AttrName}
-use Rattle.wap_markup.specs.declared.name.AttrName.TheVariants as attrs
-use Rattle.wap_markup.specs.Strings.{is_not_zero}
-use Rattle.wap_markup.specs.Grammar.{table_size}
-use Rattle.wap_markup.specs.Tables.{is_same_start, tag_rows, code_of, name_rows, name_of_attr}
-use Rattle.wap_markup.specs.Tables.{Start, start_rows, code_by_start, code_of_start}
-use Rattle.wap_markup.specs.Trees.{ItemLevel, plain_text}
-use Rattle.wap_markup.specs.Normal.{IsPart, IsAttribute, IsItem, IsNode, IsNormal}
-use Rattle.wap_markup.specs.Writing.{run_before, runs_of, run_piece, run_kid, part_pieces}
-use Rattle.wap_markup.specs.Writing.{attr_without, whole_code, attr_with, attr_of}
-use Rattle.wap_markup.specs.Writing.{part_kids, kids_from, item_kids, items_kids}
-use Rattle.wap_markup.specs.Writing.{element_of, node_kids, document_of}
+use Rattle.wap_tokens.specs.declared.markup.codes.TheConstants.{LITERAL}
+use Rattle.wap_tokens.specs.declared.markup.document.TheConstants.{LEVEL_LIMIT}
+use Rattle.wap_tokens.specs.declared.markup.document.Attr.{Attr}
+use Rattle.wap_tokens.specs.declared.markup.document.Element.{Element}
+use Rattle.wap_tokens.specs.declared.markup.document.Piece.{Piece}
+use Rattle.wap_tokens.specs.declared.markup.document.Kid.{Kid, out-Kid}
+use Rattle.wap_tokens.specs.declared.markup.document.Kid.TheOpen.{Kid-F}
+use Rattle.wap_tokens.specs.declared.markup.document.Kid.TheVariants as kid
+use Rattle.wap_tokens.specs.declared.markup.deck.Deck.{Deck}
+use Rattle.wap_tokens.specs.declared.markup.deck.Node.{Node}
+use Rattle.wap_tokens.specs.declared.markup.deck.Item.{Item, out-Item}
+use Rattle.wap_tokens.specs.declared.markup.deck.Item.TheOpen.{Item-F}
+use Rattle.wap_tokens.specs.declared.markup.name.Tag.{Tag}
+use Rattle.wap_tokens.specs.declared.markup.name.Tag.TheVariants as tags
+use Rattle.wap_tokens.specs.declared.markup.name.AttrName.{AttrName}
+use Rattle.wap_tokens.specs.declared.markup.name.AttrName.TheVariants as attrs
+use Rattle.wap_tokens.specs.markup.Strings.{is_not_zero}
+use Rattle.wap_tokens.specs.markup.Grammar.{table_size}
+use Rattle.wap_tokens.specs.markup.Tables.{is_same_start, tag_rows, code_of, name_rows}
+use Rattle.wap_tokens.specs.markup.Tables.{name_of_attr}
+use Rattle.wap_tokens.specs.markup.Tables.{Start, start_rows, code_by_start, code_of_start}
+use Rattle.wap_tokens.specs.markup.Trees.{ItemLevel, plain_text}
+use Rattle.wap_tokens.specs.markup.Normal.{IsPart, IsAttribute, IsItem, IsNode, IsNormal}
+use Rattle.wap_tokens.specs.markup.Writing.{run_before, runs_of, run_piece, run_kid, part_pieces}
+use Rattle.wap_tokens.specs.markup.Writing.{attr_without, whole_code, attr_with, attr_of}
+use Rattle.wap_tokens.specs.markup.Writing.{part_kids, kids_from, item_kids, items_kids}
+use Rattle.wap_tokens.specs.markup.Writing.{element_of, node_kids, document_of}
 use Rattle.wap_wbxml.specs.spelling.Names.{KidLevel, with_attr, with_opened}
 use Rattle.wap_wbxml.specs.spelling.Names.{with_kid, with_element, names_of}
 use Rattle.wap_wbxml.specs.spelling.Spellable.{HasNoZero, FitsPiece, FitsAttr, FitsOpened}

@@ -5,18 +5,18 @@ use Rattle.std.proofs.lemmas.Bool.Decides.{nat_tests}
 use Rattle.std.proofs.lemmas.List.{append-nil}
 use Rattle.wap_base.specs.Numbers.{mb_spelling}
 use Rattle.wap_base.specs.declared.charset.Charset.TheVariants.{Utf8}
-use Rattle.wap_markup.specs.declared.document.Document.{Document}
-use Rattle.wap_markup.specs.declared.document.TheConstants.{LEVEL_LIMIT}
-use Rattle.wap_markup.specs.declared.mark.ContentMark.{ContentMark}
-use Rattle.wap_markup.specs.declared.mark.DocumentType.TheVariants.{Wml}
-use Rattle.wap_markup.specs.declared.mark.Identifier.TheVariants.{Numbered}
-use Rattle.wap_markup.specs.Spellings.{none}
-use Rattle.wap_markup.specs.Strings.{Strings}
-use Rattle.wap_markup.specs.Grammar.{State, IsOpaque}
-use Rattle.wap_markup.specs.Documents.{is_public, IsIdentifier, IsIdentifierBehind}
-use Rattle.wap_markup.specs.Documents.{IsRootBehind, IsRoot, first_state, into_root}
-use Rattle.wap_markup.specs.Documents.{out_of_root, IsBody, IsDocument, IsDocumentOf}
-use Rattle.wap_markup.specs.declared.codes.TheConstants.{VERSION, CHARSET}
+use Rattle.wap_tokens.specs.declared.markup.document.Document.{Document}
+use Rattle.wap_tokens.specs.declared.markup.document.TheConstants.{LEVEL_LIMIT}
+use Rattle.wap_tokens.specs.declared.markup.mark.ContentMark.{ContentMark}
+use Rattle.wap_tokens.specs.declared.markup.mark.DocumentType.TheVariants.{Wml}
+use Rattle.wap_tokens.specs.declared.markup.mark.Identifier.TheVariants.{Numbered}
+use Rattle.wap_tokens.specs.markup.Spellings.{none}
+use Rattle.wap_tokens.specs.markup.Strings.{Strings}
+use Rattle.wap_tokens.specs.markup.Grammar.{State, IsOpaque}
+use Rattle.wap_tokens.specs.markup.Documents.{is_public, IsIdentifier, IsIdentifierBehind}
+use Rattle.wap_tokens.specs.markup.Documents.{IsRootBehind, IsRoot, first_state, into_root}
+use Rattle.wap_tokens.specs.markup.Documents.{out_of_root, IsBody, IsDocument, IsDocumentOf}
+use Rattle.wap_tokens.specs.declared.markup.codes.TheConstants.{VERSION, CHARSET}
 use Rattle.wap_wbxml.specs.spelling.Names.{table_of, names_of}
 use Rattle.wap_wbxml.specs.spelling.Spelling.{sized, first_pages, element_spelling}
 use Rattle.wap_wbxml.specs.spelling.Spelling.{root_spelling, spelling, canon}

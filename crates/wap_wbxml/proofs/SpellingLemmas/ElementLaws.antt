@@ -8,29 +8,30 @@ use Rattle.std.proofs.lemmas.Bool.{le-leb, lt-leb}
 use Rattle.wap_base.specs.Numbers.{mb_spelling}
 use Rattle.wap_base.specs.declared.name.Conv.{Conv}
 use Rattle.wap_base.specs.declared.name.Conv.TheVariants.{Escape, Unescape, Plain}
-use Rattle.wap_markup.specs.declared.codes.TheConstants.{END, ENTITY, STR_I, LITERAL}
-use Rattle.wap_markup.specs.declared.codes.TheConstants.{EXT_0, OPAQUE, PI}
-use Rattle.wap_markup.specs.declared.document.Element.{Element}
-use Rattle.wap_markup.specs.declared.document.Attr.{Attr}
-use Rattle.wap_markup.specs.declared.document.Token.{Token}
-use Rattle.wap_markup.specs.declared.document.Token.TheVariants.{Code, Literal}
-use Rattle.wap_markup.specs.declared.document.Kid.{Kid, out-Kid}
-use Rattle.wap_markup.specs.declared.document.Kid.TheOpen.{Kid-F}
-use Rattle.wap_markup.specs.declared.document.Kid.TheViews.{roll-Kid, roll-out-Kid}
-use Rattle.wap_markup.specs.declared.document.Kid.TheVariants as kid
-use Rattle.wap_markup.specs.declared.mark.Lead.{Lead}
-use Rattle.wap_markup.specs.declared.mark.Leaf.{Leaf}
-use Rattle.wap_markup.specs.declared.mark.Leaf.TheVariants as leaf
-use Rattle.wap_markup.specs.declared.mark.LeafMark.{LeafMark}
-use Rattle.wap_markup.specs.declared.mark.LeafMark.TheVariants as mark
-use Rattle.wap_markup.specs.declared.mark.Role.TheVariants.{Shown, Variable}
-use Rattle.wap_markup.specs.declared.mark.ContentMark.{ContentMark}
-use Rattle.wap_markup.specs.declared.mark.ContentMark.TheVariants as content
-use Rattle.wap_markup.specs.Codes.{leaf_mark, content_mark, has_attributes, has_content, is_named}
-use Rattle.wap_markup.specs.Strings.{Strings}
-use Rattle.wap_markup.specs.Grammar.{State, on_tag_page, with_name, table_size, IsLead}
-use Rattle.wap_markup.specs.Grammar.{IsLeaf, IsTagBehind, IsAttribute, Elements, IsKidBehind}
-use Rattle.wap_markup.specs.Grammar.{IsKid, kid_of, IsElementOf, IsElement}
+use Rattle.wap_tokens.specs.declared.markup.codes.TheConstants.{END, ENTITY, STR_I, LITERAL}
+use Rattle.wap_tokens.specs.declared.markup.codes.TheConstants.{EXT_0, OPAQUE, PI}
+use Rattle.wap_tokens.specs.declared.markup.document.Element.{Element}
+use Rattle.wap_tokens.specs.declared.markup.document.Attr.{Attr}
+use Rattle.wap_tokens.specs.declared.markup.document.Token.{Token}
+use Rattle.wap_tokens.specs.declared.markup.document.Token.TheVariants.{Code, Literal}
+use Rattle.wap_tokens.specs.declared.markup.document.Kid.{Kid, out-Kid}
+use Rattle.wap_tokens.specs.declared.markup.document.Kid.TheOpen.{Kid-F}
+use Rattle.wap_tokens.specs.declared.markup.document.Kid.TheViews.{roll-Kid, roll-out-Kid}
+use Rattle.wap_tokens.specs.declared.markup.document.Kid.TheVariants as kid
+use Rattle.wap_tokens.specs.declared.markup.mark.Lead.{Lead}
+use Rattle.wap_tokens.specs.declared.markup.mark.Leaf.{Leaf}
+use Rattle.wap_tokens.specs.declared.markup.mark.Leaf.TheVariants as leaf
+use Rattle.wap_tokens.specs.declared.markup.mark.LeafMark.{LeafMark}
+use Rattle.wap_tokens.specs.declared.markup.mark.LeafMark.TheVariants as mark
+use Rattle.wap_tokens.specs.declared.markup.mark.Role.TheVariants.{Shown, Variable}
+use Rattle.wap_tokens.specs.declared.markup.mark.ContentMark.{ContentMark}
+use Rattle.wap_tokens.specs.declared.markup.mark.ContentMark.TheVariants as content
+use Rattle.wap_tokens.specs.markup.Codes.{leaf_mark, content_mark, has_attributes, has_content}
+use Rattle.wap_tokens.specs.markup.Codes.{is_named}
+use Rattle.wap_tokens.specs.markup.Strings.{Strings}
+use Rattle.wap_tokens.specs.markup.Grammar.{State, on_tag_page, with_name, table_size, IsLead}
+use Rattle.wap_tokens.specs.markup.Grammar.{IsLeaf, IsTagBehind, IsAttribute, Elements, IsKidBehind}
+use Rattle.wap_tokens.specs.markup.Grammar.{IsKid, kid_of, IsElementOf, IsElement}
 use Rattle.wap_wbxml.specs.declared.spelling.output.Pages.{Pages}
 use Rattle.wap_wbxml.specs.spelling.Writings.{◌⨾◌, ended, switch}
 use Rattle.wap_wbxml.specs.spelling.Names.{KidLevel, string, table_of, place_of, with_token}

@@ -1,6 +1,6 @@
 -- Elements by the levels that they may have.
 use Rattle.std.proofs.Common.{◌≡◌, ℕ, zero, suc, ◌-◌, ◌<◌, List, ap, arith}
-use Rattle.wap_markup.specs.declared.document.Element.{Element}
+use Rattle.wap_tokens.specs.declared.markup.document.Element.{Element}
 use Rattle.wap_wbxml.specs.spelling.Spelling.{element_by, element_spelling}
 
 pub deeper : (names : List (List ℕ)) (levels : ℕ) (element : Element) → 0 < levels

@@ -8,7 +8,7 @@ use Rattle.std.proofs.lemmas.Cmp.{nat_list_eq_equiv}
 use Rattle.std.proofs.lemmas.List.Folds.{list_any-append}
 use Rattle.wap_base.specs.Texts.{is_same_text}
 use Rattle.wap_base.specs.Utf8.{utf8_len}
-use Rattle.wap_markup.specs.Grammar.{with_name, table_size}
+use Rattle.wap_tokens.specs.markup.Grammar.{with_name, table_size}
 
 abbrev pub among : List ℕ → List (List ℕ) → Bool
 among name names = list_any (is_same_text name) names

@@ -1,9 +1,9 @@
 -- What is written for items one after the other is read as these items.
 use Rattle.std.proofs.Common.{◌≡◌, ℕ, Bool, true, false, List, [], ◌∷◌, ◌++◌, refl, sym, subst}
 use Rattle.std.specs.List.{fold, AllByRecursion}
-use Rattle.wap_markup.specs.declared.codes.TheConstants.{END}
-use Rattle.wap_markup.specs.Spellings.{When, Many, none, more, Ended}
-use Rattle.wap_markup.specs.Grammar.{State}
+use Rattle.wap_tokens.specs.declared.markup.codes.TheConstants.{END}
+use Rattle.wap_tokens.specs.markup.Spellings.{When, Many, none, more, Ended}
+use Rattle.wap_tokens.specs.markup.Grammar.{State}
 use Rattle.wap_wbxml.specs.declared.spelling.output.Pages.{Pages}
 use Rattle.wap_wbxml.specs.spelling.Writings.{Writing, ◌⨾◌, each, ended}
 

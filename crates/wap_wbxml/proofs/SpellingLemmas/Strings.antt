@@ -14,8 +14,8 @@ use Rattle.wap_base.specs.Numbers.{IsMb, mb_spelling}
 use Rattle.wap_base.specs.Texts.{is_same_text}
 use Rattle.wap_base.specs.declared.charset.Charset.TheVariants.{Utf8}
 use Rattle.wap_base.proofs.NumberSpelling.{IsShortest-mb_spelling}
-use Rattle.wap_markup.specs.Strings.{Strings, IsInline, IsIndexed, is_not_zero}
-use Rattle.wap_markup.specs.Grammar.{table_size}
+use Rattle.wap_tokens.specs.markup.Strings.{Strings, IsInline, IsIndexed, is_not_zero}
+use Rattle.wap_tokens.specs.markup.Grammar.{table_size}
 use Rattle.wap_wbxml.specs.spelling.Names.{string, table_of, place_of}
 use Rattle.wap_wbxml.specs.spelling.Spellable.{IsString}
 use Rattle.wap_wbxml.proofs.SpellingLemmas.Tables.{length-table, length-string}

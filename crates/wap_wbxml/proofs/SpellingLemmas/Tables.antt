@@ -10,7 +10,7 @@ use Rattle.wap_base.proofs.Choices.{chosen, some_same}
 use Rattle.wap_base.specs.Texts.{is_same_text}
 use Rattle.wap_base.specs.Utf8.{utf8_len}
 use Rattle.wap_base.proofs.Utf8Lengths.{length-encode_utf8_all}
-use Rattle.wap_markup.specs.Grammar.{table_size}
+use Rattle.wap_tokens.specs.markup.Grammar.{table_size}
 use Rattle.wap_wbxml.specs.spelling.Names.{string, table_of, place_of}
 use Rattle.wap_wbxml.specs.spelling.inside.Places.{places_from}
 

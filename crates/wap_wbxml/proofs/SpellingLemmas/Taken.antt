@@ -5,30 +5,33 @@ use Rattle.std.proofs.Common.{None, refl, sym, ap, subst, ◌∙◌, arith, ltb-
 use Rattle.std.specs.Prelude.{not, ◌&&◌}
 use Rattle.std.specs.List.{fold, AllByRecursion, list_all, take_while, prefix_len}
 use Rattle.std.proofs.lemmas.Bool.{ltb-false}
-use Rattle.wap_markup.specs.declared.codes.TheConstants.{END, ENTITY, STR_I, LITERAL, EXT_I_0}
-use Rattle.wap_markup.specs.declared.codes.TheConstants.{EXT_I_1, EXT_I_2, EXT_T_0, EXT_T_1}
-use Rattle.wap_markup.specs.declared.codes.TheConstants.{EXT_T_2, STR_T, EXT_0, EXT_1, EXT_2}
-use Rattle.wap_markup.specs.declared.codes.TheConstants.{OPAQUE}
+use Rattle.wap_tokens.specs.declared.markup.codes.TheConstants.{END, ENTITY, STR_I, LITERAL}
+use Rattle.wap_tokens.specs.declared.markup.codes.TheConstants.{EXT_I_0}
+use Rattle.wap_tokens.specs.declared.markup.codes.TheConstants.{EXT_I_1, EXT_I_2, EXT_T_0, EXT_T_1}
+use Rattle.wap_tokens.specs.declared.markup.codes.TheConstants.{EXT_T_2, STR_T, EXT_0, EXT_1, EXT_2}
+use Rattle.wap_tokens.specs.declared.markup.codes.TheConstants.{OPAQUE}
 use Rattle.wap_base.specs.declared.name.Conv.TheVariants.{Escape, Unescape, Plain}
-use Rattle.wap_markup.specs.declared.document.Attr.{Attr}
-use Rattle.wap_markup.specs.declared.document.Token.{Token}
-use Rattle.wap_markup.specs.declared.document.Token.TheVariants.{Literal}
-use Rattle.wap_markup.specs.declared.document.Piece.{Piece}
-use Rattle.wap_markup.specs.declared.mark.Lead.{Lead}
-use Rattle.wap_markup.specs.declared.mark.Leaf.{Leaf}
-use Rattle.wap_markup.specs.declared.mark.Leaf.TheVariants as leaf
-use Rattle.wap_markup.specs.declared.mark.LeafMark.{LeafMark}
-use Rattle.wap_markup.specs.declared.mark.LeafMark.TheVariants as mark
-use Rattle.wap_markup.specs.declared.mark.Role.TheVariants.{Shown, Variable}
-use Rattle.wap_markup.specs.declared.mark.AttributeMark.{AttributeMark}
-use Rattle.wap_markup.specs.declared.mark.AttributeMark.TheVariants as attribute
-use Rattle.wap_markup.specs.Charsets.{is_character, IsText}
-use Rattle.wap_markup.specs.Codes.{leaf_mark, leaf_behind, is_extension}
-use Rattle.wap_markup.specs.Codes.{attribute_leaf, attribute_mark}
-use Rattle.wap_markup.specs.Spellings.{Many, none, more}
-use Rattle.wap_markup.specs.Strings.{Strings, IsInline, IsIndexed, is_not_zero, string_from}
-use Rattle.wap_markup.specs.Grammar.{State, on_attribute_page, counted, table_size, IsLeaf, IsName}
-use Rattle.wap_markup.specs.Grammar.{IsStartBehind, IsPieceBehind, piece_of, IsPiece, IsAttribute}
+use Rattle.wap_tokens.specs.declared.markup.document.Attr.{Attr}
+use Rattle.wap_tokens.specs.declared.markup.document.Token.{Token}
+use Rattle.wap_tokens.specs.declared.markup.document.Token.TheVariants.{Literal}
+use Rattle.wap_tokens.specs.declared.markup.document.Piece.{Piece}
+use Rattle.wap_tokens.specs.declared.markup.mark.Lead.{Lead}
+use Rattle.wap_tokens.specs.declared.markup.mark.Leaf.{Leaf}
+use Rattle.wap_tokens.specs.declared.markup.mark.Leaf.TheVariants as leaf
+use Rattle.wap_tokens.specs.declared.markup.mark.LeafMark.{LeafMark}
+use Rattle.wap_tokens.specs.declared.markup.mark.LeafMark.TheVariants as mark
+use Rattle.wap_tokens.specs.declared.markup.mark.Role.TheVariants.{Shown, Variable}
+use Rattle.wap_tokens.specs.declared.markup.mark.AttributeMark.{AttributeMark}
+use Rattle.wap_tokens.specs.declared.markup.mark.AttributeMark.TheVariants as attribute
+use Rattle.wap_tokens.specs.markup.Charsets.{is_character, IsText}
+use Rattle.wap_tokens.specs.markup.Codes.{leaf_mark, leaf_behind, is_extension}
+use Rattle.wap_tokens.specs.markup.Codes.{attribute_leaf, attribute_mark}
+use Rattle.wap_tokens.specs.markup.Spellings.{Many, none, more}
+use Rattle.wap_tokens.specs.markup.Strings.{Strings, IsInline, IsIndexed, is_not_zero, string_from}
+use Rattle.wap_tokens.specs.markup.Grammar.{State, on_attribute_page, counted, table_size, IsLeaf}
+use Rattle.wap_tokens.specs.markup.Grammar.{IsName}
+use Rattle.wap_tokens.specs.markup.Grammar.{IsStartBehind, IsPieceBehind, piece_of, IsPiece}
+use Rattle.wap_tokens.specs.markup.Grammar.{IsAttribute}
 use Rattle.wap_wbxml.specs.spelling.Names.{with_token, with_attr}
 use Rattle.wap_wbxml.specs.spelling.Spellable.{FitsStart, FitsPiece, FitsAttr}
 use Rattle.wap_wbxml.proofs.SpellingLemmas.Strings.{and_true}

@@ -10,23 +10,24 @@ use lib.Utf8.{encode, scalar}
 use Rattle.wap_base.proofs.Choices.{some_same}
 use Rattle.wap_base.specs.declared.charset.Charset.{Charset}
 use Rattle.wap_base.specs.declared.charset.Charset.TheVariants.{Ascii, Latin1, Utf8}
-use Rattle.wap_markup.specs.declared.codes.TheConstants.{END, PI}
-use Rattle.wap_markup.specs.declared.document.TheConstants.{LEVEL_LIMIT}
-use Rattle.wap_markup.specs.declared.document.Document.{Document}
-use Rattle.wap_markup.specs.declared.document.Element.{Element}
-use Rattle.wap_markup.specs.declared.document.Attr.{Attr}
-use Rattle.wap_markup.specs.declared.mark.Lead.{Lead}
-use Rattle.wap_markup.specs.declared.mark.DocumentType.TheVariants.{Wml}
-use Rattle.wap_markup.specs.declared.mark.Identifier.{Identifier}
-use Rattle.wap_markup.specs.declared.mark.ContentMark.{ContentMark}
-use Rattle.wap_markup.specs.declared.mark.ContentMark.TheVariants as content
-use Rattle.wap_markup.specs.Codes.{content_mark}
-use Rattle.wap_markup.specs.Charsets.{IsText}
-use Rattle.wap_markup.specs.Strings.{Strings, is_not_zero}
-use Rattle.wap_markup.specs.Grammar.{State, table_size}
-use Rattle.wap_markup.specs.Documents.{is_public, public_named, IsIdentifierBehind}
-use Rattle.wap_markup.specs.Documents.{IsPublic, IsOuter, IsRootBehind, IsRoot}
-use Rattle.wap_markup.specs.Documents.{first_state, into_root, IsBody, IsDocument, IsDocumentOf}
+use Rattle.wap_tokens.specs.declared.markup.codes.TheConstants.{END, PI}
+use Rattle.wap_tokens.specs.declared.markup.document.TheConstants.{LEVEL_LIMIT}
+use Rattle.wap_tokens.specs.declared.markup.document.Document.{Document}
+use Rattle.wap_tokens.specs.declared.markup.document.Element.{Element}
+use Rattle.wap_tokens.specs.declared.markup.document.Attr.{Attr}
+use Rattle.wap_tokens.specs.declared.markup.mark.Lead.{Lead}
+use Rattle.wap_tokens.specs.declared.markup.mark.DocumentType.TheVariants.{Wml}
+use Rattle.wap_tokens.specs.declared.markup.mark.Identifier.{Identifier}
+use Rattle.wap_tokens.specs.declared.markup.mark.ContentMark.{ContentMark}
+use Rattle.wap_tokens.specs.declared.markup.mark.ContentMark.TheVariants as content
+use Rattle.wap_tokens.specs.markup.Codes.{content_mark}
+use Rattle.wap_tokens.specs.markup.Charsets.{IsText}
+use Rattle.wap_tokens.specs.markup.Strings.{Strings, is_not_zero}
+use Rattle.wap_tokens.specs.markup.Grammar.{State, table_size}
+use Rattle.wap_tokens.specs.markup.Documents.{is_public, public_named, IsIdentifierBehind}
+use Rattle.wap_tokens.specs.markup.Documents.{IsPublic, IsOuter, IsRootBehind, IsRoot}
+use Rattle.wap_tokens.specs.markup.Documents.{first_state, into_root, IsBody, IsDocument}
+use Rattle.wap_tokens.specs.markup.Documents.{IsDocumentOf}
 use Rattle.wap_wbxml.specs.spelling.Names.{with_attr, with_element, names_of}
 use Rattle.wap_wbxml.specs.spelling.Spellable.{HasNoZero, IsString, FitsElement, IsSpellable}
 use Rattle.wap_wbxml.specs.spelling.Spellable.{HasTexts}

@@ -5,25 +5,25 @@ use Rattle.std.specs.Prelude.{not, ◌&&◌}
 use Rattle.std.specs.List.{fold, list_all, AllByRecursion}
 use Rattle.std.proofs.lemmas.Bool.{leb-true}
 use Rattle.std.proofs.lemmas.Bool.Decides.{nat_tests}
-use Rattle.wap_markup.specs.declared.codes.TheConstants.{END, LITERAL, PI}
-use Rattle.wap_markup.specs.declared.document.Element.{Element}
-use Rattle.wap_markup.specs.declared.document.Token.{Token}
-use Rattle.wap_markup.specs.declared.document.Kid.{Kid, out-Kid}
-use Rattle.wap_markup.specs.declared.document.Kid.TheOpen.{Kid-F}
-use Rattle.wap_markup.specs.declared.document.Kid.TheVariants as kid
-use Rattle.wap_markup.specs.declared.mark.Lead.{Lead}
-use Rattle.wap_markup.specs.declared.mark.Leaf.{Leaf}
-use Rattle.wap_markup.specs.declared.mark.Leaf.TheVariants as leaf
-use Rattle.wap_markup.specs.declared.mark.LeafMark.{LeafMark}
-use Rattle.wap_markup.specs.declared.mark.ContentMark.{ContentMark}
-use Rattle.wap_markup.specs.declared.mark.ContentMark.TheVariants as content
-use Rattle.wap_markup.specs.Codes.{leaf_mark, leaf_behind, content_leaf, content_mark}
-use Rattle.wap_markup.specs.Codes.{is_named, has_attributes, has_content}
-use Rattle.wap_markup.specs.Charsets.{IsText}
-use Rattle.wap_markup.specs.Spellings.{When, Ended}
-use Rattle.wap_markup.specs.Strings.{Strings, is_not_zero}
-use Rattle.wap_markup.specs.Grammar.{State, on_tag_page, IsAttribute, IsTagBehind, kid_of}
-use Rattle.wap_markup.specs.Grammar.{IsKidBehind, IsKid, IsElementOf, IsElement}
+use Rattle.wap_tokens.specs.declared.markup.codes.TheConstants.{END, LITERAL, PI}
+use Rattle.wap_tokens.specs.declared.markup.document.Element.{Element}
+use Rattle.wap_tokens.specs.declared.markup.document.Token.{Token}
+use Rattle.wap_tokens.specs.declared.markup.document.Kid.{Kid, out-Kid}
+use Rattle.wap_tokens.specs.declared.markup.document.Kid.TheOpen.{Kid-F}
+use Rattle.wap_tokens.specs.declared.markup.document.Kid.TheVariants as kid
+use Rattle.wap_tokens.specs.declared.markup.mark.Lead.{Lead}
+use Rattle.wap_tokens.specs.declared.markup.mark.Leaf.{Leaf}
+use Rattle.wap_tokens.specs.declared.markup.mark.Leaf.TheVariants as leaf
+use Rattle.wap_tokens.specs.declared.markup.mark.LeafMark.{LeafMark}
+use Rattle.wap_tokens.specs.declared.markup.mark.ContentMark.{ContentMark}
+use Rattle.wap_tokens.specs.declared.markup.mark.ContentMark.TheVariants as content
+use Rattle.wap_tokens.specs.markup.Codes.{leaf_mark, leaf_behind, content_leaf, content_mark}
+use Rattle.wap_tokens.specs.markup.Codes.{is_named, has_attributes, has_content}
+use Rattle.wap_tokens.specs.markup.Charsets.{IsText}
+use Rattle.wap_tokens.specs.markup.Spellings.{When, Ended}
+use Rattle.wap_tokens.specs.markup.Strings.{Strings, is_not_zero}
+use Rattle.wap_tokens.specs.markup.Grammar.{State, on_tag_page, IsAttribute, IsTagBehind, kid_of}
+use Rattle.wap_tokens.specs.markup.Grammar.{IsKidBehind, IsKid, IsElementOf, IsElement}
 use Rattle.wap_wbxml.specs.spelling.Names.{KidLevel, with_token, with_attr, with_opened}
 use Rattle.wap_wbxml.specs.spelling.Names.{with_kid, with_element_of, with_element}
 use Rattle.wap_wbxml.specs.spelling.Spellable.{FitsTag, FitsAttr, FitsOpened, FitsKid}

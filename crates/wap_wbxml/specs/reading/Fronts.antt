@@ -7,11 +7,11 @@ use Rattle.wap_base.specs.declared.number.ReadFault.TheVariants as read
 use Rattle.wap_base.specs.Charsets.{text_in}
 use Rattle.wap_base.specs.Numbers.{mb_at}
 use Rattle.wap_base.specs.Outcome.{◌>>=◌}
-use Rattle.wap_markup.specs.declared.codes.TheConstants.{SWITCH_PAGE}
-use Rattle.wap_markup.specs.declared.mark.Lead.{Lead}
-use Rattle.wap_markup.specs.Charsets.{is_character}
-use Rattle.wap_markup.specs.Strings.{Strings, is_not_zero, string_from}
-use Rattle.wap_markup.specs.Grammar.{State, counted, table_size}
+use Rattle.wap_tokens.specs.declared.markup.codes.TheConstants.{SWITCH_PAGE}
+use Rattle.wap_tokens.specs.declared.markup.mark.Lead.{Lead}
+use Rattle.wap_tokens.specs.markup.Charsets.{is_character}
+use Rattle.wap_tokens.specs.markup.Strings.{Strings, is_not_zero, string_from}
+use Rattle.wap_tokens.specs.markup.Grammar.{State, counted, table_size}
 use Rattle.wap_wbxml.specs.declared.fault.DocFault.{DocFault}
 use Rattle.wap_wbxml.specs.declared.fault.DocFault.TheVariants as fault
 use Rattle.wap_wbxml.specs.Places.{Input, place, place_before}

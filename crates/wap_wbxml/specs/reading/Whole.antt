@@ -2,25 +2,25 @@
 use Rattle.std.specs.Prelude.{ℕ, Bool, true, false, ◌==◌, if◌then◌else◌, List, [], ◌∷◌}
 use Rattle.std.specs.Prelude.{length, Option, Some, None, Result, Ok, Err}
 use Rattle.wap_base.specs.Outcome.{◌>>=◌}
-use Rattle.wap_markup.specs.declared.codes.TheConstants.{PI}
-use Rattle.wap_markup.specs.declared.document.Attr.{Attr}
-use Rattle.wap_markup.specs.declared.document.TheConstants.{LEVEL_LIMIT}
-use Rattle.wap_markup.specs.declared.document.Document.{Document}
-use Rattle.wap_markup.specs.declared.document.Element.{Element}
+use Rattle.wap_tokens.specs.declared.markup.codes.TheConstants.{PI}
+use Rattle.wap_tokens.specs.declared.markup.document.Attr.{Attr}
+use Rattle.wap_tokens.specs.declared.markup.document.TheConstants.{LEVEL_LIMIT}
+use Rattle.wap_tokens.specs.declared.markup.document.Document.{Document}
+use Rattle.wap_tokens.specs.declared.markup.document.Element.{Element}
 use Rattle.wap_base.specs.declared.charset.Charset.{Charset}
-use Rattle.wap_markup.specs.declared.mark.Lead.{Lead}
-use Rattle.wap_markup.specs.declared.mark.DocumentType.{DocumentType}
-use Rattle.wap_markup.specs.declared.mark.DocumentType.TheVariants.{Wml}
-use Rattle.wap_markup.specs.declared.mark.Identifier.{Identifier}
-use Rattle.wap_markup.specs.declared.mark.Identifier.TheVariants.{Numbered, Named}
-use Rattle.wap_markup.specs.declared.mark.ContentMark.{ContentMark}
-use Rattle.wap_markup.specs.declared.mark.ContentMark.TheVariants as content
+use Rattle.wap_tokens.specs.declared.markup.mark.Lead.{Lead}
+use Rattle.wap_tokens.specs.declared.markup.mark.DocumentType.{DocumentType}
+use Rattle.wap_tokens.specs.declared.markup.mark.DocumentType.TheVariants.{Wml}
+use Rattle.wap_tokens.specs.declared.markup.mark.Identifier.{Identifier}
+use Rattle.wap_tokens.specs.declared.markup.mark.Identifier.TheVariants.{Numbered, Named}
+use Rattle.wap_tokens.specs.declared.markup.mark.ContentMark.{ContentMark}
+use Rattle.wap_tokens.specs.declared.markup.mark.ContentMark.TheVariants as content
 use Rattle.wap_base.specs.Charsets.{charset_of}
-use Rattle.wap_markup.specs.Codes.{content_mark}
-use Rattle.wap_markup.specs.Strings.{string_from}
-use Rattle.wap_markup.specs.Grammar.{State}
-use Rattle.wap_markup.specs.Documents.{is_version, is_numbered, is_by_name, public_named}
-use Rattle.wap_markup.specs.Documents.{first_state, into_root, out_of_root}
+use Rattle.wap_tokens.specs.markup.Codes.{content_mark}
+use Rattle.wap_tokens.specs.markup.Strings.{string_from}
+use Rattle.wap_tokens.specs.markup.Grammar.{State}
+use Rattle.wap_tokens.specs.markup.Documents.{is_version, is_numbered, is_by_name, public_named}
+use Rattle.wap_tokens.specs.markup.Documents.{first_state, into_root, out_of_root}
 use Rattle.wap_wbxml.specs.declared.fault.DocFault.{DocFault}
 use Rattle.wap_wbxml.specs.declared.fault.DocFault.TheVariants as fault
 use Rattle.wap_wbxml.specs.Places.{Input, place, input_of}

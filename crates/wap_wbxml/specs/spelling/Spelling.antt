@@ -6,19 +6,20 @@ use Rattle.std.specs.Prelude.{ℕ, zero, suc, ◌+◌, List, [], ◌∷◌, ◌+
 use Rattle.wap_base.specs.Numbers.{mb_spelling}
 use Rattle.wap_base.specs.declared.name.Conv.{Conv}
 use Rattle.wap_base.specs.declared.name.Conv.TheVariants.{Escape, Unescape, Plain}
-use Rattle.wap_markup.specs.declared.codes.TheConstants.{END, ENTITY, STR_I, LITERAL, EXT_I_0}
-use Rattle.wap_markup.specs.declared.codes.TheConstants.{EXT_I_1, EXT_I_2, PI, EXT_0, OPAQUE}
-use Rattle.wap_markup.specs.declared.codes.TheConstants.{VERSION, CHARSET}
-use Rattle.wap_markup.specs.declared.document.TheConstants.{LEVEL_LIMIT}
-use Rattle.wap_markup.specs.declared.document.Document.{Document}
-use Rattle.wap_markup.specs.declared.document.Element.{Element}
-use Rattle.wap_markup.specs.declared.document.Attr.{Attr}
-use Rattle.wap_markup.specs.declared.document.Token.{Token}
-use Rattle.wap_markup.specs.declared.document.Token.TheVariants.{Code, Literal}
-use Rattle.wap_markup.specs.declared.document.Piece.{Piece}
-use Rattle.wap_markup.specs.declared.document.Piece.TheVariants as piece
-use Rattle.wap_markup.specs.declared.document.Kid.{Kid, out-Kid}
-use Rattle.wap_markup.specs.declared.document.Kid.TheOpen.{Kid-F}
+use Rattle.wap_tokens.specs.declared.markup.codes.TheConstants.{END, ENTITY, STR_I, LITERAL}
+use Rattle.wap_tokens.specs.declared.markup.codes.TheConstants.{EXT_I_0}
+use Rattle.wap_tokens.specs.declared.markup.codes.TheConstants.{EXT_I_1, EXT_I_2, PI, EXT_0, OPAQUE}
+use Rattle.wap_tokens.specs.declared.markup.codes.TheConstants.{VERSION, CHARSET}
+use Rattle.wap_tokens.specs.declared.markup.document.TheConstants.{LEVEL_LIMIT}
+use Rattle.wap_tokens.specs.declared.markup.document.Document.{Document}
+use Rattle.wap_tokens.specs.declared.markup.document.Element.{Element}
+use Rattle.wap_tokens.specs.declared.markup.document.Attr.{Attr}
+use Rattle.wap_tokens.specs.declared.markup.document.Token.{Token}
+use Rattle.wap_tokens.specs.declared.markup.document.Token.TheVariants.{Code, Literal}
+use Rattle.wap_tokens.specs.declared.markup.document.Piece.{Piece}
+use Rattle.wap_tokens.specs.declared.markup.document.Piece.TheVariants as piece
+use Rattle.wap_tokens.specs.declared.markup.document.Kid.{Kid, out-Kid}
+use Rattle.wap_tokens.specs.declared.markup.document.Kid.TheOpen.{Kid-F}
 use Rattle.wap_wbxml.specs.declared.spelling.output.Pages.{Pages}
 use Rattle.wap_wbxml.specs.spelling.Writings.{Writing, plain, ◌⨾◌, each, ended}
 use Rattle.wap_wbxml.specs.spelling.Writings.{on_tag_page, on_attribute_page}

@@ -1,6 +1,6 @@
 -- How what is written for a document is put together. This project's own.
 use Rattle.std.specs.Prelude.{ℕ, ◌==◌, if◌then◌else◌, List, [], ◌∷◌, ◌++◌}
-use Rattle.wap_markup.specs.declared.codes.TheConstants.{SWITCH_PAGE, END}
+use Rattle.wap_tokens.specs.declared.markup.codes.TheConstants.{SWITCH_PAGE, END}
 use Rattle.wap_wbxml.specs.declared.spelling.output.Pages.{Pages}
 
 -- from the pages of codes on which it begins: its bytes, and the pages on which it ends

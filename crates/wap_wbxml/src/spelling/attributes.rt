@@ -10,7 +10,7 @@ ghost use Rattle.wap_wbxml.specs.spelling.inside.Written.{written};
 use crate::spelling::output::Output;
 use crate::spelling::table::Table;
 use wap_base::NoMemory;
-use wap_markup::{Attr, END, LITERAL, PI, Piece, Token};
+use wap_tokens::markup::{Attr, END, LITERAL, PI, Piece, Token};
 
 /// Writes the start of an attribute.
 fn write_start(output: &mut Output, table: &Table, start: &Token) -> Result<(), NoMemory>

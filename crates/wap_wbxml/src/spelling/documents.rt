@@ -1,11 +1,11 @@
 //! Writing a document.
 ghost use Rattle.std.specs.Prelude.{◌≡◌, ◌≢◌, ◌++◌, IfOk, OnOk, OnErr};
 ghost use Rattle.std.specs.Io.{StartsWith};
-ghost use Rattle.wap_markup.specs.declared.document.Document.{Document};
-ghost use Rattle.wap_markup.specs.declared.deck.Deck.{Deck};
-ghost use Rattle.wap_markup.specs.Documents.{IsDocument};
-ghost use Rattle.wap_markup.specs.Normal.{IsNormal};
-ghost use Rattle.wap_markup.specs.Writing.{document_of};
+ghost use Rattle.wap_tokens.specs.declared.markup.document.Document.{Document};
+ghost use Rattle.wap_tokens.specs.declared.markup.deck.Deck.{Deck};
+ghost use Rattle.wap_tokens.specs.markup.Documents.{IsDocument};
+ghost use Rattle.wap_tokens.specs.markup.Normal.{IsNormal};
+ghost use Rattle.wap_tokens.specs.markup.Writing.{document_of};
 ghost use Rattle.wap_wbxml.specs.spelling.Spelling.{header_spelling, spelling, canon};
 ghost use Rattle.wap_wbxml.specs.spelling.Spellable.{IsSpellable, HasTexts};
 
@@ -15,7 +15,7 @@ use crate::spelling::output::{Output, Pages, add_sized};
 use crate::spelling::table::Table;
 use std::alloc::Global;
 use wap_base::{Bytes, NoMemory, write_mb};
-use wap_markup::{CHARSET, Document, LEVEL_LIMIT, Tag, VERSION};
+use wap_tokens::markup::{CHARSET, Document, LEVEL_LIMIT, Tag, VERSION};
 
 /// The document's one spelling: WBXML 1.3 in UTF-8, with a string table of the names alone. Where
 /// the document's strings are of characters, as those of every document that bytes spell are, it is

@@ -11,7 +11,7 @@ use crate::spelling::attributes::{write_attributes, write_instruction};
 use crate::spelling::output::Output;
 use crate::spelling::table::Table;
 use wap_base::NoMemory;
-use wap_markup::{END, Element, Kid, LITERAL, Token};
+use wap_tokens::markup::{END, Element, Kid, LITERAL, Token};
 
 /// Whether attributes follow a tag, bit 7, and whether content does, bit 6.
 fn bits(element: &Element) -> u8

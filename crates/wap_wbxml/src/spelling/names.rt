@@ -1,13 +1,13 @@
 //! The names that a document has in place of codes.
 ghost use Rattle.std.specs.Prelude.{◌≡◌, [], fold, OnOk, OnErr, IfOk};
-ghost use Rattle.wap_markup.specs.Grammar.{with_name};
+ghost use Rattle.wap_tokens.specs.markup.Grammar.{with_name};
 ghost use Rattle.wap_wbxml.specs.spelling.Names.{with_token, with_attr, with_kid, with_element};
 ghost use Rattle.wap_wbxml.specs.spelling.Names.{names_of};
 
 use indexmap::IndexSet;
 use std::alloc::Global;
 use wap_base::{NoMemory, Text};
-use wap_markup::{Attr, Document, Element, Kid, LEVEL_LIMIT, Token};
+use wap_tokens::markup::{Attr, Document, Element, Kid, LEVEL_LIMIT, Token};
 
 /// Adds a name after the others, if it isn't one of them. When out of memory the names stay.
 pub fn add_name(alloc: Global, names: &mut IndexSet<Text>, name: &Text) -> Result<(), NoMemory>

@@ -9,7 +9,7 @@ ghost use Rattle.wap_wbxml.specs.spelling.Spelling.{sized, variable};
 ghost use Rattle.wap_wbxml.specs.spelling.inside.Written.{written};
 
 use wap_base::{Bytes, Conv, NoMemory, Text, write_mb};
-use wap_markup::{ENTITY, EXT_0, EXT_I_0, EXT_I_1, EXT_I_2, OPAQUE, STR_I, SWITCH_PAGE};
+use wap_tokens::markup::{ENTITY, EXT_0, EXT_I_0, EXT_I_1, EXT_I_2, OPAQUE, STR_I, SWITCH_PAGE};
 
 /// The pages of codes, of tags and of attributes.
 #[derive(Clone, Copy)]

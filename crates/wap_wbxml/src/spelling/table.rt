@@ -1,6 +1,6 @@
 //! The string table of a document.
 ghost use Rattle.std.specs.Prelude.{◌≡◌, ◌<◌, ◌^◌, length, IfOk};
-ghost use Rattle.wap_markup.specs.Grammar.{table_size};
+ghost use Rattle.wap_tokens.specs.markup.Grammar.{table_size};
 ghost use Rattle.wap_wbxml.specs.spelling.Names.{table_of, place_of};
 
 use crate::spelling::output::add_string;

@@ -6,7 +6,7 @@ use Rattle.wap_base.specs.declared.limits.Limits.{Limits}
 use Rattle.wap_url.specs.declared.url.Url.{Url}
 use Rattle.wap_value.specs.declared.value.Value.{Value}
 use Rattle.wap_value.specs.declared.value.Value.TheVariants.{Invalid}
-use Rattle.wap_markup.specs.declared.deck.Deck.{Deck}
+use Rattle.wap_tokens.specs.declared.markup.deck.Deck.{Deck}
 use Rattle.wap_execution.specs.declared.library.HostOut.{HostOut}
 use Rattle.wap_execution.specs.laws.Simulation.{Both, AreAlike, RunAlike}
 use Rattle.wap_execution.proofs.LawsLemmas.SimLaws as sim_laws

@@ -9,7 +9,7 @@ use Rattle.wap_url.specs.Relative.{relative_form}
 use Rattle.wap_value.specs.declared.value.Value.{Value}
 use Rattle.wap_value.specs.declared.value.Value.TheVariants.{Bool as Boolean, Str, Invalid}
 use Rattle.wap_value.specs.Conversion.{text_of}
-use Rattle.wap_markup.specs.declared.name.AttrName.TheVariants as attrs
+use Rattle.wap_tokens.specs.declared.markup.name.AttrName.TheVariants as attrs
 use Rattle.wap_vars.specs.declared.fault.VarFault.{VarFault}
 use Rattle.wap_vars.specs.declared.fault.VarFault.TheVariants as fault
 use Rattle.wap_vars.specs.Variables.{Variables, text_of as variable}

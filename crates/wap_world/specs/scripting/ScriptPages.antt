@@ -2,7 +2,7 @@
 use Rattle.std.specs.Prelude.{ℕ, List, Option, Some, None, unwrap_or, option_and_then}
 use Rattle.std.specs.Map.{lookup}
 use Rattle.wap_base.specs.Texts.{is_same_text}
-use Rattle.wap_markup.specs.declared.deck.Deck.{Deck}
+use Rattle.wap_tokens.specs.declared.markup.deck.Deck.{Deck}
 use Rattle.wap_execution.specs.Outcomes.{HostingOf}
 use Rattle.wap_execution.specs.laws.Keyed.{answered_in}
 use Rattle.wap_world.specs.Shelves.{Entrance, Shelf, Shelved, deck_page, script_page, text_page}

@@ -1,8 +1,8 @@
 -- Worlds that stand on a card (WAP-191, section 9.2).
 use Rattle.std.specs.Prelude.{◌≡◌, ◌<◌, [], length, Some, is_some}
 use Rattle.wap_url.specs.declared.url.Url.{Url}
-use Rattle.wap_markup.specs.declared.deck.Deck.{Deck}
-use Rattle.wap_markup.specs.Cards.{cards_of}
+use Rattle.wap_tokens.specs.declared.markup.deck.Deck.{Deck}
+use Rattle.wap_tokens.specs.markup.Cards.{cards_of}
 use Rattle.wap_world.specs.Shelves.{Shelf}
 use Rattle.wap_world.specs.declared.timer.Timer.TheVariants.{NotStarted}
 use Rattle.wap_world.specs.World.{World, deck_at, place_now, last_entry}

@@ -2,7 +2,7 @@
 ghost use Rattle.std.specs.Prelude.{◌≡◌, ◌+◌, true, ◌++◌, ◌∷◌, List, Some};
 ghost use Rattle.std.specs.List.{fold};
 ghost use Rattle.wap_url.specs.Segments.{IsPrefix};
-ghost use Rattle.wap_markup.specs.declared.deck.Node.{Node};
+ghost use Rattle.wap_tokens.specs.declared.markup.deck.Node.{Node};
 ghost use Rattle.wap_vars.specs.Variables.{Variables};
 ghost use Rattle.wap_cardrules.specs.Content.{Mark, begins, content_of};
 ghost use Rattle.wap_cardrules.specs.Fields.{is_field, fields_of, numbered};

@@ -1,6 +1,6 @@
 //! Keys that fit nothing.
 ghost use Rattle.std.specs.Prelude.{◌≡◌, ℕ, List, Some, None, false, true};
-ghost use Rattle.wap_markup.specs.declared.name.Tag.TheVariants as tags;
+ghost use Rattle.wap_tokens.specs.declared.markup.name.Tag.TheVariants as tags;
 ghost use Rattle.wap_input.specs.declared.key.Key.{Key};
 ghost use Rattle.wap_input.specs.declared.key.Key.TheVariants as key;
 ghost use Rattle.wap_cardrules.specs.Dos.{do_task};

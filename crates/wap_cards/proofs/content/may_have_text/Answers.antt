@@ -1,4 +1,4 @@
-use Rattle.wap_markup.specs.Good.{rule_of, rules as the_rules}
+use Rattle.wap_tokens.specs.markup.Good.{rule_of, rules as the_rules}
 use Rattle.wap_cards.proofs.content.may_have_text.Goals as goal
 
 pub returns : goal.returns

@@ -1,6 +1,6 @@
 use Rattle.std.proofs.Common.{◌≡◌, drop}
 use Rattle.std.specs.Map.{lookup}
-use Rattle.wap_markup.specs.Tables.{is_same_tag}
+use Rattle.wap_tokens.specs.markup.Tables.{is_same_tag}
 use Rattle.wap_cards.specs.inside.Rows.{rule_rows}
 use Rattle.wap_cards.proofs.content.text_beside.Given as goal
 

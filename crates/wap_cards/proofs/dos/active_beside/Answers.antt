@@ -1,7 +1,7 @@
 use Rattle.std.proofs.Common.{List, ◌++◌, is_some, filter, sym, ap, ◌∙◌}
 use Rattle.std.proofs.lemmas.List.Elements.{filter-append}
-use Rattle.wap_markup.specs.declared.deck.Node.{Node}
-use Rattle.wap_markup.specs.Tasks.{task_of}
+use Rattle.wap_tokens.specs.declared.markup.deck.Node.{Node}
+use Rattle.wap_tokens.specs.markup.Tasks.{task_of}
 use Rattle.wap_cards.proofs.dos.active_beside.Goals as goal
 
 pub returns : goal.returns

@@ -1,5 +1,5 @@
 use Rattle.std.proofs.Common.{◌≡◌, ◌++◌, is_some, filter, take}
-use Rattle.wap_markup.specs.Tasks.{task_of}
+use Rattle.wap_tokens.specs.markup.Tasks.{task_of}
 use Rattle.wap_cards.proofs.dos.add_active.Given as goal
 
 abbrev pub invariant-loop-one : goal.invariant-loop-one

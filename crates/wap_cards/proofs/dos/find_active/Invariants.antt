@@ -1,7 +1,7 @@
 use Rattle.std.proofs.Common.{◌≡◌, is_some, filter, drop}
 use Rattle.std.specs.Prelude.{find}
 use Rattle.wap_base.specs.Texts.{is_same_text}
-use Rattle.wap_markup.specs.Tasks.{task_of}
+use Rattle.wap_tokens.specs.markup.Tasks.{task_of}
 use Rattle.wap_cardrules.specs.Dos.{do_name}
 use Rattle.wap_cards.proofs.dos.find_active.Given as goal
 

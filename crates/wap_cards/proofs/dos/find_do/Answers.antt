@@ -2,8 +2,8 @@ use Rattle.std.proofs.Common.{◌≡◌, List, is_some, filter, Option, None, sy
 use Rattle.std.specs.Prelude.{find}
 use Rattle.std.specs.Result.{IfOk}
 use Rattle.wap_base.specs.Texts.{is_same_text}
-use Rattle.wap_markup.specs.declared.deck.Node.{Node}
-use Rattle.wap_markup.specs.Tasks.{task_of}
+use Rattle.wap_tokens.specs.declared.markup.deck.Node.{Node}
+use Rattle.wap_tokens.specs.markup.Tasks.{task_of}
 use Rattle.wap_cardrules.specs.Dos.{dos_in, do_name, others_beside}
 use Rattle.wap_cards.proofs.Firsts.{found_later}
 use Rattle.wap_cards.proofs.dos.find_do.Goals as goal

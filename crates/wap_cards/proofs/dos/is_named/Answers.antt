@@ -5,7 +5,7 @@ use Rattle.std.specs.Option.{option_and_then}
 use Rattle.std.specs.Cmp.Lexicographic.{nat_list_eq_equiv}
 use Rattle.wap_base.specs.Texts.{is_same_text}
 use Rattle.wap_base.specs.declared.name.Part.{Part}
-use Rattle.wap_markup.specs.Trees.{plain_text, is_text}
+use Rattle.wap_tokens.specs.markup.Trees.{plain_text, is_text}
 use Rattle.wap_cards.proofs.dos.is_named.Goals as goal
 
 -- a name that isn't empty is that of a do where it is the plain text of its value

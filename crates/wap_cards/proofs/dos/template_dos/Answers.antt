@@ -3,7 +3,7 @@ use Rattle.std.specs.Result.{IfOk}
 use Rattle.std.specs.List.{list_any}
 use Rattle.std.specs.Option.{option_map_or}
 use Rattle.wap_base.specs.Texts.{is_same_text}
-use Rattle.wap_markup.specs.declared.deck.Node.{Node}
+use Rattle.wap_tokens.specs.declared.markup.deck.Node.{Node}
 use Rattle.wap_cardrules.specs.Dos.{dos_in, do_name, has_do}
 use Rattle.wap_cards.proofs.Firsts.{filter_same}
 use Rattle.wap_cards.proofs.dos.template_dos.Goals as goal

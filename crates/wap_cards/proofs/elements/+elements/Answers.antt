@@ -1,6 +1,6 @@
 use Rattle.std.proofs.Common.{◌≡◌, List, ◌∷◌, ◌++◌, sym, ap, subst, ◌∙◌, arith}
 use Rattle.std.specs.Result.{OnOk}
-use Rattle.wap_markup.specs.Good.{is_among}
+use Rattle.wap_tokens.specs.markup.Good.{is_among}
 use Rattle.wap_cardrules.specs.Content.{Mark, begins, shown_tags, marks_in}
 use Rattle.wap_cards.specs.inside.Elements.{sought_among}
 use Rattle.wap_cards.proofs.Marks.{none_below, marks_closed, marks_open}

@@ -1,5 +1,5 @@
 use Rattle.std.proofs.Common.{◌≡◌, ◌+◌, ◌*◌, ◌++◌}
-use Rattle.wap_markup.specs.Good.{rule_of}
+use Rattle.wap_tokens.specs.markup.Good.{rule_of}
 use Rattle.wap_cardrules.specs.Content.{marks_in}
 use Rattle.wap_cards.specs.inside.Elements.{sought_among}
 use Rattle.wap_cards.proofs.Marks.{left_marks}

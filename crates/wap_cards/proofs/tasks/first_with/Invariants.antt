@@ -1,7 +1,7 @@
 use Rattle.std.proofs.Common.{◌≡◌, true}
 use Rattle.std.specs.Prelude.{find}
 use Rattle.std.specs.List.{filter_map}
-use Rattle.wap_markup.specs.Trees.{node_with}
+use Rattle.wap_tokens.specs.markup.Trees.{node_with}
 use Rattle.wap_cards.proofs.tasks.first_with.Given as goal
 
 abbrev pub invariant-loop-child : goal.invariant-loop-child

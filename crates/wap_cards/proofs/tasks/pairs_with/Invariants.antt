@@ -1,6 +1,6 @@
 use Rattle.std.proofs.Common.{◌≡◌, ◌++◌, map}
 use Rattle.std.specs.List.{filter_map}
-use Rattle.wap_markup.specs.Trees.{node_with}
+use Rattle.wap_tokens.specs.markup.Trees.{node_with}
 use Rattle.wap_cardrules.specs.Tasks.{pair_in}
 use Rattle.wap_cards.proofs.tasks.pairs_with.Given as goal
 

@@ -2,7 +2,7 @@ use Rattle.std.proofs.Common.{◌∙◌, List, ℕ, Option, ap, sym}
 use Rattle.std.specs.Borrow.{Bor}
 use Rattle.std.specs.Option.{option_copied}
 use Rattle.std.specs.Str.{chars}
-use Rattle.wap_markup.specs.Trees.{is_text}
+use Rattle.wap_tokens.specs.markup.Trees.{is_text}
 use Rattle.wap_cards.proofs.Words.{same_word}
 use Rattle.wap_cards.proofs.values.is_word.Goals as goal
 

@@ -1,6 +1,6 @@
 use Rattle.std.proofs.Common.{◌≡◌, ◌++◌}
 use Rattle.std.specs.Option.{option_map}
-use Rattle.wap_markup.specs.Trees.{plain_text}
+use Rattle.wap_tokens.specs.markup.Trees.{plain_text}
 use Rattle.wap_cards.proofs.values.plain_text.Given as goal
 
 abbrev pub invariant-loop-bit : goal.invariant-loop-bit

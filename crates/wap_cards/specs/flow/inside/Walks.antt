@@ -1,8 +1,8 @@
 -- The walk over a card, as the code keeps what it took so far. This project's own.
 use Rattle.std.specs.Prelude.{if◌then◌else◌, List, [], ◌∷◌, ◌++◌}
-use Rattle.wap_markup.specs.declared.deck.Node.{Node}
-use Rattle.wap_markup.specs.declared.name.Tag.TheVariants as tags
-use Rattle.wap_markup.specs.Tables.{is_same_tag}
+use Rattle.wap_tokens.specs.declared.markup.deck.Node.{Node}
+use Rattle.wap_tokens.specs.declared.markup.name.Tag.TheVariants as tags
+use Rattle.wap_tokens.specs.markup.Tables.{is_same_tag}
 use Rattle.wap_vars.specs.Variables.{Variables}
 use Rattle.wap_cardrules.specs.Content.{Mark, words, begins, ends}
 use Rattle.wap_cardrules.specs.Flow.{shown_with}

@@ -1,8 +1,8 @@
 -- Steps of giving a field its default. This project's own.
 use Rattle.std.specs.Prelude.{ℕ, if◌then◌else◌, List, Option, Some, None}
 use Rattle.std.specs.Option.{option_and_then}
-use Rattle.wap_markup.specs.declared.deck.Node.{Node}
-use Rattle.wap_markup.specs.declared.name.AttrName.TheVariants as attrs
+use Rattle.wap_tokens.specs.declared.markup.deck.Node.{Node}
+use Rattle.wap_tokens.specs.declared.markup.name.AttrName.TheVariants as attrs
 use Rattle.wap_vars.specs.Variables.{Variables, removed}
 use Rattle.wap_cardrules.specs.Values.{value_if}
 use Rattle.wap_cardrules.specs.Inputs.{takes}

@@ -2,10 +2,10 @@
 use Rattle.std.specs.Prelude.{ℕ, zero, suc, Bool, ◌==◌, List, [], ◌∷◌, ◌++◌, Option, Some, None}
 use Rattle.std.specs.List.{list_any}
 use Rattle.wap_base.specs.declared.name.Part.{Part}
-use Rattle.wap_markup.specs.declared.deck.Item.{Item}
-use Rattle.wap_markup.specs.declared.deck.Item.TheVariants as item
-use Rattle.wap_markup.specs.Trees.{words_of}
-use Rattle.wap_markup.specs.Decks.{before, Mark, part, node}
+use Rattle.wap_tokens.specs.declared.markup.deck.Item.{Item}
+use Rattle.wap_tokens.specs.declared.markup.deck.Item.TheVariants as item
+use Rattle.wap_tokens.specs.markup.Trees.{words_of}
+use Rattle.wap_tokens.specs.markup.Decks.{before, Mark, part, node}
 
 -- parts and one more; it joins a literal at the end
 abbrev pub part_added : List Part → Part → List Part

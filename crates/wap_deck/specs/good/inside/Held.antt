@@ -2,15 +2,15 @@
 -- cards and the template begin. This project's own.
 use Rattle.std.specs.Prelude.{◌≡◌, ℕ, ◌-◌, ◌≤◌, List, [], ◌∷◌, Some, length, take, drop}
 use Rattle.std.specs.List.{filter_map}
-use Rattle.wap_markup.specs.declared.document.TheConstants.{LEVEL_LIMIT}
-use Rattle.wap_markup.specs.declared.deck.Deck.{Deck}
-use Rattle.wap_markup.specs.declared.deck.Node.{Node}
-use Rattle.wap_markup.specs.declared.name.Tag.{Tag}
-use Rattle.wap_markup.specs.declared.name.Tag.TheVariants as tags
-use Rattle.wap_markup.specs.Trees.{node_with}
-use Rattle.wap_markup.specs.Good.{IsGood}
-use Rattle.wap_markup.specs.Normal.{IsNormal}
-use Rattle.wap_markup.specs.Writing.{document_of}
+use Rattle.wap_tokens.specs.declared.markup.document.TheConstants.{LEVEL_LIMIT}
+use Rattle.wap_tokens.specs.declared.markup.deck.Deck.{Deck}
+use Rattle.wap_tokens.specs.declared.markup.deck.Node.{Node}
+use Rattle.wap_tokens.specs.declared.markup.name.Tag.{Tag}
+use Rattle.wap_tokens.specs.declared.markup.name.Tag.TheVariants as tags
+use Rattle.wap_tokens.specs.markup.Trees.{node_with}
+use Rattle.wap_tokens.specs.markup.Good.{IsGood}
+use Rattle.wap_tokens.specs.markup.Normal.{IsNormal}
+use Rattle.wap_tokens.specs.markup.Writing.{document_of}
 use Rattle.wap_wbxml.specs.spelling.Spelling.{spelling}
 use Rattle.wap_deck.specs.good.Characters.{OfNode}
 use Rattle.wap_deck.specs.declared.good.cards.Place.{Place}

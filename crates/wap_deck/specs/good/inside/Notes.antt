@@ -5,9 +5,9 @@ use Rattle.std.specs.Prelude.{length, drop, Some, None}
 use Rattle.std.specs.Int.{bit_at}
 use Rattle.std.specs.List.{AllByRecursion}
 use denote.Enum.Declared.{tag_of}
-use Rattle.wap_markup.specs.declared.document.TheConstants.{LEVEL_LIMIT}
-use Rattle.wap_markup.specs.declared.name.AttrName.{AttrName}
-use Rattle.wap_markup.specs.contracts.name.AttrName as attr_names
+use Rattle.wap_tokens.specs.declared.markup.document.TheConstants.{LEVEL_LIMIT}
+use Rattle.wap_tokens.specs.declared.markup.name.AttrName.{AttrName}
+use Rattle.wap_tokens.specs.contracts.markup.name.AttrName as attr_names
 use Rattle.wap_deck.specs.declared.good.notes.Note.{Note}
 use Rattle.wap_deck.specs.good.Readers.{IsBehind, is_end, Ends, all_of}
 use Rattle.wap_deck.specs.good.Texts.{part_at}

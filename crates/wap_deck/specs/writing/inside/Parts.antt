@@ -3,8 +3,8 @@ use Rattle.std.specs.Prelude.{ℕ, Bool, true, false, List, [], ◌∷◌, Optio
 use Rattle.wap_base.specs.Numbers.{mb_spelling}
 use Rattle.wap_base.specs.declared.name.Part.{Part}
 use Rattle.wap_base.specs.declared.name.Part.TheVariants.{Lit, Var}
-use Rattle.wap_markup.specs.declared.codes.TheConstants.{ENTITY, STR_I}
-use Rattle.wap_markup.specs.Writing.{runs_of}
+use Rattle.wap_tokens.specs.declared.markup.codes.TheConstants.{ENTITY, STR_I}
+use Rattle.wap_tokens.specs.markup.Writing.{runs_of}
 use Rattle.wap_wbxml.specs.spelling.Writings.{Writing, plain, each}
 use Rattle.wap_wbxml.specs.spelling.Names.{string}
 use Rattle.wap_wbxml.specs.spelling.Spelling.{variable}

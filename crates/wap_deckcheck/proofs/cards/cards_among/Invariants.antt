@@ -1,7 +1,7 @@
 use Rattle.std.proofs.Common.{◌≡◌, ◌+◌, ◌≤◌, drop, length}
 use Rattle.std.specs.List.{filter_map}
-use Rattle.wap_markup.specs.declared.name.Tag.TheVariants.{Card}
-use Rattle.wap_markup.specs.Trees.{node_with}
+use Rattle.wap_tokens.specs.declared.markup.name.Tag.TheVariants.{Card}
+use Rattle.wap_tokens.specs.markup.Trees.{node_with}
 use Rattle.wap_deckcheck.proofs.cards.cards_among.Given as goal
 
 -- those that were passed, and those that are left

@@ -1,9 +1,9 @@
 use Rattle.std.proofs.Common.{◌≡◌, ◌||◌, not, drop}
 use Rattle.std.specs.List.{list_all}
-use Rattle.wap_markup.specs.Tables.{is_same_attr}
-use Rattle.wap_markup.specs.Good.{value_has}
+use Rattle.wap_tokens.specs.markup.Tables.{is_same_attr}
+use Rattle.wap_tokens.specs.markup.Good.{value_has}
 use Rattle.wap_deckcheck.specs.inside.Rows.{form_of}
-use Rattle.wap_markup.specs.Trees.{plain_text}
+use Rattle.wap_tokens.specs.markup.Trees.{plain_text}
 use Rattle.wap_deckcheck.proofs.forms.all_have.Given as goal
 
 -- what is left tells it

@@ -1,6 +1,6 @@
 use Rattle.std.proofs.Common.{◌≡◌, map, drop}
 use Rattle.std.specs.List.{list_any}
-use Rattle.wap_markup.specs.Tables.{is_same_attr}
+use Rattle.wap_tokens.specs.markup.Tables.{is_same_attr}
 use Rattle.wap_deckcheck.proofs.forms.has_name.Given as goal
 
 -- what is left tells it

@@ -1,6 +1,6 @@
 use Rattle.std.proofs.Common.{◌≡◌, true}
-use Rattle.wap_markup.specs.declared.name.AttrName.{AttrName}
-use Rattle.wap_markup.specs.Good.{all_have}
+use Rattle.wap_tokens.specs.declared.markup.name.AttrName.{AttrName}
+use Rattle.wap_tokens.specs.markup.Good.{all_have}
 use Rattle.wap_deckcheck.specs.declared.forms.LentForm.{LentForm}
 use Rattle.wap_deckcheck.specs.inside.Rows.{form_of}
 use Rattle.wap_deckcheck.proofs.Passing.{passed}

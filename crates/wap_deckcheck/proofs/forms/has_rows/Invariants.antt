@@ -1,6 +1,6 @@
 use Rattle.std.proofs.Common.{◌≡◌, drop}
 use Rattle.std.specs.List.{list_all}
-use Rattle.wap_markup.specs.Good.{all_have}
+use Rattle.wap_tokens.specs.markup.Good.{all_have}
 use Rattle.wap_deckcheck.specs.inside.Rows.{form_of}
 use Rattle.wap_deckcheck.proofs.forms.has_rows.Given as goal
 

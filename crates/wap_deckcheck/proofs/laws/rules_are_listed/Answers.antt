@@ -1,6 +1,6 @@
 -- Both lists are computed, and are the same.
 use Rattle.std.proofs.Common.{refl}
-use Rattle.wap_markup.specs.Good.{rules}
+use Rattle.wap_tokens.specs.markup.Good.{rules}
 use Rattle.wap_deckcheck.proofs.laws.rules_are_listed.Goals as goal
 
 pub returns : goal.returns

@@ -1,7 +1,7 @@
 use Rattle.std.proofs.Common.{rules}
 use Rattle.std.proofs.lemmas.Iterator.{YieldsList-from_chars}
 use Rattle.std.proofs.lemmas.Iterator.Search.{all_from_yields_List}
-use Rattle.wap_markup.specs.Good.{is_blank}
+use Rattle.wap_tokens.specs.markup.Good.{is_blank}
 use Rattle.wap_deckcheck.proofs.rules.are_blanks.Goals as goal
 
 pub returns : goal.returns

@@ -1,6 +1,6 @@
 use Rattle.std.proofs.Common.{◌≡◌, drop}
 use Rattle.std.specs.List.{list_all}
-use Rattle.wap_markup.specs.Good.{has_attribute}
+use Rattle.wap_tokens.specs.markup.Good.{has_attribute}
 use Rattle.wap_deckcheck.proofs.rules.has_all.Given as goal
 
 -- what is left tells it

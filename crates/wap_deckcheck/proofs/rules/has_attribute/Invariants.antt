@@ -1,8 +1,8 @@
 use Rattle.std.proofs.Common.{◌≡◌, drop}
 use Rattle.std.specs.Prelude.{is_some, find}
 use Rattle.std.specs.Option.{option_map}
-use Rattle.wap_markup.specs.Tables.{is_same_attr}
-use Rattle.wap_markup.specs.Good.{has_attribute}
+use Rattle.wap_tokens.specs.markup.Tables.{is_same_attr}
+use Rattle.wap_tokens.specs.markup.Good.{has_attribute}
 use Rattle.wap_deckcheck.proofs.rules.has_attribute.Given as goal
 
 -- what is left tells it

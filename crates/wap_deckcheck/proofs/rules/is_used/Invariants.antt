@@ -1,6 +1,6 @@
 use Rattle.std.proofs.Common.{◌≡◌, drop}
 use Rattle.std.specs.List.{list_any}
-use Rattle.wap_markup.specs.Good.{is_among, tags_of}
+use Rattle.wap_tokens.specs.markup.Good.{is_among, tags_of}
 use Rattle.wap_deckcheck.proofs.rules.is_used.Given as goal
 
 -- what is left tells it

@@ -1,6 +1,6 @@
 use Rattle.std.proofs.Common.{◌≡◌, drop}
 use Rattle.std.specs.List.{position_from}
-use Rattle.wap_markup.specs.Good.{is_among}
+use Rattle.wap_tokens.specs.markup.Good.{is_among}
 use Rattle.wap_deckcheck.specs.inside.Rows.{groups_of}
 use Rattle.wap_deckcheck.proofs.rules.place_in.Given as goal
 

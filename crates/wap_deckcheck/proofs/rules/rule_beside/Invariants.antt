@@ -1,5 +1,5 @@
 use Rattle.std.proofs.Common.{◌≡◌, map, drop}
-use Rattle.wap_markup.specs.Tables.{is_same_tag}
+use Rattle.wap_tokens.specs.markup.Tables.{is_same_tag}
 use Rattle.wap_deckcheck.specs.inside.Rows.{rule_row}
 use Rattle.std.specs.Map.{lookup}
 use Rattle.wap_deckcheck.proofs.rules.rule_beside.Given as goal

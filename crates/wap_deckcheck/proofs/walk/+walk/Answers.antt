@@ -1,8 +1,8 @@
 use Rattle.std.proofs.Common.{◌∙◌, ap, sym, Err, ◌<◌, ◌-◌, [], ◌++◌, List, refl, arith}
 use Rattle.std.proofs.lemmas.Result.{err_from_is_err_and}
 use Rattle.std.proofs.lemmas.Bool.Decides.{nat_tests}
-use Rattle.wap_markup.specs.Good.{Rule}
-use Rattle.wap_markup.specs.declared.deck.Item.{Item}
+use Rattle.wap_tokens.specs.markup.Good.{Rule}
+use Rattle.wap_tokens.specs.declared.markup.deck.Item.{Item}
 use Rattle.wap_deckcheck.specs.Places.{own_name, names_level, node_places, items_places}
 use Rattle.wap_deckcheck.specs.inside.Walks.{judged}
 use Rattle.wap_deckcheck.specs.declared.walk.Walk.{Walk}

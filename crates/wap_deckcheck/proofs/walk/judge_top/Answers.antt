@@ -1,8 +1,8 @@
 use Rattle.std.proofs.Common.{◌∙◌, ap, Err, [], List, arith}
 use Rattle.std.proofs.lemmas.Result.{err_from_is_err_and}
 use Rattle.std.proofs.lemmas.Bool.Decides.{nat_tests}
-use Rattle.wap_markup.specs.Good.{Rule, rule_of}
-use Rattle.wap_markup.specs.declared.deck.Item.{Item}
+use Rattle.wap_tokens.specs.markup.Good.{Rule, rule_of}
+use Rattle.wap_tokens.specs.declared.markup.deck.Item.{Item}
 use Rattle.wap_deckcheck.specs.Places.{ids_level, items_places}
 use Rattle.wap_deckcheck.specs.inside.Walks.{judged}
 use Rattle.wap_deckcheck.specs.declared.walk.Walk.{Walk}

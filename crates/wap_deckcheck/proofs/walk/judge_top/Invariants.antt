@@ -1,5 +1,5 @@
 use Rattle.std.proofs.Common.{◌≡◌, [], take, drop}
-use Rattle.wap_markup.specs.Good.{rule_of}
+use Rattle.wap_tokens.specs.markup.Good.{rule_of}
 use Rattle.wap_deckcheck.specs.Places.{ids_among, ids_level, items_places}
 use Rattle.wap_deckcheck.specs.inside.Reached.{HasReached}
 use Rattle.wap_deckcheck.specs.inside.Walks.{judged}

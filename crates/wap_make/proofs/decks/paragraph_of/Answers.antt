@@ -1,7 +1,7 @@
 use Rattle.std.proofs.Common.{◌∙◌, List, [], ◌∷◌, ap, ap₂}
 use Rattle.wap_base.specs.declared.name.Part.{Part}
-use Rattle.wap_markup.specs.declared.name.Tag.TheVariants.{P}
-use Rattle.wap_markup.specs.declared.deck.Item.TheVariants as item
+use Rattle.wap_tokens.specs.declared.markup.name.Tag.TheVariants.{P}
+use Rattle.wap_tokens.specs.declared.markup.deck.Item.TheVariants as item
 use Rattle.wap_make.specs.Folders.{literal, element}
 use Rattle.wap_make.proofs.decks.paragraph_of.Goals as goal
 

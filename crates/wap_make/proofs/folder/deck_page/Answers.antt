@@ -1,6 +1,6 @@
 use Rattle.std.proofs.Common.{sym, subst}
-use Rattle.wap_markup.specs.declared.deck.Deck.{Deck}
-use Rattle.wap_markup.specs.Writing.{document_of}
+use Rattle.wap_tokens.specs.declared.markup.deck.Deck.{Deck}
+use Rattle.wap_tokens.specs.markup.Writing.{document_of}
 use Rattle.wap_wbxml.specs.spelling.Spellable.{IsSpellable}
 use Rattle.wap_make.specs.Folders.{deck_of}
 use Rattle.wap_make.proofs.Normal.{made_is_normal, root_known}

@@ -1,6 +1,6 @@
 use Rattle.std.proofs.Common.{◌≡◌, ◌∙◌, ap, sym, true, List, Some}
-use Rattle.wap_markup.specs.declared.document.Kid.{Kid}
-use Rattle.wap_markup.specs.declared.document.Attr.{Attr}
+use Rattle.wap_tokens.specs.declared.markup.document.Kid.{Kid}
+use Rattle.wap_tokens.specs.declared.markup.document.Attr.{Attr}
 use Rattle.wap_push.specs.Fields.{elements_of, created_of}
 use Rattle.wap_push.specs.Indications.{is_si, IsBody}
 use Rattle.wap_push.specs.Reading.{body_in}

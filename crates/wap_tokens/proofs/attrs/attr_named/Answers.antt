@@ -1,5 +1,5 @@
 use Rattle.std.proofs.Common.{◌∙◌, sym}
-use Rattle.wap_markup.specs.Tables.{name_rows}
+use Rattle.wap_tokens.specs.markup.Tables.{name_rows}
 use Rattle.wap_tokens.proofs.AttributeTable.{attr_named-bytes}
 use Rattle.wap_tokens.proofs.attrs.attr_named.Goals as goal
 

@@ -1,6 +1,6 @@
 use Rattle.std.proofs.Common.{◌≡◌, ◌∙◌, sym, arith}
 use Rattle.std.specs.Option.{option_map}
-use Rattle.wap_markup.specs.Tables.{start_rows, attr_start}
+use Rattle.wap_tokens.specs.markup.Tables.{start_rows, attr_start}
 use Rattle.wap_tokens.specs.Rows.{lent_start}
 use Rattle.wap_tokens.proofs.AttributeTable.{attr_start-at, attr_start-free}
 use Rattle.wap_tokens.proofs.AttributeTable.{attr_start-other_page, chars-start}

@@ -1,7 +1,7 @@
 use Rattle.std.proofs.Common.{◌≡◌, drop, ◌&&◌}
 use Rattle.std.specs.Map.{lookup}
 use Rattle.std.specs.Str.{bytes_eq}
-use Rattle.wap_markup.specs.Tables.{is_same_attr}
+use Rattle.wap_tokens.specs.markup.Tables.{is_same_attr}
 use Rattle.wap_tokens.specs.Rows.{codes_by_start}
 use Rattle.wap_tokens.proofs.attrs.code_beside.Given as goal
 

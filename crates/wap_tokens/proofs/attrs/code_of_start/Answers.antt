@@ -1,7 +1,7 @@
 use Rattle.std.proofs.Common.{◌∙◌, sym, refl}
 use Rattle.std.specs.Str.{chars}
 use Rattle.std.proofs.lemmas.Str.{encodes-chars}
-use Rattle.wap_markup.specs.Tables.{start_rows}
+use Rattle.wap_tokens.specs.markup.Tables.{start_rows}
 use Rattle.wap_tokens.proofs.AttributeTable.{code_of_start-bytes}
 use Rattle.wap_tokens.proofs.attrs.code_of_start.Goals as goal
 

@@ -1,6 +1,6 @@
 use Rattle.std.proofs.Common.{◌≡◌, drop}
 use Rattle.std.specs.Map.{lookup}
-use Rattle.wap_markup.specs.Tables.{is_same_attr}
+use Rattle.wap_tokens.specs.markup.Tables.{is_same_attr}
 use Rattle.wap_tokens.specs.Rows.{codes_by_attr}
 use Rattle.wap_tokens.proofs.attrs.first_beside.Given as goal
 

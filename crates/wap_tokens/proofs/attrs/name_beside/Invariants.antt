@@ -1,6 +1,6 @@
 use Rattle.std.proofs.Common.{◌≡◌, drop, [], unwrap_or}
 use Rattle.std.specs.Map.{lookup}
-use Rattle.wap_markup.specs.Tables.{is_same_attr}
+use Rattle.wap_tokens.specs.markup.Tables.{is_same_attr}
 use Rattle.wap_tokens.specs.Rows.{names_by_attr}
 use Rattle.wap_tokens.proofs.attrs.name_beside.Given as goal
 

@@ -1,6 +1,6 @@
 use Rattle.std.proofs.Common.{◌≡◌, ◌∙◌, sym, ap}
 use Rattle.std.specs.Str.{chars}
-use Rattle.wap_markup.specs.Tables.{name_rows, name_of_attr}
+use Rattle.wap_tokens.specs.markup.Tables.{name_rows, name_of_attr}
 use Rattle.wap_tokens.proofs.AttributeTable.{chars-name_of_attr}
 use Rattle.wap_tokens.proofs.attrs.name_of_attr.Goals as goal
 

@@ -1,6 +1,6 @@
 -- Both tables of a pair are computed, and are the same.
 use Rattle.std.proofs.Common.{refl}
-use Rattle.wap_markup.specs.Tables.{tag_rows, name_rows, start_rows, value_rows}
+use Rattle.wap_tokens.specs.markup.Tables.{tag_rows, name_rows, start_rows, value_rows}
 use Rattle.wap_tokens.proofs.laws.tables_are_listed.Goals as goal
 
 pub returns-clause-elements : goal.returns-clause-elements

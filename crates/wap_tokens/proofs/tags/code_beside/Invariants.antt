@@ -1,6 +1,6 @@
 use Rattle.std.proofs.Common.{◌≡◌, drop, unwrap_or}
 use Rattle.std.specs.Map.{lookup}
-use Rattle.wap_markup.specs.Tables.{is_same_tag}
+use Rattle.wap_tokens.specs.markup.Tables.{is_same_tag}
 use Rattle.wap_tokens.specs.Rows.{codes_by_tag}
 use Rattle.wap_tokens.proofs.tags.code_beside.Given as goal
 

@@ -1,5 +1,5 @@
 use Rattle.std.proofs.Common.{◌∙◌, sym}
-use Rattle.wap_markup.specs.Tables.{tag_rows}
+use Rattle.wap_tokens.specs.markup.Tables.{tag_rows}
 use Rattle.wap_tokens.proofs.TagTable.{tag_named-bytes}
 use Rattle.wap_tokens.proofs.tags.tag_named.Goals as goal
 

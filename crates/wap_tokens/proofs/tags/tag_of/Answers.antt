@@ -1,5 +1,5 @@
 use Rattle.std.proofs.Common.{◌∙◌, sym, arith}
-use Rattle.wap_markup.specs.Tables.{tag_rows}
+use Rattle.wap_tokens.specs.markup.Tables.{tag_rows}
 use Rattle.wap_tokens.proofs.TagTable.{tag_of-at, tag_of-free, tag_of-other_page}
 use Rattle.wap_tokens.proofs.tags.tag_of.Goals as goal
 

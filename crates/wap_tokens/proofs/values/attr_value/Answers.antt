@@ -1,6 +1,6 @@
 use Rattle.std.proofs.Common.{◌≡◌, ◌∙◌, sym, arith}
 use Rattle.std.specs.Option.{option_map}
-use Rattle.wap_markup.specs.Tables.{value_rows, attr_value}
+use Rattle.wap_tokens.specs.markup.Tables.{value_rows, attr_value}
 use Rattle.wap_tokens.proofs.ValueTable.{attr_value-at, attr_value-free}
 use Rattle.wap_tokens.proofs.ValueTable.{attr_value-other_page, chars-value}
 use Rattle.wap_tokens.proofs.values.attr_value.Goals as goal

@@ -1,5 +1,5 @@
 use Rattle.std.proofs.Common.{ap, length, Option, Ok, ◌∙◌}
-use Rattle.wap_markup.specs.declared.document.Attr.{Attr}
+use Rattle.wap_tokens.specs.declared.markup.document.Attr.{Attr}
 use Rattle.wap_wbxml.specs.reading.Steps.{all_by}
 use Rattle.wap_wbxml.specs.reading.Parts.{as_short}
 use Rattle.wap_wbxml.specs.reading.Parts.{next_attribute, attributes_at}

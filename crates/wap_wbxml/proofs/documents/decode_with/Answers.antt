@@ -1,7 +1,7 @@
 use Rattle.std.proofs.Common.{subst, Result}
 use Rattle.wap_base.specs.Outcome.{Meets}
-use Rattle.wap_markup.specs.declared.document.Document.{Document}
-use Rattle.wap_markup.specs.declared.mark.DocumentType.TheVariants.{Other}
+use Rattle.wap_tokens.specs.declared.markup.document.Document.{Document}
+use Rattle.wap_tokens.specs.declared.markup.mark.DocumentType.TheVariants.{Other}
 use Rattle.wap_wbxml.specs.declared.fault.DocFault.{DocFault}
 use Rattle.wap_wbxml.specs.declared.fault.DocFault.TheVariants.{NoMemory}
 use Rattle.wap_wbxml.proofs.Answering.{found_is, refused_is}

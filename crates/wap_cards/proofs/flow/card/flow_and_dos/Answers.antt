@@ -1,7 +1,7 @@
 use Rattle.std.proofs.Common.{List, ◌++◌, ap, ◌∙◌}
 use Rattle.std.specs.List.{fold}
-use Rattle.wap_markup.specs.declared.document.TheConstants.{LEVEL_LIMIT}
-use Rattle.wap_markup.specs.declared.deck.Node.{Node}
+use Rattle.wap_tokens.specs.declared.markup.document.TheConstants.{LEVEL_LIMIT}
+use Rattle.wap_tokens.specs.declared.markup.deck.Node.{Node}
 use Rattle.wap_cardrules.specs.Content.{Mark, content_of, kids_marks, marks_in}
 use Rattle.wap_cardrules.specs.Flow.{Shown, flow_of, shown_with}
 use Rattle.wap_cards.specs.declared.flow.walk.Walk.{Walk}

@@ -1,6 +1,6 @@
 use Rattle.std.proofs.Common.{List, Bool, ◌∷◌, [], ◌++◌, ap, ap₂, ◌∙◌, append_assoc}
 use Rattle.std.specs.List.{zip}
-use Rattle.wap_markup.specs.declared.deck.Node.{Node}
+use Rattle.wap_tokens.specs.declared.markup.deck.Node.{Node}
 use Rattle.wap_layout.specs.declared.flow.Flow.{Flow}
 use Rattle.wap_layout.specs.declared.flow.Flow.TheVariants.{Soft}
 use Rattle.wap_cardrules.specs.Selects.{choice_of, options_of}

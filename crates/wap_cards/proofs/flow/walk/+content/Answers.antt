@@ -1,6 +1,6 @@
 use Rattle.std.proofs.Common.{List, ◌∷◌, sym, ap, ◌∙◌}
 use Rattle.std.specs.List.{fold}
-use Rattle.wap_markup.specs.Good.{is_among}
+use Rattle.wap_tokens.specs.markup.Good.{is_among}
 use Rattle.wap_deck.specs.good.Lent.{item_of}
 use Rattle.wap_deck.specs.declared.good.kids.Child.{Child}
 use Rattle.wap_cardrules.specs.Content.{Mark, shown_tags, marks_in}

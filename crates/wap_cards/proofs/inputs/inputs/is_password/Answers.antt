@@ -1,8 +1,8 @@
 use Rattle.std.proofs.Common.{◌≡◌, List, ℕ, subst}
 use Rattle.std.specs.Result.{IfOk}
 use Rattle.wap_base.specs.Texts.{is_same_text}
-use Rattle.wap_markup.specs.declared.name.AttrName.TheVariants as attrs
-use Rattle.wap_markup.specs.Trees.{value_of}
+use Rattle.wap_tokens.specs.declared.markup.name.AttrName.TheVariants as attrs
+use Rattle.wap_tokens.specs.markup.Trees.{value_of}
 use Rattle.wap_vars.specs.Filling.{value_text}
 use Rattle.wap_cards.proofs.Words.{word_password}
 use Rattle.wap_cards.proofs.inputs.inputs.is_password.Goals as goal

@@ -1,5 +1,5 @@
 use Rattle.std.proofs.Common.{◌≡◌, ◌++◌}
-use Rattle.wap_markup.specs.Good.{nodes_in}
+use Rattle.wap_tokens.specs.markup.Good.{nodes_in}
 use Rattle.wap_cards.proofs.InputsLemmas.Walks.{options_in}
 use Rattle.wap_cards.proofs.inputs.options.+add_options.Given as goal
 

@@ -1,6 +1,6 @@
 use Rattle.std.proofs.Common.{◌≡◌, map, take}
-use Rattle.wap_markup.specs.declared.name.AttrName.TheVariants as attrs
-use Rattle.wap_markup.specs.Trees.{value_of}
+use Rattle.wap_tokens.specs.declared.markup.name.AttrName.TheVariants as attrs
+use Rattle.wap_tokens.specs.markup.Trees.{value_of}
 use Rattle.wap_vars.specs.Filling.{value_text}
 use Rattle.wap_cards.proofs.inputs.options.values_of.Given as goal
 

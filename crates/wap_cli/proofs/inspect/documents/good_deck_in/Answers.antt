@@ -1,6 +1,6 @@
 use Rattle.std.proofs.Common.{Err, sym, ap, ◌∙◌, subst}
 use Rattle.std.proofs.lemmas.Result.{err_from_is_err_and}
-use Rattle.wap_markup.specs.declared.deck.Deck.{Deck}
+use Rattle.wap_tokens.specs.declared.markup.deck.Deck.{Deck}
 use Rattle.wap_pages.specs.declared.fault.PageErr.TheVariants as error
 use Rattle.wap_pages.specs.Refusals.{IsDeckRefused}
 use Rattle.wap_pages.proofs.Refusing.{by_document, by_deck, err_is}

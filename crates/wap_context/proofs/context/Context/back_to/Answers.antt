@@ -1,6 +1,6 @@
 use Rattle.std.proofs.Common.{◌≡◌, ◌∙◌, ap, subst, Option, None, IfSome}
 use Rattle.wap_url.specs.declared.url.Url.{Url}
-use Rattle.wap_markup.specs.declared.deck.Deck.{Deck}
+use Rattle.wap_tokens.specs.declared.markup.deck.Deck.{Deck}
 use Rattle.wap_context.specs.Browsers.{place_held}
 use Rattle.wap_context.specs.inside.Held.{page_under}
 use Rattle.wap_world.proofs.SiteLemmas.Asking.{Stays-same}

@@ -1,6 +1,6 @@
 use Rattle.std.proofs.Common.{refl, ap, subst}
 use Rattle.std.specs.Prelude.{OnOk}
-use Rattle.wap_markup.specs.declared.deck.Node.{Node}
+use Rattle.wap_tokens.specs.declared.markup.deck.Node.{Node}
 use Rattle.wap_world.specs.Entering.{leave_place}
 use Rattle.wap_world.specs.Timers.{store_left}
 use Rattle.wap_state.specs.Held.{Held}

@@ -2,7 +2,7 @@ use Rattle.std.proofs.Common.{◌∙◌, ap, ap₂, sym, subst, Err, Option, Lis
 use Rattle.std.specs.Prelude.{Result}
 use Rattle.std.proofs.lemmas.Result.{err_from_is_err_and}
 use Rattle.wap_base.specs.declared.fault.RunErr.{RunErr}
-use Rattle.wap_markup.specs.declared.deck.Deck.{Deck}
+use Rattle.wap_tokens.specs.declared.markup.deck.Deck.{Deck}
 use Rattle.wap_machine.specs.declared.machine.Outcome.{Outcome}
 use Rattle.wap_world.specs.World.{World}
 use Rattle.wap_world.specs.scripting.Waiting.{inside}

@@ -2,7 +2,7 @@ use Rattle.std.proofs.Common.{sym, ap, ◌∙◌}
 use Rattle.std.proofs.lemmas.List.{map-id}
 use Rattle.std.proofs.lemmas.Iterator.{YieldsList-from_chars}
 use Rattle.std.proofs.lemmas.Iterator.Consumers.{YieldsList-end}
-use Rattle.wap_markup.specs.Writing.{runs_of}
+use Rattle.wap_tokens.specs.markup.Writing.{runs_of}
 use Rattle.wap_deck.specs.documents.inside.Adding.{character_after}
 use Rattle.wap_deck.proofs.DocumentsLemmas.Strings.{runs_of-last}
 use Rattle.wap_deck.proofs.documents.runs.runs_in.Goals as goal

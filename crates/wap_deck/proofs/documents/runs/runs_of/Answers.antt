@@ -1,5 +1,5 @@
 use Rattle.std.proofs.Common.{ap, ◌∙◌}
-use Rattle.wap_markup.specs.Writing.{runs_of}
+use Rattle.wap_tokens.specs.markup.Writing.{runs_of}
 use Rattle.wap_deck.proofs.documents.runs.runs_of.Goals as goal
 
 pub returns : goal.returns

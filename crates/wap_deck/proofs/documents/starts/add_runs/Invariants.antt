@@ -1,5 +1,5 @@
 use Rattle.std.proofs.Common.{◌≡◌, ◌++◌, map}
-use Rattle.wap_markup.specs.Writing.{run_piece}
+use Rattle.wap_tokens.specs.markup.Writing.{run_piece}
 use Rattle.wap_deck.proofs.documents.starts.add_runs.Given as goal
 
 abbrev pub invariant-loop-run : goal.invariant-loop-run

@@ -1,8 +1,8 @@
 use Rattle.std.proofs.Common.{ap, ◌∙◌, List, ℕ, Option}
 use Rattle.std.proofs.lemmas.Str.{chars-nil}
 use Rattle.wap_base.specs.declared.name.Part.{Part}
-use Rattle.wap_markup.specs.Tables.{code_of_start}
-use Rattle.wap_markup.specs.Writing.{attr_with}
+use Rattle.wap_tokens.specs.markup.Tables.{code_of_start}
+use Rattle.wap_tokens.specs.markup.Writing.{attr_with}
 use Rattle.wap_deck.proofs.documents.starts.attr_of.Goals as goal
 
 pub returns : goal.returns

@@ -1,5 +1,5 @@
 use Rattle.std.proofs.Common.{◌≡◌, take, map}
-use Rattle.wap_markup.specs.Writing.{attr_of}
+use Rattle.wap_tokens.specs.markup.Writing.{attr_of}
 use Rattle.wap_deck.proofs.documents.starts.attrs_of.Given as goal
 
 abbrev pub invariant-loop-attribute : goal.invariant-loop-attribute

@@ -1,6 +1,6 @@
 use Rattle.std.proofs.Common.{ap, ◌∙◌, List, ℕ}
 use Rattle.std.proofs.lemmas.Str.{chars-nil}
-use Rattle.wap_markup.specs.Tables.{code_of_start}
+use Rattle.wap_tokens.specs.markup.Tables.{code_of_start}
 use Rattle.wap_deck.proofs.DocumentsLemmas.Values.{whole_code-none}
 use Rattle.wap_deck.proofs.documents.starts.whole_code.Goals as goal
 

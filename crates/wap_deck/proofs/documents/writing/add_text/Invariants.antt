@@ -1,6 +1,6 @@
 use Rattle.std.proofs.Common.{◌≡◌, ◌++◌, take}
 use Rattle.std.specs.List.{flat_map}
-use Rattle.wap_markup.specs.Writing.{part_kids}
+use Rattle.wap_tokens.specs.markup.Writing.{part_kids}
 use Rattle.wap_deck.proofs.documents.writing.add_text.Given as goal
 
 abbrev pub invariant-loop-part : goal.invariant-loop-part

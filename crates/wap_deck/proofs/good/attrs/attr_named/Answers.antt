@@ -1,5 +1,5 @@
 use Rattle.std.proofs.Common.{◌∙◌}
-use Rattle.wap_markup.specs.Tables.{name_rows}
+use Rattle.wap_tokens.specs.markup.Tables.{name_rows}
 use Rattle.wap_deck.proofs.GoodLemmas.Named.{by_bytes}
 use Rattle.wap_deck.proofs.good.attrs.attr_named.Goals as goal
 

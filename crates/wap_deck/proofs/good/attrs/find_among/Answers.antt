@@ -1,6 +1,6 @@
 use Rattle.std.proofs.Common.{◌∙◌, sym, ap, Some, List}
 use Rattle.wap_base.specs.declared.name.Part.{Part}
-use Rattle.wap_markup.specs.declared.name.AttrName.{AttrName}
+use Rattle.wap_tokens.specs.declared.markup.name.AttrName.{AttrName}
 use Rattle.std.specs.Str.{chars}
 use Rattle.wap_deck.specs.good.Texts.{value_at, behind_value}
 use Rattle.wap_deck.specs.good.inside.Nodes.{attr_at}

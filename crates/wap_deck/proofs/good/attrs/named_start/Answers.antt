@@ -1,7 +1,7 @@
 use Rattle.std.proofs.Common.{refl, ap}
 use Rattle.std.specs.List.{list_all}
 use Rattle.std.proofs.lemmas.Str.{chars-nil}
-use Rattle.wap_markup.specs.Strings.{is_not_zero}
+use Rattle.wap_tokens.specs.markup.Strings.{is_not_zero}
 use Rattle.wap_deck.specs.good.inside.Nodes.{named_at}
 use Rattle.wap_deck.proofs.good.attrs.named_start.Goals as goal
 

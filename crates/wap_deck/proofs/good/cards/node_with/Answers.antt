@@ -1,8 +1,8 @@
 use Rattle.std.proofs.Common.{◌≡◌, ◌∙◌, sym, ap, Bool, true, false, Some, None}
 use Rattle.std.specs.Prelude.{if◌then◌else◌}
-use Rattle.wap_markup.specs.declared.name.Tag.{Tag}
-use Rattle.wap_markup.specs.Tables.{is_same_tag}
-use Rattle.wap_markup.specs.Trees.{node_with}
+use Rattle.wap_tokens.specs.declared.markup.name.Tag.{Tag}
+use Rattle.wap_tokens.specs.markup.Tables.{is_same_tag}
+use Rattle.wap_tokens.specs.markup.Trees.{node_with}
 use Rattle.wap_deck.specs.declared.good.kids.Child.{Child}
 use Rattle.wap_deck.specs.good.Lent.{item_of}
 use Rattle.wap_deck.proofs.GoodLemmas.CardLaw.{tagged_node, tagged_text}

@@ -1,8 +1,8 @@
 use Rattle.std.proofs.Common.{◌∙◌, sym, ap, subst, drop, List, ℕ, Some, Option, arith}
 use Rattle.wap_base.specs.declared.name.Part.{Part}
-use Rattle.wap_markup.specs.declared.deck.Node.{Node}
-use Rattle.wap_markup.specs.declared.deck.Item.{Item}
-use Rattle.wap_markup.specs.declared.deck.Item.TheVariants as item
+use Rattle.wap_tokens.specs.declared.markup.deck.Node.{Node}
+use Rattle.wap_tokens.specs.declared.markup.deck.Item.{Item}
+use Rattle.wap_tokens.specs.declared.markup.deck.Item.TheVariants as item
 use Rattle.wap_deck.specs.good.Readers.{Leaves, IsBehind}
 use Rattle.wap_deck.specs.good.inside.Nodes.{node_at}
 use Rattle.wap_deck.specs.good.Runs.{part_of}

@@ -1,5 +1,5 @@
 use Rattle.std.proofs.Common.{◌≡◌, ℕ, List, sym, subst, true}
-use Rattle.wap_markup.specs.declared.name.AttrName.{AttrName}
+use Rattle.wap_tokens.specs.declared.markup.name.AttrName.{AttrName}
 use Rattle.wap_deck.specs.good.inside.Notes.{lacks, LacksName}
 use Rattle.wap_deck.proofs.GoodLemmas.Ending.{behind_on, behind_first, content_there, first_is}
 use Rattle.wap_deck.proofs.good.heads.known_of.Goals as goal

@@ -1,5 +1,5 @@
 use Rattle.std.proofs.Common.{◌∙◌, ◌∷◌, sym, refl}
-use Rattle.wap_markup.specs.Codes.{has_attributes}
+use Rattle.wap_tokens.specs.markup.Codes.{has_attributes}
 use Rattle.wap_deck.specs.good.inside.Nodes.{attr_at}
 use Rattle.wap_deck.proofs.GoodLemmas.Ending.{behind_all, list_leaves, no_list_leaves}
 use Rattle.wap_deck.proofs.GoodLemmas.HeadLaw.{head_lacks, bare_lacks}

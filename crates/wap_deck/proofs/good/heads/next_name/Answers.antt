@@ -1,6 +1,6 @@
 use Rattle.std.proofs.Common.{◌∙◌, sym, ap, length, List, ℕ, Some, arith}
 use Rattle.wap_base.specs.declared.name.Part.{Part}
-use Rattle.wap_markup.specs.declared.name.AttrName.{AttrName}
+use Rattle.wap_tokens.specs.declared.markup.name.AttrName.{AttrName}
 use Rattle.wap_deck.specs.good.Texts.{value_at, behind_value}
 use Rattle.wap_deck.proofs.GoodLemmas.Ending.{attr_read, attr_followed, behind_on, behind_first}
 use Rattle.wap_deck.proofs.GoodLemmas.Ending.{behind_left, first_is}

@@ -1,6 +1,6 @@
 use Rattle.std.proofs.Common.{◌≡◌, ◌∙◌, ◌-◌, drop, sym, subst, true, rules, arith}
 use Rattle.std.proofs.lemmas.Result.{IfOk-weaker}
-use Rattle.wap_markup.specs.Codes.{has_content}
+use Rattle.wap_tokens.specs.markup.Codes.{has_content}
 use Rattle.wap_deck.specs.good.Readers.{IsBehind, Leaves, closed, is_end}
 use Rattle.wap_deck.specs.good.inside.Nodes.{item_at}
 use Rattle.wap_deck.proofs.GoodLemmas.Ending.{behind_all, behind_on, drop_behind, behind_drop}

@@ -1,5 +1,5 @@
 use Rattle.std.proofs.Common.{ℕ, ◌+◌, ◌*◌, ◌≤◌, List, length}
-use Rattle.wap_markup.specs.declared.document.TheConstants.{LEVEL_LIMIT}
+use Rattle.wap_tokens.specs.declared.markup.document.TheConstants.{LEVEL_LIMIT}
 use Rattle.wap_deck.specs.good.Readers.{IsBehind}
 use Rattle.wap_deck.specs.good.inside.Nodes.{item_at}
 use Rattle.wap_deck.specs.good.inside.Notes.{AreMore}

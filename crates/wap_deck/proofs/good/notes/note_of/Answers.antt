@@ -1,5 +1,5 @@
 use Rattle.std.proofs.Common.{length, sym, refl, subst}
-use Rattle.wap_markup.specs.declared.document.TheConstants.{LEVEL_LIMIT}
+use Rattle.wap_tokens.specs.declared.markup.document.TheConstants.{LEVEL_LIMIT}
 use Rattle.wap_deck.specs.declared.good.notes.Note.{Note}
 use Rattle.wap_deck.specs.good.inside.Nodes.{FollowsNode}
 use Rattle.wap_deck.specs.good.inside.Notes.{IsOwn}

@@ -1,7 +1,7 @@
 use Rattle.std.proofs.Common.{◌≡◌}
 use Rattle.std.specs.List.{list_any}
-use Rattle.wap_markup.specs.Good.{nodes_in}
-use Rattle.wap_markup.specs.Tables.{is_same_tag}
+use Rattle.wap_tokens.specs.markup.Good.{nodes_in}
+use Rattle.wap_tokens.specs.markup.Tables.{is_same_tag}
 use Rattle.wap_deck.proofs.good.walk.+holds_tagged.Given as goal
 
 abbrev pub decreases-holds_tagged : goal.decreases-holds_tagged

@@ -2,7 +2,7 @@ use Rattle.std.proofs.Common.{ap, sym, ◌∙◌, List, ℕ, Option, Some}
 use Rattle.std.specs.Borrow.{Bor}
 use Rattle.std.specs.Option.{option_map}
 use Rattle.std.specs.Str.{chars}
-use Rattle.wap_markup.specs.declared.name.AttrName.{AttrName}
+use Rattle.wap_tokens.specs.declared.markup.name.AttrName.{AttrName}
 use Rattle.wap_tokens.specs.Rows.{lent_start}
 use Rattle.wap_deck.proofs.ReadingLemmas.KnownAttributes.{known_attribute}
 use Rattle.wap_deck.proofs.reading.attributes.add_attribute.Goals as goal

@@ -1,7 +1,7 @@
 use Rattle.std.proofs.Common.{ap, length, Bool, Ok, ◌∙◌}
 use Rattle.std.proofs.lemmas.Result.{err_from_is_err_and}
 use Rattle.std.specs.List.{filter_map}
-use Rattle.wap_markup.specs.Decks.{attribute}
+use Rattle.wap_tokens.specs.markup.Decks.{attribute}
 use Rattle.wap_wbxml.specs.reading.Steps.{all_by}
 use Rattle.wap_wbxml.specs.reading.Parts.{as_short, next_attribute, attributes_at}
 use Rattle.wap_deck.specs.reading.inside.Gathering.{read_as}

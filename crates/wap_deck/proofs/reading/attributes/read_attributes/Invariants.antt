@@ -1,6 +1,6 @@
 use Rattle.std.proofs.Common.{◌≡◌, ◌-◌, length}
 use Rattle.std.specs.List.{filter_map}
-use Rattle.wap_markup.specs.Decks.{attribute}
+use Rattle.wap_tokens.specs.markup.Decks.{attribute}
 use Rattle.wap_wbxml.specs.reading.Parts.{as_short, next_attribute, attributes_at}
 use Rattle.wap_deck.specs.reading.inside.Gathering.{read_as, gather_at}
 use Rattle.wap_deck.specs.reading.inside.Parts.{attribute_added}

@@ -1,11 +1,11 @@
 use Rattle.std.proofs.Common.{List, ap, sym, length, Bool, true, Option, Ok, ◌∙◌, arith}
 use Rattle.std.proofs.lemmas.Result.{err_from_is_err_and}
 use Rattle.wap_base.specs.declared.name.Part.{Part}
-use Rattle.wap_markup.specs.declared.deck.Item.{Item}
-use Rattle.wap_markup.specs.declared.document.Attr.{Attr}
-use Rattle.wap_markup.specs.declared.mark.Leaf.{Leaf}
-use Rattle.wap_markup.specs.Decks.{part_marks}
-use Rattle.wap_markup.specs.Grammar.{State, on_tag_page}
+use Rattle.wap_tokens.specs.declared.markup.deck.Item.{Item}
+use Rattle.wap_tokens.specs.declared.markup.document.Attr.{Attr}
+use Rattle.wap_tokens.specs.declared.markup.mark.Leaf.{Leaf}
+use Rattle.wap_tokens.specs.markup.Decks.{part_marks}
+use Rattle.wap_tokens.specs.markup.Grammar.{State, on_tag_page}
 use Rattle.wap_wbxml.specs.reading.Steps.{Reading, told, all_by}
 use Rattle.wap_wbxml.specs.reading.Parts.{as_short, next_kid, kids_at, element_at}
 use Rattle.wap_deck.specs.documents.inside.Adding.{marks_after}

@@ -1,6 +1,6 @@
 use Rattle.std.proofs.Common.{ap, ◌∙◌}
 use Rattle.std.proofs.lemmas.Result.{err_from_is_err_and}
-use Rattle.wap_markup.specs.declared.deck.Node.{Node}
+use Rattle.wap_tokens.specs.declared.markup.deck.Node.{Node}
 use Rattle.wap_wbxml.specs.reading.Steps.{Reading, told}
 use Rattle.wap_deck.specs.reading.inside.Parts.{rooted}
 use Rattle.wap_deck.proofs.ReadingLemmas.Bodies.{whole_read}

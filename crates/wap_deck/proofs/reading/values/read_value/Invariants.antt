@@ -1,6 +1,6 @@
 use Rattle.std.proofs.Common.{◌≡◌, ◌-◌, length}
 use Rattle.std.specs.Str.{chars}
-use Rattle.wap_markup.specs.Decks.{value_after}
+use Rattle.wap_tokens.specs.markup.Decks.{value_after}
 use Rattle.wap_wbxml.specs.reading.Parts.{as_none, next_piece, pieces_at}
 use Rattle.wap_deck.specs.reading.inside.Gathering.{read_as, gather_at}
 use Rattle.wap_deck.specs.reading.inside.Parts.{piece_added}

@@ -1,8 +1,8 @@
 use Rattle.std.proofs.Common.{List, ◌∷◌, ap, ◌∙◌, sym}
 use Rattle.wap_base.specs.declared.name.Part.{Part}
 use Rattle.wap_base.specs.Numbers.{mb_spelling}
-use Rattle.wap_markup.specs.declared.codes.TheConstants.{LITERAL}
-use Rattle.wap_markup.specs.Writing.{whole_code}
+use Rattle.wap_tokens.specs.declared.markup.codes.TheConstants.{LITERAL}
+use Rattle.wap_tokens.specs.markup.Writing.{whole_code}
 use Rattle.wap_wbxml.specs.spelling.Names.{place_of}
 use Rattle.wap_wbxml.specs.spelling.Writings.{plain, each}
 use Rattle.wap_wbxml.specs.spelling.inside.Written.{written}

@@ -1,7 +1,7 @@
 use Rattle.std.proofs.Common.{ap, ◌∙◌, List}
 use Rattle.wap_base.specs.declared.name.Part.{Part}
-use Rattle.wap_markup.specs.declared.name.AttrName.{AttrName}
-use Rattle.wap_markup.specs.Writing.{attr_of}
+use Rattle.wap_tokens.specs.declared.markup.name.AttrName.{AttrName}
+use Rattle.wap_tokens.specs.markup.Writing.{attr_of}
 use Rattle.wap_wbxml.specs.spelling.Writings.{Writing}
 use Rattle.wap_wbxml.specs.spelling.Spelling.{attr_spelling}
 use Rattle.wap_wbxml.specs.spelling.inside.Written.{written}

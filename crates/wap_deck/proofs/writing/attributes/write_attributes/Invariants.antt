@@ -1,5 +1,5 @@
 use Rattle.std.proofs.Common.{◌≡◌, take}
-use Rattle.wap_markup.specs.Writing.{attr_of}
+use Rattle.wap_tokens.specs.markup.Writing.{attr_of}
 use Rattle.wap_wbxml.specs.spelling.Writings.{each}
 use Rattle.wap_wbxml.specs.spelling.Spelling.{attr_spelling}
 use Rattle.wap_wbxml.specs.spelling.inside.Written.{written}

@@ -1,5 +1,5 @@
 use Rattle.std.proofs.Common.{List, ℕ, ◌++◌, ap, ◌∙◌}
-use Rattle.wap_markup.specs.Writing.{document_of}
+use Rattle.wap_tokens.specs.markup.Writing.{document_of}
 use Rattle.wap_wbxml.specs.declared.spelling.output.Output.{Output}
 use Rattle.wap_wbxml.specs.spelling.Spelling.{header_spelling, root_spelling, spelling}
 use Rattle.wap_deck.proofs.writing.decks.spell.Goals as goal

@@ -1,5 +1,5 @@
-use Rattle.wap_markup.specs.Decks.{deck_of}
-use Rattle.wap_markup.specs.Writing.{document_of}
+use Rattle.wap_tokens.specs.markup.Decks.{deck_of}
+use Rattle.wap_tokens.specs.markup.Writing.{document_of}
 use Rattle.wap_deck.proofs.DocumentsLemmas.Normality.{deck_is_normal}
 use Rattle.wap_deck.proofs.WritingLemmas.DeckTexts.{deck_texts}
 use Rattle.wap_deck.proofs.WritingLemmas.DocumentTexts.{document_texts}

@@ -2,9 +2,9 @@ use Rattle.std.proofs.Common.{List, ◌<◌, map, ap, ◌∙◌, arith}
 use Rattle.std.proofs.lemmas.List.{take_all}
 use Rattle.std.specs.List.{fold}
 use Rattle.wap_base.specs.declared.name.Part.{Part}
-use Rattle.wap_markup.specs.declared.name.AttrName.{AttrName}
-use Rattle.wap_markup.specs.declared.deck.Item.{Item}
-use Rattle.wap_markup.specs.Writing.{attr_of, item_kids, items_kids, node_kids}
+use Rattle.wap_tokens.specs.declared.markup.name.AttrName.{AttrName}
+use Rattle.wap_tokens.specs.declared.markup.deck.Item.{Item}
+use Rattle.wap_tokens.specs.markup.Writing.{attr_of, item_kids, items_kids, node_kids}
 use Rattle.wap_wbxml.specs.spelling.Names.{with_attr, with_kid, with_element}
 use Rattle.wap_deck.proofs.WritingLemmas.Naming.{Names, fold_flat, text_adds, node_adds}
 use Rattle.wap_deck.proofs.WritingLemmas.Naming.{element_adds}

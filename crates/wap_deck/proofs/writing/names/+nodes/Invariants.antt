@@ -1,6 +1,6 @@
 use Rattle.std.proofs.Common.{◌≡◌, take}
 use Rattle.std.specs.List.{fold}
-use Rattle.wap_markup.specs.Writing.{item_kids, node_kids}
+use Rattle.wap_tokens.specs.markup.Writing.{item_kids, node_kids}
 use Rattle.wap_wbxml.specs.spelling.Names.{with_kid, with_element}
 use Rattle.wap_deck.proofs.writing.names.+nodes.Given as goal
 

@@ -1,6 +1,6 @@
 use Rattle.std.proofs.Common.{◌≡◌, take}
 use Rattle.std.specs.List.{fold}
-use Rattle.wap_markup.specs.Writing.{attr_of}
+use Rattle.wap_tokens.specs.markup.Writing.{attr_of}
 use Rattle.wap_wbxml.specs.spelling.Names.{with_attr}
 use Rattle.wap_deck.proofs.writing.names.add_attributes.Given as goal
 

@@ -2,9 +2,9 @@ use Rattle.std.proofs.Common.{List, ◌≡◌, ◌+◌, ◌<◌, ◌∷◌, [], 
 use Rattle.std.proofs.Common.{ℕ, ap, ap₂, subst, ◌∙◌, sym, arith, rules}
 use Rattle.std.proofs.lemmas.List.{take_all}
 use Rattle.wap_base.specs.declared.name.Part.{Part}
-use Rattle.wap_markup.specs.declared.name.AttrName.{AttrName}
-use Rattle.wap_markup.specs.declared.deck.Item.{Item}
-use Rattle.wap_markup.specs.Writing.{attr_of, item_kids, items_kids, node_kids}
+use Rattle.wap_tokens.specs.declared.markup.name.AttrName.{AttrName}
+use Rattle.wap_tokens.specs.declared.markup.deck.Item.{Item}
+use Rattle.wap_tokens.specs.markup.Writing.{attr_of, item_kids, items_kids, node_kids}
 use Rattle.wap_wbxml.specs.spelling.Writings.{plain, each, ended}
 use Rattle.wap_wbxml.specs.spelling.Spelling.{bit, attr_spelling, kid_spelling, element_spelling}
 use Rattle.wap_wbxml.specs.spelling.inside.Written.{written}

@@ -1,5 +1,5 @@
 use Rattle.std.proofs.Common.{◌≡◌, take}
-use Rattle.wap_markup.specs.Writing.{item_kids, node_kids}
+use Rattle.wap_tokens.specs.markup.Writing.{item_kids, node_kids}
 use Rattle.wap_wbxml.specs.spelling.Writings.{each}
 use Rattle.wap_wbxml.specs.spelling.Spelling.{kid_spelling, element_spelling}
 use Rattle.wap_wbxml.specs.spelling.inside.Written.{written}

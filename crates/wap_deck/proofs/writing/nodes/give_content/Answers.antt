@@ -1,5 +1,5 @@
 use Rattle.std.proofs.Common.{sym, ◌∙◌}
-use Rattle.wap_markup.specs.Writing.{item_kids, node_kids}
+use Rattle.wap_tokens.specs.markup.Writing.{item_kids, node_kids}
 use Rattle.wap_deck.proofs.WritingLemmas.Emptiness.{given, passed}
 use Rattle.wap_deck.proofs.writing.nodes.give_content.Goals as goal
 

@@ -1,5 +1,5 @@
 use Rattle.std.proofs.Common.{◌≡◌, drop}
-use Rattle.wap_markup.specs.Writing.{items_kids, node_kids}
+use Rattle.wap_tokens.specs.markup.Writing.{items_kids, node_kids}
 use Rattle.wap_deck.specs.writing.inside.Parts.{has_any}
 use Rattle.wap_deck.proofs.writing.nodes.give_content.Given as goal
 

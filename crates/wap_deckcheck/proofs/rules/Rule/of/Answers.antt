@@ -1,5 +1,5 @@
 use Rattle.std.proofs.Common.{ap}
-use Rattle.wap_markup.specs.Good.{rules, rule_or_none, rule_of}
+use Rattle.wap_tokens.specs.markup.Good.{rules, rule_or_none, rule_of}
 use Rattle.wap_deckcheck.proofs.rules.Rule.of.Goals as goal
 
 pub returns-in-Some : goal.returns-in-Some

@@ -1,6 +1,6 @@
 use Rattle.std.proofs.Common.{ap, sym, ◌∙◌}
 use Rattle.std.proofs.lemmas.Iterator.Adapters.{position_from-zero}
-use Rattle.wap_markup.specs.Good.{Rule, is_among, place_in}
+use Rattle.wap_tokens.specs.markup.Good.{Rule, is_among, place_in}
 use Rattle.wap_deckcheck.specs.inside.Rows.{groups_of}
 use Rattle.wap_deckcheck.proofs.rules.Rule.place_of.Goals as goal
 

@@ -1,5 +1,5 @@
 use Rattle.std.proofs.Common.{sym, ◌∙◌}
-use Rattle.wap_markup.specs.Good.{tags_of}
+use Rattle.wap_tokens.specs.markup.Good.{tags_of}
 use Rattle.wap_deckcheck.proofs.Following.{follows_none, follows_reached, reached_by}
 use Rattle.wap_deckcheck.proofs.rules.Rule.reach.Goals as goal
 

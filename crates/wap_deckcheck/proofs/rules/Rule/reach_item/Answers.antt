@@ -1,6 +1,6 @@
 use Rattle.std.proofs.Common.{ap, ◌∙◌}
-use Rattle.wap_markup.specs.declared.deck.Item.{out-Item}
-use Rattle.wap_markup.specs.declared.deck.Item.TheVariants.{outs-Text, outs-Node}
+use Rattle.wap_tokens.specs.declared.markup.deck.Item.{out-Item}
+use Rattle.wap_tokens.specs.declared.markup.deck.Item.TheVariants.{outs-Text, outs-Node}
 use Rattle.wap_deckcheck.proofs.Following.{reached_node_if, reached_text}
 use Rattle.wap_deckcheck.proofs.rules.Rule.reach_item.Goals as goal
 

@@ -1,5 +1,5 @@
 use Rattle.std.proofs.Common.{OnErr, ap, subst}
-use Rattle.wap_markup.specs.declared.deck.Node.{Node}
+use Rattle.wap_tokens.specs.declared.markup.deck.Node.{Node}
 use Rattle.wap_vars.specs.Variables.{Variables}
 use Rattle.wap_cards.specs.inputs.Stopped.{ChoiceStands}
 use Rattle.wap_world.specs.World.{World}

@@ -1,5 +1,5 @@
 use Rattle.std.proofs.Common.{◌∷◌, []}
-use Rattle.wap_markup.specs.declared.codes.TheConstants.{PI, END}
+use Rattle.wap_tokens.specs.declared.markup.codes.TheConstants.{PI, END}
 use Rattle.wap_wbxml.specs.spelling.Writings.{plain, ◌⨾◌}
 use Rattle.wap_wbxml.specs.spelling.Spelling.{attr_spelling}
 use Rattle.wap_wbxml.proofs.SpellingLemmas.Appending.{in_turn}

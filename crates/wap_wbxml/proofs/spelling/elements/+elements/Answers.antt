@@ -1,6 +1,6 @@
 use Rattle.std.proofs.Common.{◌-◌, ◌<◌, ap, ◌∙◌, sym, List, arith}
-use Rattle.wap_markup.specs.declared.document.Attr.{Attr}
-use Rattle.wap_markup.specs.declared.document.Kid.{Kid}
+use Rattle.wap_tokens.specs.declared.markup.document.Attr.{Attr}
+use Rattle.wap_tokens.specs.declared.markup.document.Kid.{Kid}
 use Rattle.wap_wbxml.specs.spelling.Writings.{Writing, plain, ◌⨾◌, ended, on_tag_page}
 use Rattle.wap_wbxml.specs.spelling.Spelling.{bits, tag_spelling, attr_spelling}
 use Rattle.wap_wbxml.specs.spelling.Spelling.{kid_spelling, element_spelling}

@@ -1,5 +1,5 @@
 use Rattle.std.proofs.Common.{ℕ, List, Ok, sym, ◌∙◌, ap, arith}
-use Rattle.wap_markup.specs.Grammar.{State, table_size}
+use Rattle.wap_tokens.specs.markup.Grammar.{State, table_size}
 use Rattle.wap_wbxml.proofs.Names.{counted_fits, counted_over, table_size-append, added}
 use Rattle.wap_wbxml.proofs.state.State.count.Goals as goal
 

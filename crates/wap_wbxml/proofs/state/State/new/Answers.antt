@@ -1,5 +1,5 @@
 use Rattle.std.proofs.Common.{◌≡◌, ℕ, List, [], sym, ap}
-use Rattle.wap_markup.specs.Grammar.{table_size}
+use Rattle.wap_tokens.specs.markup.Grammar.{table_size}
 use Rattle.wap_wbxml.proofs.state.State.new.Goals as goal
 
 no_size : (names : List (List ℕ)) → names ≡ [] → 0 ≡ table_size names

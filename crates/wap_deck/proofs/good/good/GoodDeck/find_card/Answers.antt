@@ -1,5 +1,5 @@
 use Rattle.std.proofs.Common.{◌∙◌, ◌≤◌, sym, length, arith}
-use Rattle.wap_markup.specs.Cards.{cards_of}
+use Rattle.wap_tokens.specs.markup.Cards.{cards_of}
 use Rattle.wap_deck.proofs.GoodLemmas.CardLaw.{found_here, found_behind, no_card_behind}
 use Rattle.wap_deck.proofs.GoodLemmas.CardLaw.{found_nowhere}
 use Rattle.wap_deck.proofs.good.good.GoodDeck.find_card.Goals as goal

@@ -1,7 +1,7 @@
 use Rattle.std.proofs.Common.{◌∙◌, ap, sym, subst, drop, List, ℕ, arith}
 use Rattle.std.proofs.lemmas.List.{take_rest}
-use Rattle.wap_markup.specs.declared.document.TheConstants.{LEVEL_LIMIT}
-use Rattle.wap_markup.specs.declared.deck.Deck.{Deck}
+use Rattle.wap_tokens.specs.declared.markup.document.TheConstants.{LEVEL_LIMIT}
+use Rattle.wap_tokens.specs.declared.markup.deck.Deck.{Deck}
 use Rattle.wap_deck.specs.good.inside.Nodes.{front_node, IsRead}
 use Rattle.wap_deck.specs.good.inside.Notes.{AreNotes}
 use Rattle.wap_deck.proofs.GoodLemmas.Ending.{behind_drop}

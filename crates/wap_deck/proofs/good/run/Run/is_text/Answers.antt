@@ -1,6 +1,6 @@
 use Rattle.std.proofs.Common.{◌≡◌, ◌∙◌, sym, ap, List, ℕ}
 use Rattle.wap_base.specs.declared.name.Part.{Part}
-use Rattle.wap_markup.specs.Trees.{plain_text}
+use Rattle.wap_tokens.specs.markup.Trees.{plain_text}
 use Rattle.wap_deck.specs.good.Runs.{part_of, is_utf8_of}
 use Rattle.wap_deck.proofs.GoodLemmas.Compared.{by_bytes, stepped, missed}
 use Rattle.wap_deck.proofs.good.run.Run.is_text.Goals as goal

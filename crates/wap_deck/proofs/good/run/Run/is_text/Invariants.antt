@@ -1,5 +1,5 @@
 use Rattle.std.proofs.Common.{◌≡◌}
-use Rattle.wap_markup.specs.Trees.{plain_text, is_text}
+use Rattle.wap_tokens.specs.markup.Trees.{plain_text, is_text}
 use Rattle.wap_deck.specs.good.Runs.{is_utf8_of}
 use Rattle.wap_deck.proofs.good.run.Run.is_text.Given as goal
 

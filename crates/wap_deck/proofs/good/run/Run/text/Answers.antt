@@ -1,7 +1,7 @@
 use Rattle.std.proofs.Common.{ap, List, ℕ}
 use Rattle.std.specs.List.{list_all}
 use Rattle.std.proofs.lemmas.Str.{chars-nil}
-use Rattle.wap_markup.specs.Strings.{is_not_zero}
+use Rattle.wap_tokens.specs.markup.Strings.{is_not_zero}
 use Rattle.wap_deck.specs.good.Texts.{value_at}
 use Rattle.wap_deck.proofs.good.run.Run.text.Goals as goal
 

@@ -1,6 +1,6 @@
 use Rattle.std.proofs.Common.{◌∙◌, sym, ap, List}
 use Rattle.wap_base.specs.declared.name.Part.{Part}
-use Rattle.wap_markup.specs.declared.name.AttrName.{AttrName}
+use Rattle.wap_tokens.specs.declared.markup.name.AttrName.{AttrName}
 use Rattle.wap_deck.specs.good.inside.Starts.{value_in}
 use Rattle.wap_deck.proofs.GoodLemmas.HeadLaw.{attrs_here, bare_lacks}
 use Rattle.wap_deck.proofs.GoodLemmas.Seen.{attrs_seen, attrs_end, some_first, no_such_value}

@@ -1,11 +1,11 @@
 -- The cards of a deck (WAP-191, section 11.5), and the names of cards and events.
 use Rattle.std.specs.Prelude.{ℕ, List, position, Option}
 use Rattle.std.specs.List.{filter_map}
-use Rattle.wap_markup.specs.declared.deck.Deck.{Deck}
-use Rattle.wap_markup.specs.declared.deck.Node.{Node}
-use Rattle.wap_markup.specs.declared.name.Tag.TheVariants as tags
-use Rattle.wap_markup.specs.declared.name.AttrName.TheVariants as attrs
-use Rattle.wap_markup.specs.Trees.{node_with, plain_value, is_text}
+use Rattle.wap_tokens.specs.declared.markup.deck.Deck.{Deck}
+use Rattle.wap_tokens.specs.declared.markup.deck.Node.{Node}
+use Rattle.wap_tokens.specs.declared.markup.name.Tag.TheVariants as tags
+use Rattle.wap_tokens.specs.declared.markup.name.AttrName.TheVariants as attrs
+use Rattle.wap_tokens.specs.markup.Trees.{node_with, plain_value, is_text}
 
 -- the cards, in the order of the document
 abbrev pub cards_of : Deck → List Node

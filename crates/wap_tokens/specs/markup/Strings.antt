@@ -5,7 +5,7 @@ use Rattle.std.specs.Prelude.{◌∷◌, ◌++◌, length, drop, take_while}
 use Rattle.std.specs.List.{list_all}
 use Rattle.wap_base.specs.Numbers.{IsMb}
 use Rattle.wap_base.specs.declared.charset.Charset.{Charset}
-use Rattle.wap_markup.specs.Charsets.{IsText}
+use Rattle.wap_tokens.specs.markup.Charsets.{IsText}
 
 -- what a document says of all of its strings
 pub record Strings : Type 0 where

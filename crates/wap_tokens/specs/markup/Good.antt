@@ -11,18 +11,18 @@ use Rattle.wap_base.specs.declared.name.Part.{Part}
 use Rattle.wap_base.specs.declared.name.Part.TheVariants.{Lit}
 use Rattle.wap_base.specs.Names.{is_name}
 use Rattle.wap_base.specs.Texts.{is_same_text, AreDistinct}
-use Rattle.wap_markup.specs.declared.deck.Deck.{Deck}
-use Rattle.wap_markup.specs.declared.deck.Node.{Node}
-use Rattle.wap_markup.specs.declared.deck.Item.{Item}
-use Rattle.wap_markup.specs.declared.name.Tag.{Tag}
-use Rattle.wap_markup.specs.declared.name.Tag.TheVariants as tags
-use Rattle.wap_markup.specs.declared.name.AttrName.{AttrName}
-use Rattle.wap_markup.specs.declared.name.AttrName.TheVariants as attrs
-use Rattle.wap_markup.specs.declared.rules.TheConstants.{RULES}
-use Rattle.wap_markup.specs.Tables.{is_same_tag, is_same_attr}
-use Rattle.wap_markup.specs.Trees.{node_of, words_of, value_of, plain_text}
-use Rattle.wap_markup.specs.declared.document.TheConstants.{LEVEL_LIMIT}
-use Rattle.wap_markup.specs.Cards.{cards_of, ids_of}
+use Rattle.wap_tokens.specs.declared.markup.deck.Deck.{Deck}
+use Rattle.wap_tokens.specs.declared.markup.deck.Node.{Node}
+use Rattle.wap_tokens.specs.declared.markup.deck.Item.{Item}
+use Rattle.wap_tokens.specs.declared.markup.name.Tag.{Tag}
+use Rattle.wap_tokens.specs.declared.markup.name.Tag.TheVariants as tags
+use Rattle.wap_tokens.specs.declared.markup.name.AttrName.{AttrName}
+use Rattle.wap_tokens.specs.declared.markup.name.AttrName.TheVariants as attrs
+use Rattle.wap_tokens.specs.declared.markup.rules.TheConstants.{RULES}
+use Rattle.wap_tokens.specs.markup.Tables.{is_same_tag, is_same_attr}
+use Rattle.wap_tokens.specs.markup.Trees.{node_of, words_of, value_of, plain_text}
+use Rattle.wap_tokens.specs.declared.markup.document.TheConstants.{LEVEL_LIMIT}
+use Rattle.wap_tokens.specs.markup.Cards.{cards_of, ids_of}
 
 -- ---- rules, as the table has them
 

@@ -1,6 +1,6 @@
 //! The names and codes of WML's elements and attributes (WAP-191, section 14.3). The codes are
 //! those of page 0.
-use crate::{AttrName, Tag};
+use crate::markup::{AttrName, Tag};
 
 /// Each element: its code, its tag and its name. Codes ascend.
 pub static TAGS: [(u8, Tag, &str); 36] = [

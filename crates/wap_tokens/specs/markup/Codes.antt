@@ -4,19 +4,21 @@
 use Rattle.std.specs.Prelude.{ℕ, ◌%◌, Bool, true, false, not, ◌==◌, ◌&&◌, nat_lt}
 use Rattle.std.specs.Prelude.{nat_le, if◌then◌else◌, Option, Some, None}
 use Rattle.wap_base.specs.declared.name.Conv.TheVariants.{Escape, Unescape, Plain}
-use Rattle.wap_markup.specs.declared.codes.TheConstants.{END, ENTITY, STR_I, LITERAL, EXT_I_0}
-use Rattle.wap_markup.specs.declared.codes.TheConstants.{EXT_I_1, EXT_I_2, PI, EXT_T_0, EXT_T_1}
-use Rattle.wap_markup.specs.declared.codes.TheConstants.{EXT_T_2, STR_T, EXT_0, EXT_1, EXT_2}
-use Rattle.wap_markup.specs.declared.codes.TheConstants.{OPAQUE}
-use Rattle.wap_markup.specs.declared.mark.Lead.{Lead}
-use Rattle.wap_markup.specs.declared.mark.Role.TheVariants.{Shown, Variable}
-use Rattle.wap_markup.specs.declared.mark.LeafMark.{LeafMark}
-use Rattle.wap_markup.specs.declared.mark.LeafMark.TheVariants.{Inline, Indexed, Entity}
-use Rattle.wap_markup.specs.declared.mark.LeafMark.TheVariants.{Opaque, Extension}
-use Rattle.wap_markup.specs.declared.mark.ContentMark.{ContentMark}
-use Rattle.wap_markup.specs.declared.mark.ContentMark.TheVariants as content
-use Rattle.wap_markup.specs.declared.mark.AttributeMark.{AttributeMark}
-use Rattle.wap_markup.specs.declared.mark.AttributeMark.TheVariants as attribute
+use Rattle.wap_tokens.specs.declared.markup.codes.TheConstants.{END, ENTITY, STR_I, LITERAL}
+use Rattle.wap_tokens.specs.declared.markup.codes.TheConstants.{EXT_I_0}
+use Rattle.wap_tokens.specs.declared.markup.codes.TheConstants.{EXT_I_1, EXT_I_2, PI, EXT_T_0}
+use Rattle.wap_tokens.specs.declared.markup.codes.TheConstants.{EXT_T_1}
+use Rattle.wap_tokens.specs.declared.markup.codes.TheConstants.{EXT_T_2, STR_T, EXT_0, EXT_1, EXT_2}
+use Rattle.wap_tokens.specs.declared.markup.codes.TheConstants.{OPAQUE}
+use Rattle.wap_tokens.specs.declared.markup.mark.Lead.{Lead}
+use Rattle.wap_tokens.specs.declared.markup.mark.Role.TheVariants.{Shown, Variable}
+use Rattle.wap_tokens.specs.declared.markup.mark.LeafMark.{LeafMark}
+use Rattle.wap_tokens.specs.declared.markup.mark.LeafMark.TheVariants.{Inline, Indexed, Entity}
+use Rattle.wap_tokens.specs.declared.markup.mark.LeafMark.TheVariants.{Opaque, Extension}
+use Rattle.wap_tokens.specs.declared.markup.mark.ContentMark.{ContentMark}
+use Rattle.wap_tokens.specs.declared.markup.mark.ContentMark.TheVariants as content
+use Rattle.wap_tokens.specs.declared.markup.mark.AttributeMark.{AttributeMark}
+use Rattle.wap_tokens.specs.declared.markup.mark.AttributeMark.TheVariants as attribute
 
 -- ---- what means the same in content and in attributes
 

@@ -1,6 +1,5 @@
 //! The types of documents, as WBXML spells them, and of decks, as WML means them; the tables of
 //! WML's names and codes.
-#![tactic(auto)]
 
 mod codes;
 mod deck;

@@ -2,7 +2,7 @@
 //! the document type of WML 1.3: `pre` may hold what `p` may; em, strong, b, i, u, big and small
 //! may hold fields and fieldsets too, and td these and tables; alt and src of img, content of meta
 //! and columns of table may be absent.
-use crate::{AttrName, Tag};
+use crate::markup::{AttrName, Tag};
 
 /// What a text may hold beside its characters.
 const FLOW: &[Tag] = &[

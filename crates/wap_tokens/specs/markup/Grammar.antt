@@ -7,31 +7,31 @@ use Rattle.std.specs.List.{list_any}
 use Rattle.wap_base.specs.Numbers.{IsMb}
 use Rattle.wap_base.specs.Texts.{is_same_text}
 use Rattle.wap_base.specs.Utf8.{utf8_len}
-use Rattle.wap_markup.specs.declared.codes.TheConstants.{SWITCH_PAGE, END}
-use Rattle.wap_markup.specs.declared.document.Attr.{Attr}
-use Rattle.wap_markup.specs.declared.document.Piece.{Piece}
-use Rattle.wap_markup.specs.declared.document.Piece.TheVariants as piece
-use Rattle.wap_markup.specs.declared.document.Token.{Token}
-use Rattle.wap_markup.specs.declared.document.Token.TheVariants.{Code, Literal}
-use Rattle.wap_markup.specs.declared.document.Element.{Element}
-use Rattle.wap_markup.specs.declared.document.Kid.{Kid}
-use Rattle.wap_markup.specs.declared.document.Kid.TheVariants as kid
-use Rattle.wap_markup.specs.declared.mark.Lead.{Lead}
-use Rattle.wap_markup.specs.declared.mark.Role.{Role}
-use Rattle.wap_markup.specs.declared.mark.Role.TheVariants.{Shown, Variable}
-use Rattle.wap_markup.specs.declared.mark.Leaf.{Leaf}
-use Rattle.wap_markup.specs.declared.mark.Leaf.TheVariants as leaf
-use Rattle.wap_markup.specs.declared.mark.LeafMark.{LeafMark}
-use Rattle.wap_markup.specs.declared.mark.LeafMark.TheVariants as mark
-use Rattle.wap_markup.specs.declared.mark.ContentMark.{ContentMark}
-use Rattle.wap_markup.specs.declared.mark.ContentMark.TheVariants as content
-use Rattle.wap_markup.specs.declared.mark.AttributeMark.{AttributeMark}
-use Rattle.wap_markup.specs.declared.mark.AttributeMark.TheVariants as attribute
-use Rattle.wap_markup.specs.Charsets.{is_character}
-use Rattle.wap_markup.specs.Codes.{content_mark, attribute_mark, is_named}
-use Rattle.wap_markup.specs.Codes.{has_attributes, has_content}
-use Rattle.wap_markup.specs.Spellings.{Then, Told, Given, Never, When, ManyOf, Ended}
-use Rattle.wap_markup.specs.Strings.{Strings, IsInline, IsIndexed}
+use Rattle.wap_tokens.specs.declared.markup.codes.TheConstants.{SWITCH_PAGE, END}
+use Rattle.wap_tokens.specs.declared.markup.document.Attr.{Attr}
+use Rattle.wap_tokens.specs.declared.markup.document.Piece.{Piece}
+use Rattle.wap_tokens.specs.declared.markup.document.Piece.TheVariants as piece
+use Rattle.wap_tokens.specs.declared.markup.document.Token.{Token}
+use Rattle.wap_tokens.specs.declared.markup.document.Token.TheVariants.{Code, Literal}
+use Rattle.wap_tokens.specs.declared.markup.document.Element.{Element}
+use Rattle.wap_tokens.specs.declared.markup.document.Kid.{Kid}
+use Rattle.wap_tokens.specs.declared.markup.document.Kid.TheVariants as kid
+use Rattle.wap_tokens.specs.declared.markup.mark.Lead.{Lead}
+use Rattle.wap_tokens.specs.declared.markup.mark.Role.{Role}
+use Rattle.wap_tokens.specs.declared.markup.mark.Role.TheVariants.{Shown, Variable}
+use Rattle.wap_tokens.specs.declared.markup.mark.Leaf.{Leaf}
+use Rattle.wap_tokens.specs.declared.markup.mark.Leaf.TheVariants as leaf
+use Rattle.wap_tokens.specs.declared.markup.mark.LeafMark.{LeafMark}
+use Rattle.wap_tokens.specs.declared.markup.mark.LeafMark.TheVariants as mark
+use Rattle.wap_tokens.specs.declared.markup.mark.ContentMark.{ContentMark}
+use Rattle.wap_tokens.specs.declared.markup.mark.ContentMark.TheVariants as content
+use Rattle.wap_tokens.specs.declared.markup.mark.AttributeMark.{AttributeMark}
+use Rattle.wap_tokens.specs.declared.markup.mark.AttributeMark.TheVariants as attribute
+use Rattle.wap_tokens.specs.markup.Charsets.{is_character}
+use Rattle.wap_tokens.specs.markup.Codes.{content_mark, attribute_mark, is_named}
+use Rattle.wap_tokens.specs.markup.Codes.{has_attributes, has_content}
+use Rattle.wap_tokens.specs.markup.Spellings.{Then, Told, Given, Never, When, ManyOf, Ended}
+use Rattle.wap_tokens.specs.markup.Strings.{Strings, IsInline, IsIndexed}
 
 -- ---- what the bytes before settle for those after them
 

@@ -2,18 +2,18 @@
 -- literals and neighbouring texts joined. This project's own.
 use Rattle.std.specs.Prelude.{◌≡◌, ◌≢◌, ℕ, zero, suc, ◌-◌, true, map, List, [], ◌∷◌}
 use Rattle.std.specs.List.{flat_map, AllByRecursion}
-use Rattle.wap_markup.specs.declared.document.TheConstants.{LEVEL_LIMIT}
+use Rattle.wap_tokens.specs.declared.markup.document.TheConstants.{LEVEL_LIMIT}
 use Rattle.wap_base.specs.declared.name.Part.{Part}
 use Rattle.wap_base.specs.declared.name.Part.TheVariants.{Lit, Var}
 use Rattle.wap_base.specs.Names.{is_name}
-use Rattle.wap_markup.specs.declared.deck.Deck.{Deck}
-use Rattle.wap_markup.specs.declared.deck.Node.{Node}
-use Rattle.wap_markup.specs.declared.deck.Item.{Item, out-Item}
-use Rattle.wap_markup.specs.declared.deck.Item.TheOpen.{Item-F}
-use Rattle.wap_markup.specs.declared.name.Tag.TheVariants as tags
-use Rattle.wap_markup.specs.declared.name.AttrName.{AttrName}
-use Rattle.wap_markup.specs.Trees.{ItemLevel}
-use Rattle.wap_markup.specs.Decks.{joined, Mark, part, node, items_of}
+use Rattle.wap_tokens.specs.declared.markup.deck.Deck.{Deck}
+use Rattle.wap_tokens.specs.declared.markup.deck.Node.{Node}
+use Rattle.wap_tokens.specs.declared.markup.deck.Item.{Item, out-Item}
+use Rattle.wap_tokens.specs.declared.markup.deck.Item.TheOpen.{Item-F}
+use Rattle.wap_tokens.specs.declared.markup.name.Tag.TheVariants as tags
+use Rattle.wap_tokens.specs.declared.markup.name.AttrName.{AttrName}
+use Rattle.wap_tokens.specs.markup.Trees.{ItemLevel}
+use Rattle.wap_tokens.specs.markup.Decks.{joined, Mark, part, node, items_of}
 
 -- ---- values
 

@@ -1,5 +1,5 @@
 //! Decks as WML means them (WAP-191, section 11): known tags and attributes alone, texts joined.
-use crate::name::{AttrName, Tag};
+use crate::markup::name::{AttrName, Tag};
 use wap_base::{Part, Rows};
 
 /// A deck of cards.

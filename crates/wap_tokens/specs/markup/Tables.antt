@@ -5,12 +5,12 @@ use Rattle.std.specs.Prelude.{ℕ, Bool, ◌==◌, ◌&&◌, nat_eq, if◌then�
 use Rattle.std.specs.Prelude.{unwrap_or, List, [], Option, None}
 use Rattle.std.specs.Map.{lookup}
 use Rattle.wap_base.specs.Texts.{is_same_text}
-use Rattle.wap_markup.specs.declared.name.Tag.{Tag}
-use Rattle.wap_markup.specs.declared.name.AttrName.{AttrName}
-use Rattle.wap_markup.specs.declared.tables.TheConstants.{TAGS, ATTR_NAMES, ATTR_STARTS}
-use Rattle.wap_markup.specs.declared.tables.TheConstants.{ATTR_VALUES}
-use Rattle.wap_markup.specs.contracts.name.Tag as tags
-use Rattle.wap_markup.specs.contracts.name.AttrName as names
+use Rattle.wap_tokens.specs.declared.markup.name.Tag.{Tag}
+use Rattle.wap_tokens.specs.declared.markup.name.AttrName.{AttrName}
+use Rattle.wap_tokens.specs.declared.markup.tables.TheConstants.{TAGS, ATTR_NAMES, ATTR_STARTS}
+use Rattle.wap_tokens.specs.declared.markup.tables.TheConstants.{ATTR_VALUES}
+use Rattle.wap_tokens.specs.contracts.markup.name.Tag as tags
+use Rattle.wap_tokens.specs.contracts.markup.name.AttrName as names
 use denote.Enum.Bare.{sameb}
 
 -- ---- tags

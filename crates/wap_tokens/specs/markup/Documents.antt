@@ -3,24 +3,25 @@ use Rattle.std.specs.Prelude.{◌≡◌, ℕ, Bool, true, false, ◌==◌, ◌||
 use Rattle.std.specs.Prelude.{if◌then◌else◌, codes, List, [], ◌∷◌, Option, Some, None}
 use Rattle.wap_base.specs.Numbers.{IsMb}
 use Rattle.wap_base.specs.Texts.{is_same_text}
-use Rattle.wap_markup.specs.declared.codes.TheConstants.{PI, VERSION, WML_1_1, WML_1_2, WML_1_3}
-use Rattle.wap_markup.specs.declared.document.Document.{Document}
-use Rattle.wap_markup.specs.declared.document.TheConstants.{LEVEL_LIMIT}
-use Rattle.wap_markup.specs.declared.document.Element.{Element}
-use Rattle.wap_markup.specs.declared.document.Attr.{Attr}
+use Rattle.wap_tokens.specs.declared.markup.codes.TheConstants.{PI, VERSION, WML_1_1, WML_1_2}
+use Rattle.wap_tokens.specs.declared.markup.codes.TheConstants.{WML_1_3}
+use Rattle.wap_tokens.specs.declared.markup.document.Document.{Document}
+use Rattle.wap_tokens.specs.declared.markup.document.TheConstants.{LEVEL_LIMIT}
+use Rattle.wap_tokens.specs.declared.markup.document.Element.{Element}
+use Rattle.wap_tokens.specs.declared.markup.document.Attr.{Attr}
 use Rattle.wap_base.specs.declared.charset.Charset.{Charset}
-use Rattle.wap_markup.specs.declared.mark.Lead.{Lead}
-use Rattle.wap_markup.specs.declared.mark.DocumentType.{DocumentType}
-use Rattle.wap_markup.specs.declared.mark.DocumentType.TheVariants.{Wml, Other}
-use Rattle.wap_markup.specs.declared.mark.Identifier.{Identifier}
-use Rattle.wap_markup.specs.declared.mark.Identifier.TheVariants.{Numbered, Named}
-use Rattle.wap_markup.specs.declared.mark.ContentMark.{ContentMark}
-use Rattle.wap_markup.specs.declared.mark.ContentMark.TheVariants as content
+use Rattle.wap_tokens.specs.declared.markup.mark.Lead.{Lead}
+use Rattle.wap_tokens.specs.declared.markup.mark.DocumentType.{DocumentType}
+use Rattle.wap_tokens.specs.declared.markup.mark.DocumentType.TheVariants.{Wml, Other}
+use Rattle.wap_tokens.specs.declared.markup.mark.Identifier.{Identifier}
+use Rattle.wap_tokens.specs.declared.markup.mark.Identifier.TheVariants.{Numbered, Named}
+use Rattle.wap_tokens.specs.declared.markup.mark.ContentMark.{ContentMark}
+use Rattle.wap_tokens.specs.declared.markup.mark.ContentMark.TheVariants as content
 use Rattle.wap_base.specs.Charsets.{charset_of}
-use Rattle.wap_markup.specs.Codes.{content_mark}
-use Rattle.wap_markup.specs.Spellings.{Then, Told, Given, Never, ManyOf}
-use Rattle.wap_markup.specs.Strings.{Strings, string_from}
-use Rattle.wap_markup.specs.Grammar.{State, IsLead, IsOpaque, IsInstruction, IsElement}
+use Rattle.wap_tokens.specs.markup.Codes.{content_mark}
+use Rattle.wap_tokens.specs.markup.Spellings.{Then, Told, Given, Never, ManyOf}
+use Rattle.wap_tokens.specs.markup.Strings.{Strings, string_from}
+use Rattle.wap_tokens.specs.markup.Grammar.{State, IsLead, IsOpaque, IsInstruction, IsElement}
 
 -- WBXML 1.1 to 1.3
 abbrev pub is_version : ℕ → Bool

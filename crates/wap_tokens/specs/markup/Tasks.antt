@@ -1,11 +1,11 @@
 -- Tasks (WAP-191, sections 9.3 to 9.6).
 use Rattle.std.specs.Prelude.{Bool, ◌||◌, List, find, Option}
 use Rattle.std.specs.List.{filter_map}
-use Rattle.wap_markup.specs.declared.deck.Node.{Node}
-use Rattle.wap_markup.specs.declared.name.Tag.{Tag}
-use Rattle.wap_markup.specs.declared.name.Tag.TheVariants as tags
-use Rattle.wap_markup.specs.Tables.{is_same_tag}
-use Rattle.wap_markup.specs.Trees.{node_of, node_with}
+use Rattle.wap_tokens.specs.declared.markup.deck.Node.{Node}
+use Rattle.wap_tokens.specs.declared.markup.name.Tag.{Tag}
+use Rattle.wap_tokens.specs.declared.markup.name.Tag.TheVariants as tags
+use Rattle.wap_tokens.specs.markup.Tables.{is_same_tag}
+use Rattle.wap_tokens.specs.markup.Trees.{node_of, node_with}
 
 -- a go, a prev or a refresh
 abbrev pub is_task : Tag → Bool
