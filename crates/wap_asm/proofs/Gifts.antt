@@ -3,9 +3,9 @@ use Rattle.std.proofs.Common.{◌≡◌, ℕ, ◌≤◌, Bool, true, nat_le, Opt
 use Rattle.std.specs.Prelude.{IfSome}
 use Rattle.std.specs.List.{list_all}
 use Rattle.std.proofs.lemmas.Bool.{leb-true, and_parts}
-use Rattle.wap_code.specs.declared.row.Row.{Row}
-use Rattle.wap_code.specs.Rows.{rows}
-use Rattle.wap_code.specs.Instructions.{has_code, row_of}
+use Rattle.wap_unit.specs.declared.row.Row.{Row}
+use Rattle.wap_unit.specs.Rows.{rows}
+use Rattle.wap_unit.specs.Instructions.{has_code, row_of}
 use Rattle.wap_asm.proofs.Finding.{all_among, found}
 
 abbrev gives_few : Row → Bool

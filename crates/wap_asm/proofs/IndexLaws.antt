@@ -4,7 +4,7 @@ use Rattle.std.proofs.Common.{length, map, slice_get, unwrap_or, refl, sym, â—Œâ
 use Rattle.std.specs.Ordering.{nat_cmp}
 use Rattle.std.specs.BTreeMap.{BTreeMap, get}
 use Rattle.std.proofs.lemmas.Option.{slice_get_within}
-use Rattle.wap_code.specs.declared.row.OpName.{OpName}
+use Rattle.wap_unit.specs.declared.row.OpName.{OpName}
 use Rattle.wap_asm.specs.declared.form.Form.{Form}
 use Rattle.wap_asm.specs.declared.form.Form.TheVariants.{Op, Jump, Label}
 use Rattle.wap_asm.specs.Spellings.{operation_of}

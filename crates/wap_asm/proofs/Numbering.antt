@@ -3,9 +3,9 @@ use Rattle.std.proofs.Common.{◌≡◌, ℕ, ◌<◌, map, find, slice_index, g
 use Rattle.std.proofs.Common.{Option, None, refl, sym, ◌∙◌, ap, arith}
 use Rattle.std.specs.List.{slice_get, range_with_len}
 use Rattle.std.proofs.lemmas.List.FromFn.{get_or-map-range_with_len}
-use Rattle.wap_code.specs.declared.row.Row.{Row}
-use Rattle.wap_code.specs.Rows.{rows}
-use Rattle.wap_code.specs.Instructions.{has_code, row_of}
+use Rattle.wap_unit.specs.declared.row.Row.{Row}
+use Rattle.wap_unit.specs.Rows.{rows}
+use Rattle.wap_unit.specs.Instructions.{has_code, row_of}
 use Rattle.wap_asm.specs.declared.codes.TheConstants.{ROW_NUMBERS}
 
 abbrev pub numbered : ℕ → Option Row

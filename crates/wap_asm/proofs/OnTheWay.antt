@@ -10,7 +10,7 @@ use Rattle.std.proofs.lemmas.Option.{slice_get_within}
 use Rattle.std.proofs.lemmas.List.{ext_get_or, get_or-take, get_or_past, length-take, length-map}
 use Rattle.std.proofs.lemmas.List.{length-set, get_or-set_same, get_or-set_other}
 use Rattle.std.proofs.lemmas.List.Sums.{sum_by-take-le, sum_by_more}
-use Rattle.wap_code.specs.declared.row.OpName.{OpName}
+use Rattle.wap_unit.specs.declared.row.OpName.{OpName}
 use Rattle.wap_asm.specs.declared.form.Form.{Form}
 use Rattle.wap_asm.specs.declared.form.Form.TheVariants.{Op, Jump, Label}
 use Rattle.wap_asm.specs.declared.site.Site.{Site}

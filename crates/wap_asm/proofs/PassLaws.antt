@@ -10,18 +10,18 @@ use Rattle.std.proofs.lemmas.Bool.{cases_lt}
 use Rattle.std.proofs.lemmas.Option.{same_Some, none-some}
 use Rattle.std.proofs.lemmas.List.{length-map, get_or_past, ext_get_or, get_or-map, take_all}
 use Rattle.std.proofs.lemmas.List.Sums.{sum_by-take-le, prefix_len-le-length}
-use Rattle.wap_code.specs.declared.row.OpName.{OpName}
-use Rattle.wap_code.specs.declared.row.OpName.TheVariants.{JumpFw, JumpBw, TjumpFw, TjumpBw}
-use Rattle.wap_code.specs.declared.row.OpName.TheVariants.{JumpFwS, JumpBwS, TjumpFwS}
-use Rattle.wap_code.specs.declared.row.OpName.TheVariants.{JumpFwW, JumpBwW, TjumpFwW, TjumpBwW}
-use Rattle.wap_code.specs.declared.row.Slot.TheVariants.{Absent, Low, Byte, Word}
-use Rattle.wap_code.specs.declared.row.Operands.TheVariants.{Plain}
-use Rattle.wap_code.specs.declared.row.Takes.TheVariants.{Values}
-use Rattle.wap_code.specs.declared.row.After.TheVariants.{Forward, Backward, ForwardOrOn}
-use Rattle.wap_code.specs.declared.row.After.TheVariants.{BackwardOrOn}
-use Rattle.wap_code.specs.declared.row.Row.{Row}
-use Rattle.wap_code.specs.Rows.{row}
-use Rattle.wap_code.specs.Instructions.{size}
+use Rattle.wap_unit.specs.declared.row.OpName.{OpName}
+use Rattle.wap_unit.specs.declared.row.OpName.TheVariants.{JumpFw, JumpBw, TjumpFw, TjumpBw}
+use Rattle.wap_unit.specs.declared.row.OpName.TheVariants.{JumpFwS, JumpBwS, TjumpFwS}
+use Rattle.wap_unit.specs.declared.row.OpName.TheVariants.{JumpFwW, JumpBwW, TjumpFwW, TjumpBwW}
+use Rattle.wap_unit.specs.declared.row.Slot.TheVariants.{Absent, Low, Byte, Word}
+use Rattle.wap_unit.specs.declared.row.Operands.TheVariants.{Plain}
+use Rattle.wap_unit.specs.declared.row.Takes.TheVariants.{Values}
+use Rattle.wap_unit.specs.declared.row.After.TheVariants.{Forward, Backward, ForwardOrOn}
+use Rattle.wap_unit.specs.declared.row.After.TheVariants.{BackwardOrOn}
+use Rattle.wap_unit.specs.declared.row.Row.{Row}
+use Rattle.wap_unit.specs.Rows.{row}
+use Rattle.wap_unit.specs.Instructions.{size}
 use Rattle.wap_asm.specs.Spelling.{shortest}
 use Rattle.wap_asm.specs.declared.form.Form.{Form}
 use Rattle.wap_asm.specs.declared.form.Form.TheVariants.{Op, Jump, Label}

@@ -10,19 +10,19 @@ use Rattle.std.proofs.lemmas.List.{take-map, take-append-drop, take_all, drop_mo
 use Rattle.std.proofs.lemmas.List.Concat.{flat_map-append, flat_map-cons, length-flat_map}
 use Rattle.std.proofs.lemmas.List.Sums.{sum-map, sum_by_more, sum_by-take-le, position_or_len_is}
 use Rattle.std.proofs.lemmas.List.FromFn.{length-enumerate_from, get_or-enumerate_from}
-use Rattle.wap_code.specs.declared.instr.Instr.{Instr}
-use Rattle.wap_code.specs.declared.row.OpName.{OpName}
-use Rattle.wap_code.specs.contracts.row.OpName.{the_type}
-use Rattle.wap_code.specs.declared.row.OpName.TheVariants.{JumpFw, JumpBw, TjumpFw, TjumpBw}
-use Rattle.wap_code.specs.declared.row.OpName.TheVariants.{JumpFwW, JumpBwW, TjumpFwW, TjumpBwW}
-use Rattle.wap_code.specs.declared.row.Slot.TheVariants.{Absent, Word}
-use Rattle.wap_code.specs.declared.row.Operands.TheVariants.{Plain}
-use Rattle.wap_code.specs.declared.row.Takes.TheVariants.{Values}
-use Rattle.wap_code.specs.declared.row.After.TheVariants.{Forward, Backward, ForwardOrOn}
-use Rattle.wap_code.specs.declared.row.After.TheVariants.{BackwardOrOn}
-use Rattle.wap_code.specs.declared.row.Row.{Row}
-use Rattle.wap_code.specs.Rows.{row}
-use Rattle.wap_code.specs.Instructions.{size}
+use Rattle.wap_unit.specs.declared.instr.Instr.{Instr}
+use Rattle.wap_unit.specs.declared.row.OpName.{OpName}
+use Rattle.wap_unit.specs.contracts.row.OpName.{the_type}
+use Rattle.wap_unit.specs.declared.row.OpName.TheVariants.{JumpFw, JumpBw, TjumpFw, TjumpBw}
+use Rattle.wap_unit.specs.declared.row.OpName.TheVariants.{JumpFwW, JumpBwW, TjumpFwW, TjumpBwW}
+use Rattle.wap_unit.specs.declared.row.Slot.TheVariants.{Absent, Word}
+use Rattle.wap_unit.specs.declared.row.Operands.TheVariants.{Plain}
+use Rattle.wap_unit.specs.declared.row.Takes.TheVariants.{Values}
+use Rattle.wap_unit.specs.declared.row.After.TheVariants.{Forward, Backward, ForwardOrOn}
+use Rattle.wap_unit.specs.declared.row.After.TheVariants.{BackwardOrOn}
+use Rattle.wap_unit.specs.declared.row.Row.{Row}
+use Rattle.wap_unit.specs.Rows.{row}
+use Rattle.wap_unit.specs.Instructions.{size}
 use Rattle.wap_asm.specs.Spelling.{holds, is_spelling, shortest, spelling}
 use Rattle.wap_asm.proofs.RowLaws.{length-spelling}
 use Rattle.wap_asm.specs.declared.form.Form.{Form}

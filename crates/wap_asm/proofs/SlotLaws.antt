@@ -4,11 +4,11 @@ use Rattle.std.proofs.Common.{length, slice_index, refl, ◌∙◌, ap, arith}
 use Rattle.std.proofs.Math.Nat.{div-add-mod}
 use Rattle.std.proofs.Math.Seq.{get_or-append_seam}
 use Rattle.std.proofs.lemmas.List.{get_or-append-add}
-use Rattle.wap_code.specs.declared.row.Slot.{Slot}
-use Rattle.wap_code.specs.declared.row.Slot.TheVariants.{Absent, Low, Byte, Word}
-use Rattle.wap_code.specs.Instructions.{width}
+use Rattle.wap_unit.specs.declared.row.Slot.{Slot}
+use Rattle.wap_unit.specs.declared.row.Slot.TheVariants.{Absent, Low, Byte, Word}
+use Rattle.wap_unit.specs.Instructions.{width}
 use Rattle.wap_asm.specs.Spelling.{limit}
-use Rattle.wap_code.specs.Instructions.{value}
+use Rattle.wap_unit.specs.Instructions.{value}
 use Rattle.wap_asm.specs.Spelling.{low_part, slot_bytes}
 
 pub length-slot_bytes : (slot : Slot) (n : ℕ) → length (slot_bytes slot n) ≡ width slot

@@ -10,14 +10,14 @@ use Rattle.std.proofs.lemmas.List.{drop-drop}
 use Rattle.std.proofs.lemmas.Nat.{div-mul-add, mod-mul-add}
 use Rattle.std.proofs.lemmas.Bool.{cases_Bool, ltb-false, cond-true, cond-false}
 use Rattle.std.proofs.lemmas.Bool.Decides.{nat_tests}
-use Rattle.wap_code.specs.declared.row.Slot.{Slot}
-use Rattle.wap_code.specs.declared.row.Slot.TheVariants.{Absent, Low, Byte, Word}
-use Rattle.wap_code.specs.declared.row.Row.{Row}
-use Rattle.wap_code.specs.Rows.{rows}
-use Rattle.wap_code.specs.declared.instr.Instr.{Instr}
-use Rattle.wap_code.specs.declared.instr.InstrFault.{InstrFault}
-use Rattle.wap_code.specs.Instructions.{width, size, has_code, row_of}
-use Rattle.wap_code.specs.Instructions.{value, read, read_by, instr_at}
+use Rattle.wap_unit.specs.declared.row.Slot.{Slot}
+use Rattle.wap_unit.specs.declared.row.Slot.TheVariants.{Absent, Low, Byte, Word}
+use Rattle.wap_unit.specs.declared.row.Row.{Row}
+use Rattle.wap_unit.specs.Rows.{rows}
+use Rattle.wap_unit.specs.declared.instr.Instr.{Instr}
+use Rattle.wap_unit.specs.declared.instr.InstrFault.{InstrFault}
+use Rattle.wap_unit.specs.Instructions.{width, size, has_code, row_of}
+use Rattle.wap_unit.specs.Instructions.{value, read, read_by, instr_at}
 use Rattle.wap_asm.specs.Spelling.{low_part, slot_bytes, spelling}
 use Rattle.wap_asm.specs.Exact.{IsSpelled}
 use Rattle.wap_asm.proofs.Finding.{all_among, found}

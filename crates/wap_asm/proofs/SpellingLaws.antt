@@ -9,13 +9,13 @@ use Rattle.std.proofs.lemmas.Bool.{cases_Bool, and_parts, ltb-true, leb-true, co
 use Rattle.std.proofs.lemmas.Bool.{true≢false}
 use Rattle.std.proofs.lemmas.Bool.Decides.{nat_tests}
 use Rattle.std.proofs.lemmas.Option.{same_Some}
-use Rattle.wap_code.specs.declared.row.OpName.{OpName}
-use Rattle.wap_code.specs.contracts.row.OpName.{the_type}
-use Rattle.wap_code.specs.declared.row.Row.{Row}
-use Rattle.wap_code.specs.Rows.{rows}
-use Rattle.wap_code.specs.declared.row.Slot.{Slot}
-use Rattle.wap_code.specs.declared.row.Slot.TheVariants.{Absent, Low, Byte, Word}
-use Rattle.wap_code.specs.Instructions.{width, size}
+use Rattle.wap_unit.specs.declared.row.OpName.{OpName}
+use Rattle.wap_unit.specs.contracts.row.OpName.{the_type}
+use Rattle.wap_unit.specs.declared.row.Row.{Row}
+use Rattle.wap_unit.specs.Rows.{rows}
+use Rattle.wap_unit.specs.declared.row.Slot.{Slot}
+use Rattle.wap_unit.specs.declared.row.Slot.TheVariants.{Absent, Low, Byte, Word}
+use Rattle.wap_unit.specs.Instructions.{width, size}
 use Rattle.wap_asm.specs.Spelling.{limit, holds, is_spelling, shortest}
 use Rattle.wap_asm.specs.Exact.{Among}
 use Rattle.wap_asm.proofs.Finding.{all_among, found}

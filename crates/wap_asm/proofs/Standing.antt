@@ -4,13 +4,13 @@ use Rattle.std.proofs.Common.{Option, Some, None, Result, Ok, Err, inl, inr, ref
 use Rattle.std.proofs.Common.{arith}
 use Rattle.std.proofs.Common.{length, slice_index}
 use Rattle.std.proofs.lemmas.Bool.{cases_Bool, cond-true, cond-false}
-use Rattle.wap_code.specs.declared.row.OpName.{OpName}
-use Rattle.wap_code.specs.declared.row.Row.{Row}
-use Rattle.wap_code.specs.declared.instr.Instr.{Instr}
-use Rattle.wap_code.specs.declared.instr.InstrFault.{InstrFault}
-use Rattle.wap_code.specs.declared.instr.InstrFault.TheVariants.{Opcode, Operand}
-use Rattle.wap_code.specs.Rows.{rows}
-use Rattle.wap_code.specs.Instructions.{size, has_code, row_of, read, read_row, read_by}
+use Rattle.wap_unit.specs.declared.row.OpName.{OpName}
+use Rattle.wap_unit.specs.declared.row.Row.{Row}
+use Rattle.wap_unit.specs.declared.instr.Instr.{Instr}
+use Rattle.wap_unit.specs.declared.instr.InstrFault.{InstrFault}
+use Rattle.wap_unit.specs.declared.instr.InstrFault.TheVariants.{Opcode, Operand}
+use Rattle.wap_unit.specs.Rows.{rows}
+use Rattle.wap_unit.specs.Instructions.{size, has_code, row_of, read, read_row, read_by}
 use Rattle.wap_asm.specs.Spelling.{shortest, spelling}
 use Rattle.wap_asm.specs.Exact.{Among}
 use Rattle.wap_asm.proofs.Finding.{found}

@@ -2,13 +2,13 @@
 -- project's own.
 use Rattle.std.specs.Prelude.{take, drop, slice_index, ◌<◌, ◌≡◌, ℕ, ◌+◌, ◌≤◌, true}
 use Rattle.std.specs.Prelude.{List, [], ◌∷◌, ◌++◌, ◌⊎◌, length, Some, Ok}
-use Rattle.wap_code.specs.declared.row.OpName.{OpName}
-use Rattle.wap_code.specs.declared.row.Row.{Row}
-use Rattle.wap_code.specs.declared.instr.Instr.{Instr}
-use Rattle.wap_code.specs.Rows.{rows}
-use Rattle.wap_code.specs.Instructions.{size}
+use Rattle.wap_unit.specs.declared.row.OpName.{OpName}
+use Rattle.wap_unit.specs.declared.row.Row.{Row}
+use Rattle.wap_unit.specs.declared.instr.Instr.{Instr}
+use Rattle.wap_unit.specs.Rows.{rows}
+use Rattle.wap_unit.specs.Instructions.{size}
 use Rattle.wap_asm.specs.Spelling.{holds, is_spelling, shortest}
-use Rattle.wap_code.specs.Instructions.{instr_at}
+use Rattle.wap_unit.specs.Instructions.{instr_at}
 use Rattle.wap_asm.specs.Spelling.{spelling}
 
 -- an item stands in a list

@@ -1,7 +1,7 @@
 -- How great the operands of an instruction are, by where they stand (WAP-193, section 10).
 use Rattle.std.specs.Prelude.{◌<◌}
-use Rattle.wap_code.specs.declared.row.Row.{Row}
-use Rattle.wap_code.specs.declared.instr.Instr.{Instr}
+use Rattle.wap_unit.specs.declared.row.Row.{Row}
+use Rattle.wap_unit.specs.declared.instr.Instr.{Instr}
 use Rattle.wap_asm.specs.Spelling.{limit}
 
 -- each operand of an instruction has room where its row puts it

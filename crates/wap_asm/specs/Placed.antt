@@ -1,12 +1,12 @@
 -- Which forms are placed, and what holds of their code. This project's own.
 use Rattle.std.specs.Prelude.{ℕ, ◌+◌, ◌-◌, ◌<◌, ◌≤◌, ◌≡◌, true, IsTrue, IsSomeAnd, Some, Ok, List}
 use Rattle.std.specs.Prelude.{length, take, sum, slice_get, slice_index}
-use Rattle.wap_code.specs.declared.instr.Instr.{Instr}
-use Rattle.wap_code.specs.declared.row.OpName.{OpName}
-use Rattle.wap_code.specs.declared.row.OpName.TheVariants.{JumpFw, JumpBw, TjumpFw, TjumpBw}
-use Rattle.wap_code.specs.declared.row.Row.{Row}
-use Rattle.wap_code.specs.Rows.{rows}
-use Rattle.wap_code.specs.Instructions.{size, row_of, read_row}
+use Rattle.wap_unit.specs.declared.instr.Instr.{Instr}
+use Rattle.wap_unit.specs.declared.row.OpName.{OpName}
+use Rattle.wap_unit.specs.declared.row.OpName.TheVariants.{JumpFw, JumpBw, TjumpFw, TjumpBw}
+use Rattle.wap_unit.specs.declared.row.Row.{Row}
+use Rattle.wap_unit.specs.Rows.{rows}
+use Rattle.wap_unit.specs.Instructions.{size, row_of, read_row}
 use Rattle.wap_asm.specs.Spelling.{holds, is_spelling}
 use Rattle.wap_asm.specs.Exact.{Among}
 use Rattle.wap_asm.specs.declared.form.Form.{Form}

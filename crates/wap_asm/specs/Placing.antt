@@ -2,7 +2,7 @@
 use Rattle.std.specs.Prelude.{ℕ, zero, suc, ◌+◌, ◌==◌, Bool, false, List, []}
 use Rattle.std.specs.Prelude.{length, map, replicate, sum, sum_by, slice_range}
 use Rattle.std.specs.List.{position_or_len, enumerate_from, flat_map}
-use Rattle.wap_code.specs.declared.row.OpName.{OpName}
+use Rattle.wap_unit.specs.declared.row.OpName.{OpName}
 use Rattle.wap_asm.specs.declared.form.Form.{Form}
 use Rattle.wap_asm.specs.declared.form.Form.TheVariants.{Op, Jump, Label}
 use Rattle.wap_asm.specs.Spellings.{operation_of, longest, spelling_of, row_size, row_bytes}

@@ -1,12 +1,12 @@
 -- The bytes of an instruction, and the shortest spelling of an operation (WAP-193, section 10).
 use Rattle.std.specs.Prelude.{ℕ, ◌+◌, ◌/◌, ◌%◌, nat_lt, Bool, ◌&&◌, List}
 use Rattle.std.specs.Prelude.{[], ◌∷◌, ◌++◌, Option, find}
-use Rattle.wap_code.specs.declared.row.OpName.{OpName}
-use Rattle.wap_code.specs.contracts.row.OpName.{the_type}
-use Rattle.wap_code.specs.declared.row.Slot.{Slot}
-use Rattle.wap_code.specs.declared.row.Slot.TheVariants.{Absent, Low, Byte, Word}
-use Rattle.wap_code.specs.declared.row.Row.{Row}
-use Rattle.wap_code.specs.Rows.{rows}
+use Rattle.wap_unit.specs.declared.row.OpName.{OpName}
+use Rattle.wap_unit.specs.contracts.row.OpName.{the_type}
+use Rattle.wap_unit.specs.declared.row.Slot.{Slot}
+use Rattle.wap_unit.specs.declared.row.Slot.TheVariants.{Absent, Low, Byte, Word}
+use Rattle.wap_unit.specs.declared.row.Row.{Row}
+use Rattle.wap_unit.specs.Rows.{rows}
 use denote.Enum.Bare.{sameb}
 
 -- past the greatest number that can stand there, where the code has `count` values

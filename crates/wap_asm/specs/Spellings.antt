@@ -2,11 +2,11 @@
 -- project's own.
 use Rattle.std.specs.Prelude.{ℕ, Bool, List, [], Option, Some, None, find, filter}
 use Rattle.std.specs.List.{last_or}
-use Rattle.wap_code.specs.declared.row.OpName.{OpName}
-use Rattle.wap_code.specs.contracts.row.OpName.{the_type}
-use Rattle.wap_code.specs.declared.row.Row.{Row}
-use Rattle.wap_code.specs.Rows.{rows}
-use Rattle.wap_code.specs.Instructions.{size}
+use Rattle.wap_unit.specs.declared.row.OpName.{OpName}
+use Rattle.wap_unit.specs.contracts.row.OpName.{the_type}
+use Rattle.wap_unit.specs.declared.row.Row.{Row}
+use Rattle.wap_unit.specs.Rows.{rows}
+use Rattle.wap_unit.specs.Instructions.{size}
 use Rattle.wap_asm.specs.Spelling.{shortest, spelling}
 use denote.Enum.Bare.{sameb}
 

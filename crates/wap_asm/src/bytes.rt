@@ -12,7 +12,7 @@ use crate::pass::{Layout, apart};
 use crate::table::{operation_of, spelling_of};
 use std::alloc::Global;
 use wap_base::{Bytes, NoMemory};
-use wap_code::{OpName, Row, Slot};
+use wap_unit::{OpName, Row, Slot};
 
 /// What an operand adds to the code.
 fn low_part(slot: Slot, n: u32) -> u8

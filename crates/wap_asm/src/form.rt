@@ -2,7 +2,7 @@
 ghost use Rattle.std.specs.Prelude.{◌≡◌};
 ghost use Rattle.wap_asm.specs.declared.form.PlaceFault.TheVariants.{NoMemory};
 
-use wap_code::{Instr, OpName};
+use wap_unit::{Instr, OpName};
 
 /// A piece of code: an instruction, a jump, or a place that jumps lead to. It names an operation,
 /// by any of its spellings.

@@ -2,13 +2,13 @@
 ghost use Rattle.std.specs.Prelude.{◌≡◌, ◌+◌, ◌<◌, ◌≤◌, length, slice_index};
 ghost use Rattle.std.specs.Prelude.{slice_get, IfOk, IfSome, ⊤};
 ghost use Rattle.std.specs.Bool.{MatchBool};
-ghost use Rattle.wap_code.specs.Instructions.{width, size, row_of, value, read_row, instr_at};
-ghost use Rattle.wap_code.specs.declared.row.Slot.TheVariants as slot;
+ghost use Rattle.wap_unit.specs.Instructions.{width, size, row_of, value, read_row, instr_at};
+ghost use Rattle.wap_unit.specs.declared.row.Slot.TheVariants as slot;
 ghost use Rattle.wap_asm.specs.Spelling.{limit};
 ghost use Rattle.wap_asm.specs.Operands.{Holds};
 
 use crate::codes::ROW_NUMBERS;
-use wap_code::{Instr, InstrFault, ROWS, Row, Slot};
+use wap_unit::{Instr, InstrFault, ROWS, Row, Slot};
 
 /// How many bytes an operand takes.
 fn width(slot: Slot) -> usize

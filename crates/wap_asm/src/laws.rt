@@ -1,11 +1,11 @@
 //! Laws of the table of instructions, and of forms. The functions here do nothing, and carry the
 //! laws alone.
 ghost use Rattle.std.specs.Prelude.{◌≡◌};
-ghost use Rattle.wap_code.specs.Rows.{rows};
+ghost use Rattle.wap_unit.specs.Rows.{rows};
 ghost use Rattle.wap_asm.specs.Exact.{IsExact};
 ghost use Rattle.wap_asm.specs.Settling.{AreLeast, IsTest};
 
-use wap_code::ROWS;
+use wap_unit::ROWS;
 
 /// What a row spells is read back, and what is read is spelled so.
 pub fn table_is_exact()

@@ -2,10 +2,10 @@
 ghost use Rattle.std.specs.Prelude.{◌≡◌, map};
 ghost use Rattle.std.specs.Map.{lookup};
 ghost use Rattle.wap_asm.specs.Columns.{lent_by_number, lent_by_name, has_names};
-ghost use Rattle.wap_code.specs.Libraries.{is_function, lib_args, lib_named};
+ghost use Rattle.wap_unit.specs.Libraries.{is_function, lib_args, lib_named};
 
 use wap_base::Text;
-use wap_code::LIBRARY;
+use wap_unit::LIBRARY;
 
 /// How many arguments a function of a library takes, by the operands of a call.
 pub fn args_of(library: u32, function: u32) -> Option<u8>

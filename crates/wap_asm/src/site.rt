@@ -8,7 +8,7 @@ use crate::Form;
 use crate::table::operation_of;
 use std::alloc::{AllocError, Global};
 use std::collections::BTreeMap;
-use wap_code::OpName;
+use wap_unit::OpName;
 
 /// How a form's size depends on a distance.
 #[derive(Clone, Copy)]

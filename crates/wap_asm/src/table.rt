@@ -6,7 +6,7 @@ ghost use Rattle.wap_asm.specs.Spellings.{has_name, operation_of, is_of, longest
 ghost use Rattle.wap_asm.specs.Spellings.{row_size};
 
 use crate::instruction::size;
-use wap_code::{OpName, ROWS, Row, Slot};
+use wap_unit::{OpName, ROWS, Row, Slot};
 
 /// Past the greatest operand that has room.
 fn limit(count: u8, slot: Slot) -> u32

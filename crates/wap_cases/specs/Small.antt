@@ -3,8 +3,8 @@ use Rattle.std.specs.Prelude.{ℕ, ◌+◌, ◌==◌, nat_le, List, Option, Some
 use Rattle.std.specs.Prelude.{if◌then◌else◌, bytes_eq, codes, encode_utf8_all, slice_get}
 use Rattle.wap_value.specs.declared.value.Value.TheVariants.{Invalid}
 use Rattle.wap_url.specs.declared.url.Url.{Url}
-use Rattle.wap_code.specs.declared.unit.Unit.{Unit}
-use Rattle.wap_code.specs.declared.unit.Code.{Code}
+use Rattle.wap_unit.specs.declared.unit.Unit.{Unit}
+use Rattle.wap_unit.specs.declared.unit.Code.{Code}
 use Rattle.wap_verify.specs.Kept.{function_named}
 use Rattle.wap_execution.specs.declared.fatal.Fatal.{Fatal as Why}
 use Rattle.wap_execution.specs.declared.fatal.Fatal.TheVariants as why

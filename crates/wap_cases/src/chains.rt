@@ -2,7 +2,7 @@
 //! alone in their list.
 use std::alloc::AllocError;
 use wap_asm::Form;
-use wap_code::{Instr, OpName};
+use wap_unit::{Instr, OpName};
 
 /// The instruction of one byte.
 const POP: Form = Form::Op(Instr {

@@ -2,7 +2,7 @@
 use crate::chains::{add_chain, add_label, add_pops};
 use wap_asm::Form;
 use wap_casebook::{Call, CaseFault};
-use wap_code::OpName;
+use wap_unit::OpName;
 
 /// What stands in a list of forms.
 #[derive(Clone, Copy)]

@@ -2,8 +2,8 @@
 use crate::values::{give_value, values};
 use wap_asm::lib_args;
 use wap_casebook::{Call, CaseFault, split_by};
-use wap_code::LIBRARY;
 use wap_libs::{Gen, LibOut, arguments_of, call_pure};
+use wap_unit::LIBRARY;
 
 /// The seed of a session that nothing is said of.
 const SEED: u32 = 7;

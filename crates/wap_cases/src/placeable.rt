@@ -8,7 +8,7 @@ ghost use Rattle.wap_asm.specs.declared.form.Form.TheVariants.{Label};
 ghost use Rattle.wap_cases.specs.Numbered.{MayStand};
 
 use wap_asm::Form;
-use wap_code::{Instr, OpName};
+use wap_unit::{Instr, OpName};
 
 /// Whether an instruction is `POP`, which has no operands.
 #[tactic(auto, unfolding(wap_asm::specs::Spellings::operation_of, wap_asm::specs::Spellings::longest))]

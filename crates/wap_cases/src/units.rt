@@ -5,9 +5,8 @@ ghost use Rattle.wap_unit.specs.Spelling.{HasSpelling};
 use std::alloc::Global;
 use wap_base::Bytes;
 use wap_casebook::CaseFault;
-use wap_code::Unit;
 use wap_shared::Shared;
-use wap_unit::{UnitFault, decode};
+use wap_unit::{Unit, UnitFault, decode};
 use wap_verify::{Verified, VerifyFault, verify};
 
 /// The unit that bytes spell.

@@ -1,12 +1,12 @@
 -- How many bytes forms have at most, and save.
 use Rattle.std.proofs.Common.{◌*◌, ◌≤◌, List, length, get_or, arith, Option, Some, None}
 use Rattle.std.proofs.lemmas.List.Sums.{sum_by-le}
-use Rattle.wap_code.specs.declared.row.Slot.{Slot}
-use Rattle.wap_code.specs.declared.row.Slot.TheVariants.{Absent, Low, Byte, Word}
-use Rattle.wap_code.specs.declared.row.Row.{Row}
-use Rattle.wap_code.specs.declared.row.OpName.{OpName}
-use Rattle.wap_code.specs.declared.row.OpName.TheVariants.{AddAsg, SubAsg}
-use Rattle.wap_code.specs.Instructions.{width}
+use Rattle.wap_unit.specs.declared.row.Slot.{Slot}
+use Rattle.wap_unit.specs.declared.row.Slot.TheVariants.{Absent, Low, Byte, Word}
+use Rattle.wap_unit.specs.declared.row.Row.{Row}
+use Rattle.wap_unit.specs.declared.row.OpName.{OpName}
+use Rattle.wap_unit.specs.declared.row.OpName.TheVariants.{AddAsg, SubAsg}
+use Rattle.wap_unit.specs.Instructions.{width}
 use Rattle.wap_asm.specs.declared.form.Form.{Form}
 use Rattle.wap_asm.specs.declared.form.Form.TheVariants.{Op, Jump, Label}
 use Rattle.wap_asm.specs.Spellings.{row_size, longest, operation_of}

@@ -1,7 +1,7 @@
 -- Why a program has no unit, and that it has room where it has one.
 use Rattle.std.proofs.Common.{◌≤◌, length, All}
 use Rattle.std.proofs.Common.{Result, Ok, Err, IfOk, IfErr}
-use Rattle.wap_code.specs.declared.unit.Unit.{Unit as CodeUnit}
+use Rattle.wap_unit.specs.declared.unit.Unit.{Unit as CodeUnit}
 use Rattle.wap_grammar.specs.declared.program.program.Program.{Program}
 use Rattle.wap_meaning.specs.compiled.Pool.{pool}
 use Rattle.wap_meaning.specs.compiled.Wide.{function_wide}

@@ -2,7 +2,7 @@
 use Rattle.std.proofs.Common.{◌≡◌, ℕ, ◌<◌, ◌^◌, List, length, sym, subst}
 use Rattle.wap_grammar.specs.declared.program.program.Program.{Program}
 use Rattle.wap_scope.specs.Scoped.{IsScoped}
-use Rattle.wap_code.specs.declared.unit.Unit.{Unit as CodeUnit}
+use Rattle.wap_unit.specs.declared.unit.Unit.{Unit as CodeUnit}
 use Rattle.wap_unit.specs.Spelling.{HasSpelling}
 use Rattle.wap_verify.specs.Sound.{IsVerified}
 use Rattle.wap_meaning.specs.compiled.Units.{compiled}

@@ -13,7 +13,7 @@ use crate::CompileFault;
 use crate::sources::scoped_of;
 use crate::units::unit_of;
 use std::alloc::Global;
-use wap_code::Unit;
+use wap_unit::Unit;
 use wap_verify::{Verified, VerifyFault, verify};
 
 /// A unit that may be run as one that was verified.

@@ -17,8 +17,8 @@ use crate::wide::wide_size;
 use std::alloc::Global;
 use wap_asm::{Form, PlaceFault, place};
 use wap_base::{Bytes, Rows};
-use wap_code::Code;
 use wap_grammar::program::{Function, Program};
+use wap_unit::Code;
 
 /// How many bytes of wide code a function may have.
 const CODE_LIMIT: u64 = 65535;

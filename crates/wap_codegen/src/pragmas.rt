@@ -1,14 +1,14 @@
 //! The pragmas of units.
 ghost use Rattle.std.specs.Prelude.{◌≡◌, ◌++◌, IfOk, OnOk};
 ghost use Rattle.std.specs.List.{flat_map};
-ghost use Rattle.wap_code.specs.declared.unit.Pragma.TheVariants.{Domain, Path};
+ghost use Rattle.wap_unit.specs.declared.unit.Pragma.TheVariants.{Domain, Path};
 ghost use Rattle.wap_meaning.specs.compiled.Units.{pragma_if, property, pragmas_of, text_place};
 
 use crate::pool::Numbering;
 use std::alloc::Global;
 use wap_base::{NoMemory, Rows, Text};
-use wap_code::Pragma;
 use wap_grammar::program::Use;
+use wap_unit::Pragma;
 
 /// The index of a constant, which has 32 bits: more aren't in any memory.
 fn index_of(alloc: Global, numbering: &Numbering, text: &Text) -> Result<u32, NoMemory>

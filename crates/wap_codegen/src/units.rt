@@ -16,8 +16,8 @@ use crate::pool::Numbering;
 use crate::pragmas::pragmas_of;
 use std::alloc::Global;
 use wap_base::{NoMemory, Rows};
-use wap_code::{Code, Unit};
 use wap_grammar::program::Program;
+use wap_unit::{Code, Unit};
 
 /// How many constants a unit may have.
 const CONSTANT_LIMIT: u64 = 65536;

@@ -6,8 +6,8 @@ ghost use Rattle.wap_meaning.specs.compiled.Savings.{function_saves};
 
 use crate::savings::statements_save;
 use wap_asm::{Form, wide_bytes};
-use wap_code::OpName;
 use wap_grammar::program::Function;
+use wap_unit::OpName;
 
 /// How many bytes an operation of its own saves an assignment that is a statement.
 fn operation_saves(name: OpName) -> u64

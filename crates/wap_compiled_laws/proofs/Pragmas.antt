@@ -4,11 +4,11 @@ use Rattle.std.proofs.Common.{refl, sym, ap, ◌∙◌, subst, cond, slice_get, 
 use Rattle.std.specs.List.{AllByRecursion, flat_map}
 use Rattle.std.specs.Option.{option_map_or}
 use Rattle.std.proofs.lemmas.Grind.{flat_map-append}
-use Rattle.wap_code.specs.declared.unit.Unit.{Unit as CodeUnit}
-use Rattle.wap_code.specs.declared.unit.Constant.{Constant}
-use Rattle.wap_code.specs.declared.unit.Constant.TheVariants as constant
-use Rattle.wap_code.specs.declared.unit.Pragma.{Pragma}
-use Rattle.wap_code.specs.Strings.{string_of, string_at, holds_text, is_string}
+use Rattle.wap_unit.specs.declared.unit.Unit.{Unit as CodeUnit}
+use Rattle.wap_unit.specs.declared.unit.Constant.{Constant}
+use Rattle.wap_unit.specs.declared.unit.Constant.TheVariants as constant
+use Rattle.wap_unit.specs.declared.unit.Pragma.{Pragma}
+use Rattle.wap_unit.specs.Strings.{string_of, string_at, holds_text, is_string}
 use Rattle.wap_grammar.specs.declared.program.program.Use.{Use}
 use Rattle.wap_grammar.specs.declared.program.program.Use.TheVariants.{Url, Access, Agent, Note}
 use Rattle.wap_grammar.specs.declared.program.expression.Literal.{Literal}

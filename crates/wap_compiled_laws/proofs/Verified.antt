@@ -2,7 +2,7 @@
 use Rattle.std.proofs.Common.{◌≡◌, ℕ, Option, Some, None, refl, sym, ◌∙◌, subst}
 use Rattle.std.proofs.Common.{slice_get}
 use Rattle.std.proofs.lemmas.Option.{same_Some}
-use Rattle.wap_code.specs.declared.unit.Code.{Code}
+use Rattle.wap_unit.specs.declared.unit.Code.{Code}
 use Rattle.wap_grammar.specs.declared.program.program.Function.{Function}
 use Rattle.wap_grammar.specs.declared.program.program.Program.{Program}
 use Rattle.wap_scope.specs.Scoped.{IsScoped}

@@ -14,7 +14,7 @@ use Rattle.wap_grammar.specs.declared.program.expression.Expr.TheFolds.{fold-rol
 use Rattle.wap_grammar.specs.declared.program.statement.Stmt.{Stmt, roll-Stmt}
 use Rattle.wap_grammar.specs.declared.program.statement.Stmt.TheOpen.{Stmt-F}
 use Rattle.wap_grammar.specs.declared.program.statement.Stmt.TheFolds.{fold-roll-Stmt}
-use Rattle.wap_code.specs.declared.row.OpName.TheVariants as op
+use Rattle.wap_unit.specs.declared.row.OpName.TheVariants as op
 use Rattle.wap_asm.specs.declared.form.Form.{Form}
 use Rattle.wap_asm.specs.declared.form.Form.TheVariants.{Op}
 use Rattle.wap_asm.specs.Spellings.{operation_of, longest, spelling_of}
@@ -25,7 +25,7 @@ use Rattle.wap_scope.specs.Names.{Reference, references, references_by, Mention,
 use Rattle.wap_scope.specs.Names.{mentions_by}
 use Rattle.wap_scope.specs.Names.{Refers, names_declared}
 use Rattle.wap_meaning.specs.Names.{locals, names_in}
-use Rattle.wap_code.specs.declared.unit.Unit.{Unit}
+use Rattle.wap_unit.specs.declared.unit.Unit.{Unit}
 use Rattle.wap_meaning.specs.coding.Coded.{Coded, instr, empty, ◌⨾◌, plain}
 use Rattle.wap_meaning.specs.coding.Constants.{Numbers, pooled, constant_for}
 use Rattle.wap_meaning.specs.coding.Compiled.{numbers_in}

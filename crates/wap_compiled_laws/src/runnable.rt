@@ -1,8 +1,8 @@
 //! The code of sources may be run: a law, the contract of a function that
 //! does nothing.
 ghost use Rattle.std.specs.Prelude.{ℕ, List};
-ghost use Rattle.wap_code.specs.declared.unit.Code.{Code as TheCode};
-ghost use Rattle.wap_code.specs.declared.unit.Unit.{Unit as TheUnit};
+ghost use Rattle.wap_unit.specs.declared.unit.Code.{Code as TheCode};
+ghost use Rattle.wap_unit.specs.declared.unit.Unit.{Unit as TheUnit};
 ghost use Rattle.wap_grammar.specs.declared.program.expression.Literal.{Literal as TheLiteral};
 ghost use Rattle.wap_grammar.specs.declared.program.program.Function.{Function as TheFunction};
 ghost use Rattle.wap_grammar.specs.declared.program.program.Program.{Program as TheProgram};

@@ -7,7 +7,7 @@ use Rattle.std.specs.List.{list_any}
 use Rattle.wap_url.specs.declared.url.Url.{Url}
 use Rattle.wap_url.specs.Printing.{name_for, without_fragment}
 use Rattle.wap_value.specs.declared.value.Value.{Value}
-use Rattle.wap_code.specs.declared.unit.Unit.{Unit}
+use Rattle.wap_unit.specs.declared.unit.Unit.{Unit}
 use Rattle.wap_execution.specs.Frames.{Function, code_at}
 use Rattle.wap_execution.specs.Running.{finished}
 use Rattle.wap_execution.specs.declared.fatal.Fatal.TheVariants as fatal

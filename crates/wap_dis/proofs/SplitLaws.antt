@@ -7,10 +7,10 @@ use Rattle.std.specs.List.{flat_map, enumerate_from}
 use Rattle.std.proofs.lemmas.Bool.{cases_Bool, cases_lt, ltb-false}
 use Rattle.std.proofs.lemmas.List.{nil_from_length, length-drop}
 use Rattle.wap_base.proofs.Choices.{some_same}
-use Rattle.wap_code.specs.declared.row.Row.{Row}
-use Rattle.wap_code.specs.declared.instr.Instr.{Instr}
-use Rattle.wap_code.specs.declared.instr.InstrFault.TheVariants.{Operand}
-use Rattle.wap_code.specs.Instructions.{size, row_of, read}
+use Rattle.wap_unit.specs.declared.row.Row.{Row}
+use Rattle.wap_unit.specs.declared.instr.Instr.{Instr}
+use Rattle.wap_unit.specs.declared.instr.InstrFault.TheVariants.{Operand}
+use Rattle.wap_unit.specs.Instructions.{size, row_of, read}
 use Rattle.wap_dis.specs.Listing.{byte_line, byte_lines, whole_by, read_whole, whole_at, code_from}
 use Rattle.wap_dis.specs.Splitting.{Item, item_line, Splits, IsListedSplit}
 use Rattle.wap_dis.proofs.Lists.{code_step, code_end}

@@ -1,9 +1,9 @@
 -- The names of instructions as they are shown (WAP-193, section 10).
 use Rattle.std.specs.Prelude.{ℕ, Bool, codes, unwrap_or, List, [], ◌∷◌}
 use Rattle.std.specs.Map.{lookup}
-use Rattle.wap_code.specs.declared.row.OpName.{OpName}
-use Rattle.wap_code.specs.declared.row.OpName.TheVariants as op
-use Rattle.wap_code.specs.contracts.row.OpName.{the_type}
+use Rattle.wap_unit.specs.declared.row.OpName.{OpName}
+use Rattle.wap_unit.specs.declared.row.OpName.TheVariants as op
+use Rattle.wap_unit.specs.contracts.row.OpName.{the_type}
 use denote.Enum.Bare.{sameb}
 
 -- the names of the instructions in the standard's notation

@@ -1,8 +1,8 @@
 -- How far code is split into instructions where it is listed. This project's own.
 use Rattle.std.specs.Prelude.{◌≡◌, ℕ, ◌<◌, ◌≤◌, List, [], ◌∷◌, ◌++◌, length, Some}
 use Rattle.std.specs.List.{flat_map}
-use Rattle.wap_code.specs.declared.row.Row.{Row}
-use Rattle.wap_code.specs.declared.instr.Instr.{Instr}
+use Rattle.wap_unit.specs.declared.row.Row.{Row}
+use Rattle.wap_unit.specs.declared.instr.Instr.{Instr}
 use Rattle.wap_dis.specs.Listing.{instr_line, byte_lines, whole_at, code_from}
 
 -- an instruction at its place, with its row

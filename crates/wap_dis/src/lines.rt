@@ -12,8 +12,8 @@ use crate::held::Held;
 use crate::names::name_of;
 use crate::word::{Word, put_line};
 use wap_base::Text;
-use wap_code::{Code, Constant, Instr, Pragma, Row, Slot, Unit};
 use wap_devices::Sink;
+use wap_unit::{Code, Constant, Instr, Pragma, Row, Slot, Unit};
 
 /// Adds the line of the unit: its version and character set.
 pub(crate) fn put_unit_line<O: Sink>(out: &mut O, held: &mut Held, unit: &Unit)

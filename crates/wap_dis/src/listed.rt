@@ -12,8 +12,8 @@ use crate::lines::{
     put_byte_line, put_constant_line, put_head_line, put_instr_line, put_pragma_line, put_unit_line,
 };
 use wap_asm::{read_row, row_of};
-use wap_code::{Code, Constant, Instr, Pragma, Row, Unit};
 use wap_devices::{Failed, Sink};
+use wap_unit::{Code, Constant, Instr, Pragma, Row, Unit};
 
 /// Writes the listing of a unit, some lines at a time. After a fault a prefix of it was written.
 pub fn listing<O: Sink>(unit: &Unit, out: &mut O) -> Result<(), Failed>

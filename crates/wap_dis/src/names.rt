@@ -2,7 +2,7 @@
 ghost use Rattle.std.specs.Prelude.{◌≡◌};
 ghost use Rattle.wap_dis.specs.Names.{name_of};
 
-use wap_code::OpName;
+use wap_unit::OpName;
 
 /// The name of an instruction.
 #[tactic(auto, unfolding(crate::specs::Names::name_of))]

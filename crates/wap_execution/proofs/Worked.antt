@@ -3,11 +3,11 @@ use Rattle.std.specs.Prelude.{◌≡◌, ℕ, ◌+◌, pos, false, List, [], ◌
 use Rattle.wap_base.specs.Limits.{default_limits}
 use Rattle.wap_value.specs.declared.value.Value.TheVariants.{Int, Bool as Boolean, Str, Invalid}
 use Rattle.wap_url.specs.declared.url.Url.{Url}
-use Rattle.wap_code.specs.declared.unit.Unit.{Unit}
-use Rattle.wap_code.specs.declared.unit.Code.{Code}
-use Rattle.wap_code.specs.declared.unit.Constant.TheVariants.{Int8}
-use Rattle.wap_code.specs.Instructions.{row_of}
-use Rattle.wap_code.specs.Libraries.{lib_args}
+use Rattle.wap_unit.specs.declared.unit.Unit.{Unit}
+use Rattle.wap_unit.specs.declared.unit.Code.{Code}
+use Rattle.wap_unit.specs.declared.unit.Constant.TheVariants.{Int8}
+use Rattle.wap_unit.specs.Instructions.{row_of}
+use Rattle.wap_unit.specs.Libraries.{lib_args}
 use Rattle.wap_execution.specs.declared.dialog.Dialog.TheVariants.{Alert}
 use Rattle.wap_execution.specs.declared.fatal.Fatal.TheVariants.{Budget, Depth, NoUnit}
 use Rattle.wap_execution.specs.declared.found.Found.TheVariants.{Not}

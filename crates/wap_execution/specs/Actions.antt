@@ -2,8 +2,8 @@
 -- the row of its operation, which is never asked for: a row of the table of instructions names its
 -- operation beside its form.
 use Rattle.std.specs.Prelude.{pos, negsuc, true, false}
-use Rattle.wap_code.specs.declared.row.OpName.{OpName}
-use Rattle.wap_code.specs.declared.row.OpName.TheVariants as op
+use Rattle.wap_unit.specs.declared.row.OpName.{OpName}
+use Rattle.wap_unit.specs.declared.row.OpName.TheVariants as op
 use Rattle.wap_value.specs.declared.operator.UnOp.TheVariants as un
 use Rattle.wap_value.specs.declared.operator.BinOp.TheVariants as bin
 use Rattle.wap_execution.specs.declared.action.Action.{Action}

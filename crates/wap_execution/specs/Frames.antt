@@ -5,12 +5,12 @@ use Rattle.std.specs.Option.{option_map_or}
 use Rattle.wap_value.specs.declared.value.Value.{Value}
 use Rattle.wap_value.specs.declared.value.Value.TheVariants.{Int, Str, Invalid}
 use Rattle.wap_url.specs.declared.url.Url.{Url}
-use Rattle.wap_code.specs.declared.unit.Unit.{Unit}
-use Rattle.wap_code.specs.declared.unit.Code.{Code}
-use Rattle.wap_code.specs.declared.unit.Constant.{Constant}
-use Rattle.wap_code.specs.declared.unit.Constant.TheVariants.{Int8, Int16, Int32, Float, Utf8}
-use Rattle.wap_code.specs.declared.unit.Constant.TheVariants.{Empty, Coded}
-use Rattle.wap_code.specs.Strings.{string_of}
+use Rattle.wap_unit.specs.declared.unit.Unit.{Unit}
+use Rattle.wap_unit.specs.declared.unit.Code.{Code}
+use Rattle.wap_unit.specs.declared.unit.Constant.{Constant}
+use Rattle.wap_unit.specs.declared.unit.Constant.TheVariants.{Int8, Int16, Int32, Float, Utf8}
+use Rattle.wap_unit.specs.declared.unit.Constant.TheVariants.{Empty, Coded}
+use Rattle.wap_unit.specs.Strings.{string_of}
 
 -- a function of a script, with the script's URL and that of the script that called it, if one did;
 -- scripts are units, and in meanings of sources programs

@@ -2,7 +2,7 @@
 //! functions themselves. The functions here do nothing, and carry the laws alone.
 ghost use Rattle.std.specs.Prelude.{◌≡◌, ℕ, Some};
 ghost use Rattle.std.specs.List.{flat_map};
-ghost use Rattle.wap_code.specs.Libraries.{library, lib_args};
+ghost use Rattle.wap_unit.specs.Libraries.{library, lib_args};
 ghost use Rattle.wap_libs.specs.declared.function.Function.{Function};
 ghost use Rattle.wap_libs.specs.Libraries.{function_at, IsPure};
 ghost use Rattle.wap_libs.specs.laws.Functions.{functions, called};

@@ -11,7 +11,7 @@ use Rattle.wap_base.proofs.Utf8Lengths.{length-encode_utf8_all}
 use Rattle.wap_value.specs.declared.value.Value.TheVariants.{Str}
 use Rattle.wap_value.specs.declared.fault.ValueFault.TheVariants.{TooLong}
 use Rattle.wap_value.specs.TooLong.{kept_within}
-use Rattle.wap_code.specs.declared.instr.Instr.{Instr}
+use Rattle.wap_unit.specs.declared.instr.Instr.{Instr}
 use Rattle.wap_execution.specs.declared.action.Action.TheVariants.{LoadConstant}
 use Rattle.wap_verify.specs.Paths.{Reaches}
 use Rattle.wap_execution.specs.Frames.{Function, Frame, constant_at}

@@ -26,22 +26,22 @@ use Rattle.wap_value.specs.declared.operator.BinOp.TheVariants.{BitAnd, BitXor, 
 use Rattle.wap_value.specs.declared.operator.BinOp.TheVariants.{Comma}
 use Rattle.wap_value.specs.Binary.{TakesBoth, binary_of}
 use Rattle.wap_value.specs.TooLong.{kept_within}
-use Rattle.wap_code.specs.declared.unit.Unit.{Unit as CodeUnit}
-use Rattle.wap_code.specs.declared.unit.Code.{Code}
-use Rattle.wap_code.specs.declared.unit.Constant.{Constant}
-use Rattle.wap_code.specs.declared.unit.Constant.TheVariants.{Int8, Int16, Int32, Float, Utf8}
-use Rattle.wap_code.specs.declared.unit.Constant.TheVariants.{Empty, Coded}
-use Rattle.wap_code.specs.declared.row.Slot.{Slot}
-use Rattle.wap_code.specs.declared.row.Slot.TheVariants.{Absent, Low, Byte, Word}
-use Rattle.wap_code.specs.declared.row.Row.{Row}
+use Rattle.wap_unit.specs.declared.unit.Unit.{Unit as CodeUnit}
+use Rattle.wap_unit.specs.declared.unit.Code.{Code}
+use Rattle.wap_unit.specs.declared.unit.Constant.{Constant}
+use Rattle.wap_unit.specs.declared.unit.Constant.TheVariants.{Int8, Int16, Int32, Float, Utf8}
+use Rattle.wap_unit.specs.declared.unit.Constant.TheVariants.{Empty, Coded}
+use Rattle.wap_unit.specs.declared.row.Slot.{Slot}
+use Rattle.wap_unit.specs.declared.row.Slot.TheVariants.{Absent, Low, Byte, Word}
+use Rattle.wap_unit.specs.declared.row.Row.{Row}
 use Rattle.wap_asm.specs.Spelling.{limit}
 use Rattle.wap_asm.specs.Operands.{Holds}
-use Rattle.wap_code.specs.declared.instr.Instr.{Instr}
-use Rattle.wap_code.specs.declared.instr.InstrFault.{InstrFault}
-use Rattle.wap_code.specs.declared.instr.InstrFault.TheVariants.{Operand}
-use Rattle.wap_code.specs.Instructions.{size, row_of, read, read_row}
-use Rattle.wap_code.specs.Libraries.{lib_args}
-use Rattle.wap_code.specs.Strings.{string_of, string_at, holds_text, is_string}
+use Rattle.wap_unit.specs.declared.instr.Instr.{Instr}
+use Rattle.wap_unit.specs.declared.instr.InstrFault.{InstrFault}
+use Rattle.wap_unit.specs.declared.instr.InstrFault.TheVariants.{Operand}
+use Rattle.wap_unit.specs.Instructions.{size, row_of, read, read_row}
+use Rattle.wap_unit.specs.Libraries.{lib_args}
+use Rattle.wap_unit.specs.Strings.{string_of, string_at, holds_text, is_string}
 use Rattle.wap_unit.specs.Sequences.{IsRow}
 use Rattle.wap_unit.specs.Units.{IsConstant}
 use Rattle.wap_unit.specs.Spelling.{HasSpelling}

@@ -3,19 +3,19 @@
 use Rattle.std.proofs.Common.{◌≡◌, ℕ, Bool, true, false, inl, inr, List}
 use Rattle.std.proofs.Common.{[], ◌∷◌, Some, map, refl, sym, subst}
 use Rattle.std.specs.List.{list_all}
-use Rattle.wap_code.specs.declared.row.Slot.{Slot}
-use Rattle.wap_code.specs.declared.row.Slot.TheVariants.{Absent, Low, Byte, Word}
-use Rattle.wap_code.specs.declared.row.Operands.{Operands}
-use Rattle.wap_code.specs.declared.row.Operands.TheVariants.{Plain, Variable, Constant}
-use Rattle.wap_code.specs.declared.row.Operands.TheVariants.{Function, Library, Address}
-use Rattle.wap_code.specs.declared.row.Takes.{Takes}
-use Rattle.wap_code.specs.declared.row.Takes.TheVariants.{Values, Arguments}
-use Rattle.wap_code.specs.declared.row.After.{After}
-use Rattle.wap_code.specs.declared.row.After.TheVariants.{On, Forward, Backward, ForwardOrOn}
-use Rattle.wap_code.specs.declared.row.After.TheVariants.{BackwardOrOn, Pair, Leave}
-use Rattle.wap_code.specs.declared.row.Row.{Row}
-use Rattle.wap_code.specs.Rows.{rows}
-use Rattle.wap_code.specs.Instructions.{has_code, row_of}
+use Rattle.wap_unit.specs.declared.row.Slot.{Slot}
+use Rattle.wap_unit.specs.declared.row.Slot.TheVariants.{Absent, Low, Byte, Word}
+use Rattle.wap_unit.specs.declared.row.Operands.{Operands}
+use Rattle.wap_unit.specs.declared.row.Operands.TheVariants.{Plain, Variable, Constant}
+use Rattle.wap_unit.specs.declared.row.Operands.TheVariants.{Function, Library, Address}
+use Rattle.wap_unit.specs.declared.row.Takes.{Takes}
+use Rattle.wap_unit.specs.declared.row.Takes.TheVariants.{Values, Arguments}
+use Rattle.wap_unit.specs.declared.row.After.{After}
+use Rattle.wap_unit.specs.declared.row.After.TheVariants.{On, Forward, Backward, ForwardOrOn}
+use Rattle.wap_unit.specs.declared.row.After.TheVariants.{BackwardOrOn, Pair, Leave}
+use Rattle.wap_unit.specs.declared.row.Row.{Row}
+use Rattle.wap_unit.specs.Rows.{rows}
+use Rattle.wap_unit.specs.Instructions.{has_code, row_of}
 use Rattle.wap_asm.specs.Exact.{Among}
 use Rattle.wap_asm.proofs.Finding.{found, all_among}
 use Rattle.wap_execution.specs.declared.action.Action.{Action}

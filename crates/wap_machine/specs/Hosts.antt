@@ -2,8 +2,8 @@
 use Rattle.std.specs.Prelude.{⊤, ◌≡◌, ◌≢◌, ℕ, ◌<◌, ◌≤◌, Option, Some, None, IfSome, slice_get}
 use Rattle.wap_base.specs.Count.{Rose}
 use Rattle.wap_base.specs.declared.limits.TheConstants.{MOST_DEPTH}
-use Rattle.wap_code.specs.declared.unit.Unit.{Unit}
-use Rattle.wap_code.specs.declared.unit.Code.{Code}
+use Rattle.wap_unit.specs.declared.unit.Unit.{Unit}
+use Rattle.wap_unit.specs.declared.unit.Code.{Code}
 use Rattle.wap_execution.specs.declared.fatal.Fatal.TheVariants.{Budget}
 use Rattle.wap_execution.specs.declared.found.Found.{Found}
 use Rattle.wap_execution.specs.declared.found.Found.TheVariants.{Callee, Not}

@@ -2,7 +2,7 @@
 use Rattle.std.specs.Prelude.{ℕ, List, reverse, slice_set, Option}
 use Rattle.wap_value.specs.declared.value.Value.{Value}
 use Rattle.wap_url.specs.declared.url.Url.{Url}
-use Rattle.wap_code.specs.declared.unit.Unit.{Unit}
+use Rattle.wap_unit.specs.declared.unit.Unit.{Unit}
 use Rattle.wap_execution.specs.Frames.{Function, Frame}
 use Rattle.wap_execution.specs.Effects.{Called, local, library, external, Effect}
 use Rattle.wap_execution.specs.Effects.{onward, back, calls, returns, ends}

@@ -2,7 +2,7 @@
 use Rattle.std.specs.Prelude.{◌≡◌, List, [], ◌∷◌, length, Some}
 use Rattle.wap_base.specs.declared.limits.Limits.{Limits}
 use Rattle.wap_value.specs.declared.value.Value.{Value}
-use Rattle.wap_code.specs.declared.unit.Code.{Code}
+use Rattle.wap_unit.specs.declared.unit.Code.{Code}
 use Rattle.wap_execution.specs.Frames.{Function, Frame, code_at, begun, pushed}
 
 -- the frames of a machine, the innermost first

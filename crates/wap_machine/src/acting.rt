@@ -2,7 +2,7 @@
 ghost use Rattle.std.specs.Prelude.{◌≡◌, ◌∷◌, ◌+◌, ◌<◌, ◌≤◌, ◌^◌, length, Some, IfOk, slice_index};
 ghost use Rattle.wap_base.specs.Limits.{IsStringLimit};
 ghost use Rattle.wap_value.specs.Binary.{TakesBoth};
-ghost use Rattle.wap_code.specs.Instructions.{row_of};
+ghost use Rattle.wap_unit.specs.Instructions.{row_of};
 ghost use Rattle.wap_execution.specs.Frames.{code_of};
 ghost use Rattle.wap_execution.specs.Effects.{effect_of, onward, back, backward, jumps_at, pair_by};
 ghost use Rattle.wap_execution.specs.declared.action.Action.TheVariants as action;
@@ -13,8 +13,8 @@ use crate::frame::Frame;
 use crate::next::Next;
 use std::alloc::Global;
 use wap_base::NoMemory;
-use wap_code::Instr;
 use wap_execution::Fatal;
+use wap_unit::Instr;
 use wap_value::{BinOp, UnOp, Value, ValueFault, binary, to_bool, unary};
 
 /// Goes on further on.

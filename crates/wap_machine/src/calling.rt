@@ -12,7 +12,7 @@ use crate::next::{Callee, Next};
 use std::alloc::Global;
 use wap_asm::args_of;
 use wap_base::{NoMemory, Text};
-use wap_code::Instr;
+use wap_unit::Instr;
 
 /// Calls with so many arguments, and goes on further on.
 fn call(frame: &mut Frame, callee: Callee, count: usize, place: usize) -> Result<Next, NoMemory>

@@ -16,8 +16,8 @@ use crate::frame::Frame;
 use crate::next::Next;
 use std::alloc::Global;
 use wap_base::{NoMemory, Text};
-use wap_code::{Constant, Instr};
 use wap_execution::Fatal;
+use wap_unit::{Constant, Instr};
 use wap_value::{Value, ValueFault};
 use wap_verify::Verified;
 

@@ -5,7 +5,7 @@ ghost use Rattle.std.specs.Option.{option_copied};
 ghost use Rattle.wap_base.specs.Count.{Rose};
 ghost use Rattle.wap_url.specs.declared.url.Url.{Url as TheUrl};
 ghost use Rattle.wap_value.specs.declared.value.Value.{Value as TheValue};
-ghost use Rattle.wap_code.specs.Libraries.{lib_args};
+ghost use Rattle.wap_unit.specs.Libraries.{lib_args};
 ghost use Rattle.wap_execution.specs.Outcomes.{Hosting};
 ghost use Rattle.wap_machine.specs.Hosts.{Gives, Grows, Fetches, IsCallable, IsNoBudget};
 

@@ -7,8 +7,8 @@ ghost use Rattle.wap_machine.specs.inside.Parts.{IsInstruction};
 
 use crate::frame::Frame;
 use wap_asm::{read_row, row_of};
-use wap_code::{Instr, OpName};
 use wap_execution::Action;
+use wap_unit::{Instr, OpName};
 use wap_value::{BinOp, UnOp};
 
 /// What an operation does.

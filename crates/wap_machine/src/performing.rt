@@ -22,8 +22,8 @@ use crate::variables::{
 };
 use std::alloc::Global;
 use wap_base::{NoMemory, Text};
-use wap_code::Instr;
 use wap_execution::Action;
+use wap_unit::Instr;
 use wap_value::Value;
 
 /// Does to a frame what an instruction says.

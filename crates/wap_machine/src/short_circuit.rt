@@ -1,6 +1,6 @@
 //! A short-circuit, which is one instruction with the jump after it.
 ghost use Rattle.std.specs.Prelude.{◌≡◌, ◌+◌, ◌<◌, ◌^◌, length, slice_index, IfOk};
-ghost use Rattle.wap_code.specs.Instructions.{row_of};
+ghost use Rattle.wap_unit.specs.Instructions.{row_of};
 ghost use Rattle.wap_execution.specs.Frames.{code_of};
 ghost use Rattle.wap_execution.specs.Effects.{pair_by};
 ghost use Rattle.wap_machine.specs.Standing.{Fits};
@@ -10,7 +10,7 @@ use crate::acting::{give, pass_on};
 use crate::frame::Frame;
 use crate::next::Next;
 use wap_asm::{read_row, row_of};
-use wap_code::Instr;
+use wap_unit::Instr;
 use wap_value::{Value, to_bool};
 
 /// The jump after a short-circuit of this kind.

@@ -17,8 +17,8 @@ use crate::frame::Frame;
 use crate::next::Next;
 use std::alloc::Global;
 use wap_base::NoMemory;
-use wap_code::Instr;
 use wap_execution::Fatal;
+use wap_unit::Instr;
 use wap_value::{BinOp, UnOp, Value, ValueFault, binary, unary};
 
 /// Puts a value into a variable, and goes on further on.

@@ -5,7 +5,7 @@ use Rattle.std.proofs.Common.{Option, Some, None, refl}
 use Rattle.wap_base.specs.declared.limits.Limits.{Limits}
 use Rattle.wap_base.specs.declared.limits.TheConstants.{MOST_DEPTH}
 use Rattle.wap_value.specs.declared.value.Value.{Value}
-use Rattle.wap_code.specs.declared.unit.Code.{Code}
+use Rattle.wap_unit.specs.declared.unit.Code.{Code}
 use Rattle.wap_execution.specs.Frames.{Function, code_at, begun}
 use Rattle.wap_execution.specs.Outcomes.{Outcome, value, exit, fatal, waits, stuck, Hosting}
 use Rattle.wap_execution.specs.Running.{ended, Calls, called, goes, began, enter}

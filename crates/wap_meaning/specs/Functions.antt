@@ -6,7 +6,7 @@ use Rattle.wap_base.specs.declared.limits.Limits.{Limits}
 use Rattle.wap_base.specs.declared.limits.TheConstants.{MOST_DEPTH}
 use Rattle.wap_value.specs.declared.value.Value.{Value}
 use Rattle.wap_value.specs.declared.value.Value.TheVariants.{Str}
-use Rattle.wap_code.specs.declared.unit.Code.{Code}
+use Rattle.wap_unit.specs.declared.unit.Code.{Code}
 use Rattle.wap_grammar.specs.declared.program.statement.Stmt.{Stmt}
 use Rattle.wap_grammar.specs.declared.program.program.Function.{Function as SourceFunction}
 use Rattle.wap_grammar.specs.declared.program.program.Program.{Program}

@@ -28,7 +28,7 @@ use Rattle.wap_deckcheck.specs.declared.fault.DeckFault.{DeckFault}
 use Rattle.wap_deckcheck.specs.declared.fault.DeckFault.TheVariants as deck_fault
 use Rattle.wap_deckcheck.proofs.GoodDecks.{good_without_faults}
 use Rattle.wap_deckcheck.proofs.Completeness.{no_faults_where_good}
-use Rattle.wap_code.specs.declared.unit.Unit.{Unit}
+use Rattle.wap_unit.specs.declared.unit.Unit.{Unit}
 use Rattle.wap_unit.specs.Units.{IsUnit}
 use Rattle.wap_unit.specs.declared.fault.UnitFault.{UnitFault}
 use Rattle.wap_unit.specs.inside.Reading.{unit_at}

@@ -12,7 +12,7 @@ use Rattle.wap_wbxml.specs.declared.fault.DocFault.TheVariants as document
 use Rattle.wap_deckcheck.specs.Faults.{faults, first_fault}
 use Rattle.wap_deckcheck.specs.declared.fault.DeckFault.{DeckFault}
 use Rattle.wap_deckcheck.specs.declared.fault.DeckFault.TheVariants as deck
-use Rattle.wap_code.specs.declared.unit.Unit.{Unit}
+use Rattle.wap_unit.specs.declared.unit.Unit.{Unit}
 use Rattle.wap_unit.specs.Units.{IsUnit}
 use Rattle.wap_unit.specs.Refusal as units
 use Rattle.wap_unit.specs.declared.fault.UnitFault.{UnitFault}

@@ -16,7 +16,7 @@ use Rattle.wap_wbxml.specs.reading.Whole.{document_at}
 use Rattle.wap_wbxml.specs.declared.fault.DocFault.{DocFault}
 use Rattle.wap_deckcheck.specs.Faults.{faults, first_fault}
 use Rattle.wap_deckcheck.specs.declared.fault.DeckFault.{DeckFault}
-use Rattle.wap_code.specs.declared.unit.Unit.{Unit}
+use Rattle.wap_unit.specs.declared.unit.Unit.{Unit}
 use Rattle.wap_unit.specs.Units.{IsUnit}
 use Rattle.wap_unit.specs.declared.fault.UnitFault.{UnitFault}
 use Rattle.wap_unit.specs.inside.Reading.{unit_at}

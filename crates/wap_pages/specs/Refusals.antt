@@ -6,7 +6,7 @@ use Rattle.wap_tokens.specs.declared.markup.deck.Deck.{Deck}
 use Rattle.wap_tokens.specs.markup.Documents.{IsDocument}
 use Rattle.wap_tokens.specs.markup.Decks.{deck_of}
 use Rattle.wap_deckcheck.specs.Faults.{faults, first_fault}
-use Rattle.wap_code.specs.declared.unit.Unit.{Unit}
+use Rattle.wap_unit.specs.declared.unit.Unit.{Unit}
 use Rattle.wap_unit.specs.Units.{IsUnit}
 use Rattle.wap_unit.specs.Refusal as units
 use Rattle.wap_wbxml.specs.Refusal as documents

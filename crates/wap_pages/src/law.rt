@@ -3,7 +3,7 @@ ghost use Rattle.std.specs.Prelude.{◌≡◌, ◌≢◌, ◌<◌, ◌^◌, ◌�
 ghost use Rattle.wap_base.specs.Contents.{Contents, names_of, page_named};
 ghost use Rattle.wap_base.specs.Texts.{AreDistinct};
 ghost use Rattle.wap_tokens.specs.declared.markup.deck.Deck.{Deck};
-ghost use Rattle.wap_code.specs.declared.unit.Unit.{Unit};
+ghost use Rattle.wap_unit.specs.declared.unit.Unit.{Unit};
 ghost use Rattle.wap_grammar.specs.declared.program.program.Program.{Program};
 ghost use Rattle.wap_world.specs.site.Pages.{page_of, AreSitePages};
 ghost use Rattle.wap_world.specs.declared.site.page.Page.TheVariants as page;

@@ -5,7 +5,7 @@ ghost use Rattle.wap_tokens.specs.declared.markup.document.Document.{Document};
 ghost use Rattle.wap_tokens.specs.markup.Documents.{IsDocument};
 ghost use Rattle.wap_tokens.specs.markup.Decks.{deck_of};
 ghost use Rattle.wap_tokens.specs.markup.Normal.{IsNormal};
-ghost use Rattle.wap_code.specs.declared.unit.Unit.{Unit};
+ghost use Rattle.wap_unit.specs.declared.unit.Unit.{Unit};
 ghost use Rattle.wap_unit.specs.Units.{IsUnit};
 ghost use Rattle.wap_verify.specs.Sound.{IsVerified};
 ghost use Rattle.wap_grammar.specs.declared.program.program.Program.{Program};

@@ -5,7 +5,7 @@ use Rattle.std.specs.Prelude.{[], ◌∷◌, ◌++◌, length, Option, Some, Non
 use Rattle.std.specs.List.{list_any}
 use Rattle.std.specs.Option.{option_map, IsSome}
 use Rattle.wap_base.specs.Texts.{is_same_text}
-use Rattle.wap_code.specs.Libraries.{lib_named}
+use Rattle.wap_unit.specs.Libraries.{lib_named}
 use Rattle.wap_grammar.specs.declared.program.program.Span.{Span}
 use Rattle.wap_grammar.specs.declared.program.program.Id.{Id}
 use Rattle.wap_grammar.specs.declared.program.program.Use.{Use}

@@ -12,13 +12,13 @@ use Rattle.std.proofs.lemmas.Nat.{be_bytes_2, be_bytes_4}
 use Rattle.std.proofs.lemmas.Str.{IsUtf8-from_is_utf8, encodes-chars}
 use Rattle.wap_base.specs.Numbers.{IsMb, carried, mb_spelling}
 use Rattle.wap_base.proofs.NumberSpelling.{IsShortest-mb_spelling}
-use Rattle.wap_code.specs.declared.unit.Unit.{Unit}
-use Rattle.wap_code.specs.declared.unit.Constant.{Constant}
-use Rattle.wap_code.specs.declared.unit.Constant.TheVariants.{Int8, Int16, Int32, Float, Utf8}
-use Rattle.wap_code.specs.declared.unit.Constant.TheVariants.{Empty, Coded}
-use Rattle.wap_code.specs.declared.unit.Pragma.{Pragma}
-use Rattle.wap_code.specs.declared.unit.Pragma.TheVariants.{Domain, Path, Property, Scheme}
-use Rattle.wap_code.specs.declared.unit.Code.{Code}
+use Rattle.wap_unit.specs.declared.unit.Unit.{Unit}
+use Rattle.wap_unit.specs.declared.unit.Constant.{Constant}
+use Rattle.wap_unit.specs.declared.unit.Constant.TheVariants.{Int8, Int16, Int32, Float, Utf8}
+use Rattle.wap_unit.specs.declared.unit.Constant.TheVariants.{Empty, Coded}
+use Rattle.wap_unit.specs.declared.unit.Pragma.{Pragma}
+use Rattle.wap_unit.specs.declared.unit.Pragma.TheVariants.{Domain, Path, Property, Scheme}
+use Rattle.wap_unit.specs.declared.unit.Code.{Code}
 use Rattle.wap_unit.specs.declared.kind.TheConstants.{INT8, INT16, INT32, FLOAT, UTF8, CODED}
 use Rattle.wap_unit.specs.declared.kind.TheConstants.{DOMAIN, PATH, PROPERTY, SCHEME}
 use Rattle.wap_unit.specs.Sequences.{IsSized, IsRow, IsCounted}

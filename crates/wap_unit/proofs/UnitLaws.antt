@@ -11,7 +11,7 @@ use Rattle.std.proofs.lemmas.List.{append-nil, nil_from_length}
 use Rattle.wap_base.specs.Outcome.{◌>>=◌, Meets}
 use Rattle.wap_base.specs.Numbers.{IsMb}
 use Rattle.wap_base.proofs.Choices.{chosen, bind_ok, bind_err, ok_same}
-use Rattle.wap_code.specs.declared.unit.Unit.{Unit}
+use Rattle.wap_unit.specs.declared.unit.Unit.{Unit}
 use Rattle.wap_unit.specs.declared.fault.UnitFault.{UnitFault}
 use Rattle.wap_unit.specs.declared.fault.UnitFault.TheVariants as fault
 use Rattle.wap_unit.specs.declared.reading.TheConstants.{GREATEST_VERSION}

@@ -1,3 +1,7 @@
+pub mod Rows
+pub mod Instructions
+pub mod Libraries
+pub mod Strings
 pub mod Sequences
 pub mod Units
 pub mod Refusal

@@ -7,8 +7,8 @@ use Rattle.std.specs.Prelude.{List, [], ◌∷◌, ◌++◌, length, Option, Som
 use Rattle.std.specs.Str.{is_utf8}
 use Rattle.wap_base.specs.Numbers.{IsMb, EndsInside, IsTooLong}
 use Rattle.wap_base.specs.declared.charset.Charset.{Charset}
-use Rattle.wap_code.specs.declared.unit.Unit.{Unit}
-use Rattle.wap_code.specs.declared.unit.Constant.{Constant}
+use Rattle.wap_unit.specs.declared.unit.Unit.{Unit}
+use Rattle.wap_unit.specs.declared.unit.Constant.{Constant}
 use Rattle.wap_base.specs.Charsets.{charset_of, is_text}
 use Rattle.wap_unit.specs.declared.fault.UnitFault.{UnitFault}
 use Rattle.wap_unit.specs.declared.fault.UnitFault.TheVariants as fault

@@ -5,13 +5,12 @@ ghost use Rattle.wap_unit.specs.inside.Steps.{many};
 ghost use Rattle.wap_unit.specs.inside.Reading.{coded_at, utf8_at, value_at};
 ghost use Rattle.wap_unit.specs.inside.Reading.{constant_at, constants_at};
 
-use crate::UnitFault;
 use crate::charset::{coded_text, utf8_text};
 use crate::front::{byte, number, place, take_bytes, take_sized};
 use crate::kind::{ConstantKind, constant_kind};
+use crate::{Constant, UnitFault};
 use std::alloc::Global;
 use wap_base::{Charset, Rows};
-use wap_code::Constant;
 
 /// The number of the character set, and the constants.
 #[tactic(auto, unfolding(crate::specs::inside::Reading::constants_at))]

@@ -5,12 +5,11 @@ ghost use Rattle.wap_unit.specs.inside.Steps.{many};
 ghost use Rattle.wap_unit.specs.inside.Reading.{name_text_at, name_at, function_at};
 ghost use Rattle.wap_unit.specs.inside.Reading.{named_functions_at, functions_at};
 
-use crate::UnitFault;
 use crate::charset::utf8_text;
 use crate::front::{byte, place, take_bytes, take_sized};
+use crate::{Code, UnitFault};
 use std::alloc::Global;
 use wap_base::{Bytes, Rows, Text};
-use wap_code::Code;
 
 /// The names, and the functions.
 #[tactic(auto, unfolding(crate::specs::inside::Reading::functions_at))]

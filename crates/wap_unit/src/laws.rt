@@ -1,7 +1,7 @@
 //! What bytes are: a unit, or refused. The functions here do nothing, and carry the laws alone.
 ghost use Rattle.std.specs.Prelude.{◌≡◌, ℕ, ◌<◌, ◌⊎◌, List};
 ghost use Rattle.std.specs.List.{AllByRecursion};
-ghost use Rattle.wap_code.specs.declared.unit.Unit.{Unit};
+ghost use Rattle.wap_unit.specs.declared.unit.Unit.{Unit};
 ghost use Rattle.wap_unit.specs.declared.fault.UnitFault.{UnitFault};
 ghost use Rattle.wap_unit.specs.Units.{IsUnit};
 ghost use Rattle.wap_unit.specs.Refusal.{IsRefused};

@@ -4,12 +4,11 @@ ghost use Rattle.wap_unit.specs.declared.fault.UnitFault.TheVariants.{NoMemory};
 ghost use Rattle.wap_unit.specs.inside.Steps.{many};
 ghost use Rattle.wap_unit.specs.inside.Reading.{pair_at, indexes_at, pragma_at, pragmas_at};
 
-use crate::UnitFault;
 use crate::front::{byte, number, place};
 use crate::kind::{PragmaKind, pragma_kind};
+use crate::{Pragma, UnitFault};
 use std::alloc::Global;
 use wap_base::Rows;
-use wap_code::Pragma;
 
 /// The pragmas, after their number.
 #[tactic(auto, unfolding(crate::specs::inside::Reading::pragmas_at))]

@@ -1,20 +1,19 @@
 //! Reading a unit from its bytes.
 ghost use Rattle.std.specs.Prelude.{◌≢◌, ◌<◌, ◌^◌, length, IfOk, IfErr, Ok, Err};
 ghost use Rattle.wap_base.specs.Outcome.{Meets};
-ghost use Rattle.wap_code.specs.declared.unit.Unit.{Unit};
+ghost use Rattle.wap_unit.specs.declared.unit.Unit.{Unit};
 ghost use Rattle.wap_unit.specs.declared.fault.UnitFault.{UnitFault};
 ghost use Rattle.wap_unit.specs.declared.fault.UnitFault.TheVariants.{NoMemory};
 ghost use Rattle.wap_unit.specs.Units.{IsUnit};
 ghost use Rattle.wap_unit.specs.Refusal.{IsRefused};
 ghost use Rattle.wap_unit.specs.inside.Reading.{body_at, unit_at};
 
-use crate::UnitFault;
 use crate::constants::read_constants;
 use crate::front::{byte, number, place};
 use crate::functions::read_functions;
 use crate::pragmas::read_pragmas;
+use crate::{Unit, UnitFault};
 use std::alloc::Global;
-use wap_code::Unit;
 
 /// The greatest version byte that is read: those of the major number 1, in the upper four bits the
 /// number minus one.

@@ -10,9 +10,9 @@ ghost use Rattle.wap_unit.specs.inside.Fitting.{FitsConstant, FitsConstants, Fit
 ghost use Rattle.wap_unit.specs.inside.Fitting.{FitsFunction, FitsFunctions, FitsUnit};
 
 use crate::kind::{CODED, DOMAIN, EMPTY, FLOAT, INT8, INT16, INT32, PATH, PROPERTY, SCHEME, UTF8};
+use crate::{Code, Constant, Pragma, Unit};
 use std::alloc::Global;
 use wap_base::{Bytes, NoMemory, Text, write_mb};
-use wap_code::{Code, Constant, Pragma, Unit};
 
 /// The one spelling of a unit that has some, with its own version byte and the shortest numbers.
 pub fn encode(alloc: Global, unit: &Unit) -> Result<Bytes, NoMemory>

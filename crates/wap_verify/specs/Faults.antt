@@ -3,8 +3,8 @@
 use Rattle.std.specs.Prelude.{◌≡◌, ◌≢◌, ℕ, ◌<◌, true, false, List, length}
 use Rattle.std.specs.Prelude.{Some, None, slice_get, Ok, Err}
 use Rattle.std.specs.List.{list_all}
-use Rattle.wap_code.specs.declared.unit.Unit.{Unit}
-use Rattle.wap_code.specs.declared.unit.Code.{Code}
+use Rattle.wap_unit.specs.declared.unit.Unit.{Unit}
+use Rattle.wap_unit.specs.declared.unit.Code.{Code}
 use Rattle.wap_verify.specs.declared.step.Step.{Step}
 use Rattle.wap_verify.specs.declared.fault.VerifyFault.{VerifyFault}
 use Rattle.wap_verify.specs.declared.fault.VerifyFault.TheVariants as fault

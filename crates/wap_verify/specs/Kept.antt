@@ -6,11 +6,11 @@ use Rattle.std.specs.Map.{lookup}
 use Rattle.std.specs.Option.{option_map}
 use Rattle.wap_base.specs.Texts.{is_same_text}
 use Rattle.wap_base.specs.declared.charset.Charset.{Charset}
-use Rattle.wap_code.specs.declared.unit.Unit.{Unit}
-use Rattle.wap_code.specs.declared.unit.Code.{Code}
-use Rattle.wap_code.specs.declared.unit.Constant.{Constant}
-use Rattle.wap_code.specs.declared.unit.Constant.TheVariants.{Int8, Int16, Int32, Float, Utf8}
-use Rattle.wap_code.specs.declared.unit.Constant.TheVariants.{Empty, Coded}
+use Rattle.wap_unit.specs.declared.unit.Unit.{Unit}
+use Rattle.wap_unit.specs.declared.unit.Code.{Code}
+use Rattle.wap_unit.specs.declared.unit.Constant.{Constant}
+use Rattle.wap_unit.specs.declared.unit.Constant.TheVariants.{Int8, Int16, Int32, Float, Utf8}
+use Rattle.wap_unit.specs.declared.unit.Constant.TheVariants.{Empty, Coded}
 use Rattle.wap_base.specs.Charsets.{charset_of, is_text, characters_of}
 use Rattle.wap_unit.specs.Spelling.{HasSpelling}
 use Rattle.wap_verify.specs.Sound.{IsRoom, AreSound, IsVerified}

@@ -5,22 +5,22 @@ use Rattle.std.specs.Prelude.{ℕ, ◌+◌, ◌-◌, Bool, true, false, ◌&&◌
 use Rattle.std.specs.Prelude.{if◌then◌else◌, List, length, slice_get, slice_index, Option}
 use Rattle.std.specs.Prelude.{Some, None, unwrap_or, Result, Ok, Err}
 use Rattle.std.specs.Option.{option_map_or}
-use Rattle.wap_code.specs.declared.unit.Unit.{Unit}
-use Rattle.wap_code.specs.declared.unit.Code.{Code}
-use Rattle.wap_code.specs.declared.instr.Instr.{Instr}
-use Rattle.wap_code.specs.declared.instr.InstrFault.{InstrFault}
-use Rattle.wap_code.specs.declared.row.Row.{Row}
-use Rattle.wap_code.specs.declared.row.Operands.{Operands}
-use Rattle.wap_code.specs.declared.row.Operands.TheVariants.{Plain, Variable, Constant}
-use Rattle.wap_code.specs.declared.row.Operands.TheVariants.{Function, Library, Address}
-use Rattle.wap_code.specs.declared.row.Takes.{Takes}
-use Rattle.wap_code.specs.declared.row.Takes.TheVariants.{Values, Arguments}
-use Rattle.wap_code.specs.declared.row.After.{After}
-use Rattle.wap_code.specs.declared.row.After.TheVariants.{On, Forward, Backward, ForwardOrOn}
-use Rattle.wap_code.specs.declared.row.After.TheVariants.{BackwardOrOn, Pair, Leave}
-use Rattle.wap_code.specs.Instructions.{row_of, read_row}
-use Rattle.wap_code.specs.Libraries.{lib_args}
-use Rattle.wap_code.specs.Strings.{is_string}
+use Rattle.wap_unit.specs.declared.unit.Unit.{Unit}
+use Rattle.wap_unit.specs.declared.unit.Code.{Code}
+use Rattle.wap_unit.specs.declared.instr.Instr.{Instr}
+use Rattle.wap_unit.specs.declared.instr.InstrFault.{InstrFault}
+use Rattle.wap_unit.specs.declared.row.Row.{Row}
+use Rattle.wap_unit.specs.declared.row.Operands.{Operands}
+use Rattle.wap_unit.specs.declared.row.Operands.TheVariants.{Plain, Variable, Constant}
+use Rattle.wap_unit.specs.declared.row.Operands.TheVariants.{Function, Library, Address}
+use Rattle.wap_unit.specs.declared.row.Takes.{Takes}
+use Rattle.wap_unit.specs.declared.row.Takes.TheVariants.{Values, Arguments}
+use Rattle.wap_unit.specs.declared.row.After.{After}
+use Rattle.wap_unit.specs.declared.row.After.TheVariants.{On, Forward, Backward, ForwardOrOn}
+use Rattle.wap_unit.specs.declared.row.After.TheVariants.{BackwardOrOn, Pair, Leave}
+use Rattle.wap_unit.specs.Instructions.{row_of, read_row}
+use Rattle.wap_unit.specs.Libraries.{lib_args}
+use Rattle.wap_unit.specs.Strings.{is_string}
 use Rattle.wap_verify.specs.declared.step.Step.{Step}
 use Rattle.wap_verify.specs.declared.step.Way.{Way}
 use Rattle.wap_verify.specs.declared.fault.VerifyFault.{VerifyFault}

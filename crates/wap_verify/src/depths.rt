@@ -11,7 +11,7 @@ ghost use Rattle.wap_verify.specs.inside.Kept.{state, IsConflict, IsConflictOn};
 use crate::VerifyFault;
 use crate::step::{Way, step_at, way_on};
 use std::alloc::{AllocError, Global};
-use wap_code::{Code, Unit};
+use wap_unit::{Code, Unit};
 
 /// One number of values for each place that was reached, the places whose ways aren't followed yet,
 /// and the greatest number.

@@ -13,7 +13,7 @@ use crate::places::marks;
 use crate::targets::check_targets;
 use std::alloc::Global;
 use wap_base::Rows;
-use wap_code::{Code, Unit};
+use wap_unit::{Code, Unit};
 
 /// Room for all values of each function, where all functions are sound.
 pub(crate) fn rooms(alloc: Global, unit: &Unit) -> Result<Rows<u32>, VerifyFault>

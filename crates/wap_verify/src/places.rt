@@ -7,7 +7,7 @@ ghost use Rattle.wap_verify.specs.inside.Work.{Marks};
 use crate::VerifyFault;
 use crate::step::step_at;
 use std::alloc::Global;
-use wap_code::{Code, Unit};
+use wap_unit::{Code, Unit};
 
 /// A mark for each byte of the code, set where an instruction begins.
 pub(crate) fn marks(

@@ -1,10 +1,10 @@
 //! The strings that pragmas name.
 ghost use Rattle.std.specs.Prelude.{◌≡◌, not, find};
-ghost use Rattle.wap_code.specs.Strings.{is_string};
+ghost use Rattle.wap_unit.specs.Strings.{is_string};
 ghost use Rattle.wap_verify.specs.Sound.{indexes, stray_pragma};
 
 use crate::strings::is_string;
-use wap_code::{Pragma, Unit};
+use wap_unit::{Pragma, Unit};
 
 /// The first index of a pragma that names no string.
 pub(crate) fn stray_pragma(unit: &Unit) -> Option<u32>

@@ -1,7 +1,7 @@
 //! Whether a unit may be run, as a test on the unit alone that takes no memory. It says nothing
 //! new of units: it lets definitions speak of the pages of a store as a function of their bytes.
 ghost use Rattle.std.specs.Prelude.{◌≡◌, ◌↔◌, true, false};
-ghost use Rattle.wap_code.specs.declared.unit.Unit.{Unit};
+ghost use Rattle.wap_unit.specs.declared.unit.Unit.{Unit};
 ghost use Rattle.wap_verify.specs.declared.fault.VerifyFault.{VerifyFault};
 ghost use Rattle.wap_verify.specs.Sound.{IsVerified};
 ghost use Rattle.wap_verify.specs.Faults.{IsFault};

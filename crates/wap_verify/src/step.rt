@@ -1,6 +1,6 @@
 //! What stands at a place of a function's code, with its operands looked at.
 ghost use Rattle.std.specs.Prelude.{◌≡◌, ◌+◌, ◌<◌, ◌≤◌, ◌^◌, length, slice_index, IfOk, IfSome};
-ghost use Rattle.wap_code.specs.Instructions.{row_of, read_row};
+ghost use Rattle.wap_unit.specs.Instructions.{row_of, read_row};
 ghost use Rattle.wap_verify.specs.Steps.{arguments, values_taken, operand_fault, way_to};
 ghost use Rattle.wap_verify.specs.Steps.{way_on, step_of, pair, is_conditional_forward};
 ghost use Rattle.wap_verify.specs.Steps.{jump_by, pair_at, is_pair, fine_at, step_at};
@@ -9,7 +9,7 @@ ghost use Rattle.wap_verify.specs.inside.Work.{GoesOn};
 use crate::VerifyFault;
 use crate::strings::is_string;
 use wap_asm::{args_of, read_row, row_of};
-use wap_code::{After, Code, Instr, Operands, Row, Takes, Unit};
+use wap_unit::{After, Code, Instr, Operands, Row, Takes, Unit};
 
 /// A place where it may go on, and how many values are given on the way there.
 #[derive(Clone, Copy, Debug, PartialEq, Eq)]

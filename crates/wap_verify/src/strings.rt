@@ -2,13 +2,13 @@
 ghost use Rattle.std.specs.Prelude.{◌≡◌, true, map, IfOk};
 ghost use Rattle.std.specs.List.{AllByRecursion};
 ghost use Rattle.wap_base.specs.Charsets.{is_text, characters_of};
-ghost use Rattle.wap_code.specs.Strings.{holds_text, is_string};
+ghost use Rattle.wap_unit.specs.Strings.{holds_text, is_string};
 ghost use Rattle.wap_verify.specs.Kept.{coded_text, IsReadable};
 
 use std::alloc::Global;
 use std::str;
 use wap_base::{Charset, NoMemory, Rows, Text};
-use wap_code::{Constant, Unit};
+use wap_unit::{Constant, Unit};
 
 fn holds_text(constant: &Constant) -> bool
     ensures { result ≡ holds_text constant.now }

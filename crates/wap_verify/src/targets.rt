@@ -6,7 +6,7 @@ ghost use Rattle.wap_verify.specs.inside.Work.{leads_to_mark, is_marked_step, Ma
 
 use crate::VerifyFault;
 use crate::step::{Step, Way, step_at};
-use wap_code::{Code, Unit};
+use wap_unit::{Code, Unit};
 
 /// Whether each jump leads to a place that is marked, or to the end.
 pub(crate) fn check_targets(

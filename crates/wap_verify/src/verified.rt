@@ -2,8 +2,8 @@
 ghost use Rattle.std.specs.Prelude.{◌≡◌, ◌≢◌, ◌<◌, Some, None, length, slice_get, IfOk, IfErr};
 ghost use Rattle.std.specs.Str.{chars};
 ghost use Rattle.std.specs.Option.{option_map, option_copied};
-ghost use Rattle.wap_code.specs.declared.unit.Code.{Code};
-ghost use Rattle.wap_code.specs.Strings.{string_at};
+ghost use Rattle.wap_unit.specs.declared.unit.Code.{Code};
+ghost use Rattle.wap_unit.specs.Strings.{string_at};
 ghost use Rattle.wap_unit.specs.Spelling.{HasSpelling};
 ghost use Rattle.wap_verify.specs.declared.fault.VerifyFault.TheVariants.{NoMemory};
 ghost use Rattle.wap_verify.specs.Sound.{IsVerified, IsRoom};
@@ -17,7 +17,7 @@ use crate::strings::texts;
 use std::alloc::Global;
 use std::marker::Model;
 use wap_base::{Charset, Rows, Text};
-use wap_code::{Constant, Unit};
+use wap_unit::{Constant, Unit};
 
 /// A unit that may be run. A contract sees the unit.
 #[derive(Debug, Drop)]
@@ -30,7 +30,7 @@ pub struct Verified {
 }
 
 impl Model for Verified {
-    ghost use Rattle.wap_code.specs.declared.unit.Unit.{Unit};
+    ghost use Rattle.wap_unit.specs.declared.unit.Unit.{Unit};
     ghost use Rattle.wap_verify.specs.Kept.{IsKept};
 
     ghost Value = { Unit };

@@ -1,6 +1,6 @@
 -- What the commands on a compiled unit write. This project's own.
 use Rattle.std.specs.Prelude.{◌≡◌, ℕ, List, length, ◌++◌, codes, decimal}
-use Rattle.wap_code.specs.declared.unit.Unit.{Unit}
+use Rattle.wap_unit.specs.declared.unit.Unit.{Unit}
 use Rattle.wap_unit.specs.Units.{IsUnit}
 use Rattle.wap_verify.specs.Sound.{IsVerified}
 use Rattle.wap_dis.specs.Listing.{listing}

@@ -9,8 +9,8 @@ ghost use Rattle.wap_pages.specs.declared.fault.PageFault.{PageFault};
 use itoa::Buffer;
 use std::alloc::Global;
 use wap_base::{Bytes, NoMemory};
-use wap_code::Unit;
 use wap_pages::{PageErr, verified_in};
+use wap_unit::Unit;
 
 /// The line of a page that is a unit which may be run.
 pub fn verify_line(alloc: Global, bytes: &[u8]) -> Result<Bytes, PageErr>

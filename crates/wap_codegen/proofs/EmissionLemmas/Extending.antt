@@ -3,7 +3,7 @@ use Rattle.std.proofs.Common.{◌≡◌, ℕ, ◌+◌, ◌<◌, ◌≢◌, List,
 use Rattle.std.proofs.Common.{Some, refl, sym, ap, ap₂, ◌∙◌, append_assoc, append-nil, arith, eqb}
 use Rattle.std.proofs.Common.{ne_eqb, cond}
 use Rattle.std.proofs.lemmas.List.{length_push, length-set, set_at, map-append}
-use Rattle.wap_code.specs.declared.row.OpName.{OpName}
+use Rattle.wap_unit.specs.declared.row.OpName.{OpName}
 use Rattle.wap_asm.specs.declared.form.Form.{Form}
 use Rattle.wap_asm.specs.declared.form.Form.TheVariants.{Jump}
 use Rattle.wap_meaning.specs.coding.Coded.{Exits, Coded, empty, one, ◌⨾◌, jump_over}

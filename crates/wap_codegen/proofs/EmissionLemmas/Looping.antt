@@ -5,7 +5,7 @@ use Rattle.std.proofs.Common.{append_assoc, true, get_or}
 use Rattle.std.proofs.lemmas.List.{length_push, length-append, length-map, map-append}
 use Rattle.std.proofs.lemmas.List.{drop_more, take_more, length-take-le, get_or_at, set_at}
 use Rattle.std.proofs.lemmas.List.{get_or_default}
-use Rattle.wap_code.specs.declared.row.OpName.TheVariants as op
+use Rattle.wap_unit.specs.declared.row.OpName.TheVariants as op
 use Rattle.wap_asm.specs.declared.form.Form.{Form}
 use Rattle.wap_asm.specs.declared.form.Form.TheVariants.{Jump, Label}
 use Rattle.wap_grammar.specs.declared.program.expression.Expr.{Expr}

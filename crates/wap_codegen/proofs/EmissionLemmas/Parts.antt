@@ -3,7 +3,7 @@ use Rattle.std.proofs.Common.{◌≡◌, ℕ, suc, Bool, true, false, List, [], 
 use Rattle.std.proofs.Common.{Option, Result, OnOk, refl, sym, ap, ◌∙◌, subst}
 use Rattle.wap_value.specs.declared.operator.BinOp.{BinOp}
 use Rattle.wap_value.specs.declared.operator.UnOp.{UnOp}
-use Rattle.wap_code.specs.declared.row.OpName.TheVariants as op
+use Rattle.wap_unit.specs.declared.row.OpName.TheVariants as op
 use Rattle.wap_asm.specs.declared.form.Form.{Form}
 use Rattle.wap_asm.specs.declared.form.Form.TheVariants.{Op}
 use Rattle.wap_grammar.specs.declared.program.program.Id.{Id}

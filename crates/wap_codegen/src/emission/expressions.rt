@@ -4,7 +4,7 @@ ghost use Rattle.wap_grammar.specs.declared.program.expression.Literal.TheVarian
 ghost use Rattle.wap_meaning.specs.coding.Coded.{all_code, one, instr, ◌⨾◌};
 ghost use Rattle.wap_asm.specs.declared.form.Form.TheVariants.{Op};
 ghost use Rattle.wap_meaning.specs.Names.{numbers_of};
-ghost use Rattle.wap_code.specs.declared.row.OpName.TheVariants as op;
+ghost use Rattle.wap_unit.specs.declared.row.OpName.TheVariants as op;
 ghost use Rattle.wap_meaning.specs.coding.Expressions.{expr_code, literal_code, unary_code};
 ghost use Rattle.wap_meaning.specs.coding.Expressions.{step_code};
 ghost use Rattle.wap_meaning.specs.coding.Expressions.{store_code, load_code};
@@ -18,8 +18,8 @@ use crate::pool::Numbering;
 use std::alloc::Global;
 use wap_asm::{Form, lib_named};
 use wap_base::{NoMemory, Text};
-use wap_code::OpName;
 use wap_grammar::program::{Expr, Id, Literal};
+use wap_unit::OpName;
 use wap_value::{BinOp, UnOp};
 
 /// Adds the code of a text.

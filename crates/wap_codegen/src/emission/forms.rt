@@ -8,7 +8,7 @@ ghost use Rattle.wap_codegen.specs.declared.emission.exits.TheConstants.{CONTINU
 use crate::emission::exits::CONTINUE;
 use wap_asm::Form;
 use wap_base::NoMemory;
-use wap_code::{Instr, OpName};
+use wap_unit::{Instr, OpName};
 
 /// A count as an operand or the number of a label, which have 32 bits: more things aren't in any
 /// memory.

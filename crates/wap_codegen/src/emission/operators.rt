@@ -4,7 +4,7 @@ ghost use Rattle.wap_meaning.specs.coding.Coded.{Coded};
 ghost use Rattle.wap_meaning.specs.coding.Expressions.{binary_name, joined_code, change_name};
 ghost use Rattle.wap_codegen.specs.emission.inside.Operands.{joint_code, truth_name};
 
-use wap_code::OpName;
+use wap_unit::OpName;
 use wap_value::BinOp;
 
 /// How an operator joins its operands.

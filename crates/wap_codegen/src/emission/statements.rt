@@ -24,8 +24,8 @@ use crate::pool::Numbering;
 use std::alloc::Global;
 use wap_asm::Form;
 use wap_base::NoMemory;
-use wap_code::OpName;
 use wap_grammar::program::{Expr, Function, Id, Stmt};
+use wap_unit::OpName;
 use wap_value::BinOp;
 
 /// Adds the code of the declaration of a variable.

@@ -7,7 +7,7 @@ ghost use Rattle.wap_codegen.specs.pool.inside.Contents.{literal_of};
 use crate::pool::content::Content;
 use std::alloc::Global;
 use wap_base::{NoMemory, Rows, Text};
-use wap_code::Constant;
+use wap_unit::Constant;
 
 /// An integer, in the smallest kind that has room for it.
 fn integer_constant(integer: i32) -> Constant

@@ -21,8 +21,8 @@ use indexmap::{IndexMap, IndexSet};
 use std::alloc::Global;
 use std::marker::Model;
 use wap_base::{NoMemory, Rows, Text};
-use wap_code::Constant;
 use wap_grammar::program::{Function, Id, Program};
+use wap_unit::Constant;
 
 /// What the names in a function mean, and the constants of its unit. A contract sees both.
 #[derive(Drop)]

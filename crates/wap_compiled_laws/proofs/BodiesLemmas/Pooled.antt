@@ -5,9 +5,9 @@ use Rattle.std.proofs.Common.{slice_get, option_and_then, option_map}
 use Rattle.std.specs.Cmp.{signed_Decides}
 use Rattle.std.specs.Cmp.Lexicographic.{bytes_decides}
 use Rattle.wap_value.specs.declared.value.Value.TheVariants.{Int}
-use Rattle.wap_code.specs.declared.unit.Unit.{Unit as CodeUnit}
-use Rattle.wap_code.specs.declared.unit.Constant.{Constant}
-use Rattle.wap_code.specs.Strings.{string_of, string_at}
+use Rattle.wap_unit.specs.declared.unit.Unit.{Unit as CodeUnit}
+use Rattle.wap_unit.specs.declared.unit.Constant.{Constant}
+use Rattle.wap_unit.specs.Strings.{string_of, string_at}
 use Rattle.wap_grammar.specs.declared.program.expression.Literal.{Literal}
 use Rattle.wap_execution.specs.Frames.{constant_of, constant_at}
 use Rattle.wap_meaning.specs.Expressions.{value_of}
@@ -122,9 +122,9 @@ integer_is : (charset : ℕ) (z : ℤ) → constant_of charset (integer_constant
 integer_is charset (pos n) = by (ltb n 128) (ltb n 32768)
   where
     by : (short medium : Bool) → constant_of charset (cond short
-        (Rattle.wap_code.specs.declared.unit.Constant.TheVariants.Int8 (pos n)) (cond medium
-        (Rattle.wap_code.specs.declared.unit.Constant.TheVariants.Int16 (pos n))
-        (Rattle.wap_code.specs.declared.unit.Constant.TheVariants.Int32 (pos n))))
+        (Rattle.wap_unit.specs.declared.unit.Constant.TheVariants.Int8 (pos n)) (cond medium
+        (Rattle.wap_unit.specs.declared.unit.Constant.TheVariants.Int16 (pos n))
+        (Rattle.wap_unit.specs.declared.unit.Constant.TheVariants.Int32 (pos n))))
         ≡ Some (Int (pos n))
     by true medium = refl
     by false true = refl
@@ -132,9 +132,9 @@ integer_is charset (pos n) = by (ltb n 128) (ltb n 32768)
 integer_is charset (negsuc n) = by (ltb n 128) (ltb n 32768)
   where
     by : (short medium : Bool) → constant_of charset (cond short
-        (Rattle.wap_code.specs.declared.unit.Constant.TheVariants.Int8 (negsuc n)) (cond medium
-        (Rattle.wap_code.specs.declared.unit.Constant.TheVariants.Int16 (negsuc n))
-        (Rattle.wap_code.specs.declared.unit.Constant.TheVariants.Int32 (negsuc n))))
+        (Rattle.wap_unit.specs.declared.unit.Constant.TheVariants.Int8 (negsuc n)) (cond medium
+        (Rattle.wap_unit.specs.declared.unit.Constant.TheVariants.Int16 (negsuc n))
+        (Rattle.wap_unit.specs.declared.unit.Constant.TheVariants.Int32 (negsuc n))))
         ≡ Some (Int (negsuc n))
     by true medium = refl
     by false true = refl

@@ -15,7 +15,7 @@ use Rattle.wap_meaning.specs.coding.Statements.{stmt_code, stmt_code_by, effect_
 use Rattle.wap_meaning.specs.coding.Statements.{writes_by}
 use Rattle.wap_meaning.specs.coding.Statements.{dropped_code}
 use Rattle.wap_value.specs.declared.operator.BinOp.TheVariants as bin
-use Rattle.wap_code.specs.declared.row.OpName.TheVariants as op
+use Rattle.wap_unit.specs.declared.row.OpName.TheVariants as op
 use Rattle.wap_grammar.specs.declared.program.expression.Literal.TheVariants as literal
 
 -- the variable

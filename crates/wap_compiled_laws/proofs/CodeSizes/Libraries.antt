@@ -6,7 +6,7 @@ use Rattle.std.specs.List.{list_all}
 use Rattle.std.specs.Map.{lookup}
 use Rattle.std.specs.Option.{option_map_or}
 use Rattle.std.proofs.lemmas.Bool.{and_parts, ltb-true, eqb-true}
-use Rattle.wap_code.specs.Libraries.{library, by_name, lib_args, lib_named, is_named}
+use Rattle.wap_unit.specs.Libraries.{library, by_name, lib_args, lib_named, is_named}
 
 -- a row of the table is found by its numbers, and these have room
 check : ℕ × ℕ × ℕ × List ℕ × List ℕ → Bool

@@ -4,8 +4,8 @@ use Rattle.std.proofs.Common.{Option, Some, None, refl, sym, ap, ◌∙◌, subs
 use Rattle.std.specs.Prelude.{if◌then◌else◌}
 use Rattle.std.specs.List.{flat_map}
 use Rattle.wap_value.specs.declared.operator.BinOp.{BinOp}
-use Rattle.wap_code.specs.declared.unit.Unit.{Unit as CodeUnit}
-use Rattle.wap_code.specs.declared.row.OpName.{OpName}
+use Rattle.wap_unit.specs.declared.unit.Unit.{Unit as CodeUnit}
+use Rattle.wap_unit.specs.declared.row.OpName.{OpName}
 use Rattle.wap_grammar.specs.declared.program.program.Id.{Id}
 use Rattle.wap_grammar.specs.declared.program.expression.Expr.{Expr, roll-Expr, out-Expr}
 use Rattle.wap_grammar.specs.declared.program.expression.Expr.{roll-out-Expr}
@@ -37,7 +37,7 @@ use Rattle.wap_compiled_laws.proofs.Depths.Trees.{Goes, Met, met_front, met_back
 use Rattle.wap_compiled_laws.proofs.Depths.Trees.{takes_one}
 use Rattle.wap_compiled_laws.proofs.Depths.Trees.{store_takes, gives_one, stays}
 use Rattle.wap_value.specs.declared.operator.BinOp.TheVariants as bin
-use Rattle.wap_code.specs.declared.row.OpName.TheVariants as op
+use Rattle.wap_unit.specs.declared.row.OpName.TheVariants as op
 
 module _ (unit : CodeUnit) (numbers : Numbers) (forms : List Form) where
   -- from no operands to none

@@ -46,7 +46,7 @@ use Rattle.wap_compiled_laws.proofs.Expressions.Agreeing.{step_agrees}
 use Rattle.wap_meaning.proofs.Steps.{give_keeps, kept_keeps}
 use Rattle.wap_value.specs.declared.operator.UnOp.TheVariants as un
 use Rattle.wap_value.specs.declared.operator.BinOp.TheVariants as bin
-use Rattle.wap_code.specs.declared.row.OpName.TheVariants as op
+use Rattle.wap_unit.specs.declared.row.OpName.TheVariants as op
 use Rattle.wap_grammar.specs.declared.program.expression.Literal.TheVariants as literal
 
 module _ {S : Type 0} (site : Site S) (numbers : Numbers) where

@@ -5,9 +5,9 @@ use Rattle.std.proofs.Common.{◌≡◌, ℕ, ◌+◌, ◌-◌, ◌<◌, ◌≤�
 use Rattle.std.proofs.Common.{[], ◌∷◌, Option, Some, None, refl, sym, ap, ◌∙◌, subst, arith}
 use Rattle.std.proofs.Common.{slice_get, inl, inr, le_trans}
 use Rattle.std.proofs.lemmas.Bool.Decides.{leb_tells}
-use Rattle.wap_code.specs.declared.row.OpName.{OpName}
-use Rattle.wap_code.specs.declared.row.OpName.TheVariants as op
-use Rattle.wap_code.specs.declared.instr.Instr.{Instr}
+use Rattle.wap_unit.specs.declared.row.OpName.{OpName}
+use Rattle.wap_unit.specs.declared.row.OpName.TheVariants as op
+use Rattle.wap_unit.specs.declared.instr.Instr.{Instr}
 use Rattle.wap_asm.specs.Spellings.{operation_of}
 use Rattle.wap_asm.specs.declared.form.Form.{Form}
 use Rattle.wap_asm.specs.declared.form.Form.TheVariants.{Op, Jump, Label}

@@ -1,7 +1,7 @@
 -- An operation does the same by each of its spellings.
 use Rattle.std.proofs.Common.{◌≡◌, refl}
-use Rattle.wap_code.specs.declared.row.OpName.{OpName}
-use Rattle.wap_code.specs.declared.row.OpName.TheVariants as op
+use Rattle.wap_unit.specs.declared.row.OpName.{OpName}
+use Rattle.wap_unit.specs.declared.row.OpName.TheVariants as op
 use Rattle.wap_asm.specs.Spellings.{operation_of}
 use Rattle.wap_execution.specs.Actions.{action_of}
 

@@ -8,7 +8,7 @@ use Rattle.wap_value.specs.declared.operator.BinOp.{BinOp}
 use Rattle.wap_value.specs.Unary.{unary_of}
 use Rattle.wap_value.specs.Binary.{binary_of}
 use Rattle.wap_value.specs.TooLong.{kept_within}
-use Rattle.wap_code.specs.declared.row.OpName.{OpName}
+use Rattle.wap_unit.specs.declared.row.OpName.{OpName}
 use Rattle.wap_execution.specs.declared.action.Action.TheVariants.{Unary, Binary}
 use Rattle.wap_execution.specs.Actions.{action_of}
 use Rattle.wap_execution.specs.Effects.{Effect, onward, with_value, with_kept, stored, effect_of}
@@ -19,7 +19,7 @@ use Rattle.wap_meaning.specs.Parts.{gave, over, Does, done, give, given, load, s
 use Rattle.wap_meaning.specs.coding.Coded.{Coded, plain, with_operand}
 use Rattle.wap_compiled_laws.proofs.Pieces.Standing.{at}
 use Rattle.wap_compiled_laws.proofs.Pieces.Pieces.{Site, settle, onto, Piece, op_piece}
-use Rattle.wap_code.specs.declared.row.OpName.TheVariants as op
+use Rattle.wap_unit.specs.declared.row.OpName.TheVariants as op
 
 -- operands as they are
 abbrev pub as_is : List Value → List Value

@@ -3,7 +3,7 @@ use Rattle.std.proofs.Common.{◌≡◌, ℕ, ◌+◌, ◌-◌, ◌<◌, Bool, t
 use Rattle.std.proofs.Common.{ap, ◌∙◌, subst, arith, slice_get, le-ltb}
 use Rattle.std.specs.Prelude.{if◌then◌else◌}
 use Rattle.wap_value.specs.declared.value.Value.{Value}
-use Rattle.wap_code.specs.declared.row.OpName.{OpName}
+use Rattle.wap_unit.specs.declared.row.OpName.{OpName}
 use Rattle.wap_execution.specs.Frames.{code_of}
 use Rattle.wap_execution.specs.Effects.{onward, jumps_at, effect_of}
 use Rattle.wap_execution.specs.Outcomes.{Ended}
@@ -18,7 +18,7 @@ use Rattle.wap_compiled_laws.proofs.Pieces.Pieces.{front, behind, Sized, Site, s
 use Rattle.wap_compiled_laws.proofs.Pieces.Pieces.{onto, Piece}
 use Rattle.wap_compiled_laws.proofs.Pieces.Pieces.{stands_here, nearer}
 use Rattle.wap_compiled_laws.proofs.Pieces.Instructions.{as_is, pushed}
-use Rattle.wap_code.specs.declared.row.OpName.TheVariants as op
+use Rattle.wap_unit.specs.declared.row.OpName.TheVariants as op
 
 -- the code after a condition: a jump to what is done where it doesn't hold
 abbrev pub branches : Coded → Coded → Coded

@@ -12,10 +12,10 @@ use Rattle.wap_value.specs.declared.operator.UnOp.{UnOp}
 use Rattle.wap_value.specs.declared.operator.BinOp.{BinOp}
 use Rattle.wap_value.specs.Unary.{unary_of}
 use Rattle.wap_value.specs.Binary.{binary_of}
-use Rattle.wap_code.specs.declared.unit.Code.{Code}
-use Rattle.wap_code.specs.declared.row.OpName.{OpName}
-use Rattle.wap_code.specs.Libraries.{lib_args}
-use Rattle.wap_code.specs.Strings.{string_at}
+use Rattle.wap_unit.specs.declared.unit.Code.{Code}
+use Rattle.wap_unit.specs.declared.row.OpName.{OpName}
+use Rattle.wap_unit.specs.Libraries.{lib_args}
+use Rattle.wap_unit.specs.Strings.{string_at}
 use Rattle.wap_execution.specs.declared.action.Action.TheVariants.{ChangeVariable, Binary}
 use Rattle.wap_execution.specs.Actions.{action_of}
 use Rattle.wap_execution.specs.Effects.{local, library, external, Effect, calls, with_arguments}
@@ -38,7 +38,7 @@ use Rattle.wap_compiled_laws.proofs.Pieces.Instructions.{as_is, pushed, nothing,
 use Rattle.wap_compiled_laws.proofs.Pieces.Instructions.{store_piece}
 use Rattle.wap_compiled_laws.proofs.Pieces.Instructions.{value_settles, stored_settles}
 use Rattle.wap_compiled_laws.proofs.Pieces.Instructions.{binary_piece}
-use Rattle.wap_code.specs.declared.row.OpName.TheVariants as op
+use Rattle.wap_unit.specs.declared.row.OpName.TheVariants as op
 
 -- the arguments of a call, the last of them on top
 abbrev pub popped : List Value → List Value → List Value

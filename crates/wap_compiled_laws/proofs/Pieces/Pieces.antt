@@ -5,11 +5,11 @@ use Rattle.std.proofs.Common.{List, [], ◌∷◌, ◌++◌, length, Some, None,
 use Rattle.std.proofs.Common.{append_assoc, subst, arith, length-append, slice_get, le_trans}
 use Rattle.std.proofs.lemmas.Bool.{ltb-false}
 use Rattle.wap_value.specs.declared.value.Value.{Value}
-use Rattle.wap_code.specs.declared.row.OpName.{OpName}
-use Rattle.wap_code.specs.declared.row.Row.{Row}
-use Rattle.wap_code.specs.declared.instr.Instr.{Instr}
-use Rattle.wap_code.specs.declared.instr.InstrFault.TheVariants.{Operand}
-use Rattle.wap_code.specs.Instructions.{size, read, read_row}
+use Rattle.wap_unit.specs.declared.row.OpName.{OpName}
+use Rattle.wap_unit.specs.declared.row.Row.{Row}
+use Rattle.wap_unit.specs.declared.instr.Instr.{Instr}
+use Rattle.wap_unit.specs.declared.instr.InstrFault.TheVariants.{Operand}
+use Rattle.wap_unit.specs.Instructions.{size, read, read_row}
 use Rattle.wap_asm.specs.Spellings.{operation_of}
 use Rattle.wap_execution.specs.Actions.{action_of}
 use Rattle.wap_execution.specs.declared.action.Action.{Action}

@@ -7,9 +7,9 @@ use Rattle.wap_value.specs.declared.value.Value.TheVariants.{Bool as Boolean, In
 use Rattle.wap_value.specs.declared.operator.UnOp.TheVariants.{ToBool}
 use Rattle.wap_value.specs.Conversion.{boolean_of}
 use Rattle.wap_value.specs.Unary.{unary_of}
-use Rattle.wap_code.specs.declared.row.OpName.{OpName}
-use Rattle.wap_code.specs.declared.instr.Instr.{Instr}
-use Rattle.wap_code.specs.Instructions.{row_of, read_row}
+use Rattle.wap_unit.specs.declared.row.OpName.{OpName}
+use Rattle.wap_unit.specs.declared.instr.Instr.{Instr}
+use Rattle.wap_unit.specs.Instructions.{row_of, read_row}
 use Rattle.wap_execution.specs.declared.action.Action.TheVariants.{ShortCircuit}
 use Rattle.wap_asm.specs.Spellings.{operation_of}
 use Rattle.wap_execution.specs.Actions.{action_of}
@@ -35,7 +35,7 @@ use Rattle.wap_compiled_laws.proofs.Pieces.Pieces.{both, op_here, Reaches, neare
 use Rattle.wap_compiled_laws.proofs.Pieces.Instructions.{as_is, pushed, unary_piece}
 use Rattle.wap_compiled_laws.proofs.Pieces.Jumps.{HasLabel, HasJump, label_here, Shifts}
 use Rattle.wap_compiled_laws.proofs.Pieces.Jumps.{onto_shifts}
-use Rattle.wap_code.specs.declared.row.OpName.TheVariants as op
+use Rattle.wap_unit.specs.declared.row.OpName.TheVariants as op
 
 -- a short-circuit with the jump behind it
 pub pair_reads : (frame : Frame) (by : Bool) (place : ℕ) (jump : Instr)

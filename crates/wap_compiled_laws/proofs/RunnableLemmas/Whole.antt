@@ -3,8 +3,8 @@
 use Rattle.std.proofs.Common.{◌≡◌, ℕ, zero, suc, ◌+◌, List, [], ◌∷◌, length, None, Some}
 use Rattle.std.proofs.Common.{refl, sym, ap, ◌∙◌, subst, arith, slice_get}
 use Rattle.std.proofs.lemmas.Option.{slice_get_within}
-use Rattle.wap_code.specs.declared.unit.Unit.{Unit as CodeUnit}
-use Rattle.wap_code.specs.declared.unit.Code.{Code}
+use Rattle.wap_unit.specs.declared.unit.Unit.{Unit as CodeUnit}
+use Rattle.wap_unit.specs.declared.unit.Code.{Code}
 use Rattle.wap_asm.specs.declared.form.Form.{Form}
 use Rattle.wap_asm.specs.declared.form.Form.TheVariants.{Op, Jump, Label}
 use Rattle.wap_grammar.specs.declared.program.expression.Literal.{Literal}
@@ -13,7 +13,7 @@ use Rattle.wap_grammar.specs.declared.program.program.Program.{Program}
 use Rattle.wap_meaning.specs.coding.Coded.{Coded}
 use Rattle.wap_meaning.specs.coding.Compiled.{function_code, numbers_in, IsCodeOf}
 use Rattle.wap_compiled_laws.proofs.Pieces.Pieces.{Holds, holds_all}
-use Rattle.wap_code.specs.declared.instr.Instr.{Instr}
+use Rattle.wap_unit.specs.declared.instr.Instr.{Instr}
 use Rattle.wap_compiled_laws.proofs.Depths.Flow.{Flow, flow_of}
 use Rattle.wap_compiled_laws.proofs.Depths.Shapes.{Depth, Same, AllFine}
 use Rattle.wap_compiled_laws.proofs.Depths.Bodies.{all_rest}

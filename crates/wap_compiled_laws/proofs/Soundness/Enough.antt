@@ -3,12 +3,12 @@ use Rattle.std.proofs.Common.{◌≡◌, ℕ, suc, ◌+◌, ◌<◌, ◌≤◌, 
 use Rattle.std.proofs.Common.{Some, None, Ok, refl, sym, ap, ◌∙◌, subst, arith, slice_get, inl, inr}
 use Rattle.std.proofs.lemmas.Option.{slice_get-get_or}
 use Rattle.std.proofs.lemmas.Bool.Decides.{eqb_tells}
-use Rattle.wap_code.specs.declared.unit.Unit.{Unit as CodeUnit}
-use Rattle.wap_code.specs.declared.unit.Code.{Code}
-use Rattle.wap_code.specs.declared.row.OpName.{OpName}
-use Rattle.wap_code.specs.declared.row.After.TheVariants.{On, Forward, Backward, ForwardOrOn, Leave}
-use Rattle.wap_code.specs.declared.row.Row.{Row}
-use Rattle.wap_code.specs.declared.instr.Instr.{Instr}
+use Rattle.wap_unit.specs.declared.unit.Unit.{Unit as CodeUnit}
+use Rattle.wap_unit.specs.declared.unit.Code.{Code}
+use Rattle.wap_unit.specs.declared.row.OpName.{OpName}
+use Rattle.wap_unit.specs.declared.row.After.TheVariants.{On, Forward, Backward, ForwardOrOn, Leave}
+use Rattle.wap_unit.specs.declared.row.Row.{Row}
+use Rattle.wap_unit.specs.declared.instr.Instr.{Instr}
 use Rattle.wap_verify.specs.declared.step.Step.{Step}
 use Rattle.wap_verify.specs.Steps.{step_of, pair, step_at}
 use Rattle.wap_verify.specs.Paths.{Stand, Reaches}
@@ -23,7 +23,7 @@ use Rattle.wap_compiled_laws.proofs.Soundness.Spelled.{IsWired}
 use Rattle.wap_compiled_laws.proofs.Soundness.Reached.{says_of, flow_same, Stands_at, op_fits}
 use Rattle.wap_compiled_laws.proofs.Soundness.Reached.{jump_fits}
 use Rattle.wap_compiled_laws.proofs.Soundness.Reached.{path_stands}
-use Rattle.wap_code.specs.declared.row.OpName.TheVariants as op
+use Rattle.wap_unit.specs.declared.row.OpName.TheVariants as op
 
 module _ (unit : CodeUnit) (index : ℕ) (function : Code) (forms : List Form) (pos : ℕ → ℕ)
     (placed : IsPlaced function.code forms pos) (wired : IsWired forms) (d : ℕ → ℕ)

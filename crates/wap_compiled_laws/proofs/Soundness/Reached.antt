@@ -4,13 +4,13 @@ use Rattle.std.proofs.Common.{List, [], ◌∷◌, length, Option, Some, None, O
 use Rattle.std.proofs.Common.{ap, ◌∙◌, subst, arith, slice_get, inl, inr}
 use Rattle.std.proofs.Common.{true≢false}
 use Rattle.std.proofs.lemmas.Option.{slice_get-get_or, slice_get_within}
-use Rattle.wap_code.specs.declared.unit.Unit.{Unit as CodeUnit}
-use Rattle.wap_code.specs.declared.unit.Code.{Code}
-use Rattle.wap_code.specs.declared.row.OpName.{OpName}
-use Rattle.wap_code.specs.declared.row.After.TheVariants.{On, Forward, Backward, ForwardOrOn, Leave}
+use Rattle.wap_unit.specs.declared.unit.Unit.{Unit as CodeUnit}
+use Rattle.wap_unit.specs.declared.unit.Code.{Code}
+use Rattle.wap_unit.specs.declared.row.OpName.{OpName}
+use Rattle.wap_unit.specs.declared.row.After.TheVariants.{On, Forward, Backward, ForwardOrOn, Leave}
 use Rattle.std.proofs.lemmas.Bool.Decides.{eqb_tells}
-use Rattle.wap_code.specs.declared.row.Row.{Row}
-use Rattle.wap_code.specs.declared.instr.Instr.{Instr}
+use Rattle.wap_unit.specs.declared.row.Row.{Row}
+use Rattle.wap_unit.specs.declared.instr.Instr.{Instr}
 use Rattle.wap_verify.specs.declared.step.Step.{Step}
 use Rattle.wap_verify.specs.declared.step.Way.{Way}
 use Rattle.wap_verify.specs.Steps.{step_of, pair, step_at}
@@ -24,7 +24,7 @@ use Rattle.wap_compiled_laws.proofs.Depths.Shapes.{FineAt, fine, joined, AllFine
 use Rattle.wap_compiled_laws.proofs.Depths.Shapes.{FormFine}
 use Rattle.wap_compiled_laws.proofs.Soundness.Table.{Says, IsAs}
 use Rattle.wap_compiled_laws.proofs.Soundness.Stepping.{op_step, leave_step, jump_step, pair_step}
-use Rattle.wap_code.specs.declared.row.OpName.TheVariants as op
+use Rattle.wap_unit.specs.declared.row.OpName.TheVariants as op
 
 -- a row of an operation that is no jump is as its flow says
 pub says_of : (unit : CodeUnit) (row : Row) (name : OpName) (instr : Instr) → is_jump name ≡ false

@@ -4,14 +4,14 @@ use Rattle.std.proofs.Common.{List, length, Option, Some, None, Result, Ok, Err,
 use Rattle.std.proofs.Common.{ap, ◌∙◌, subst, arith, slice_get, inl, inr, cond, ltb, le_trans}
 use Rattle.std.proofs.lemmas.Option.{slice_get-get_or}
 use Rattle.std.proofs.lemmas.Bool.Decides.{eqb_tells, leb_tells}
-use Rattle.wap_code.specs.declared.unit.Unit.{Unit as CodeUnit}
-use Rattle.wap_code.specs.declared.unit.Code.{Code}
-use Rattle.wap_code.specs.declared.row.OpName.{OpName}
-use Rattle.wap_code.specs.declared.row.Row.{Row}
-use Rattle.wap_code.specs.declared.instr.Instr.{Instr}
-use Rattle.wap_code.specs.declared.instr.InstrFault.{InstrFault}
-use Rattle.wap_code.specs.declared.instr.InstrFault.TheVariants.{Operand}
-use Rattle.wap_code.specs.Instructions.{size, read, read_row}
+use Rattle.wap_unit.specs.declared.unit.Unit.{Unit as CodeUnit}
+use Rattle.wap_unit.specs.declared.unit.Code.{Code}
+use Rattle.wap_unit.specs.declared.row.OpName.{OpName}
+use Rattle.wap_unit.specs.declared.row.Row.{Row}
+use Rattle.wap_unit.specs.declared.instr.Instr.{Instr}
+use Rattle.wap_unit.specs.declared.instr.InstrFault.{InstrFault}
+use Rattle.wap_unit.specs.declared.instr.InstrFault.TheVariants.{Operand}
+use Rattle.wap_unit.specs.Instructions.{size, read, read_row}
 use Rattle.wap_verify.specs.Paths.{Stand, Reaches}
 use Rattle.wap_asm.specs.declared.form.Form.{Form}
 use Rattle.wap_asm.specs.declared.form.Form.TheVariants.{Op, Jump, Label}

@@ -12,8 +12,8 @@ use Rattle.std.proofs.lemmas.List.{length-map}
 use Rattle.std.proofs.lemmas.List.Elements.{recursion_from_All}
 use Rattle.std.proofs.lemmas.List.Sums.{sum_by-cons}
 use Rattle.wap_base.specs.Numbers.{IsMb, mb_spelling}
-use Rattle.wap_code.specs.declared.unit.Pragma.{Pragma}
-use Rattle.wap_code.specs.declared.unit.Pragma.TheVariants as pragma
+use Rattle.wap_unit.specs.declared.unit.Pragma.{Pragma}
+use Rattle.wap_unit.specs.declared.unit.Pragma.TheVariants as pragma
 use Rattle.wap_asm.specs.Placing.{wide}
 use Rattle.wap_asm.proofs.PlacedLaws.{no_longer}
 use Rattle.wap_grammar.specs.declared.program.program.Use.{Use}

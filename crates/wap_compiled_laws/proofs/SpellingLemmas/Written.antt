@@ -18,11 +18,11 @@ use Rattle.std.proofs.lemmas.Nat.{from_be_bytes-to_be_bytes_2, from_be_bytes-to_
 use Rattle.std.proofs.lemmas.Str.{is_utf8-from_IsUtf8, chars-encodes}
 use Rattle.wap_base.specs.Numbers.{IsMb, carried, mb_spelling}
 use Rattle.wap_base.proofs.NumberSpelling.{IsShortest-mb_spelling}
-use Rattle.wap_code.specs.declared.unit.Constant.{Constant}
-use Rattle.wap_code.specs.declared.unit.Constant.TheVariants.{Int8, Int16, Int32}
-use Rattle.wap_code.specs.declared.unit.Pragma.{Pragma}
-use Rattle.wap_code.specs.declared.unit.Pragma.TheVariants.{Domain, Path, Property, Scheme}
-use Rattle.wap_code.specs.declared.unit.Code.{Code}
+use Rattle.wap_unit.specs.declared.unit.Constant.{Constant}
+use Rattle.wap_unit.specs.declared.unit.Constant.TheVariants.{Int8, Int16, Int32}
+use Rattle.wap_unit.specs.declared.unit.Pragma.{Pragma}
+use Rattle.wap_unit.specs.declared.unit.Pragma.TheVariants.{Domain, Path, Property, Scheme}
+use Rattle.wap_unit.specs.declared.unit.Code.{Code}
 use Rattle.wap_unit.specs.declared.kind.TheConstants.{INT8, INT16, INT32}
 use Rattle.wap_unit.specs.declared.kind.TheConstants.{DOMAIN, PATH, PROPERTY, SCHEME}
 use Rattle.wap_grammar.specs.declared.program.expression.Literal.{Literal}

@@ -16,7 +16,7 @@ use Rattle.wap_value.specs.Conversion.{boolean_of}
 use Rattle.wap_value.specs.Unary.{unary_of}
 use Rattle.wap_value.specs.Binary.{binary_of}
 use Rattle.wap_value.specs.TooLong.{kept_within}
-use Rattle.wap_code.specs.declared.row.OpName.{OpName}
+use Rattle.wap_unit.specs.declared.row.OpName.{OpName}
 use Rattle.wap_grammar.specs.declared.program.expression.Expr.{Expr, roll-Expr, map-Expr}
 use Rattle.wap_grammar.specs.declared.program.expression.Expr.TheOpen.{Expr-F}
 use Rattle.wap_grammar.specs.declared.program.expression.Expr.TheFolds.{fold-roll-Expr, ind-Expr}

@@ -24,7 +24,7 @@ use Rattle.wap_compiled_laws.proofs.Pieces.Jumps.{back_here, chosen}
 use Rattle.wap_compiled_laws.proofs.Expressions.Agreeing.{Agrees, choice_keeps}
 use Rattle.wap_meaning.proofs.Steps.{give_keeps, turn_keeps}
 use Rattle.wap_compiled_laws.proofs.Statements.Statements.{leaves, leaves_shifts, Runs}
-use Rattle.wap_code.specs.declared.row.OpName.TheVariants as op
+use Rattle.wap_unit.specs.declared.row.OpName.TheVariants as op
 
 module _ {S : Type 0} (site : Site S) where
   -- ---- one branch

@@ -10,7 +10,7 @@ use Rattle.wap_grammar.specs.declared.program.expression.Expr.{roll-out-Expr}
 use Rattle.wap_grammar.specs.declared.program.expression.Expr.TheOpen.{Expr-F}
 use Rattle.wap_grammar.specs.declared.program.expression.Expr.TheFolds.{fold-roll-Expr}
 use Rattle.wap_value.specs.declared.operator.BinOp.{BinOp}
-use Rattle.wap_code.specs.declared.row.OpName.{OpName}
+use Rattle.wap_unit.specs.declared.row.OpName.{OpName}
 use Rattle.wap_execution.specs.declared.action.Action.TheVariants.{AssignVariable}
 use Rattle.wap_execution.specs.Actions.{action_of}
 use Rattle.wap_meaning.specs.coding.Needs.{Variable, Operator, expr_needs_by, Need, expr_needs}
@@ -50,7 +50,7 @@ use Rattle.wap_compiled_laws.proofs.Expressions.Expressions.{around, Met, met_fr
 use Rattle.wap_compiled_laws.proofs.Expressions.Expressions.{agrees}
 use Rattle.wap_compiled_laws.proofs.Statements.Loops.{branch_runs, Tests, no_test, one_test}
 use Rattle.wap_compiled_laws.proofs.Statements.Loops.{Updates, loop_runs}
-use Rattle.wap_code.specs.declared.row.OpName.TheVariants as op
+use Rattle.wap_unit.specs.declared.row.OpName.TheVariants as op
 use Rattle.wap_value.specs.declared.operator.BinOp.TheVariants as bin
 
 module _ {S : Type 0} (site : Site S) (numbers : Numbers)

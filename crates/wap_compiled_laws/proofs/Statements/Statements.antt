@@ -7,7 +7,7 @@ use Rattle.wap_value.specs.declared.value.Value.TheVariants.{Str}
 use Rattle.wap_value.specs.declared.operator.UnOp.{UnOp}
 use Rattle.wap_value.specs.declared.operator.UnOp.TheVariants as un
 use Rattle.wap_value.specs.Unary.{unary_of}
-use Rattle.wap_code.specs.declared.row.OpName.{OpName}
+use Rattle.wap_unit.specs.declared.row.OpName.{OpName}
 use Rattle.wap_execution.specs.declared.action.Action.TheVariants.{ChangeVariable}
 use Rattle.wap_execution.specs.Actions.{action_of}
 use Rattle.wap_execution.specs.Effects.{jumps_at, effect_of}
@@ -33,7 +33,7 @@ use Rattle.wap_compiled_laws.proofs.Pieces.Jumps.{HasLabel, jump_here, Shifts, b
 use Rattle.wap_compiled_laws.proofs.Pieces.Jumps.{branches_piece}
 use Rattle.wap_compiled_laws.proofs.Expressions.Agreeing.{Agrees, choice_keeps, sized_branches}
 use Rattle.wap_meaning.proofs.Steps.{give_keeps, load_keeps, store_keeps}
-use Rattle.wap_code.specs.declared.row.OpName.TheVariants as op
+use Rattle.wap_unit.specs.declared.row.OpName.TheVariants as op
 
 module _ {S : Type 0} (site : Site S) where
   -- where it goes on at an exit

@@ -8,7 +8,7 @@ use Rattle.wap_value.specs.declared.value.Value.TheVariants.{Int, Bool as Boolea
 use Rattle.wap_value.specs.declared.fault.ValueFault.TheVariants.{TooLong}
 use Rattle.wap_libs.specs.declared.outcome.LibOut.TheVariants as lib
 use Rattle.wap_libs.specs.Generator.{Generator}
-use Rattle.wap_code.specs.Libraries.{lib_args}
+use Rattle.wap_unit.specs.Libraries.{lib_args}
 use Rattle.wap_libs.proofs.LawsLemmas.Tables.{handed}
 use Rattle.wap_libs.specs.Libraries.{function_at, row_of, IsPure}
 use Rattle.wap_libs.specs.Outcome.{outcome, generator_after, limited}

@@ -4,7 +4,7 @@ use Rattle.std.specs.Prelude.{ℕ, List, Some, nat_eq, codes, if◌then◌else�
 use Rattle.std.specs.List.{ends_with}
 use Rattle.wap_url.specs.declared.url.Url.{Url}
 use Rattle.wap_url.specs.Printing.{without_fragment, name_for}
-use Rattle.wap_code.specs.declared.unit.Unit.{Unit}
+use Rattle.wap_unit.specs.declared.unit.Unit.{Unit}
 use Rattle.wap_execution.specs.declared.fatal.Fatal.TheVariants as fatal
 use Rattle.wap_execution.specs.declared.found.Found.{Found}
 use Rattle.wap_execution.specs.declared.found.Found.TheVariants.{Not}

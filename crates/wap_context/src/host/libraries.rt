@@ -1,7 +1,7 @@
 //! Functions of libraries by their numbers (WAP-194).
 ghost use Rattle.std.specs.Prelude.{◌≡◌, ◌≢◌, Some, length, IfOk};
 ghost use Rattle.std.specs.Option.{option_copied};
-ghost use Rattle.wap_code.specs.Libraries.{lib_args};
+ghost use Rattle.wap_unit.specs.Libraries.{lib_args};
 ghost use Rattle.wap_machine.specs.Hosts.{IsNoBudget};
 ghost use Rattle.wap_world.specs.Shelves.{Shelf};
 ghost use Rattle.wap_world.specs.scripting.Hosting.{pure_call, url_call, library_call, kept};

@@ -1,14 +1,14 @@
 //! What a browser asks of a unit: who may call it, and its external functions (WAP-193, section 9).
 ghost use Rattle.std.specs.Prelude.{◌≡◌, Some, IfOk, option_and_then};
-ghost use Rattle.wap_code.specs.Strings.{string_at};
+ghost use Rattle.wap_unit.specs.Strings.{string_at};
 ghost use Rattle.wap_world.specs.scripting.Units.{domain_in, path_in, entrance_in};
 ghost use Rattle.wap_world.specs.scripting.Units.{external_in};
 
 use std::alloc::Global;
 use std::marker::Model;
 use wap_base::{NoMemory, Text};
-use wap_code::Pragma;
 use wap_state::requests::Entrance;
+use wap_unit::Pragma;
 use wap_verify::Verified;
 
 /// An external function of a unit.

@@ -5,7 +5,7 @@ use Rattle.std.proofs.lemmas.Bool.{eq-eqb}
 use Rattle.wap_base.specs.declared.limits.TheConstants.{MOST_DEPTH}
 use Rattle.wap_value.specs.declared.value.Value.{Value}
 use Rattle.wap_value.specs.declared.value.Value.TheVariants.{Str}
-use Rattle.wap_code.specs.declared.unit.Code.{Code}
+use Rattle.wap_unit.specs.declared.unit.Code.{Code}
 use Rattle.wap_execution.specs.declared.fatal.Fatal.{Fatal}
 use Rattle.wap_execution.specs.declared.fatal.Fatal.TheVariants.{Budget}
 use Rattle.wap_execution.specs.Frames.{Function, Frame, code_at, code_of, begun, pushed}

@@ -8,12 +8,12 @@ use Rattle.wap_value.specs.declared.fault.ValueFault.{ValueFault}
 use Rattle.wap_value.specs.Conversion.{boolean_of}
 use Rattle.wap_value.specs.Binary.{binary_of}
 use Rattle.wap_value.specs.TooLong.{kept_within}
-use Rattle.wap_code.specs.declared.row.Row.{Row}
-use Rattle.wap_code.specs.declared.instr.Instr.{Instr}
-use Rattle.wap_code.specs.declared.instr.InstrFault.TheVariants.{Operand}
-use Rattle.wap_code.specs.Instructions.{size, row_of, read, read_row}
-use Rattle.wap_code.specs.Libraries.{lib_args}
-use Rattle.wap_code.specs.Strings.{string_at}
+use Rattle.wap_unit.specs.declared.row.Row.{Row}
+use Rattle.wap_unit.specs.declared.instr.Instr.{Instr}
+use Rattle.wap_unit.specs.declared.instr.InstrFault.TheVariants.{Operand}
+use Rattle.wap_unit.specs.Instructions.{size, row_of, read, read_row}
+use Rattle.wap_unit.specs.Libraries.{lib_args}
+use Rattle.wap_unit.specs.Strings.{string_at}
 use Rattle.wap_execution.specs.declared.action.Action.{Action}
 use Rattle.wap_execution.specs.declared.action.Action.TheVariants.{
   Jump,

@@ -7,7 +7,7 @@ use Rattle.std.specs.List.{flat_map, list_all}
 use Rattle.std.specs.Map.{lookup}
 use Rattle.std.proofs.lemmas.Bool.{and_parts, eqb-true}
 use Rattle.wap_base.proofs.Choices.{chosen, some_same}
-use Rattle.wap_code.specs.Libraries.{library, by_number, is_function, lib_args}
+use Rattle.wap_unit.specs.Libraries.{library, by_number, is_function, lib_args}
 use Rattle.wap_libs.specs.declared.function.Function.{Function}
 use Rattle.wap_libs.specs.Row.{arguments}
 use Rattle.wap_libs.specs.Libraries.{libraries, function_at, row_of, IsPure}

@@ -4,8 +4,8 @@ use Rattle.std.specs.Prelude.{◌∷◌, length, Option, Some, None}
 use Rattle.wap_base.specs.declared.limits.Limits.{Limits}
 use Rattle.wap_value.specs.declared.value.Value.{Value}
 use Rattle.wap_url.specs.declared.url.Url.{Url}
-use Rattle.wap_code.specs.declared.unit.Unit.{Unit}
-use Rattle.wap_code.specs.declared.unit.Code.{Code}
+use Rattle.wap_unit.specs.declared.unit.Unit.{Unit}
+use Rattle.wap_unit.specs.declared.unit.Code.{Code}
 use Rattle.wap_execution.specs.declared.fatal.Fatal.TheVariants.{Depth, Budget}
 use Rattle.wap_execution.specs.declared.found.Found.{Found}
 use Rattle.wap_execution.specs.declared.found.Found.TheVariants.{Callee, Not}

@@ -1,8 +1,8 @@
 -- Code in pieces that follow one another, before it has places: instructions, jumps and labels.
 -- This project's own.
 use Rattle.std.specs.Prelude.{ℕ, ◌+◌, ◌-◌, List, [], ◌∷◌, ◌++◌, Option, Some}
-use Rattle.wap_code.specs.declared.row.OpName.{OpName}
-use Rattle.wap_code.specs.declared.instr.Instr.{Instr}
+use Rattle.wap_unit.specs.declared.row.OpName.{OpName}
+use Rattle.wap_unit.specs.declared.instr.Instr.{Instr}
 use Rattle.wap_asm.specs.declared.form.Form.{Form}
 use Rattle.wap_asm.specs.declared.form.Form.TheVariants.{Op, Jump, Label}
 

@@ -1,8 +1,8 @@
 -- When a unit is one that a program is compiled to. This project's own.
 use Rattle.std.specs.Prelude.{◌≡◌, ℕ, List, length, map, slice_get, None, Some}
 use Rattle.std.specs.List.{flat_map}
-use Rattle.wap_code.specs.declared.unit.Unit.{Unit as CodeUnit}
-use Rattle.wap_code.specs.declared.unit.Code.{Code}
+use Rattle.wap_unit.specs.declared.unit.Unit.{Unit as CodeUnit}
+use Rattle.wap_unit.specs.declared.unit.Code.{Code}
 use Rattle.wap_value.specs.declared.value.Value.{Value}
 use Rattle.wap_asm.specs.Placed.{IsPlaced}
 use Rattle.wap_execution.specs.Frames.{Function}

@@ -1,7 +1,7 @@
 -- What code saves against its wide size. This project's own.
 use Rattle.std.specs.Prelude.{ℕ, ◌+◌, List, sum, sum_by, Option, Some, None}
-use Rattle.wap_code.specs.declared.row.OpName.{OpName}
-use Rattle.wap_code.specs.declared.row.OpName.TheVariants.{AddAsg, SubAsg}
+use Rattle.wap_unit.specs.declared.row.OpName.{OpName}
+use Rattle.wap_unit.specs.declared.row.OpName.TheVariants.{AddAsg, SubAsg}
 use Rattle.wap_asm.specs.declared.form.Form.{Form}
 use Rattle.wap_asm.specs.declared.form.Form.TheVariants.{Op, Jump, Label}
 use Rattle.wap_grammar.specs.declared.program.program.Function.{Function}

@@ -3,10 +3,10 @@
 use Rattle.std.specs.Prelude.{ℕ, nat_lt, Bool, ◌&&◌, if◌then◌else◌, List, [], ◌∷◌, ◌++◌, length}
 use Rattle.std.specs.Prelude.{map, Option, Some, None, encode_utf8_all}
 use Rattle.std.specs.List.{flat_map, filter_map, enumerate_from}
-use Rattle.wap_code.specs.declared.unit.Unit.{Unit}
-use Rattle.wap_code.specs.declared.unit.Code.{Code}
-use Rattle.wap_code.specs.declared.unit.Pragma.{Pragma}
-use Rattle.wap_code.specs.declared.unit.Pragma.TheVariants.{Domain, Path, Property, Scheme}
+use Rattle.wap_unit.specs.declared.unit.Unit.{Unit}
+use Rattle.wap_unit.specs.declared.unit.Code.{Code}
+use Rattle.wap_unit.specs.declared.unit.Pragma.{Pragma}
+use Rattle.wap_unit.specs.declared.unit.Pragma.TheVariants.{Domain, Path, Property, Scheme}
 use Rattle.wap_asm.specs.declared.form.Form.{Form}
 use Rattle.wap_asm.specs.Placing.{placed}
 use Rattle.wap_grammar.specs.declared.program.program.Use.{Use}

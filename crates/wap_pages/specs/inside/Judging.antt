@@ -9,7 +9,7 @@ use Rattle.wap_tokens.specs.markup.Decks.{deck_of}
 use Rattle.wap_tokens.specs.markup.Good.{IsGood}
 use Rattle.wap_unit.specs.Units.{IsUnit}
 use Rattle.wap_verify.specs.Sound.{IsVerified}
-use Rattle.wap_code.specs.declared.unit.Unit.{Unit}
+use Rattle.wap_unit.specs.declared.unit.Unit.{Unit}
 use Rattle.wap_grammar.specs.declared.program.program.Program.{Program}
 use Rattle.wap_meaning.specs.compiled.Units.{compiled}
 use Rattle.wap_meaning.specs.compiled.Accepted.{IsAccepted}

@@ -13,8 +13,8 @@ use Rattle.wap_base.specs.Texts.{is_same_text}
 use Rattle.wap_url.specs.declared.url.Url.{Url}
 use Rattle.wap_url.specs.Printing.{name_for, without_fragment}
 use Rattle.wap_value.specs.declared.value.Value.{Value}
-use Rattle.wap_code.specs.declared.unit.Unit.{Unit}
-use Rattle.wap_code.specs.declared.unit.Code.{Code}
+use Rattle.wap_unit.specs.declared.unit.Unit.{Unit}
+use Rattle.wap_unit.specs.declared.unit.Code.{Code}
 use Rattle.wap_execution.specs.declared.fatal.Fatal.TheVariants as fatal_is
 use Rattle.wap_execution.specs.declared.fatal.Fatal.TheVariants.{Depth}
 use Rattle.wap_execution.specs.declared.found.Found.{Found}

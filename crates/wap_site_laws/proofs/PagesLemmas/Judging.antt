@@ -1,7 +1,7 @@
 -- The judged pages are a store's pages with units in place of sources.
 use Rattle.std.proofs.Common.{◌≡◌, ℕ, List, [], ◌∷◌, Option, refl, sym, ap, ap₂, ◌∙◌}
 use Rattle.wap_base.specs.Contents.{Contents}
-use Rattle.wap_code.specs.declared.unit.Unit.{Unit}
+use Rattle.wap_unit.specs.declared.unit.Unit.{Unit}
 use Rattle.wap_world.specs.Sites.{Call}
 use Rattle.wap_world.specs.scripting.ScriptPages.{PageOf}
 use Rattle.wap_world.specs.scripting.UnitSites.{Pages, unit_page, unit_pages, units_site}

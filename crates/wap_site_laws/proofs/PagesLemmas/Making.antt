@@ -3,7 +3,7 @@ use Rattle.std.proofs.Common.{◌≡◌, ℕ, List, [], ◌∷◌, refl, inl, in
 use Rattle.std.proofs.lemmas.List.Elements.{recursion_from_All}
 use Rattle.std.specs.List.{AllByRecursion}
 use Rattle.wap_base.specs.Contents.{Contents}
-use Rattle.wap_code.specs.declared.unit.Unit.{Unit}
+use Rattle.wap_unit.specs.declared.unit.Unit.{Unit}
 use Rattle.wap_world.specs.declared.site.page.Page.{Page}
 use Rattle.wap_world.specs.declared.site.page.Page.TheVariants as page
 use Rattle.wap_world.specs.scripting.ScriptPages.{PageOf, deck, script, words, refused}

@@ -4,7 +4,7 @@ use Rattle.std.specs.Prelude.{◌≡◌, ℕ, ◌<◌, ◌^◌, List, length}
 use Rattle.std.specs.List.{AllZip}
 use Rattle.wap_base.specs.Contents.{Contents}
 use Rattle.wap_tokens.specs.declared.markup.deck.Deck.{Deck}
-use Rattle.wap_code.specs.declared.unit.Unit.{Unit}
+use Rattle.wap_unit.specs.declared.unit.Unit.{Unit}
 use Rattle.wap_grammar.specs.declared.program.program.Program.{Program}
 use Rattle.wap_meaning.specs.compiled.Accepted.{IsAccepted}
 use Rattle.wap_world.specs.scripting.ScriptPages.{PageOf, deck, script, words, refused}

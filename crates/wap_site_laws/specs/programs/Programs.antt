@@ -1,6 +1,6 @@
 -- Programs of sources among the scripts of a browser. This project's own.
 use Rattle.std.specs.Prelude.{ℕ, List}
-use Rattle.wap_code.specs.declared.unit.Unit.{Unit as CodeUnit}
+use Rattle.wap_unit.specs.declared.unit.Unit.{Unit as CodeUnit}
 use Rattle.wap_grammar.specs.declared.program.program.Program.{Program}
 use Rattle.wap_meaning.specs.Functions.{program_runs}
 use Rattle.wap_meaning.specs.compiled.Units.{compiled}

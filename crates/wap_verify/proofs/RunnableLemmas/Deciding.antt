@@ -5,8 +5,8 @@ use Rattle.std.proofs.Common.{inl, inr, arith}
 use Rattle.std.specs.Prelude.{◌&&◌, is_none, slice_get}
 use Rattle.std.proofs.lemmas.Bool.{cases_Bool, cases_lt, and_parts}
 use Rattle.wap_base.proofs.Choices.{some_same}
-use Rattle.wap_code.specs.declared.unit.Unit.{Unit}
-use Rattle.wap_code.specs.declared.unit.Code.{Code}
+use Rattle.wap_unit.specs.declared.unit.Unit.{Unit}
+use Rattle.wap_unit.specs.declared.unit.Code.{Code}
 use Rattle.wap_verify.specs.declared.fault.VerifyFault.{VerifyFault}
 use Rattle.wap_verify.specs.declared.fault.VerifyFault.TheVariants as fault
 use Rattle.wap_verify.specs.Sound.{IsSound, stray_pragma, AreSound, IsVerified}

@@ -5,16 +5,16 @@ use Rattle.std.proofs.Common.{refl, subst, inl, inr, arith}
 use Rattle.std.specs.Prelude.{IfSome}
 use Rattle.std.proofs.lemmas.Bool.{ltb-true, ltb-false}
 use Rattle.wap_base.proofs.Choices.{chosen, ok_same}
-use Rattle.wap_code.specs.declared.unit.Unit.{Unit}
-use Rattle.wap_code.specs.declared.unit.Code.{Code}
-use Rattle.wap_code.specs.declared.row.Row.{Row}
-use Rattle.wap_code.specs.declared.row.After.{After}
-use Rattle.wap_code.specs.declared.row.After.TheVariants.{On, Forward, Backward, ForwardOrOn}
-use Rattle.wap_code.specs.declared.row.After.TheVariants.{BackwardOrOn, Pair, Leave}
-use Rattle.wap_code.specs.declared.instr.Instr.{Instr}
-use Rattle.wap_code.specs.declared.instr.InstrFault.{InstrFault}
-use Rattle.wap_code.specs.declared.instr.InstrFault.TheVariants.{Operand}
-use Rattle.wap_code.specs.Instructions.{size, row_of, read, read_row}
+use Rattle.wap_unit.specs.declared.unit.Unit.{Unit}
+use Rattle.wap_unit.specs.declared.unit.Code.{Code}
+use Rattle.wap_unit.specs.declared.row.Row.{Row}
+use Rattle.wap_unit.specs.declared.row.After.{After}
+use Rattle.wap_unit.specs.declared.row.After.TheVariants.{On, Forward, Backward, ForwardOrOn}
+use Rattle.wap_unit.specs.declared.row.After.TheVariants.{BackwardOrOn, Pair, Leave}
+use Rattle.wap_unit.specs.declared.instr.Instr.{Instr}
+use Rattle.wap_unit.specs.declared.instr.InstrFault.{InstrFault}
+use Rattle.wap_unit.specs.declared.instr.InstrFault.TheVariants.{Operand}
+use Rattle.wap_unit.specs.Instructions.{size, row_of, read, read_row}
 use Rattle.wap_asm.proofs.Gifts.{gives-row}
 use Rattle.wap_verify.specs.declared.step.Step.{Step}
 use Rattle.wap_verify.specs.declared.fault.VerifyFault.{VerifyFault}

@@ -5,10 +5,10 @@ use Rattle.wap_base.specs.declared.limits.Limits.{Limits}
 use Rattle.wap_base.specs.Limits.{default_limits}
 use Rattle.wap_input.specs.declared.key.Key.TheVariants as key
 use Rattle.wap_value.specs.declared.value.Value.TheVariants.{Int}
-use Rattle.wap_code.specs.declared.unit.Unit.{Unit}
-use Rattle.wap_code.specs.declared.unit.Constant.TheVariants.{Utf8}
-use Rattle.wap_code.specs.Instructions.{row_of}
-use Rattle.wap_code.specs.Libraries.{lib_args}
+use Rattle.wap_unit.specs.declared.unit.Unit.{Unit}
+use Rattle.wap_unit.specs.declared.unit.Constant.TheVariants.{Utf8}
+use Rattle.wap_unit.specs.Instructions.{row_of}
+use Rattle.wap_unit.specs.Libraries.{lib_args}
 use Rattle.wap_execution.specs.Effects.{effect_of, effect_at}
 use Rattle.wap_execution.specs.Running.{forward_by, looping_by, goes, resumed, finished, enter}
 use Rattle.wap_world.specs.World.{first_world}

@@ -6,13 +6,13 @@ use Rattle.wap_input.specs.declared.key.Key.{Key}
 use Rattle.wap_input.specs.declared.key.Key.TheVariants as key
 use Rattle.wap_url.specs.declared.url.Url.{Url}
 use Rattle.wap_cardrules.specs.declared.task.Task.{Task}
-use Rattle.wap_code.specs.declared.unit.Unit.{Unit}
-use Rattle.wap_code.specs.declared.unit.Constant.{Constant}
-use Rattle.wap_code.specs.declared.unit.Constant.TheVariants.{Utf8}
-use Rattle.wap_code.specs.declared.unit.Pragma.{Pragma}
-use Rattle.wap_code.specs.declared.unit.Pragma.TheVariants.{Domain}
-use Rattle.wap_code.specs.Instructions.{row_of}
-use Rattle.wap_code.specs.Libraries.{lib_args}
+use Rattle.wap_unit.specs.declared.unit.Unit.{Unit}
+use Rattle.wap_unit.specs.declared.unit.Constant.{Constant}
+use Rattle.wap_unit.specs.declared.unit.Constant.TheVariants.{Utf8}
+use Rattle.wap_unit.specs.declared.unit.Pragma.{Pragma}
+use Rattle.wap_unit.specs.declared.unit.Pragma.TheVariants.{Domain}
+use Rattle.wap_unit.specs.Instructions.{row_of}
+use Rattle.wap_unit.specs.Libraries.{lib_args}
 use Rattle.wap_execution.specs.Effects.{effect_of, effect_at}
 use Rattle.wap_execution.specs.Running.{forward_by, looping_by, goes, resumed, finished, enter}
 use Rattle.wap_world.specs.declared.timer.Timer.{Timer}

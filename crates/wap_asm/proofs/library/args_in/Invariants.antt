@@ -1,6 +1,6 @@
 use Rattle.std.proofs.Common.{◌≡◌, drop, map}
 use Rattle.std.specs.Map.{lookup}
-use Rattle.wap_code.specs.Libraries.{is_function}
+use Rattle.wap_unit.specs.Libraries.{is_function}
 use Rattle.wap_asm.specs.Columns.{lent_by_number}
 use Rattle.wap_asm.proofs.library.args_in.Given as goal
 

@@ -1,4 +1,4 @@
-use Rattle.wap_code.specs.Libraries.{lib_args}
+use Rattle.wap_unit.specs.Libraries.{lib_args}
 use Rattle.wap_asm.proofs.library.args_of.Goals as goal
 
 pub returns : goal.returns

@@ -1,7 +1,7 @@
 use Rattle.std.proofs.Common.{◌∙◌, ap, List, ℕ, map}
 use Rattle.std.specs.Prelude.{encode_utf8_all}
 use Rattle.std.specs.Map.{lookup}
-use Rattle.wap_code.specs.Libraries.{by_name, library, lib_named}
+use Rattle.wap_unit.specs.Libraries.{by_name, library, lib_named}
 use Rattle.wap_asm.specs.Columns.{has_names}
 use Rattle.wap_asm.proofs.library.lib_named.Goals as goal
 

@@ -2,7 +2,7 @@ use Rattle.std.proofs.Common.{Result, Err, IfErr, length, sym, ap, ◌∙◌, su
 use Rattle.std.proofs.lemmas.Result.{err_from_is_err_and}
 use Rattle.wap_asm.specs.Placing.{placed}
 use Rattle.wap_asm.specs.Placed.{ArePlaceable}
-use Rattle.wap_code.specs.declared.unit.Code.{Code}
+use Rattle.wap_unit.specs.declared.unit.Code.{Code}
 use Rattle.wap_codegen.specs.declared.fault.CompileFault.{CompileFault}
 use Rattle.wap_codegen.specs.inside.Units.{IsFunctionCause}
 use Rattle.wap_codegen.proofs.Making.{forms_now, locals_counted, code_is, is_short, saves_few}

@@ -1,6 +1,6 @@
 use Rattle.std.proofs.Common.{◌≡◌, ◌<◌, inl, inr, List, ℕ, true, false, [], ◌++◌, length, ◌∙◌, sym, ap, subst, arith}
 use Rattle.std.proofs.lemmas.List.{append-nil}
-use Rattle.wap_code.specs.declared.unit.Unit.{Unit}
+use Rattle.wap_unit.specs.declared.unit.Unit.{Unit}
 use Rattle.wap_dis.specs.Listing.{listing}
 use Rattle.wap_dis.specs.inside.Gathering.{Gathers}
 use Rattle.wap_dis.specs.inside.Held.{state}

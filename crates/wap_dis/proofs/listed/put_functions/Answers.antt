@@ -1,5 +1,5 @@
 use Rattle.std.proofs.Common.{◌<◌, ◌≡◌, List, length, get_or, subst, arith}
-use Rattle.wap_code.specs.declared.unit.Code.{Code}
+use Rattle.wap_unit.specs.declared.unit.Code.{Code}
 use Rattle.wap_dis.specs.Listing.{function_lines}
 use Rattle.wap_dis.specs.inside.Held.{state}
 use Rattle.wap_dis.proofs.Lists.{puts_indexed}

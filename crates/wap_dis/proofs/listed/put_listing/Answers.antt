@@ -1,7 +1,7 @@
 use Rattle.std.proofs.Common.{List, ℕ, ◌++◌, subst}
 use Rattle.std.specs.List.{flat_map, enumerate_from}
-use Rattle.wap_code.specs.declared.unit.Constant.{Constant}
-use Rattle.wap_code.specs.declared.unit.Pragma.{Pragma}
+use Rattle.wap_unit.specs.declared.unit.Constant.{Constant}
+use Rattle.wap_unit.specs.declared.unit.Pragma.{Pragma}
 use Rattle.wap_dis.specs.Listing.{unit_line, constant_line, pragma_line, function_lines, listing}
 use Rattle.wap_dis.specs.inside.Gathering.{Gathers}
 use Rattle.wap_dis.specs.inside.Held.{state}

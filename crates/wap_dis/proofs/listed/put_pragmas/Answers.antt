@@ -1,5 +1,5 @@
 use Rattle.std.proofs.Common.{◌<◌, length, get_or, refl, arith}
-use Rattle.wap_code.specs.declared.unit.Pragma.TheVariants.{Domain}
+use Rattle.wap_unit.specs.declared.unit.Pragma.TheVariants.{Domain}
 use Rattle.wap_dis.specs.Listing.{pragma_line}
 use Rattle.wap_dis.specs.inside.Held.{state}
 use Rattle.wap_dis.proofs.Lists.{puts_indexed}

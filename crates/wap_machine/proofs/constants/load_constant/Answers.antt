@@ -3,8 +3,8 @@ use Rattle.wap_value.specs.declared.value.Value.{Value}
 use Rattle.wap_value.specs.declared.fault.ValueFault.{ValueFault}
 use Rattle.wap_value.specs.declared.fault.ValueFault.TheVariants.{TooLong, NoMemory}
 use Rattle.wap_value.specs.TooLong.{kept_within}
-use Rattle.wap_code.specs.declared.unit.Unit.{Unit as CodeUnit}
-use Rattle.wap_code.specs.declared.instr.Instr.{Instr}
+use Rattle.wap_unit.specs.declared.unit.Unit.{Unit as CodeUnit}
+use Rattle.wap_unit.specs.declared.instr.Instr.{Instr}
 use Rattle.wap_execution.specs.Frames.{Frame, constant_at}
 use Rattle.wap_execution.specs.Effects.{Effect, onward, with_kept, effect_of}
 use Rattle.wap_execution.specs.declared.action.Action.TheVariants.{LoadConstant}

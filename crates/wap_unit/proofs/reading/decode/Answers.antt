@@ -1,6 +1,6 @@
 use Rattle.std.proofs.Common.{subst, Result}
 use Rattle.wap_base.specs.Outcome.{Meets}
-use Rattle.wap_code.specs.declared.unit.Unit.{Unit}
+use Rattle.wap_unit.specs.declared.unit.Unit.{Unit}
 use Rattle.wap_unit.specs.declared.fault.UnitFault.{UnitFault}
 use Rattle.wap_unit.specs.declared.fault.UnitFault.TheVariants.{NoMemory}
 use Rattle.wap_unit.proofs.UnitLaws.{are_bytes, found_is, refused_is, unit_again, unit_fails}

@@ -1,6 +1,6 @@
 use Rattle.std.proofs.Common.{◌≡◌, drop, find}
 use Rattle.std.specs.Prelude.{not}
-use Rattle.wap_code.specs.Strings.{is_string}
+use Rattle.wap_unit.specs.Strings.{is_string}
 use Rattle.wap_verify.proofs.pragmas.stray_of.Given as goal
 
 -- what is left has what all have

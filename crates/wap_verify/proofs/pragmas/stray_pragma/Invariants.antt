@@ -1,7 +1,7 @@
 use Rattle.std.proofs.Common.{◌≡◌, drop, find}
 use Rattle.std.specs.Prelude.{not}
 use Rattle.std.specs.List.{flat_map}
-use Rattle.wap_code.specs.Strings.{is_string}
+use Rattle.wap_unit.specs.Strings.{is_string}
 use Rattle.wap_verify.specs.Sound.{indexes, stray_pragma}
 use Rattle.wap_verify.proofs.pragmas.stray_pragma.Given as goal
 

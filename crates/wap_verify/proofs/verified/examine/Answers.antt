@@ -1,7 +1,7 @@
 use Rattle.std.proofs.Common.{List, Option, sym, refl, subst}
 use Rattle.std.specs.List.{AllByRecursion}
 use Rattle.wap_base.specs.declared.charset.Charset.{Charset}
-use Rattle.wap_code.specs.declared.unit.Constant.{Constant}
+use Rattle.wap_unit.specs.declared.unit.Constant.{Constant}
 use Rattle.wap_unit.proofs.SpellingLaws.{unit_fits}
 use Rattle.wap_verify.specs.Faults.{pragma}
 use Rattle.wap_verify.specs.Kept.{IsReadable}

@@ -1,5 +1,5 @@
 use Rattle.std.proofs.Common.{sym, ap, ◌∙◌, map}
-use Rattle.wap_code.specs.declared.row.OpName.TheVariants as op
+use Rattle.wap_unit.specs.declared.row.OpName.TheVariants as op
 use Rattle.wap_meaning.specs.coding.Coded.{◌⨾◌, all_code, with_operand}
 use Rattle.wap_meaning.specs.coding.Expressions.{expr_code, assigned_code, step_code, joined_code}
 use Rattle.wap_meaning.specs.coding.Expressions.{cond_code}

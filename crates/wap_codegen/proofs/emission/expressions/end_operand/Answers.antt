@@ -1,5 +1,5 @@
 use Rattle.std.proofs.Common.{None, ap, ◌∙◌, slice_set}
-use Rattle.wap_code.specs.declared.row.OpName.TheVariants as op
+use Rattle.wap_unit.specs.declared.row.OpName.TheVariants as op
 use Rattle.wap_asm.specs.declared.form.Form.TheVariants.{Jump}
 use Rattle.wap_codegen.proofs.EmissionLemmas.Extending.{adds_both}
 use Rattle.wap_codegen.proofs.emission.expressions.end_operand.Goals as goal

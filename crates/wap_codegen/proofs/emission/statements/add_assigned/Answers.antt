@@ -1,5 +1,5 @@
 use Rattle.std.proofs.Common.{ap, Option}
-use Rattle.wap_code.specs.declared.row.OpName.{OpName}
+use Rattle.wap_unit.specs.declared.row.OpName.{OpName}
 use Rattle.wap_meaning.specs.coding.Expressions.{expr_code}
 use Rattle.wap_codegen.specs.emission.inside.Loops.{named_code}
 use Rattle.wap_codegen.proofs.EmissionLemmas.Chaining.{after_same}

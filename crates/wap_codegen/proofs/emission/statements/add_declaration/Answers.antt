@@ -1,5 +1,5 @@
 use Rattle.std.proofs.Common.{sym, ap, ◌∙◌}
-use Rattle.wap_code.specs.declared.row.OpName.TheVariants as op
+use Rattle.wap_unit.specs.declared.row.OpName.TheVariants as op
 use Rattle.wap_meaning.specs.coding.Coded.{◌⨾◌, plain}
 use Rattle.wap_meaning.specs.coding.Expressions.{expr_code, store_code}
 use Rattle.wap_codegen.proofs.EmissionLemmas.StatementParts.{declared_none, declared_some}

@@ -1,7 +1,7 @@
 use Rattle.std.proofs.Common.{Option, List, [], subst}
 use Rattle.wap_url.specs.declared.url.Url.{Url}
 use Rattle.wap_value.specs.declared.value.Value.{Value}
-use Rattle.wap_code.specs.declared.unit.Unit.{Unit}
+use Rattle.wap_unit.specs.declared.unit.Unit.{Unit}
 use Rattle.wap_machine.specs.Seen.{function_in}
 use Rattle.wap_machine.specs.Stacks.{IsEntered}
 use Rattle.wap_world.specs.Setting.{set_variables}

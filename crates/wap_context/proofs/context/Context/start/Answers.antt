@@ -1,7 +1,7 @@
 use Rattle.std.proofs.Common.{◌∙◌, ap}
 use Rattle.wap_base.specs.declared.limits.Limits.{Limits}
 use Rattle.wap_url.specs.Printing.{without_fragment}
-use Rattle.wap_code.specs.declared.unit.Unit.{Unit}
+use Rattle.wap_unit.specs.declared.unit.Unit.{Unit}
 use Rattle.wap_context.specs.inside.Starting.{start_of}
 use Rattle.wap_context.proofs.Beginning.{start_begins, start_enters, start_rejects}
 use Rattle.wap_context.proofs.context.Context.start.Goals as goal

@@ -1,6 +1,6 @@
 use Rattle.std.proofs.Common.{◌≡◌, ◌∙◌, ap, subst, arith, slice_get, Some}
-use Rattle.wap_code.specs.declared.unit.Unit.{Unit as CodeUnit}
-use Rattle.wap_code.specs.declared.unit.Code.{Code}
+use Rattle.wap_unit.specs.declared.unit.Unit.{Unit as CodeUnit}
+use Rattle.wap_unit.specs.declared.unit.Code.{Code}
 use Rattle.wap_verify.specs.Sound.{IsRoom}
 use Rattle.wap_machine.specs.declared.script.Script.{Script}
 use Rattle.wap_machine.proofs.frame.Frame.begin.Goals as goal

@@ -1,10 +1,10 @@
 use Rattle.std.proofs.Common.{◌≡◌, List, ℕ, Option, Some, None, sym, ap, ◌∙◌}
 use Rattle.std.specs.Prelude.{option_and_then, slice_get}
 use Rattle.std.proofs.lemmas.Str.{chars-nil}
-use Rattle.wap_code.specs.declared.unit.Unit.{Unit}
-use Rattle.wap_code.specs.declared.unit.Constant.{Constant}
-use Rattle.wap_code.specs.declared.unit.Constant.TheVariants.{Coded}
-use Rattle.wap_code.specs.Strings.{string_of, string_at}
+use Rattle.wap_unit.specs.declared.unit.Unit.{Unit}
+use Rattle.wap_unit.specs.declared.unit.Constant.{Constant}
+use Rattle.wap_unit.specs.declared.unit.Constant.TheVariants.{Coded}
+use Rattle.wap_unit.specs.Strings.{string_of, string_at}
 use Rattle.wap_verify.proofs.Verifying.{string_kept, string_missed}
 use Rattle.wap_verify.proofs.verified.Verified.string.Goals as goal
 

@@ -1,7 +1,7 @@
 -- constants
 use Rattle.std.proofs.Common.{◌≡◌, List, map, ap, sym, ◌∙◌, subst, IfOk}
 use Rattle.std.proofs.lemmas.Simd.{map-map}
-use Rattle.wap_code.specs.declared.unit.Constant.{Constant}
+use Rattle.wap_unit.specs.declared.unit.Constant.{Constant}
 use Rattle.wap_meaning.specs.coding.Constants.{Numbers, constant_for}
 use Rattle.wap_codegen.specs.declared.pool.content.Content.{Content}
 use Rattle.wap_codegen.specs.pool.inside.Contents.{literal_of}

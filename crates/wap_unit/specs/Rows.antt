@@ -1,19 +1,19 @@
 -- The instructions (WAP-193, section 10), a row for each spelling. The effects of pairs and the
 -- verification's counts are this project's own.
 use Rattle.std.specs.Prelude.{ℕ, List, [], ◌∷◌}
-use Rattle.wap_code.specs.declared.row.OpName.{OpName}
-use Rattle.wap_code.specs.declared.row.OpName.TheVariants as op
-use Rattle.wap_code.specs.declared.row.Slot.{Slot}
-use Rattle.wap_code.specs.declared.row.Slot.TheVariants.{Absent, Low, Byte, Word}
-use Rattle.wap_code.specs.declared.row.Operands.{Operands}
-use Rattle.wap_code.specs.declared.row.Operands.TheVariants.{Plain, Variable, Constant}
-use Rattle.wap_code.specs.declared.row.Operands.TheVariants.{Function, Library, Address}
-use Rattle.wap_code.specs.declared.row.Takes.{Takes}
-use Rattle.wap_code.specs.declared.row.Takes.TheVariants.{Values, Arguments}
-use Rattle.wap_code.specs.declared.row.After.{After}
-use Rattle.wap_code.specs.declared.row.After.TheVariants.{On, Forward, Backward, ForwardOrOn}
-use Rattle.wap_code.specs.declared.row.After.TheVariants.{BackwardOrOn, Pair, Leave}
-use Rattle.wap_code.specs.declared.row.Row.{Row}
+use Rattle.wap_unit.specs.declared.row.OpName.{OpName}
+use Rattle.wap_unit.specs.declared.row.OpName.TheVariants as op
+use Rattle.wap_unit.specs.declared.row.Slot.{Slot}
+use Rattle.wap_unit.specs.declared.row.Slot.TheVariants.{Absent, Low, Byte, Word}
+use Rattle.wap_unit.specs.declared.row.Operands.{Operands}
+use Rattle.wap_unit.specs.declared.row.Operands.TheVariants.{Plain, Variable, Constant}
+use Rattle.wap_unit.specs.declared.row.Operands.TheVariants.{Function, Library, Address}
+use Rattle.wap_unit.specs.declared.row.Takes.{Takes}
+use Rattle.wap_unit.specs.declared.row.Takes.TheVariants.{Values, Arguments}
+use Rattle.wap_unit.specs.declared.row.After.{After}
+use Rattle.wap_unit.specs.declared.row.After.TheVariants.{On, Forward, Backward, ForwardOrOn}
+use Rattle.wap_unit.specs.declared.row.After.TheVariants.{BackwardOrOn, Pair, Leave}
+use Rattle.wap_unit.specs.declared.row.Row.{Row}
 
 -- the first code and how many there are, the operation and the name, where the operands stand and
 -- what they are, the values taken and given, and where it goes on

@@ -2,10 +2,10 @@
 use Rattle.std.specs.Prelude.{ℕ, Bool, true, false, List, [], Option, Some}
 use Rattle.std.specs.Prelude.{None, slice_get, option_and_then}
 use Rattle.std.specs.Option.{option_map, option_map_or}
-use Rattle.wap_code.specs.declared.unit.Unit.{Unit}
-use Rattle.wap_code.specs.declared.unit.Constant.{Constant}
-use Rattle.wap_code.specs.declared.unit.Constant.TheVariants.{Int8, Int16, Int32, Float, Utf8}
-use Rattle.wap_code.specs.declared.unit.Constant.TheVariants.{Empty, Coded}
+use Rattle.wap_unit.specs.declared.unit.Unit.{Unit}
+use Rattle.wap_unit.specs.declared.unit.Constant.{Constant}
+use Rattle.wap_unit.specs.declared.unit.Constant.TheVariants.{Int8, Int16, Int32, Float, Utf8}
+use Rattle.wap_unit.specs.declared.unit.Constant.TheVariants.{Empty, Coded}
 use Rattle.wap_base.specs.Charsets.{charset_of, characters_of}
 
 -- the characters of a string in a pool whose strings are in the character set of this number

@@ -1,13 +1,13 @@
 -- The instruction at a place of a function's code (WAP-193, section 10).
 use Rattle.std.specs.Prelude.{ℕ, ◌+◌, ◌-◌, ◌*◌, nat_lt, nat_le, Bool, ◌&&◌, if◌then◌else◌, List}
 use Rattle.std.specs.Prelude.{length, slice_index, find, Option, Some, None, Result, Ok, Err}
-use Rattle.wap_code.specs.declared.row.Slot.{Slot}
-use Rattle.wap_code.specs.declared.row.Slot.TheVariants.{Absent, Low, Byte, Word}
-use Rattle.wap_code.specs.declared.row.Row.{Row}
-use Rattle.wap_code.specs.declared.instr.Instr.{Instr}
-use Rattle.wap_code.specs.declared.instr.InstrFault.{InstrFault}
-use Rattle.wap_code.specs.declared.instr.InstrFault.TheVariants.{Opcode, Operand}
-use Rattle.wap_code.specs.Rows.{rows}
+use Rattle.wap_unit.specs.declared.row.Slot.{Slot}
+use Rattle.wap_unit.specs.declared.row.Slot.TheVariants.{Absent, Low, Byte, Word}
+use Rattle.wap_unit.specs.declared.row.Row.{Row}
+use Rattle.wap_unit.specs.declared.instr.Instr.{Instr}
+use Rattle.wap_unit.specs.declared.instr.InstrFault.{InstrFault}
+use Rattle.wap_unit.specs.declared.instr.InstrFault.TheVariants.{Opcode, Operand}
+use Rattle.wap_unit.specs.Rows.{rows}
 
 -- how many bytes an operand takes
 abbrev pub width : Slot → ℕ

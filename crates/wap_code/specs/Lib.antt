@@ -1,4 +1,0 @@
-pub mod Rows
-pub mod Instructions
-pub mod Libraries
-pub mod Strings
