@@ -1,6 +1,6 @@
 //! A session over pages of one's own: what a caller gets.
 ghost use Rattle.std.specs.Prelude.{◌≡◌, ◌∷◌, [], true, false, is_some, IfOk, OnOk, IfSome, Ok};
-ghost use Rattle.wap_input.specs.declared.key.Key.TheVariants.{Answer};
+ghost use Rattle.wap_base.specs.declared.key.Key.TheVariants.{Answer};
 ghost use Rattle.wap_world.specs.Sessions.{shown, played, world_of};
 ghost use Rattle.wap_world.specs.scripting.UnitSites.{unit_pages};
 ghost use Rattle.wap_context.specs.Sites.{site_of, IfOver};

@@ -7,10 +7,9 @@ ghost use Rattle.wap_machine.specs.Hosts.{CanBeCalled};
 ghost use Rattle.wap_cases.specs.Small.{callable, unit_at};
 
 use std::alloc::Global;
-use wap_base::{RunErr, Text};
+use wap_base::{RunErr, Shared, Text};
 use wap_execution::{Fatal, Found, HostOut};
 use wap_machine::Host;
-use wap_shared::Shared;
 use wap_url::Url;
 use wap_value::Value;
 use wap_verify::Verified;

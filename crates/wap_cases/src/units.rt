@@ -3,9 +3,8 @@ ghost use Rattle.std.specs.Prelude.{IfOk};
 ghost use Rattle.wap_unit.specs.Spelling.{HasSpelling};
 
 use std::alloc::Global;
-use wap_base::Bytes;
+use wap_base::{Bytes, Shared};
 use wap_casebook::CaseFault;
-use wap_shared::Shared;
 use wap_unit::{Unit, UnitFault, decode};
 use wap_verify::{Verified, VerifyFault, verify};
 

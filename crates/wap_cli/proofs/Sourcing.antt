@@ -5,8 +5,8 @@ use Rattle.std.specs.Prelude.{IfSome, option_map}
 use Rattle.wap_base.specs.Contents.{Contents}
 use Rattle.wap_devices.specs.Stores.{StoreSeen}
 use Rattle.wap_devices.specs.Transfer.{Appends}
-use Rattle.wap_input.specs.declared.key.Key.{Key}
-use Rattle.wap_input.specs.declared.key.Key.TheVariants.{Open}
+use Rattle.wap_base.specs.declared.key.Key.{Key}
+use Rattle.wap_base.specs.declared.key.Key.TheVariants.{Open}
 use Rattle.wap_keys.specs.declared.ending.Ending.TheVariants.{End}
 use Rattle.wap_keys.specs.Lines.{Keys, keys_of}
 use Rattle.wap_world.specs.site.Asking.{Seen}

@@ -1,7 +1,7 @@
 -- What is said of browsing says of the pages no more than their bytes, what is kept of them, and
 -- the store's counts: it is as true where what they are judged isn't seen.
 use Rattle.std.proofs.Common.{ℕ, List, None, refl}
-use Rattle.wap_input.specs.declared.key.Key.{Key}
+use Rattle.wap_base.specs.declared.key.Key.{Key}
 use Rattle.wap_world.specs.Steps.{Step}
 use Rattle.wap_cli.specs.declared.status.Status.{Status}
 use Rattle.wap_cli.specs.browse.Outside.{Outside}

@@ -6,7 +6,7 @@ use Rattle.wap_base.specs.Contents.{Contents}
 use Rattle.wap_devices.specs.Stores.{StoreSeen}
 use Rattle.wap_devices.specs.Transfer.{Appends}
 use Rattle.wap_unit.specs.declared.unit.Unit.{Unit}
-use Rattle.wap_input.specs.declared.key.Key.{Key}
+use Rattle.wap_base.specs.declared.key.Key.{Key}
 use Rattle.wap_keys.specs.Lines.{keys_of}
 use Rattle.wap_world.specs.Sites.{Call, Site}
 use Rattle.wap_world.specs.Steps.{Step}

@@ -3,7 +3,7 @@
 ghost use Rattle.std.specs.Prelude.{◌≡◌, ◌++◌, ℕ, false, List};
 ghost use Rattle.wap_base.specs.Contents.{Contents, names_of};
 ghost use Rattle.wap_base.specs.Texts.{is_same_text, AreDistinct};
-ghost use Rattle.wap_input.specs.declared.key.Key.{Key};
+ghost use Rattle.wap_base.specs.declared.key.Key.{Key};
 ghost use Rattle.wap_image.specs.declared.context_parts.parts.ContextParts.{ContextParts};
 ghost use Rattle.wap_pages.specs.Judged.{judged};
 ghost use Rattle.wap_world.specs.Sessions.{Begun};

@@ -12,7 +12,7 @@ use Rattle.wap_url.specs.Printing.{without_fragment}
 use Rattle.wap_value.specs.declared.value.Value.{Value}
 use Rattle.wap_unit.specs.declared.unit.Unit.{Unit}
 use Rattle.wap_unit.specs.declared.unit.Code.{Code}
-use Rattle.wap_input.specs.declared.key.Key.{Key}
+use Rattle.wap_base.specs.declared.key.Key.{Key}
 use Rattle.wap_execution.specs.declared.fatal.Fatal.{Fatal}
 use Rattle.wap_execution.specs.declared.fatal.Fatal.TheVariants as fatal
 use Rattle.wap_execution.specs.Frames.{Function, Frame, code_at, begun}

@@ -3,7 +3,7 @@ use Rattle.std.proofs.Common.{◌≡◌, ℕ, List, [], Ok, Err, refl, sym, subs
 use Rattle.std.specs.Prelude.{Result}
 use Rattle.wap_base.specs.declared.fault.RunErr.{RunErr}
 use Rattle.wap_value.specs.declared.value.Value.{Value}
-use Rattle.wap_input.specs.declared.key.Key.{Key}
+use Rattle.wap_base.specs.declared.key.Key.{Key}
 use Rattle.wap_world.specs.site.Asking.{Seen}
 use Rattle.wap_world.specs.World.{World}
 use Rattle.wap_world.specs.Tasks.{with_turn, open_url, visit}

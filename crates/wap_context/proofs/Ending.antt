@@ -4,7 +4,7 @@ use Rattle.std.proofs.Common.{refl, sym, ap, ap₂, subst, append_assoc, append-
 use Rattle.std.specs.Prelude.{if◌then◌else◌}
 use Rattle.wap_base.specs.declared.limits.Limits.{Limits}
 use Rattle.wap_url.specs.declared.url.Url.{Url}
-use Rattle.wap_input.specs.declared.key.Key.{Key}
+use Rattle.wap_base.specs.declared.key.Key.{Key}
 use Rattle.wap_execution.specs.declared.fatal.Fatal.{Fatal}
 use Rattle.wap_cardrules.specs.declared.event.Event.TheVariants as event
 use Rattle.wap_cardrules.specs.declared.task.Task.{Task}

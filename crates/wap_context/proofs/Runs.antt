@@ -10,7 +10,7 @@ use Rattle.wap_base.specs.declared.fault.RunErr.TheVariants.{Store}
 use Rattle.wap_base.specs.declared.limits.Limits.{Limits}
 use Rattle.wap_base.specs.Count.{greatest_count, raised, Rose}
 use Rattle.wap_url.specs.declared.url.Url.{Url}
-use Rattle.wap_input.specs.declared.key.Key.{Key}
+use Rattle.wap_base.specs.declared.key.Key.{Key}
 use Rattle.wap_execution.specs.Outcomes.{Outcome as Meant, value, exit, fatal, waits, stuck, Ended}
 use Rattle.wap_execution.specs.laws.Settings.{uncounted}
 use Rattle.wap_execution.specs.laws.Simulation.{ComeToSame, IsKin}

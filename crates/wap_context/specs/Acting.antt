@@ -6,7 +6,7 @@ use Rattle.wap_base.specs.declared.fault.RunErr.{RunErr}
 use Rattle.wap_base.specs.declared.fault.RunErr.TheVariants.{Store}
 use Rattle.wap_base.specs.Count.{Rose}
 use Rattle.wap_value.specs.declared.value.Value.{Value}
-use Rattle.wap_input.specs.declared.key.Key.{Key}
+use Rattle.wap_base.specs.declared.key.Key.{Key}
 use Rattle.wap_execution.specs.declared.fatal.Fatal.TheVariants.{Stopped}
 use Rattle.wap_execution.specs.Running.{resumed}
 use Rattle.wap_execution.specs.laws.Settings.{uncounted}

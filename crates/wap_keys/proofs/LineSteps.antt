@@ -6,7 +6,7 @@ use Rattle.std.specs.Prelude.{◌==◌, not, ◌&&◌}
 use Rattle.std.proofs.lemmas.Bool.{eqb-true}
 use Rattle.std.proofs.lemmas.List.{length-append, drop-drop}
 use Rattle.std.proofs.lemmas.List.Folds.{list_all-append}
-use Rattle.wap_input.specs.declared.key.Key.{Key}
+use Rattle.wap_base.specs.declared.key.Key.{Key}
 use Rattle.wap_keys.specs.declared.fault.KeyFault.{KeyFault}
 use Rattle.wap_keys.specs.declared.fault.KeyFault.TheVariants.{TooLong, NoMemory}
 use Rattle.wap_keys.specs.declared.prefix.Prefix.TheVariants as prefix

@@ -10,7 +10,7 @@ use Rattle.std.proofs.lemmas.Bool.{and_parts}
 use Rattle.std.proofs.lemmas.Str.{IsUtf8-nil, IsUtf8-append, IsUtf8-encode, IsUtf8-past_char}
 use Rattle.std.proofs.lemmas.Str.{encode_ascii, is_utf8-from_IsUtf8, IsUtf8-from_is_utf8}
 use Rattle.wap_base.specs.Outcome.{Meets}
-use Rattle.wap_input.specs.declared.key.Key.{Key}
+use Rattle.wap_base.specs.declared.key.Key.{Key}
 use Rattle.wap_keys.specs.declared.limits.TheConstants.{LINE_LIMIT}
 use Rattle.wap_keys.specs.declared.fault.KeyFault.{KeyFault}
 use Rattle.wap_keys.specs.declared.fault.KeyFault.TheVariants.{NotText, UnknownWord, NoMemory}

@@ -8,8 +8,8 @@ use Rattle.std.specs.Str.{chars, is_utf8}
 use Rattle.wap_base.specs.Outcome.{◌>>=◌}
 use Rattle.wap_base.specs.Ascii.{space}
 use Rattle.wap_base.specs.Texts.{is_same_text}
-use Rattle.wap_input.specs.declared.key.Key.{Key}
-use Rattle.wap_input.specs.declared.key.Key.TheVariants as key
+use Rattle.wap_base.specs.declared.key.Key.{Key}
+use Rattle.wap_base.specs.declared.key.Key.TheVariants as key
 use Rattle.wap_keys.specs.declared.limits.TheConstants.{LINE_LIMIT}
 use Rattle.wap_keys.specs.declared.fault.KeyFault.{KeyFault}
 use Rattle.wap_keys.specs.declared.fault.KeyFault.TheVariants.{TooLong, NotText, UnknownWord}

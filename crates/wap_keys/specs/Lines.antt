@@ -4,7 +4,7 @@ use Rattle.std.specs.Prelude.{nat_lt, if◌then◌else◌, List, [], ◌∷◌, 
 use Rattle.std.specs.Prelude.{Option, Some, None, Result, Ok, Err}
 use Rattle.std.specs.List.{ends_with}
 use Rattle.wap_base.specs.Ascii.{line_feed, carriage_return, number_sign}
-use Rattle.wap_input.specs.declared.key.Key.{Key}
+use Rattle.wap_base.specs.declared.key.Key.{Key}
 use Rattle.wap_keys.specs.declared.limits.TheConstants.{KEYS_LIMIT, LINE_LIMIT}
 use Rattle.wap_keys.specs.declared.fault.KeyFault.{KeyFault}
 use Rattle.wap_keys.specs.declared.fault.KeyFault.TheVariants.{TooLong}

@@ -4,7 +4,7 @@ ghost use Rattle.std.specs.Prelude.{Ok, Err, IfOk, IfErr, IfSome, IfNone};
 ghost use Rattle.std.specs.Option.{option_map};
 ghost use Rattle.wap_base.specs.Ascii.{space};
 ghost use Rattle.wap_base.specs.Outcome.{Meets};
-ghost use Rattle.wap_input.specs.declared.key.Key.{Key};
+ghost use Rattle.wap_base.specs.declared.key.Key.{Key};
 ghost use Rattle.wap_keys.specs.declared.fault.KeyFault.{KeyFault};
 ghost use Rattle.wap_keys.specs.declared.fault.KeyFault.TheVariants.{NoMemory};
 ghost use Rattle.wap_keys.specs.declared.word.Word.TheVariants as word;

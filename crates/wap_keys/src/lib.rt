@@ -27,4 +27,4 @@ pub use line::{content_key, without_return};
 pub use prefix::{Prefix, take_prefix};
 pub use reader::Reader;
 pub use reading::read_keys;
-pub use wap_input::Key;
+pub use wap_base::Key;

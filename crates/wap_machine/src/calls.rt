@@ -8,9 +8,8 @@ ghost use Rattle.wap_machine.specs.inside.Steps.{CanCallFrom, goes_with, GoesLoc
 
 use crate::Script;
 use crate::machine::{Outcome, Step, Waiting};
-use wap_base::NoMemory;
+use wap_base::{NoMemory, Shared};
 use wap_execution::{Fatal, Found, HostOut};
-use wap_shared::Shared;
 use wap_value::Value;
 use wap_verify::Verified;
 

@@ -17,8 +17,7 @@ use crate::script::Script;
 use std::alloc::Global;
 use std::marker::Model;
 use std::mem;
-use wap_base::{NoMemory, Text};
-use wap_shared::Shared;
+use wap_base::{NoMemory, Shared, Text};
 use wap_value::{BinOp, Value, ValueFault, binary};
 use wap_verify::Verified;
 

@@ -9,9 +9,8 @@ ghost use Rattle.wap_unit.specs.Libraries.{lib_args};
 ghost use Rattle.wap_execution.specs.Outcomes.{Hosting};
 ghost use Rattle.wap_machine.specs.Hosts.{Gives, Grows, Fetches, IsCallable, IsNoBudget};
 
-use wap_base::{RunErr, Text};
+use wap_base::{RunErr, Shared, Text};
 use wap_execution::{Found, HostOut};
-use wap_shared::Shared;
 use wap_url::Url;
 use wap_value::Value;
 use wap_verify::Verified;

@@ -1,5 +1,5 @@
 //! Units at work.
-use wap_shared::Shared;
+use wap_base::Shared;
 use wap_url::Url;
 use wap_verify::Verified;
 

@@ -3,7 +3,7 @@ use Rattle.std.proofs.Common.{◌≡◌, ℕ, ◌≤◌, List, [], ◌∷◌, Op
 use Rattle.std.proofs.Common.{arith, length}
 use Rattle.std.specs.Prelude.{is_some}
 use Rattle.wap_base.specs.declared.limits.Limits.{Limits}
-use Rattle.wap_input.specs.declared.key.Key.{Key}
+use Rattle.wap_base.specs.declared.key.Key.{Key}
 use Rattle.wap_execution.specs.declared.dialog.Dialog.{Dialog}
 use Rattle.wap_execution.specs.declared.library.HostOut.{HostOut}
 use Rattle.wap_execution.specs.declared.library.HostOut.TheVariants as out

@@ -2,7 +2,7 @@
 use Rattle.std.proofs.Common.{◌≡◌, ℕ, [], ◌∷◌, true, false, Option, None, Ok, refl, sym, ap}
 use Rattle.std.proofs.Common.{subst, ◌∙◌}
 use Rattle.std.specs.Prelude.{is_some, is_none, not, ◌&&◌}
-use Rattle.wap_input.specs.declared.key.Key.{Key}
+use Rattle.wap_base.specs.declared.key.Key.{Key}
 use Rattle.wap_world.specs.site.Asking.{Seen}
 use Rattle.wap_world.specs.declared.refusal.Refusal.TheVariants.{Ignored}
 use Rattle.wap_world.specs.Lines.{refusal_line}

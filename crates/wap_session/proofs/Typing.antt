@@ -2,13 +2,13 @@
 use Rattle.std.proofs.Common.{◌≡◌, ℕ, Bool, true, false, List, [], Option, Some, None, refl, sym, ap, subst, ◌∙◌}
 use Rattle.std.specs.Prelude.{is_some, if◌then◌else◌, not}
 use Rattle.std.specs.Option.{option_map_or, option_and_then}
-use Rattle.wap_input.specs.declared.key.Key.{Key}
+use Rattle.wap_base.specs.declared.key.Key.{Key}
 use Rattle.wap_cardrules.specs.Dos.{do_task}
 use Rattle.wap_cardrules.specs.Fields.{link_task}
 use Rattle.wap_cardrules.specs.declared.task.Task.TheVariants.{Prev}
 use Rattle.std.specs.List.{flat_map}
 use Rattle.wap_vars.specs.declared.fault.VarFault.{VarFault}
-use Rattle.wap_input.specs.declared.key.Key.TheVariants as key
+use Rattle.wap_base.specs.declared.key.Key.TheVariants as key
 use Rattle.wap_cardrules.specs.declared.answers.Entered.{Entered}
 use Rattle.wap_cardrules.specs.declared.answers.Entered.TheVariants as entered
 use Rattle.wap_cardrules.specs.declared.answers.Chosen.TheVariants as chosen

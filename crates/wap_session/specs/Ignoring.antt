@@ -1,7 +1,7 @@
 -- Keys that a session ignores without a look at its card. This project's own.
 use Rattle.std.specs.Prelude.{Bool, true, false, not, ◌&&◌, is_some, is_none}
-use Rattle.wap_input.specs.declared.key.Key.{Key}
-use Rattle.wap_input.specs.declared.key.Key.TheVariants as key
+use Rattle.wap_base.specs.declared.key.Key.{Key}
+use Rattle.wap_base.specs.declared.key.Key.TheVariants as key
 use Rattle.wap_context.specs.Browsers.{place_held}
 use Rattle.wap_session.specs.Feeding.{State}
 

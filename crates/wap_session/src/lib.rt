@@ -20,4 +20,4 @@ pub use dots::shown_lines;
 pub use fault::SessionFault;
 pub use lines::refusal_lines;
 pub use session::Session;
-pub use wap_input::Key;
+pub use wap_base::Key;

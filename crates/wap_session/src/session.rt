@@ -17,9 +17,8 @@ use crate::standing::{Standing, after, turn};
 use std::alloc::Global;
 use std::marker::Model;
 use std::mem;
-use wap_base::{Limits, NoMemory};
+use wap_base::{Key, Limits, NoMemory};
 use wap_context::Context;
-use wap_input::Key;
 use wap_layout::buffer::Lines;
 use wap_world::site::Pages;
 

@@ -11,10 +11,9 @@ use crate::dots::shown_lines;
 use crate::keys::press;
 use crate::replies::play_in_dialog;
 use std::alloc::Global;
-use wap_base::{NoMemory, RunErr};
+use wap_base::{Key, NoMemory, RunErr};
 use wap_context::{Context, Step, Waiting};
 use wap_execution::Dialog;
-use wap_input::Key;
 use wap_layout::buffer::Lines;
 use wap_world::site::Pages;
 

@@ -3,7 +3,7 @@
 //! functions do nothing when they are called.
 ghost use Rattle.std.specs.Prelude.{◌≡◌, ℕ, Bool, false, List, Option, Result};
 ghost use Rattle.wap_unit.specs.declared.unit.Unit.{Unit as TheUnit};
-ghost use Rattle.wap_input.specs.declared.key.Key.{Key};
+ghost use Rattle.wap_base.specs.declared.key.Key.{Key};
 ghost use Rattle.wap_push.specs.declared.indication.Indication.{Indication};
 ghost use Rattle.wap_push.specs.declared.fault.PushFault.{PushFault};
 ghost use Rattle.wap_world.specs.Sites.{Call};

@@ -2,7 +2,7 @@
 //! compiled to. These functions do nothing when they are called.
 ghost use Rattle.std.specs.Prelude.{◌≡◌, ℕ, Bool, false, List, Option};
 ghost use Rattle.wap_grammar.specs.declared.program.program.Program.{Program as TheProgram};
-ghost use Rattle.wap_input.specs.declared.key.Key.{Key};
+ghost use Rattle.wap_base.specs.declared.key.Key.{Key};
 ghost use Rattle.wap_world.specs.Sites.{Call};
 ghost use Rattle.wap_world.specs.World.{World};
 ghost use Rattle.wap_world.specs.Sessions.{played};

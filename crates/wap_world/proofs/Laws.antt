@@ -4,7 +4,7 @@ use Rattle.std.proofs.Common.{Option, Some, None, refl, sym, ap, ◌∙◌, arit
 use Rattle.std.proofs.lemmas.List.{length-append, length-drop, length-take}
 use Rattle.std.specs.Prelude.{length, drop, nat_lt, if◌then◌else◌}
 use Rattle.std.specs.Option.{option_and_then}
-use Rattle.wap_input.specs.declared.key.Key.{Key}
+use Rattle.wap_base.specs.declared.key.Key.{Key}
 use Rattle.wap_url.specs.declared.url.Url.{Url}
 use Rattle.wap_url.specs.Printing.{name_for}
 use Rattle.wap_tokens.specs.declared.markup.deck.Deck.{Deck}

@@ -3,8 +3,8 @@ use Rattle.std.proofs.Common.{◌≡◌, zero, suc, ℕ, Bool, true, false, List
 use Rattle.std.proofs.Common.{Option, Some, None, refl, sym, ap, ◌∙◌}
 use Rattle.std.specs.Prelude.{Result, Ok, Err, ◌-◌}
 use Rattle.std.specs.List.{flat_map}
-use Rattle.wap_input.specs.declared.key.Key.{Key}
-use Rattle.wap_input.specs.declared.key.Key.TheVariants as key
+use Rattle.wap_base.specs.declared.key.Key.{Key}
+use Rattle.wap_base.specs.declared.key.Key.TheVariants as key
 use Rattle.wap_url.specs.declared.url.Url.{Url}
 use Rattle.wap_tokens.specs.declared.markup.deck.Deck.{Deck}
 use Rattle.wap_cardrules.specs.declared.answers.Chosen.{Chosen}

@@ -5,7 +5,7 @@ use Rattle.std.specs.Prelude.{slice_get, map, filter, is_some}
 use Rattle.std.specs.List.{fold, list_any, filter_map}
 use Rattle.std.specs.Option.{option_map, option_map_or, option_and_then}
 use Rattle.wap_base.specs.Texts.{is_same_text}
-use Rattle.wap_input.specs.declared.key.Key.TheVariants.{Open}
+use Rattle.wap_base.specs.declared.key.Key.TheVariants.{Open}
 use Rattle.wap_url.specs.declared.url.Url.{Url}
 use Rattle.wap_layout.specs.declared.flow.Flow.TheVariants.{Words, Wrap}
 use Rattle.wap_layout.specs.Calculation.{lines_of}

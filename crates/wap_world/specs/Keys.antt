@@ -2,8 +2,8 @@
 -- the keys are these is this project's own.
 use Rattle.std.specs.Prelude.{ℕ, ◌-◌, nat_lt, if◌then◌else◌, List, [], ◌∷◌, map, Option, Some, None}
 use Rattle.std.specs.List.{flat_map}
-use Rattle.wap_input.specs.declared.key.Key.{Key}
-use Rattle.wap_input.specs.declared.key.Key.TheVariants as key
+use Rattle.wap_base.specs.declared.key.Key.{Key}
+use Rattle.wap_base.specs.declared.key.Key.TheVariants as key
 use Rattle.wap_cardrules.specs.declared.answers.Entered.{Entered}
 use Rattle.wap_cardrules.specs.declared.answers.Entered.TheVariants as entered
 use Rattle.wap_cardrules.specs.declared.answers.Chosen.{Chosen}

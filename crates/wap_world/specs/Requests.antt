@@ -5,7 +5,7 @@ use Rattle.std.specs.Prelude.{Option, Some, None, codes}
 use Rattle.std.specs.Option.{option_map, option_map_or}
 use Rattle.std.specs.List.{join_with_byte}
 use Rattle.wap_base.specs.Ascii.{space, ampersand, equals_sign}
-use Rattle.wap_input.specs.declared.key.Key.{Key}
+use Rattle.wap_base.specs.declared.key.Key.{Key}
 use Rattle.wap_url.specs.declared.url.Url.{Url}
 use Rattle.wap_url.specs.Escapes.{escaped}
 use Rattle.wap_url.specs.Printing.{text_without_fragment, name_for}

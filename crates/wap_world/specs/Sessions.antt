@@ -1,8 +1,8 @@
 -- Sessions and their transcripts. This project's own.
 use Rattle.std.specs.Prelude.{ℕ, zero, suc, List, [], ◌∷◌, length, take, map}
 use Rattle.wap_base.specs.declared.limits.Limits.{Limits}
-use Rattle.wap_input.specs.declared.key.Key.{Key}
-use Rattle.wap_input.specs.declared.key.Key.TheVariants.{Open}
+use Rattle.wap_base.specs.declared.key.Key.{Key}
+use Rattle.wap_base.specs.declared.key.Key.TheVariants.{Open}
 use Rattle.wap_world.specs.Sites.{Site}
 use Rattle.wap_world.specs.World.{World, first_world}
 use Rattle.wap_layout.specs.buffer.Written.{lines_bytes}

@@ -3,8 +3,8 @@
 ghost use Rattle.std.specs.Prelude.{◌≡◌, ◌++◌, ◌∷◌, [], ℕ, List, Some, None, Ok, Err, false};
 ghost use Rattle.std.specs.List.{AllByRecursion};
 ghost use Rattle.std.specs.Prelude.{Result, ◌↔◌, ◌&&◌, true};
-ghost use Rattle.wap_input.specs.declared.key.Key.{Key};
-ghost use Rattle.wap_input.specs.declared.key.Key.TheVariants as key;
+ghost use Rattle.wap_base.specs.declared.key.Key.{Key};
+ghost use Rattle.wap_base.specs.declared.key.Key.TheVariants as key;
 ghost use Rattle.wap_push.specs.declared.indication.Indication.{Indication};
 ghost use Rattle.wap_push.specs.declared.fault.PushFault.{PushFault};
 ghost use Rattle.wap_world.specs.site.Pages.{Pages};

@@ -5,7 +5,7 @@ ghost use Rattle.wap_base.specs.declared.limits.Limits.{Limits as TheLimits};
 ghost use Rattle.wap_url.specs.declared.url.Url.{Url};
 ghost use Rattle.wap_url.specs.Printing.{name_for};
 ghost use Rattle.wap_value.specs.declared.value.Value.{Value as TheValue};
-ghost use Rattle.wap_input.specs.declared.key.Key.{Key};
+ghost use Rattle.wap_base.specs.declared.key.Key.{Key};
 ghost use Rattle.wap_execution.specs.declared.fatal.Fatal.TheVariants.{Denied, Stopped};
 ghost use Rattle.wap_execution.specs.declared.found.Found.TheVariants.{Not};
 ghost use Rattle.wap_execution.specs.Running.{resumed};

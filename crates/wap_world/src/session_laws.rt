@@ -9,7 +9,7 @@ ghost use Rattle.wap_base.specs.declared.limits.Limits.{Limits};
 ghost use Rattle.wap_url.specs.declared.url.Url.{Url};
 ghost use Rattle.wap_url.specs.Printing.{name_for};
 ghost use Rattle.wap_tokens.specs.declared.markup.deck.Deck.{Deck};
-ghost use Rattle.wap_input.specs.declared.key.Key.{Key};
+ghost use Rattle.wap_base.specs.declared.key.Key.{Key};
 ghost use Rattle.wap_execution.specs.declared.fatal.Fatal.TheVariants as fatal;
 ghost use Rattle.wap_cardrules.specs.declared.task.Go.{Go};
 ghost use Rattle.wap_cardrules.specs.declared.task.Task.TheVariants as task;

@@ -6,4 +6,4 @@ mod pages;
 
 pub use page::Page;
 pub use pages::Pages;
-pub use wap_shared::Shared;
+pub use wap_base::Shared;

@@ -6,7 +6,7 @@ use Rattle.wap_base.specs.Count.{Rose}
 use Rattle.wap_devices.specs.Sources.{SourceSeen}
 use Rattle.wap_devices.specs.Sinks.{SinkSeen}
 use Rattle.wap_devices.proofs.Transfers.{Appends-nil}
-use Rattle.wap_input.specs.declared.key.Key.{Key}
+use Rattle.wap_base.specs.declared.key.Key.{Key}
 use Rattle.wap_keys.specs.declared.ending.Ending.{Ending}
 use Rattle.wap_keys.specs.declared.ending.Ending.TheVariants as way
 use Rattle.wap_keys.specs.declared.ending.Next.TheVariants as next

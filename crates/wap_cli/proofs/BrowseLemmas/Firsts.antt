@@ -4,7 +4,7 @@ use Rattle.std.proofs.Common.{Option, refl, sym, ap, ◌∙◌, append_assoc, ar
 use Rattle.std.proofs.Math.Seq.{take-length}
 use Rattle.std.proofs.lemmas.List.{append-nil, take_at, length-append}
 use Rattle.wap_devices.specs.Transfer.{Appends, AppendsPrefix}
-use Rattle.wap_input.specs.declared.key.Key.{Key}
+use Rattle.wap_base.specs.declared.key.Key.{Key}
 use Rattle.wap_keys.specs.Read.{AreFirst}
 use Rattle.wap_world.specs.Steps.{Step}
 use Rattle.wap_cli.specs.browse.Handling.{bytes_of, first_lines, first_asked}

@@ -4,7 +4,7 @@ use Rattle.std.specs.Prelude.{option_map}
 use Rattle.wap_devices.specs.Stores.{StoreSeen}
 use Rattle.wap_devices.specs.Sources.{SourceSeen}
 use Rattle.wap_devices.specs.Sinks.{SinkSeen}
-use Rattle.wap_input.specs.declared.key.Key.{Key}
+use Rattle.wap_base.specs.declared.key.Key.{Key}
 use Rattle.wap_world.specs.site.Misses.{Cache}
 use Rattle.wap_world.specs.Steps.{Step}
 use Rattle.wap_cli.specs.declared.status.Status.{Status}

@@ -7,8 +7,8 @@ use Rattle.std.specs.Option.{option_map}
 use Rattle.wap_devices.specs.Transfer.{Appends}
 use Rattle.wap_devices.specs.Sources.{SourceSeen}
 use Rattle.wap_devices.proofs.Transfers.{Appends-then, Appends-nil}
-use Rattle.wap_input.specs.declared.key.Key.{Key}
-use Rattle.wap_input.specs.declared.key.Key.TheVariants.{Open}
+use Rattle.wap_base.specs.declared.key.Key.{Key}
+use Rattle.wap_base.specs.declared.key.Key.TheVariants.{Open}
 use Rattle.wap_keys.specs.declared.ending.Next.TheVariants as next
 use Rattle.wap_keys.specs.Reading.{Reading, HasRead, Answers}
 use Rattle.wap_world.specs.site.Pages.{Pages as JudgedPages}

@@ -3,7 +3,7 @@ use Rattle.std.proofs.Common.{◌≡◌, ℕ, List, [], ◌++◌, sym, ap, ◌�
 use Rattle.std.specs.Prelude.{map, is_some}
 use Rattle.std.proofs.lemmas.List.{map-append, append-nil}
 use Rattle.std.proofs.lemmas.Grind.{flat_map-append}
-use Rattle.wap_input.specs.declared.key.Key.{Key}
+use Rattle.wap_base.specs.declared.key.Key.{Key}
 use Rattle.wap_layout.specs.buffer.Written.{line_bytes, lines_bytes}
 use Rattle.wap_world.specs.Lines.{shown_line}
 use Rattle.wap_world.specs.Steps.{Step, joined}

@@ -1,7 +1,7 @@
 -- What browsing comes to, sentence by sentence.
 use Rattle.std.proofs.Common.{◌≡◌, ◌≢◌, ℕ, Bool, true, false, List, [], refl, sym, ap, subst}
 use Rattle.std.proofs.Common.{◌∙◌, inl, inr}
-use Rattle.wap_input.specs.declared.key.Key.{Key}
+use Rattle.wap_base.specs.declared.key.Key.{Key}
 use Rattle.wap_keys.specs.declared.ending.Ending.{Ending}
 use Rattle.wap_keys.specs.declared.ending.Ending.TheVariants as way
 use Rattle.wap_keys.specs.Lines.{Keys, keys_of}

@@ -8,8 +8,8 @@ use Rattle.std.proofs.lemmas.List.{length-append}
 use Rattle.std.proofs.lemmas.List.FromFn.{length-map-range_with_len}
 use Rattle.std.proofs.lemmas.Map.Entries.{length-keys_of}
 use Rattle.wap_base.specs.Contents.{Contents, names_of}
-use Rattle.wap_input.specs.declared.key.Key.{Key}
-use Rattle.wap_input.specs.declared.key.Key.TheVariants.{Open, Vars}
+use Rattle.wap_base.specs.declared.key.Key.{Key}
+use Rattle.wap_base.specs.declared.key.Key.TheVariants.{Open, Vars}
 use Rattle.wap_make.specs.Folders.{folder, deck_count, deck_page, script_name, script}
 use Rattle.wap_pages.specs.Judged.{judged}
 use Rattle.wap_world.specs.site.Asking.{Seen}

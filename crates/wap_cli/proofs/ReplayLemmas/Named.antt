@@ -17,7 +17,7 @@ use Rattle.wap_world.specs.site.Pages.{Pages, page_under}
 use Rattle.wap_world.specs.declared.site.page.Page.{Page}
 use Rattle.wap_world.specs.declared.site.page.Page.TheVariants as page
 use Rattle.wap_pages.specs.Judged.{judged, page_of_bytes, page_where}
-use Rattle.wap_input.specs.declared.key.Key.{Key}
+use Rattle.wap_base.specs.declared.key.Key.{Key}
 use Rattle.wap_world.specs.Sites.{Site}
 use Rattle.wap_world.specs.Sessions.{Begun}
 use Rattle.wap_world.specs.scripting.UnitSites.{unit_page, unit_pages}

@@ -2,7 +2,7 @@
 use Rattle.std.proofs.Common.{◌≡◌, ℕ, false, List, ◌++◌, sym, subst}
 use Rattle.wap_base.specs.Contents.{Contents, names_of}
 use Rattle.wap_base.specs.Texts.{is_same_text, AreDistinct}
-use Rattle.wap_input.specs.declared.key.Key.{Key}
+use Rattle.wap_base.specs.declared.key.Key.{Key}
 use Rattle.wap_image.specs.declared.context_parts.parts.ContextParts.{ContextParts}
 use Rattle.wap_pages.specs.Judged.{judged}
 use Rattle.wap_world.specs.Sites.{Site}

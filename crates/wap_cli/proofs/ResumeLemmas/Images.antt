@@ -5,7 +5,7 @@ use Rattle.std.specs.Prelude.{Result, IfSome, Bool, is_none, not, ◌&&◌, if�
 use Rattle.wap_base.specs.Count.{Rose}
 use Rattle.wap_devices.specs.Sinks.{SinkSeen}
 use Rattle.wap_devices.specs.Transfer.{Appends, AppendsPrefix}
-use Rattle.wap_input.specs.declared.key.Key.{Key}
+use Rattle.wap_base.specs.declared.key.Key.{Key}
 use Rattle.wap_keys.specs.Lines.{keys_of}
 use Rattle.wap_image.specs.declared.context_parts.fault.SaveFault.{SaveFault}
 use Rattle.wap_pages.specs.declared.fault.PageFault.TheVariants.{Save}

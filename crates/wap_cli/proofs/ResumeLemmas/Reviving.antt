@@ -10,7 +10,7 @@ use Rattle.wap_tokens.specs.declared.markup.deck.Deck.{Deck}
 use Rattle.wap_devices.specs.Transfer.{Appends}
 use Rattle.wap_devices.specs.Sinks.{SinkSeen}
 use Rattle.wap_devices.proofs.Transfers.{Appends-nil}
-use Rattle.wap_input.specs.declared.key.Key.{Key}
+use Rattle.wap_base.specs.declared.key.Key.{Key}
 use Rattle.wap_world.specs.inboxes.Sessions.{played_with}
 use Rattle.wap_image.specs.declared.context_parts.parts.ContextParts.{ContextParts}
 use Rattle.wap_world.specs.declared.site.page.Page.{Page}

@@ -9,8 +9,8 @@ use Rattle.wap_cardrules.specs.Timers.{timer_in, timer_variable}
 use Rattle.wap_cardrules.specs.Dos.{do_task}
 use Rattle.wap_cardrules.specs.Fields.{link_task}
 use Rattle.wap_vars.specs.Variables.{Variables}
-use Rattle.wap_input.specs.declared.key.Key.{Key}
-use Rattle.wap_input.specs.declared.key.Key.TheVariants as key
+use Rattle.wap_base.specs.declared.key.Key.{Key}
+use Rattle.wap_base.specs.declared.key.Key.TheVariants as key
 use Rattle.wap_url.specs.declared.url.Url.{Url}
 use Rattle.wap_url.specs.Printing.{name_for, without_fragment}
 use Rattle.wap_value.specs.declared.value.Value.{Value}

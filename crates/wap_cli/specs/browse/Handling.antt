@@ -3,7 +3,7 @@
 -- project's own.
 use Rattle.std.specs.Prelude.{◌≡◌, ℕ, zero, suc, List, [], take, IfSome}
 use Rattle.wap_devices.specs.Transfer.{Appends}
-use Rattle.wap_input.specs.declared.key.Key.{Key}
+use Rattle.wap_base.specs.declared.key.Key.{Key}
 use Rattle.wap_world.specs.site.Misses.{Asked, Cache, misses}
 use Rattle.wap_world.specs.site.Asking.{raised_by}
 use Rattle.wap_layout.specs.buffer.Written.{lines_bytes}

@@ -1,6 +1,6 @@
 -- Where a handset stands whose keys were played to their end. This project's own.
 use Rattle.std.specs.Prelude.{◌≡◌, false, List, [], ◌++◌, None, IfSome}
-use Rattle.wap_input.specs.declared.key.Key.{Key}
+use Rattle.wap_base.specs.declared.key.Key.{Key}
 use Rattle.wap_keys.specs.Lines.{keys_of}
 use Rattle.wap_world.specs.Steps.{Step, joined}
 use Rattle.wap_world.specs.scripting.UnitSites.{Pages, shelf_of, unit_pages}

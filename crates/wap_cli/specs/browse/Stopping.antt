@@ -2,7 +2,7 @@
 -- whole by then, and what is done before the first of them counts as a key. This project's own.
 use Rattle.std.specs.Prelude.{◌≡◌, ℕ, ◌+◌, ◌<◌, ◌≤◌, List, ◌++◌, length, Option, IfSome}
 use Rattle.wap_devices.specs.Transfer.{Appends}
-use Rattle.wap_input.specs.declared.key.Key.{Key}
+use Rattle.wap_base.specs.declared.key.Key.{Key}
 use Rattle.wap_base.specs.Count.{greatest_count}
 use Rattle.wap_world.specs.site.Asking.{raised_by}
 use Rattle.wap_world.specs.Steps.{Step}

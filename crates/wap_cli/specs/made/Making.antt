@@ -10,8 +10,8 @@ use Rattle.wap_base.specs.Count.{Rose}
 use Rattle.wap_base.specs.Limits.{default_limits}
 use Rattle.wap_devices.specs.Sinks.{SinkSeen}
 use Rattle.wap_devices.specs.Transfer.{Appends, AppendsPrefix}
-use Rattle.wap_input.specs.declared.key.Key.{Key}
-use Rattle.wap_input.specs.declared.key.Key.TheVariants.{Do, Vars}
+use Rattle.wap_base.specs.declared.key.Key.{Key}
+use Rattle.wap_base.specs.declared.key.Key.TheVariants.{Do, Vars}
 use Rattle.wap_world.specs.site.Pages.{Pages, page_of}
 use Rattle.wap_world.specs.declared.site.page.Page.{Page}
 use Rattle.wap_world.specs.declared.site.page.Page.TheVariants as page

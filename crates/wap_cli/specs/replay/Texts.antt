@@ -2,7 +2,7 @@
 use Rattle.std.specs.Prelude.{ℕ, Bool, List, ◌++◌, codes, decimal}
 use Rattle.std.specs.List.{flat_map, enumerate_from}
 use Rattle.wap_base.specs.Contents.{Contents}
-use Rattle.wap_input.specs.declared.key.Key.{Key}
+use Rattle.wap_base.specs.declared.key.Key.{Key}
 use Rattle.wap_pages.specs.Judged.{judged}
 use Rattle.wap_world.specs.Sites.{Site}
 use Rattle.wap_layout.specs.buffer.Written.{lines_bytes}

@@ -11,7 +11,7 @@ use Rattle.wap_image.specs.declared.context_parts.parts.ContextParts.{ContextPar
 use Rattle.wap_image.specs.declared.context_parts.fault.ImageFault.{ImageFault}
 use Rattle.wap_image.specs.Images.{Saved, IsImage}
 use Rattle.wap_image.specs.Refusal.{IsRefused}
-use Rattle.wap_input.specs.declared.key.Key.{Key}
+use Rattle.wap_base.specs.declared.key.Key.{Key}
 use Rattle.wap_world.specs.site.Asking.{Stays}
 use Rattle.wap_pages.specs.declared.fault.PageFault.{PageFault}
 use Rattle.wap_pages.specs.declared.fault.PageFault.TheVariants.{Missing, Image, NotDeck}

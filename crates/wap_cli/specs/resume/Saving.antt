@@ -5,7 +5,7 @@ use Rattle.std.specs.Prelude.{Result, Ok, Err}
 use Rattle.wap_base.specs.Count.{greatest_count, Rose}
 use Rattle.wap_devices.specs.Sinks.{SinkSeen}
 use Rattle.wap_devices.specs.Transfer.{Appends, AppendsPrefix}
-use Rattle.wap_input.specs.declared.key.Key.{Key}
+use Rattle.wap_base.specs.declared.key.Key.{Key}
 use Rattle.wap_push.specs.Pushes.{push_at}
 use Rattle.wap_world.specs.inboxes.Sessions.{session_with, played_with}
 use Rattle.wap_keys.specs.Lines.{keys_of}

@@ -1,11 +1,10 @@
 //! The keys of a session over a made folder.
 ghost use Rattle.std.specs.Prelude.{◌≡◌, ◌∷◌, IfOk, replicate};
-ghost use Rattle.wap_input.specs.declared.key.Key.TheVariants.{Open};
+ghost use Rattle.wap_base.specs.declared.key.Key.TheVariants.{Open};
 ghost use Rattle.wap_cli.specs.made.Making.{first_url, onward};
 
 use std::alloc::Global;
-use wap_base::{NoMemory, Text};
-use wap_input::Key;
+use wap_base::{Key, NoMemory, Text};
 
 /// The key that opens the first deck, and so often the one that goes on to the next.
 #[tactic(auto, using(crate::proofs::MadeLemmas::Words::words))]

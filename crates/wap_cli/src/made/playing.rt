@@ -6,8 +6,7 @@ ghost use Rattle.wap_cli.specs.made.Making.{value_in};
 ghost use Rattle.wap_cli.specs.made.inside.Tours.{IsPlayed};
 
 use std::alloc::Global;
-use wap_base::{Limits, NoMemory, RunErr};
-use wap_input::Key;
+use wap_base::{Key, Limits, NoMemory, RunErr};
 use wap_keys::words::{DEFAULT_BUDGET, DEFAULT_SEED};
 use wap_layout::buffer::Lines;
 use wap_session::{Session, SessionFault};

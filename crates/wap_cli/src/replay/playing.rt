@@ -2,7 +2,7 @@
 ghost use Rattle.std.specs.Prelude.{◌≡◌, ◌<◌, ◌++◌, IfOk, OnOk};
 ghost use Rattle.std.specs.List.{enumerate_from, flat_map};
 ghost use Rattle.wap_base.specs.Limits.{AreInRange};
-ghost use Rattle.wap_input.specs.declared.key.Key.TheVariants.{Open};
+ghost use Rattle.wap_base.specs.declared.key.Key.TheVariants.{Open};
 ghost use Rattle.wap_layout.specs.buffer.Written.{lines_bytes};
 ghost use Rattle.wap_world.specs.Sessions.{shown_by};
 ghost use Rattle.wap_world.specs.scripting.UnitSites.{unit_pages};

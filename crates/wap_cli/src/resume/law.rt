@@ -1,6 +1,6 @@
 //! What holds of keys that go on from what was saved.
 ghost use Rattle.std.specs.Prelude.{◌≡◌, ◌++◌, List};
-ghost use Rattle.wap_input.specs.declared.key.Key.{Key};
+ghost use Rattle.wap_base.specs.declared.key.Key.{Key};
 ghost use Rattle.wap_image.specs.declared.context_parts.parts.ContextParts.{ContextParts};
 ghost use Rattle.wap_world.specs.Sessions.{Begun};
 ghost use Rattle.wap_world.specs.session_laws.Standing.{HaveCards};

@@ -1,6 +1,6 @@
 //! Keys leave worlds at rest, so that what is saved of these is all.
 ghost use Rattle.std.specs.Prelude.{◌≡◌, ℕ, false, List};
-ghost use Rattle.wap_input.specs.declared.key.Key.{Key};
+ghost use Rattle.wap_base.specs.declared.key.Key.{Key};
 ghost use Rattle.wap_world.specs.Sites.{Site};
 ghost use Rattle.wap_world.specs.World.{World, first_world};
 ghost use Rattle.wap_world.specs.Sessions.{played};

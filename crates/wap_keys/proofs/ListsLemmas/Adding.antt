@@ -1,6 +1,6 @@
 -- What lines say, added to lists of which the last is begun.
 use Rattle.std.proofs.Common.{◌≡◌, ℕ, List, [], ◌∷◌, ◌++◌, sym, ap, ◌∙◌, append_assoc, append-nil}
-use Rattle.wap_input.specs.declared.key.Key.{Key}
+use Rattle.wap_base.specs.declared.key.Key.{Key}
 use Rattle.wap_keys.specs.declared.lists.line.Said.TheVariants as said
 use Rattle.wap_keys.specs.lists.Lists.{Lists, all_of, lists_before}
 use Rattle.wap_keys.specs.lists.inside.Taking.{Told, told_then}

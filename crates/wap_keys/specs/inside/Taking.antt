@@ -5,7 +5,7 @@ use Rattle.wap_base.specs.Count.{raised, Rose}
 use Rattle.wap_devices.specs.Transfer.{IsAtEnd}
 use Rattle.wap_devices.specs.Sources.{SourceSeen, Reads}
 use Rattle.wap_devices.specs.declared.fault.Failed.{Failed}
-use Rattle.wap_input.specs.declared.key.Key.{Key}
+use Rattle.wap_base.specs.declared.key.Key.{Key}
 use Rattle.wap_keys.specs.declared.limits.TheConstants.{KEYS_LIMIT, LINE_LIMIT, PIECE_LIMIT}
 use Rattle.wap_keys.specs.declared.fault.KeyFault.{KeyFault}
 use Rattle.wap_keys.specs.declared.fault.KeyFault.TheVariants.{NoMemory}

@@ -2,7 +2,7 @@
 use Rattle.std.proofs.Common.{◌≡◌, ℕ, List, [], ◌∷◌, true, false, Option, Some, None}
 use Rattle.std.proofs.Common.{Ok, Err, map, refl, sym, ap, subst, ◌∙◌}
 use Rattle.std.specs.Prelude.{is_some}
-use Rattle.wap_input.specs.declared.key.Key.{Key}
+use Rattle.wap_base.specs.declared.key.Key.{Key}
 use Rattle.wap_push.specs.declared.indication.Indication.{Indication}
 use Rattle.wap_world.specs.site.Pages.{Pages as JudgedPages}
 use Rattle.wap_world.specs.site.Misses.{Asked}

@@ -2,7 +2,7 @@
 use Rattle.std.specs.Prelude.{◌≡◌, Bool, false, if◌then◌else◌, List, [], ◌++◌, Option, Some, None}
 use Rattle.std.specs.Prelude.{is_some, IfOk, IfErr, OnOk, OnErr, ◌≢◌, ℕ, Result, Err, true}
 use Rattle.wap_base.specs.Count.{Rose}
-use Rattle.wap_input.specs.declared.key.Key.{Key}
+use Rattle.wap_base.specs.declared.key.Key.{Key}
 use Rattle.wap_push.specs.declared.indication.Indication.{Indication}
 use Rattle.wap_world.specs.site.Asking.{Seen, Stays, Asks}
 use Rattle.wap_world.specs.Steps.{Step, joined}

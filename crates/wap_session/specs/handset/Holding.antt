@@ -2,7 +2,7 @@
 -- dialog. A push that comes in a dialog isn't taken (WAP-167 leaves this to the handset; it is this
 -- project's own).
 use Rattle.std.specs.Prelude.{List}
-use Rattle.wap_input.specs.declared.key.Key.{Key}
+use Rattle.wap_base.specs.declared.key.Key.{Key}
 use Rattle.wap_push.specs.declared.indication.Indication.{Indication}
 use Rattle.wap_push.specs.Pushes.{push_at}
 use Rattle.wap_world.specs.scripting.UnitSites.{Pages}

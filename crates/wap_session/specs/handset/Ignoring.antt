@@ -1,6 +1,6 @@
 -- Keys that a handset ignores without a look at its card or its inbox. This project's own.
 use Rattle.std.specs.Prelude.{Bool, not, ◌&&◌}
-use Rattle.wap_input.specs.declared.key.Key.{Key}
+use Rattle.wap_base.specs.declared.key.Key.{Key}
 use Rattle.wap_session.specs.Ignoring.{ignores as ignores_in_session}
 use Rattle.wap_world.specs.inboxes.Inboxes.{is_of_inbox}
 use Rattle.wap_session.specs.handset.Feeding.{State}

@@ -1,7 +1,7 @@
 //! What follows from the definitions of handsets. These functions do nothing when they are called.
 ghost use Rattle.std.specs.Prelude.{◌≡◌, ◌∷◌, [], true, List, Some};
-ghost use Rattle.wap_input.specs.declared.key.Key.{Key};
-ghost use Rattle.wap_input.specs.declared.key.Key.TheVariants as key;
+ghost use Rattle.wap_base.specs.declared.key.Key.{Key};
+ghost use Rattle.wap_base.specs.declared.key.Key.TheVariants as key;
 ghost use Rattle.wap_push.specs.declared.indication.Indication.{Indication};
 ghost use Rattle.wap_push.specs.Pushes.{push_at};
 ghost use Rattle.wap_world.specs.Keys.{ignored};

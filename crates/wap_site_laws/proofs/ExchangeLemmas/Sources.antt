@@ -1,7 +1,7 @@
 -- Sources that were only ever denied.
 use Rattle.std.proofs.Common.{◌≡◌, ℕ, Bool, false, List, Option, sym, ap, ◌∙◌, subst}
 use Rattle.wap_unit.specs.declared.unit.Unit.{Unit}
-use Rattle.wap_input.specs.declared.key.Key.{Key}
+use Rattle.wap_base.specs.declared.key.Key.{Key}
 use Rattle.wap_world.specs.World.{World}
 use Rattle.wap_world.specs.Sites.{Site, Call}
 use Rattle.wap_world.specs.Sessions.{played}

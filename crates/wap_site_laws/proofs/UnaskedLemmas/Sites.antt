@@ -5,7 +5,7 @@ use Rattle.std.proofs.Common.{Option, None, refl, sym, ap, ◌∙◌, subst}
 use Rattle.std.specs.Prelude.{unwrap_or}
 use Rattle.std.specs.Option.{option_and_then}
 use Rattle.wap_unit.specs.declared.unit.Unit.{Unit as CodeUnit}
-use Rattle.wap_input.specs.declared.key.Key.{Key}
+use Rattle.wap_base.specs.declared.key.Key.{Key}
 use Rattle.wap_world.specs.Shelves.{Shelf, no_page}
 use Rattle.wap_world.specs.World.{World}
 use Rattle.wap_world.specs.Steps.{Step}

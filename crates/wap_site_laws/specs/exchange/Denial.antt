@@ -1,6 +1,6 @@
 -- Scripts that were only ever denied don't matter to a session. This project's own.
 use Rattle.std.specs.Prelude.{◌≡◌, ℕ, Bool, false, ◌&&◌, ◌||◌, List, [], ◌∷◌, Option, Result}
-use Rattle.wap_input.specs.declared.key.Key.{Key}
+use Rattle.wap_base.specs.declared.key.Key.{Key}
 use Rattle.wap_push.specs.declared.indication.Indication.{Indication}
 use Rattle.wap_push.specs.declared.fault.PushFault.{PushFault}
 use Rattle.wap_world.specs.World.{World}

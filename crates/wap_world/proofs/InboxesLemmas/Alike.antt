@@ -9,8 +9,8 @@ use Rattle.std.specs.declared.cmp.Ordering.TheVariants.{Less}
 use Rattle.std.specs.Cmp.Lexicographic.{bytes_decides, nat_list_cmp_total}
 use Rattle.std.proofs.lemmas.Cmp.{tied_itself}
 use Rattle.wap_base.specs.Texts.{text_cmp}
-use Rattle.wap_input.specs.declared.key.Key.{Key}
-use Rattle.wap_input.specs.declared.key.Key.TheVariants as key
+use Rattle.wap_base.specs.declared.key.Key.{Key}
+use Rattle.wap_base.specs.declared.key.Key.TheVariants as key
 use Rattle.wap_push.specs.declared.indication.Indication.{Indication}
 use Rattle.wap_push.specs.declared.fault.PushFault.{PushFault}
 use Rattle.wap_push.specs.Inbox.{is_of, alerts, later, winner_of, inbox_of, entry_at}

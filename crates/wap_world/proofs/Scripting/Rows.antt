@@ -1,8 +1,8 @@
 -- Whole sessions over single units, computed from the definitions.
 use Rattle.std.specs.Prelude.{◌≡◌, ℕ, Bool, false, List, [], ◌∷◌, Some, None, codes, refl}
 use Rattle.wap_base.specs.Limits.{default_limits}
-use Rattle.wap_input.specs.declared.key.Key.{Key}
-use Rattle.wap_input.specs.declared.key.Key.TheVariants as key
+use Rattle.wap_base.specs.declared.key.Key.{Key}
+use Rattle.wap_base.specs.declared.key.Key.TheVariants as key
 use Rattle.wap_url.specs.declared.url.Url.{Url}
 use Rattle.wap_unit.specs.declared.unit.Unit.{Unit}
 use Rattle.wap_unit.specs.declared.unit.Constant.{Constant}

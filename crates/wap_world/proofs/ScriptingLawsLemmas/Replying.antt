@@ -2,8 +2,8 @@
 use Rattle.std.proofs.Common.{◌≡◌, ℕ, Bool, true, false, List, [], ◌∷◌, Option, Some, None, cond}
 use Rattle.std.proofs.Common.{ltb}
 use Rattle.std.proofs.Common.{refl, sym, ap, ◌∙◌, ◌-◌}
-use Rattle.wap_input.specs.declared.key.Key.{Key}
-use Rattle.wap_input.specs.declared.key.Key.TheVariants as key
+use Rattle.wap_base.specs.declared.key.Key.{Key}
+use Rattle.wap_base.specs.declared.key.Key.TheVariants as key
 use Rattle.wap_value.specs.declared.value.Value.{Value}
 use Rattle.wap_execution.specs.declared.fatal.Fatal.TheVariants.{Stopped}
 use Rattle.wap_execution.specs.declared.library.HostOut.{HostOut}

@@ -2,7 +2,7 @@
 use Rattle.std.proofs.Common.{◌≡◌, inl, inr, ℕ, false, List, [], ◌∷◌, ◌++◌}
 use Rattle.std.proofs.Common.{Option, Some, None, refl, sym, ap, ◌∙◌, append_assoc}
 use Rattle.wap_base.specs.declared.limits.Limits.{Limits}
-use Rattle.wap_input.specs.declared.key.Key.{Key}
+use Rattle.wap_base.specs.declared.key.Key.{Key}
 use Rattle.wap_url.specs.declared.url.Url.{Url}
 use Rattle.wap_value.specs.declared.value.Value.{Value}
 use Rattle.wap_cardrules.specs.declared.task.Task.{Task}

@@ -4,7 +4,7 @@ use Rattle.std.proofs.Common.{ap, ◌∙◌}
 use Rattle.wap_world.specs.Shelves.{deck_page}
 use Rattle.std.specs.Prelude.{Ok, if◌then◌else◌}
 use Rattle.std.specs.Option.{option_map, option_map_or}
-use Rattle.wap_input.specs.declared.key.Key.{Key}
+use Rattle.wap_base.specs.declared.key.Key.{Key}
 use Rattle.wap_url.specs.declared.url.Url.{Url}
 use Rattle.wap_url.specs.Printing.{name_for}
 use Rattle.wap_tokens.specs.declared.markup.deck.Deck.{Deck}

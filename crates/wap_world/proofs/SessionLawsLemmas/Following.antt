@@ -3,7 +3,7 @@ use Rattle.std.proofs.Common.{◌≡◌, ℕ, zero, suc, ◌+◌, ◌-◌, ◌<�
 use Rattle.std.proofs.Common.{length, Option, Some, None, refl, sym, ap, ◌∙◌, arith}
 use Rattle.std.specs.Prelude.{IfSome}
 use Rattle.wap_url.specs.declared.url.Url.{Url}
-use Rattle.wap_input.specs.declared.key.Key.{Key}
+use Rattle.wap_base.specs.declared.key.Key.{Key}
 use Rattle.wap_cardrules.specs.declared.task.Task.{Task}
 use Rattle.wap_cardrules.specs.declared.task.Task.TheVariants as task
 use Rattle.wap_cardrules.specs.declared.task.Go.{Go}

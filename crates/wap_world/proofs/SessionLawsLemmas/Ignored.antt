@@ -3,8 +3,8 @@ use Rattle.std.proofs.Common.{◌≡◌, ℕ, true, false, List, Option, Some, N
 use Rattle.std.proofs.Common.{refl, sym, ap, ◌∙◌}
 use Rattle.std.specs.Option.{option_and_then}
 use Rattle.std.proofs.lemmas.Bool.{false≢true}
-use Rattle.wap_input.specs.declared.key.Key.{Key}
-use Rattle.wap_input.specs.declared.key.Key.TheVariants as key
+use Rattle.wap_base.specs.declared.key.Key.{Key}
+use Rattle.wap_base.specs.declared.key.Key.TheVariants as key
 use Rattle.wap_tokens.specs.declared.markup.deck.Node.{Node}
 use Rattle.wap_tokens.specs.declared.markup.name.Tag.TheVariants as tags
 use Rattle.wap_vars.specs.Variables.{Variables}

@@ -2,8 +2,8 @@
 use Rattle.std.specs.Prelude.{◌≡◌, ℕ, List, [], ◌∷◌, Option, Some, None, codes, refl}
 use Rattle.std.specs.Option.{option_map}
 use Rattle.wap_base.specs.Limits.{default_limits}
-use Rattle.wap_input.specs.declared.key.Key.{Key}
-use Rattle.wap_input.specs.declared.key.Key.TheVariants as key
+use Rattle.wap_base.specs.declared.key.Key.{Key}
+use Rattle.wap_base.specs.declared.key.Key.TheVariants as key
 use Rattle.wap_url.specs.declared.url.Url.{Url}
 use Rattle.wap_cardrules.specs.declared.task.Task.{Task}
 use Rattle.wap_unit.specs.declared.unit.Unit.{Unit}

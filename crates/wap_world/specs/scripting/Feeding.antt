@@ -1,7 +1,7 @@
 -- What one key does in a session that is fed key by key: what is done without further keys, and the
 -- dialog that these have to answer. This project's own.
 use Rattle.std.specs.Prelude.{◌≡◌, ⊤, ℕ, List, [], ◌∷◌, Option, Some, None}
-use Rattle.wap_input.specs.declared.key.Key.{Key}
+use Rattle.wap_base.specs.declared.key.Key.{Key}
 use Rattle.wap_world.specs.World.{World}
 use Rattle.wap_world.specs.Steps.{Step, still, quiet, joined}
 use Rattle.wap_world.specs.Sites.{Call}

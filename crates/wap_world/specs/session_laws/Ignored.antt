@@ -1,8 +1,8 @@
 -- Keys that fit nothing, outside a dialog. This project's own.
 use Rattle.std.specs.Prelude.{◌≡◌, ℕ, Bool, true, false, List, Option}
 use Rattle.std.specs.Option.{option_and_then}
-use Rattle.wap_input.specs.declared.key.Key.{Key}
-use Rattle.wap_input.specs.declared.key.Key.TheVariants as key
+use Rattle.wap_base.specs.declared.key.Key.{Key}
+use Rattle.wap_base.specs.declared.key.Key.TheVariants as key
 use Rattle.wap_tokens.specs.declared.markup.deck.Node.{Node}
 use Rattle.wap_tokens.specs.declared.markup.name.Tag.TheVariants as tags
 use Rattle.wap_cardrules.specs.Fields.{field_with, numbered}

@@ -1,8 +1,8 @@
 //! Keys that fit nothing.
 ghost use Rattle.std.specs.Prelude.{◌≡◌, ℕ, List, Some, None, false, true};
 ghost use Rattle.wap_tokens.specs.declared.markup.name.Tag.TheVariants as tags;
-ghost use Rattle.wap_input.specs.declared.key.Key.{Key};
-ghost use Rattle.wap_input.specs.declared.key.Key.TheVariants as key;
+ghost use Rattle.wap_base.specs.declared.key.Key.{Key};
+ghost use Rattle.wap_base.specs.declared.key.Key.TheVariants as key;
 ghost use Rattle.wap_cardrules.specs.Dos.{do_task};
 ghost use Rattle.wap_cardrules.specs.Fields.{link_task, field_with};
 ghost use Rattle.wap_world.specs.Sites.{Site};

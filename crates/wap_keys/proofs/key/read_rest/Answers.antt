@@ -2,7 +2,7 @@ use Rattle.std.proofs.Common.{Err, Result, sym, ap, subst, ◌∙◌}
 use Rattle.std.proofs.lemmas.Result.{err_from_is_err_and}
 use Rattle.std.specs.Option.{option_map}
 use Rattle.wap_base.specs.Outcome.{Meets}
-use Rattle.wap_input.specs.declared.key.Key.{Key}
+use Rattle.wap_base.specs.declared.key.Key.{Key}
 use Rattle.wap_keys.specs.declared.fault.KeyFault.{KeyFault}
 use Rattle.wap_keys.specs.declared.fault.KeyFault.TheVariants.{NoMemory}
 use Rattle.wap_keys.specs.inside.Wording.{key_of_rest}

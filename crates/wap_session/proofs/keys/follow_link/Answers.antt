@@ -1,6 +1,6 @@
 use Rattle.std.proofs.Common.{Option, sym, ap, ◌∙◌}
 use Rattle.wap_cardrules.specs.declared.task.Task.{Task}
-use Rattle.wap_input.specs.declared.key.Key.TheVariants as key
+use Rattle.wap_base.specs.declared.key.Key.TheVariants as key
 use Rattle.wap_world.specs.Keys.{ignored, act_or, apply}
 use Rattle.wap_context.specs.Sites.{site_of}
 use Rattle.wap_session.proofs.Rules.{Acts-same}

@@ -1,7 +1,7 @@
 use Rattle.std.proofs.Common.{sym, ap, ◌∙◌}
 use Rattle.wap_cardrules.specs.Values.{Pairs}
 use Rattle.wap_cardrules.specs.declared.task.Task.TheVariants.{Prev}
-use Rattle.wap_input.specs.declared.key.Key.TheVariants as key
+use Rattle.wap_base.specs.declared.key.Key.TheVariants as key
 use Rattle.wap_world.specs.Steps.{then_task}
 use Rattle.wap_world.specs.Tasks.{act}
 use Rattle.wap_world.specs.Keys.{apply}

@@ -1,5 +1,5 @@
 use Rattle.std.proofs.Common.{sym, ◌∙◌}
-use Rattle.wap_input.specs.declared.key.Key.TheVariants as key
+use Rattle.wap_base.specs.declared.key.Key.TheVariants as key
 use Rattle.wap_world.specs.Keys.{apply}
 use Rattle.wap_context.specs.Sites.{site_of}
 use Rattle.wap_session.proofs.Rules.{Acts-ignored}

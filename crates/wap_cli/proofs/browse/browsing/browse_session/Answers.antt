@@ -1,6 +1,6 @@
 -- The URL is opened as a key before the first, and then the keys are read and played.
 use Rattle.std.proofs.Common.{ap}
-use Rattle.wap_input.specs.declared.key.Key.TheVariants.{Open}
+use Rattle.wap_base.specs.declared.key.Key.TheVariants.{Open}
 use Rattle.wap_session.specs.handset.Feeding.{State}
 use Rattle.wap_cli.specs.browse.Beginning.{begun_with}
 use Rattle.wap_cli.specs.browse.Plays.{opened}

@@ -1,5 +1,5 @@
 use Rattle.std.proofs.Common.{◌≡◌, ◌∷◌, replicate}
-use Rattle.wap_input.specs.declared.key.Key.TheVariants.{Open}
+use Rattle.wap_base.specs.declared.key.Key.TheVariants.{Open}
 use Rattle.wap_cli.specs.made.Making.{first_url, onward}
 use Rattle.wap_cli.proofs.made.keys.keys_of.Given as goal
 

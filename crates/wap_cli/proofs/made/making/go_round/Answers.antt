@@ -1,6 +1,6 @@
 use Rattle.std.proofs.Common.{◌∷◌, ◌-◌, ℕ, length, replicate, sym, ap, ◌∙◌}
 use Rattle.wap_base.specs.Contents.{names_of}
-use Rattle.wap_input.specs.declared.key.Key.TheVariants.{Open}
+use Rattle.wap_base.specs.declared.key.Key.TheVariants.{Open}
 use Rattle.wap_cli.specs.made.Making.{first_url, onward}
 use Rattle.wap_cli.proofs.MadeLemmas.Touring.{is_tour}
 use Rattle.wap_cli.proofs.made.making.go_round.Goals as goal

@@ -1,6 +1,6 @@
 use Rattle.std.proofs.Common.{List, Vec, Ok, ap, subst}
 use Rattle.std.specs.declared.alloc.Global.{Global}
-use Rattle.wap_input.specs.declared.key.Key.{Key}
+use Rattle.wap_base.specs.declared.key.Key.{Key}
 use Rattle.wap_keys.specs.declared.ending.Ending.{Ending}
 use Rattle.wap_keys.specs.declared.ending.Ending.TheVariants as ending
 use Rattle.wap_keys.specs.lists.Read.{ReadsLists}

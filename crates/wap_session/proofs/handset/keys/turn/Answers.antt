@@ -1,7 +1,7 @@
 -- A key is the session's, as itself or as the one that opens its URL, or the inbox's.
 use Rattle.std.proofs.Common.{ap, sym, ◌∙◌, Err}
 use Rattle.std.proofs.lemmas.Result.{err_from_is_err_and}
-use Rattle.wap_input.specs.declared.key.Key.TheVariants.{Open}
+use Rattle.wap_base.specs.declared.key.Key.TheVariants.{Open}
 use Rattle.wap_world.proofs.InboxesLemmas.Alike.{winners_win}
 use Rattle.wap_session.specs.handset.inside.Turns.{pushes_after}
 use Rattle.wap_session.proofs.HandsetLemmas.Turning.{no_script}

@@ -1,5 +1,5 @@
 use Rattle.std.proofs.Common.{List, [], ◌∷◌, ◌++◌, refl, sym, ap, ap₂, ◌∙◌}
-use Rattle.wap_input.specs.declared.key.Key.{Key}
+use Rattle.wap_base.specs.declared.key.Key.{Key}
 use Rattle.wap_keys.specs.declared.lists.line.Said.{Said}
 use Rattle.wap_keys.specs.lists.Lists.{lists_before}
 use Rattle.wap_keys.specs.lists.inside.Taking.{after, told_then}

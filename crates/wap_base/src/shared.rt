@@ -1,11 +1,11 @@
 //! Values that have several owners.
 ghost use Rattle.std.specs.Prelude.{◌≡◌, IfOk};
 
+use crate::NoMemory;
 use std::alloc::Global;
 use std::marker::Model;
 use std::ops::Deref;
 use std::sync::Arc;
-use wap_base::NoMemory;
 
 /// A value with several owners, also in several threads. A contract sees the value.
 #[derive(Drop)]

@@ -1,5 +1,5 @@
 //! Keys.
-use wap_base::{Bytes, Text};
+use crate::{Bytes, Text};
 
 /// What a user does.
 #[derive(Debug, Drop, PartialEq, Eq)]
